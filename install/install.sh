@@ -3,7 +3,7 @@
 #
 #     bash install/install.sh PREFIX
 #
-# It proves and builds the library first if it isn't there or a source is newer. No installed file names the prefix, so the
+# It proves and builds the library first if that is missing or a source is newer. No installed file names the prefix, so the
 # folder may be moved. CC and AR are heeded.
 set -eu
 [ $# -eq 1 ] || { echo "usage: bash install/install.sh PREFIX" >&2; exit 2; }
@@ -20,10 +20,10 @@ version=$(sed -n 's/^#define AFDX_VERSION "\(.*\)"$/\1/p' crates/afdx/afdx.h)
 room=$(mktemp -d)
 trap 'rm -r "$room"' EXIT
 
-# One archive: the kit's part of the C library, which asks malloc for memory, is put into it.
+# One archive, which includes the kit's part of the C library. That allocates by malloc.
 cp $built "$room/libafdx.a"
 (cd "$room" && ${AR:-ar} x "$kit/c/liblibc_c.a" && ${AR:-ar} qs libafdx.a ./*.o)
-# The shared library exports the calls of afdx.h and nothing else.
+# The shared library exports exactly the calls of afdx.h.
 echo '{ global: afdx_*; local: *; };' > "$room/exports"
 ${CC:-cc} -shared -Wl,-soname,libafdx.so,-z,defs,--version-script="$room/exports" -Wl,--whole-archive "$room/libafdx.a" \
     -Wl,--no-whole-archive -o "$room/libafdx.so"

@@ -1,12 +1,12 @@
 #!/usr/bin/env python3
-"""Installs the library into a folder, moves that, and tries from an empty folder what a user has from it alone.
+"""Installs the library into a folder, moves that, and tests from an empty folder what a user gets from it alone.
 
     python3 install/test_install.py
 
-The examples for C, C++, CMake and Python have to print what the program's stored run prints, those for C and C++ also with
-the address and the undefined behaviour sanitizer; the headers have to compile without a warning in each version of C and
-C++. It takes `CC` or `cc`. What needs a C++ compiler, pkg-config or CMake is skipped where there is none, and named. The last
-line is 'N passed, M failed'.
+The examples for C, C++, CMake and Python must print what the program's stored run prints, those for C and C++ also with the
+address and the undefined behaviour sanitizer. The headers must compile without a warning in each version of C and C++. It
+uses `CC` or `cc`. What needs a C++ compiler, pkg-config or CMake is skipped if that is missing, and named. The last line is
+'N passed, M failed'.
 """
 import os
 import re
@@ -32,7 +32,7 @@ share/afdx/examples/python/bench.py share/afdx/examples/python/main.py""".split(
 
 
 class Tried:
-    """An installed library, and the empty folder in which it is tried."""
+    """An installed library, and the empty folder in which it is tested."""
 
     def __init__(self, tries, room):
         self.tries, self.room = tries, room
@@ -44,26 +44,26 @@ class Tried:
         self.variables = {name: f"{self.prefix}/{folder}" for name, folder in found.items()}
 
     def ran(self, words, **more):
-        """A run of a command in the empty folder, which knows of the prefix by the variables alone."""
+        """Runs a command in the empty folder. It knows the prefix only by the variables."""
         kept = {name: value for name, value in os.environ.items() if name in ("PATH", "HOME", "LANG", "TMPDIR", "CC", "CXX")}
         return subprocess.run(words, cwd=f"{self.room}/empty", env={**kept, **self.variables, **more}, capture_output=True,
                               text=True, timeout=300, check=False)
 
     def show(self, name, it, wanted=None):
-        """Shows a run, which has to end well and print this. Whether it did."""
+        """Shows a run, which must succeed and print this. Returns whether it did."""
         is_well = it.returncode == 0 and not it.stderr and wanted in (None, it.stdout)
         self.tries.show(name, [] if is_well else [f"status {it.returncode}: {it.stdout[-1000:]}{it.stderr[-1000:]}"])
         return is_well
 
     def lacks(self, what, program):
-        """Whether a program isn't there, which is said."""
+        """Returns whether a program is missing, and prints that."""
         if program is None:
             print(f"no {what}: skipped", flush=True)
         return program is None
 
 
 def install(tried):
-    """Installs, and moves the folder. Whether the files are there."""
+    """Installs, and moves the folder. Returns whether the files are there."""
     words = ["bash", f"{ROOT}/install/install.sh"]
     refused = subprocess.run(words, capture_output=True, text=True, check=False)
     tried.tries.show("install.sh without a prefix", [] if refused.returncode == 2 else [f"status {refused.returncode}"])
@@ -79,7 +79,7 @@ def install(tried):
 
 
 def try_headers(tried):
-    """The headers alone, in each version of C and C++, by each compiler that is there."""
+    """The headers alone, in each version of C and C++, by each compiler that is installed."""
     ways = [("afdx.h", name, "c", it) for name in ("gcc", "clang") for it in ("c99", "c11", "c17")]
     ways += [(header, name, "c++", it) for header in ("afdx.h", "afdx.hpp") for name in ("g++", "clang++") for it in ("c++11", "c++17", "c++20")]
     for header, name, language, version in ways:
@@ -117,7 +117,7 @@ def try_names(tried):
 
 
 def linked(tried):
-    """The words for a compiler, by pkg-config where it is there."""
+    """The words for a compiler, by pkg-config if that is installed."""
     asked = shutil.which("pkg-config")
     if tried.lacks("pkg-config", asked):
         return [f"-I{tried.prefix}/include", f"{tried.prefix}/lib/libafdx.a"]
@@ -127,7 +127,7 @@ def linked(tried):
 
 
 def try_program(tried, words, name, source, more, wanted=ONE_FRAME, says=""):
-    """A program of one file, compiled by these words, prints what is wanted."""
+    """A program of one file, compiled by these words, prints what is expected."""
     made = tried.ran([*words[:1], *WARNINGS, *words[1:], source, *more, "-o", "main"])
     if made.returncode or made.stderr:
         tried.show(name, made)
@@ -159,7 +159,7 @@ def try_cpp(tried, more):
 
 
 def try_cmake(tried):
-    """The CMake project of six lines, with the static and with the shared library, and a version that isn't there."""
+    """The CMake project of six lines, with the static and with the shared library, and a version that is missing."""
     cmake = shutil.which("cmake")
     if tried.lacks("CMake", cmake):
         return
@@ -184,7 +184,7 @@ def try_cmake(tried):
 
 
 def try_shared(tried):
-    """The shared library exports the calls of the header and nothing else."""
+    """The shared library exports exactly the calls of the header."""
     listed = shutil.which("nm")
     if tried.lacks("nm", listed):
         return

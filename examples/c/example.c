@@ -1,18 +1,18 @@
-/* Messages from threads of their own to both networks, by the proved AFDX end system.
+/* Sends messages from threads of their own to both networks, by the proved AFDX end system.
 
        example CONFIG INTERFACE_A INTERFACE_B PORT[:MESSAGES[:BYTES]]..
        example --dump CONFIG PORT[:MESSAGES[:BYTES]]..
 
-   CONFIG is the file of a configuration. Each PORT sends so many messages, 1 where none is told, of so many bytes, 1
-   where none are told: byte i of message k is k + 1 + i modulo 256, both counted from 0.
+   CONFIG is the file of a configuration. Each PORT sends MESSAGES messages of BYTES bytes, 1 of each by default: byte i
+   of message k is k + 1 + i modulo 256, both counted from 0.
 
    In the first form each port has a thread that sends; the main thread polls by the monotonic clock and writes the frames
-   to two network interfaces, which takes the right to open raw sockets. An interface that doesn't take a frame has failed
-   for good. Then the ports come back, what is left goes out, and the counts are printed.
+   to two network interfaces, which needs the right to open raw sockets. An interface that doesn't take a frame has failed
+   and gets no other. Then the ports are given back, the remaining frames are transmitted, and the counts are printed.
 
-   With --dump nothing but standard output is written and no clock is read: polls are 1,000 microseconds apart, from 0 on,
-   and before each of them the ports send, in their order, until there is no room. The frames are printed as
-   `afdx_bench run` prints them: those for network A and then those for network B. */
+   With --dump only standard output is written and no clock is read: polls are 1,000 microseconds apart, from 0 on, and
+   before each of them the ports send, in their order, until there is no room. The frames are printed as `afdx_bench run`
+   prints them: those for network A and then those for network B. */
 #define _GNU_SOURCE
 #include "afdx.h"
 
@@ -32,10 +32,10 @@
 /* The most ports of a configuration, the most bytes of a message and of a configuration's text. */
 enum { MOST_PORTS = 128, GREATEST_MESSAGE = 8192, GREATEST_TEXT = 1 << 20 };
 
-/* How far polls of a dump are apart, and those of the other form at least, in microseconds. */
+/* The time between polls of a dump, and the least of the other form, in microseconds. */
 enum { DUMP_STEP = 1000, PAUSE = 100 };
 
-/* How long the other form takes at most, in microseconds. */
+/* The longest run of the other form, in microseconds. */
 static const uint64_t PATIENCE = 60 * 1000 * 1000;
 
 /* A port that sends, in its thread or before each poll. */
@@ -44,11 +44,11 @@ struct sender {
     unsigned id;
     uint32_t messages, sent;
     size_t bytes;
-    uint8_t refused; /* what it can't go on after, or 0 */
+    uint8_t refused; /* the answer that ended its sending, or 0 */
     pthread_t thread;
 };
 
-/* Where the frames of a network go. */
+/* A network: an interface or a dump. */
 struct network {
     uint8_t which;
     const char *name;
@@ -67,7 +67,7 @@ static int complain(const char *format, ...) {
     return -1;
 }
 
-/* Sends until all messages are sent, or one is refused. Whether it is to try again later. */
+/* Sends until all messages are sent or one is refused. Returns whether to try again later. */
 static int send_some(struct sender *sender) {
     uint8_t message[GREATEST_MESSAGE + 1];
     while (sender->sent < sender->messages) {
@@ -96,7 +96,7 @@ static uint64_t clock_micros(void) {
     return (uint64_t)now.tv_sec * 1000000 + (uint64_t)now.tv_nsec / 1000;
 }
 
-/* A frame goes to its network: to an interface, or into the lines of a dump. */
+/* Sends a frame to the interface of its network, or adds it to the lines of a dump. */
 static int carry(struct network *network, uint64_t now, const uint8_t *frame, size_t length) {
     network->frames++;
     if (network->lines == NULL) return send(network->socket, frame, length, 0) == (ssize_t)length ? 0 : -1;
@@ -105,7 +105,7 @@ static int carry(struct network *network, uint64_t now, const uint8_t *frame, si
     return fputc('\n', network->lines) == EOF ? -1 : 0;
 }
 
-/* The frames that the last poll made for a network go out. A network that doesn't take one has failed for good. */
+/* Transmits the frames that the last poll made for a network. A network that doesn't take one has failed. */
 static void carry_all(afdx_end_system *end_system, struct network *network, uint64_t now) {
     uint8_t frame[AFDX_GREATEST_FRAME];
     size_t count = 0, length = 0;
@@ -120,7 +120,7 @@ static void carry_all(afdx_end_system *end_system, struct network *network, uint
     }
 }
 
-/* One poll, and its frames. */
+/* Polls once, and transmits the frames. */
 static int poll_once(afdx_end_system *end_system, struct network networks[2], uint64_t now) {
     uint8_t standing = 0;
     uint8_t answer = afdx_poll(end_system, now, &standing);
@@ -130,7 +130,7 @@ static int poll_once(afdx_end_system *end_system, struct network networks[2], ui
     return 0;
 }
 
-/* All ports come back, so that what they had accepted can be sent to its end. */
+/* Gives back all ports and calls afdx_gather, so that all that they had accepted can be sent. */
 static int gather(afdx_end_system *end_system, struct sender *senders, size_t count) {
     for (size_t k = 0; k < count; k++) {
         uint8_t answer = afdx_give_back(end_system, &senders[k].port);
@@ -158,7 +158,7 @@ static int drain(afdx_end_system *end_system, struct network networks[2], uint64
     }
 }
 
-/* The ports send in their order before each poll; polls are so far apart. */
+/* The ports send in their order before each poll. Polls are DUMP_STEP apart. */
 static int dump(afdx_end_system *end_system, struct sender *senders, size_t count, struct network networks[2]) {
     uint64_t now = 0;
     for (;;) {
@@ -172,7 +172,7 @@ static int dump(afdx_end_system *end_system, struct sender *senders, size_t coun
     return drain(end_system, networks, now, UINT64_MAX);
 }
 
-/* The first senders of a list have sent all, or can't. */
+/* Joins the threads in order, up to the first that still runs. Returns whether all are joined. */
 static int join_sent(struct sender *senders, size_t *joined, size_t count) {
     while (*joined < count) {
         if (pthread_tryjoin_np(senders[*joined].thread, NULL) != 0) return 0;
@@ -191,7 +191,7 @@ static int run(afdx_end_system *end_system, struct sender *senders, size_t count
     while (!join_sent(senders, &joined, started)) {
         now = clock_micros() - begun;
         if (!failed && now > PATIENCE) failed = complain("not all was accepted in time\n");
-        /* (a closed or failed end system would leave its threads trying) */
+        /* (the threads of an end system that is no longer polled would try on) */
         if (failed || poll_once(end_system, networks, now) != 0) exit(1);
         usleep(PAUSE);
     }
@@ -217,7 +217,7 @@ static int open_end_system(afdx_end_system *end_system, const char *path) {
     return fault == 0 ? 0 : complain("%s is refused: fault %d\n", path, fault);
 }
 
-/* What a word says of a port: PORT[:MESSAGES[:BYTES]]. */
+/* Reads a sender from a word: PORT[:MESSAGES[:BYTES]]. */
 static int read_sender(const char *word, struct sender *sender) {
     unsigned long messages = 1, bytes = 1;
     char rest;
@@ -229,7 +229,7 @@ static int read_sender(const char *word, struct sender *sender) {
     return 0;
 }
 
-/* The ports that the words name. */
+/* Takes the ports that the words name. */
 static int open_senders(afdx_end_system *end_system, char **words, size_t count, struct sender *senders) {
     if (count > MOST_PORTS) return complain("too many ports\n");
     for (size_t k = 0; k < count; k++) {
@@ -240,7 +240,7 @@ static int open_senders(afdx_end_system *end_system, char **words, size_t count,
     return 0;
 }
 
-/* A raw socket on an interface, or the lines of a dump where there is none. */
+/* Opens a raw socket on an interface, or the lines of a dump if there is none. */
 static int open_network(struct network *network, const char *interface) {
     if (interface == NULL) {
         network->lines = open_memstream(&network->text, &network->text_length);
@@ -253,7 +253,7 @@ static int open_network(struct network *network, const char *interface) {
     return 0;
 }
 
-/* What was sent, to standard error, and of a dump its lines to standard output. */
+/* Prints what was sent to standard error, and the lines of a dump to standard output. */
 static int tell(struct sender *senders, size_t count, struct network networks[2]) {
     int failed = 0;
     for (size_t k = 0; k < count; k++) {

@@ -1,10 +1,10 @@
-/* What two end systems side by side, no bytes at all, lists and the allocator show of the calls of afdx.h: a port is
-   given back to its own end system alone, NULL is legal for 0 bytes, all frames of a poll at once are those of the calls
-   for one, a moment until which a poller may sleep is one at which a link becomes due, an explanation is cut to its buffer,
-   and an end system asks for as much memory as docs/guide/c.md says.
+/* Tests calls of afdx.h with two end systems side by side, no bytes, lists and the allocator: a port can be given back only
+   to its own end system, NULL is legal for 0 bytes, all frames of a poll at once are those of the calls for one, the time
+   until which a poller may sleep is one at which a link becomes due, an explanation is cut to its buffer, and an end
+   system allocates as much memory as docs/guide/c.md says.
 
-   tools/c_library.py builds and runs it. Requests for memory go through `__wrap_malloc` and its kin below (by the
-   linker's --wrap), which count their bytes. A failed check is told by its line; the last line is 'N passed, M failed'. */
+   tools/c_library.py builds and runs it. Allocations call `__wrap_malloc` and its kin below (by the linker's --wrap),
+   which count their bytes. A failed check prints its line; the last line is 'N passed, M failed'. */
 #include "afdx.h"
 
 #include <stdbool.h>
@@ -21,7 +21,7 @@ static void check(bool holds, int line, const char *what) {
 
 #define CHECK(holds) check((holds), __LINE__, #holds)
 
-/* Memory: the bytes and the blocks that are out, the most bytes that were, and how often a block was asked for. */
+/* Memory: the bytes and the blocks that are allocated, the most bytes that were, and the number of allocations. */
 static size_t bytes, most, blocks, requests;
 
 enum { HEAD = 16 };
@@ -29,7 +29,7 @@ enum { HEAD = 16 };
 void *__real_realloc(void *old, size_t size);
 void __real_free(void *block);
 
-/* Each block has its size in front of it. */
+/* Each block is preceded by its size. */
 void *__wrap_realloc(void *old, size_t size) {
     unsigned char *block = old == NULL ? NULL : (unsigned char *)old - HEAD;
     size_t before = 0;
@@ -55,7 +55,7 @@ void __wrap_free(void *block) {
     __real_free((unsigned char *)block - HEAD);
 }
 
-/* The text of a plan of so many links, each of so many sub-VLs with queues of this capacity, and `each` ports to a
+/* The text of a plan of `links` links of `sub_vls` sub-VLs each, with queues of this capacity and `each` ports to a
    sub-VL. */
 static const char *plan(int links, int sub_vls, int capacity, int each) {
     static char text[64000];
@@ -80,7 +80,7 @@ static uint64_t accepted(afdx_port *port) {
     return count;
 }
 
-/* Two end systems of one text, each with a port out at each place: only its own comes back. */
+/* Two end systems of one text, each with all ports taken. Each takes back only its own. */
 static void check_owners(void) {
     afdx_end_system one = {0}, two = {0};
     afdx_port ports[2] = {{0}}, others[2] = {{0}};
@@ -103,7 +103,7 @@ static void check_owners(void) {
     }
     CHECK(afdx_gather(&one) == AFDX_OK && afdx_is_done(&one, &done) == AFDX_OK && done == 0);
     CHECK(afdx_give_back(&one, &others[0]) == AFDX_GATHERED && others[0].held);
-    /* a port whose end system is freed is that of no other, wherever that lies */
+    /* a port whose end system is freed belongs to no other, wherever that lies in memory */
     CHECK(afdx_free(&two) == AFDX_OK);
     for (int times = 0; times < 20; times++) {
         afdx_end_system three = {0};
@@ -115,7 +115,7 @@ static void check_owners(void) {
     CHECK(afdx_free(&one) == AFDX_OK && blocks == 0);
 }
 
-/* NULL where there are no bytes. */
+/* NULL with 0 bytes. */
 static void check_null(void) {
     afdx_end_system it = {0};
     afdx_port port = {0};
@@ -131,7 +131,7 @@ static void check_null(void) {
     CHECK(afdx_free_port(&port) == AFDX_OK && afdx_free(&it) == AFDX_OK && blocks == 0);
 }
 
-/* The identifiers of ports and links, and a list that has no room for them. */
+/* The identifiers of ports and links, also in a list without room for all. */
 static void check_lists(void) {
     afdx_end_system it = {0};
     afdx_port port = {0};
@@ -170,7 +170,7 @@ static void frames_are(afdx_end_system *it, uint8_t network, size_t wanted) {
     }
     CHECK(lengths[wanted] == 0 && (at == sizeof all || all[at] == 0x5a));
     if (wanted == 0) return;
-    /* one byte or one length too few: nothing is written but the count */
+    /* one byte or one length too few: only the count is written */
     count = 7;
     memset(all, 0x5a, sizeof all);
     CHECK(afdx_all_frames(it, network, all, at - 1, lengths, wanted, &count) == AFDX_SMALL_BUFFER && count == wanted);
@@ -231,7 +231,7 @@ static void check_next_due(void) {
     for (uint16_t k = 0; k < 2; k++) CHECK(afdx_port_of(&it, 1 + k, &ports[k]) == AFDX_OK);
     afdx_end_system wrong = {.at = ports[0].at, .held = ports[0].held};
     CHECK(afdx_next_due(&wrong, &at) == AFDX_WRONG_HANDLE && at == 7);
-    /* links that sent nothing are due all the time: only a send makes something to do */
+    /* links that have sent nothing are always due: a poller waits for a send */
     next_is(&it, AFDX_NEVER);
     poll_makes(&it, 100, 0);
     next_is(&it, AFDX_NEVER);
@@ -241,7 +241,7 @@ static void check_next_due(void) {
     next_is(&it, 3000);
     poll_makes(&it, 2999, 0);
     next_is(&it, 3000);
-    /* at that moment the second link is due and has nothing to send: the first is next */
+    /* at that time the second link is due and has nothing to send: the first is next */
     poll_makes(&it, 3000, 0);
     next_is(&it, 9000);
     CHECK(afdx_send(&ports[1], (const uint8_t *)"x", 1) == AFDX_OK);
@@ -253,7 +253,7 @@ static void check_next_due(void) {
     poll_makes(&it, 9000, 1);
     next_is(&it, 17000);
     CHECK(afdx_is_done(&it, &done) == AFDX_OK && done == 1 && afdx_free(&it) == AFDX_OK);
-    /* a link whose network is down becomes due no more */
+    /* a link whose network is down never becomes due again */
     open_plan(&it, text);
     for (uint16_t k = 0; k < 2; k++) {
         CHECK(afdx_port_of(&it, 1 + k, &ports[k]) == AFDX_OK && afdx_send(&ports[k], (const uint8_t *)"x", 1) == AFDX_OK);
@@ -270,8 +270,7 @@ static void check_next_due(void) {
     CHECK(afdx_free(&it) == AFDX_OK && blocks == 0);
 }
 
-/* The room of a list of so many that has grown one by one. */
-/* The explanation of a text is this, in a buffer of any size. */
+/* Checks the explanation of a text, in buffers of any size. */
 static void explains(const char *text, const char *told) {
     size_t all = strlen(told), length = 0;
     uint8_t buffer[1000];
@@ -292,13 +291,14 @@ static void check_explain(void) {
                      "or inline table\n");
 }
 
+/* The room of a list of `many` elements that has grown one by one. */
 static size_t room(size_t many) {
     size_t room = many == 0 ? 0 : 4;
     while (room < many) room *= 2;
     return room;
 }
 
-/* What an end system holds from afdx_open to afdx_free, in bytes: docs/guide/c.md has this formula. */
+/* The bytes that an end system holds from afdx_open to afdx_free: docs/guide/c.md has this formula. */
 static size_t formula(size_t links, size_t sub_vls, size_t capacity, size_t each) {
     size_t ports = links * sub_vls * each;
     size_t of_sub_vl = 296 + 48 * capacity + 32 * room(each);
@@ -321,7 +321,7 @@ static void check_memory(void) {
         CHECK(most == wanted || most < 60 * strlen(text));
         CHECK(afdx_port_of(&it, 0, &port) == AFDX_OK && bytes == wanted + 96);
         CHECK(afdx_send(&port, message, sizeof message) == AFDX_OK && bytes == wanted + 96 + sizeof message);
-        /* from here on nothing is asked for */
+        /* no allocation from here on */
         size_t asked = requests;
         for (uint64_t now = 0; now < 10000; now += 1000) CHECK(afdx_poll(&it, now, &standing) == AFDX_OK);
         CHECK(afdx_frame(&it, AFDX_A, 0, frame, sizeof frame, &length) == AFDX_NO_FRAME);

@@ -4,8 +4,8 @@
     receive.py NETWORK INTERFACE FOLDER LINK:PORT:MESSAGES:BYTES..
 
 It joins the multicast group of each virtual link on the interface, makes the file NETWORK in the folder when it
-listens, and prints how many messages came to each port, once all came or one second after the file `sent` is there.
-The exit status is 0 where each port got exactly its messages.
+listens, and prints how many messages each port received, once all are received or one second after the file `sent`
+exists. The exit status is 0 if each port received exactly its messages.
 """
 import os
 import select
@@ -30,14 +30,14 @@ def opened(interface, link, port):
 
 
 class Port:
-    """A port that messages come to, and how many came so far."""
+    """A port that receives messages, and how many it has received."""
 
     def __init__(self, interface, word):
         link, self.port, self.messages, self.bytes = map(int, word.split(":"))
         self.socket, self.came, self.fault = opened(interface, link, self.port), 0, None
 
     def take(self):
-        """Takes what is there. The next message has to be the next that was sent."""
+        """Receives what has arrived. Each message must be the next one of the sender."""
         while True:
             try:
                 message = self.socket.recv(65536)
@@ -62,7 +62,7 @@ def main(network, interface, folder, *words):
                 port.take()
         if sent is None and os.path.exists(os.path.join(folder, "sent")):
             sent = time.monotonic()
-        # (a moment more, in which nothing may come that wasn't sent)
+        # (one second more, in which no message may arrive that wasn't sent)
         if sent is not None and time.monotonic() - sent > 1:
             break
     for port in ports:

@@ -1,6 +1,6 @@
 #!/usr/bin/env bash
 # Runs the example over two veth pairs, as root: one network namespace for it, one for each network's receivers, which
-# are UDP sockets of the kernel. Each message has to come, whole and in its order, on each network that its link names.
+# are UDP sockets of the kernel. Each message must arrive whole and in its order on each network of its link.
 #
 #     bash examples/c/wire.sh [MESSAGES]
 #

@@ -4,7 +4,7 @@
 #include <afdx.h>
 #include <stdio.h>
 
-/* Whether a call was answered with success; else its answer is printed. */
+/* Returns whether a call succeeded; prints its answer if it didn't. */
 static int is_ok(const char *name, afdx_call call, uint8_t answer) {
     if (answer != AFDX_OK) fprintf(stderr, "%s: %s\n", name, afdx_answer_name(call, answer));
     return answer == AFDX_OK;

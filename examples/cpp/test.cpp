@@ -1,8 +1,8 @@
-// Tries afdx.hpp: objects are moved and never copied, each fault is an exception, and a port sends from a thread of its own.
+// Tests afdx.hpp: objects are moved and never copied, each fault is an exception, and a port sends from a thread of its own.
 //
 //     test CONFIG
 //
-// CONFIG is the demonstration configuration. Each try that failed is printed; the last line is 'N passed, M failed'.
+// CONFIG is the demonstration configuration. Each failed check is printed; the last line is 'N passed, M failed'.
 #include <afdx.hpp>
 
 #include <cstdio>
@@ -161,7 +161,7 @@ static void send_all(afdx::Port port) {
     }
 }
 
-// A port is moved into a thread, sends there and ends there; all that it sent is transmitted, in order.
+// A port is moved into a thread and sends and ends there. All that it sent is transmitted, in order.
 static void try_thread(const std::string &demo) {
     afdx::EndSystem it(demo);
     std::thread sender(send_all, it.port(10));

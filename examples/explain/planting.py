@@ -1,4 +1,4 @@
-"""Plans without a fault, faults that are planted in them, and their texts."""
+"""Plans without faults, faults to plant in them, and their texts."""
 import random
 from collections.abc import Callable
 
@@ -17,7 +17,7 @@ def written(value) -> str:
 
 
 def text_of(document: Table, rng: random.Random) -> str:
-    """A text of a document: tables of both arrays between one another, keys in any order."""
+    """The text of a document: tables of both arrays mixed, keys in any order."""
     arrays = {k: v for k, v in document.items() if k in ("vl", "port") and isinstance(v, list) and v and rows(document, k) == v}
     parts = [f"{written(k)} = {written(v)}" for k, v in document.items() if k not in arrays]
     turns = [name for name, array in arrays.items() for _ in array]
@@ -45,7 +45,7 @@ def plan_of(rng: random.Random, links: int, ports: int, version: int | None = No
 
 
 def bad_values(content, fault: int) -> list:
-    """Values that show a fault of 4 to 6 where this is allowed."""
+    """Values with a fault of 4 to 6 for a key of this kind."""
     if fault == 4:
         other = [7, -9] if kind_of(content) != "a whole number" else ["7", "é" * 20, 'q"\\\n\x7f' * 9, "x" * 40, "x" * 41]
         return [*other, 2.5, True, [1, 2], *([{"id": 1}] if not isinstance(content, str) else [[{}, 1]] if "array" in content else [[{}]])]
@@ -56,7 +56,7 @@ def bad_values(content, fault: int) -> list:
 
 
 def plant(rng: random.Random, document: Table, fault: int, free: dict[str, list[int]]) -> Callable[[], str]:
-    """Plants a fault in tables that are free: what begins its line, once all are planted."""
+    """Plants a fault in tables that are free. Returns a function for the start of its line, once all are planted."""
     def take(name: str, count: int = 1) -> list[int]:
         taken = sorted(rng.sample(free[name], count))
         free[name] = [k for k in free[name] if k not in taken]
@@ -99,10 +99,10 @@ def plant(rng: random.Random, document: Table, fault: int, free: dict[str, list[
 
 
 def planted(seed: int) -> tuple[str, list[str]]:
-    """A text with one to three planted faults, and what begins their lines."""
+    """A text with one to three planted faults, and the starts of their lines."""
     rng = random.Random(seed)
     document = plan_of(rng, rng.randint(6, 8), rng.randint(6, 12), rng.choice((None, 1, 2)))
     free = {name: list(range(len(document[name]))) for name in ("vl", "port")}
-    # (the first one takes its turn, so that each number comes)
+    # (the first one goes through all numbers)
     lines = [plant(rng, document, f, free) for f in (2 + seed % 13, *(rng.randint(2, 13) for _ in range(seed // 13 % 3)))]
     return text_of(document, rng), [line() for line in lines]

@@ -1,12 +1,12 @@
 #!/usr/bin/env python3
-"""Tries `afdx_bench explain` from outside: faults are planted in texts, and what it prints is held against what is wanted.
+"""Tests `afdx_bench explain` from outside: plants faults in texts, and compares what it prints with what is expected.
 
     python3 examples/explain/test_explain.py [TEXTS]
 
-It runs what `rt ci` has built. What is wanted is computed here, from the tables of `docs/guide/configuration.md` and the
-lines of `docs/guide/program.md`: all of the output, of each text that is TOML. TEXTS texts, 2,000 if left out, have one to
-three planted faults each, each of which must be reported where it was planted. Whatever the text, the first line must
-count the others, and the first fault must be the one that `check` answers. The last line is 'N passed, M failed'.
+It runs what `rt ci` has built. The expected output is computed here, from the tables of `docs/guide/configuration.md` and the
+lines of `docs/guide/program.md`: all of it, for each text that is TOML. TEXTS texts, 2,000 by default, have one to three planted
+faults each, and each must be reported at its place. For any text, the first line must count the others, and the first
+fault must be the one that `check` reports. The last line is 'N passed, M failed'.
 """
 import os
 import random
@@ -32,7 +32,7 @@ from wanted import FIELDS, GAPS, NAMES, OPTIONAL, SAME, explanation, subject  # 
 
 
 def ran(command: str, text: bytes) -> subprocess.CompletedProcess[bytes]:
-    """A run over a text, in a file of this thread's own."""
+    """Runs the program on a text, in a file of this thread's own."""
     path = f"plan-{threading.get_ident()}.toml"
     with open(path, "wb") as file:
         file.write(text)
@@ -40,7 +40,7 @@ def ran(command: str, text: bytes) -> subprocess.CompletedProcess[bytes]:
 
 
 def faults_of(text: str | bytes, lines: Iterable[str] = (), whole: str | None = None) -> list[str]:
-    """What is wrong with the explanation of a text: these beginnings of lines must be there, and all of it may be given."""
+    """What is wrong with the explanation of a text. It must have lines with these starts, and be `whole` if that is given."""
     raw = text.encode() if isinstance(text, str) else text
     explained, checked = ran("explain", raw), ran("check", raw)
     told, faults = explained.stdout.decode(), []
@@ -66,7 +66,7 @@ def all_faults(texts: Iterable[tuple]) -> list[str]:
         return [fault for found in pool.map(lambda words: faults_of(*words), texts) for fault in found]
 
 
-# A text of two links and three ports without a fault.
+# A text of two links and three ports without faults.
 THREE = """\
 version = 2
 end_system = {id = 1}
@@ -101,7 +101,7 @@ source = 1002
 destination = 2000
 max = 1
 """
-# The table of a small link, what a table's keys are told to be, and changes of the text, each with the lines that it wants.
+# The table of a small link, the keys that are printed for a table, and changes of the text, each with its expected lines.
 SMALL, HEADS = "{{id = {}, bag_ms = 1, lmax = 64, sub_vls = 1, capacity = 1}}, ", "version end_system vl port"
 AND_NEXT = "7 DuplicateVl: vl 2 (id 9) and vl 3 (id 9): the same id"
 LAST = THREE.rpartition("id = 22")[2]
@@ -140,7 +140,7 @@ CHANGES = [
     ("id = 20", "id = 20\ndest_ip = '10.1.2.3'", f"13 SharedUnicast: port 1 (id 20) and port 2 (id 21): {SAME[13]}"),
     ("vl = [", "vl = [" + "".join(map(SMALL.format, range(100, 163))), "14 Limit: vl is an array of 65: 1 to 64 tables"),
 ]
-# Texts that aren't TOML, and the line and column where each stops to be.
+# Texts that aren't TOML, and the line and column of the first error.
 STOPS = [
     ("=", 1, 1),
     ("a = 1 b = 2", 1, 7),
@@ -163,7 +163,7 @@ def wanted_lines(lines: tuple[str, ...]) -> str:
 
 
 def numbers() -> Iterable[tuple]:
-    """Texts of each fault, at two places or more, with all that is wanted of them."""
+    """Texts with each fault, at two places or more, with all expected lines."""
     yield THREE, (), "no faults\n"
     for old, new, *lines in CHANGES:
         yield THREE.replace(old, new, 1), (), wanted_lines(tuple(lines))
@@ -197,7 +197,7 @@ def keys() -> Iterable[tuple]:
 
 
 def refused(text: str, status: int) -> list[str]:
-    """What is wrong with runs in each of which a request for memory or a write is refused, or standard output is closed."""
+    """What is wrong with runs in each of which an allocation or a write fails, or standard output is closed."""
     answer, words, bench = ran("explain", text.encode()).stdout.decode(), ["explain", "plan.toml"], refusals.Bench(os.getcwd())
     with open("plan.toml", "w", encoding="utf-8") as file:
         file.write(text)
@@ -208,7 +208,7 @@ def refused(text: str, status: int) -> list[str]:
 
 
 def times() -> tuple[list[str], str]:
-    """How long `check` and `explain` take over the greatest text with a hundred faults: the least of eleven runs each."""
+    """The times of `check` and `explain` on the greatest text with a hundred faults: the least of eleven runs each."""
     rng = random.Random(5)
     document = plan_of(rng, 64, 256)
     for k in range(50):
@@ -224,7 +224,7 @@ def times() -> tuple[list[str], str]:
 
 
 def documented() -> list[str]:
-    """The keys that the table of `docs/guide/configuration.md` has are those that are tried."""
+    """The tests cover exactly the keys in the table of `docs/guide/configuration.md`."""
     cells = re.findall(r"(?m)^\| (`[a-z_`., ]+) \|", trying.text_of("docs/guide/configuration.md"))
     told = {word for cell in cells for word in re.findall(r"`([^`]+)`", cell)}
     tried = {f"{name}.{key}" for name in FIELDS if name for key in FIELDS[name]} | {"version"}
@@ -232,7 +232,7 @@ def documented() -> list[str]:
 
 
 def main() -> int:
-    """Tries all of it."""
+    """Runs all tests."""
     count = int(sys.argv[1]) if sys.argv[1:] else 2_000
     tries, rng = trying.Tries(), random.Random(0)
     demo = trying.text_of("examples/c/demo.toml").encode()

@@ -1,11 +1,11 @@
-"""What `afdx_bench explain` has to print of a text that is TOML, from the tables of `docs/guide/configuration.md`
-and the lines of `docs/guide/program.md`."""
+"""The expected output of `afdx_bench explain` for a text that is TOML, from the tables of `docs/guide/configuration.md` and the
+lines of `docs/guide/program.md`."""
 import re
 from collections.abc import Iterable
 
 NAMES = ("", "Toml", "MissingKey", "UnknownKey", "WrongKind", "OutOfRange", "BadBag", "DuplicateVl", "DuplicatePort", "NoSuchVl")
 NAMES += ("NoSuchSub", "SamplingTooLong", "SameFlow", "SharedUnicast", "Limit")
-# What may stand under a key: its kind, how its values are told, and whether one is allowed.
+# The values that a key may have: a range, a list, a tuple of words, a pattern, or the name of a kind.
 ID, TEXT = range(65536), "a text"
 GAPS, ADDRESS = [1, 2, 4, 8, 16, 32, 64, 128], re.compile(r"10(\.(0|[1-9][0-9]?|1[0-9][0-9]|2[0-4][0-9]|25[0-5])){3}", re.ASCII)
 FIELDS = {
@@ -24,13 +24,13 @@ Place = tuple[str, int]  # the name of a table, and its number in its array
 
 
 def cut(text: str) -> str:
-    """The first 40 bytes of a text as they are told."""
+    """The first 40 bytes of a text as they are printed."""
     raw = text.encode()
     return "".join(chr(b) if 32 <= b <= 126 and b not in b'"\\' else f"\\x{b:02x}" for b in raw[:40]) + "..." * (len(raw) > 40)
 
 
 def shown(table: Table, key: str) -> str:
-    """What stands under a key."""
+    """The value of a key as it is printed."""
     value = table.get(key)
     kinds = {type(None): "missing", bool: "a boolean", float: "a float", dict: "a table"}
     if type(value) is int:
@@ -41,7 +41,7 @@ def shown(table: Table, key: str) -> str:
 
 
 def kind_of(content) -> str:
-    """The kind of value that is wanted."""
+    """The kind of value that a key must have."""
     return content if isinstance(content, str) else "a whole number" if isinstance(content, (range, list)) else TEXT
 
 
@@ -76,7 +76,7 @@ def rows(document: Table, name: str) -> list[Table]:
 
 
 def number(table: Table, key: str) -> int:
-    """A number of the plan: 0 stands for what is none."""
+    """The value of a key if it is a positive number, else 0."""
     value = table.get(key)
     return value if type(value) is int and value > 0 else 0
 
@@ -87,7 +87,7 @@ def fields(document: Table, name: str) -> Table:
 
 
 def place(document: Table, at: Place) -> str:
-    """A place as it is told."""
+    """A place as it is printed."""
     name, k = at
     if not k:
         return name
@@ -96,14 +96,14 @@ def place(document: Table, at: Place) -> str:
 
 
 def subject(document: Table, at: Place, key: str) -> str:
-    """A key of a place, and what stands there."""
+    """A key of a place and its value, as they are printed."""
     name, k = at
     table = rows(document, name)[k - 1] if k else document[name] if name else document
     return place(document, at) + (", " if k else "." if name else "") + f"{cut(key)} is {shown(table, key)}"
 
 
 def value_lines(document: Table, fault: int) -> Iterable[str]:
-    """The lines of a fault of 2 to 6."""
+    """The lines of a fault from 2 to 6."""
     sites: list[tuple[Place, Table]] = [(("", 0), document)]
     sites += [(("end_system", 0), document["end_system"])] if isinstance(document.get("end_system"), dict) else []
     sites += [((name, k), table) for name in ("vl", "port") for k, table in enumerate(rows(document, name), 1)]
@@ -119,7 +119,7 @@ def value_lines(document: Table, fault: int) -> Iterable[str]:
 
 
 def plan_lines(document: Table, fault: int) -> Iterable[str]:
-    """The lines of a fault of 7 to 14."""
+    """The lines of a fault from 7 to 14."""
     links, ports = rows(document, "vl"), rows(document, "port")
     addresses = [a if isinstance(a := p.get("dest_ip"), str) and ADDRESS.fullmatch(a) else None for p in ports]
     flows = [(*(number(p, k) for k in ("vl", "partition", "source", "destination")), a) for p, a in zip(ports, addresses, strict=True)]
@@ -159,6 +159,6 @@ def plan_lines(document: Table, fault: int) -> Iterable[str]:
 
 
 def explanation(document: Table) -> str:
-    """All that is wanted of a document."""
+    """The whole expected output for a document."""
     lines = [f"{f} {NAMES[f]}: {line}" for f in range(2, 15) for line in (value_lines if f < 7 else plan_lines)(document, f)]
     return "\n".join([f"{len(lines) or 'no'} fault{'s' * (len(lines) != 1)}", *lines, ""])

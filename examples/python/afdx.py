@@ -14,7 +14,7 @@ check sequence. Each answer of the C library other than success is an exception 
 fit its argument in afdx.h raises OverflowError.
 
 `bash install/install.sh PREFIX` puts this file into PREFIX/lib/python and libafdx.so into PREFIX/lib. The library is the
-file that AFDX_LIBRARY names, else the one beside this file, in the folder above, or where the system looks.
+file that AFDX_LIBRARY names, else the one beside this file, in the folder above, or on the search path of the system.
 """
 from __future__ import annotations
 
@@ -50,7 +50,7 @@ class ConfigError(AfdxError):
 
 
 class Toml(ConfigError):
-    """It is no TOML text, or its bytes aren't UTF-8."""
+    """The text isn't TOML, or its bytes aren't UTF-8."""
 
     number = 1
 
@@ -62,7 +62,7 @@ class MissingKey(ConfigError):
 
 
 class UnknownKey(ConfigError):
-    """There is another table or key, or a key of version 2 in a text of version 1."""
+    """A table or key is unknown, or a key of version 2 is in a text of version 1."""
 
     number = 3
 
@@ -156,13 +156,13 @@ class Closed(SendError):
 
 
 class Exhausted(SendError):
-    """The port has asked 2^40 times."""
+    """The port has requested a slot 2^40 times."""
 
     number = 4
 
 
 class Full(SendError):
-    """There is no room: poll, and try again."""
+    """The queue is full: poll, and try again."""
 
     number = 5
 
@@ -188,7 +188,7 @@ class NotHeld(Misuse):
 
 
 class WrongHandle(Misuse):
-    """A port where an end system is wanted, or the other way round."""
+    """A port is passed for an end system, or the other way round."""
 
     number = 33
 
@@ -236,7 +236,7 @@ class NoFrame(Misuse):
 
 
 class SmallBuffer(Misuse):
-    """The frame has more bytes than were asked for."""
+    """The frame is longer than the given size."""
 
     number = 41
 
@@ -248,13 +248,13 @@ class PortMissing(Misuse):
 
 
 class Gathered(Misuse):
-    """The ports were gathered."""
+    """The end system is draining: `gather` was called."""
 
     number = 43
 
 
 class NotGathered(Misuse):
-    """The ports weren't gathered yet."""
+    """`gather` hasn't been called yet."""
 
     number = 44
 
@@ -321,7 +321,7 @@ def _want(answer: int, errors: Errors = MISUSES) -> None:
 
 
 def _fits(value: int, bits: int) -> int:
-    """The value, which ctypes would cut to so many bits."""
+    """Returns the value if it fits. ctypes would truncate it to `bits` bits."""
     if not 0 <= value < 1 << bits:
         raise OverflowError(f"{value} isn't a number of {bits} bits")
     return value
@@ -364,7 +364,7 @@ class Poll:
 
 
 class Port:
-    """A port of an end system. Used in `with`, it goes back to its end system at the end."""
+    """A port of an end system. Used in `with`, it is returned to its end system at the end."""
 
     _handle: _Handle
 
@@ -391,7 +391,7 @@ class Port:
         return count.value
 
     def give_back(self) -> None:
-        """Returns the port to its end system, which may hand it out again."""
+        """Returns the port to its end system. It can be taken again."""
         self._home.give_back(self)
 
     def __enter__(self) -> Port:
@@ -451,8 +451,8 @@ class EndSystem:
 
     @property
     def next_due(self) -> int | None:
-        """The first time after that of the last poll, in microseconds, at which a virtual link becomes due that wasn't
-        then: a poller may sleep until it, or until a port has sent. None if no link does."""
+        """The first time after the last poll, in microseconds, at which a virtual link becomes due that wasn't due then. A
+        poller may sleep until this time or until a port has sent. None if no link becomes due."""
         at = c_uint64()
         _want(_lib.afdx_next_due(byref(self._handle), byref(at)))
         return None if at.value == NEVER else at.value
@@ -489,11 +489,11 @@ class EndSystem:
         return Counts(counts.frames, counts.bytes, counts.messages, counts.last)
 
     def give_back(self, port: Port) -> None:
-        """Takes back a port that came from this end system. Raises `Gathered`, or `NoPort` of another end system's."""
+        """Takes back a port of this end system. Raises `Gathered`, or `NoPort` for a port of another."""
         _want(_lib.afdx_give_back(byref(self._handle), byref(port._handle)))
 
     def gather(self) -> None:
-        """Sends what is left from then on; no port is handed out any more. Raises `PortMissing` while a port is out."""
+        """Starts draining: later polls send what is left; no port can be taken. Raises `PortMissing` if a port is out."""
         _want(_lib.afdx_gather(byref(self._handle)))
 
     @property

@@ -1,5 +1,5 @@
 #!/usr/bin/env python3
-"""Tries examples/python/afdx.py and the test bench as `install/install.sh` installs them into a folder of their own. The last
+"""Tests examples/python/afdx.py and the test bench as `install/install.sh` installs them into a folder of their own. The last
 line is 'N passed, M failed'."""
 import os
 import re
@@ -39,7 +39,7 @@ SECOND = DEMO[DEMO.index("[[port]]") :].replace("id = 10", "id = 11").replace("1
 LINK = DEMO[DEMO.index("[[vl]]") : DEMO.index("[[port]]")]
 SHARED = DEMO + LINK.replace("id = 1", "id = 2") + SECOND.replace("vl = 1", "vl = 2")
 SHARED = SHARED.replace("max = 8192", 'max = 8192\ndest_ip = "10.0.0.1"')
-# The greatest plan: opening it takes more memory than is lying about.
+# The greatest plan: opening it takes more memory than the process has free.
 GREAT = "[end_system]\nid = 1\n" + "".join(
     LINK.replace("id = 1", f"id = {k}").replace("= 1518\nsub_vls = 1", "= 1518\nsub_vls = 4").replace("capacity = 2", "capacity = 256")
     for k in range(64)
@@ -58,7 +58,7 @@ def raises(error: type[Exception], call, *words) -> None:
 
 @contextmanager
 def no_more_memory() -> Iterator[None]:
-    """Lets the process have no more memory than it has."""
+    """Limits the memory of the process to what it has."""
     soft, hard = resource.getrlimit(resource.RLIMIT_AS)
     with open("/proc/self/statm", encoding="ascii") as file:
         resource.setrlimit(resource.RLIMIT_AS, (int(file.read().split()[0]) * resource.getpagesize(), hard))
@@ -69,7 +69,7 @@ def no_more_memory() -> Iterator[None]:
 
 
 def first_message() -> None:
-    """The demonstration message is the stored run of the program."""
+    """The frames of the demonstration message are those of the stored run of the program."""
     with EndSystem(DEMO) as it, it.port(10) as port:
         port.send(b"\x01")
         lines = [f"{'AB'[network]} 0 {frame.hex()}\n" for network, frame in it.poll(0)]
@@ -78,7 +78,7 @@ def first_message() -> None:
 
 
 def names() -> None:
-    """Each answer of the header has an exception of its name and number."""
+    """Each answer of the header has an exception with its name and number."""
     header = re.sub(r"/\*.*?\*/", "", text_of("crates/afdx/afdx.h"), flags=re.DOTALL)
     errors = [afdx.CONFIG_ERRORS, afdx.SEND_ERRORS, afdx.POLL_ERRORS, afdx.MISUSES]
     found = {error.__name__: number for table in errors for number, error in table.items()}
@@ -109,7 +109,7 @@ def configurations() -> None:
 
 
 def answers() -> None:
-    """Each other answer is raised that a caller can meet in less than 2^40 sends."""
+    """Each other answer is raised, but for the one that takes 2^40 sends."""
     it, other = EndSystem(DEMO + SECOND), EndSystem(DEMO)
     raises(afdx.Held, it.__init__, DEMO)
     port = it.port(10)
@@ -163,7 +163,7 @@ def lists() -> None:
 
 
 def all_raised() -> None:
-    """The tests before have met each exception but one."""
+    """The tests before have raised each exception but one."""
     tables = (afdx.CONFIG_ERRORS, afdx.SEND_ERRORS, afdx.POLL_ERRORS, afdx.MISUSES)
     unmet = {error.__name__ for table in tables for error in table.values()} - RAISED
     assert unmet == {"Exhausted"}, unmet
@@ -200,7 +200,7 @@ def threads() -> None:
 
 
 def bench() -> None:
-    """The test bench of two ports runs, and a reader takes its capture."""
+    """The test bench of two ports runs, and its capture can be read."""
     with tempfile.TemporaryDirectory() as room:
         with open(f"{room}/plan.toml", "w", encoding="utf-8") as file:
             file.write(DEMO + SECOND)

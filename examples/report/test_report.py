@@ -1,12 +1,12 @@
 #!/usr/bin/env python3
-"""Tries `afdx_bench report`: its text against numbers that are computed here from the plan, its page against its text,
-number by number, its waits against runs of the end system, and its ends when memory or a write is refused. The last line
+"""Tests `afdx_bench report`: its text against numbers that are computed here from the plan, its page against its text,
+number by number, its waits against runs of the end system, and its ends when an allocation or a write fails. The last line
 is 'N passed, M failed'.
 
     python3 examples/report/test_report.py [PLANS]
 
-PLANS small plans, 500 if left out, are run as scripts, in each of which one message meets the worst that the others can
-send: it is released no later than its printed wait, and exactly then where each other sub-VL of its link sends.
+PLANS small plans, 500 by default, are run as scripts, in each of which one message meets the worst that the others can
+send. It is released no later than its printed wait, and exactly then if each other sub-VL of its link sends.
 """
 import html.parser
 import os
@@ -36,12 +36,12 @@ def up(value: Fraction) -> int:
 
 
 def fixed(value: int, digits: int) -> str:
-    """A number of parts as a decimal with so many digits after the point."""
+    """A number of parts as a decimal with `digits` digits after the point."""
     return f"{value // 10**digits}.{value % 10**digits:0{digits}}"
 
 
 def pieces(link: Plan, size: int) -> int:
-    """How many fragments a message has: 14 + 20 + 1 + 4 bytes of each frame are its own."""
+    """How many fragments a message has. Each frame has 14 + 20 + 1 + 4 bytes of its own."""
     room, datagram, count = link["lmax"] - 39, size + 8, 1
     while datagram > room:
         datagram, count = datagram - room // 8 * 8, count + 1
@@ -74,7 +74,7 @@ def wanted(plan: Plan, lateness: int) -> Tables:
 
 
 class Page(html.parser.HTMLParser):
-    """The tables of a page, and the texts that have a name."""
+    """The tables of a page, and the texts with a name."""
 
     def __init__(self, text: str) -> None:
         super().__init__()
@@ -108,7 +108,7 @@ class Page(html.parser.HTMLParser):
 
 
 def report(text: str, *words: str) -> subprocess.CompletedProcess[str]:
-    """A report of a configuration's text, in a folder of its own where `page.html` is the page."""
+    """Runs a report of a configuration's text, in a folder of its own. `page.html` is the page."""
     with open("plan.toml", "w", encoding="utf-8") as file:
         file.write(text)
     return subprocess.run([PROGRAM, "report", "plan.toml", *words], capture_output=True, text=True, check=False, timeout=60)
@@ -189,7 +189,7 @@ def random_plan(rng: random.Random) -> tuple[str, list[Plan], Plan]:
 
 
 def worst_wait(text: str, ports: list[Plan], port: Plan, lateness: int, rng: random.Random) -> tuple[int, int]:
-    """The wait that is printed for a port, and that of one of its messages in a run in which the others send the most."""
+    """The printed wait of a port, and that of one of its messages in a run in which the others send the most."""
     printed = next(int(row[4]) for row in tables_of(report(text, "--lateness", str(lateness)).stdout)["ports"] if row[0] == str(port["id"]))
     link = tomllib.loads(text)["vl"][0]
 
@@ -229,8 +229,8 @@ def wait_faults(seed: int) -> Iterator[str]:
 
 
 def refusal_faults(text: str, *more: str) -> Iterator[str]:
-    """What is wrong with runs of a report in each of which a request for memory or a write is refused, or whose standard
-    output is a closed pipe."""
+    """What is wrong with runs of a report in each of which an allocation or a write fails, or whose standard output is a
+    closed pipe."""
     words = ["report", "plan.toml", *more]
     answer = report(text, *more).stdout
     bench = refusals.Bench(os.getcwd())
@@ -243,7 +243,7 @@ def refusal_faults(text: str, *more: str) -> Iterator[str]:
 
 
 def main() -> int:
-    """Tries all of it."""
+    """Runs all tests."""
     plans = int(sys.argv[1]) if sys.argv[1:] else 500
     demo = open(f"{ROOT}/examples/c/demo.toml", encoding="utf-8").read()
     four = [port_of(10 + i, 1, sub, size) for i, (sub, size) in enumerate(((0, 10), (0, 1000), (1, 200), (2, 8192), (3, 1), (3, 5000)))]

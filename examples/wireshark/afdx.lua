@@ -3,7 +3,7 @@
 --     tshark -X lua_script:afdx.lua -r run.pcapng -Y 'afdx.vl == 1'
 --     tshark -X lua_script:afdx.lua -r run.pcapng -Y 'afdx.seq.gap or afdx.seq.repeat or afdx.bag or afdx.twin'
 --
--- Copy the file into Wireshark's folder of personal Lua plugins to have it there. A frame is AFDX if its destination MAC
+-- To install it, copy the file into Wireshark's folder of personal Lua plugins. A frame is AFDX if its destination MAC
 -- address begins with 03 00 00 00 and its source MAC address with 02 00 00. Fields to filter by: afdx.vl, afdx.network,
 -- afdx.end_system, afdx.interface, afdx.partition, afdx.sub_vl, afdx.seq. Expert infos: a sequence number that repeats or
 -- leaves a gap, two frames of a virtual link less than its BAG apart, and a frame that differs from its twin on the other
@@ -35,7 +35,7 @@ afdx.prefs.bag = Pref.uint("BAG in ms", 1, "The BAG of all virtual links but tho
 afdx.prefs.bags = Pref.string("BAG by virtual link", "", "As 1=2 7=128: virtual link 1 has a BAG of 2 ms, 7 one of 128 ms")
 afdx.prefs.jitter = Pref.uint("Jitter in us", 0, "How much less than a BAG two frames may lie apart")
 
--- What was found of each frame, by its number in the capture, and what is known of each stream meanwhile.
+-- What was found of each frame, by its number in the capture, and the state of each stream.
 local found, streams, twins
 
 function afdx.init()
@@ -49,8 +49,8 @@ local function bag_of(vl)
     return afdx.prefs.bag
 end
 
--- Looks at the sequence number and the time of a frame. Its place among the frames of its virtual link, from 0, as the
--- numbers tell it: 0, 1 to 255, and then 1 again. None if the number repeats the last one.
+-- Checks the sequence number and the time of a frame. Returns its place among the frames of its virtual link, from 0, by
+-- the numbers: 0, 1 to 255, and then 1 again. Returns nil if the number repeats the last one.
 local function place_of(told, vl, network, seq, time)
     local key = vl .. network
     local last = streams[key]

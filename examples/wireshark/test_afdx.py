@@ -1,5 +1,5 @@
 #!/usr/bin/env python3
-"""Tries examples/wireshark/afdx.lua by tshark on a capture of the program, as it is and with a fault planted in it. Each
+"""Tests examples/wireshark/afdx.lua by tshark on a capture of the program, as it is and with a fault planted in it. Each
 fault has its own expert info and no other. The last line is 'N passed, M failed'."""
 import os
 import shutil
