@@ -10,6 +10,8 @@ mod failing_tests;
 #[cfg(test)]
 mod fault_tests;
 #[cfg(test)]
+mod field_tests;
+#[cfg(test)]
 mod gauge;
 #[cfg(test)]
 mod gauge_tests;
