@@ -301,8 +301,9 @@ static size_t room(size_t many) {
 /* The bytes that an end system holds from afdx_open to afdx_free: docs/guide/c.md has this formula. */
 static size_t formula(size_t links, size_t sub_vls, size_t capacity, size_t each) {
     size_t ports = links * sub_vls * each;
-    size_t of_sub_vl = 296 + 48 * capacity + 32 * room(each);
-    return 200088 + 272 * links + 24 * room(links) + 80 * ports + 32 * room(ports) + links * sub_vls * of_sub_vl;
+    size_t of_sub_vl = 304 + 48 * capacity + 32 * room(each);
+    return 198576 + 280 * links + 24 * (links < 4 ? 4 : links) + 80 * ports + 32 * (ports < 4 ? 4 : ports)
+        + links * sub_vls * of_sub_vl;
 }
 
 static void check_memory(void) {
