@@ -8,14 +8,28 @@ use status_board::{Board, Counts, Monitor, laws, open_board};
 use std::sync::Wait;
 use std::thread;
 
-// A message of one frame, sent at time 0; some time later; the greatest counts.
-const ONE_FRAME: Counts = Counts {
-    frames: 1,
-    bytes: 60,
-    messages: 1,
-    last: 0,
-};
+// How many entries are published.
+const ENTRIES: u64 = 10_000;
 
+// The entry after `frames` frames of 60 bytes, each of a message of its own, a millisecond apart.
+fn entry_after(frames: u64) -> Counts
+    requires { frames ≤ ENTRIES }
+    ensures { result ≡ record {
+      frames = frames;
+      bytes = frames * 60;
+      messages = frames;
+      last = frames * 1000;
+    } }
+{
+    Counts {
+        frames,
+        bytes: frames * 60,
+        messages: frames,
+        last: frames * 1_000,
+    }
+}
+
+// A later entry; the greatest counts.
 const LATER: Counts = Counts {
     frames: 300,
     bytes: 81_240,
@@ -42,8 +56,8 @@ fn assert_read<R: Wait + Abort>(rt: &R, monitor: &mut Monitor, link: usize, want
 fn a_link_reads_zeros_and_then_the_last_entry_as_often_as_one_reads(rt: HostRuntime) {
     let (mut board, mut monitor) = open_board(rt.alloc(), 1).expect(&rt, "memory");
     assert_read(&rt, &mut monitor, 0, Counts::ZERO);
-    board.publish(&rt, 0, ONE_FRAME);
-    assert_read(&rt, &mut monitor, 0, ONE_FRAME);
+    board.publish(&rt, 0, entry_after(1));
+    assert_read(&rt, &mut monitor, 0, entry_after(1));
     board.publish(&rt, 0, LATER);
     assert_read(&rt, &mut monitor, 0, LATER);
     assert_read(&rt, &mut monitor, 0, LATER);
@@ -54,67 +68,27 @@ fn a_link_reads_zeros_and_then_the_last_entry_as_often_as_one_reads(rt: HostRunt
 }
 
 #[test]
-fn each_link_has_its_own_counts(rt: HostRuntime) {
-    let (mut board, mut monitor) = open_board(rt.alloc(), 3).expect(&rt, "memory");
-    board.publish(&rt, 0, ONE_FRAME);
-    board.publish(&rt, 2, LATER);
-    assert_read(&rt, &mut monitor, 0, ONE_FRAME);
+fn each_link_of_a_board_of_none_to_64_has_its_own_counts(rt: HostRuntime) {
+    let (_board, _monitor) = open_board(rt.alloc(), 0).expect(&rt, "memory");
+    let (mut board, mut monitor) = open_board(rt.alloc(), 64).expect(&rt, "memory");
+    board.publish(&rt, 0, entry_after(1));
+    board.publish(&rt, 63, LATER);
+    assert_read(&rt, &mut monitor, 0, entry_after(1));
     assert_read(&rt, &mut monitor, 1, Counts::ZERO);
-    assert_read(&rt, &mut monitor, 2, LATER);
+    assert_read(&rt, &mut monitor, 62, Counts::ZERO);
+    assert_read(&rt, &mut monitor, 63, LATER);
 }
 
 #[test]
 fn what_was_seen_begins_what_was_published(rt: HostRuntime) {
     let (mut board, mut monitor) = open_board(rt.alloc(), 2).expect(&rt, "memory");
     laws::seen_begins(&rt, &mut board, &mut monitor, 1);
-    board.publish(&rt, 1, ONE_FRAME);
-    assert_same(&rt, monitor.read(&rt, 1), ONE_FRAME);
+    board.publish(&rt, 1, entry_after(1));
+    assert_same(&rt, monitor.read(&rt, 1), entry_after(1));
     board.publish(&rt, 1, LATER);
     laws::seen_begins(&rt, &mut board, &mut monitor, 1);
     assert_same(&rt, monitor.read(&rt, 1), LATER);
     assert_same(&rt, monitor.read(&rt, 0), Counts::ZERO);
-}
-
-#[test]
-fn a_board_may_have_no_link_or_64(rt: HostRuntime) {
-    let (_board, _monitor) = open_board(rt.alloc(), 0).expect(&rt, "memory");
-    let (mut board, mut monitor) = open_board(rt.alloc(), 64).expect(&rt, "memory");
-    board.publish(&rt, 63, LATER);
-    assert_read(&rt, &mut monitor, 63, LATER);
-    assert_read(&rt, &mut monitor, 62, Counts::ZERO);
-}
-
-// How many entries are published.
-const ENTRIES: u64 = 10_000;
-
-// The bytes of a frame, and the time between two frames.
-const FRAME: u64 = 60;
-
-const GAP: u64 = 1_000;
-
-// The entry after `frames` frames of a message each. Each field gives the others.
-fn entry_after(frames: u64) -> Counts
-    requires { frames ≤ ENTRIES }
-    ensures { result ≡ record {
-      frames = frames;
-      bytes = frames * FRAME;
-      messages = frames;
-      last = frames * GAP;
-    } }
-{
-    Counts {
-        frames,
-        bytes: frames * FRAME,
-        messages: frames,
-        last: frames * GAP,
-    }
-}
-
-// Whether the fields are of one entry.
-fn is_whole(found: &Counts) -> bool {
-    found.messages == found.frames
-        && found.frames.checked_mul(FRAME) == Some(found.bytes)
-        && found.frames.checked_mul(GAP) == Some(found.last)
 }
 
 // Reads until the last entry is found. Whether each reading was whole, and none older than the one before.
@@ -124,7 +98,7 @@ fn watch<R: Wait>(rt: &R, mut monitor: Monitor) -> bool
     let mut frames = 0;
     for _ in rt.forever() {
         let found = monitor.read(rt, 0);
-        if !is_whole(&found) || found.frames < frames {
+        if found.frames < frames || found.frames > ENTRIES || found != entry_after(found.frames) {
             return false;
         }
         if found.frames == ENTRIES {

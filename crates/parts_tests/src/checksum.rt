@@ -2,7 +2,7 @@
 ghost use Rattle.std.specs.Prelude.{◌≡◌, ◌≤◌, length};
 ghost use Rattle.afdx_plan.specs.Plan.{IsPort, SendsOver};
 
-use crate::frame::{demo_port, link};
+use crate::frame::{FIRST_FRAME, demo_port, link};
 use crate::testing::*;
 use afdx_frame::{Cut, Frame, Net};
 use afdx_plan::{LinkPlan, Lmax, PortPlan, UdpSum};
@@ -29,26 +29,12 @@ fn words_of(bytes: &[u8]) -> u32 {
     sum
 }
 
-/// A received message: the addresses of its frames, and its datagram.
-#[derive(Drop)]
-struct Received {
-    addresses: Vec<u8>,
-    datagram: Vec<u8>,
-}
-
-impl Received {
-    /// Appends a frame's piece of the datagram, and keeps the frame's addresses.
-    fn add(&mut self, alloc: Global, frame: &Frame) -> Result<(), AllocError> {
-        self.addresses = frame.get(26..34).unwrap_or(&[]).to_vec(alloc)?;
-        self.datagram.extend_from_slice(piece_of(frame))
-    }
-
-    /// The receiver's sum: over pseudo header and datagram, modulo 65,535.
-    fn sum(&self) -> u32 {
-        let len = u32::try_from(self.datagram.len()).unwrap_or(0);
-        let pseudo = words_of(&self.addresses).wrapping_add(17).wrapping_add(len);
-        words_of(&self.datagram).wrapping_add(pseudo) % 65535
-    }
+/// The receiver's sum of a datagram and its pseudo header, modulo 65,535.
+fn sum_of(datagram: &[u8]) -> u32 {
+    let len = u32::try_from(datagram.len()).unwrap_or(0);
+    let addresses = words_of(&FIRST_FRAME[26..34]);
+    let pseudo = addresses.wrapping_add(17).wrapping_add(len);
+    words_of(datagram).wrapping_add(pseudo) % 65535
 }
 
 /// A frame's piece of a datagram.
@@ -60,85 +46,74 @@ fn piece_of(frame: &Frame) -> &[u8] {
     frame.get(34..14 + total).unwrap_or(&[])
 }
 
-/// Reassembles a message of at most 100 frames.
-fn put_together(
-    received: &mut Received,
-    alloc: Global,
-    cut: &mut Cut,
-    link: &LinkPlan,
-) -> Result<(), AllocError>
+/// Appends the pieces of a message of at most 100 frames to a datagram. Asserts the addresses of each frame.
+fn put_together(rt: &impl Abort, datagram: &mut Vec<u8>, cut: &mut Cut, link: &LinkPlan)
     requires { SendsOver cut.old.port link.now }
 {
     for number in 0..100u8 {
         let Some(frame) = cut.next_frame(link, 1, number, Net::A) else {
-            break;
+            return;
         };
-        received.add(alloc, &frame)?;
+        assert_same(rt, frame.get(26..34), FIRST_FRAME.get(26..34));
+        datagram
+            .extend_from_slice(piece_of(&frame))
+            .expect(rt, "memory");
     }
-    Ok(())
 }
 
-/// What a receiver has of a message of a port, over frames of at most `lmax` bytes.
-fn receive(rt: &impl Abort, alloc: Global, port: &PortPlan, lmax: Lmax, message: &[u8]) -> Received
+/// The datagram that a receiver has of a message of a port, over frames of at most `lmax` bytes.
+fn receive(rt: &impl Host, port: &PortPlan, lmax: Lmax, message: &[u8]) -> Vec<u8>
     requires port { IsPort port.now }
     requires vl { port.now.vl ≡ record { 0 = 1 } }
     requires sub { port.now.sub ≡ 0 }
     requires some { 1 ≤ length message.now }
     requires most { length message.now ≤ 8192 }
 {
-    let mut cut = Cut::new(message.to_vec(alloc).expect(rt, "memory"), 0, port);
-    let mut received = Received {
-        addresses: Vec::new(alloc),
-        datagram: Vec::new(alloc),
-    };
-    put_together(&mut received, alloc, &mut cut, &link(lmax, 1)).expect(rt, "memory");
-    received
+    let mut cut = Cut::new(message.to_vec(rt.alloc()).expect(rt, "memory"), 0, port);
+    let mut datagram = Vec::new(rt.alloc());
+    put_together(rt, &mut datagram, &mut cut, &link(lmax, 1));
+    datagram
 }
 
 /// Asserts that a message passes a receiver's check if its port has checksums, which are never 0, and is otherwise
 /// what it is without.
-fn assert_checked(rt: &impl Abort, alloc: Global, lmax: Lmax, message: &[u8])
+fn assert_checked(rt: &impl Host, lmax: Lmax, message: &[u8])
     requires some { 1 ≤ length message.now }
     requires most { length message.now ≤ 8192 }
 {
-    let plain = receive(rt, alloc, &demo_port(), lmax, message);
-    let summed = receive(rt, alloc, &summing_port(), lmax, message);
-    let (without, with) = (plain.datagram.as_slice(), summed.datagram.as_slice());
+    let without = receive(rt, &demo_port(), lmax, message);
+    let with = receive(rt, &summing_port(), lmax, message);
     assert_same(rt, without.get(8..), Some(message));
     assert_same(rt, without.get(6..8), Some([0, 0].as_slice()));
     assert_same(rt, with.get(8..), Some(message));
     assert_same(rt, with.get(..6), without.get(..6));
     assert_ne!(rt; with.get(6..8), without.get(6..8));
-    assert_same(rt, summed.sum(), 0);
+    assert_same(rt, sum_of(&with), 0);
 }
 
 /// Asserts the same of a message of `len` bytes, over the shortest and the longest frames.
-fn assert_len(rt: &impl Abort, alloc: Global, len: u16)
+fn assert_len(rt: &impl Host, len: u16)
     requires some { 1 ≤ len }
     requires most { len ≤ 8192 }
 {
-    let mut message = vec![in alloc; 0xa5u8; len as usize].expect(rt, "memory");
+    let mut message = vec![in rt.alloc(); 0xa5u8; len as usize].expect(rt, "memory");
     let mut next = 0xa5u8;
     for byte in message.iter_mut() {
         *byte = next;
         next = next.wrapping_mul(37).wrapping_add(91);
     }
-    assert_checked(rt, alloc, Lmax::new(64), &message);
-    assert_checked(rt, alloc, Lmax::new(1518), &message);
+    assert_checked(rt, Lmax::new(64), &message);
+    assert_checked(rt, Lmax::new(1518), &message);
 }
 
 #[test]
-fn messages_of_1_to_40_bytes_pass(rt: HostRuntime) {
+fn messages_of_1_to_40_bytes_and_at_the_edge_of_a_frame_pass(rt: HostRuntime) {
     for len in 1..=40 {
-        assert_len(&rt, rt.alloc(), len);
+        assert_len(&rt, len);
     }
-}
-
-#[test]
-fn messages_at_the_edge_of_a_frame_pass(rt: HostRuntime) {
     // a frame of 1,518 bytes carries 1,471 bytes of a message, and 1,464 if more follow
     for len in 1463..=1474 {
-        assert_len(&rt, rt.alloc(), len);
+        assert_len(&rt, len);
     }
 }
 
@@ -146,7 +121,7 @@ fn messages_at_the_edge_of_a_frame_pass(rt: HostRuntime) {
 fn each_message_of_two_bytes_passes(rt: HostRuntime) {
     for high in 0..=255u8 {
         for low in 0..=255u8 {
-            assert_checked(&rt, rt.alloc(), Lmax::new(1518), &[high, low]);
+            assert_checked(&rt, Lmax::new(1518), &[high, low]);
         }
     }
 }
@@ -154,8 +129,7 @@ fn each_message_of_two_bytes_passes(rt: HostRuntime) {
 #[test]
 fn a_computed_zero_is_sent_as_65_535(rt: HostRuntime) {
     for (message, field) in [([0x08, 0x40], [0xff, 0xff]), ([0x08, 0x41], [0xff, 0xfe])] {
-        let lmax = Lmax::new(1518);
-        let received = receive(&rt, rt.alloc(), &summing_port(), lmax, &message);
-        assert_same(&rt, received.datagram.get(6..8), Some(field.as_slice()));
+        let datagram = receive(&rt, &summing_port(), Lmax::new(1518), &message);
+        assert_same(&rt, datagram.get(6..8), Some(field.as_slice()));
     }
 }

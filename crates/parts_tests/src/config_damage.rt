@@ -6,8 +6,7 @@ use afdx_plan::{Config, Kind, LinkPlan, PortPlan, VlId};
 
 /// Whether a link's values are in their ranges.
 fn is_link(link: &LinkPlan) -> bool {
-    let lmax = link.lmax.bytes();
-    (64..=1518).contains(&lmax)
+    (64..=1518).contains(&link.lmax.bytes())
         && (1..=4).contains(&link.sub_vls)
         && (1..=256).contains(&link.capacity)
 }
@@ -24,15 +23,14 @@ fn is_port(port: &PortPlan, link: &LinkPlan) -> bool {
 
 /// Asserts that a plan has one link and one port with values in their ranges.
 fn assert_in_ranges(rt: &impl Abort, plan: &Config) {
-    let link = only(rt, plan.links());
-    let port = only(rt, plan.ports());
+    let (link, port) = (only(rt, plan.links()), only(rt, plan.ports()));
     assert!(rt; is_link(link), "{link:?}");
     assert!(rt; is_port(port, link), "{port:?}");
 }
 
 /// The number of the fault of a text, or 0 if it is a plan. Asserts that its values are in their ranges then.
-fn fault_of_checked(rt: &impl Abort, alloc: Global, text: &[u8]) -> u8 {
-    match read_config(alloc, text) {
+fn fault_of_checked(rt: &impl Host, text: &[u8]) -> u8 {
+    match read_config(rt.alloc(), text) {
         Ok(plan) => {
             assert_in_ranges(rt, &plan);
             0
@@ -41,19 +39,11 @@ fn fault_of_checked(rt: &impl Abort, alloc: Global, text: &[u8]) -> u8 {
     }
 }
 
-/// The text of the demonstration with another byte at a place.
-fn damaged(alloc: Global, place: usize, byte: u8) -> Result<Vec<u8>, AllocError> {
-    let mut text = TEXT.as_bytes().to_vec(alloc)?;
-    if let Some(old) = text.get_mut(place) {
-        *old = byte;
-    }
-    Ok(text)
-}
-
-/// Asserts the number of the fault, or 0, of the text with this byte at a place.
-fn assert_damage(rt: &impl Abort, alloc: Global, byte: u8, place: usize, number: u8) {
-    let text = damaged(alloc, place, byte).expect(rt, "memory");
-    let found = fault_of_checked(rt, alloc, &text);
+/// Asserts the number of the fault, or 0, of the demonstration's text with this byte at a place.
+fn assert_damage(rt: &impl Host, byte: u8, place: usize, number: u8) {
+    let mut text = TEXT.as_bytes().to_vec(rt.alloc()).expect(rt, "memory");
+    *text.get_mut(place).expect(rt, "a byte") = byte;
+    let found = fault_of_checked(rt, &text);
     assert_eq!(rt; found, number, "{byte:#04x} at {place}");
 }
 
@@ -61,30 +51,21 @@ fn assert_damage(rt: &impl Abort, alloc: Global, byte: u8, place: usize, number:
 fn each_byte_replaced_gives_a_plan_or_the_fault_of_another_reader(rt: HostRuntime) {
     for byte in NO_TOML {
         for place in 0..TEXT.len() {
-            assert_damage(&rt, rt.alloc(), byte, place, 1);
+            assert_damage(&rt, byte, place, 1);
         }
     }
     for (byte, faults) in BYTES.iter().zip(FAULTS.chunks(2)) {
         let digits = faults[0].bytes().chain(faults[1].bytes());
         assert_same(&rt, faults[0].len() + faults[1].len(), TEXT.len());
         for (place, digit) in digits.enumerate() {
-            assert_damage(&rt, rt.alloc(), *byte, place, digit.saturating_sub(b'0'));
+            assert_damage(&rt, *byte, place, digit.saturating_sub(b'0'));
         }
     }
 }
 
-// The greatest message of each prefix that is a plan, by how many bytes it lacks.
-const CUTS: [(usize, usize); 5] = [(4, 8), (3, 81), (2, 819), (1, 8192), (0, 8192)];
-
-/// The text of the demonstration without its last `lacking` bytes.
-fn cut_by(lacking: usize) -> &'static [u8] {
-    let text = TEXT.as_bytes();
-    &text[..text.len().saturating_sub(lacking)]
-}
-
 /// Asserts that a text is the demonstration's plan but for its port's greatest message.
-fn assert_greatest(rt: &impl Abort, alloc: Global, text: &[u8], max: usize) {
-    let plan = read_config(alloc, text).expect(rt, "a plan");
+fn assert_greatest(rt: &impl Host, text: &[u8], max: usize) {
+    let plan = read_config(rt.alloc(), text).expect(rt, "a plan");
     assert_in_ranges(rt, &plan);
     assert_same(rt, only(rt, plan.links()).id, VlId(1));
     let port = only(rt, plan.ports());
@@ -92,10 +73,22 @@ fn assert_greatest(rt: &impl Abort, alloc: Global, text: &[u8], max: usize) {
     assert_same(rt, told, (Kind::Queuing, 1000, max));
 }
 
+// The greatest messages of the prefixes that are plans, by how many bytes they lack. The last line may lack its
+// end.
+const GREATEST: [usize; 5] = [8192, 8192, 819, 81, 8];
+
 #[test]
-fn a_prefix_that_is_a_plan_has_the_greatest_message_of_its_digits(rt: HostRuntime) {
-    for &(lacking, max) in &CUTS {
-        assert_greatest(&rt, rt.alloc(), cut_by(lacking), max);
+fn a_prefix_of_the_text_is_read_only_within_its_last_number(rt: HostRuntime) {
+    let text = TEXT.as_bytes();
+    for len in 0..=text.len() {
+        let prefix = &text[..len];
+        match GREATEST.get(text.len() - len) {
+            Some(max) => assert_greatest(&rt, prefix, *max),
+            None => {
+                let number = fault_of_checked(&rt, prefix);
+                assert!(rt; number == 1 || number == 2, "{number} at {len}");
+            }
+        }
     }
 }
 

@@ -40,10 +40,13 @@ fn frame_of(alloc: Global, piece: &Piece, number: u8) -> Result<Vec<u8>, AllocEr
 }
 
 /// Asserts that a frame has this piece and this sequence number.
-fn assert_piece(rt: &impl Abort, alloc: Global, frame: &[u8], piece: &Piece, number: u8) {
-    let wanted = frame_of(alloc, piece, number).expect(rt, "memory");
+fn assert_piece(rt: &impl Host, frame: &[u8], piece: &Piece, number: u8) {
+    let wanted = frame_of(rt.alloc(), piece, number).expect(rt, "memory");
     assert_same(rt, frame, wanted.as_slice());
     assert_same(rt, frame.len(), piece.5);
+    let (offset, more) = (piece.1 % 0x2000, piece.1 >= 0x2000);
+    assert_same(rt, offset_of(frame), Some(offset));
+    assert_same(rt, more_of(frame), Some(more));
 }
 
 /// Link 1 with frames of at most `lmax` bytes.
@@ -84,21 +87,21 @@ pub fn demo_port() -> PortPlan
 }
 
 /// The message 01 of a port at a place.
-fn cut_of_one(rt: &impl Abort, alloc: Global, port: &PortPlan, place: u64) -> Cut
+fn cut_of_one(rt: &impl Host, port: &PortPlan, place: u64) -> Cut
     requires { IsPort port.now }
     ensures { result.port ≡ port.now }
 {
-    Cut::new([1u8].to_vec(alloc).expect(rt, "memory"), place, port)
+    Cut::new([1u8].to_vec(rt.alloc()).expect(rt, "memory"), place, port)
 }
 
 /// The first frame of that message for network A, over a link of `sub_vls` sub-VLs.
-fn first_frame(rt: &impl Abort, alloc: Global, port: &PortPlan, place: u64, sub_vls: u8) -> Frame
+fn first_frame(rt: &impl Host, port: &PortPlan, place: u64, sub_vls: u8) -> Frame
     requires port { IsPort port.now }
     requires vl { port.now.vl ≡ record { 0 = 1 } }
     requires sub { port.now.sub < sub_vls }
     requires sub_vls { sub_vls ≤ 4 }
 {
-    let mut cut = cut_of_one(rt, alloc, port, place);
+    let mut cut = cut_of_one(rt, port, place);
     assert_same(rt, cut.is_done(), false);
     let link = link(Lmax::new(1518), sub_vls);
     let frame = cut.next_frame(&link, 1, 0, Net::A).unwrap_or_default();
@@ -108,13 +111,13 @@ fn first_frame(rt: &impl Abort, alloc: Global, port: &PortPlan, place: u64, sub_
 
 #[test]
 fn a_short_message_is_one_padded_frame(rt: HostRuntime) {
-    let frame = first_frame(&rt, rt.alloc(), &demo_port(), 0, 1);
+    let frame = first_frame(&rt, &demo_port(), 0, 1);
     assert_same(&rt, frame.as_slice(), FIRST_FRAME.as_slice());
 }
 
 #[test]
 fn the_twin_differs_in_the_interface_alone(rt: HostRuntime) {
-    let mut cut = cut_of_one(&rt, rt.alloc(), &demo_port(), 0);
+    let mut cut = cut_of_one(&rt, &demo_port(), 0);
     let mut frame = Frame::new();
     let was_left = cut.write_next(&link(Lmax::new(1518), 1), 1, 0, Net::B, &mut frame);
     assert_same(&rt, was_left, true);
@@ -125,42 +128,45 @@ fn the_twin_differs_in_the_interface_alone(rt: HostRuntime) {
 }
 
 /// A message of `len` bytes `aa` of the demonstration port.
-fn cut_of_aa(rt: &impl Abort, alloc: Global, len: usize) -> Cut
+fn cut_of_aa(rt: &impl Host, len: usize) -> Cut
     requires some { 1 ≤ len }
     requires most { len ≤ 8192 }
     ensures vl { result.port.vl ≡ record { 0 = 1 } }
     ensures sub { result.port.sub ≡ 0 }
 {
-    let message = vec![in alloc; 0xaau8; len].expect(rt, "memory");
+    let message = vec![in rt.alloc(); 0xaau8; len].expect(rt, "memory");
     Cut::new(message, 0, &demo_port())
 }
 
 /// Asserts that a message has frames with these pieces, and no other.
-fn assert_cut(rt: &impl Abort, alloc: Global, cut: &mut Cut, link: &LinkPlan, pieces: &[Piece])
+fn assert_cut(rt: &impl Host, cut: &mut Cut, link: &LinkPlan, pieces: &[Piece])
     requires { SendsOver cut.old.port link.now }
 {
     for (number, piece) in (0u8..).zip(pieces) {
         assert_same(rt, cut.is_done(), false);
         let frame = cut.next_frame(link, 1, number, Net::A).unwrap_or_default();
-        assert_piece(rt, alloc, &frame, piece, number);
+        assert_piece(rt, &frame, piece, number);
     }
     assert_same(rt, cut.is_done(), true);
     assert_same(rt, cut.next_frame(link, 1, 9, Net::A).is_none(), true);
 }
 
-const OF_1471: [Piece; 1] = [(0x05db, 0x0000, 0xc830, Some(0x05c7), 1471, 1514)];
+// Over frames of 64 bytes, a datagram of 25 bytes is sent whole, and one of 26 is cut at 24.
+const OF_17: [Piece; 1] = [(0x002d, 0x0000, 0xcdde, Some(0x0019), 17, 60)];
 
-#[test]
-fn a_message_of_1471_bytes_fills_one_frame(rt: HostRuntime) {
-    let mut cut = cut_of_aa(&rt, rt.alloc(), 1471);
-    assert_cut(
-        &rt,
-        rt.alloc(),
-        &mut cut,
-        &link(Lmax::new(1518), 1),
-        &OF_1471,
-    );
-}
+const OF_18: [Piece; 2] = [
+    (0x002c, 0x2000, 0xaddf, Some(0x001a), 16, 60),
+    (0x0016, 0x0003, 0xcdf2, None, 2, 60),
+];
+
+// The last piece may be longer than a step.
+const OF_41: [Piece; 2] = [
+    (0x002c, 0x2000, 0xaddf, Some(0x0031), 16, 60),
+    (0x002d, 0x0003, 0xcddb, None, 25, 60),
+];
+
+// Over frames of 1,518 bytes, a message of 1,471 bytes is one frame, and one of 1,472 is two.
+const OF_1471: [Piece; 1] = [(0x05db, 0x0000, 0xc830, Some(0x05c7), 1471, 1514)];
 
 const OF_1472: [Piece; 2] = [
     (0x05d4, 0x2000, 0xa837, Some(0x05c8), 1464, 1507),
@@ -170,53 +176,13 @@ const OF_1472: [Piece; 2] = [
 const LAST_PIECE: Piece = (0x001c, 0x00b8, 0xcd37, None, 8, 60);
 
 #[test]
-fn a_message_of_1472_bytes_is_two_frames(rt: HostRuntime) {
-    let mut cut = cut_of_aa(&rt, rt.alloc(), 1472);
-    assert_cut(
-        &rt,
-        rt.alloc(),
-        &mut cut,
-        &link(Lmax::new(1518), 1),
-        &OF_1472,
-    );
-}
-
-const OF_41: [Piece; 2] = [
-    (0x002c, 0x2000, 0xaddf, Some(0x0031), 16, 60),
-    (0x002d, 0x0003, 0xcddb, None, 25, 60),
-];
-
-#[test]
-fn the_last_piece_may_be_longer_than_a_step(rt: HostRuntime) {
-    let mut cut = cut_of_aa(&rt, rt.alloc(), 41);
-    assert_cut(&rt, rt.alloc(), &mut cut, &link(Lmax::new(64), 1), &OF_41);
-}
-
-/// Asserts of the frames of a message their total lengths, the offsets of their pieces, and whether more
-/// pieces follow.
-fn assert_offsets(rt: &impl Abort, cut: &mut Cut, wanted: &[(u8, u16, bool)])
-    requires vl { cut.old.port.vl ≡ record { 0 = 1 } }
-    requires sub { cut.old.port.sub ≡ 0 }
-{
-    let link = link(Lmax::new(64), 1);
-    for &(total_length, offset, more) in wanted {
-        let frame = cut.next_frame(&link, 1, 0, Net::A).unwrap_or_default();
-        assert_same(rt, frame.get(16..18), Some([0, total_length].as_slice()));
-        assert_same(
-            rt,
-            (offset_of(&frame), more_of(&frame)),
-            (Some(offset), Some(more)),
-        );
-        assert_same(rt, cut.is_done(), !more);
-    }
-}
-
-#[test]
-fn frames_of_64_bytes_hold_pieces_of_25(rt: HostRuntime) {
-    // a datagram of 25 bytes is sent whole, and one of 26 is cut at 24
-    assert_offsets(&rt, &mut cut_of_aa(&rt, rt.alloc(), 17), &[(45, 0, false)]);
-    let two = [(44, 0, true), (22, 3, false)];
-    assert_offsets(&rt, &mut cut_of_aa(&rt, rt.alloc(), 18), &two);
+fn a_message_is_cut_into_frames_that_its_link_may_send(rt: HostRuntime) {
+    let (short, long) = (link(Lmax::new(64), 1), link(Lmax::new(1518), 1));
+    assert_cut(&rt, &mut cut_of_aa(&rt, 17), &short, &OF_17);
+    assert_cut(&rt, &mut cut_of_aa(&rt, 18), &short, &OF_18);
+    assert_cut(&rt, &mut cut_of_aa(&rt, 41), &short, &OF_41);
+    assert_cut(&rt, &mut cut_of_aa(&rt, 1471), &long, &OF_1471);
+    assert_cut(&rt, &mut cut_of_aa(&rt, 1472), &long, &OF_1472);
 }
 
 #[test]
@@ -225,7 +191,7 @@ fn a_unicast_port_s_frame_keeps_the_link_s_mac_address(rt: HostRuntime) {
         unicast: Some([10, 0, 2, 1]),
         ..demo_port()
     };
-    let frame = first_frame(&rt, rt.alloc(), &port, 0, 1);
+    let frame = first_frame(&rt, &port, 0, 1);
     let mut wanted = FIRST_FRAME;
     wanted[24..26].copy_from_slice(b"\xa2\xcf");
     wanted[30..34].copy_from_slice(&[10, 0, 2, 1]);
@@ -240,63 +206,43 @@ fn identifications_give_the_place_and_the_sub_vl(rt: HostRuntime) {
         ..demo_port()
     };
     for (place, identification) in [(0u64, 3u16), (1, 7), (16_384, 3)] {
-        let frame = first_frame(&rt, rt.alloc(), &port, place, 4);
+        let frame = first_frame(&rt, &port, place, 4);
         assert_same(&rt, ident_of(&frame), Some(identification));
         assert_same(&rt, sub_of(&frame), Some(3));
     }
 }
 
-/// The value of each reader.
-#[derive(Clone, Copy, Debug, PartialEq, Eq)]
-struct Fields {
-    vl: Option<VlId>,
-    sub: Option<u8>,
-    number: Option<u8>,
-    ident: Option<u16>,
-    offset: Option<u16>,
-    more: Option<bool>,
-}
-
-/// The values for `FIRST_FRAME`.
-const FIRST_FIELDS: Fields = Fields {
-    vl: Some(VlId(1)),
-    sub: Some(0),
-    number: Some(0),
-    ident: Some(0),
-    offset: Some(0),
-    more: Some(false),
-};
+/// The value of each reader: link, sub-VL and number; identification, offset, and whether more follows.
+type Fields = (
+    (Option<VlId>, Option<u8>, Option<u8>),
+    (Option<u16>, Option<u16>, Option<bool>),
+);
 
 /// The values for bytes that are no frame.
-const NO_FIELDS: Fields = Fields {
-    vl: None,
-    sub: None,
-    number: None,
-    ident: None,
-    offset: None,
-    more: None,
-};
+const NO_FIELDS: Fields = ((None, None, None), (None, None, None));
+
+/// The values for a last piece of the message at place 0 of link 1 and sub-VL 0.
+fn last_fields(number: u8, offset: u16) -> Fields {
+    let of_link = (Some(VlId(1)), Some(0), Some(number));
+    (of_link, (Some(0), Some(offset), Some(false)))
+}
 
 fn fields_of(bytes: &[u8]) -> Fields {
-    Fields {
-        vl: vl_of(bytes),
-        sub: sub_of(bytes),
-        number: sn_of(bytes),
-        ident: ident_of(bytes),
-        offset: offset_of(bytes),
-        more: more_of(bytes),
-    }
+    let of_link = (vl_of(bytes), sub_of(bytes), sn_of(bytes));
+    (of_link, (ident_of(bytes), offset_of(bytes), more_of(bytes)))
 }
 
 #[test]
-fn the_readers_give_the_fields_of_a_last_fragment(rt: HostRuntime) {
+fn the_readers_give_the_fields_of_a_frame_and_of_nothing_else(rt: HostRuntime) {
     let frame = frame_of(rt.alloc(), &LAST_PIECE, 1).expect(&rt, "memory");
-    let wanted = Fields {
-        number: Some(1),
-        offset: Some(184),
-        ..FIRST_FIELDS
-    };
-    assert_same(&rt, fields_of(&frame), wanted);
+    assert_same(&rt, fields_of(&frame), last_fields(1, 184));
+    // a frame that is cut short or padded with ones is no frame
+    let mut padded = FIRST_FRAME;
+    padded[50] = 1;
+    let others: [&[u8]; 3] = [&FIRST_FRAME[..59], &padded, &[]];
+    for bytes in others {
+        assert_same(&rt, fields_of(bytes), NO_FIELDS);
+    }
 }
 
 #[test]
@@ -307,24 +253,9 @@ fn a_flipped_bit_is_read_only_in_the_piece_and_the_number(rt: HostRuntime) {
             bytes[place] ^= 1 << bit;
             // the piece lies at 34 to 42, its padding at 43 to 58, and the number at 59
             let is_read = (place >= 34 && place <= 42) || place == 59;
-            let wanted = if is_read {
-                Fields {
-                    number: Some(bytes[59]),
-                    ..FIRST_FIELDS
-                }
-            } else {
-                NO_FIELDS
-            };
+            let read = last_fields(bytes[59], 0);
+            let wanted = if is_read { read } else { NO_FIELDS };
             assert_same_at(&rt, fields_of(&bytes), wanted, (place, bit));
         }
     }
-}
-
-#[test]
-fn a_frame_cut_short_or_padded_with_ones_is_no_frame(rt: HostRuntime) {
-    assert_same(&rt, vl_of(&FIRST_FRAME[..59]), None);
-    let mut padded = FIRST_FRAME;
-    padded[50] = 1;
-    assert_same(&rt, vl_of(&padded), None);
-    assert_same(&rt, more_of(&[]), None);
 }

@@ -11,8 +11,6 @@ mod config_damage;
 #[cfg(test)]
 mod config_read;
 #[cfg(test)]
-mod config_version;
-#[cfg(test)]
 mod frame;
 #[cfg(test)]
 mod mux;

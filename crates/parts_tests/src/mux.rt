@@ -6,7 +6,7 @@ ghost use Rattle.afdx_frame.specs.declared.net.Net.TheVariants.{A as ForA};
 use crate::frame::{FIRST_FRAME, first_frame_for_b};
 use crate::testing::*;
 use afdx_frame::Frame;
-use afdx_plan::Networks;
+use afdx_plan::Networks::{self, Both, OnlyA, OnlyB};
 use redundant_mux::{BothDown, HandFault, MemNetwork, Mux, Network, Standing};
 
 const BOTH: Standing = Standing { a: true, b: true };
@@ -20,16 +20,6 @@ const NEITHER: Standing = Standing { a: false, b: false };
 // A hand that no network has.
 const NEVER: u64 = u64::MAX;
 
-type Pair = Mux<MemNetwork, MemNetwork>;
-
-// Two networks that fail at these hands, counted from 1.
-fn failing_at(alloc: Global, (a, b): (u64, u64)) -> Pair {
-    Mux::new(
-        MemNetwork::failing_at(alloc, a),
-        MemNetwork::failing_at(alloc, b),
-    )
-}
-
 fn frame_for_a() -> Frame
     ensures { twin_of ForA result.items ≡ result.items }
 {
@@ -40,95 +30,87 @@ fn frame_for_a() -> Frame
     frame
 }
 
-// The time of a hand, its networks, and its answer.
-type Hand = (u64, Networks, Result<Standing, BothDown>);
+// The times at which a network accepted a frame, and how often it failed.
+type Held = (&'static [u64], u64);
 
-// Hands the frame to networks, and asserts each answer.
-fn assert_hands(rt: &impl Abort, mux: &mut Pair, hands: &[Hand]) {
-    for &(at, networks, wanted) in hands {
-        assert_same(rt, mux.hand(at, &frame_for_a(), networks), wanted);
-    }
-}
-
-// Asserts that a network holds this frame at each of these times, and how often it failed.
-fn assert_holds(rt: &impl Abort, network: &MemNetwork, times: &[u64], frame: &[u8], failures: u64) {
+fn assert_holds(rt: &impl Abort, network: &MemNetwork, frame: &[u8], (times, failures): Held) {
     assert_same(rt, network.handed().len(), times.len());
     for (entry, at) in network.handed().iter().zip(times) {
-        assert_same(rt, entry.at, *at);
-        assert_same(rt, entry.frame.as_slice(), frame);
+        assert_same(rt, (entry.at, entry.frame.as_slice()), (*at, frame));
     }
     assert_same(rt, network.failures(), failures);
 }
 
-// Asserts the same of both networks. The frames differ in byte 11 alone.
-fn assert_hold(rt: &impl Abort, mux: &Pair, on_a: (&[u64], u64), on_b: (&[u64], u64)) {
-    assert_holds(rt, mux.network_a(), on_a.0, &FIRST_FRAME, on_a.1);
-    assert_holds(rt, mux.network_b(), on_b.0, &first_frame_for_b(), on_b.1);
+// The time of a hand, its networks, and its answer.
+type Hand = (u64, Networks, Result<Standing, BothDown>);
+
+fn assert_hand(rt: &impl Abort, mux: &mut Mux<MemNetwork, MemNetwork>, hand: Hand) {
+    let (at, networks, wanted) = hand;
+    assert_same(rt, mux.hand(at, &frame_for_a(), networks), wanted);
+    let standing = wanted.unwrap_or(NEITHER);
+    assert_same(rt, mux.standing(), standing);
+    assert_same(rt, mux.stands_for(OnlyA), standing.a);
+    assert_same(rt, mux.stands_for(OnlyB), standing.b);
+    assert_same(rt, mux.stands_for(Both), standing.a || standing.b);
 }
 
-#[test]
-fn both_networks_keep_a_frame_that_differs_in_byte_11_alone(rt: HostRuntime) {
-    let mut mux = failing_at(rt.alloc(), (NEVER, NEVER));
-    assert_hands(&rt, &mut mux, &[(7, Networks::Both, Ok(BOTH))]);
+// Hands the frame to two networks that fail at these hands, counted from 1. Asserts each answer, and what the
+// networks hold then. The frames differ in byte 11 alone.
+fn assert_hands(rt: &impl Host, fails: (u64, u64), hands: &[Hand], on_a: Held, on_b: Held) {
+    let a = MemNetwork::failing_at(rt.alloc(), fails.0);
+    let b = MemNetwork::failing_at(rt.alloc(), fails.1);
+    let mut mux = Mux::new(a, b);
+    for &hand in hands {
+        assert_hand(rt, &mut mux, hand);
+    }
+    let for_b = first_frame_for_b();
+    assert_holds(rt, mux.network_a(), &FIRST_FRAME, on_a);
+    assert_holds(rt, mux.network_b(), &for_b, on_b);
     let (a, b) = mux.into_networks();
-    assert_holds(&rt, &a, &[7], &FIRST_FRAME, 0);
-    assert_holds(&rt, &b, &[7], &first_frame_for_b(), 0);
+    assert_holds(rt, &a, &FIRST_FRAME, on_a);
+    assert_holds(rt, &b, &for_b, on_b);
 }
 
 #[test]
-fn a_network_that_fails_at_its_second_hand_gets_no_later_frame(rt: HostRuntime) {
-    let mut mux = failing_at(rt.alloc(), (2, NEVER));
+fn a_network_that_failed_gets_no_later_frame_and_both_are_an_error(rt: HostRuntime) {
     let hands = [
-        (0, Networks::Both, Ok(BOTH)),
-        (1, Networks::Both, Ok(ONLY_B)),
-        (2, Networks::Both, Ok(ONLY_B)),
+        (0, Both, Ok(BOTH)),
+        (1, Both, Ok(ONLY_B)),
+        (2, Both, Ok(ONLY_B)),
     ];
-    assert_hands(&rt, &mut mux, &hands);
-    assert_same(&rt, mux.standing(), ONLY_B);
-    assert_hold(&rt, &mux, (&[0], 1), (&[0, 1, 2], 0));
-}
-
-#[test]
-fn a_hand_after_both_failed_answers_both_down(rt: HostRuntime) {
-    let mut mux = failing_at(rt.alloc(), (2, 1));
+    assert_hands(&rt, (2, NEVER), &hands, (&[0], 1), (&[0, 1, 2], 0));
     let hands = [
-        (0, Networks::Both, Ok(ONLY_A)),
-        (1, Networks::Both, Ok(NEITHER)),
-        (2, Networks::Both, Err(BothDown)),
+        (0, Both, Ok(ONLY_A)),
+        (1, Both, Ok(NEITHER)),
+        (2, Both, Err(BothDown)),
     ];
-    assert_hands(&rt, &mut mux, &hands);
-    assert_hold(&rt, &mux, (&[0], 1), (&[], 1));
+    assert_hands(&rt, (2, 1), &hands, (&[0], 1), (&[], 1));
 }
 
 #[test]
 fn a_frame_for_one_network_goes_to_it_alone_and_nowhere_if_it_is_down(rt: HostRuntime) {
-    let mut mux = failing_at(rt.alloc(), (2, NEVER));
     let hands = [
-        (0, Networks::OnlyA, Ok(BOTH)),
-        (1, Networks::OnlyB, Ok(BOTH)),
-        (2, Networks::OnlyA, Ok(ONLY_B)),
-        (3, Networks::OnlyA, Ok(ONLY_B)),
+        (0, OnlyA, Ok(BOTH)),
+        (1, OnlyB, Ok(BOTH)),
+        (2, OnlyA, Ok(ONLY_B)),
+        (3, OnlyA, Ok(ONLY_B)),
     ];
-    assert_hands(&rt, &mut mux, &hands);
-    assert_same(&rt, mux.stands_for(Networks::OnlyA), false);
-    assert_same(&rt, mux.stands_for(Networks::Both), true);
-    assert_hold(&rt, &mux, (&[0], 1), (&[1], 0));
+    assert_hands(&rt, (2, NEVER), &hands, (&[0], 1), (&[1], 0));
 }
 
 #[test]
 fn each_network_shows_what_it_took_so_far_until_both_are_down(rt: HostRuntime) {
-    let mut mux = failing_at(rt.alloc(), (3, 2));
-    assert_hold(&rt, &mux, (&[], 0), (&[], 0));
-    assert_hands(&rt, &mut mux, &[(7, Networks::Both, Ok(BOTH))]);
-    assert_hold(&rt, &mux, (&[7], 0), (&[7], 0));
-    assert_hands(&rt, &mut mux, &[(8, Networks::Both, Ok(ONLY_A))]);
-    assert_hold(&rt, &mux, (&[7, 8], 0), (&[7], 1));
     let hands = [
-        (9, Networks::Both, Ok(NEITHER)),
-        (10, Networks::Both, Err(BothDown)),
+        (7, Both, Ok(BOTH)),
+        (8, Both, Ok(ONLY_A)),
+        (9, Both, Ok(NEITHER)),
+        (10, Both, Err(BothDown)),
     ];
-    assert_hands(&rt, &mut mux, &hands);
-    assert_hold(&rt, &mux, (&[7, 8], 1), (&[7], 1));
+    assert_hands(&rt, (NEVER, NEVER), &hands[..1], (&[7], 0), (&[7], 0));
+    assert_hands(&rt, (3, 2), &[], (&[], 0), (&[], 0));
+    assert_hands(&rt, (3, 2), &hands[..1], (&[7], 0), (&[7], 0));
+    assert_hands(&rt, (3, 2), &hands[..2], (&[7, 8], 0), (&[7], 1));
+    assert_hands(&rt, (3, 2), &hands, (&[7, 8], 1), (&[7], 1));
 }
 
 #[test]
@@ -136,7 +118,7 @@ fn a_network_takes_frames_before_and_after_the_hand_that_is_to_fail(rt: HostRunt
     let mut network = MemNetwork::failing_at(rt.alloc(), 2);
     assert_same(&rt, network.hand(10, &[1, 2]), Ok(()));
     assert_same(&rt, network.hand(20, &[3]), Err(HandFault));
-    assert_holds(&rt, &network, &[10], &[1, 2], 1);
+    assert_holds(&rt, &network, &[1, 2], (&[10], 1));
     assert_same(&rt, network.hand(30, &[]), Ok(()));
     let last = network.handed().get(1).expect(&rt, "a second frame");
     assert_same(&rt, (last.at, last.frame.len()), (30, 0));

@@ -4,7 +4,9 @@ use crate::testing::*;
 use afdx_plan::{Bag, ConfigFault, Kind, Lmax, PortId, VlId, demo_config, jitter_ns, laws};
 
 #[test]
-fn the_demonstration_is_one_link_and_one_port(rt: HostRuntime) {
+fn the_demonstration_is_one_link_and_one_port_which_are_found_by_their_identifiers(
+    rt: HostRuntime,
+) {
     let config = demo_config(rt.alloc()).expect(&rt, "memory");
     assert_same(&rt, config.end_system(), 1);
     assert_same(&rt, config.links().len(), 1);
@@ -13,37 +15,21 @@ fn the_demonstration_is_one_link_and_one_port(rt: HostRuntime) {
     assert_same(&rt, names, (PortId(10), VlId(1), Kind::Queuing));
     let numbers = (port.source, port.destination, port.max);
     assert_same(&rt, numbers, (1000, 2000, 8192));
-    laws::flows_apart(&config);
-}
-
-#[test]
-fn a_link_and_a_port_are_found_by_their_identifiers(rt: HostRuntime) {
-    let config = demo_config(rt.alloc()).expect(&rt, "memory");
     assert_same(&rt, config.link_index(VlId(1)), Some(0));
     assert_same(&rt, config.link_index(VlId(2)), None);
     assert_same(&rt, config.port_index(PortId(10)), Some(0));
     assert_same(&rt, config.port_index(PortId(1)), None);
-}
-
-#[test]
-fn the_demonstration_s_jitter_is_reported(rt: HostRuntime) {
-    let config = demo_config(rt.alloc()).expect(&rt, "memory");
     assert_same(&rt, jitter_ns(&config), 163_040);
+    laws::flows_apart(&config);
 }
 
 #[test]
-fn gaps_are_1_to_128_milliseconds(rt: HostRuntime) {
+fn gaps_are_1_to_128_milliseconds_and_rooms_25_to_1479_bytes(rt: HostRuntime) {
     for (bag, ms, micros) in [(Bag::Ms1, 1, 1_000), (Bag::Ms128, 128, 128_000)] {
-        assert_same(&rt, bag.ms(), ms);
-        assert_same(&rt, bag.micros(), micros);
+        assert_same(&rt, (bag.ms(), bag.micros()), (ms, micros));
     }
-}
-
-#[test]
-fn a_frame_of_64_bytes_has_room_for_25_and_one_of_1518_for_1479(rt: HostRuntime) {
     for (lmax, bytes, room) in [(Lmax::new(64), 64, 25), (Lmax::new(1518), 1518, 1479)] {
-        assert_same(&rt, lmax.bytes(), bytes);
-        assert_same(&rt, lmax.room(), room);
+        assert_same(&rt, (lmax.bytes(), lmax.room()), (bytes, room));
     }
 }
 
@@ -70,6 +56,6 @@ const FAULTS: [(ConfigFault, u8, &str); 15] = [
 fn each_fault_has_its_number_and_its_name(rt: HostRuntime) {
     for &(fault, number, name) in &FAULTS {
         assert_same_at(&rt, fault.number(), number, name);
-        assert_same(&rt, InlineText::<32>::of(fault).as_str(), name);
+        assert_text(&rt, fault, name);
     }
 }

@@ -19,12 +19,12 @@ fn a_queue_of_two_takes_two_messages_and_gives_them_in_order(rt: HostRuntime) {
         Takes(None),
         Accepted(0, 3),
     ];
-    let _ends = play_one(&rt, rt.alloc(), 2, 10, &steps);
+    let _ends = play_one(&rt, 2, 10, &steps);
 }
 
 #[test]
 fn a_ring_of_three_places_gives_each_message_of_three_turns(rt: HostRuntime) {
-    let mut ends = open(&rt, rt.alloc(), 3, 1, 10);
+    let mut ends = open(&rt, 3, 1, 10);
     for number in 0..4u8 {
         let steps = [
             Sends(0, [number, 1], None),
@@ -34,34 +34,34 @@ fn a_ring_of_three_places_gives_each_message_of_three_turns(rt: HostRuntime) {
             Takes(None),
             Accepted(0, 2 * (u64::from(number) + 1)),
         ];
-        ends.play(&rt, rt.alloc(), &steps);
+        ends.play(&rt, &steps);
     }
 }
 
 #[test]
 fn each_senders_messages_keep_their_order(rt: HostRuntime) {
-    let mut ends = open(&rt, rt.alloc(), 8, 2, 10);
+    let mut ends = open(&rt, 8, 2, 10);
     for number in 0..3u8 {
         let steps = [Sends(0, [7, number], None), Sends(1, [9, number], None)];
-        ends.play(&rt, rt.alloc(), &steps);
+        ends.play(&rt, &steps);
     }
     for number in 0..3u8 {
         let steps = [Takes(Some([0, 7, number])), Takes(Some([1, 9, number]))];
-        ends.play(&rt, rt.alloc(), &steps);
+        ends.play(&rt, &steps);
     }
-    ends.play(&rt, rt.alloc(), &[Takes(None)]);
+    ends.play(&rt, &[Takes(None)]);
 }
 
 #[test]
 fn gathering_needs_every_sender_in_any_order(rt: HostRuntime) {
-    let mut ends = open(&rt, rt.alloc(), 8, 2, 10);
+    let mut ends = open(&rt, 8, 2, 10);
     let steps = [
         Sends(0, [5, 1], None),
         Sends(1, [6, 1], None),
         Sends(0, [5, 2], None),
         Takes(Some([0, 5, 1])),
     ];
-    ends.play(&rt, rt.alloc(), &steps);
+    ends.play(&rt, &steps);
     assert_left(&rt, ends.gather(&rt), &[[1, 6, 1], [0, 5, 2]]);
 }
 
@@ -75,31 +75,26 @@ fn two_calls_of_one_place_are_ok_and_full_and_then_exhausted(rt: HostRuntime) {
         Sends(0, [4, 0], Some(Why::Exhausted)),
         Accepted(0, 1),
     ];
-    let ends = play_one(&rt, rt.alloc(), 1, 2, &steps);
+    let ends = play_one(&rt, 1, 2, &steps);
     assert_left(&rt, ends.gather(&rt), &[]);
 }
 
 #[test]
 fn a_sender_goes_on_without_its_receiver_until_there_is_no_room(rt: HostRuntime) {
-    let ends = play_one(&rt, rt.alloc(), 2, 4, &[Sends(0, [1, 0], None)]);
-    let Ends {
-        receiver,
-        mut senders,
-    } = ends;
+    let (receiver, mut sender) = open_one(&rt, 2, 4);
+    assert_same(&rt, send_bytes(&rt, &mut sender, [1, 0]), None);
     drop(receiver);
-    for sender in senders.iter_mut() {
-        for why in [None, Some(Why::Full), Some(Why::Full), Some(Why::Exhausted)] {
-            assert_same(&rt, send_bytes(&rt, rt.alloc(), sender, [2, 0]), why);
-        }
-        assert_same(&rt, sender.accepted(), 2);
+    for why in [None, Some(Why::Full), Some(Why::Full), Some(Why::Exhausted)] {
+        assert_same(&rt, send_bytes(&rt, &mut sender, [2, 0]), why);
     }
+    assert_same(&rt, sender.accepted(), 2);
 }
 
 #[test]
 fn a_receiver_goes_on_without_its_senders(rt: HostRuntime) {
-    let mut ends = play_one(&rt, rt.alloc(), 2, 4, &[Sends(0, [1, 0], None)]);
+    let mut ends = play_one(&rt, 2, 4, &[Sends(0, [1, 0], None)]);
     ends.senders.clear();
-    ends.play(&rt, rt.alloc(), &[Takes(Some([0, 1, 0])), Takes(None)]);
+    ends.play(&rt, &[Takes(Some([0, 1, 0])), Takes(None)]);
 }
 
 #[test]
@@ -120,6 +115,6 @@ const REFUSALS: [(Why, u8, &str); 3] = [
 fn each_refusal_has_its_number_and_its_name(rt: HostRuntime) {
     for &(why, number, name) in &REFUSALS {
         assert_same(&rt, (name, why as u8), (name, number));
-        assert_same(&rt, InlineText::<16>::of(why).as_str(), name);
+        assert_text(&rt, why, name);
     }
 }

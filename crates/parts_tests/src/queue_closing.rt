@@ -1,6 +1,4 @@
 //! Tests of a queue that is closed, and of a sender that is held in its pause.
-ghost use Rattle.std.specs.Prelude.{◌^◌, ◌≤◌};
-
 use crate::queue_testing::Step::*;
 use crate::queue_testing::*;
 use crate::testing::*;
@@ -21,7 +19,7 @@ fn a_close_returns_what_was_accepted_and_lets_no_more_in(rt: HostRuntime) {
         Closes(2),
         Accepted(0, 2),
     ];
-    let _ends = play_one(&rt, rt.alloc(), 4, 8, &steps);
+    let _ends = play_one(&rt, 4, 8, &steps);
 }
 
 #[test]
@@ -33,13 +31,13 @@ fn closed_comes_before_exhausted_and_full(rt: HostRuntime) {
         Closes(1),
         Sends(0, [4, 0], Some(Why::Closed)),
     ];
-    let _ends = play_one(&rt, rt.alloc(), 1, 2, &steps);
+    let _ends = play_one(&rt, 1, 2, &steps);
 }
 
 #[test]
 fn a_queue_that_is_closed_first_accepts_none(rt: HostRuntime) {
     let steps = [Closes(0), Sends(0, [1, 0], Some(Why::Closed))];
-    let ends = play_one(&rt, rt.alloc(), 1, 1, &steps);
+    let ends = play_one(&rt, 1, 1, &steps);
     assert_left(&rt, ends.gather(&rt), &[]);
 }
 
@@ -52,23 +50,28 @@ fn a_closed_queue_gives_what_is_left_when_it_is_gathered(rt: HostRuntime) {
         Closes(2),
         Sends(0, [3, 0], Some(Why::Closed)),
     ];
-    let ends = play_one(&rt, rt.alloc(), 4, 8, &steps);
+    let ends = play_one(&rt, 4, 8, &steps);
     assert_left(&rt, ends.gather(&rt), &[[0, 2, 0]]);
 }
 
 // Steps of a receiver in the pause of a sender, and why its message is refused, if it is.
-type Paused<'a> = (&'a [Step], Option<Why>);
+type Paused = (&'static [Step], Option<Why>);
+
+fn receive_all(rt: &impl Abort, receiver: &mut Receiver, steps: &[Step]) {
+    for step in steps {
+        receive(rt, receiver, *step);
+    }
+}
 
 // Sends a message with a pause, which runs if the message is accepted.
-fn send_paused<R: Abort>(
-    rt: &R,
-    alloc: Global,
+fn send_paused(
+    rt: &impl Host,
     receiver: &mut Receiver,
     sender: &mut Sender,
     number: u8,
     (steps, wanted): Paused,
 ) {
-    let bytes = message(alloc, [number, 0]).expect(rt, "memory");
+    let bytes = message(rt.alloc(), [number, 0]).expect(rt, "memory");
     let mut ran = false;
     let sent = sender.send_with(bytes, || {
         receive_all(rt, receiver, steps);
@@ -78,27 +81,12 @@ fn send_paused<R: Abort>(
     assert_same(rt, (ran, why), (wanted.is_none(), wanted));
 }
 
-fn receive_all<R: Abort>(rt: &R, receiver: &mut Receiver, steps: &[Step]) {
-    for step in steps {
-        receive(rt, receiver, *step);
-    }
-}
-
-// A sender sends the messages 1, 2 and so on with pauses, and then the receiver takes steps.
-fn play_paused<R: Abort>(
-    rt: &R,
-    alloc: Global,
-    capacity: usize,
-    calls: u64,
-    sends: &[Paused],
-    after: &[Step],
-)
-    requires capacity { (1 ≤ capacity) × (capacity ≤ 256) }
-    requires calls { (1 ≤ calls) × (calls ≤ 2 ^ 40) }
-{
-    let (mut receiver, mut sender) = open_one(rt, alloc, capacity, calls);
+// A sender of a queue with this room sends the messages 1, 2 and so on, twice at most, with pauses. Then the
+// receiver takes steps.
+fn play_paused(rt: &impl Host, capacity: usize, sends: &[Paused], after: &[Step]) {
+    let (mut receiver, mut sender) = open_one(rt, capacity, 2);
     for (number, paused) in (1u8..).zip(sends) {
-        send_paused(rt, alloc, &mut receiver, &mut sender, number, *paused);
+        send_paused(rt, &mut receiver, &mut sender, number, *paused);
     }
     receive_all(rt, &mut receiver, after);
 }
@@ -107,23 +95,17 @@ fn play_paused<R: Abort>(
 fn a_close_in_a_pause_counts_that_message(rt: HostRuntime) {
     let sends: [Paused; 2] = [(&[Closes(1)], None), (&[], Some(Why::Closed))];
     let after = [Takes(Some([0, 1, 0])), Takes(None), Closes(1)];
-    play_paused(&rt, rt.alloc(), 2, 8, &sends, &after);
+    play_paused(&rt, 2, &sends, &after);
 }
 
 #[test]
-fn a_pause_runs_only_if_the_message_is_accepted(rt: HostRuntime) {
+fn a_pause_runs_only_if_the_message_is_accepted_which_is_not_ready_in_it(rt: HostRuntime) {
     let sends: [Paused; 3] = [
-        (&[], None),
+        (&[Takes(None)], None),
         (&[], Some(Why::Full)),
         (&[], Some(Why::Exhausted)),
     ];
-    play_paused(&rt, rt.alloc(), 1, 2, &sends, &[Takes(Some([0, 1, 0]))]);
-}
-
-#[test]
-fn a_message_is_not_ready_in_its_pause(rt: HostRuntime) {
-    let sends: [Paused; 1] = [(&[Takes(None)], None)];
-    play_paused(&rt, rt.alloc(), 2, 8, &sends, &[Takes(Some([0, 1, 0]))]);
+    play_paused(&rt, 1, &sends, &[Takes(Some([0, 1, 0]))]);
 }
 
 // How often a thread polls for what another sends.
@@ -163,17 +145,17 @@ fn send_held(alloc: Global, mut sender: Sender, mut here: Sender, mut go: Receiv
 #[test]
 fn a_sender_in_its_pause_holds_back_its_own_queue_alone(rt: HostRuntime) {
     let alloc = rt.alloc();
-    let (mut held, sender) = open_one(&rt, alloc, 2, 8);
-    let (mut here, says_here) = open_one(&rt, alloc, 1, 1);
-    let (go, mut says_go) = open_one(&rt, alloc, 1, 1);
+    let (mut held, sender) = open_one(&rt, 2, 8);
+    let (mut here, says_here) = open_one(&rt, 1, 1);
+    let (go, mut says_go) = open_one(&rt, 1, 1);
     let started = thread::spawn(&rt, move || send_held(alloc, sender, says_here, go));
     let worker = started.expect(&rt, "a thread");
     assert!(rt; await_message(&mut here));
     receive(&rt, &mut held, Takes(None));
     let steps = [Sends(0, [2, 0], None), Takes(Some([0, 2, 0]))];
-    let _other = play_one(&rt, alloc, 2, 8, &steps);
+    let _other = play_one(&rt, 2, 8, &steps);
     receive(&rt, &mut held, Takes(None));
-    assert_same(&rt, send_bytes(&rt, alloc, &mut says_go, [0, 0]), None);
+    assert_same(&rt, send_bytes(&rt, &mut says_go, [0, 0]), None);
     assert!(rt; worker.join(&rt));
     receive(&rt, &mut held, Takes(Some([0, 1, 0])));
 }

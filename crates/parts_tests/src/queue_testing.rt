@@ -1,6 +1,5 @@
 //! A test of a queue as a list of steps.
-ghost use Rattle.std.specs.Prelude.{◌≡◌, ◌^◌, ◌≤◌, ◌∷◌, length, IfOk, IfErr, IfSome};
-ghost use Rattle.subvl_queue.specs.Views.{AreOf};
+ghost use Rattle.std.specs.Prelude.{◌≡◌, length, IfOk, IfErr};
 
 use crate::testing::*;
 use std::marker::Model;
@@ -36,26 +35,17 @@ pub fn send(sender: &mut Sender, bytes: Vec<u8>) -> Result<(), Refused>
 }
 
 /// Why a message was refused, if it was. Asserts that it was returned then.
-pub fn why_refused<R: Abort>(rt: &R, answer: &Result<(), Refused>, bytes: [u8; 2]) -> Option<Why> {
-    match answer {
-        Ok(()) => None,
-        Err(refused) => {
-            assert_same(rt, refused.bytes.as_slice(), bytes.as_slice());
-            Some(refused.why)
-        }
-    }
+pub fn why_refused(rt: &impl Abort, answer: &Result<(), Refused>, bytes: [u8; 2]) -> Option<Why> {
+    let refused = answer.as_ref().err()?;
+    assert_same(rt, refused.bytes.as_slice(), bytes.as_slice());
+    Some(refused.why)
 }
 
 /// Sends a message of two bytes. Why it was refused, if it was.
-pub fn send_bytes<R: Abort>(
-    rt: &R,
-    alloc: Global,
-    sender: &mut Sender,
-    bytes: [u8; 2],
-) -> Option<Why>
+pub fn send_bytes(rt: &impl Host, sender: &mut Sender, bytes: [u8; 2]) -> Option<Why>
     ensures { sender.new.queue ≡ sender.old.queue }
 {
-    let sent = message(alloc, bytes).expect(rt, "memory");
+    let sent = message(rt.alloc(), bytes).expect(rt, "memory");
     let answer = send(sender, sent);
     why_refused(rt, &answer, bytes)
 }
@@ -81,7 +71,7 @@ fn shown(taken: &Option<Item>) -> Option<[u8; 3]> {
 }
 
 /// A receiver takes a step.
-pub fn receive<R: Abort>(rt: &R, receiver: &mut Receiver, step: Step)
+pub fn receive(rt: &impl Abort, receiver: &mut Receiver, step: Step)
     ensures { receiver.new.queue ≡ receiver.old.queue }
 {
     match step {
@@ -112,34 +102,29 @@ impl Model for Ends {
 }
 
 /// Opens a queue with room for `capacity` messages, whose senders may each call `calls` times.
-pub fn open<R: Abort>(rt: &R, alloc: Global, capacity: usize, senders: usize, calls: u64) -> Ends
-    requires capacity { (1 ≤ capacity) × (capacity ≤ 256) }
-    requires senders { senders ≤ 64 }
-    requires calls { (1 ≤ calls) × (calls ≤ 2 ^ 40) }
-{
-    let (receiver, senders) = make(alloc, capacity, senders, calls).expect(rt, "memory");
+pub fn open(rt: &impl Host, capacity: usize, senders: usize, calls: u64) -> Ends {
+    assert!(rt; 1 <= capacity && capacity <= 256 && senders <= 64);
+    assert!(rt; 1 <= calls && calls <= 1 << 40);
+    let (receiver, senders) = make(rt.alloc(), capacity, senders, calls).expect(rt, "memory");
     Ends { receiver, senders }
 }
 
 /// The ends of a queue of one sender.
-pub fn open_one<R: Abort>(rt: &R, alloc: Global, capacity: usize, calls: u64) -> (Receiver, Sender)
-    requires capacity { (1 ≤ capacity) × (capacity ≤ 256) }
-    requires calls { (1 ≤ calls) × (calls ≤ 2 ^ 40) }
-{
+pub fn open_one(rt: &impl Host, capacity: usize, calls: u64) -> (Receiver, Sender) {
     let Ends {
         receiver,
         mut senders,
-    } = open(rt, alloc, capacity, 1, calls);
+    } = open(rt, capacity, 1, calls);
     let sender = senders.pop().expect(rt, "a sender");
     (receiver, sender)
 }
 
 impl Ends {
-    fn act<R: Abort>(&mut self, rt: &R, alloc: Global, step: Step) {
+    fn act(&mut self, rt: &impl Host, step: Step) {
         match step {
             Step::Sends(place, bytes, wanted) => {
                 assert!(rt; place < self.senders.len());
-                let why = send_bytes(rt, alloc, &mut self.senders[place], bytes);
+                let why = send_bytes(rt, &mut self.senders[place], bytes);
                 assert_same(rt, why, wanted);
             }
             Step::Accepted(place, accepted) => {
@@ -152,14 +137,14 @@ impl Ends {
     }
 
     /// Takes the steps.
-    pub fn play<R: Abort>(&mut self, rt: &R, alloc: Global, steps: &[Step]) {
+    pub fn play(&mut self, rt: &impl Host, steps: &[Step]) {
         for step in steps {
-            self.act(rt, alloc, *step);
+            self.act(rt, *step);
         }
     }
 
     /// Gathers without the first sender, which is refused and returns all ends, and then with it as the last.
-    pub fn gather<R: Abort>(self, rt: &R) -> Gathered {
+    pub fn gather(self, rt: &impl Abort) -> Gathered {
         let Ends {
             receiver,
             mut senders,
@@ -179,14 +164,14 @@ impl Ends {
 }
 
 // Asserts the indexes of all senders of a queue but the first.
-fn assert_indexes<R: Abort>(rt: &R, senders: &[Sender]) {
+fn assert_indexes(rt: &impl Abort, senders: &[Sender]) {
     for (index, sender) in (1usize..).zip(senders) {
         assert_same(rt, sender.index(), index);
     }
 }
 
 /// Takes what is left, and asserts that it is these messages.
-pub fn assert_left<R: Abort>(rt: &R, gathered: Gathered, wanted: &[[u8; 3]]) {
+pub fn assert_left(rt: &impl Abort, gathered: Gathered, wanted: &[[u8; 3]]) {
     let mut left = gathered;
     for message in wanted {
         assert_same(rt, left.is_drained(), false);
@@ -198,17 +183,8 @@ pub fn assert_left<R: Abort>(rt: &R, gathered: Gathered, wanted: &[[u8; 3]]) {
 }
 
 /// Opens a queue of one sender, and takes the steps.
-pub fn play_one<R: Abort>(
-    rt: &R,
-    alloc: Global,
-    capacity: usize,
-    calls: u64,
-    steps: &[Step],
-) -> Ends
-    requires capacity { (1 ≤ capacity) × (capacity ≤ 256) }
-    requires calls { (1 ≤ calls) × (calls ≤ 2 ^ 40) }
-{
-    let mut ends = open(rt, alloc, capacity, 1, calls);
-    ends.play(rt, alloc, steps);
+pub fn play_one(rt: &impl Host, capacity: usize, calls: u64, steps: &[Step]) -> Ends {
+    let mut ends = open(rt, capacity, 1, calls);
+    ends.play(rt, steps);
     ends
 }

@@ -1,5 +1,5 @@
 //! Tests of a queue whose senders send from threads.
-ghost use Rattle.std.specs.Prelude.{◌≡◌, ◌≤◌, length, All, IfErr, IfSome};
+ghost use Rattle.std.specs.Prelude.{◌≡◌, length, All, IfErr, IfSome};
 ghost use Rattle.subvl_queue.specs.Views.{AreOf};
 
 use crate::queue_testing::*;
@@ -7,10 +7,13 @@ use crate::testing::*;
 use std::snapshot::Snapshot;
 use std::thread;
 use std::thread::{Promise, PromisedHandle, Threads};
-use subvl_queue::{Item, Receiver, Refused, Sender, Why};
+use subvl_queue::{Item, Receiver, Sender, Why};
 
 // How many messages each sender sends.
 const MESSAGES: u8 = 100;
+
+// How often each sender may call.
+const CALLS: u64 = 1 << 40;
 
 // How often a message is sent again after Full, and how often the receiver polls.
 const TURNS: u64 = 100_000_000;
@@ -36,19 +39,14 @@ fn send_one(sender: &mut Sender, bytes: Vec<u8>) -> bool
 {
     let mut next = bytes;
     for _turn in 0..TURNS {
-        match send(sender, next) {
-            Ok(()) => return true,
-            Err(
-                Refused {
-                    why: Why::Full,
-                    bytes,
-                },
-            ) => {
-                next = bytes;
-                thread::yield_now();
-            }
-            Err(_) => return false,
+        let Err(refused) = send(sender, next) else {
+            return true;
+        };
+        if refused.why != Why::Full {
+            return false;
         }
+        next = refused.bytes;
+        thread::yield_now();
     }
     false
 }
@@ -68,15 +66,11 @@ fn send_all(alloc: Global, mut sender: Sender) -> Option<Sender>
 }
 
 // Starts a thread for each sender of a receiver's queue.
-fn start_all<R: Threads + Abort>(
-    rt: &R,
-    alloc: Global,
-    receiver: &Receiver,
-    senders: Vec<Sender>,
-) -> Vec<Worker>
+fn start_all<R: Threads + Host>(rt: &R, receiver: &Receiver, senders: Vec<Sender>) -> Vec<Worker>
     requires { AreOf receiver.now.queue senders.items }
     ensures { All (λ w. w.promise.of.value.queue ≡ receiver.now.queue) result.items }
 {
+    let alloc = rt.alloc();
     let mut workers = Vec::new(alloc);
     for sender in senders {
         let promise = ComesBack {
@@ -90,16 +84,11 @@ fn start_all<R: Threads + Abort>(
 }
 
 // Joins the threads. The senders, each of the receiver's queue.
-fn join_all<R: Threads + Abort>(
-    rt: &R,
-    alloc: Global,
-    receiver: &Receiver,
-    workers: Vec<Worker>,
-) -> Vec<Sender>
+fn join_all<R: Threads + Host>(rt: &R, receiver: &Receiver, workers: Vec<Worker>) -> Vec<Sender>
     requires { All (λ w. w.promise.of.value.queue ≡ receiver.now.queue) workers.items }
     ensures { AreOf receiver.now.queue result.items }
 {
-    let mut senders = Vec::new(alloc);
+    let mut senders = Vec::new(rt.alloc());
     for worker in workers {
         let sender = worker.join(rt).expect(rt, "a sender");
         senders.push(sender).expect(rt, "memory");
@@ -108,7 +97,7 @@ fn join_all<R: Threads + Abort>(
 }
 
 // Takes `count` messages while the senders run.
-fn take_some<R: Abort>(rt: &R, receiver: &mut Receiver, into: &mut Vec<Item>, count: usize)
+fn take_some(rt: &impl Abort, receiver: &mut Receiver, into: &mut Vec<Item>, count: usize)
     ensures { receiver.new.queue ≡ receiver.old.queue }
 {
     for _turn in 0..TURNS {
@@ -123,7 +112,7 @@ fn take_some<R: Abort>(rt: &R, receiver: &mut Receiver, into: &mut Vec<Item>, co
 }
 
 // Gathers the senders, and takes what is left.
-fn take_rest<R: Abort>(rt: &R, receiver: Receiver, senders: Vec<Sender>, into: &mut Vec<Item>)
+fn take_rest(rt: &impl Abort, receiver: Receiver, senders: Vec<Sender>, into: &mut Vec<Item>)
     requires { AreOf receiver.queue senders.items }
 {
     let mut gathered = receiver.gather(senders).ok().expect(rt, "each sender");
@@ -133,7 +122,7 @@ fn take_rest<R: Abort>(rt: &R, receiver: Receiver, senders: Vec<Sender>, into: &
 }
 
 // Asserts that an item has the next number of its sender, which then rises by one.
-fn check_item<R: Abort>(rt: &R, item: &Item, number: &mut u8) {
+fn check_item(rt: &impl Abort, item: &Item, number: &mut u8) {
     assert!(rt; *number < MESSAGES);
     let wanted = [item.port, *number];
     assert_same(rt, item.bytes.as_slice(), wanted.as_slice());
@@ -141,8 +130,8 @@ fn check_item<R: Abort>(rt: &R, item: &Item, number: &mut u8) {
 }
 
 // Asserts that each sender's numbers rise from 0 by one.
-fn check_items<R: Abort>(rt: &R, alloc: Global, items: &[Item], ports: usize) {
-    let mut next = vec![in alloc; 0u8; ports].expect(rt, "memory");
+fn check_items(rt: &impl Host, items: &[Item], ports: usize) {
+    let mut next = vec![in rt.alloc(); 0u8; ports].expect(rt, "memory");
     for item in items {
         let number = next.get_mut(usize::from(item.port));
         check_item(rt, item, number.expect(rt, "its port"));
@@ -151,40 +140,28 @@ fn check_items<R: Abort>(rt: &R, alloc: Global, items: &[Item], ports: usize) {
 
 // How many messages the senders say that were accepted.
 fn accepted_by(senders: &[Sender]) -> u64 {
-    let mut sum = 0u64;
-    for sender in senders {
-        sum = sum.saturating_add(sender.accepted());
-    }
-    sum
+    let accepted = senders.iter().map(|sender| sender.accepted());
+    accepted.fold(0u64, |sum, more| sum.saturating_add(more))
 }
 
-// A thread for each sender; `taken` messages are taken while they run, and then the queue may be closed. All
+// A queue, a thread for each sender, and `taken` messages taken while they run; then the queue may be closed. All
 // messages that were accepted arrive, each sender's in its order. How many.
-fn run<R: Threads + Abort>(
-    rt: &R,
-    alloc: Global,
-    capacity: usize,
-    ports: usize,
-    taken: usize,
-    is_closed: bool,
-) -> u64
-    requires capacity { (1 ≤ capacity) × (capacity ≤ 256) }
-    requires ports { ports ≤ 64 }
-{
+fn run<R: Threads + Host>(rt: &R, ends: Ends, taken: usize, is_closed: bool) -> u64 {
     let Ends {
         mut receiver,
         senders,
-    } = open(rt, alloc, capacity, ports, 1 << 40);
-    let workers = start_all(rt, alloc, &receiver, senders);
-    let mut items = Vec::new(alloc);
+    } = ends;
+    let ports = senders.len();
+    let workers = start_all(rt, &receiver, senders);
+    let mut items = Vec::new(rt.alloc());
     take_some(rt, &mut receiver, &mut items, taken);
     let total = close_if(&mut receiver, is_closed);
-    let senders = join_all(rt, alloc, &receiver, workers);
+    let senders = join_all(rt, &receiver, workers);
     let accepted = accepted_by(&senders);
     assert_same(rt, total.unwrap_or(accepted), accepted);
     take_rest(rt, receiver, senders, &mut items);
     assert_same(rt, items.len() as u64, accepted);
-    check_items(rt, alloc, &items, ports);
+    check_items(rt, &items, ports);
     accepted
 }
 
@@ -201,17 +178,15 @@ fn close_if(receiver: &mut Receiver, is_closed: bool) -> Option<u64>
 
 #[test]
 fn a_close_while_threads_send_returns_what_they_sent(rt: HostRuntime) {
-    let total = run(&rt, rt.alloc(), 4, 16, 200, true);
+    let total = run(&rt, open(&rt, 4, 16, CALLS), 200, true);
     assert!(rt; total >= 200 && total <= 204);
 }
 
 // All messages of each sender are accepted: none is sent more than once.
 #[test]
-fn sixteen_threads_send_through_one_place(rt: HostRuntime) {
-    assert_same(&rt, run(&rt, rt.alloc(), 1, 16, 1_599, false), 1_600);
-}
-
-#[test]
-fn sixty_four_threads_send_through_256_places(rt: HostRuntime) {
-    assert_same(&rt, run(&rt, rt.alloc(), 256, 64, 6_144, false), 6_400);
+fn threads_send_through_one_place_and_through_256(rt: HostRuntime) {
+    let of_one = open(&rt, 1, 16, CALLS);
+    assert_same(&rt, run(&rt, of_one, 1_599, false), 1_600);
+    let of_256 = open(&rt, 256, 64, CALLS);
+    assert_same(&rt, run(&rt, of_256, 6_144, false), 6_400);
 }
