@@ -1,71 +1,16 @@
-//! Tests of networks that fail.
-ghost use Rattle.std.specs.Prelude.{◌≡◌, ◌<◌, ◌≤◌, [], length, map};
+//! A test of a network that needs no memory.
+ghost use Rattle.std.specs.Prelude.{◌≡◌, ◌<◌, [], length, map};
 ghost use Rattle.arrayvec.specs.ArrayVec.{array_vec_len};
 ghost use Rattle.redundant_mux.specs.Entry.{entry};
 
 use crate::play::assert_report;
-use crate::rig::*;
+use crate::rig::send;
 use crate::testing::*;
-use afdx_config::read_config;
 use afdx_frame::Frame;
-use afdx_tx::{PollFault, Report, open_tx};
+use afdx_tx::open_tx;
 use arrayvec::ArrayVec;
-use redundant_mux::{HandFault, MemNetwork, Network, Standing};
+use redundant_mux::{HandFault, MemNetwork, Network};
 use std::default::Default;
-
-/// How many frames a poll released, and which networks were up then. None if both were down.
-fn told_of(answer: Result<Report, PollFault>) -> Option<(usize, Standing)> {
-    match answer {
-        Ok(report) => Some((report.released.len(), report.standing)),
-        Err(PollFault::BothDown) => None,
-    }
-}
-
-/// The same of the poll with this number, counted from 1, if A fails at hand `k` and B at hand `m`.
-fn wanted_of(turn: u8, k: u8, m: u8) -> Option<(usize, Standing)> {
-    let last = k.max(m);
-    let standing = Standing {
-        a: turn < k,
-        b: turn < m,
-    };
-    if turn <= last {
-        Some((usize::from(turn < last), standing))
-    } else {
-        None
-    }
-}
-
-/// Asserts the answer of the poll with this number, counted from 1, if A fails at hand `k` and B at hand
-/// `m`: a release while one of them is up, none when the last one fails, and then `BothDown`.
-fn assert_answer(rt: &impl Abort, turn: u8, k: u8, m: u8, answer: Result<Report, PollFault>) {
-    let (told, wanted) = (told_of(answer), wanted_of(turn, k, m));
-    assert_eq!(rt; told, wanted, "at poll {turn} of {k}, {m}");
-}
-
-/// A run of six polls, in which A fails at hand `k` and B at hand `m`.
-fn run_failing<R: Abort>(rt: &R, alloc: Global, k: u8, m: u8)
-    requires { (1 ≤ k) × (1 ≤ m) }
-{
-    let mut rig = open(rt, alloc, SIX, (u64::from(k), u64::from(m)));
-    rig.send_each(rt, alloc, 6);
-    for turn in 1..=6u8 {
-        let answer = rig.poll(rt, GAP * u64::from(turn - 1));
-        assert_answer(rt, turn, k, m, answer);
-    }
-    assert_same(rt, rig.now(), GAP * u64::from(k.max(m).min(6) - 1));
-    let (a, b) = rig.networks();
-    assert_holds(rt, a, (k - 1, u64::from(k < 7)));
-    assert_holds(rt, b, (m - 1, u64::from(m < 7)));
-}
-
-#[test]
-fn each_network_keeps_the_frames_before_its_failure_whenever_both_fail(rt: HostRuntime) {
-    for k in 1..=7 {
-        for m in 1..=7 {
-            run_failing(&rt, rt.alloc(), k, m);
-        }
-    }
-}
 
 /// A frame that a network took, and its time in microseconds.
 #[derive(Drop)]
@@ -128,13 +73,12 @@ fn assert_full(rt: &impl Abort, shelf: &Shelf) {
 
 #[test]
 fn a_network_without_memory_fails_where_it_is_full_and_the_other_goes_on(rt: HostRuntime) {
-    let alloc = rt.alloc();
-    let config = read_config(alloc, SIX.as_bytes()).expect(&rt, "a valid plan");
-    let opened = open_tx(alloc, config, empty_shelf(), MemNetwork::new(alloc)).ok();
+    let other = MemNetwork::new(rt.alloc());
+    let opened = open_tx(rt.alloc(), config_of(&rt, SIX), empty_shelf(), other).ok();
     let (mut tx, mut ports, _monitor) = opened.expect(&rt, "memory");
     for port in ports.iter_mut() {
         for byte in 0..6u8 {
-            send_taken(&rt, alloc, port, &[byte]);
+            assert_same(&rt, send(&rt, port, &[byte]), None);
         }
     }
     for number in 0..6u8 {

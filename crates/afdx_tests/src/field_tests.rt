@@ -1,10 +1,11 @@
-//! The types of public fields: each is taken by its name, with its type written out.
+//! The types of public fields, each taken by its name with its type written out, and the names of faults.
 use crate::testing::*;
 use afdx_plan::{VlId, demo_config};
-use afdx_tx::{Refusal, Release, Report, SendFault, open_tx};
+use afdx_tx::{NoSuchSub, PollFault, Refusal, Release, Report, SendFault, open_tx};
 use arrayvec::ArrayVec;
 use redundant_mux::{MemNetwork, Standing};
 use status_board::Counts;
+use std::fmt::InlineText;
 use subvl_queue::{Item, Refused, Why, make};
 
 #[test]
@@ -58,18 +59,39 @@ fn fields_of_an_emitters_values(rt: HostRuntime) -> Result<(), Fail> {
     let Standing { a, b }: Standing = report.standing;
     let up: (bool, bool) = (a, b);
     assert_same(&rt, up, (true, true));
-    let Some(
-        Counts {
-            frames,
-            bytes,
-            messages,
-            last,
-        },
-    ) = emitter.counts(VlId(1))
-    else {
-        return Err(Fail::from("no such link"));
-    };
+    let counts = emitter.counts(VlId(1));
+    let Counts {
+        frames,
+        bytes,
+        messages,
+        last,
+    } = counts.expect(&rt, "the link");
     let counts: (u64, u64, u64, u64) = (frames, bytes, messages, last);
     assert_same(&rt, counts, (1, 60, 1, 5));
     Ok(())
+}
+
+// Why a port refuses a message, with the number and the name of that.
+const REFUSALS: [(Refusal, u8, &str); 5] = [
+    (Refusal::Empty, 1, "Empty"),
+    (Refusal::TooLong, 2, "TooLong"),
+    (Refusal::Closed, 3, "Closed"),
+    (Refusal::Exhausted, 4, "Exhausted"),
+    (Refusal::Full, 5, "Full"),
+];
+
+#[test]
+fn each_refusal_of_a_port_has_its_number_and_its_name(rt: HostRuntime) {
+    for &(refusal, number, name) in &REFUSALS {
+        assert_eq!(rt; refusal as u8, number, "{name}");
+        assert_eq!(rt; InlineText::<16>::of(refusal).as_str(), name);
+    }
+}
+
+#[test]
+fn the_faults_of_a_poll_and_of_a_close_have_their_names(rt: HostRuntime) {
+    let fault = PollFault::BothDown;
+    assert_eq!(rt; fault as u8, 1);
+    assert_eq!(rt; InlineText::<16>::of(fault).as_str(), "BothDown");
+    assert_eq!(rt; InlineText::<16>::of(NoSuchSub).as_str(), "NoSuchSub");
 }

@@ -24,12 +24,9 @@ const BASIS: u64 = 0xcbf2_9ce4_8422_2325;
 #[derive(Drop)]
 pub(crate) struct Gauge {
     interface: u8,
-    frames: u64,
-    number: u8,
-    identification: u16,
-    last: Option<u64>,
-    digest: u64,
-    failures: u64,
+    due: u64,
+    pub(crate) seen: Seen,
+    pub(crate) failures: u64,
     trail: Trail,
 }
 
@@ -43,24 +40,11 @@ pub(crate) struct Seen {
     pub(crate) digest: u64,
 }
 
-/// The sequence number after another one: 0, 1 to 255, and then 1 again.
-fn number_behind(number: u8) -> u8 {
-    match number.checked_add(1) {
-        Some(next) => next,
-        None => 1,
-    }
-}
-
-/// Adds a byte to a digest.
-fn digest_byte(digest: u64, byte: u8) -> u64 {
-    (digest ^ u64::from(byte)).wrapping_mul(PRIME)
-}
-
 /// Adds bytes to a digest.
 fn digest_bytes(digest: u64, bytes: &[u8]) -> u64 {
     let mut sum = digest;
     for byte in bytes {
-        sum = digest_byte(sum, *byte);
+        sum = (sum ^ u64::from(*byte)).wrapping_mul(PRIME);
     }
     sum
 }
@@ -78,39 +62,18 @@ impl Gauge {
         ensures empty { entries_of result.trail.logged ≡ [] }
         ensures new { result.failures ≡ 0 }
     {
-        Gauge {
-            interface,
+        let seen = Seen {
             frames: 0,
             number: 0,
             identification: 0,
-            last: None,
             digest: BASIS,
+        };
+        Gauge {
+            interface,
+            due: 0,
+            seen,
             failures: 0,
             trail: Trail::new(),
-        }
-    }
-
-    pub(crate) fn failures(&self) -> u64
-        ensures { result ≡ self.now.failures }
-    {
-        self.failures
-    }
-
-    /// What it has seen of the frames that it took.
-    pub(crate) fn seen(&self) -> Seen {
-        Seen {
-            frames: self.frames,
-            number: self.number,
-            identification: self.identification,
-            digest: self.digest,
-        }
-    }
-
-    // Whether a time is at least a gap after the last one.
-    fn is_spaced(&self, at: u64) -> bool {
-        match self.last {
-            Some(last) => at >= last && at - last >= GAP,
-            None => true,
         }
     }
 
@@ -118,10 +81,10 @@ impl Gauge {
     fn is_next(&self, at: u64, frame: &[u8]) -> bool {
         frame.len() == FRAME
             && frame.get(INTERFACE) == Some(&self.interface)
-            && frame.get(18..20) == Some(self.identification.to_be_bytes().as_slice())
-            && frame.get(42..50) == Some(self.frames.to_be_bytes().as_slice())
-            && frame.get(FRAME - 1) == Some(&self.number)
-            && self.is_spaced(at)
+            && frame.get(18..20) == Some(self.seen.identification.to_be_bytes().as_slice())
+            && frame.get(42..50) == Some(self.seen.frames.to_be_bytes().as_slice())
+            && frame.get(FRAME - 1) == Some(&self.seen.number)
+            && self.due <= at
     }
 }
 
@@ -135,11 +98,14 @@ impl Network for Gauge {
             self.failures += 1;
             return Err(HandFault);
         }
-        self.frames = self.frames.saturating_add(1);
-        self.number = number_behind(self.number);
-        self.identification = self.identification.wrapping_add(4);
-        self.last = Some(at);
-        self.digest = digest_frame(self.digest, at, frame);
+        self.due = at.saturating_add(GAP);
+        // 0 is the first sequence number alone
+        self.seen = Seen {
+            frames: self.seen.frames.saturating_add(1),
+            number: self.seen.number.checked_add(1).unwrap_or(1),
+            identification: self.seen.identification.wrapping_add(4),
+            digest: digest_frame(self.seen.digest, at, frame),
+        };
         // The contract ignores this value, so any `Networks` will do.
         self.trail = Trail::with(&self.trail, &Networks::Both, &at, frame);
         Ok(())

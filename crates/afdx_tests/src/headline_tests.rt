@@ -3,11 +3,11 @@
 ghost use Rattle.std.specs.Prelude.{◌≡◌, ℕ, ◌∷◌, [], IfSome};
 ghost use Rattle.afdx_plan.specs.Demo.{demo_plan};
 ghost use Rattle.redundant_mux.specs.Lines.{log};
-ghost use Rattle.afdx_legal.specs.Allowed.{AreOwn};
 ghost use Rattle.afdx_legal.specs.Done.{IsAllDone, IsHandedWhole};
 ghost use Rattle.afdx_legal.specs.Own.{AreOwnStreams};
 ghost use Rattle.afdx_tx.specs.Drain.{accepted_in};
 ghost use Rattle.afdx_tx.specs.Emitter.{queues_in, total_in};
+ghost use Rattle.afdx_tx.specs.Gathering.{IsGatheredTx};
 ghost use Rattle.afdx_tx.specs.Ports.{Accepts, IsPortOfTx};
 ghost use Rattle.afdx_tests.specs.Closing.{HasAccepted};
 ghost use Rattle.afdx_tests.specs.Headline.{IsUnused, SentTwo, two_messages};
@@ -19,16 +19,16 @@ use afdx_tx::{Refusal, TxPort, open_tx};
 use redundant_mux::MemNetwork;
 use std::snapshot::Snapshot;
 use std::thread;
-use std::thread::{Promise, Threads};
+use std::thread::Promise;
 
 // Opens the demonstration configuration. Returns the emitter and its one port.
-fn open_demo<R: Abort>(rt: &R, alloc: Global) -> (Sending, TxPort)
+fn open_demo(rt: &impl Host) -> (Sending, TxPort)
     ensures plan { result.0.plan ≡ demo_plan }
     ensures port { IsUnused result.0 result.1 }
 {
-    let config = demo_config(alloc).expect(rt, "memory");
-    let (a, b) = (MemNetwork::new(alloc), MemNetwork::new(alloc));
-    let Ok((tx, mut ports, _monitor)) = open_tx(alloc, config, a, b) else {
+    let config = demo_config(rt.alloc()).expect(rt, "memory");
+    let (a, b) = (MemNetwork::new(rt.alloc()), MemNetwork::new(rt.alloc()));
+    let Ok((tx, mut ports, _monitor)) = open_tx(rt.alloc(), config, a, b) else {
         panic!(rt; "no memory");
     };
     let port = ports.pop().expect(rt, "a port");
@@ -66,7 +66,7 @@ fn send_two(alloc: Global, mut port: TxPort) -> Option<TxPort>
 }
 
 // Polls a few times, a gap apart, while the port sends.
-fn poll_meanwhile<R: Abort>(rt: &R, tx: &mut Sending)
+fn poll_meanwhile(rt: &impl Host, tx: &mut Sending)
     ensures plan { tx.new.plan ≡ tx.old.plan }
     ensures queues { queues_in tx.new.links ≡ queues_in tx.old.links }
     ensures totals { (k s : ℕ) → total_in tx.new.links k s ≡ total_in tx.old.links k s }
@@ -79,12 +79,7 @@ fn poll_meanwhile<R: Abort>(rt: &R, tx: &mut Sending)
 }
 
 // The port sends in a thread of its own, while the emitter is polled. Returns the port after that.
-fn send_beside<R: Threads + Abort + Copy + Send + 'static>(
-    rt: R,
-    alloc: Global,
-    tx: &mut Sending,
-    port: TxPort,
-) -> TxPort
+fn send_beside(rt: &impl Host, tx: &mut Sending, port: TxPort) -> TxPort
     ensures plan { tx.new.plan ≡ tx.old.plan }
     ensures queues { queues_in tx.new.links ≡ queues_in tx.old.links }
     ensures port { SentTwo port result }
@@ -92,25 +87,27 @@ fn send_beside<R: Threads + Abort + Copy + Send + 'static>(
     let promise = SendsTwo {
         of: Snapshot::of(&port),
     };
-    let worker = thread::spawn_with(&rt, promise, move || send_two(alloc, port));
-    let worker = worker.expect(&rt, "a thread");
-    poll_meanwhile(&rt, tx);
-    let back = worker.join(&rt);
-    back.expect(&rt, "both messages have room")
+    let alloc = rt.alloc();
+    let worker = thread::spawn_with(rt, promise, move || send_two(alloc, port));
+    let worker = worker.expect(rt, "a thread");
+    poll_meanwhile(rt, tx);
+    worker.join(rt).expect(rt, "both messages have room")
 }
 
-// Takes back the one port and starts draining. What was accepted of it is its own list.
-fn gather_one<R: Abort>(rt: &R, alloc: Global, tx: Sending, port: TxPort) -> Drain
+// Takes back the one port and starts draining.
+fn gather_one(rt: &impl Host, tx: Sending, port: TxPort) -> Drain
     requires { IsPortOfTx tx port }
-    ensures plan { result.plan ≡ tx.plan }
-    ensures own { AreOwn result.plan (accepted_in result.links) (λ place. port.sender.own) }
+    ensures { IsGatheredTx tx (port ∷ []) result }
 {
-    let ports = Vec::from_array(alloc, [port]).expect(rt, "memory");
-    gather(rt, tx, ports)
+    let ports = Vec::from_array(rt.alloc(), [port]).expect(rt, "memory");
+    match tx.gather(ports) {
+        Ok(draining) => draining,
+        Err(_) => panic!(rt; "the port is there"),
+    }
 }
 
 // Polls, a gap apart, until all is released.
-fn drain_whole<R: Abort>(rt: &R, draining: &mut Drain)
+fn drain_whole(rt: &impl Host, draining: &mut Drain)
     ensures plan { draining.new.plan ≡ draining.old.plan }
     ensures accepted { accepted_in draining.new.links ≡ accepted_in draining.old.links }
     ensures done { IsAllDone draining.new.plan
@@ -129,16 +126,13 @@ fn drain_whole<R: Abort>(rt: &R, draining: &mut Drain)
 }
 
 // The two networks after they took all that the port had accepted from its thread.
-fn hand_whole<R: Threads + Abort + Copy + Send + 'static>(
-    rt: R,
-    alloc: Global,
-) -> (MemNetwork, MemNetwork)
+fn hand_whole(rt: &impl Host) -> (MemNetwork, MemNetwork)
     ensures { IsHandedWhole demo_plan (λ place. two_messages) result.0.handed result.1.handed }
 {
-    let (mut tx, port) = open_demo(&rt, alloc);
-    let back = send_beside(rt, alloc, &mut tx, port);
-    let mut draining = gather_one(&rt, alloc, tx, back);
-    drain_whole(&rt, &mut draining);
+    let (mut tx, port) = open_demo(rt);
+    let back = send_beside(rt, &mut tx, port);
+    let mut draining = gather_one(rt, tx, back);
+    drain_whole(rt, &mut draining);
     draining.into_networks()
 }
 
@@ -152,38 +146,30 @@ fn check_two(rt: &impl Abort, network: &MemNetwork) {
 
 #[test]
 fn a_port_sends_from_its_thread_and_its_own_list_is_handed_over(rt: HostRuntime) {
-    let (a, b) = hand_whole(rt, rt.alloc());
+    let (a, b) = hand_whole(&rt);
     check_two(&rt, &a);
     check_two(&rt, &b);
 }
 
 // Closes the sub-VL while its port may send, polls, and starts draining. The total of the close is how many
 // messages were accepted, whatever the port sends after it.
-fn close_poll_and_gather<R: Abort>(
-    rt: &R,
-    alloc: Global,
-    mut tx: Sending,
-    mut port: TxPort,
-) -> (u64, Drain)
+fn close_poll_and_gather(rt: &impl Host, mut tx: Sending, mut port: TxPort) -> (u64, Drain)
     requires { IsPortOfTx tx port }
     ensures { HasAccepted result.1 1 0 result.0 }
 {
     let total = tx.close(VlId(1), 0).expect(rt, "the sub-VL is there");
-    assert_same(rt, send(rt, alloc, &mut port, &[3]), Some(Refusal::Closed));
+    assert_same(rt, send(rt, &mut port, &[3]), Some(Refusal::Closed));
     poll_meanwhile(rt, &mut tx);
-    assert_same(rt, send(rt, alloc, &mut port, &[3]), Some(Refusal::Closed));
-    let ports = Vec::from_array(alloc, [port]).expect(rt, "memory");
-    let draining = gather(rt, tx, ports);
-    (total, draining)
+    assert_same(rt, send(rt, &mut port, &[3]), Some(Refusal::Closed));
+    (total, gather_one(rt, tx, port))
 }
 
 #[test]
 fn what_a_close_told_is_what_is_known_in_the_end(rt: HostRuntime) {
-    let alloc = rt.alloc();
-    let (tx, mut port) = open_demo(&rt, alloc);
-    send_taken(&rt, alloc, &mut port, &[1]);
-    send_taken(&rt, alloc, &mut port, &[2]);
-    let (total, draining) = close_poll_and_gather(&rt, alloc, tx, port);
+    let (tx, mut port) = open_demo(&rt);
+    assert_same(&rt, send(&rt, &mut port, &[1]), None);
+    assert_same(&rt, send(&rt, &mut port, &[2]), None);
+    let (total, draining) = close_poll_and_gather(&rt, tx, port);
     assert_same(&rt, total, 2);
     assert_same(&rt, draining.is_done(), true);
 }

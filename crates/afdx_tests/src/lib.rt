@@ -2,19 +2,11 @@
 #![tactic(auto)]
 
 #[cfg(test)]
-mod closing_tests;
-#[cfg(test)]
-mod drained_tests;
-#[cfg(test)]
 mod failing_tests;
-#[cfg(test)]
-mod fault_tests;
 #[cfg(test)]
 mod field_tests;
 #[cfg(test)]
 mod gauge;
-#[cfg(test)]
-mod gauge_tests;
 #[cfg(test)]
 mod headline_tests;
 #[cfg(test)]
@@ -24,7 +16,7 @@ mod list_model;
 #[cfg(test)]
 mod long_tests;
 #[cfg(test)]
-mod mixed_tests;
+mod model_tests;
 #[cfg(test)]
 mod pausing_tests;
 #[cfg(test)]
@@ -32,16 +24,12 @@ mod play;
 #[cfg(test)]
 mod play_tests;
 #[cfg(test)]
-mod publishing_tests;
-#[cfg(test)]
 mod rig;
 #[cfg(test)]
 mod sending_tests;
-#[cfg(test)]
-mod showing_tests;
 #[cfg(test)]
 mod testing;
 #[cfg(test)]
 mod turn_tests;
 #[cfg(test)]
-mod watcher_tests;
+mod watching_tests;

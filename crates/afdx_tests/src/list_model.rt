@@ -1,16 +1,18 @@
-//! A model of an end system for tests: networks and links as lists. Each link has one sub-VL, and its
-//! messages have one frame each.
-use afdx_plan::{Networks, VlId};
-use afdx_tx::Release;
+//! A model of an end system for tests: networks and links as lists. Each link has one sub-VL.
+use crate::play::Frame;
+use crate::testing::*;
+use afdx_plan::Networks;
 use status_board::Counts;
-use std::alloc::{AllocError, Global};
 
-/// A frame as a list keeps it: its time in microseconds, its link and its sequence number.
+/// A frame: its time in microseconds, its link, its sequence number, its length in bytes, and whether more
+/// pieces of its message follow.
 #[derive(Clone, Copy, Debug, PartialEq, Eq)]
 pub(crate) struct Seen {
     pub(crate) at: u64,
     pub(crate) vl: u16,
     pub(crate) number: u8,
+    pub(crate) length: u64,
+    pub(crate) has_more: bool,
 }
 
 /// A network as a list. The hand with this number, counted from 1, fails, and from then on it is down.
@@ -18,124 +20,172 @@ pub(crate) struct Seen {
 pub(crate) struct ListNetwork {
     pub(crate) taken: Vec<Seen>,
     pub(crate) stands: bool,
-    asked: u8,
+    hands: u8,
     fails_at: u8,
 }
 
 impl ListNetwork {
-    pub(crate) fn new(alloc: Global, fails_at: u8) -> ListNetwork {
+    fn new(alloc: Global, fails_at: u8) -> ListNetwork {
         ListNetwork {
             taken: Vec::new(alloc),
             stands: true,
-            asked: 0,
+            hands: 0,
             fails_at,
         }
     }
 
     // Takes a frame, unless the network is down or fails at it. Returns whether it did.
-    fn takes(&mut self, frame: Seen) -> Result<bool, AllocError> {
-        if !self.stands {
-            return Ok(false);
-        }
-        self.asked = self.asked.saturating_add(1);
-        self.stands = self.asked != self.fails_at;
+    fn takes(&mut self, rt: &impl Host, frame: Seen) -> bool {
         if self.stands {
-            self.taken.push(frame)?;
+            self.hands = self.hands.saturating_add(1);
+            self.stands = self.hands != self.fails_at;
         }
-        Ok(self.stands)
+        if self.stands {
+            self.taken.push(frame).expect(rt, "memory");
+        }
+        self.stands
     }
 
-    // How many frames of a link it took, and the time of the last, 0 if there is none.
-    fn taken_of(&self, vl: u16) -> (u64, u64) {
-        let mut frames = 0u64;
-        let mut last = 0;
+    // The counts of the frames of a link that it took.
+    fn counts(&self, vl: u16) -> Counts {
+        let (mut frames, mut bytes, mut messages, mut last) = (0u64, 0u64, 0u64, 0);
         for seen in &self.taken {
             if seen.vl == vl {
                 frames = frames.saturating_add(1);
+                bytes = bytes.saturating_add(seen.length);
+                messages = messages.saturating_add(u64::from(!seen.has_more));
                 last = seen.at;
             }
         }
-        (frames, last)
+        Counts {
+            frames,
+            bytes,
+            messages,
+            last,
+        }
     }
 }
 
-/// A link as a list: the networks that carry it, how many messages it has left, and the number of its next frame.
-#[derive(Clone, Copy, Debug, PartialEq, Eq)]
+/// A link as a list: the networks that carry it, its messages, first those in one frame and then those in two,
+/// the number of its next frame and when that is due, and whether a frame was lost.
+#[derive(Clone, Copy)]
 pub(crate) struct ListLink {
     pub(crate) vl: u16,
     pub(crate) networks: Networks,
-    pub(crate) left: u8,
-    pub(crate) number: u8,
+    pub(crate) short: u8,
+    pub(crate) long: u8,
+    number: u8,
+    due: Option<u64>,
+    is_lost: bool,
 }
 
-/// An end system as lists.
+/// A link with `short` messages in one frame, and `long` messages in two.
+pub(crate) fn link(vl: u16, networks: Networks, short: u8, long: u8) -> ListLink {
+    ListLink {
+        vl,
+        networks,
+        short,
+        long,
+        number: 0,
+        due: Some(0),
+        is_lost: false,
+    }
+}
+
+impl ListLink {
+    // Whether no frame is left.
+    fn is_sent(&self) -> bool {
+        self.number >= self.short.saturating_add(self.long.saturating_mul(2))
+    }
+
+    // The frame that it sends at this time, if one is left and due.
+    fn next(&self, at: u64) -> Option<Seen> {
+        let due = self.due?;
+        if self.is_sent() || at < due {
+            return None;
+        }
+        let has_more = self.number >= self.short && (self.number - self.short) % 2 == 0;
+        Some(Seen {
+            at,
+            vl: self.vl,
+            number: self.number,
+            length: if has_more { 1_507 } else { 60 },
+            has_more,
+        })
+    }
+
+    // Sends the next frame, if a network that carries the link is up. Returns what is released.
+    fn turn(
+        &mut self,
+        rt: &impl Host,
+        a: &mut ListNetwork,
+        b: &mut ListNetwork,
+        at: u64,
+    ) -> Option<Frame> {
+        let for_a = self.networks != Networks::OnlyB;
+        let for_b = self.networks != Networks::OnlyA;
+        if !(for_a && a.stands || for_b && b.stands) {
+            return None;
+        }
+        let frame = self.next(at)?;
+        let on_a = for_a && a.takes(rt, frame);
+        let on_b = for_b && b.takes(rt, frame);
+        self.number = self.number.saturating_add(1);
+        self.due = at.checked_add(GAP);
+        self.is_lost = self.is_lost || !on_a && !on_b;
+        (on_a || on_b).then_some((self.vl, 0, frame.number))
+    }
+}
+
+/// An end system as lists, and the time of the last poll that found a network up.
 #[derive(Drop)]
 pub(crate) struct ListSystem {
     pub(crate) links: Vec<ListLink>,
     pub(crate) a: ListNetwork,
     pub(crate) b: ListNetwork,
-}
-
-// A link sends its next frame, if it has one and a network that carries it is up. Returns the release.
-fn turn(
-    link: &mut ListLink,
-    a: &mut ListNetwork,
-    b: &mut ListNetwork,
-    at: u64,
-) -> Result<Option<Release>, AllocError> {
-    let for_a = link.networks != Networks::OnlyB;
-    let for_b = link.networks != Networks::OnlyA;
-    if link.left == 0 || !(for_a && a.stands || for_b && b.stands) {
-        return Ok(None);
-    }
-    let frame = Seen {
-        at,
-        vl: link.vl,
-        number: link.number,
-    };
-    let on_a = if for_a { a.takes(frame)? } else { false };
-    let on_b = if for_b { b.takes(frame)? } else { false };
-    link.left = link.left.saturating_sub(1);
-    link.number = link.number.saturating_add(1);
-    if !on_a && !on_b {
-        return Ok(None);
-    }
-    Ok(Some(Release {
-        vl: VlId(frame.vl),
-        sub: 0,
-        number: frame.number,
-    }))
+    pub(crate) now: u64,
 }
 
 impl ListSystem {
-    /// Polls. Returns what each link released, in order, or None if both networks were down.
-    pub(crate) fn poll(
-        &mut self,
-        alloc: Global,
-        at: u64,
-    ) -> Result<Option<Vec<Release>>, AllocError> {
-        if !self.a.stands && !self.b.stands {
-            return Ok(None);
+    /// These links over networks that fail at these hands.
+    pub(crate) fn new(alloc: Global, links: Vec<ListLink>, fails: (u8, u8)) -> ListSystem {
+        ListSystem {
+            links,
+            a: ListNetwork::new(alloc, fails.0),
+            b: ListNetwork::new(alloc, fails.1),
+            now: 0,
         }
-        let mut released = Vec::new(alloc);
-        for link in self.links.iter_mut() {
-            if let Some(release) = turn(link, &mut self.a, &mut self.b, at)? {
-                released.push(release)?;
-            }
-        }
-        Ok(Some(released))
     }
 
-    /// The counts of a link, of the network that took more of it: frames of 60 bytes, a message each.
-    pub(crate) fn counts(&self, vl: u16) -> Counts {
-        let (on_a, last_on_a) = self.a.taken_of(vl);
-        let (on_b, last_on_b) = self.b.taken_of(vl);
-        let frames = on_a.max(on_b);
-        Counts {
-            frames,
-            bytes: frames.saturating_mul(60),
-            messages: frames,
-            last: last_on_a.max(last_on_b),
+    /// Polls. Returns what each link released, in order, or None if both networks were down.
+    pub(crate) fn poll(&mut self, rt: &impl Host, at: u64) -> Option<Vec<Frame>> {
+        if !self.a.stands && !self.b.stands {
+            return None;
         }
+        self.now = at;
+        let mut released = Vec::new(rt.alloc());
+        for link in self.links.iter_mut() {
+            if let Some(frame) = link.turn(rt, &mut self.a, &mut self.b, at) {
+                released.push(frame).expect(rt, "memory");
+            }
+        }
+        Some(released)
+    }
+
+    /// The counts of a link, of the network that took more of it.
+    pub(crate) fn counts(&self, vl: u16) -> Counts {
+        let (on_a, on_b) = (self.a.counts(vl), self.b.counts(vl));
+        if on_a.frames < on_b.frames {
+            on_b
+        } else {
+            on_a
+        }
+    }
+
+    /// Whether some network took each frame of each message.
+    pub(crate) fn is_done(&self) -> bool {
+        self.links
+            .iter()
+            .all(|link| link.is_sent() && !link.is_lost)
     }
 }

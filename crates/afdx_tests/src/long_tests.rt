@@ -1,31 +1,92 @@
-//! A test of a long run.
+//! A test of a long run, and tests of its network, which takes only the right frames.
 ghost use Rattle.std.specs.Prelude.{◌<◌};
 ghost use Rattle.status_board.specs.Views.{links_of};
 
 use crate::gauge::{FRAME, Gauge, Seen};
 use crate::play::assert_report;
+use crate::rig::send;
 use crate::testing::*;
 use afdx_plan::demo_config;
 use afdx_tx::{Emitter, TxPort, open_tx};
+use redundant_mux::Network;
 use status_board::{Counts, Monitor};
-use std::sync::Wait;
+
+// What a gauge checks: the time of a frame, and its interface identifier, identification, place in the run
+// and sequence number.
+type Handed = (u64, u8, u16, u64, u8);
+
+// A frame with these fields, which is zero elsewhere.
+fn frame_of((_at, interface, identification, place, number): Handed) -> [u8; FRAME] {
+    let mut frame = [0u8; FRAME];
+    frame[11] = interface;
+    frame[18..20].copy_from_slice(identification.to_be_bytes().as_slice());
+    frame[42..50].copy_from_slice(place.to_be_bytes().as_slice());
+    frame[59] = number;
+    frame
+}
+
+// Hands a frame to a gauge that has failed less than a hundred times. Returns whether it took the frame.
+fn takes(gauge: &mut Gauge, handed: Handed) -> bool {
+    gauge.failures < 100 && gauge.hand(handed.0, frame_of(handed).as_slice()).is_ok()
+}
+
+// The first three frames of a run.
+const FIRST: Handed = (0, 0x20, 0, 0, 0);
+
+const SECOND: Handed = (GAP, 0x20, 4, 1, 1);
+
+const THIRD: Handed = (2 * GAP, 0x20, 8, 2, 2);
+
+// Frames that aren't the second one.
+const WRONG: [Handed; 7] = [
+    FIRST,
+    THIRD,
+    (GAP - 1, 0x20, 4, 1, 1),
+    (GAP, 0x40, 4, 1, 1),
+    (GAP, 0x20, 5, 1, 1),
+    (GAP, 0x20, 4, 2, 1),
+    (GAP, 0x20, 4, 1, 2),
+];
+
+#[test]
+fn a_gauge_takes_the_next_frame_alone(rt: HostRuntime) {
+    let mut gauge = Gauge::new(0x20);
+    assert!(rt; takes(&mut gauge, FIRST));
+    for wrong in WRONG {
+        assert!(rt; !takes(&mut gauge, wrong));
+    }
+    assert!(rt; takes(&mut gauge, SECOND));
+    assert!(rt; takes(&mut gauge, THIRD));
+    assert_same(&rt, gauge.seen.frames, 3);
+    assert_same(&rt, gauge.failures, 7);
+}
+
+// What a gauge with this interface has seen after a first frame at a time, with this source byte.
+fn seen_with(at: u64, interface: u8, source: u8) -> Seen {
+    let mut gauge = Gauge::new(interface);
+    let mut frame = frame_of((at, interface, 0, 0, 0));
+    frame[27] = source;
+    let _taken = gauge.hand(at, frame.as_slice());
+    gauge.seen
+}
+
+#[test]
+fn gauges_have_seen_the_same_where_their_frames_are_twins(rt: HostRuntime) {
+    let seen = seen_with(0, 0x20, 1);
+    assert_same(&rt, seen.frames, 1);
+    assert_same(&rt, seen_with(0, 0x40, 1), seen);
+    assert_ne!(rt; seen_with(0, 0x40, 2), seen);
+    assert_ne!(rt; seen_with(1, 0x40, 1), seen);
+}
 
 // How many messages the link sends.
 const MESSAGES: u64 = 1_000_000;
 
 type Tx = Emitter<Gauge, Gauge>;
 
-// The sequence number of the frame at a place of the run.
-fn number_at(place: u64) -> u8 {
-    match place.checked_sub(1) {
-        Some(before) => (before % 255 + 1) as u8,
-        None => 0,
-    }
-}
-
 // Sends the message at a place of the run, polls a gap after the poll before, which releases it, and publishes.
-fn send_one<R: Abort + Wait>(rt: &R, alloc: Global, tx: &mut Tx, port: &mut TxPort, place: u64) {
-    send_taken(rt, alloc, port, place.to_be_bytes().as_slice());
+fn send_one(rt: &impl Host, tx: &mut Tx, port: &mut TxPort, place: u64) {
+    assert_same(rt, send(rt, port, place.to_be_bytes().as_slice()), None);
     let now = GAP.saturating_mul(place);
     assert!(rt; tx.now() <= now);
     assert_report(rt, tx.poll(now), &[(1, 0, number_at(place))], BOTH);
@@ -41,7 +102,7 @@ fn assert_seen(rt: &impl Abort, seen: Seen) {
 }
 
 // Asserts that the monitor reads a frame for each message.
-fn assert_counts<R: Abort + Wait>(rt: &R, monitor: &mut Monitor)
+fn assert_counts(rt: &impl Host, monitor: &mut Monitor)
     requires { 0 < links_of monitor.old }
 {
     let counts = Counts {
@@ -55,21 +116,20 @@ fn assert_counts<R: Abort + Wait>(rt: &R, monitor: &mut Monitor)
 
 #[test]
 fn a_million_messages_keep_number_gap_and_twin(rt: HostRuntime) -> Result<(), Fail> {
-    let alloc = rt.alloc();
-    let config = demo_config(alloc)?;
+    let config = demo_config(rt.alloc())?;
     assert!(rt; !config.links().is_empty());
     let (a, b) = (Gauge::new(0x20), Gauge::new(0x40));
-    let Ok((mut tx, mut ports, mut monitor)) = open_tx(alloc, config, a, b) else {
+    let Ok((mut tx, mut ports, mut monitor)) = open_tx(rt.alloc(), config, a, b) else {
         return Err(Fail::from("no memory"));
     };
     let mut port = ports.pop().expect(&rt, "a port");
     for place in 0..MESSAGES {
-        send_one(&rt, alloc, &mut tx, &mut port, place);
+        send_one(&rt, &mut tx, &mut port, place);
     }
     assert_counts(&rt, &mut monitor);
     let (a, b) = tx.into_networks();
-    assert_seen(&rt, a.seen());
-    assert_same(&rt, a.seen(), b.seen());
+    assert_seen(&rt, a.seen);
+    assert_same(&rt, a.seen, b.seen);
     assert_same(&rt, port.accepted(), MESSAGES);
     Ok(())
 }

@@ -5,7 +5,6 @@ use afdx_plan::VlId;
 use afdx_tx::{NoSuchSub, PollFault, Refusal, Report};
 use redundant_mux::Standing;
 use status_board::Counts;
-use std::sync::Wait;
 
 /// A frame that a poll releases: its link, its sub-VL and its sequence number.
 pub(crate) type Frame = (u16, u8, u8);
@@ -40,25 +39,6 @@ pub(crate) enum Step<'a> {
     IsDone(bool),
 }
 
-/// The plan of a text, the hands at which the networks fail, counted from 1, and steps.
-#[derive(Clone, Copy)]
-pub(crate) struct Play<'a> {
-    pub(crate) text: &'a str,
-    pub(crate) fails: (u64, u64),
-    pub(crate) steps: &'a [Step<'a>],
-    /// The steps of the drain.
-    pub(crate) rest: &'a [Step<'a>],
-}
-
-// Asserts that a report has these frames and networks.
-fn assert_told(rt: &impl Abort, report: &Report, frames: &[Frame], standing: Standing) {
-    assert_same(rt, report.released.len(), frames.len());
-    for (release, frame) in report.released.iter().zip(frames) {
-        assert_same(rt, (release.vl.0, release.sub, release.number), *frame);
-    }
-    assert_same(rt, report.standing, standing);
-}
-
 /// Asserts that a poll released these frames and left these networks up.
 pub(crate) fn assert_report(
     rt: &impl Abort,
@@ -66,16 +46,19 @@ pub(crate) fn assert_report(
     frames: &[Frame],
     standing: Standing,
 ) {
-    match answer {
-        Ok(report) => assert_told(rt, &report, frames, standing),
-        Err(PollFault::BothDown) => panic!(rt; "some network is up"),
+    let report = answer.expect(rt, "some network is up");
+    assert_same(rt, report.released.len(), frames.len());
+    for (release, frame) in report.released.iter().zip(frames) {
+        assert_same(rt, (release.vl.0, release.sub, release.number), *frame);
     }
+    assert_same(rt, report.standing, standing);
 }
 
-// Asserts that the monitor reads these counts.
-fn assert_read<S: System, R: Abort + Wait>(rt: &R, system: &mut S, counts: &[Counted]) {
+// Asserts that the monitor reads these counts each time.
+fn assert_read<S: System>(rt: &impl Host, system: &mut S, counts: &[Counted]) {
     for (place, wanted) in counts.iter().enumerate() {
-        assert_same(rt, counted(system.read(rt, place)), *wanted);
+        let (first, again) = system.read(rt, place);
+        assert_same(rt, (counted(first), counted(again)), (*wanted, *wanted));
     }
 }
 
@@ -84,7 +67,7 @@ fn counted(counts: Counts) -> Counted {
 }
 
 // Takes a step that may be before or in the drain.
-fn common<S: System, R: Abort + Wait>(rt: &R, system: &mut S, step: Step) {
+fn common<S: System>(rt: &impl Host, system: &mut S, step: Step) {
     match step {
         Step::Polls(now, frames, standing) => {
             let answer = system.poll(rt, now);
@@ -96,11 +79,7 @@ fn common<S: System, R: Abort + Wait>(rt: &R, system: &mut S, step: Step) {
         }
         Step::IsAt(now) => assert_same(rt, system.now(), now),
         Step::Counts(vl, counts) => assert_same(rt, system.counts(vl).map(counted), counts),
-        Step::Reads(counts) => {
-            system.publish(rt);
-            assert_read(rt, system, counts);
-            assert_read(rt, system, counts);
-        }
+        Step::Reads(counts) => assert_read(rt, system, counts),
         Step::Holds(on_a, on_b) => {
             let (a, b) = system.networks();
             assert_holds(rt, a, on_a);
@@ -110,37 +89,47 @@ fn common<S: System, R: Abort + Wait>(rt: &R, system: &mut S, step: Step) {
     }
 }
 
-/// Takes a step before the drain.
-pub(crate) fn act<R: Abort + Wait>(rt: &R, alloc: Global, rig: &mut Rig, step: Step) {
+// Takes a step before the drain.
+fn act(rt: &impl Host, rig: &mut Rig, step: Step) {
     match step {
-        Step::Sends(place, bytes) => assert_same(rt, rig.send(rt, alloc, place, bytes), None),
+        Step::Sends(place, bytes) => assert_same(rt, rig.send(rt, place, bytes), None),
         Step::Refused(place, bytes, why) => {
-            assert_same(rt, rig.send(rt, alloc, place, bytes), Some(why));
+            assert_same(rt, rig.send(rt, place, bytes), Some(why));
         }
-        Step::Accepted(place, id, count) => {
-            assert_same(rt, rig.told(rt, place), (id, count));
-        }
+        Step::Accepted(place, id, count) => assert_same(rt, rig.told(rt, place), (id, count)),
         Step::Closes(vl, sub, answer) => assert_same(rt, rig.tx.close(VlId(vl), sub), answer),
         _ => common(rt, rig, step),
     }
 }
 
-/// Takes a step in the drain.
-pub(crate) fn act_in_rest<R: Abort + Wait>(rt: &R, rest: &mut Rest, step: Step) {
+/// Takes steps before the drain.
+pub(crate) fn act_all(rt: &impl Host, rig: &mut Rig, steps: &[Step]) {
+    for step in steps {
+        act(rt, rig, *step);
+    }
+}
+
+// Takes a step in the drain.
+fn act_in_rest(rt: &impl Host, rest: &mut Rest, step: Step) {
     match step {
         Step::IsDone(is_done) => assert_same(rt, rest.draining.is_done(), is_done),
         _ => common(rt, rest, step),
     }
 }
 
-/// Plays the steps. Returns what is left then.
-pub(crate) fn played<R: Abort + Wait>(rt: &R, alloc: Global, play: &Play) -> Rest {
-    let mut rig = open(rt, alloc, play.text, play.fails);
-    for step in play.steps {
-        act(rt, alloc, &mut rig, *step);
-    }
-    let mut rest = rig.gather(rt, alloc);
-    for step in play.rest {
+/// Opens a plan over networks that fail at these hands, counted from 1. Takes steps, and then steps in the
+/// drain. Returns what is left then.
+pub(crate) fn play(
+    rt: &impl Host,
+    plan: Plan,
+    fails: (u64, u64),
+    steps: &[Step],
+    in_rest: &[Step],
+) -> Rest {
+    let mut rig = open(rt, plan, fails);
+    act_all(rt, &mut rig, steps);
+    let mut rest = rig.gather(rt);
+    for step in in_rest {
         act_in_rest(rt, &mut rest, *step);
     }
     rest

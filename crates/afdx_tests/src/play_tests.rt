@@ -1,7 +1,7 @@
 //! Tests on one thread, each a list of steps.
 use crate::play::Step::*;
-use crate::play::{Play, played};
-use crate::rig::{Rig, open};
+use crate::play::{act_all, play};
+use crate::rig::{Rig, open, send};
 use crate::testing::*;
 use afdx_tx::{NoSuchSub, Refusal};
 use redundant_mux::MemNetwork;
@@ -12,22 +12,6 @@ const FOR_A: [u8; 60] = *b"\x03\x00\x00\x00\x00\x01\x02\x00\x00\x00\x01\x20\x08\
     \x03\xe8\x07\xd0\x00\x09\x00\x00\x01\
     \x00\x00\x00\x00\x00\x00\x00\x00\x00\x00\x00\x00\x00\x00\x00\x00\x00";
 
-// It is sent as one frame of 60 bytes on each network, and is counted once it is sent. A missing link has no counts.
-const ONE_BYTE: Play = Play {
-    text: DEMO,
-    fails: NEVER,
-    steps: &[
-        Reads(&[(0, 0, 0, 0)]),
-        Sends(0, &[1]),
-        Reads(&[(0, 0, 0, 0)]),
-        Polls(0, &[(1, 0, 0)], BOTH),
-        Reads(&[(1, 60, 1, 0)]),
-        Counts(0, None),
-        Counts(2, None),
-    ],
-    rest: &[IsDone(true), Holds((1, 0), (1, 0))],
-};
-
 // Asserts that a network holds this frame alone.
 fn assert_first(rt: &impl Abort, network: &MemNetwork, frame: &[u8]) {
     for entry in network.handed() {
@@ -35,9 +19,20 @@ fn assert_first(rt: &impl Abort, network: &MemNetwork, frame: &[u8]) {
     }
 }
 
+// It is counted once it is sent. A missing link has no counts.
 #[test]
 fn a_message_of_one_byte_goes_out_as_one_frame_on_each_network(rt: HostRuntime) {
-    let rest = played(&rt, rt.alloc(), &ONE_BYTE);
+    let steps = [
+        Reads(&[(0, 0, 0, 0)]),
+        Sends(0, &[1]),
+        Reads(&[(0, 0, 0, 0)]),
+        Polls(0, &[(1, 0, 0)], BOTH),
+        Reads(&[(1, 60, 1, 0)]),
+        Counts(0, None),
+        Counts(2, None),
+    ];
+    let in_rest = [IsDone(true), Holds((1, 0), (1, 0))];
+    let rest = play(&rt, DEMO, NEVER, &steps, &in_rest);
     let (a, b) = rest.draining.into_networks();
     let mut for_b = FOR_A;
     for_b[11] = 0x40;
@@ -46,10 +41,9 @@ fn a_message_of_one_byte_goes_out_as_one_frame_on_each_network(rt: HostRuntime) 
 }
 
 // 1,472 bytes are sent in two frames: of 14 + 20 + 1,472 + 1 bytes, and of 60, the least.
-const TWO_FRAMES: Play = Play {
-    text: DEMO,
-    fails: NEVER,
-    steps: &[
+#[test]
+fn a_message_in_two_frames_counts_with_its_last(rt: HostRuntime) {
+    let steps = [
         Sends(0, &[0xaa; 1_472]),
         Counts(1, Some((0, 0, 0, 0))),
         Polls(0, &[(1, 0, 0)], BOTH),
@@ -60,38 +54,27 @@ const TWO_FRAMES: Play = Play {
         Polls(1_000, &[(1, 0, 1)], BOTH),
         Counts(1, Some((2, 1_567, 1, 1_000))),
         Reads(&[(2, 1_567, 1, 1_000)]),
-    ],
-    rest: &[Counts(1, Some((2, 1_567, 1, 1_000))), IsDone(true)],
-};
-
-#[test]
-fn a_message_in_two_frames_counts_with_its_last(rt: HostRuntime) {
-    let _rest = played(&rt, rt.alloc(), &TWO_FRAMES);
+    ];
+    let in_rest = [Counts(1, Some((2, 1_567, 1, 1_000))), IsDone(true)];
+    play(&rt, DEMO, NEVER, &steps, &in_rest);
 }
 
-const GAPS: Play = Play {
-    text: DEMO,
-    fails: NEVER,
-    steps: &[
+#[test]
+fn a_link_releases_nothing_before_its_gap_is_over(rt: HostRuntime) {
+    let steps = [
         Sends(0, &[1]),
         Sends(0, &[2]),
         Polls(0, &[(1, 0, 0)], BOTH),
         Polls(999, &[], BOTH),
         Polls(1_000, &[(1, 0, 1)], BOTH),
-    ],
-    rest: &[Holds((2, 0), (2, 0))],
-};
-
-#[test]
-fn a_link_releases_nothing_before_its_gap_is_over(rt: HostRuntime) {
-    let _rest = played(&rt, rt.alloc(), &GAPS);
+    ];
+    play(&rt, DEMO, NEVER, &steps, &[Holds((2, 0), (2, 0))]);
 }
 
 // A fails at its third hand. B, the last that is up, fails at its sixth. That frame is lost and isn't counted.
-const FAILING: Play = Play {
-    text: SIX,
-    fails: (3, 6),
-    steps: &[
+#[test]
+fn frames_that_one_network_alone_took_count_and_those_that_none_took_do_not(rt: HostRuntime) {
+    let steps = [
         Sends(0, &[1]),
         Sends(0, &[2]),
         Sends(0, &[3]),
@@ -114,20 +97,15 @@ const FAILING: Play = Play {
         Reads(&[(5, 300, 5, 4_000)]),
         IsAt(5_000),
         Holds((2, 1), (5, 1)),
-    ],
-    rest: &[FindsBothDown(7_000), IsAt(5_000), IsDone(false)],
-};
-
-#[test]
-fn frames_that_one_network_alone_took_count_and_those_that_none_took_do_not(rt: HostRuntime) {
-    let _rest = played(&rt, rt.alloc(), &FAILING);
+    ];
+    let in_rest = [FindsBothDown(7_000), IsAt(5_000), IsDone(false)];
+    play(&rt, SIX, (3, 6), &steps, &in_rest);
 }
 
 // Messages fill the queue before the close. They are sent after it, and later ones are refused as closed.
-const CLOSED: Play = Play {
-    text: DEMO,
-    fails: NEVER,
-    steps: &[
+#[test]
+fn a_closed_sub_vl_refuses_what_comes_and_sends_what_it_accepted(rt: HostRuntime) {
+    let steps = [
         Sends(0, &[1]),
         Sends(0, &[2]),
         Refused(0, &[3], Refusal::Full),
@@ -140,37 +118,27 @@ const CLOSED: Play = Play {
         Polls(2_000, &[], BOTH),
         Closes(1, 0, Ok(2)),
         Accepted(0, 10, 2),
-    ],
-    rest: &[IsDone(true), Holds((2, 0), (2, 0))],
-};
-
-#[test]
-fn a_closed_sub_vl_refuses_what_comes_and_sends_what_it_accepted(rt: HostRuntime) {
-    let _rest = played(&rt, rt.alloc(), &CLOSED);
+    ];
+    let in_rest = [IsDone(true), Holds((2, 0), (2, 0))];
+    play(&rt, DEMO, NEVER, &steps, &in_rest);
 }
 
-const CLOSED_FIRST: Play = Play {
-    text: DEMO,
-    fails: NEVER,
-    steps: &[
+#[test]
+fn a_sub_vl_that_is_closed_first_accepts_none(rt: HostRuntime) {
+    let steps = [
         Closes(1, 0, Ok(0)),
         Refused(0, &[1], Refusal::Closed),
         Polls(0, &[], BOTH),
         Accepted(0, 10, 0),
-    ],
-    rest: &[IsDone(true), Holds((0, 0), (0, 0))],
-};
-
-#[test]
-fn a_sub_vl_that_is_closed_first_accepts_none(rt: HostRuntime) {
-    let _rest = played(&rt, rt.alloc(), &CLOSED_FIRST);
+    ];
+    let in_rest = [IsDone(true), Holds((0, 0), (0, 0))];
+    play(&rt, DEMO, NEVER, &steps, &in_rest);
 }
 
 // The link is missing, or the index is, or both are.
-const NOT_THERE: Play = Play {
-    text: DEMO,
-    fails: NEVER,
-    steps: &[
+#[test]
+fn a_sub_vl_that_is_not_there_is_not_closed(rt: HostRuntime) {
+    let steps = [
         Sends(0, &[1]),
         Polls(1_000, &[(1, 0, 0)], BOTH),
         Closes(2, 1, Err(NoSuchSub)),
@@ -180,20 +148,13 @@ const NOT_THERE: Play = Play {
         IsAt(1_000),
         Sends(0, &[2]),
         Polls(2_000, &[(1, 0, 1)], BOTH),
-    ],
-    rest: &[IsDone(true)],
-};
-
-#[test]
-fn a_sub_vl_that_is_not_there_is_not_closed(rt: HostRuntime) {
-    let _rest = played(&rt, rt.alloc(), &NOT_THERE);
+    ];
+    play(&rt, DEMO, NEVER, &steps, &[IsDone(true)]);
 }
 
-const LEFT: Play = Play {
-    text: DEMO,
-    fails: NEVER,
-    steps: &[Sends(0, &[1]), Sends(0, &[2])],
-    rest: &[
+#[test]
+fn what_is_left_goes_out_after_the_port_came_back(rt: HostRuntime) {
+    let in_rest = [
         Polls(0, &[(1, 0, 0)], BOTH),
         IsDone(false),
         Polls(1_000, &[(1, 0, 1)], BOTH),
@@ -202,19 +163,14 @@ const LEFT: Play = Play {
         IsDone(true),
         IsAt(2_000),
         Holds((2, 0), (2, 0)),
-    ],
-};
-
-#[test]
-fn what_is_left_goes_out_after_the_port_came_back(rt: HostRuntime) {
-    let _rest = played(&rt, rt.alloc(), &LEFT);
+    ];
+    let steps = [Sends(0, &[1]), Sends(0, &[2])];
+    play(&rt, DEMO, NEVER, &steps, &in_rest);
 }
 
-const LOST: Play = Play {
-    text: DEMO,
-    fails: (2, 2),
-    steps: &[Sends(0, &[1]), Sends(0, &[2])],
-    rest: &[
+#[test]
+fn a_lost_frame_is_never_done(rt: HostRuntime) {
+    let in_rest = [
         Polls(0, &[(1, 0, 0)], BOTH),
         IsDone(false),
         Polls(1_000, &[], NEITHER),
@@ -222,95 +178,71 @@ const LOST: Play = Play {
         FindsBothDown(2_000),
         IsAt(1_000),
         IsDone(false),
-    ],
-};
-
-#[test]
-fn a_lost_frame_is_never_done(rt: HostRuntime) {
-    let _rest = played(&rt, rt.alloc(), &LOST);
+    ];
+    let steps = [Sends(0, &[1]), Sends(0, &[2])];
+    play(&rt, DEMO, (2, 2), &steps, &in_rest);
 }
 
 // Networks are seen while ports send, in the drain, and after it.
-const SEEN: Play = Play {
-    text: DEMO,
-    fails: (u64::MAX, 2),
-    steps: &[
+#[test]
+fn networks_are_seen_while_ports_send_and_while_what_is_left_goes_out(rt: HostRuntime) {
+    let steps = [
         Sends(0, &[1]),
         Sends(0, &[2]),
         Holds((0, 0), (0, 0)),
         Polls(0, &[(1, 0, 0)], BOTH),
         Holds((1, 0), (1, 0)),
-    ],
-    rest: &[
+    ];
+    let in_rest = [
         Holds((1, 0), (1, 0)),
         Polls(1_000, &[(1, 0, 1)], ONLY_A),
         IsDone(true),
         Holds((2, 0), (1, 1)),
-    ],
-};
-
-#[test]
-fn networks_are_seen_while_ports_send_and_while_what_is_left_goes_out(rt: HostRuntime) {
-    let rest = played(&rt, rt.alloc(), &SEEN);
+    ];
+    let rest = play(&rt, DEMO, (u64::MAX, 2), &steps, &in_rest);
     let (a, b) = rest.draining.into_networks();
     assert_holds(&rt, &a, (2, 0));
     assert_holds(&rt, &b, (1, 1));
 }
 
 // Link 1 on network A alone and link 2 on both, with ports 10 and 11.
-const ON_A_AND_ON_BOTH: &str = "version = 2
-end_system = { id = 1 }
-vl = [
-    { id = 1, bag_ms = 1, lmax = 1518, sub_vls = 1, capacity = 2, networks = 'a' },
-    { id = 2, bag_ms = 1, lmax = 1518, sub_vls = 1, capacity = 2, networks = 'both' },
-]
-port = [
-    { id = 10, vl = 1, sub = 0, partition = 1, kind = 'queuing', source = 1000, destination = 2000, max = 8192 },
-    { id = 11, vl = 2, sub = 0, partition = 1, kind = 'queuing', source = 1000, destination = 2000, max = 8192 },
-]
-";
+const ON_A_AND_ON_BOTH: Plan = (
+    &[(1, "a", 1_518, 1, 2), (2, "both", 1_518, 1, 2)],
+    &[(10, 1, 0, 1, 8_192), (11, 2, 0, 1, 8_192)],
+);
 
 // Network A fails at its first hand, which is for link 1. Link 2 is sent on B all the same, and the lost
 // frame isn't counted.
-const BEHIND_A: Play = Play {
-    text: ON_A_AND_ON_BOTH,
-    fails: (1, u64::MAX),
-    steps: &[
+#[test]
+fn a_link_whose_network_failed_holds_up_no_other_and_is_never_done(rt: HostRuntime) {
+    let steps = [
         Sends(0, &[1]),
         Sends(1, &[2]),
         Polls(0, &[(2, 0, 0)], ONLY_B),
         Polls(1_000, &[], ONLY_B),
         Reads(&[(0, 0, 0, 0), (1, 60, 1, 0)]),
-    ],
-    rest: &[
+    ];
+    let in_rest = [
         IsAt(1_000),
         IsDone(false),
         Polls(2_000, &[], ONLY_B),
         IsDone(false),
         Holds((0, 1), (1, 0)),
-    ],
-};
-
-#[test]
-fn a_link_whose_network_failed_holds_up_no_other_and_is_never_done(rt: HostRuntime) {
-    let _rest = played(&rt, rt.alloc(), &BEHIND_A);
+    ];
+    play(&rt, ON_A_AND_ON_BOTH, (1, u64::MAX), &steps, &in_rest);
 }
 
 // One sub-VL with room for two messages, and two ports on it, of 100 bytes and of 4.
-const TWO_PORTS: &str = "end_system = { id = 1 }
-vl = [{ id = 1, bag_ms = 1, lmax = 1518, sub_vls = 1, capacity = 2 }]
-port = [
-    { id = 10, vl = 1, sub = 0, partition = 1, kind = 'queuing', source = 1000, destination = 2000, max = 100 },
-    { id = 20, vl = 1, sub = 0, partition = 2, kind = 'queuing', source = 1000, destination = 2000, max = 4 },
-]
-";
+const TWO_PORTS: Plan = (
+    &[(1, "both", 1_518, 1, 2)],
+    &[(10, 1, 0, 1, 100), (20, 1, 0, 2, 4)],
+);
 
 // Each port sends a message of its greatest length, which fills the queue. An empty message, one that is too long
 // and one too many are refused.
-const FILLED: Play = Play {
-    text: TWO_PORTS,
-    fails: NEVER,
-    steps: &[
+#[test]
+fn what_two_ports_sent_into_one_queue_goes_out_before_and_after_they_are_gathered(rt: HostRuntime) {
+    let steps = [
         Refused(0, &[], Refusal::Empty),
         Refused(1, &[7; 5], Refusal::TooLong),
         Sends(1, &[7; 4]),
@@ -319,33 +251,29 @@ const FILLED: Play = Play {
         Accepted(0, 10, 1),
         Accepted(1, 20, 1),
         Polls(0, &[(1, 0, 0)], BOTH),
-    ],
-    rest: &[
+    ];
+    let in_rest = [
         IsAt(0),
         IsDone(false),
         Polls(1_000, &[(1, 0, 1)], BOTH),
         IsDone(true),
-    ],
-};
-
-#[test]
-fn what_two_ports_sent_into_one_queue_goes_out_before_and_after_they_are_gathered(rt: HostRuntime) {
-    let _rest = played(&rt, rt.alloc(), &FILLED);
+    ];
+    play(&rt, TWO_PORTS, NEVER, &steps, &in_rest);
 }
 
 // The queue lives as long as one of its ends, and stays full.
 #[test]
 fn a_full_queue_stays_full_without_its_emitter(rt: HostRuntime) {
-    let mut rig = open(&rt, rt.alloc(), DEMO, NEVER);
-    rig.send_each(&rt, rt.alloc(), 2);
+    let mut rig = open(&rt, DEMO, NEVER);
+    act_all(&rt, &mut rig, &[Sends(0, &[1]), Sends(0, &[2])]);
     let Rig {
         tx,
         mut ports,
+        workers: _,
         monitor: _,
     } = rig;
     drop(tx);
     for port in ports.iter_mut() {
-        let refused = crate::rig::send(&rt, rt.alloc(), port, &[9]);
-        assert_same(&rt, refused, Some(Refusal::Full));
+        assert_same(&rt, send(&rt, port, &[9]), Some(Refusal::Full));
     }
 }

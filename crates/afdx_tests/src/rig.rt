@@ -4,31 +4,31 @@ ghost use Rattle.afdx_tx.specs.Emitter.{Tx};
 ghost use Rattle.afdx_tx.specs.Ports.{IsPortOfTx};
 ghost use Rattle.status_board.specs.Views.{links_of};
 
+use crate::sending_tests::Worker;
 use crate::testing::*;
-use afdx_config::read_config;
 use afdx_plan::VlId;
 use afdx_tx::{Draining, Emitter, PollFault, Refusal, Report, TxPort, open_tx};
 use redundant_mux::MemNetwork;
 use status_board::{Counts, Monitor};
 use std::marker::Model;
-use std::sync::Wait;
 
 pub(crate) type Sending = Emitter<MemNetwork, MemNetwork>;
 
 pub(crate) type Drain = Draining<MemNetwork, MemNetwork>;
 
-/// An emitter, its ports in the order of the configuration, and its monitor.
+/// An emitter, its ports in the order of the configuration, the threads from which ports send, and its monitor.
 #[derive(Drop)]
 pub(crate) struct Rig {
     pub(crate) tx: Sending,
     pub(crate) ports: Vec<TxPort>,
+    pub(crate) workers: Vec<Worker>,
     pub(crate) monitor: Monitor,
 }
 
 impl Model for Rig {
-    ghost use Rattle.std.specs.Prelude.{◌≡◌, length};
+    ghost use Rattle.std.specs.Prelude.{◌≡◌, All, length};
     ghost use Rattle.afdx_tx.specs.Emitter.{Tx};
-    ghost use Rattle.afdx_tx.specs.Ports.{AreOpenedWith};
+    ghost use Rattle.afdx_tx.specs.Ports.{AreOpenedWith, IsPortOfTx};
     ghost use Rattle.status_board.specs.Views.{links_of};
 
     ghost Value = { Tx };
@@ -36,6 +36,7 @@ impl Model for Rig {
     ghost view = { λ r. r.tx };
 
     ghost invariant = { λ r. AreOpenedWith r.tx r.ports.items
+        × All (λ w. IsPortOfTx r.tx w.promise.of.value) r.workers.items
         × (links_of r.monitor ≡ length r.tx.plan.links) };
 }
 
@@ -61,7 +62,7 @@ impl Model for Rest {
 /// What an end system answers before the drain and in it.
 pub(crate) trait System {
     /// Polls, at a time that isn't before the last one.
-    fn poll<R: Abort>(&mut self, rt: &R, now: u64) -> Result<Report, PollFault>;
+    fn poll<R: Host>(&mut self, rt: &R, now: u64) -> Result<Report, PollFault>;
 
     /// The time of the last poll.
     fn now(&self) -> u64;
@@ -69,18 +70,15 @@ pub(crate) trait System {
     /// The counts of a link.
     fn counts(&self, vl: u16) -> Option<Counts>;
 
-    /// Publishes the counts.
-    fn publish<R: Wait>(&mut self, rt: &R);
-
-    /// What the monitor reads of the link at a place.
-    fn read<R: Abort + Wait>(&mut self, rt: &R, place: usize) -> Counts;
+    /// Publishes the counts. Returns what the monitor then reads of the link at a place, twice.
+    fn read<R: Host>(&mut self, rt: &R, place: usize) -> (Counts, Counts);
 
     /// Networks A and B.
     fn networks(&self) -> (&MemNetwork, &MemNetwork);
 }
 
 impl System for Rig {
-    fn poll<R: Abort>(&mut self, rt: &R, now: u64) -> Result<Report, PollFault> {
+    fn poll<R: Host>(&mut self, rt: &R, now: u64) -> Result<Report, PollFault> {
         assert!(rt; self.tx.now() <= now);
         self.tx.poll(now)
     }
@@ -93,13 +91,10 @@ impl System for Rig {
         self.tx.counts(VlId(vl))
     }
 
-    fn publish<R: Wait>(&mut self, rt: &R) {
+    fn read<R: Host>(&mut self, rt: &R, place: usize) -> (Counts, Counts) {
         self.tx.publish(rt);
-    }
-
-    fn read<R: Abort + Wait>(&mut self, rt: &R, place: usize) -> Counts {
         assert!(rt; place < self.tx.config().links().len());
-        self.monitor.read(rt, place)
+        (self.monitor.read(rt, place), self.monitor.read(rt, place))
     }
 
     fn networks(&self) -> (&MemNetwork, &MemNetwork) {
@@ -108,7 +103,7 @@ impl System for Rig {
 }
 
 impl System for Rest {
-    fn poll<R: Abort>(&mut self, rt: &R, now: u64) -> Result<Report, PollFault> {
+    fn poll<R: Host>(&mut self, rt: &R, now: u64) -> Result<Report, PollFault> {
         assert!(rt; self.draining.now() <= now);
         self.draining.poll(now)
     }
@@ -121,13 +116,10 @@ impl System for Rest {
         self.draining.counts(VlId(vl))
     }
 
-    fn publish<R: Wait>(&mut self, rt: &R) {
+    fn read<R: Host>(&mut self, rt: &R, place: usize) -> (Counts, Counts) {
         self.draining.publish(rt);
-    }
-
-    fn read<R: Abort + Wait>(&mut self, rt: &R, place: usize) -> Counts {
         assert!(rt; place < self.draining.config().links().len());
-        self.monitor.read(rt, place)
+        (self.monitor.read(rt, place), self.monitor.read(rt, place))
     }
 
     fn networks(&self) -> (&MemNetwork, &MemNetwork) {
@@ -135,28 +127,28 @@ impl System for Rest {
     }
 }
 
-/// Opens the plan of a text over networks that fail at these hands, counted from 1.
-pub(crate) fn open<R: Abort>(rt: &R, alloc: Global, text: &str, fails: (u64, u64)) -> Rig {
-    let config = read_config(alloc, text.as_bytes()).expect(rt, "a valid plan");
-    let a = MemNetwork::failing_at(alloc, fails.0);
-    let b = MemNetwork::failing_at(alloc, fails.1);
-    match open_tx(alloc, config, a, b) {
-        Ok((tx, ports, monitor)) => Rig { tx, ports, monitor },
+/// Opens a plan over networks that fail at these hands, counted from 1.
+pub(crate) fn open(rt: &impl Host, plan: Plan, fails: (u64, u64)) -> Rig {
+    let a = MemNetwork::failing_at(rt.alloc(), fails.0);
+    let b = MemNetwork::failing_at(rt.alloc(), fails.1);
+    let workers = Vec::new(rt.alloc());
+    match open_tx(rt.alloc(), config_of(rt, plan), a, b) {
+        Ok((tx, ports, monitor)) => Rig {
+            tx,
+            ports,
+            workers,
+            monitor,
+        },
         Err(_) => panic!(rt; "no memory"),
     }
 }
 
 /// Sends a message. Returns why it was refused, if it was, and asserts that the message is returned then. The
 /// port stays one of its emitter.
-pub(crate) fn send<R: Abort>(
-    rt: &R,
-    alloc: Global,
-    port: &mut TxPort,
-    bytes: &[u8],
-) -> Option<Refusal>
+pub(crate) fn send(rt: &impl Host, port: &mut TxPort, bytes: &[u8]) -> Option<Refusal>
     ensures { (tx : Tx) → IsPortOfTx tx port.old → IsPortOfTx tx port.new }
 {
-    let message = bytes.to_vec(alloc).expect(rt, "memory");
+    let message = bytes.to_vec(rt.alloc()).expect(rt, "memory");
     match port.send(message) {
         Ok(()) => None,
         Err(fault) => {
@@ -168,50 +160,40 @@ pub(crate) fn send<R: Abort>(
 
 impl Rig {
     /// The port at a place sends a message. Returns why it was refused, if it was.
-    pub(crate) fn send<R: Abort>(
-        &mut self,
-        rt: &R,
-        alloc: Global,
-        place: usize,
-        bytes: &[u8],
-    ) -> Option<Refusal> {
+    pub(crate) fn send(&mut self, rt: &impl Host, place: usize, bytes: &[u8]) -> Option<Refusal> {
         assert!(rt; place < self.ports.len());
-        send(rt, alloc, &mut self.ports[place], bytes)
+        send(rt, &mut self.ports[place], bytes)
     }
 
     /// The identifier of the port at a place, and how many of its messages were accepted.
-    pub(crate) fn told<R: Abort>(&self, rt: &R, place: usize) -> (u16, u64) {
+    pub(crate) fn told(&self, rt: &impl Host, place: usize) -> (u16, u64) {
         assert!(rt; place < self.ports.len());
         let port = &self.ports[place];
         (port.id().0, port.accepted())
     }
 
-    /// Each port sends `many` messages of one byte, which are accepted.
-    pub(crate) fn send_each<R: Abort>(&mut self, rt: &R, alloc: Global, many: u8) {
-        for place in 0..self.ports.len() {
-            for byte in 0..many {
-                assert_same(rt, self.send(rt, alloc, place, &[byte]), None);
-            }
-        }
-    }
-
     /// Takes the first port out.
-    pub(crate) fn take_first<R: Abort>(&mut self, rt: &R) -> TxPort {
+    pub(crate) fn take_first(&mut self, rt: &impl Host) -> TxPort {
         assert!(rt; !self.ports.is_empty());
         self.ports.remove(0)
     }
 
     // Moves the last port to the front.
-    fn take_ports<R: Abort>(&mut self, rt: &R) {
-        let last = self.ports.pop().expect(rt, "a port");
-        self.ports.insert(0, last).expect(rt, "memory");
+    fn take_ports(&mut self, rt: &impl Host) {
+        assert!(rt; !self.ports.is_empty());
+        self.ports.rotate_right(1);
     }
 
     /// Calls `gather` without ports, which is refused, and then with all of them, the last one moved to the front.
-    pub(crate) fn gather<R: Abort>(mut self, rt: &R, alloc: Global) -> Rest {
+    pub(crate) fn gather(mut self, rt: &impl Host) -> Rest {
         self.take_ports(rt);
-        let Rig { tx, ports, monitor } = self;
-        let tx = match tx.gather(Vec::new(alloc)) {
+        let Rig {
+            tx,
+            ports,
+            workers: _,
+            monitor,
+        } = self;
+        let tx = match tx.gather(Vec::new(rt.alloc())) {
             Ok(_) => panic!(rt; "gathered without ports"),
             Err((back, none)) => {
                 assert_same(rt, none.len(), 0);

@@ -1,16 +1,18 @@
 //! What the tests of this crate share.
-ghost use Rattle.std.specs.Prelude.{◌≡◌};
-ghost use Rattle.afdx_tx.specs.Emitter.{Tx};
-ghost use Rattle.afdx_tx.specs.Gathering.{IsGatheredTx};
-ghost use Rattle.afdx_tx.specs.Ports.{IsPortOfTx, AreOpenedWith};
-
-use crate::rig::{Drain, Sending, send};
-use afdx_tx::TxPort;
+use afdx_config::read_config;
+use afdx_plan::Config;
 use redundant_mux::{Handed, MemNetwork, Standing};
 pub(crate) use std::alloc::{AllocError, Global};
 use std::fmt::Debug;
 pub(crate) use std::process::Abort;
+use std::sync::Wait;
 pub(crate) use std::test::Fail;
+use std::thread::Threads;
+
+/// The runtime of a test, which asserts, allocates, waits and starts threads.
+pub(crate) trait Host: Abort + AllocGlobal + Wait + Threads {}
+
+impl<R: Abort + AllocGlobal + Wait + Threads> Host for R {}
 
 pub(crate) const BOTH: Standing = Standing { a: true, b: true };
 
@@ -26,31 +28,58 @@ pub(crate) const NEVER: (u64, u64) = (u64::MAX, u64::MAX);
 /// The gap of each link in these tests, in microseconds.
 pub(crate) const GAP: u64 = 1_000;
 
+/// A link: its identifier, its networks, its greatest frame, the number of its sub-VLs, and their capacity.
+pub(crate) type LinkRow = (u16, &'static str, u16, u8, u16);
+
+/// A port: its identifier, its link, its sub-VL, its partition, and its greatest message.
+pub(crate) type PortRow = (u16, u16, u8, u8, u16);
+
+/// The links and the ports of end system 1.
+pub(crate) type Plan<'a> = (&'a [LinkRow], &'a [PortRow]);
+
 /// The demonstration configuration.
-pub(crate) const DEMO: &str = "end_system = { id = 1 }
-vl = [{ id = 1, bag_ms = 1, lmax = 1518, sub_vls = 1, capacity = 2 }]
-port = [
-    { id = 10, vl = 1, sub = 0, partition = 1, kind = 'queuing', source = 1000, destination = 2000, max = 8192 },
-]
-";
+pub(crate) const DEMO: Plan = (&[(1, "both", 1_518, 1, 2)], &[(10, 1, 0, 1, 8_192)]);
 
-/// End system 1 with one link of two sub-VLs, each with room for two messages. Port 20 is on sub-VL 0, and
-/// port 21 on sub-VL 1. A piece has at most 25 bytes.
-pub(crate) const TWO_SUB_VLS: &str = "end_system = { id = 1 }
-vl = [{ id = 1, bag_ms = 1, lmax = 64, sub_vls = 2, capacity = 2 }]
-port = [
-    { id = 20, vl = 1, sub = 0, partition = 1, kind = 'queuing', source = 1000, destination = 2000, max = 8192 },
-    { id = 21, vl = 1, sub = 1, partition = 1, kind = 'queuing', source = 1001, destination = 2000, max = 8192 },
-]
-";
+/// The same, with room for six messages.
+pub(crate) const SIX: Plan = (&[(1, "both", 1_518, 1, 6)], &[(10, 1, 0, 1, 8_192)]);
 
-/// One link with room for six messages, and one port.
-pub(crate) const SIX: &str = "end_system = { id = 1 }
-vl = [{ id = 1, bag_ms = 1, lmax = 1518, sub_vls = 1, capacity = 6 }]
-port = [
-    { id = 10, vl = 1, sub = 0, partition = 1, kind = 'queuing', source = 1000, destination = 2000, max = 8192 },
-]
-";
+/// One link of two sub-VLs with a port on each. A piece has at most 25 bytes.
+pub(crate) const TWO_SUB_VLS: Plan = (
+    &[(1, "both", 64, 2, 2)],
+    &[(20, 1, 0, 1, 8_192), (21, 1, 1, 1, 8_192)],
+);
+
+/// The text of a plan.
+fn plan_text(alloc: Global, (links, ports): Plan) -> Result<String, AllocError> {
+    let mut text = "version = 2\n[end_system]\nid = 1\n".to_string(alloc)?;
+    for &(id, networks, lmax, sub_vls, capacity) in links {
+        writeln!(
+            text,
+            "[[vl]]\nid = {id}\nnetworks = '{networks}'\nbag_ms = 1"
+        )?;
+        writeln!(
+            text,
+            "lmax = {lmax}\nsub_vls = {sub_vls}\ncapacity = {capacity}"
+        )?;
+    }
+    for &(id, vl, sub, partition, max) in ports {
+        writeln!(
+            text,
+            "[[port]]\nid = {id}\nvl = {vl}\nsub = {sub}\npartition = {partition}"
+        )?;
+        writeln!(
+            text,
+            "kind = 'queuing'\nsource = 100{sub}\ndestination = 2000\nmax = {max}"
+        )?;
+    }
+    Ok(text)
+}
+
+/// The configuration of a plan.
+pub(crate) fn config_of(rt: &impl Host, plan: Plan) -> Config {
+    let text = plan_text(rt.alloc(), plan).expect(rt, "memory");
+    read_config(rt.alloc(), text.as_bytes()).expect(rt, "a valid plan")
+}
 
 /// Asserts that two values are the same.
 pub(crate) fn assert_same<V: PartialEq + Debug + Copy>(rt: &impl Abort, told: V, wanted: V) {
@@ -61,16 +90,8 @@ pub(crate) fn assert_bytes(rt: &impl Abort, found: &[u8], bytes: &[u8]) {
     assert_eq!(rt; found, bytes);
 }
 
-/// Sends a message, which is accepted. The port stays one of its emitter.
-pub(crate) fn send_taken<R: Abort>(rt: &R, alloc: Global, port: &mut TxPort, bytes: &[u8])
-    ensures { (tx : Tx) → IsPortOfTx tx port.old → IsPortOfTx tx port.new }
-{
-    let refused = send(rt, alloc, port, bytes);
-    assert_same(rt, refused, None);
-}
-
 /// Asserts that a frame is of the poll at this place, of polls a gap apart, and has the place as its number.
-fn assert_entry(rt: &impl Abort, entry: &Handed, place: u8) {
+pub(crate) fn assert_entry(rt: &impl Abort, entry: &Handed, place: u8) {
     assert_same(rt, entry.at, GAP * u64::from(place));
     assert_same(rt, entry.frame.last().copied(), Some(place));
 }
@@ -85,13 +106,10 @@ pub(crate) fn assert_holds(rt: &impl Abort, network: &MemNetwork, (many, failure
     assert_same(rt, network.failures(), failures);
 }
 
-/// Takes back all ports of an emitter and starts draining.
-pub(crate) fn gather<R: Abort>(rt: &R, tx: Sending, ports: Vec<TxPort>) -> Drain
-    requires opened { AreOpenedWith tx ports.items }
-    ensures { IsGatheredTx tx ports.items result }
-{
-    match tx.gather(ports) {
-        Ok(draining) => draining,
-        Err(_) => panic!(rt; "each port is there"),
+/// The sequence number of the frame at a place of a link's stream: 0, 1 to 255, 1 and so on.
+pub(crate) fn number_at(place: u64) -> u8 {
+    match place.checked_sub(1) {
+        Some(before) => (before % 255 + 1) as u8,
+        None => 0,
     }
 }

@@ -1,10 +1,10 @@
-use Rattle.std.proofs.Common.{ℕ, Vec, Global, zero, suc, ◌≡◌, ◌∙◌, List, [], ◌∷◌, sym, subst, arith}
-use Rattle.std.specs.Prelude.{All, IfOk}
+use Rattle.std.proofs.Common.{ℕ, ◌≡◌, ◌∙◌, List, [], ◌∷◌, sym, subst}
+use Rattle.std.specs.Prelude.{IfOk}
 use Rattle.afdx_plan.specs.Config.{Plan}
 use Rattle.afdx_tx.specs.Closing.{ClosesTx, IsSubAt}
 use Rattle.afdx_tx.specs.Emitter.{Tx, queues_in, total_in}
 use Rattle.afdx_tx.specs.Gathering.{IsGatheredTx}
-use Rattle.afdx_tx.specs.Ports.{PortView, BelongsTo, IsPortOfTx}
+use Rattle.afdx_tx.specs.Ports.{PortView, BelongsTo}
 use Rattle.afdx_tx.proofs.ClosedTotals.{closes_total, total_whole}
 use Rattle.afdx_tests.specs.Closing.{HasAccepted}
 use Rattle.afdx_tests.proofs.headline_tests.close_poll_and_gather.Goals as goal
@@ -21,30 +21,19 @@ accepted_is old closed polled new ports vl sub total c plan polls totals g = rec
       (totals c.place sub ∙ closes_total old vl sub total closed c);
 }
 
--- an emitter of the same plan and queues has the same port, alone in a list
-alone : (old new : Tx) (port : PortView) → new.plan ≡ old.plan → queues_in new.links ≡ queues_in old.links
-    → IsPortOfTx old port → All (IsPortOfTx new) (port ∷ [])
-alone old new port plan queues own zero d lt =
-    subst (λ (p : Plan). BelongsTo p (queues_in new.links) port) (sym plan)
-    (subst (λ q. BelongsTo old.plan q port) (sym queues) own)
-alone old new port plan queues own (suc k) d lt = absurd (omega arith)
-
-pub gather-draining-requires : goal.gather-draining-requires
-gather-draining-requires g c =
+pub gather_one-requires : goal.gather_one-requires
+gather_one-requires g c =
     let tx = c.args.tx in
     let polled = c.poll_meanwhile.new.tx in
-    let own : IsPortOfTx tx c.send-2.new.port =
-    c.send-2.ensures tx (c.send.ensures tx c.requires) in
-    record {
-      opened = subst (λ (ports : List PortView). All (IsPortOfTx polled) ports) (sym (subst (λ r. IfOk r (λ (v : Vec PortView Global). v.items ≡ c.send-2.new.port ∷ [])) c.expect-ports.ensures c.from_array.ensures.items))
-          (alone tx polled c.send-2.new.port (c.poll_meanwhile.ensures.plan ∙ c.close.ensures.plan)
-          (c.poll_meanwhile.ensures.queues ∙ c.close.ensures.queues) own);
-    }
+    let port = c.send-2.new.port in
+    subst (λ (p : Plan). BelongsTo p (queues_in polled.links) port) (sym (c.poll_meanwhile.ensures.plan ∙ c.close.ensures.plan))
+    (subst (λ q. BelongsTo tx.plan q port) (sym (c.poll_meanwhile.ensures.queues ∙ c.close.ensures.queues))
+    (c.send-2.ensures tx (c.send.ensures tx c.requires)))
 
 pub returns : goal.returns
 returns g c =
     let tx = c.args.tx in
-    accepted_is tx c.close.new.self c.poll_meanwhile.new.tx c.gather-draining.result c.expect-ports.result.items 1 0
+    accepted_is tx c.close.new.self c.poll_meanwhile.new.tx c.gather_one.result (c.send-2.new.port ∷ []) 1 0
     c.expect-total.result
     (subst (λ r. IfOk r (λ (total : ℕ). ClosesTx tx 1 0 total c.close.new.self)) c.expect-total.ensures c.close.ensures.closed)
-    c.close.ensures.plan c.poll_meanwhile.ensures.plan c.poll_meanwhile.ensures.totals c.gather-draining.ensures
+    c.close.ensures.plan c.poll_meanwhile.ensures.plan c.poll_meanwhile.ensures.totals c.gather_one.ensures

@@ -1,4 +1,5 @@
-use Rattle.std.proofs.Common.{ℕ, ◌≡◌, ◌∙◌, List, [], ◌∷◌, ◌++◌, ap, sym, subst}
+use Rattle.std.proofs.Common.{ℕ, ◌≡◌, ◌<◌, ◌∙◌, List, [], ◌∷◌, ◌++◌, length, ap, sym, subst}
+use Rattle.std.proofs.lemmas.List.Elements.{All-contains, All-cons, All-nil}
 use Rattle.afdx_plan.specs.Config.{Plan}
 use Rattle.afdx_plan.specs.Demo.{demo_plan}
 use Rattle.redundant_mux.specs.Entry.{Entry}
@@ -8,9 +9,10 @@ use Rattle.afdx_legal.specs.Allowed.{AreAllowed, AreOwn}
 use Rattle.afdx_legal.specs.Done.{IsAllDone, IsHandedWhole}
 use Rattle.afdx_legal.specs.Own.{AreOwnStreams}
 use Rattle.afdx_tx.specs.Drain.{accepted_in}
-use Rattle.afdx_tx.specs.Emitter.{queues_in}
+use Rattle.afdx_tx.specs.Emitter.{Tx, queues_in}
+use Rattle.afdx_tx.specs.Gathering.{IsGatheredTx}
 use Rattle.afdx_tx.specs.Ports.{PortView, BelongsTo}
-use Rattle.afdx_tests.specs.Headline.{SentTwo, two_messages}
+use Rattle.afdx_tests.specs.Headline.{two_messages}
 use Rattle.afdx_tests.proofs.headline_tests.hand_whole.Goals as goal
 
 -- what both networks took in the end
@@ -31,9 +33,13 @@ whole plan accepted own lines a b demo at_a at_b legal allowed owned done stream
       done = done;
     })))
 
--- what a port has sent that was unused before
-two_own : (port back : PortView) → port.sender.own ≡ [] → SentTwo port back → back.sender.own ≡ two_messages
-two_own port back fresh is = is.own ∙ ap (λ own. (own ++ (1 ∷ []) ∷ []) ++ (2 ∷ []) ∷ []) fresh
+-- what was accepted of the one port, which has these own messages
+own_one : (tx draining : Tx) (port : PortView) (own : List (List ℕ)) → port.sender.own ≡ own → IsGatheredTx tx (port ∷ []) draining
+    → AreOwn draining.plan (accepted_in draining.links) (λ place. own)
+own_one tx draining port own is gathered place lt =
+    let part = gathered.own place (subst (λ (plan : Plan). place < length plan.ports) gathered.plan lt) in
+    let P : PortView → Type 0 = λ p. p.sender.own ≡ own in
+    part.accepted ∙ All-contains P (port ∷ []) part.port (All-cons P port [] is (All-nil P)) part.inside
 
 pub gather_one-draining-requires : goal.gather_one-draining-requires
 gather_one-draining-requires g c =
@@ -49,11 +55,12 @@ returns g c =
     let opened = c.open_demo-tx in
     let gathered = c.gather_one-draining.result in
     let drained = c.drain_whole.new.draining in
-    let plan = c.drain_whole.ensures.plan ∙ c.gather_one-draining.ensures.plan ∙ c.send_beside-back.ensures.plan ∙ opened.ensures.plan in
-    let own = two_own opened.result.1 c.send_beside-back.result opened.ensures.port.fresh c.send_beside-back.ensures.port in
+    let sent = c.send_beside-back in
+    let plan = c.drain_whole.ensures.plan ∙ c.gather_one-draining.ensures.plan ∙ sent.ensures.plan ∙ opened.ensures.plan in
+    let own = sent.ensures.port.own ∙ ap (λ own. (own ++ (1 ∷ []) ∷ []) ++ (2 ∷ []) ∷ []) opened.ensures.port.fresh in
     whole drained.plan (accepted_in drained.links) (λ place. two_messages) drained.lines _ _ plan c.into_networks.ensures.a
     c.into_networks.ensures.b c.into_networks.ensures.legal c.into_networks.ensures.allowed
     (subst (λ p. AreOwn p (accepted_in drained.links) (λ place. two_messages)) (sym c.drain_whole.ensures.plan)
     (subst (λ (xs : Accepted). AreOwn gathered.plan xs (λ place. two_messages)) (sym c.drain_whole.ensures.accepted)
-    (subst (λ ms. AreOwn gathered.plan (accepted_in gathered.links) (λ place. ms)) own c.gather_one-draining.ensures.own)))
+    (own_one sent.new.tx gathered sent.result two_messages own c.gather_one-draining.ensures)))
     c.drain_whole.ensures.done c.drain_whole.ensures.streams
