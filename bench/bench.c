@@ -1,12 +1,18 @@
-/* Compares the proved library with a transmitter written by hand (hand.c), in one process.
+/* Compares the proved library with a transmitter written by hand (hand.c).
 
-       bench [ROUNDS]
+       bench [ROUNDS [PARTS [OLD]]]
+       bench --row ROW
 
    Both send the same messages and make the same frames, which is checked first. Then each work is measured in turn, the
    library and the other, ROUNDS times each (11 by default), and one line is printed: the least nanoseconds of each, the
-   ratio of these, and the least, median and greatest ratio of a repetition. Below are the time of a call that only looks
-   into its handle, and that of one poll of 64 virtual links that are all due, as a distribution. The exit status is 0 if
-   the frames were equal. */
+   ratio of these, and the least, median and greatest ratio of a repetition. PARTS is a program in Rattle that times what a
+   call of the library hides ("alone"), and sends and polls without that call ("in Rattle"): crates/refusals/src/timing.rt.
+   The rows of lwIP compare the library's frames for two networks with lwIP's for one that only touches them. Below are the
+   time of a call that only looks into its handle, and that of one poll of 64 virtual links that are all due, as a
+   distribution. The exit status is 0 if the frames were equal.
+
+   OLD is this driver over another library. Then the two libraries are compared, each row in a process of its own
+   (--row prints the library's nanoseconds of a row), without PARTS and lwIP. */
 #define _GNU_SOURCE
 #include "afdx.h"
 #include "hand.h"
@@ -49,10 +55,13 @@ struct side {
     uint64_t now;
 };
 
-static const uint8_t message[GREATEST] = {1, 2, 3, 4, 5, 6, 7, 8, 9};
+/* The bytes of each message: byte i is 7 i + 3 modulo 256. */
+static uint8_t message[GREATEST];
+
+/* The text of the plan that was opened last. */
+static char text[64 * 1024];
 
 static void open_library(struct side *side, struct plan plan) {
-    static char text[64 * 1024];
     size_t end = (size_t)snprintf(text, sizeof text, "[end_system]\nid = 1\n");
     for (unsigned k = 0; k < plan.links; k++)
         end += (size_t)snprintf(text + end, sizeof text - end, "[[vl]]\nid = %u\nbag_ms = 1\nlmax = %u\nsub_vls = 1\ncapacity = %u\n",
@@ -118,16 +127,15 @@ static void check_frames(void) {
     static const size_t lengths[] = {1, 17, 18, 41, 100, 1471, 1472, 1480, 8192};
     static const unsigned lmaxes[] = {64, 200, 1518};
     static struct side sides[2];
-    uint8_t bytes[GREATEST];
-    for (size_t i = 0; i < sizeof bytes; i++) bytes[i] = (uint8_t)(i * 7 + 3);
     for (size_t m = 0; m < sizeof lmaxes / sizeof *lmaxes; m++) {
         open_both(sides, (struct plan){3, lmaxes[m], 16, 7, GREATEST});
         size_t frames = 0;
         for (unsigned k = 0; k < 600; k++) {
             for (unsigned p = 0; p < 7; p++) {
                 size_t length = lengths[(k + p) % (sizeof lengths / sizeof *lengths)];
-                want(send_bytes(&sides[0], p, bytes + k % 10, length - (length == GREATEST ? k % 10 : 0))
-                    == send_bytes(&sides[1], p, bytes + k % 10, length - (length == GREATEST ? k % 10 : 0)), "another answer to a send");
+                if (length == GREATEST) length -= k % 10;
+                int answer = send_bytes(&sides[0], p, message + k % 10, length);
+                want(send_bytes(&sides[1], p, message + k % 10, length) == answer, "another answer to a send");
             }
             for (unsigned j = 0; j < 7; j++) {
                 uint64_t at = 2100 * (uint64_t)k + 300 * j;
@@ -142,7 +150,57 @@ static void check_frames(void) {
     }
 }
 
-/* A work over a plan with messages of a length: `measured` returns the nanoseconds of one of its units. */
+/* The program of parts, if it is there, and its start over the plan that was opened last. */
+static const char *parts;
+
+static FILE *started(const char *part, size_t size, unsigned units) {
+    static char command[sizeof text + 1024];
+    int end = snprintf(command, sizeof command, "'%s' time %s %zu %u <<'END'\n%sEND\n", parts, part, size, units, text);
+    want(end > 0 && (size_t)end < sizeof command, "a long command");
+    return popen(command, "r");
+}
+
+/* The number that a program prints. */
+static double printed(FILE *program) {
+    double number = 0;
+    want(program && fscanf(program, "%lf", &number) == 1 && pclose(program) == 0, "a program doesn't answer");
+    return number;
+}
+
+/* Whether a line is the one of a frame at 0. */
+static bool is_line(const char *line, const uint8_t *frame, size_t length) {
+    if (strlen(line) != 5 + 2 * length) return false;
+    for (size_t i = 0; i < length; i++) {
+        unsigned byte;
+        if (sscanf(line + 4 + 2 * i, "%2x", &byte) != 1 || byte != frame[i]) return false;
+    }
+    return true;
+}
+
+/* That the program of parts makes the same frames of a message, those for network A first. */
+static void check_parts(void) {
+    static const size_t lengths[] = {1, 17, 100, 1471, 1472, 8192};
+    static struct side sides[2];
+    static char line[2 * HAND_FRAME + 8];
+    for (size_t m = 0; m < sizeof lengths / sizeof *lengths; m++) {
+        FILE *program = NULL;
+        for (unsigned net = 0; net < 2; net++) {
+            open_both(sides, (struct plan){1, 1518, 2, 1, GREATEST});
+            if (net == 0) program = started("bytes", lengths[m], 1);
+            send_bytes(&sides[1], 0, message, lengths[m]);
+            for (poll_due(&sides[1]); hand_frames(sides[1].hand, net) > 0; poll_due(&sides[1])) {
+                size_t length;
+                const uint8_t *frame = hand_frame(sides[1].hand, net, 0, &length);
+                want(program && fgets(line, sizeof line, program) && is_line(line, frame, length), "other frames alone");
+            }
+            close_both(sides);
+        }
+        want(!fgets(line, sizeof line, program) && pclose(program) == 0, "more frames alone");
+    }
+}
+
+/* A work over a plan with messages of a length: `measured` returns the nanoseconds of one of its units. A part is what the
+   program of parts measures in place of the library. */
 struct work {
     const char *name;
     struct plan plan;
@@ -150,13 +208,20 @@ struct work {
     unsigned threads;
     double (*measured)(struct side *, const struct work *);
     unsigned units;
+    const char *part;
 };
+
+/* How many frames a message takes on each network. */
+static unsigned pieces_of(const struct work *work) {
+    size_t room = work->plan.lmax - 39, left = work->length + 8;
+    unsigned pieces = 1;
+    for (; left > room; pieces++) left -= room & ~(size_t)7;
+    return pieces;
+}
 
 /* Messages through one port each, polled for at once. */
 static double send_and_poll(struct side *side, const struct work *work) {
-    unsigned pieces = 0, ports = work->plan.ports, links = work->plan.links;
-    size_t room = work->plan.lmax - 39, left = work->length + 8;
-    for (pieces = 1; left > room; pieces++) left -= room & ~(size_t)7;
+    unsigned pieces = pieces_of(work), ports = work->plan.ports, links = work->plan.links;
     double begun = now_ns();
     for (unsigned k = 0, port = 0; k < work->units; k += links) {
         for (unsigned l = 0; l < links; l++, port = port + 1 < ports ? port + 1 : 0) send_bytes(side, port, message, work->length);
@@ -195,7 +260,40 @@ static double none_due(struct side *side, const struct work *work) {
     return (now_ns() - begun) / work->units;
 }
 
-/* Threads that send through a port each to one queue, while this one polls. */
+/* By hand alone: the cutting of messages that are made before. */
+static double frames_alone(struct side *side, const struct work *work) {
+    enum { BATCH = 32 };
+    uint8_t *messages[BATCH];
+    double sum = 0;
+    for (unsigned k = 0; k < work->units; k += BATCH) {
+        for (unsigned j = 0; j < BATCH; j++) {
+            want((messages[j] = malloc(work->length)) != NULL, "no memory");
+            memcpy(messages[j], message, work->length);
+        }
+        double begun = now_ns();
+        want(hand_cut(side->hand, messages, BATCH, work->length) > 0, "no frames");
+        sum += now_ns() - begun;
+    }
+    return sum / work->units;
+}
+
+static double queue_alone(struct side *side, const struct work *work) {
+    double begun = now_ns();
+    hand_pass(side->hand, work->units);
+    return (now_ns() - begun) / work->units;
+}
+
+#ifdef WITH_LWIP
+static double by_lwip(struct side *side, const struct work *work) {
+    if (!side->hand) return send_and_poll(side, work);
+    unsigned pieces = pieces_of(work);
+    double begun = now_ns();
+    for (unsigned k = 0; k < work->units; k++) want(lwip_send(message, work->length) == pieces, "other frames of lwIP");
+    return (now_ns() - begun) / work->units;
+}
+#endif
+
+/* Threads that send through a port each to one queue, while this one polls, or only takes the messages. */
 struct sender {
     struct side *side;
     unsigned port, messages;
@@ -224,9 +322,9 @@ static double in_threads(struct side *side, const struct work *work) {
     }
     for (unsigned got = 0; got < each * work->threads;) {
         size_t count = 0;
-        poll_due(side);
+        if (!work->part) poll_due(side);
         if (side->hand) {
-            count = hand_frames(side->hand, 0);
+            count = work->part ? hand_take(side->hand) : hand_frames(side->hand, 0);
         } else {
             afdx_frames(&side->it, AFDX_A, &count);
         }
@@ -238,21 +336,42 @@ static double in_threads(struct side *side, const struct work *work) {
 }
 
 static const struct work WORKS[] = {
-    {"send and due poll, 1 byte", {1, 1518, 2, 1, GREATEST}, 1, 0, send_and_poll, 200000},
-    {"send and due poll, 100 bytes", {1, 1518, 2, 1, GREATEST}, 100, 0, send_and_poll, 200000},
-    {"send and due poll, 1,471 bytes", {1, 1518, 2, 1, GREATEST}, 1471, 0, send_and_poll, 100000},
-    {"send and 6 due polls, 8,192 bytes", {1, 1518, 2, 1, GREATEST}, 8192, 0, send_and_poll, 20000},
-    {"send of 1 byte", {1, 1518, 256, 1, GREATEST}, 1, 0, sends, 200000},
-    {"frame of 60 bytes, 64 links due", {64, 1518, 4, 64, GREATEST}, 1, 0, frames_due, 200000},
-    {"frame of 1,514 bytes, 64 links due", {64, 1518, 4, 64, GREATEST}, 1471, 0, frames_due, 50000},
-    {"poll of 64 links, none due", {64, 1518, 4, 64, GREATEST}, 1, 0, none_due, 200000},
-    {"message, 1 link, 1 port", {1, 1518, 4, 1, GREATEST}, 1, 0, send_and_poll, 200000},
-    {"message, 16 links, 64 ports", {16, 1518, 4, 64, GREATEST}, 1, 0, send_and_poll, 200000},
-    {"message, 64 links, 256 ports", {64, 1518, 4, 256, GREATEST}, 1, 0, send_and_poll, 200000},
-    {"message, 1 sender in a thread", {1, 1518, 256, 1, GREATEST}, 1, 1, in_threads, 100000},
-    {"message, 2 senders in threads", {1, 1518, 256, 2, GREATEST}, 1, 2, in_threads, 100000},
-    {"message, 4 senders in threads", {1, 1518, 256, 4, GREATEST}, 1, 4, in_threads, 100000},
-    {"message, 16 senders in threads", {1, 1518, 256, 16, GREATEST}, 1, 16, in_threads, 100000},
+    {"send and due poll, 1 byte", {1, 1518, 2, 1, GREATEST}, 1, 0, send_and_poll, 204800, NULL},
+    {"send and due poll, 100 bytes", {1, 1518, 2, 1, GREATEST}, 100, 0, send_and_poll, 204800, NULL},
+    {"send and due poll, 1,471 bytes", {1, 1518, 2, 1, GREATEST}, 1471, 0, send_and_poll, 102400, NULL},
+    {"send and 6 due polls, 8,192 bytes", {1, 1518, 2, 1, GREATEST}, 8192, 0, send_and_poll, 20480, NULL},
+    {"send of 1 byte", {1, 1518, 256, 1, GREATEST}, 1, 0, sends, 204800, NULL},
+    {"frame of 60 bytes, 64 links due", {64, 1518, 4, 64, GREATEST}, 1, 0, frames_due, 204800, NULL},
+    {"frame of 1,514 bytes, 64 links due", {64, 1518, 4, 64, GREATEST}, 1471, 0, frames_due, 51200, NULL},
+    {"poll of 64 links, none due", {64, 1518, 4, 64, GREATEST}, 1, 0, none_due, 204800, NULL},
+    {"message, 1 link, 1 port", {1, 1518, 4, 1, GREATEST}, 1, 0, send_and_poll, 204800, NULL},
+    {"message, 16 links, 64 ports", {16, 1518, 4, 64, GREATEST}, 1, 0, send_and_poll, 204800, NULL},
+    {"message, 64 links, 256 ports", {64, 1518, 4, 256, GREATEST}, 1, 0, send_and_poll, 204800, NULL},
+    {"message, 1 sender in a thread", {1, 1518, 256, 1, GREATEST}, 1, 1, in_threads, 102400, NULL},
+    {"message, 2 senders in threads", {1, 1518, 256, 2, GREATEST}, 1, 2, in_threads, 102400, NULL},
+    {"message, 4 senders in threads", {1, 1518, 256, 4, GREATEST}, 1, 4, in_threads, 102400, NULL},
+    {"message, 16 senders in threads", {1, 1518, 256, 16, GREATEST}, 1, 16, in_threads, 102400, NULL},
+    {"frames alone, 1 byte", {1, 1518, 2, 1, GREATEST}, 1, 0, frames_alone, 204800, "frames"},
+    {"frames alone, 17 bytes", {1, 1518, 2, 1, GREATEST}, 17, 0, frames_alone, 204800, "frames"},
+    {"frames alone, 100 bytes", {1, 1518, 2, 1, GREATEST}, 100, 0, frames_alone, 204800, "frames"},
+    {"frames alone, 1,471 bytes", {1, 1518, 2, 1, GREATEST}, 1471, 0, frames_alone, 102400, "frames"},
+    {"frames alone, 1,472 bytes", {1, 1518, 2, 1, GREATEST}, 1472, 0, frames_alone, 102400, "frames"},
+    {"frames alone, 8,192 bytes", {1, 1518, 2, 1, GREATEST}, 8192, 0, frames_alone, 20480, "frames"},
+    {"queue alone, one in, one out", {1, 1518, 256, 1, GREATEST}, 1, 0, queue_alone, 1024000, "queue"},
+    {"queue alone, 1 sender in a thread", {1, 1518, 256, 1, GREATEST}, 1, 1, in_threads, 102400, "threads"},
+    {"queue alone, 2 senders in threads", {1, 1518, 256, 2, GREATEST}, 1, 2, in_threads, 102400, "threads"},
+    {"queue alone, 4 senders in threads", {1, 1518, 256, 4, GREATEST}, 1, 4, in_threads, 102400, "threads"},
+    {"queue alone, 16 senders in threads", {1, 1518, 256, 16, GREATEST}, 1, 16, in_threads, 102400, "threads"},
+    {"in Rattle: send and due poll", {1, 1518, 2, 1, GREATEST}, 1, 0, send_and_poll, 204800, "poll"},
+    {"in Rattle: send of 1 byte", {1, 1518, 256, 1, GREATEST}, 1, 0, sends, 204800, "send"},
+    {"in Rattle: frame, 64 links due", {64, 1518, 4, 64, GREATEST}, 1, 0, frames_due, 204800, "due"},
+    {"in Rattle: poll, none due", {64, 1518, 4, 64, GREATEST}, 1, 0, none_due, 204800, "idle"},
+#ifdef WITH_LWIP
+    {"lwIP: 1 byte", {1, 1518, 2, 1, GREATEST}, 1, 0, by_lwip, 204800, NULL},
+    {"lwIP: 100 bytes", {1, 1518, 2, 1, GREATEST}, 100, 0, by_lwip, 204800, NULL},
+    {"lwIP: 1,471 bytes", {1, 1518, 2, 1, GREATEST}, 1471, 0, by_lwip, 102400, NULL},
+    {"lwIP: 8,192 bytes", {1, 1518, 2, 1, GREATEST}, 8192, 0, by_lwip, 20480, NULL},
+#endif
 };
 
 static int by_size(const void *a, const void *b) {
@@ -260,12 +379,26 @@ static int by_size(const void *a, const void *b) {
     return (x > y) - (x < y);
 }
 
-static void compare(const struct work *work, unsigned rounds) {
+/* The nanoseconds of a unit of a work by one of the two. */
+static double time_of(struct side *side, const struct work *work) {
+    if (side->hand || !work->part) return work->measured(side, work);
+    return printed(started(work->part, work->threads ? work->threads : work->length, work->units)) / work->units;
+}
+
+/* The same by a driver over a library. */
+static double time_by(const char *driver, const struct work *work) {
+    char command[1024];
+    snprintf(command, sizeof command, "'%s' --row %zu", driver, (size_t)(work - WORKS));
+    return printed(popen(command, "r"));
+}
+
+/* Compares the library and the other at a work, or two drivers. */
+static void compare(const struct work *work, unsigned rounds, const char *const drivers[2]) {
     double times[2][MOST_ROUNDS], ratios[MOST_ROUNDS];
     static struct side sides[2];
     open_both(sides, work->plan);
     for (unsigned k = 0; k < rounds; k++) {
-        for (int s = 0; s < 2; s++) times[s][k] = work->measured(&sides[s], work);
+        for (int s = 0; s < 2; s++) times[s][k] = drivers[1] ? time_by(drivers[s], work) : time_of(&sides[s], work);
         ratios[k] = times[0][k] / times[1][k];
     }
     close_both(sides);
@@ -315,12 +448,29 @@ static void distribution(unsigned polls) {
 }
 
 int main(int count, char **words) {
+    for (size_t i = 0; i < sizeof message; i++) message[i] = (uint8_t)(i * 7 + 3);
+    if (count == 3 && strcmp(words[1], "--row") == 0) {
+        static struct side sides[2];
+        const struct work *work = &WORKS[strtoul(words[2], NULL, 10)];
+        open_both(sides, work->plan);
+        return printf("%f\n", time_of(&sides[0], work)) < 0;
+    }
     unsigned rounds = count > 1 ? (unsigned)strtoul(words[1], NULL, 10) : 11;
+    const char *const drivers[2] = {words[0], count > 3 ? words[3] : NULL};
+    parts = count > 2 && *words[2] ? words[2] : NULL;
     want(rounds >= 1 && rounds <= MOST_ROUNDS, "1 to 101 rounds");
     check_frames();
-    printf("| %-34s | %9s | %9s | %5s | %5s | %5s | %5s |\n", "nanoseconds", "library", "by hand", "ratio", "least", "half", "most");
+    if (parts) check_parts();
+    printf("| %-34s | %9s | %9s | %5s | %5s | %5s | %5s |\n", "nanoseconds", drivers[1] ? "new" : "library",
+        drivers[1] ? "old" : "other", "ratio", "least", "half", "most");
     printf("|---|---|---|---|---|---|---|\n");
-    for (size_t k = 0; k < sizeof WORKS / sizeof *WORKS; k++) compare(&WORKS[k], rounds);
+    for (size_t k = 0; k < sizeof WORKS / sizeof *WORKS; k++)
+        if (!WORKS[k].part || parts) compare(&WORKS[k], rounds, drivers);
+    if (drivers[1]) return 0;
+    if (!parts) printf("\nThe parts are left out: their program isn't there.\n");
+#ifndef WITH_LWIP
+    printf("\nlwIP is left out: liblwip-dev isn't there.\n");
+#endif
     handle_alone(rounds);
     printf("\n| %-34s | %7s | %7s | %7s | %7s |\n|---|---|---|---|---|\n", "microseconds of a poll, 64 links due", "half", "99 %", "99.99 %", "most");
     distribution(rounds < 11 ? 1000 : 1000000);

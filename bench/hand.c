@@ -233,3 +233,50 @@ const uint8_t *hand_frame(const struct hand *it, unsigned network, size_t k, siz
     *length = it->out[network].lengths[k];
     return it->out[network].frames[k];
 }
+
+/* A network that reads a byte of each frame, at each place in turn, and keeps no frame. */
+struct touch {
+    uint64_t sum;
+    size_t place;
+};
+
+static void touch(struct touch *network, const uint8_t *frame, size_t length) {
+    if (network->place < length) {
+        network->sum += frame[network->place++];
+    } else {
+        network->place = 0;
+    }
+}
+
+uint64_t hand_cut(struct hand *it, uint8_t *const *messages, unsigned count, size_t length) {
+    struct touch a = {0, 0}, b = {0, 0};
+    struct link *link = &it->link[0];
+    uint8_t frame[HAND_FRAME];
+    link->total = 8 + length;
+    for (unsigned k = 0; k < count; k++) {
+        link->cut = (struct item){messages[k], length, 0};
+        link->number = 0;
+        for (link->sent = 0; link->sent < link->total; link->number++) {
+            size_t size = write_frame(it, link, frame);
+            touch(&a, frame, size);
+            frame[11] = 0x40;
+            touch(&b, frame, size);
+        }
+        free(messages[k]);
+    }
+    link->cut.bytes = NULL;
+    return a.sum + b.sum;
+}
+
+void hand_pass(struct hand *it, unsigned times) {
+    struct item item = {NULL, 1, 0};
+    for (unsigned k = 0; k < times; k++)
+        if (!push(&it->link[0].queue, item) || !pop(&it->link[0].queue, &item)) abort();
+}
+
+size_t hand_take(struct hand *it) {
+    struct item item;
+    if (!pop(&it->link[0].queue, &item)) return 0;
+    free(item.bytes);
+    return 1;
+}

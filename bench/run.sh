@@ -1,20 +1,43 @@
 #!/usr/bin/env bash
-# Compares the proved library with a transmitter written by hand in C, and prints one table (bench.c).
+# Compares the proved library with a transmitter written by hand in C, and with lwIP, and prints one table (bench.c).
 #
 #     bash bench/run.sh [ROUNDS | --few]
+#     bash bench/run.sh --against OLD.a [ROUNDS]
 #
-# It takes the library that `bash examples/c/build.sh` or the test command has built. With --few, as in the test command, it
-# measures each work once, which shows that the bench works and that both make the same frames; its last line counts.
+# It takes the library that `bash examples/c/build.sh` or the test command has built, and the program that `rt run` in
+# crates/refusals or the test command has. With --few, as in the test command, it measures each work once, which shows that
+# the bench works and that all make the same frames; its last line counts. With --against it compares the library with an
+# older one, in turn.
 set -eu
+old=
+if [ "${1-}" = --against ]; then
+    old=$(realpath "$2")
+    shift 2
+fi
 cd "$(dirname "$0")"
 kit=$(dirname "$(rt doc)")
 room=$(mktemp -d)
 trap 'rm -r "$room"' EXIT
-${CC:-cc} -O3 -std=gnu11 -Wall -Wextra -Werror -Wpedantic -Wconversion -I../crates/afdx bench.c hand.c \
-    ../crates/afdx/out/libafdx.a "$kit/c/liblibc_c.a" -lpthread -o "$room/bench"
-if [ "${1-}" = --few ]; then
-    "$room/bench" 1
+parts=../crates/refusals/out/refusals
+[ -x "$parts" ] || [ "${1-}" = --few ] || parts=
+lwip=()
+if [ -z "$old" ] && echo '#include <lwip/udp.h>' | ${CC:-cc} -I/usr/include/lwip -E - >"$room/out" 2>&1; then
+    lwip=(-DWITH_LWIP -isystem /usr/include/lwip lwip.c -llwip)
+fi
+
+# Builds the driver over a library.
+build() {
+    ${CC:-cc} -O3 -std=gnu11 -Wall -Wextra -Werror -Wpedantic -Wconversion -I../crates/afdx bench.c hand.c "$1" \
+        "$kit/c/liblibc_c.a" "${lwip[@]}" -lpthread -o "$2"
+}
+
+build ../crates/afdx/out/libafdx.a "$room/bench"
+if [ -n "$old" ]; then
+    build "$old" "$room/old"
+    "$room/bench" "${1-11}" "" "$room/old"
+elif [ "${1-}" = --few ]; then
+    "$room/bench" 1 "$parts"
     echo "1 passed, 0 failed"
 else
-    "$room/bench" "${1-11}"
+    "$room/bench" "${1-11}" "$parts"
 fi

@@ -1,5 +1,6 @@
 //! Calls of the library whose allocations fail: a case for each word. A call that fails prints its fault
-//! and is made a second time. Without a word all cases run.
+//! and is made a second time. Without a word all cases run. The word `time` times parts of the library
+//! instead.
 #![tactic(auto)]
 
 mod boards;
@@ -14,6 +15,7 @@ mod quiet;
 mod scripts;
 mod shelf;
 mod storms;
+mod timing;
 mod trouble;
 
 use std::process::ExitCode;
@@ -68,12 +70,18 @@ fn run_all<R: Threads + Wait + Sync>(rt: &R, alloc: Global, out: &mut Out<'_>) -
     Ok(())
 }
 
-/// Runs the case that the first word of the command line names, or all.
+/// Runs the case that the first word of the command line names, or all. After `time` the word names a part
+/// to be timed, and the two words after it are its load.
 fn run<T: Threads + Wait + Sync>(rt: &HostRuntime, threads: &T) -> Ended {
     let mut out = Out::new(rt);
     let mut words = std::env::args(rt).map_err(|_| Trouble::Unprepared)?;
     let _program = words.next();
     match words.next() {
+        Some(word) if word.as_str() == "time" => {
+            let part = words.next().ok_or(Trouble::NoCase)?;
+            let load = timing::load_of(words.next(), words.next()).ok_or(Trouble::NoCase)?;
+            timing::run(rt, threads, &mut out, part.as_str(), load)?
+        }
         Some(word) => run_case(threads, rt.alloc(), &mut out, word.as_str())?,
         None => run_all(threads, rt.alloc(), &mut out)?,
     }

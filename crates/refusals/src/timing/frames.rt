@@ -1,0 +1,135 @@
+//! Times the cutting of messages into frames for two networks.
+ghost use Rattle.std.specs.Prelude.{◌≡◌, []};
+ghost use Rattle.afdx_plan.specs.Plan.{SendsOver};
+ghost use Rattle.redundant_mux.specs.Logged.{entries_of};
+
+use super::{Load, message, now};
+use crate::trouble::*;
+use afdx_frame::{Cut, Frame, Net};
+use afdx_plan::{Config, LinkPlan, Networks};
+use redundant_mux::{HandFault, Mux, Network, Trail};
+use script_text::{FrameLog, write_streams};
+
+/// How many messages are made before they are timed.
+const BATCH: u32 = 32;
+
+/// The most frames of a message.
+const FRAMES: u8 = 6;
+
+/// A network that reads a byte of each frame, at each place in turn, and keeps no frame.
+#[derive(Drop)]
+struct Touch {
+    sum: u64,
+    place: usize,
+    trail: Trail,
+}
+
+impl Touch {
+    fn new() -> Touch
+        ensures { entries_of result.trail.logged ≡ [] }
+    {
+        Touch {
+            sum: 0,
+            place: 0,
+            trail: Trail::new(),
+        }
+    }
+}
+
+impl Network for Touch {
+    ghost handed = { λ t. entries_of t.trail.logged };
+
+    ghost failures = { λ _. 0 };
+
+    fn hand(&mut self, at: u64, frame: &[u8]) -> Result<(), HandFault> {
+        if self.place < frame.len() {
+            self.sum = self.sum.wrapping_add(u64::from(frame[self.place]));
+            self.place += 1;
+        } else {
+            self.place = 0;
+        }
+        // The contract ignores this value, so any `Networks` will do.
+        self.trail = Trail::with(&self.trail, &Networks::Both, &at, frame);
+        Ok(())
+    }
+}
+
+/// Sends each frame of a message to both networks.
+#[tactic(auto, using(afdx_frame::proofs::Twins::twin_same))]
+fn send_cut<N: Network + Drop>(
+    mux: &mut Mux<N, N>,
+    frame: &mut Frame,
+    link: &LinkPlan,
+    cut: &mut Cut,
+)
+    requires { SendsOver cut.old.port link.now }
+{
+    for number in 0..FRAMES {
+        if !cut.write_next(link, 1, number, Net::A, frame) {
+            return;
+        }
+        let _standing = mux.hand_lent(0, frame, Networks::Both);
+    }
+}
+
+/// Cuts messages of the first port of a configuration, and sends the frames to both networks.
+fn send_all<N: Network + Drop>(
+    mux: &mut Mux<N, N>,
+    frame: &mut Frame,
+    config: &Config,
+    messages: Vec<Vec<u8>>,
+) -> Ended {
+    if config.ports().is_empty() || config.links().is_empty() {
+        return Err(Trouble::Missing);
+    }
+    let (port, link) = (config.ports()[0], config.links()[0]);
+    if link.id != port.vl || port.sub >= link.sub_vls {
+        return Err(Trouble::Missing);
+    }
+    for message in messages {
+        if message.is_empty() || message.len() > 8_192 {
+            return Err(Trouble::Missing);
+        }
+        let mut cut = Cut::new(message, 0, &port);
+        send_cut(mux, frame, &link, &mut cut);
+    }
+    Ok(())
+}
+
+fn make_messages(alloc: Global, count: u32, size: usize) -> Result<Vec<Vec<u8>>, Trouble> {
+    let mut messages = Vec::new(alloc);
+    for _ in 0..count {
+        messages.push(message(alloc, size)?)?;
+    }
+    Ok(messages)
+}
+
+/// The nanoseconds of cutting messages of a size into the frames for both networks.
+pub fn time(rt: &HostRuntime, config: &Config, load: Load) -> Result<u64, Trouble> {
+    let mut mux = Mux::new(Touch::new(), Touch::new());
+    let mut frame = Frame::new();
+    let mut nanos = 0u64;
+    for _ in 0..load.units / BATCH {
+        let messages = make_messages(rt.alloc(), BATCH, load.size)?;
+        let begun = now(rt)?;
+        send_all(&mut mux, &mut frame, config, messages)?;
+        nanos = nanos.wrapping_add(now(rt)?.wrapping_sub(begun));
+    }
+    let (a, b) = mux.into_networks();
+    // What was read is used, so that no compiler leaves out the writes.
+    if a.sum == 0 || b.sum == 0 {
+        return Err(Trouble::Missing);
+    }
+    Ok(nanos)
+}
+
+/// Prints the frames of a message of a size.
+pub fn tell(alloc: Global, out: &mut Out<'_>, config: &Config, size: usize) -> Ended {
+    let mut mux = Mux::new(FrameLog::new(alloc), FrameLog::new(alloc));
+    let messages = make_messages(alloc, 1, size)?;
+    send_all(&mut mux, &mut Frame::new(), config, messages)?;
+    let (a, b) = mux.into_networks();
+    let is_printed = write_streams(out.writer(), &a, &b).is_ok();
+    out.note(is_printed);
+    Ok(())
+}
