@@ -4,10 +4,9 @@
 #     bash bench/run.sh [ROUNDS | --few]
 #     bash bench/run.sh --against OLD.a [ROUNDS]
 #
-# It takes the library that `bash examples/c/build.sh` or the test command has built, and the program that `rt run` in
-# crates/refusals or the test command has. With --few, as in the test command, it measures each work once, which shows that
-# the bench works and that all make the same frames; its last line counts. With --against it compares the library with an
-# older one, in turn.
+# It proves and builds the library and the program of crates/refusals where they are missing, as in a fresh clone. With
+# --few, as in the test command, it measures each work once, which shows that the bench works and that all make the same
+# frames; its last line counts. With --against it compares the library with an older one, in turn.
 set -eu
 old=
 if [ "${1-}" = --against ]; then
@@ -18,8 +17,10 @@ cd "$(dirname "$0")"
 kit=$(dirname "$(rt doc)")
 room=$(mktemp -d)
 trap 'rm -r "$room"' EXIT
+library=../crates/afdx/out/libafdx.a
 parts=../crates/refusals/out/refusals
-[ -x "$parts" ] || [ "${1-}" = --few ] || parts=
+[ -f "$library" ] || (cd ../crates/afdx && rt lib)
+[ -x "$parts" ] || [ -n "$old" ] || (cd ../crates/refusals && rt run >"$room/out")
 lwip=()
 if [ -z "$old" ] && echo '#include <lwip/udp.h>' | ${CC:-cc} -I/usr/include/lwip -E - >"$room/out" 2>&1; then
     lwip=(-DWITH_LWIP -isystem /usr/include/lwip lwip.c -llwip)
@@ -31,7 +32,7 @@ build() {
         "$kit/c/liblibc_c.a" "${lwip[@]}" -lpthread -o "$2"
 }
 
-build ../crates/afdx/out/libafdx.a "$room/bench"
+build "$library" "$room/bench"
 if [ -n "$old" ]; then
     build "$old" "$room/old"
     "$room/bench" "${1-11}" "" "$room/old"
