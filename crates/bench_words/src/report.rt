@@ -2,8 +2,8 @@
 ghost use Rattle.std.specs.Prelude.{◌≤◌, IfOk, IfSome};
 ghost use Rattle.bench_words.specs.Words.{IsInRange};
 
-use crate::words::{Words, file, given_path, not_decimal, path};
-use clap::{Arg, ArgAction, ArgMatches, Command, Error, value_parser};
+use crate::words::{Words, flag, given_path, not_decimal, over_config, path};
+use clap::{ArgMatches, Command, Error, value_parser};
 use plan_analysis::LATENESS_LIMIT;
 use script_text::number;
 use std::alloc::{AllocError, Global};
@@ -32,20 +32,13 @@ fn lateness_of(matches: &ArgMatches<'_>) -> Option<u64>
 }
 
 pub(crate) fn report_command<'a>(alloc: Global) -> Result<Command<'a>, AllocError> {
-    let lateness = Arg::new(alloc, "lateness")
-        .long("lateness")
-        .action(ArgAction::Set)
+    let about = "Prints the loads, the jitter and the longest waits of a configuration";
+    let report = over_config(alloc, "report", about)?;
+    let lateness = flag(alloc, "lateness")
         .value_name("micros")
         .value_parser(value_parser!(u64).range(0..1_000_001))
         .help("How late polls come at most, in microseconds: 0 if left out");
-    let html = Arg::new(alloc, "html")
-        .long("html")
-        .action(ArgAction::Set)
-        .value_name("file")
-        .help("Also writes the report as a page to a file");
-    Command::new(alloc, "report")
-        .about("Prints the loads, the jitter and the longest waits of a configuration")
-        .arg(file(alloc, "config").help("The file of the configuration"))?
-        .arg(lateness)?
-        .arg(html)
+    let report = report.arg(lateness)?;
+    let help = "Also writes the report as a page to a file";
+    report.arg(flag(alloc, "html").value_name("file").help(help))
 }

@@ -170,66 +170,78 @@ const VERSION: &str = "1.0.0";
 
 /// All command lines of the program.
 fn command<'a>(alloc: Global) -> Result<Command<'a>, AllocError> {
-    Command::new(alloc, "afdx_bench")
+    let program = Command::new(alloc, "afdx_bench")
         .version(VERSION)
         .about(
             "A transmitting AFDX end system. Without words it runs a script from standard input.",
         )
-        .disable_help_subcommand(true)
-        .subcommand(run_command(alloc)?)?
-        .subcommand(check_command(alloc)?)?
-        .subcommand(explain_command(alloc)?)?
-        .subcommand(report_command(alloc)?)?
-        .subcommand(storm_command(alloc)?)
+        .disable_help_subcommand(true);
+    let program = with(program, run_command(alloc))?;
+    let program = with(program, check_command(alloc))?;
+    let program = with(program, explain_command(alloc))?;
+    let program = with(program, report_command(alloc))?;
+    with(program, storm_command(alloc))
+}
+
+/// Adds a command, if it could be made.
+fn with<'a>(
+    program: Command<'a>,
+    made: Result<Command<'a>, AllocError>,
+) -> Result<Command<'a>, AllocError> {
+    program.subcommand(made?)
+}
+
+/// A command over the file of a configuration.
+pub(crate) fn over_config<'a>(
+    alloc: Global,
+    name: &'a str,
+    about: &'a str,
+) -> Result<Command<'a>, AllocError> {
+    Command::new(alloc, name).about(about).arg(file(alloc, "config").help(
+        "The file of the configuration",
+    ))
+}
+
+/// The word of a file.
+fn file<'a>(alloc: Global, id: &'a str) -> Arg<'a> {
+    Arg::new(alloc, id).required(true).action(ArgAction::Set)
+}
+
+/// A flag that a word follows.
+pub(crate) fn flag<'a>(alloc: Global, name: &'a str) -> Arg<'a> {
+    Arg::new(alloc, name).long(name).action(ArgAction::Set)
 }
 
 fn run_command<'a>(alloc: Global) -> Result<Command<'a>, AllocError> {
-    let capture = Arg::new(alloc, "capture")
-        .long("capture")
-        .action(ArgAction::Set)
-        .value_name("file")
-        .help("Also writes the frames of both networks to a file in the pcapng format");
-    Command::new(alloc, "run")
-        .about("Runs a script over a configuration and prints the frames of both networks")
-        .arg(file(alloc, "config").help("The file of the configuration"))?
-        .arg(file(alloc, "script").help("The file of the script"))?
-        .arg(capture)
+    let about = "Runs a script over a configuration and prints the frames of both networks";
+    let help = "Also writes the frames of both networks to a file in the pcapng format";
+    let run = over_config(alloc, "run", about)?;
+    let run = run.arg(file(alloc, "script").help("The file of the script"))?;
+    run.arg(flag(alloc, "capture").value_name("file").help(help))
 }
 
 fn check_command<'a>(alloc: Global) -> Result<Command<'a>, AllocError> {
-    Command::new(alloc, "check")
-        .about("Prints the plan and the jitter of a configuration; `explain` locates its faults")
-        .arg(file(alloc, "config").help("The file of the configuration"))
+    let about = "Prints the plan and the jitter of a configuration; `explain` locates its faults";
+    over_config(alloc, "check", about)
 }
 
 fn explain_command<'a>(alloc: Global) -> Result<Command<'a>, AllocError> {
-    Command::new(alloc, "explain")
-        .about(
-            "Prints all faults of a configuration, each with its place and what is allowed there",
-        )
-        .arg(file(alloc, "config").help("The file of the configuration"))
+    let about =
+        "Prints all faults of a configuration, each with its place and what is allowed there";
+    over_config(alloc, "explain", about)
 }
 
 fn storm_command<'a>(alloc: Global) -> Result<Command<'a>, AllocError> {
-    let messages = Arg::new(alloc, "messages")
-        .long("messages")
+    let about = "Has all ports of a configuration send at once, and prints what came of it";
+    let storm = over_config(alloc, "storm", about)?;
+    let messages = flag(alloc, "messages")
         .required(true)
-        .action(ArgAction::Set)
         .value_parser(value_parser!(u32).range(1..65536))
         .help("How many messages each port sends");
-    let turns = Arg::new(alloc, "turns")
-        .long("turns")
+    let storm = storm.arg(messages)?;
+    let turns = flag(alloc, "turns")
         .required(true)
-        .action(ArgAction::Set)
         .value_parser(value_parser!(u64).range(1..1_000_000_001))
         .help("How often each thread may try");
-    Command::new(alloc, "storm")
-        .about("Has all ports of a configuration send at once, and prints what came of it")
-        .arg(file(alloc, "config").help("The file of the configuration"))?
-        .arg(messages)?
-        .arg(turns)
-}
-
-pub(crate) fn file<'a>(alloc: Global, id: &'a str) -> Arg<'a> {
-    Arg::new(alloc, id).required(true).action(ArgAction::Set)
+    storm.arg(turns)
 }
