@@ -6,6 +6,7 @@ use Rattle.subvl_queue.specs.declared.refused.Why.{Why}
 use Rattle.afdx_tx.specs.declared.fault.Refusal.{Refusal}
 use Rattle.afdx_tx.specs.declared.fault.Refusal.TheVariants.{Empty, TooLong, Closed, Exhausted, Full}
 use Rattle.subvl_queue.specs.declared.refused.Why.TheVariants as Queue
+use Rattle.std.proofs.Common.{Result, Ok, Err, IfOk, IsOkAnd}
 
 -- an accepted send requests one slot
 pub asks_accepted : (old new : PortView) (bytes : List ℕ) → Accepts old bytes new → new.sender.asks ≡ old.sender.asks + 1
@@ -50,3 +51,8 @@ asks_push f ports ws port w count all le =
     (subst (λ (l : List ℕ). AreAtMost (map asked_by ports ++ asked_by port ∷ []) l) (sym (map-append f ws (w ∷ [])))
     (at_most_push (map asked_by ports) (map f ws) (asked_by port) (f w)
     (length-map ports asked_by ∙ count ∙ sym (length-map ws f)) all le))
+
+-- what follows where a result is known to be `Ok`, and something holds if it is
+pub at_ok : {A E : Type 0} (r : Result A E) (P Q : A → Type 0) (C : Type 0) → ((x : A) → P x → Q x → C) → IfOk r P → IsOkAnd r Q → C
+at_ok (Ok x) P Q C both p q = both x p q
+at_ok (Err e) P Q C both p q = absurd q

@@ -4,7 +4,10 @@ use Rattle.status_board.specs.Views.{Watched, links_of}
 use Rattle.afdx_tx.specs.Emitter.{Tx}
 use Rattle.afdx_tx.specs.Ports.{PortView, AreFreshPorts, AreOpenedWith}
 use Rattle.storm.specs.declared.polling.TheConstants.{STEP}
-use Rattle.storm.specs.Boards.{cells_of, cells_read, IsShown}
+use Rattle.storm.specs.declared.run.Joined.{Joined}
+use Rattle.storm.specs.declared.run.Opened.{Opened}
+use Rattle.storm.specs.declared.worker.Load.{Load}
+use Rattle.storm.specs.Boards.{cells_of, cells_read, IsShown, ReadsEach}
 use Rattle.storm.specs.Workers.{AreSpent}
 
 -- an emitter before its first poll, with its fresh ports and its monitor
@@ -24,3 +27,9 @@ pub record IsJoined (n turns : ℕ) (tx : Tx) (ports : List PortView) (monitor :
   pub shown : IsShown tx
   pub cells : cells_of tx.board ≡ cells_read monitor
   pub none_back : back ≡ false
+
+-- what the threads leave of an emitter, its ports and its monitor, once all are joined
+pub record IsRunOf (opened : Opened) (load : Load) (joined : Joined) : Type 0 where
+  pub plan : joined.tx.plan ≡ opened.tx.plan
+  pub ended : IsJoined load.messages load.turns joined.tx joined.ports.items joined.monitor joined.polls joined.back
+  pub watched : ReadsEach opened.monitor joined.monitor load.messages

@@ -1,7 +1,6 @@
 //! The threads of a storm, from the first start to the last join.
-ghost use Rattle.std.specs.Prelude.{◌≡◌, ◌≤◌, IfOk};
-ghost use Rattle.storm.specs.Threads.{IsReady, IsJoined};
-ghost use Rattle.storm.specs.Boards.{ReadsEach};
+ghost use Rattle.std.specs.Prelude.{◌≤◌, IfOk};
+ghost use Rattle.storm.specs.Threads.{IsReady, IsRunOf};
 
 use crate::fault::Stop;
 use crate::gate::Gate;
@@ -54,11 +53,7 @@ fn run_in_scope<'s, E: 's, G: Gate + Sync, R: Threads + Wait + Sync>(
 ) -> Result<Joined, Stop>
     requires ready { IsReady opened.tx opened.ports.items opened.monitor }
     requires turns { load.turns ≤ 1000000000 }
-    ensures plan { IfOk result (λ joined. joined.tx.plan ≡ opened.tx.plan) }
-    ensures joined { IfOk result (λ joined. IsJoined load.messages load.turns
-        joined.tx joined.ports.items joined.monitor joined.polls joined.back) }
-    ensures watched { IfOk result (λ joined.
-        ReadsEach opened.monitor joined.monitor load.messages) }
+    ensures { IfOk result (IsRunOf opened load) }
 {
     let Opened {
         mut tx,
@@ -70,16 +65,19 @@ fn run_in_scope<'s, E: 's, G: Gate + Sync, R: Threads + Wait + Sync>(
     let started = start_workers(scope, alloc, ports, load, gate, running);
     // If not all were started, polling lets those that were come to their end.
     let polls = poll_while(rt, &mut tx, gate, running, load.turns);
-    let ended = join_workers(rt, alloc, started?);
+    let ended = join_workers(rt, alloc, started);
     let (monitor, back) = watching.join(rt);
-    let polls = polls.ok_or(Stop::Memory)?;
-    Ok(Joined {
-        tx,
-        ports: ended?,
-        monitor,
-        polls,
-        back,
-    })
+    match (polls, ended) {
+        (None, _) => Err(Stop::Memory),
+        (_, Err(stop)) => Err(stop),
+        (Some(polls), Ok(ports)) => Ok(Joined {
+            tx,
+            ports,
+            monitor,
+            polls,
+            back,
+        }),
+    }
 }
 
 /// Sends from all ports at once, each in a thread of its own, while this thread polls and another one
@@ -93,11 +91,7 @@ pub(crate) fn run_threads<G: Gate + Sync, R: Threads + Wait + Sync>(
 ) -> Result<Joined, Stop>
     requires ready { IsReady opened.tx opened.ports.items opened.monitor }
     requires turns { load.turns ≤ 1000000000 }
-    ensures plan { IfOk result (λ joined. joined.tx.plan ≡ opened.tx.plan) }
-    ensures joined { IfOk result (λ joined. IsJoined load.messages load.turns
-        joined.tx joined.ports.items joined.monitor joined.polls joined.back) }
-    ensures watched { IfOk result (λ joined.
-        ReadsEach opened.monitor joined.monitor load.messages) }
+    ensures { IfOk result (IsRunOf opened load) }
 {
     let counter = AtomicU64::new(0);
     let running = &counter;
@@ -107,11 +101,7 @@ pub(crate) fn run_threads<G: Gate + Sync, R: Threads + Wait + Sync>(
         move |scope| -> Result<Joined, Stop>
             requires ready { IsReady opened.tx opened.ports.items opened.monitor }
             requires turns { load.turns ≤ 1000000000 }
-            ensures plan { IfOk result (λ joined. joined.tx.plan ≡ opened.tx.plan) }
-            ensures joined { IfOk result (λ joined. IsJoined load.messages load.turns
-                joined.tx joined.ports.items joined.monitor joined.polls joined.back) }
-            ensures watched { IfOk result (λ joined.
-                ReadsEach opened.monitor joined.monitor load.messages) }
+            ensures { IfOk result (IsRunOf opened load) }
         { run_in_scope(scope, rt, alloc, opened, load, gate, running) },
     )
 }

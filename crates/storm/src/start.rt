@@ -1,5 +1,5 @@
 //! Workers in threads of their own, each started with the promise of its port's own list.
-ghost use Rattle.std.specs.Prelude.{◌≡◌, ◌↔◌, ◌⊎◌, ◌≤◌, OnOk, IfOk, map};
+ghost use Rattle.std.specs.Prelude.{◌≡◌, ◌↔◌, ◌⊎◌, ◌≤◌, OnOk, IfOk, IsOkAnd, map};
 ghost use Rattle.storm.specs.Workers.{named, sent_all, asked_by, asked_after, AreAtMost};
 
 use crate::fault::Stop;
@@ -103,17 +103,18 @@ pub(crate) fn start_workers<'s, E: 's, G: Gate + Sync>(
     Ok(workers)
 }
 
-/// Joins the workers. Returns their ports, in order, if all succeeded.
+/// Joins the workers, if all were started. Returns their ports, in order, if all succeeded.
 pub(crate) fn join_workers<R: Threads>(
     rt: &R,
     alloc: Global,
-    workers: Vec<Worker>,
+    started: Result<Vec<Worker>, Stop>,
 ) -> Result<Vec<TxPort>, Stop>
-    ensures sent { IfOk result (λ ports. map named ports.items
-        ≡ map (λ w. sent_all w.promise.messages w.promise.before.value) workers.items) }
-    ensures asks { IfOk result (λ ports. AreAtMost (map asked_by ports.items)
-        (map (λ w. asked_after w.promise.turns w.promise.before.value) workers.items)) }
+    ensures sent { IfOk result (λ ports. IsOkAnd started (λ workers. map named ports.items
+        ≡ map (λ w. sent_all w.promise.messages w.promise.before.value) workers.items)) }
+    ensures asks { IfOk result (λ ports. IsOkAnd started (λ workers. AreAtMost (map asked_by ports.items)
+        (map (λ w. asked_after w.promise.turns w.promise.before.value) workers.items))) }
 {
+    let workers = started?;
     let mut ports = Vec::with_capacity(alloc, workers.len())?;
     let mut worst = None;
     for worker in workers {

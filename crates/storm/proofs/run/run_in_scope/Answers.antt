@@ -1,20 +1,31 @@
-use Rattle.storm.proofs.Names.{rules, ◌≡◌, ◌∙◌, map, sym, subst, Tx, named, sent_all, asked_by, AreAtMost, AreSpent}
+use Rattle.std.proofs.lemmas.Result.{IfOk-at_ok}
+use Rattle.storm.proofs.Names.{rules, ◌≡◌, ◌∙◌, map, subst, named, sent_all, asked_by, asked_after, AreAtMost}
+use Rattle.storm.proofs.Asks.{at_ok}
 use Rattle.storm.proofs.Spent.{spent}
 use Rattle.storm.proofs.run.run_in_scope.Goals as goal
 
-pub returns-clause-joined : goal.returns-clause-joined
-returns-clause-joined g c =
+pub returns-in-Some-Ok : goal.returns-in-Some-Ok
+returns-in-Some-Ok g c =
     let opened = c.args.opened in
     let n = c.args.load.messages in
-    let same : map named c.in_ok-ended.field-0.items ≡ map (sent_all n) opened.ports.items = c.in_ok-ended.ensures.sent ∙ c.in_ok-started.ensures.sent in
-    let most = subst (AreAtMost (map asked_by c.in_ok-ended.field-0.items)) c.in_ok-started.ensures.asks c.in_ok-ended.ensures.asks in
+    let ports = c.in-Some-Ok.ports.items in
+    let started = c.start_workers-started in
+    let joined = c.join_workers-ended.ensures in
+    let same = at_ok started.result _ _ (map named ports ≡ map (sent_all n) opened.ports.items)
+    (λ workers before after. after ∙ before) started.ensures.sent (IfOk-at_ok _ c.in-Some-Ok.is-1 joined.sent) in
+    let most = at_ok started.result _ _ (AreAtMost (map asked_by ports) (map (asked_after c.args.load.turns) opened.ports.items))
+    (λ workers before after. subst (AreAtMost (map asked_by ports)) before after) started.ensures.asks
+    (IfOk-at_ok _ c.in-Some-Ok.is-1 joined.asks) in
     record {
-      spent = subst (λ (tx : Tx). AreSpent tx n c.args.load.turns c.in_ok-ended.field-0.items) (sym c.tx-2.view_is)
-          (spent opened.tx c.poll_while-polls.new.tx n c.args.load.turns opened.ports.items c.in_ok-ended.field-0.items
-          c.poll_while-polls.ensures.plan c.poll_while-polls.ensures.queues c.requires.ready.fresh c.requires.ready.opened same most);
-      within = search rules;
-      moment = search rules;
-      shown = search rules;
-      cells = search rules;
-      none_back = search rules;
+      plan = search rules;
+      ended = record {
+        spent = spent opened.tx c.poll_while-polls.new.tx n c.args.load.turns opened.ports.items ports
+            c.poll_while-polls.ensures.plan c.poll_while-polls.ensures.queues c.requires.ready.fresh c.requires.ready.opened same most;
+        within = search rules;
+        moment = search rules;
+        shown = search rules;
+        cells = search rules;
+        none_back = search rules;
+      };
+      watched = search rules;
     }
