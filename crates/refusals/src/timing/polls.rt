@@ -113,16 +113,26 @@ fn none_due(rt: &HostRuntime, bench: &mut Bench, units: u32, bytes: &[u8]) -> Re
     Ok(now(rt)?.wrapping_sub(begun))
 }
 
-/// The nanoseconds of a part.
+/// The nanoseconds of a part, with messages of these bytes.
+fn time_part(
+    rt: &HostRuntime,
+    bench: &mut Bench,
+    part: &str,
+    units: u32,
+    bytes: &[u8],
+) -> Result<u64, Trouble> {
+    match part {
+        "send" => Ok(in_batches(rt, bench, units, bytes)?.0),
+        "due" => Ok(in_batches(rt, bench, units, bytes)?.1),
+        "poll" => in_turn(rt, bench, units, bytes),
+        "idle" => none_due(rt, bench, units, bytes),
+        _ => Err(Trouble::NoCase),
+    }
+}
+
+/// The nanoseconds of a part over an end system of a configuration.
 pub fn time(rt: &HostRuntime, config: Config, part: &str, load: Load) -> Result<u64, Trouble> {
     let message = message(rt.alloc(), load.size)?;
     let mut bench = open(rt.alloc(), config)?;
-    let (bytes, units) = (message.as_slice(), load.units);
-    match part {
-        "send" => Ok(in_batches(rt, &mut bench, units, bytes)?.0),
-        "due" => Ok(in_batches(rt, &mut bench, units, bytes)?.1),
-        "poll" => in_turn(rt, &mut bench, units, bytes),
-        "idle" => none_due(rt, &mut bench, units, bytes),
-        _ => Err(Trouble::NoCase),
-    }
+    time_part(rt, &mut bench, part, load.units, message.as_slice())
 }
