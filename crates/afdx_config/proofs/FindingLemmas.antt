@@ -1,7 +1,6 @@
 -- Searching in a mapped list.
-use Rattle.afdx_config.proofs.Names.{◌≡◌, ℕ, ◌+◌, List, [], ◌∷◌, ◌++◌, Bool, true, false, ◌||◌, cond, Option, Some}
-use Rattle.afdx_config.proofs.Names.{None, refl, ap, sym, ◌∙◌, map, find, option_map, arith, position, position_from}
-use Rattle.afdx_config.proofs.Names.{list_any, flat_map, position_from-zero}
+use Rattle.afdx_config.proofs.Names.{◌≡◌, List, [], ◌∷◌, Bool, true, false, cond, Some}
+use Rattle.afdx_config.proofs.Names.{refl, map, find, option_map}
 
 -- `find` after `map`
 pub find_map : {A B : Type 0} (p : B → Bool) (f : A → B) (xs : List A)

@@ -1,75 +1,178 @@
--- The first finding has the fault of the least number.
-use Rattle.afdx_config.proofs.Names.{◌≡◌, ℕ, ◌+◌, ◌<◌, ◌≤◌, List, [], ◌∷◌, ◌++◌, Bool, true, false, ◌||◌, ◌&&◌, refl}
-use Rattle.afdx_config.proofs.Names.{ap, sym, subst, ◌∙◌, arith, lit≤, ◌==◌, eq-eqb, and_parts, eqb-true, list_any}
-use Rattle.afdx_config.proofs.Names.{flat_map, list_any-append, Members, fault_number, ConfigFault, Toml, shows, Reads, Finding}
-use Rattle.afdx_config.proofs.Names.{findings, findings_of, shown_faults, has, FirstIsAnswered}
-use Rattle.afdx_config.proofs.ShownLemmas.{of_shown, faults_are_found, no_toml}
-use Rattle.afdx_config.proofs.TextLemmas.{hasnt, has as of_text}
+-- The first finding has the fault of the least number, and so has the text.
+use Rattle.afdx_config.proofs.Names.{◌≡◌, ◌≢◌, ℕ, ◌+◌, ◌<◌, ◌≤◌, List, [], ◌∷◌, ◌++◌, length, Bool, true, false, ◌||◌}
+use Rattle.afdx_config.proofs.Names.{◌&&◌, cond, Option, Some, None, refl, ap, sym, subst, ◌∙◌, arith, lit≤, ◌==◌}
+use Rattle.afdx_config.proofs.Names.{eq-eqb, and_parts, eqb-true, list_any, flat_map, find, take, get_or, inl, inr}
+use Rattle.afdx_config.proofs.Names.{cases_lt, AllByRecursion, same_Some, Result, Ok, Err, IfOk, IfErr, Members}
+use Rattle.afdx_config.proofs.Names.{fault_number, plan_shows, plan_faults, ConfigFault, Toml, Memory, MissingKey, UnknownKey}
+use Rattle.afdx_config.proofs.Names.{WrongKind, OutOfRange, BadBag, nat_lt, ltb-true}
+use Rattle.afdx_config.proofs.Names.{Plan, plan_of, shows, Reads, HasFault, IsLeastFault, IsPlanOf, Finding}
+use Rattle.afdx_config.proofs.Names.{findings_of, value_findings, shown_faults, first_fault, has, FirstIsAnswered}
+use Rattle.afdx_config.proofs.ShownLemmas.{of_shown, no_toml, no_memory, is_value, values_in}
+
+-- the number of a fault determines it
+fault_at : (f : ConfigFault) → get_or (Memory ∷ Toml ∷ shown_faults) (fault_number f) Memory ≡ f
+fault_at Toml = refl
+fault_at _ = refl
+
+number_same : (f g : ConfigFault) → fault_number f ≡ fault_number g → f ≡ g
+number_same f g is = sym (fault_at f) ∙ ap (λ n. get_or (Memory ∷ Toml ∷ shown_faults) n Memory) is ∙ fault_at g
 
 -- faults of the numbers from n on
 abbrev IsFrom : ℕ → List ConfigFault → Type 0
 IsFrom n [] = Unit {0}
 IsFrom n (g ∷ gs) = (fault_number g ≡ n) × IsFrom (n + 1) gs
 
--- a smaller number is not equal
-others : (a b : ℕ) → a < b → (a == b) ≡ false
-others a b below = here (a == b) refl
+from_2 : IsFrom 2 shown_faults
+from_2 = (refl, (refl, (refl, (refl, (refl, (refl, (refl, (refl, (refl, (refl, (refl, (refl, (refl, tt)))))))))))))
+
+-- the number of the fault that was found, or that after the last one
+abbrev stop : ℕ → Option ConfigFault → ℕ
+stop end None = end
+stop end (Some e) = fault_number e
+
+-- no fault before it passes
+before : (p : ConfigFault → Bool) (end : ℕ) (h : ConfigFault) (gs : List ConfigFault) (n : ℕ) → IsFrom n gs → end ≡ n + length gs
+    → n ≤ fault_number h → fault_number h < stop end (find p gs) → p h ≡ false
+before p end h [] n from is low high = absurd (omega arith)
+before p end h (g ∷ gs) n from is low high = here (p g) refl high (before p end h gs (n + 1) from.1 (omega arith))
   where
-    here : (c : Bool) → (a == b) ≡ c → c ≡ false
-    here false is = refl
-    here true is = let same : a ≡ b = eqb-true a b is in absurd (omega arith)
+    here : (b : Bool) → p g ≡ b → fault_number h < stop end (cond b (Some g) (find p gs))
+        → (n + 1 ≤ fault_number h → fault_number h < stop end (find p gs) → p h ≡ false) → p h ≡ false
+    here true at_g high rest = let number = from.0 in absurd (omega arith)
+    here false at_g high rest = elim (cases_lt n (fault_number h)) [
+      | inl above ↦ rest (omega arith) high
+      | inr below ↦ let number = from.0 in ap p (number_same h g (omega arith)) ∙ at_g
+    ]
 
--- no finding has a fault of a smaller number
-low : (h : ConfigFault) (doc : Members) (n : ℕ) (gs : List ConfigFault) → IsFrom n gs → fault_number h < n
-    → list_any (has h) (flat_map (λ g. findings_of g doc) gs) ≡ false
-low h doc n [] from below = refl
-low h doc n (g ∷ gs) from below =
-    let under : fault_number h < fault_number g = rw from.0 below in
-    list_any-append (has h) (findings_of g doc) (flat_map (λ x. findings_of x doc) gs)
-    ∙ rw (of_shown h g doc, others (fault_number h) (fault_number g) under, low h doc (n + 1) gs from.1 (omega arith)) refl
-
--- no finding has a fault of a smaller number than the first finding
-first : (h : ConfigFault) (doc : Members) (x : Finding) (rest : List Finding) (n : ℕ) (gs : List ConfigFault) → IsFrom n gs
-    → flat_map (λ g. findings_of g doc) gs ≡ x ∷ rest → fault_number h < fault_number x.fault
-    → list_any (has h) (flat_map (λ g. findings_of g doc) gs) ≡ false
-first h doc x rest n [] from is below = refl
-first h doc x rest n (g ∷ gs) from is below = here (findings_of g doc) refl (first h doc x rest (n + 1) gs from.1)
+-- what is found passes
+passes : (p : ConfigFault → Bool) (gs : List ConfigFault) (e : ConfigFault) → find p gs ≡ Some e → p e ≡ true
+passes p [] e is = cc
+passes p (g ∷ gs) e is = here (p g) refl is (passes p gs e)
   where
-    here : (of_g : List Finding) → findings_of g doc ≡ of_g
-        → (flat_map (λ y. findings_of y doc) gs ≡ x ∷ rest → fault_number h < fault_number x.fault
-        → list_any (has h) (flat_map (λ y. findings_of y doc) gs) ≡ false)
-        → list_any (has h) (findings_of g doc ++ flat_map (λ y. findings_of y doc) gs) ≡ false
-    here [] none more = rw none (more (rw none at is) below)
-    here (y ∷ ys) some more =
-        let it : y ∷ (ys ++ flat_map (λ z. findings_of z doc) gs) ≡ x ∷ rest = rw some at is in
-        let same : y ≡ x = cc in
-        let there : list_any (has x.fault) (findings_of g doc) ≡ true =
-        rw (some, same, eq-eqb (fault_number x.fault) (fault_number x.fault) refl) refl in
-        let number : fault_number x.fault ≡ fault_number g =
-        eqb-true (fault_number x.fault) (fault_number g)
-        (and_parts (fault_number x.fault == fault_number g) (shows g doc) (sym (of_shown x.fault g doc) ∙ there)).0 in
-        let start : fault_number g ≡ n = from.0 in
-        low h doc n (g ∷ gs) from (omega arith)
+    here : (b : Bool) → p g ≡ b → cond b (Some g) (find p gs) ≡ Some e → (find p gs ≡ Some e → p e ≡ true) → p e ≡ true
+    here true at_g is rest = rw (← same_Some g e is) at_g
+    here false at_g is rest = rest is
 
--- a fault of a document is not `Toml`
-two : (e : ConfigFault) (doc : Members) → shows e doc ≡ true → 2 ≤ fault_number e
-two Toml doc shown = let none = no_toml doc in cc
-two _ doc shown = lit≤ tt
+-- the fault of the first finding
+abbrev fault_of : List Finding → Option ConfigFault
+fault_of [] = None
+fault_of (x ∷ xs) = Some x.fault
+
+first_of : (doc : Members) (gs : List ConfigFault) → fault_of (flat_map (λ g. findings_of g doc) gs) ≡ find (λ g. shows g doc) gs
+first_of doc [] = refl
+first_of doc (g ∷ gs) = here (findings_of g doc) refl (first_of doc gs)
+  where
+    same : (f : ConfigFault) → (fault_number f == fault_number f) ≡ true
+    same f = eq-eqb (fault_number f) (fault_number f) refl
+
+    here : (xs : List Finding) → findings_of g doc ≡ xs
+        → fault_of (flat_map (λ h. findings_of h doc) gs) ≡ find (λ h. shows h doc) gs
+        → fault_of (xs ++ flat_map (λ h. findings_of h doc) gs) ≡ cond (shows g doc) (Some g) (find (λ h. shows h doc) gs)
+    here [] is more = let none : false ≡ shows g doc = rw (is, same g) at (of_shown g g doc) in rw (← none) more
+    here (x ∷ xs) is more =
+        let both : true ≡ ((fault_number x.fault == fault_number g) && shows g doc) = rw (is, same x.fault) at (of_shown x.fault g doc) in
+        let (number, shown) = and_parts (fault_number x.fault == fault_number g) (shows g doc) (sym both) in
+        rw shown (ap Some (number_same x.fault g (eqb-true (fault_number x.fault) (fault_number g) number)))
+
+-- a fault that a document lacks, its text lacks: a text is one document
+hasnt : (f : ConfigFault) (text : List ℕ) (doc : Members) → Reads text doc → shows f doc ≡ false → ¬ HasFault f text
+hasnt Toml text doc reads h = λ k. k doc reads
+hasnt f text doc reads h = λ (d, r, k).
+    let same : d ≡ doc = same_Some d doc (sym r.1 ∙ reads.1) in
+    let now : shows f doc ≡ true = subst (λ (x : Members). shows f x ≡ true) same k in cc
+
+-- a fault of a document is one of its text
+of_text : (f : ConfigFault) (text : List ℕ) (doc : Members) → Reads text doc → shows f doc ≡ true → HasFault f text
+of_text Toml text doc reads h = let none = no_toml doc in cc
+of_text f text doc reads h = (doc, reads, h)
+
+-- the first fault of a document is the least of its text
+least : (text : List ℕ) (doc : Members) (e : ConfigFault) → Reads text doc → first_fault doc ≡ Some e → IsLeastFault text e
+least text doc e reads is = (
+  of_text e text doc reads (passes (λ f. shows f doc) shown_faults e is),
+  λ f below. hasnt f text doc reads (lower f below),
+)
+  where
+    lower : (f : ConfigFault) → fault_number f < fault_number e → shows f doc ≡ false
+    lower Toml below = no_toml doc
+    lower f below = before (λ g. shows g doc) 15 f shown_faults 2 from_2 refl (lit≤ tt) (rw is below)
+
+-- a text whose document has no first fault has none
+none : (text : List ℕ) (doc : Members) → Reads text doc → first_fault doc ≡ None → (f : ConfigFault) → ¬ HasFault f text
+none text doc reads is f = hasnt f text doc reads (lacks f)
+  where
+    lacks : (f : ConfigFault) → shows f doc ≡ false
+    lacks Toml = no_toml doc
+    lacks Memory = no_memory doc
+    lacks f = before (λ g. shows g doc) 15 f shown_faults 2 from_2 refl (lit≤ tt) (rw is (lit≤ tt))
 
 pub first_is_answered : FirstIsAnswered
 first_is_answered text doc reads = (
-  λ none. (
-    doc,
-    reads,
-    refl,
-    λ f. hasnt f text doc reads (faults_are_found doc f ∙ ap (list_any (has f)) none),
-  ),
-  λ x rest is.
-      let shown : shows x.fault doc ≡ true = faults_are_found doc x.fault ∙ ap (list_any (has x.fault)) is
-      ∙ rw (eq-eqb (fault_number x.fault) (fault_number x.fault) refl) refl in (
-        of_text x.fault text doc reads shown (two x.fault doc shown),
-        λ h below. hasnt h text doc reads (faults_are_found doc h
-            ∙ first h doc x rest 2 shown_faults
-            (refl, (refl, (refl, (refl, (refl, (refl, (refl, (refl, (refl, (refl, (refl, (refl, (refl, tt))))))))))))) is below),
-      ),
+  λ is. (doc, reads, refl, none text doc reads (sym (first_of doc shown_faults) ∙ ap fault_of is)),
+  λ x rest is. least text doc x.fault reads (sym (first_of doc shown_faults) ∙ ap fault_of is),
 )
+
+-- a result for a document is one for its text
+pub answer_ok : (text : List ℕ) (doc : Members) (r : Result Plan ConfigFault) → Reads text doc
+    → IfOk r (λ c. first_fault doc ≡ None) → IfOk r (λ c. c ≡ plan_of doc) → IfOk r (IsPlanOf text)
+answer_ok text doc (Ok c) reads fine is = (doc, reads, is, none text doc reads fine)
+answer_ok text doc (Err e) reads fine is = tt
+
+pub answer_err : (text : List ℕ) (doc : Members) (r : Result Plan ConfigFault) → Reads text doc
+    → IfErr r (λ e. e ≢ Memory → first_fault doc ≡ Some e) → IfErr r (λ e. e ≢ Memory → IsLeastFault text e)
+answer_err text doc (Ok c) reads first = tt
+answer_err text doc (Err e) reads first = λ other. least text doc e reads (first other)
+
+-- the first fault of values is the first of the document
+five : (a b c d e : Bool) (m u w o g x : ConfigFault) (rest : Option ConfigFault)
+    → cond a (Some m) (cond b (Some u) (cond c (Some w) (cond d (Some o) (cond e (Some g) None)))) ≡ Some x
+    → cond (a || false) (Some m) (cond (b || false) (Some u) (cond (c || false) (Some w) (cond (d || false) (Some o)
+    (cond (e || false) (Some g) rest)))) ≡ Some x
+five true b c d e m u w o g x rest is = is
+five false true c d e m u w o g x rest is = is
+five false false true d e m u w o g x rest is = is
+five false false false true e m u w o g x rest is = is
+five false false false false true m u w o g x rest is = is
+five false false false false false m u w o g x rest is = cc
+
+pub value_first : (doc : Members) (e : ConfigFault)
+    → find (λ f. list_any (has f) (value_findings doc)) (take 5 shown_faults) ≡ Some e → first_fault doc ≡ Some e
+value_first doc e is =
+    let shown : ConfigFault → Bool = λ f. list_any (has f) (value_findings doc) in
+    five (shown MissingKey) (shown UnknownKey) (shown WrongKind) (shown OutOfRange) (shown BadBag)
+    MissingKey UnknownKey WrongKind OutOfRange BadBag e (find (λ f. shows f doc) plan_faults) is
+
+-- if no fault of values is found, there is no finding of values
+empty : (xs : List Finding) → AllByRecursion (λ x. is_value x.fault ≡ true) xs
+    → find (λ f. list_any (has f) xs) (take 5 shown_faults) ≡ None → xs ≡ []
+empty [] all is = refl
+empty (x ∷ xs) all is = here x.fault refl all.0
+  where
+    from_5 : IsFrom 2 (take 5 shown_faults)
+    from_5 = (refl, (refl, (refl, (refl, (refl, tt)))))
+
+    out : (h : ConfigFault) → is_value h ≡ true → list_any (has h) (x ∷ xs) ≡ false
+    out h small = let (low, high) = and_parts (nat_lt 1 (fault_number h)) (nat_lt (fault_number h) 7) small in
+        before (λ f. list_any (has f) (x ∷ xs)) 7 h (take 5 shown_faults) 2 from_5 refl
+        (ltb-true 1 (fault_number h) low) (rw is (ltb-true (fault_number h) 7 high))
+
+    here : (h : ConfigFault) → x.fault ≡ h → is_value h ≡ true → x ∷ xs ≡ []
+    here h same small = let lacks = out x.fault (rw same small) in let number = eq-eqb (fault_number x.fault) (fault_number x.fault) refl in cc
+
+pub no_value : (doc : Members) → find (λ f. list_any (has f) (value_findings doc)) (take 5 shown_faults) ≡ None → value_findings doc ≡ []
+no_value doc is = empty (value_findings doc) (values_in doc) is
+
+-- without findings of values, the first fault is that of the plan
+plan_first : (doc : Members) (plan : Plan) (r : Option ConfigFault) → plan ≡ plan_of doc → value_findings doc ≡ []
+    → find (λ f. plan_shows f plan) plan_faults ≡ r → first_fault doc ≡ r
+plan_first doc plan r is none found = rw none (rw is at found)
+
+pub plan_ok : (doc : Members) (plan : Plan) (r : Result Plan ConfigFault) → plan ≡ plan_of doc → value_findings doc ≡ []
+    → IfOk r (λ c. find (λ f. plan_shows f plan) plan_faults ≡ None) → IfOk r (λ c. first_fault doc ≡ None)
+plan_ok doc plan (Ok c) is none fine = plan_first doc plan None is none fine
+plan_ok doc plan (Err e) is none fine = tt
+
+pub plan_err : (doc : Members) (plan : Plan) (r : Result Plan ConfigFault) → plan ≡ plan_of doc → value_findings doc ≡ []
+    → IfErr r (λ e. find (λ f. plan_shows f plan) plan_faults ≡ Some e) → IfErr r (λ e. e ≢ Memory → first_fault doc ≡ Some e)
+plan_err doc plan (Ok c) is none found = tt
+plan_err doc plan (Err e) is none found = λ other. plan_first doc plan (Some e) is none found

@@ -8,7 +8,7 @@ pub use Rattle.std.proofs.KnownBytes.{Appends-trans}
 pub use Rattle.std.proofs.Math.Bool.{or-false, or-true}
 pub use Rattle.std.proofs.NetLemmas.Ipv4.{read_ipv4_complete, read_ipv4_sound}
 pub use Rattle.std.proofs.NetLemmas.Options.{and_then_some, cond_some}
-pub use Rattle.std.proofs.lemmas.Bool.{and_parts, cases_lt, eqb-true, le-ltb, lt-ltb, or_from, or_parts}
+pub use Rattle.std.proofs.lemmas.Bool.{and_parts, cases_lt, eqb-true, le-ltb, lt-ltb, ltb-true, or_parts}
 pub use Rattle.std.proofs.lemmas.Bool.Decides.{nat_tests}
 pub use Rattle.std.proofs.lemmas.Grind.{common_steps}
 pub use Rattle.std.proofs.lemmas.Iterator.Adapters.{position_from-zero}
@@ -29,7 +29,7 @@ pub use Rattle.std.specs.Map.{keys_of}
 pub use Rattle.std.specs.Net.Grammar.{IsDotted}
 pub use Rattle.std.specs.Net.Reader.{read_ipv4}
 pub use Rattle.std.specs.Option.{ForSome, option_map_or}
-pub use Rattle.std.specs.Prelude.{All, Err, IfErr, IfOk, IfSome, Ok, Result, bytes_eq, find, nat_lt, ◌==◌, ◌≢◌}
+pub use Rattle.std.specs.Prelude.{All, Err, IfErr, IfOk, IfSome, Ok, Result, bytes_eq, filter, find, nat_lt, ◌==◌, ◌≢◌}
 pub use Rattle.std.specs.declared.net.ipv4_addr.Ipv4Addr.{Ipv4Addr}
 pub use Rattle.toml.proofs.Views.{table_get, view-Array}
 pub use Rattle.toml.specs.Data.{Data, Members, array, as_array, as_integer, as_str, as_table, get_member}
@@ -47,26 +47,24 @@ pub use Rattle.afdx_plan.specs.declared.fault.ConfigFault.TheVariants.{OutOfRang
 pub use Rattle.afdx_plan.specs.declared.fault.ConfigFault.TheVariants.{SharedUnicast, Toml, UnknownKey, WrongKind}
 pub use Rattle.afdx_plan.specs.declared.link_plan.LinkPlan.{LinkPlan}
 pub use Rattle.afdx_plan.specs.declared.port_plan.PortPlan.{PortPlan}
-pub use Rattle.afdx_config.specs.Entries.{has_key_besides, lies_outside, number_at, tables_among}
+pub use Rattle.afdx_config.specs.Entries.{lies_outside, member_keys, number_at, tables_among}
 pub use Rattle.afdx_config.specs.Explained.{column_after}
 pub use Rattle.afdx_config.specs.Faults.{HasFault, IsLeastFault, IsPlanOf, Reads, shows}
-pub use Rattle.afdx_config.specs.FindingLaws.{FaultsAreFound, FirstIsAnswered, PlacesHaveFaults, has, has_place}
+pub use Rattle.afdx_config.specs.FindingLaws.{FaultsAreFound, FirstIsAnswered, PlacesHaveFaults, has_place}
 pub use Rattle.afdx_config.specs.FindingLaws.{key_has, plan_has, row_has, rows_have, value_has}
-pub use Rattle.afdx_config.specs.Findings.{Finding, Site, count_findings, count_is_wrong, end_sites, field_findings}
-pub use Rattle.afdx_config.specs.Findings.{findings, findings_of, found, has_same_sub, is_last_crowded, is_misfit}
-pub use Rattle.afdx_config.specs.Findings.{key_findings, link_findings, link_number, links_clash, member_keys, one_if}
-pub use Rattle.afdx_config.specs.Findings.{pair_finding, plan_findings, plan_key, port_findings, ports_clash, row_sites}
-pub use Rattle.afdx_config.specs.Findings.{shown_faults, site, site_findings, sites}
+pub use Rattle.afdx_config.specs.Findings.{Finding, count_findings, count_is_wrong, each_row, findings, findings_of}
+pub use Rattle.afdx_config.specs.Findings.{found, has, has_same_sub, is_last_crowded, is_misfit, key_finding}
+pub use Rattle.afdx_config.specs.Findings.{link_finding, link_number, links_clash, one_if, pair_finding}
+pub use Rattle.afdx_config.specs.Findings.{plan_findings, plan_key, port_finding, ports_clash, row_like, shown_faults}
+pub use Rattle.afdx_config.specs.Findings.{table_findings, value_findings, values_show}
 pub use Rattle.afdx_config.specs.Format.{Field, document_fields, end_fields, fields_in, link_fields, port_fields}
 pub use Rattle.afdx_config.specs.PlanOf.{link_of, plan_of, port_of}
-pub use Rattle.afdx_config.specs.Seen.{Adds, finding_of, row_place, site_of}
+pub use Rattle.afdx_config.specs.Seen.{Adds, finding_of}
 pub use Rattle.afdx_config.specs.Tables.{content_fault, fault_in, fault_under, field_fault, has_other_item, is_fault}
-pub use Rattle.afdx_config.specs.Tables.{is_key_of, is_version_2, keys_fault, rows_at, section_at, table_shows}
-pub use Rattle.afdx_config.specs.Tables.{values_show}
+pub use Rattle.afdx_config.specs.Tables.{is_key_of, is_version_2, key_fault, rows_at, section_at}
 pub use Rattle.afdx_config.specs.Told.{escaped, fields_at, finding_line, key_names, members_at}
 pub use Rattle.afdx_config.specs.Values.{address_of, bag_of, checksum_of, kind_of, networks_of}
-pub use Rattle.afdx_config.specs.Views.{AreSound, IsDocument, IsLeast, IsLeastOf, IsOfValues, IsSoundTable, data_of}
-pub use Rattle.afdx_config.specs.Views.{field_of, lesser, plan_in}
+pub use Rattle.afdx_config.specs.Views.{AreSound, IsDocument, IsSoundTable, data_of, field_of, first_fault, plan_in}
 pub use Rattle.afdx_config.specs.declared.document.Document.{Document}
 pub use Rattle.afdx_config.specs.declared.findings.Place.{Place}
 pub use Rattle.afdx_config.specs.declared.findings.Place.TheVariants.{EndSystem, Link, Port, Top}

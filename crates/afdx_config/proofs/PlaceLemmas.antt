@@ -1,39 +1,40 @@
 -- The place of each finding has its fault.
-use Rattle.afdx_config.proofs.Names.{◌≡◌, ℕ, zero, suc, ◌+◌, ◌-◌, ◌<◌, ◌≤◌, List, [], ◌∷◌, ◌++◌, length, get_or, Bool}
-use Rattle.afdx_config.proofs.Names.{true, false, ◌||◌, ◌&&◌, not, Option, Some, None, refl, ap, sym, ◌∙◌, codes, arith}
-use Rattle.afdx_config.proofs.Names.{lit≤, bytes_eq, slice_get, nat_lt, All, position, list_any, flat_map}
+use Rattle.afdx_config.proofs.Names.{◌≡◌, ℕ, suc, ◌+◌, ◌-◌, ◌≤◌, List, [], ◌∷◌, ◌++◌, length, get_or, Bool}
+use Rattle.afdx_config.proofs.Names.{true, false, ◌||◌, ◌&&◌, not, cond, Option, Some, None, refl, ap, ◌∙◌, codes}
+use Rattle.afdx_config.proofs.Names.{arith, lit≤, bytes_eq, slice_get, position, list_any, flat_map, filter}
 use Rattle.afdx_config.proofs.Names.{AllByRecursion, option_map_or, or-true, and_parts, lt-ltb, All-from_recursion}
-use Rattle.afdx_config.proofs.Names.{position-Some, slice_get-get_or, bytes_eq-Decides, Members, is_crowded}
-use Rattle.afdx_config.proofs.Names.{ConfigFault, UnknownKey, Limit, LinkPlan, PortPlan, Place, Top, EndSystem, Link}
-use Rattle.afdx_config.proofs.Names.{Port, Finding, found, one_if, Site, site, row_sites, end_sites, sites}
-use Rattle.afdx_config.proofs.Names.{field_findings, key_findings, member_keys, plan_key, pair_finding, links_clash}
-use Rattle.afdx_config.proofs.Names.{link_findings, ports_clash, is_misfit, link_number, has_same_sub, is_last_crowded}
-use Rattle.afdx_config.proofs.Names.{port_findings, count_is_wrong, count_findings, findings_of, shown_faults, findings}
-use Rattle.afdx_config.proofs.Names.{row_has, rows_have, plan_has, value_has, key_has, has_place, PlacesHaveFaults}
-use Rattle.afdx_config.proofs.Names.{Field, document_fields, end_fields, link_fields, port_fields, fields_in, plan_of}
-use Rattle.afdx_config.proofs.Names.{field_fault, is_fault, is_key_of, is_version_2, rows_at, section_at, members_at}
-use Rattle.afdx_config.proofs.Names.{fields_at}
-use Rattle.afdx_config.specs.Findings.{site_findings, port_finding, plan_findings}
+use Rattle.afdx_config.proofs.Names.{position-Some, slice_get-get_or, bytes_eq-Decides, eq-eqb, then_some, Members}
+use Rattle.afdx_config.proofs.Names.{is_crowded, ConfigFault, UnknownKey, Limit, LinkPlan, PortPlan, Place, Top}
+use Rattle.afdx_config.proofs.Names.{EndSystem, Link, Port, Finding, found, has, one_if, key_finding, each_row}
+use Rattle.afdx_config.proofs.Names.{member_keys, plan_key, pair_finding, links_clash, link_finding, ports_clash}
+use Rattle.afdx_config.proofs.Names.{is_misfit, link_number, has_same_sub, is_last_crowded, count_is_wrong}
+use Rattle.afdx_config.proofs.Names.{count_findings, findings_of, shown_faults, findings, row_has, rows_have, plan_has}
+use Rattle.afdx_config.proofs.Names.{value_has, key_has, has_place, PlacesHaveFaults, Field, document_fields}
+use Rattle.afdx_config.proofs.Names.{end_fields, link_fields, port_fields, fields_in, plan_of, field_fault, key_fault}
+use Rattle.afdx_config.proofs.Names.{is_fault, is_key_of, is_version_2, rows_at, section_at, members_at, fields_at}
+use Rattle.afdx_config.proofs.Names.{fault_number}
+use Rattle.afdx_config.specs.Findings.{port_finding, plan_findings, table_findings, value_findings}
 
 -- a property of both lists is one of their concatenation
-r_append : {A : Type 0} (P : A → Type 0) (xs ys : List A) → AllByRecursion P xs → AllByRecursion P ys → AllByRecursion P (xs ++ ys)
+pub r_append : {A : Type 0} (P : A → Type 0) (xs ys : List A) → AllByRecursion P xs → AllByRecursion P ys → AllByRecursion P (xs ++ ys)
 r_append P [] ys one two = two
 r_append P (x ∷ xs) ys one two = (one.0, r_append P xs ys one.1 two)
 
--- a property of each list is one of their concatenation
-r_flat : {A B : Type 0} (P : B → Type 0) (Q : A → Type 0) (F : A → List B) (xs : List A) → AllByRecursion Q xs
-    → ((x : A) → Q x → AllByRecursion P (F x)) → AllByRecursion P (flat_map F xs)
-r_flat P Q F [] each step = tt
-r_flat P Q F (x ∷ xs) each step =
-    r_append P (F x) (flat_map F xs) (step x each.0) (r_flat P Q F xs each.1 step)
-
-r_each : {A B : Type 0} (P : B → Type 0) (F : A → List B) (xs : List A) → ((x : A) → AllByRecursion P (F x)) → AllByRecursion P (flat_map F xs)
+pub r_each : {A B : Type 0} (P : B → Type 0) (F : A → List B) (xs : List A) → ((x : A) → AllByRecursion P (F x)) → AllByRecursion P (flat_map F xs)
 r_each P F [] step = tt
 r_each P F (x ∷ xs) step = r_append P (F x) (flat_map F xs) (step x) (r_each P F xs step)
 
 r_map : {A : Type 0} (P Q : A → Type 0) (xs : List A) → ((x : A) → P x → Q x) → AllByRecursion P xs → AllByRecursion Q xs
 r_map P Q [] step each = tt
 r_map P Q (x ∷ xs) step each = (step x each.0, r_map P Q xs step each.1)
+
+r_filter : {A : Type 0} (P : A → Type 0) (test : A → Bool) (xs : List A) → AllByRecursion P xs → AllByRecursion P (filter test xs)
+r_filter P test [] each = tt
+r_filter P test (x ∷ xs) each = here (test x) (r_filter P test xs each.1)
+  where
+    here : (b : Bool) → AllByRecursion P (filter test xs) → AllByRecursion P (cond b (x ∷ filter test xs) (filter test xs))
+    here true rest = (each.0, rest)
+    here false rest = rest
 
 -- a property of a conditional finding
 r_one : (P : Finding → Type 0) (b : Bool) (x : Finding) → (b ≡ true → P x) → AllByRecursion P (one_if b x)
@@ -51,43 +52,6 @@ Sub {A} rest all = (q : A → Bool) → list_any q rest ≡ true → list_any q 
 sub_next : {A : Type 0} (x : A) (rest all : List A) → Sub (x ∷ rest) all → Sub rest all
 sub_next x rest all sub q passes = sub q (rw passes (or-true (q x)))
 
--- a site has the table and the format of its place
-abbrev At : Members → Site → Type 0
-At doc s = (members_at doc s.place ≡ Some s.members) × (fields_at doc s.place ≡ s.fields)
-
-abbrev Fine : Members → Finding → Type 0
-Fine doc f = has_place doc f ≡ true
-
-fields_fine : (doc : Members) (g : ConfigFault) (s : Site) (rest : List Field) → At doc s → Sub rest s.fields
-    → AllByRecursion (Fine doc) (flat_map (field_findings g s.place s.members) rest)
-fields_fine doc g s [] at sub = tt
-fields_fine doc g s (x ∷ rest) at sub =
-    r_append (Fine doc) (field_findings g s.place s.members x) (flat_map (field_findings g s.place s.members) rest)
-    (r_one (Fine doc) (is_fault g (field_fault s.members x)) (found g s.place x.key None)
-    (λ shown. let it : value_has doc (found g s.place x.key None) ≡ true =
-    rw (at.0, at.1) (sub (λ field. bytes_eq x.key field.key && is_fault g (field_fault s.members field))
-    (rw (bytes_same x.key, shown) refl)) in rw it refl))
-    (fields_fine doc g s rest at (sub_next x rest s.fields sub))
-
-keys_fine : (doc : Members) (g : ConfigFault) (s : Site) (rest : List (List ℕ)) → At doc s → Sub rest (member_keys s.members)
-    → AllByRecursion (Fine doc) (flat_map (key_findings g s.place s.fields) rest)
-keys_fine doc g s [] at sub = tt
-keys_fine doc g s (x ∷ rest) at sub =
-    r_append (Fine doc) (key_findings g s.place s.fields x) (flat_map (key_findings g s.place s.fields) rest)
-    (r_one (Fine doc) (is_fault g (Some UnknownKey) && not (is_key_of s.fields x)) (found g s.place x None)
-    (λ shown. let it : key_has doc (found g s.place x None) ≡ true =
-    rw (at.0, at.1, shown) (sub (bytes_eq x) (rw (bytes_same x) refl)) in
-    rw (it, or-true (value_has doc (found g s.place x None))) refl))
-    (keys_fine doc g s rest at (sub_next x rest (member_keys s.members) sub))
-
-site_fine : (doc : Members) (g : ConfigFault) (s : Site) → At doc s → AllByRecursion (Fine doc) (site_findings g s)
-unfolding site_findings
-site_fine doc g s at =
-    r_append (Fine doc) (flat_map (field_findings g s.place s.members) s.fields)
-    (flat_map (key_findings g s.place s.fields) (member_keys s.members))
-    (fields_fine doc g s s.fields at (λ q passes. passes))
-    (keys_fine doc g s (member_keys s.members) at (λ q passes. passes))
-
 -- the rest begins with row k of all
 abbrev Tail : {A : Type 0} → ℕ → List A → List A → Type 0
 Tail k rest all = (i : ℕ) → slice_get all (k - 1 + i) ≡ slice_get rest i
@@ -99,35 +63,83 @@ tail_next k x rest all some tail i =
 tail_first : {A : Type 0} (k : ℕ) (x : A) (rest all : List A) → Tail k (x ∷ rest) all → slice_get all (k - 1) ≡ Some x
 tail_first k x rest all tail = let index : k - 1 ≡ k - 1 + 0 = omega arith in ap (slice_get all) index ∙ tail 0
 
-rows_at_places : (doc : Members) (at : ℕ → Place) (fields : List Field) (all : List Members) (k : ℕ) (rest : List Members)
-    → ((j : ℕ) (m : Members) → slice_get all (j - 1) ≡ Some m → At doc (site (at j) fields m)) → 1 ≤ k → Tail k rest all
-    → AllByRecursion (At doc) (row_sites at fields k rest)
-rows_at_places doc at fields all k [] here some tail = tt
-rows_at_places doc at fields all k (m ∷ rest) here some tail = (
-  here k m (tail_first k m rest all tail),
-  rows_at_places doc at fields all (k + 1) rest here (omega arith) (tail_next k m rest all some tail),
-)
-
-end_at_place : (doc : Members) (o : Option Members) → section_at (codes "end_system") doc ≡ o → AllByRecursion (At doc) (end_sites o)
-end_at_place doc None is = tt
-end_at_place doc (Some m) is = ((is, refl), tt)
+-- a property of the findings of each row
+rows_have_it : {A : Type 0} (P : Finding → Type 0) (each : ℕ → A → List A → List Finding) (all : List A) (k : ℕ) (rest : List A)
+    → ((j : ℕ) (x : A) (xs : List A) → 1 ≤ j → Tail j (x ∷ xs) all → AllByRecursion P (each j x xs)) → 1 ≤ k → Tail k rest all
+    → AllByRecursion P (each_row each k rest)
+rows_have_it P each all k [] step some tail = tt
+rows_have_it P each all k (x ∷ xs) step some tail = r_append P (each k x xs) (each_row each (k + 1) xs) (step k x xs some tail)
+    (rows_have_it P each all (k + 1) xs step (omega arith) (tail_next k x xs all some tail))
 
 tail_all : {A : Type 0} (all : List A) → Tail 1 all all
 tail_all all i = let index : 1 - 1 + i ≡ i = omega arith in ap (slice_get all) index
 
-sites_at_places : (doc : Members) → AllByRecursion (At doc) (sites doc)
-sites_at_places doc =
-    let links = row_sites Link (fields_in (is_version_2 doc) link_fields) 1 (rows_at (codes "vl") doc) in
-    let ports = row_sites Port (fields_in (is_version_2 doc) port_fields) 1 (rows_at (codes "port") doc) in (
-      (refl, refl),
-      r_append (At doc) (end_sites (section_at (codes "end_system") doc)) (links ++ ports)
-          (end_at_place doc (section_at (codes "end_system") doc) refl)
-          (r_append (At doc) links ports
-          (rows_at_places doc Link (fields_in (is_version_2 doc) link_fields) (rows_at (codes "vl") doc) 1
-          (rows_at (codes "vl") doc) (λ j m h. (h, refl)) (lit≤ tt) (tail_all (rows_at (codes "vl") doc)))
-          (rows_at_places doc Port (fields_in (is_version_2 doc) port_fields) (rows_at (codes "port") doc) 1
-          (rows_at (codes "port") doc) (λ j m h. (h, refl)) (lit≤ tt) (tail_all (rows_at (codes "port") doc)))),
-    )
+-- a place has this table and this format
+abbrev At : Members → Place → List Field → Members → Type 0
+At doc place fields members = (members_at doc place ≡ Some members) × (fields_at doc place ≡ fields)
+
+-- a property of the findings of each table
+pub values_have : (P : Finding → Type 0) (doc : Members)
+    → ((place : Place) (fields : List Field) (members : Members) → At doc place fields members → AllByRecursion P (table_findings place fields members))
+    → AllByRecursion P (value_findings doc)
+unfolding value_findings
+values_have P doc step =
+    let rows : (like : ℕ → Place) (fields : List Field) (all : List Members)
+    → ((k : ℕ) (m : Members) → slice_get all (k - 1) ≡ Some m → At doc (like k) fields m)
+    → AllByRecursion P (each_row (λ k m rest. table_findings (like k) fields m) 1 all) = λ like fields all at.
+    rows_have_it P (λ k m rest. table_findings (like k) fields m) all 1 all
+    (λ k m rest some tail. step (like k) fields m (at k m (tail_first k m rest all tail))) (lit≤ tt) (tail_all all) in
+    r_append P _ _ (r_append P _ _ (r_append P _ _ (step Top document_fields doc (refl, refl))
+    (end (section_at (codes "end_system") doc) refl))
+    (rows Link (fields_in (is_version_2 doc) link_fields) (rows_at (codes "vl") doc) (λ k m is. (is, refl))))
+    (rows Port (fields_in (is_version_2 doc) port_fields) (rows_at (codes "port") doc) (λ k m is. (is, refl)))
+  where
+    end : (o : Option Members) → section_at (codes "end_system") doc ≡ o → AllByRecursion P (option_map_or (table_findings EndSystem end_fields) o [])
+    end None is = tt
+    end (Some m) is = step EndSystem end_fields m (is, refl)
+
+abbrev Fine : Members → Finding → Type 0
+Fine doc f = has_place doc f ≡ true
+
+r_key : (P : Finding → Type 0) (place : Place) (key : List ℕ) (o : Option ConfigFault)
+    → ((g : ConfigFault) → o ≡ Some g → P (found g place key None)) → AllByRecursion P (key_finding place key o)
+r_key P place key None step = tt
+r_key P place key (Some g) step = (step g refl, tt)
+
+number_is : (g : ConfigFault) → is_fault g (Some g) ≡ true
+number_is g = eq-eqb (fault_number g) (fault_number g) refl
+
+fields_fine : (doc : Members) (place : Place) (fields : List Field) (members : Members) (rest : List Field) → At doc place fields members
+    → Sub rest fields → AllByRecursion (Fine doc) (flat_map (λ field. key_finding place field.key (field_fault members field)) rest)
+fields_fine doc place fields members [] at sub = tt
+fields_fine doc place fields members (x ∷ rest) at sub =
+    r_append (Fine doc) (key_finding place x.key (field_fault members x)) _
+    (r_key (Fine doc) place x.key (field_fault members x) (λ g is. let it : value_has doc (found g place x.key None) ≡ true =
+    rw (at.0, at.1) (sub (λ field. bytes_eq x.key field.key && is_fault g (field_fault members field))
+    (rw (bytes_same x.key, is, number_is g) refl)) in rw it refl))
+    (fields_fine doc place fields members rest at (sub_next x rest fields sub))
+
+keys_fine : (doc : Members) (place : Place) (fields : List Field) (members : Members) (rest : List (List ℕ)) → At doc place fields members
+    → Sub rest (member_keys members) → AllByRecursion (Fine doc) (flat_map (λ key. key_finding place key (key_fault fields key)) rest)
+keys_fine doc place fields members [] at sub = tt
+keys_fine doc place fields members (x ∷ rest) at sub =
+    r_append (Fine doc) (key_finding place x (key_fault fields x)) _
+    (r_key (Fine doc) place x (key_fault fields x) (λ g is. let (unknown, same) = other (is_key_of fields x) g is in
+    let it : key_has doc (found g place x None) ≡ true =
+    rw (at.0, at.1, unknown, same) (sub (bytes_eq x) (rw (bytes_same x) refl)) in
+    rw (it, or-true (value_has doc (found g place x None))) refl))
+    (keys_fine doc place fields members rest at (sub_next x rest (member_keys members) sub))
+  where
+    other : (b : Bool) (g : ConfigFault) → then_some (not b) UnknownKey ≡ Some g → (is_fault g (Some UnknownKey) ≡ true) × (b ≡ false)
+    other true g is = cc
+    other false g is = let same : UnknownKey ≡ g = cc in rw (← same) (refl, refl)
+
+table_fine : (doc : Members) (place : Place) (fields : List Field) (members : Members) → At doc place fields members
+    → AllByRecursion (Fine doc) (table_findings place fields members)
+unfolding table_findings
+table_fine doc place fields members at = r_append (Fine doc) _ _
+    (fields_fine doc place fields members fields at (λ q passes. passes))
+    (keys_fine doc place fields members (member_keys members) at (λ q passes. passes))
 
 -- the place of a finding of a plan has its fault
 abbrev Has : List LinkPlan → List PortPlan → Finding → Type 0
@@ -152,13 +164,9 @@ pair_passes related all k x rest d some tail is =
           (row_passes (related x) all (k + 1 + d) (get_or rest d x) other passes.1),
     ) refl
 
-links_fine : (g : ConfigFault) (all : List LinkPlan) (ports : List PortPlan) (k : ℕ) (rest : List LinkPlan) → 1 ≤ k → Tail k rest all
-    → AllByRecursion (Has all ports) (link_findings g k rest)
-links_fine g all ports k [] some tail = tt
-links_fine g all ports k (l ∷ rest) some tail =
-    r_append (Has all ports) (pair_finding g Link k (position (links_clash g l) rest)) (link_findings g (k + 1) rest)
-    (here (position (links_clash g l) rest) refl)
-    (links_fine g all ports (k + 1) rest (omega arith) (tail_next k l rest all some tail))
+link_fine : (g : ConfigFault) (all : List LinkPlan) (ports : List PortPlan) (k : ℕ) (l : LinkPlan) (rest : List LinkPlan) → 1 ≤ k
+    → Tail k (l ∷ rest) all → AllByRecursion (Has all ports) (link_finding g k l rest)
+link_fine g all ports k l rest some tail = here (position (links_clash g l) rest) refl
   where
     here : (o : Option ℕ) → position (links_clash g l) rest ≡ o → AllByRecursion (Has all ports) (pair_finding g Link k o)
     here None is = tt
@@ -169,25 +177,17 @@ crowd_alone : (g : ConfigFault) (all : List PortPlan) (p : PortPlan) (rest : Lis
 crowd_alone Limit all p rest is = rw (and_parts (is_crowded all p) (not (list_any (has_same_sub p) rest)) is).0 refl
 crowd_alone _ all p rest is = cc
 
-ports_fine : (g : ConfigFault) (links : List LinkPlan) (all : List PortPlan) (k : ℕ) (rest : List PortPlan) → 1 ≤ k → Tail k rest all
-    → AllByRecursion (Has links all) (port_findings g links all k rest)
+port_fine : (g : ConfigFault) (links : List LinkPlan) (all : List PortPlan) (k : ℕ) (p : PortPlan) (rest : List PortPlan) → 1 ≤ k
+    → Tail k (p ∷ rest) all → AllByRecursion (Has links all) (port_finding g links all k p rest)
 unfolding port_finding
-ports_fine g links all k [] some tail = tt
-ports_fine g links all k (p ∷ rest) some tail =
-    r_append (Has links all) (port_finding g links all k p rest) (port_findings g links all (k + 1) rest)
-    (r_append (Has links all) (pair_finding g Port k (position (ports_clash g p) rest)
-    ++ one_if (is_misfit g links p) (found g (Port k) (plan_key g) (link_number links p)))
-    (one_if (is_last_crowded g all p rest) (found g (Port k) (plan_key g) None))
-    (r_append (Has links all) (pair_finding g Port k (position (ports_clash g p) rest))
-    (one_if (is_misfit g links p) (found g (Port k) (plan_key g) (link_number links p)))
+port_fine g links all k p rest some tail = r_append (Has links all) _ _ (r_append (Has links all) _ _
     (here (position (ports_clash g p) rest) refl)
     (r_one (Has links all) (is_misfit g links p) (found g (Port k) (plan_key g) (link_number links p))
     (λ is. rw (row_passes (is_misfit g links) all k p (tail_first k p rest all tail) is)
     (or-true (rows_have (ports_clash g) all k (link_number links p))))))
     (r_one (Has links all) (is_last_crowded g all p rest) (found g (Port k) (plan_key g) None)
     (λ is. rw (row_passes (λ q. is_last_crowded g all q []) all k p (tail_first k p rest all tail) (crowd_alone g all p rest is))
-    (or-true (row_has (is_misfit g links) all k)))))
-    (ports_fine g links all (k + 1) rest (omega arith) (tail_next k p rest all some tail))
+    (or-true (row_has (is_misfit g links) all k))))
   where
     here : (o : Option ℕ) → position (ports_clash g p) rest ≡ o → AllByRecursion (Has links all) (pair_finding g Port k o)
     here None is = tt
@@ -202,20 +202,18 @@ counts_fine g links ports = r_append (Has links ports)
 
 plan_fine : (g : ConfigFault) (links : List LinkPlan) (ports : List PortPlan) → AllByRecursion (Has links ports) (plan_findings g links ports)
 unfolding plan_findings
-plan_fine g links ports =
-    r_append (Has links ports) (link_findings g 1 links ++ count_findings g links ports) (port_findings g links ports 1 ports)
-    (r_append (Has links ports) (link_findings g 1 links) (count_findings g links ports)
-    (links_fine g links ports 1 links (lit≤ tt) (tail_all links)) (counts_fine g links ports))
-    (ports_fine g links ports 1 ports (lit≤ tt) (tail_all ports))
+plan_fine g links ports = r_append (Has links ports) _ _ (r_append (Has links ports) _ _
+    (rows_have_it (Has links ports) (link_finding g) links 1 links (link_fine g links ports) (lit≤ tt) (tail_all links))
+    (counts_fine g links ports))
+    (rows_have_it (Has links ports) (port_finding g links ports) ports 1 ports (port_fine g links ports) (lit≤ tt) (tail_all ports))
 
-of_fine : (g : ConfigFault) (doc : Members) → AllByRecursion (Fine doc) (findings_of g doc)
-of_fine g doc =
-    r_append (Fine doc) (flat_map (site_findings g) (sites doc)) (plan_findings g (plan_of doc).links (plan_of doc).ports)
-    (r_flat (Fine doc) (At doc) (site_findings g) (sites doc) (sites_at_places doc) (site_fine doc g))
+of_fine : (doc : Members) (g : ConfigFault) → AllByRecursion (Fine doc) (findings_of g doc)
+of_fine doc g = r_append (Fine doc) _ _
+    (r_filter (Fine doc) (has g) (value_findings doc) (values_have (Fine doc) doc (table_fine doc)))
     (r_map (Has (plan_of doc).links (plan_of doc).ports) (Fine doc) (plan_findings g (plan_of doc).links (plan_of doc).ports)
     (λ f is. rw is (or-true (value_has doc f || key_has doc f)))
     (plan_fine g (plan_of doc).links (plan_of doc).ports))
 
 pub places_have_faults : PlacesHaveFaults
 places_have_faults doc = All-from_recursion (λ f. has_place doc f ≡ true) (findings doc)
-    (r_each (Fine doc) (λ g. findings_of g doc) shown_faults (λ g. of_fine g doc))
+    (r_each (Fine doc) (λ g. findings_of g doc) shown_faults (of_fine doc))

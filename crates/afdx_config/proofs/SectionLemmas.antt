@@ -1,19 +1,15 @@
 -- The tables and keys of a document, in the code and in the specification.
-use Rattle.afdx_config.proofs.Names.{◌≡◌, ℕ, Bool, not, ◌||◌, is_none, List, [], ◌∷◌, String, Global, string_bytes}
+use Rattle.afdx_config.proofs.Names.{◌≡◌, ℕ, Bool, ◌||◌, is_none, List, [], ◌∷◌, String, Global, string_bytes}
 use Rattle.afdx_config.proofs.Names.{refl, ap, ◌-◌, false, map, length, take, Option, Some, None, option_map, Bor}
-use Rattle.afdx_config.proofs.Names.{BTreeMap, cons_option, filter_map, list_any, as_table, Members, view, items_view}
-use Rattle.afdx_config.proofs.Names.{members_view, table_view, has_key_besides, tables_among, has_other_item}
-use Rattle.afdx_config.proofs.Names.{is_version_2, table_shows, take-map, length-map, option_map_or, ConfigFault}
-use Rattle.afdx_config.proofs.Names.{document_fields, end_fields, link_fields, port_fields, fields_in, IsDocument}
-use Rattle.afdx_config.proofs.Names.{field_of, Document, data_of, keys_of, Value}
-use Rattle.afdx_config.specs.Tables.{values_show}
+use Rattle.afdx_config.proofs.Names.{BTreeMap, cons_option, filter_map, list_any, as_table, view, items_view}
+use Rattle.afdx_config.proofs.Names.{members_view, member_keys, tables_among, has_other_item}
+use Rattle.afdx_config.proofs.Names.{take-map, length-map, option_map_or, fields_in, field_of, keys_of, Value}
 use Rattle.afdx_config.specs.declared.format.Field.{Field as Written}
 
--- an unknown key among the keys of the map
-pub has_key_besides-keys : (known : List ℕ → Bool) (es : List (String Global × Value))
-    → list_any (λ k. not (known (string_bytes k))) (keys_of es) ≡ has_key_besides known (members_view es)
-has_key_besides-keys known [] = refl
-has_key_besides-keys known (e ∷ es) = ap (λ b. not (known (string_bytes e.0)) || b) (has_key_besides-keys known es)
+-- the keys of a table
+pub keys_are : (es : List (String Global × Value)) → map (λ k. string_bytes k) (keys_of es) ≡ member_keys (members_view es)
+keys_are [] = refl
+keys_are (e ∷ es) = ap (λ ks. string_bytes e.0 ∷ ks) (keys_are es)
 
 -- the tables among the values
 pub tables_among-values : (vs : List Value) → filter_map (λ v. as_table (view v)) vs ≡ tables_among (items_view vs)
@@ -45,23 +41,3 @@ pub first_fields : (is_2 : Bool) (count : ℕ) (fields : List Written) → false
     → map field_of (take count fields) ≡ fields_in is_2 (map field_of fields)
 first_fields is_2 count fields not_2 counted =
     rw (counted, ← take-map field_of (length fields - 1) fields, ← length-map fields field_of, ← not_2) refl
-
--- a document has a fault of 2 to 6 at its top level, or in one of its borrowed tables
-abbrev pub document_shows : Document → ConfigFault → Bool
-document_shows s f = table_shows f document_fields (data_of s)
-    || option_map_or (λ t. table_shows f end_fields (table_view t.now)) s.end false
-    || list_any (λ t. table_shows f (fields_in (is_version_2 (data_of s)) link_fields) (table_view t.now)) s.links.items
-    || list_any (λ t. table_shows f (fields_in (is_version_2 (data_of s)) port_fields) (table_view t.now)) s.ports.items
-
--- the borrowed tables are those of the document
-pub shown_in : (s : Document) → IsDocument s → (f : ConfigFault)
-    → values_show f (data_of s) ≡ document_shows s f
-unfolding values_show
-shown_in s are f = rw (
-  ← are.end_is,
-  ← are.links_are,
-  ← are.ports_are,
-  option_maps (table_shows f end_fields) (λ t. table_view t.now) s.end false,
-  list_any_map (table_shows f (fields_in (is_version_2 (data_of s)) link_fields)) (λ t. table_view t.now) s.links.items,
-  list_any_map (table_shows f (fields_in (is_version_2 (data_of s)) port_fields)) (λ t. table_view t.now) s.ports.items,
-) refl

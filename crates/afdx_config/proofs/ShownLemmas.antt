@@ -1,38 +1,26 @@
 -- A document has a fault exactly if some finding has it.
-use Rattle.afdx_config.proofs.Names.{◌≡◌, ℕ, ◌+◌, ◌<◌, ◌≤◌, List, [], ◌∷◌, ◌++◌, length, Bool, true, false, ◌||◌, ◌&&◌}
-use Rattle.afdx_config.proofs.Names.{not, cond, Option, Some, None, refl, ap, sym, subst, ◌∙◌, map, find, option_map}
-use Rattle.afdx_config.proofs.Names.{codes, arith, is_some, ◌==◌, and_parts, eqb-true, or-true, or-false}
-use Rattle.afdx_config.proofs.Names.{list_any-append, position, position_from, list_any, flat_map, then_some}
-use Rattle.afdx_config.proofs.Names.{option_map_or, position_from-zero, Data, Members, get_member}
-use Rattle.afdx_config.proofs.Names.{as_integer, as_str, as_array, as_table, bag_of, networks_of, kind_of, address_of}
-use Rattle.afdx_config.proofs.Names.{checksum_of, is_none, Plan, ports_on, fault_number, has_pair, has_same_vl}
-use Rattle.afdx_config.proofs.Names.{has_same_port, has_same_flow, shares_unicast, names_no_link, names_no_sub}
-use Rattle.afdx_config.proofs.Names.{is_too_long, is_no_count, is_crowded, is_past_limits, parts_show, ConfigFault}
-use Rattle.afdx_config.proofs.Names.{Toml, Memory, MissingKey, WrongKind, OutOfRange, BadBag, UnknownKey, DuplicateVl}
-use Rattle.afdx_config.proofs.Names.{DuplicatePort, NoSuchVl, NoSuchSub, SamplingTooLong, SameFlow, SharedUnicast}
-use Rattle.afdx_config.proofs.Names.{Limit, LinkPlan, PortPlan, Place, Top, Link, Port, has_key_besides, lies_outside}
-use Rattle.afdx_config.proofs.Names.{Field, document_fields, end_fields, link_fields, port_fields, fields_in, plan_of}
-use Rattle.afdx_config.proofs.Names.{shows, Finding, found, one_if, Site, site, row_sites, end_sites, sites}
-use Rattle.afdx_config.proofs.Names.{field_findings, key_findings, member_keys, plan_key, pair_finding, links_clash}
-use Rattle.afdx_config.proofs.Names.{link_findings, ports_clash, is_misfit, link_number, has_same_sub, is_last_crowded}
-use Rattle.afdx_config.proofs.Names.{port_findings, count_is_wrong, count_findings, findings_of, shown_faults, findings}
-use Rattle.afdx_config.proofs.Names.{field_fault, is_fault, is_key_of, keys_fault, is_version_2, rows_at, section_at}
-use Rattle.afdx_config.proofs.Names.{fault_in, content_fault, fault_under, has_other_item, IsOfValues, Content, Whole}
-use Rattle.afdx_config.proofs.Names.{Gap, Networks, PortKind, Address, Checksum, Section, Rows, IfSome, lit≤, has}
+use Rattle.afdx_config.proofs.Names.{◌≡◌, ℕ, ◌+◌, List, [], ◌∷◌, ◌++◌, length, Bool, true, false, ◌||◌, ◌&&◌}
+use Rattle.afdx_config.proofs.Names.{not, cond, Option, Some, None, refl, ap, sym, ◌∙◌, filter, codes, arith, is_some}
+use Rattle.afdx_config.proofs.Names.{◌==◌, and_parts, eqb-true, or-true, or-false, nat_lt, list_any-append, position}
+use Rattle.afdx_config.proofs.Names.{position_from, list_any, flat_map, then_some, position_from-zero, AllByRecursion}
+use Rattle.afdx_config.proofs.Names.{Data, Members, get_member, fault_number, has_pair, has_same_vl, has_same_port}
+use Rattle.afdx_config.proofs.Names.{has_same_flow, shares_unicast, names_no_link, names_no_sub, is_too_long, is_crowded}
+use Rattle.afdx_config.proofs.Names.{parts_show, ConfigFault, Toml, Memory, MissingKey}
+use Rattle.afdx_config.proofs.Names.{UnknownKey, DuplicateVl, DuplicatePort, NoSuchVl, NoSuchSub, SamplingTooLong}
+use Rattle.afdx_config.proofs.Names.{SameFlow, SharedUnicast, Limit, LinkPlan, PortPlan, Place, Top, Link, Port, Field}
+use Rattle.afdx_config.proofs.Names.{plan_of, shows, Finding, found, has, one_if, key_finding, member_keys, each_row}
+use Rattle.afdx_config.proofs.Names.{plan_key, pair_finding, links_clash, link_finding, ports_clash, is_misfit}
+use Rattle.afdx_config.proofs.Names.{link_number, has_same_sub, is_last_crowded, count_is_wrong, count_findings}
+use Rattle.afdx_config.proofs.Names.{findings_of, shown_faults, value_findings, values_show, field_fault}
+use Rattle.afdx_config.proofs.Names.{key_fault, is_key_of, fault_in, content_fault, fault_under, Content, IfSome}
 use Rattle.afdx_config.proofs.Names.{FaultsAreFound}
-use Rattle.toml.specs.Data.{no_members, member}
-use Rattle.afdx_config.specs.Findings.{site_findings, port_finding, plan_findings}
-use Rattle.afdx_config.specs.Tables.{table_shows, values_show}
+use Rattle.afdx_config.specs.Findings.{port_finding, plan_findings, table_findings}
+use Rattle.afdx_config.proofs.PlaceLemmas.{r_append, r_each, values_have}
 
 -- no element passes
 any_no : {A : Type 0} (xs : List A) → list_any (λ x. false) xs ≡ false
 any_no [] = refl
 any_no (x ∷ xs) = any_no xs
-
--- tests that agree
-any_same : {A : Type 0} (p q : A → Bool) (xs : List A) → ((x : A) → p x ≡ q x) → list_any p xs ≡ list_any q xs
-any_same p q [] same = refl
-any_same p q (x ∷ xs) same = rw (same x, any_same p q xs same) refl
 
 -- a common condition
 and_or : (a b c : Bool) → ((a && b) || (a && c)) ≡ (a && (b || c))
@@ -43,6 +31,10 @@ and_no : (a : Bool) → (a && false) ≡ false
 and_no true = refl
 and_no false = refl
 
+absorbs : (a b : Bool) → (a || (a && b)) ≡ (a && true)
+absorbs true b = refl
+absorbs false b = refl
+
 -- a conditional finding
 one : (f : ConfigFault) (b : Bool) (x : Finding) → list_any (has f) (one_if b x) ≡ (has f x && b)
 one f true x = here (has f x)
@@ -52,12 +44,41 @@ one f true x = here (has f x)
     here false = refl
 one f false x = sym (and_no (has f x))
 
--- conditional findings of one fault
+-- two faults have the same number
+abbrev same : ConfigFault → ConfigFault → Bool
+same f g = fault_number f == fault_number g
+
+-- the findings of each element
 many : {A : Type 0} (f : ConfigFault) (a : Bool) (F : A → List Finding) (t : A → Bool) (xs : List A)
     → ((x : A) → list_any (has f) (F x) ≡ (a && t x)) → list_any (has f) (flat_map F xs) ≡ (a && list_any t xs)
 many f a F t [] each = sym (and_no a)
 many f a F t (x ∷ xs) each = list_any-append (has f) (F x) (flat_map F xs)
     ∙ rw (each x, many f a F t xs each) (and_or a (t x) (list_any t xs))
+
+-- some row passes, with the later rows
+abbrev any_row : {A : Type 0} → (A → List A → Bool) → List A → Bool
+any_row test [] = false
+any_row test (x ∷ xs) = test x xs || any_row test xs
+
+-- the findings of each row
+rows_shown : {A : Type 0} (f : ConfigFault) (a : Bool) (each : ℕ → A → List A → List Finding) (test : A → List A → Bool) (k : ℕ)
+    (xs : List A) → ((j : ℕ) (x : A) (rest : List A) → list_any (has f) (each j x rest) ≡ (a && test x rest))
+    → list_any (has f) (each_row each k xs) ≡ (a && any_row test xs)
+rows_shown f a each test k [] shown = sym (and_no a)
+rows_shown f a each test k (x ∷ xs) shown = list_any-append (has f) (each k x xs) (each_row each (k + 1) xs)
+    ∙ rw (shown k x xs, rows_shown f a each test (k + 1) xs shown) (and_or a (test x xs) (any_row test xs))
+
+-- the findings that have a fault
+those_shown : (f g : ConfigFault) (xs : List Finding) → list_any (has f) (filter (has g) xs) ≡ (same f g && list_any (has g) xs)
+those_shown f g [] = sym (and_no (same f g))
+those_shown f g (x ∷ xs) = here (has g x) refl (those_shown f g xs)
+  where
+    here : (b : Bool) → has g x ≡ b → list_any (has f) (filter (has g) xs) ≡ (same f g && list_any (has g) xs)
+        → list_any (has f) (cond b (x ∷ filter (has g) xs) (filter (has g) xs)) ≡ (same f g && (b || list_any (has g) xs))
+    here false is more = more
+    here true is more =
+        let number : fault_number g ≡ fault_number x.fault = eqb-true (fault_number g) (fault_number x.fault) is in
+        rw (← number, more) (absorbs (same f g) (list_any (has g) xs))
 
 -- `position` returns an index exactly if some element passes
 place_any : {A : Type 0} (p : A → Bool) (k : ℕ) (xs : List A) → is_some (position_from p k xs) ≡ list_any p xs
@@ -72,42 +93,29 @@ place_any p k (x ∷ xs) = here (p x) (place_any p (k + 1) xs)
 place_some : {A : Type 0} (p : A → Bool) (xs : List A) → is_some (position p xs) ≡ list_any p xs
 place_some p xs = ap is_some (position_from-zero p xs) ∙ place_any p 0 xs
 
--- two faults have the same number
-abbrev same : ConfigFault → ConfigFault → Bool
-same f g = fault_number f == fault_number g
-
 -- the finding of a pair
 pair : (f g : ConfigFault) (at : ℕ → Place) (k : ℕ) (o : Option ℕ)
     → list_any (has f) (pair_finding g at k o) ≡ (same f g && is_some o)
 pair f g at k None = sym (and_no (same f g))
 pair f g at k (Some d) = one f true (found g (at k) (plan_key g) (Some (k + 1 + d)))
 
--- the findings of links
-links_shown : (f g : ConfigFault) (k : ℕ) (links : List LinkPlan)
-    → list_any (has f) (link_findings g k links) ≡ (same f g && has_pair (links_clash g) links)
-links_shown f g k [] = sym (and_no (same f g))
-links_shown f g k (l ∷ rest) = list_any-append (has f) (pair_finding g Link k (position (links_clash g l) rest)) (link_findings g (k + 1) rest)
-    ∙ rw (pair f g Link k (position (links_clash g l) rest), place_some (links_clash g l) rest, links_shown f g (k + 1) rest)
-    (and_or (same f g) (list_any (links_clash g l) rest) (has_pair (links_clash g) rest))
+-- the findings of one link
+link_shown : (f g : ConfigFault) (k : ℕ) (l : LinkPlan) (rest : List LinkPlan)
+    → list_any (has f) (link_finding g k l rest) ≡ (same f g && list_any (links_clash g l) rest)
+link_shown f g k l rest = pair f g Link k (position (links_clash g l) rest) ∙ rw (place_some (links_clash g l) rest) refl
 
--- some port is the last one on a crowded sub-VL
-abbrev some_last : ConfigFault → List PortPlan → List PortPlan → Bool
-some_last g all [] = false
-some_last g all (p ∷ rest) = is_last_crowded g all p rest || some_last g all rest
+-- a port clashes with a later one, does not fit its link, or is the last one on a crowded sub-VL
+abbrev port_shows : ConfigFault → List LinkPlan → List PortPlan → PortPlan → List PortPlan → Bool
+port_shows g links all p rest = (list_any (ports_clash g p) rest || is_misfit g links p) || is_last_crowded g all p rest
 
-six : (a x y z u v w : Bool) → (((a && x) || ((a && y))) || (a && z) || (a && ((u || v) || w))) ≡ (a && (((x || u) || (y || v)) || (z || w)))
-six a x y z u v w = grind arith
-
-ports_shown : (f g : ConfigFault) (links : List LinkPlan) (all : List PortPlan) (k : ℕ) (ports : List PortPlan)
-    → list_any (has f) (port_findings g links all k ports)
-    ≡ (same f g && ((has_pair (ports_clash g) ports || list_any (is_misfit g links) ports) || some_last g all ports))
+-- the findings of one port
+port_shown : (f g : ConfigFault) (links : List LinkPlan) (all : List PortPlan) (k : ℕ) (p : PortPlan) (rest : List PortPlan)
+    → list_any (has f) (port_finding g links all k p rest) ≡ (same f g && port_shows g links all p rest)
 unfolding port_finding
-ports_shown f g links all k [] = sym (and_no (same f g))
-ports_shown f g links all k (p ∷ rest) =
+port_shown f g links all k p rest =
     let misfit = found g (Port k) (plan_key g) (link_number links p) in
     let last = found g (Port k) (plan_key g) None in
     rw (
-      list_any-append (has f) (port_finding g links all k p rest) (port_findings g links all (k + 1) rest),
       list_any-append (has f) (pair_finding g Port k (position (ports_clash g p) rest) ++ one_if (is_misfit g links p) misfit)
           (one_if (is_last_crowded g all p rest) last),
       list_any-append (has f) (pair_finding g Port k (position (ports_clash g p) rest)) (one_if (is_misfit g links p) misfit),
@@ -115,14 +123,23 @@ ports_shown f g links all k (p ∷ rest) =
       place_some (ports_clash g p) rest,
       one f (is_misfit g links p) misfit,
       one f (is_last_crowded g all p rest) last,
-      ports_shown f g links all (k + 1) rest,
-    ) (six (same f g) (list_any (ports_clash g p) rest) (is_misfit g links p) (is_last_crowded g all p rest)
-    (has_pair (ports_clash g) rest) (list_any (is_misfit g links) rest) (some_last g all rest))
+      and_or (same f g) (list_any (ports_clash g p) rest) (is_misfit g links p),
+    ) (and_or (same f g) (list_any (ports_clash g p) rest || is_misfit g links p) (is_last_crowded g all p rest))
 
--- no two of a list are related
-pair_no : {A : Type 0} (xs : List A) → has_pair (λ a b. false) xs ≡ false
-pair_no [] = refl
-pair_no (x ∷ xs) = rw (any_no xs, pair_no xs) refl
+-- each test of a row is that of a pair, that of one row, or fails
+any_pair : {A : Type 0} (related : A → A → Bool) (test : A → List A → Bool) (xs : List A)
+    → ((x : A) (rest : List A) → test x rest ≡ list_any (related x) rest) → any_row test xs ≡ has_pair related xs
+any_pair related test [] is = refl
+any_pair related test (x ∷ xs) is = rw (is x xs, any_pair related test xs is) refl
+
+any_one : {A : Type 0} (p : A → Bool) (test : A → List A → Bool) (xs : List A) → ((x : A) (rest : List A) → test x rest ≡ p x)
+    → any_row test xs ≡ list_any p xs
+any_one p test [] is = refl
+any_one p test (x ∷ xs) is = rw (is x xs, any_one p test xs is) refl
+
+no_row : {A : Type 0} (test : A → List A → Bool) (xs : List A) → ((x : A) (rest : List A) → test x rest ≡ false)
+    → any_row test xs ≡ false
+no_row test xs is = any_one (λ x. false) test xs is ∙ any_no xs
 
 -- the findings of counts
 counts_shown : (f g : ConfigFault) (links : List LinkPlan) (ports : List PortPlan)
@@ -151,11 +168,11 @@ crowd_same all p (q ∷ rest) follows crowded = here (has_same_sub p q) refl fol
     here false is some more = rw (more some crowded) (or-true (is_crowded all q))
 
 -- a crowded sub-VL has a last port
-last_is : (all ports : List PortPlan) → some_last Limit all ports ≡ list_any (is_crowded all) ports
-last_is all [] = refl
-last_is all (p ∷ rest) =
-    ap (λ b. (is_crowded all p && not (list_any (has_same_sub p) rest)) || b) (last_is all rest)
-    ∙ here (is_crowded all p) (list_any (has_same_sub p) rest) refl refl
+last_is : (links : List LinkPlan) (all ports : List PortPlan)
+    → any_row (port_shows Limit links all) ports ≡ list_any (is_crowded all) ports
+last_is links all [] = refl
+last_is links all (p ∷ rest) = rw (any_no rest, last_is links all rest)
+    (here (is_crowded all p) (list_any (has_same_sub p) rest) refl refl)
   where
     here : (b d : Bool) → is_crowded all p ≡ b → list_any (has_same_sub p) rest ≡ d
         → ((b && not d) || list_any (is_crowded all) rest) ≡ (b || list_any (is_crowded all) rest)
@@ -163,36 +180,35 @@ last_is all (p ∷ rest) =
     here true false crowded follows = refl
     here true true crowded follows = crowd_same all p rest follows crowded
 
--- no port is the last one on a crowded sub-VL
-last_no : (g : ConfigFault) (all ports : List PortPlan) → ((p : PortPlan) (rest : List PortPlan) → is_last_crowded g all p rest ≡ false)
-    → some_last g all ports ≡ false
-last_no g all [] none = refl
-last_no g all (p ∷ rest) none = rw (none p rest, last_no g all rest none) refl
-
 -- the tests of a fault in links and ports
 abbrev plan_tests : ConfigFault → List LinkPlan → List PortPlan → Bool
-plan_tests g links ports = (has_pair (links_clash g) links
+plan_tests g links ports = (any_row (λ l rest. list_any (links_clash g l) rest) links
     || (count_is_wrong g 64 (length links) || count_is_wrong g 256 (length ports)))
-    || ((has_pair (ports_clash g) ports || list_any (is_misfit g links) ports) || some_last g ports ports)
+    || any_row (port_shows g links ports) ports
+
+no_link : (links : List LinkPlan) → any_row (λ l rest. list_any (λ (b : LinkPlan). false) rest) links ≡ false
+no_link links = no_row (λ l rest. list_any (λ b. false) rest) links (λ l rest. any_no rest)
 
 -- these tests are those of the plan
 plan_same : (g : ConfigFault) (links : List LinkPlan) (ports : List PortPlan) → plan_tests g links ports ≡ parts_show links ports g
-plan_same DuplicateVl links ports = rw (pair_no ports, any_no ports)
-    (or-false (has_pair has_same_vl links || false) ∙ or-false (has_pair has_same_vl links))
-plan_same DuplicatePort links ports = rw (pair_no links, any_no ports)
-    (or-false (has_pair has_same_port ports || false) ∙ or-false (has_pair has_same_port ports))
-plan_same SameFlow links ports = rw (pair_no links, any_no ports)
-    (or-false (has_pair has_same_flow ports || false) ∙ or-false (has_pair has_same_flow ports))
-plan_same SharedUnicast links ports = rw (pair_no links, any_no ports)
-    (or-false (has_pair shares_unicast ports || false) ∙ or-false (has_pair shares_unicast ports))
-plan_same NoSuchVl links ports = rw (pair_no links, pair_no ports, last_no NoSuchVl ports ports (λ p rest. refl))
-    (or-false (list_any (names_no_link links) ports))
-plan_same NoSuchSub links ports = rw (pair_no links, pair_no ports, last_no NoSuchSub ports ports (λ p rest. refl))
-    (or-false (list_any (names_no_sub links) ports))
-plan_same SamplingTooLong links ports = rw (pair_no links, pair_no ports, last_no SamplingTooLong ports ports (λ p rest. refl))
-    (or-false (list_any (is_too_long links) ports))
-plan_same Limit links ports = rw (pair_no links, pair_no ports, any_no ports, last_is ports ports) refl
-plan_same g links ports = rw (pair_no links, pair_no ports, any_no ports) refl
+plan_same DuplicateVl links ports = rw (
+  any_pair has_same_vl (λ l rest. list_any (has_same_vl l) rest) links (λ l rest. refl),
+  no_row (port_shows DuplicateVl links ports) ports (λ p rest. rw (any_no rest) refl),
+) (or-false (has_pair has_same_vl links || false) ∙ or-false (has_pair has_same_vl links))
+plan_same DuplicatePort links ports = rw (no_link links)
+    (any_pair has_same_port (port_shows DuplicatePort links ports) ports (λ p rest. or-false _ ∙ or-false _))
+plan_same SameFlow links ports = rw (no_link links)
+    (any_pair has_same_flow (port_shows SameFlow links ports) ports (λ p rest. or-false _ ∙ or-false _))
+plan_same SharedUnicast links ports = rw (no_link links)
+    (any_pair shares_unicast (port_shows SharedUnicast links ports) ports (λ p rest. or-false _ ∙ or-false _))
+plan_same NoSuchVl links ports = rw (no_link links)
+    (any_one (names_no_link links) (port_shows NoSuchVl links ports) ports (λ p rest. rw (any_no rest) (or-false _)))
+plan_same NoSuchSub links ports = rw (no_link links)
+    (any_one (names_no_sub links) (port_shows NoSuchSub links ports) ports (λ p rest. rw (any_no rest) (or-false _)))
+plan_same SamplingTooLong links ports = rw (no_link links)
+    (any_one (is_too_long links) (port_shows SamplingTooLong links ports) ports (λ p rest. rw (any_no rest) (or-false _)))
+plan_same Limit links ports = rw (no_link links, last_is links ports ports) refl
+plan_same g links ports = rw (no_link links) (no_row (port_shows g links ports) ports (λ p rest. rw (any_no rest) refl))
 
 -- the findings of a plan
 plan_shown : (f g : ConfigFault) (links : List LinkPlan) (ports : List PortPlan)
@@ -200,135 +216,80 @@ plan_shown : (f g : ConfigFault) (links : List LinkPlan) (ports : List PortPlan)
 unfolding plan_findings
 plan_shown f g links ports =
     let numbers = count_is_wrong g 64 (length links) || count_is_wrong g 256 (length ports) in
-    let of_ports = (has_pair (ports_clash g) ports || list_any (is_misfit g links) ports) || some_last g ports ports in
+    let of_links : LinkPlan → List LinkPlan → Bool = λ l rest. list_any (links_clash g l) rest in
     rw (
-      list_any-append (has f) (link_findings g 1 links ++ count_findings g links ports) (port_findings g links ports 1 ports),
-      list_any-append (has f) (link_findings g 1 links) (count_findings g links ports),
-      links_shown f g 1 links,
+      list_any-append (has f) (each_row (link_finding g) 1 links ++ count_findings g links ports)
+          (each_row (port_finding g links ports) 1 ports),
+      list_any-append (has f) (each_row (link_finding g) 1 links) (count_findings g links ports),
+      rows_shown f (same f g) (link_finding g) of_links 1 links (link_shown f g),
       counts_shown f g links ports,
-      ports_shown f g links ports 1 ports,
-      and_or (same f g) (has_pair (links_clash g) links) numbers,
-      and_or (same f g) (has_pair (links_clash g) links || numbers) of_ports,
+      rows_shown f (same f g) (port_finding g links ports) (port_shows g links ports) 1 ports (port_shown f g links ports),
+      and_or (same f g) (any_row of_links links) numbers,
+      and_or (same f g) (any_row of_links links || numbers) (any_row (port_shows g links ports) ports),
     ) (ap (λ b. same f g && b) (plan_same g links ports))
-
--- the unknown keys of a table
-key_test : (u n h : Bool) → ((u && n) || (h && u)) ≡ ((n || h) && u)
-key_test true true h = refl
-key_test true false h = refl
-key_test false n h = and_no h ∙ sym (and_no (n || h))
-
-keys_any : (u : Bool) (known : List ℕ → Bool) (ms : Members)
-    → list_any (λ key. u && not (known key)) (member_keys ms) ≡ (has_key_besides known ms && u)
-keys_any u known no_members = refl
-keys_any u known (member k d ms) = ap (λ b. (u && not (known k)) || b) (keys_any u known ms)
-    ∙ key_test u (not (known k)) (has_key_besides known ms)
-
-fault_then : (g : ConfigFault) (b : Bool) → is_fault g (then_some b UnknownKey) ≡ (b && is_fault g (Some UnknownKey))
-fault_then g true = refl
-fault_then g false = refl
-
--- the findings of a table
-site_shown : (f g : ConfigFault) (s : Site) → list_any (has f) (site_findings g s) ≡ (same f g && table_shows g s.fields s.members)
-unfolding site_findings table_shows
-site_shown f g s =
-    list_any-append (has f) (flat_map (field_findings g s.place s.members) s.fields)
-    (flat_map (key_findings g s.place s.fields) (member_keys s.members))
-    ∙ rw (
-      many f (same f g) (field_findings g s.place s.members) (λ field. is_fault g (field_fault s.members field)) s.fields
-          (λ field. one f (is_fault g (field_fault s.members field)) (found g s.place field.key None)),
-      many f (same f g) (key_findings g s.place s.fields) (λ key. is_fault g (Some UnknownKey) && not (is_key_of s.fields key))
-          (member_keys s.members)
-          (λ key. one f (is_fault g (Some UnknownKey) && not (is_key_of s.fields key)) (found g s.place key None)),
-      keys_any (is_fault g (Some UnknownKey)) (is_key_of s.fields) s.members,
-      fault_then g (has_key_besides (is_key_of s.fields) s.members),
-    ) (and_or (same f g) (list_any (λ field. is_fault g (field_fault s.members field)) s.fields)
-    (has_key_besides (is_key_of s.fields) s.members && is_fault g (Some UnknownKey)))
-
--- the tables of an array, and the end system's
-rows_any : (g : ConfigFault) (at : ℕ → Place) (fields : List Field) (k : ℕ) (ms : List Members)
-    → list_any (λ s. table_shows g s.fields s.members) (row_sites at fields k ms) ≡ list_any (table_shows g fields) ms
-rows_any g at fields k [] = refl
-rows_any g at fields k (m ∷ ms) = ap (λ b. table_shows g fields m || b) (rows_any g at fields (k + 1) ms)
-
-end_any : (g : ConfigFault) (o : Option Members)
-    → list_any (λ s. table_shows g s.fields s.members) (end_sites o) ≡ option_map_or (table_shows g end_fields) o false
-end_any g None = refl
-end_any g (Some m) = or-false (table_shows g end_fields m)
-
-or_four : (a b c d : Bool) → (a || (b || (c || d))) ≡ (((a || b) || c) || d)
-or_four a b c d = grind arith
-
-values_any : (g : ConfigFault) (doc : Members) → list_any (λ s. table_shows g s.fields s.members) (sites doc) ≡ values_show g doc
-unfolding values_show
-values_any g doc =
-    let links = row_sites Link (fields_in (is_version_2 doc) link_fields) 1 (rows_at (codes "vl") doc) in
-    let ports = row_sites Port (fields_in (is_version_2 doc) port_fields) 1 (rows_at (codes "port") doc) in
-    let end = end_sites (section_at (codes "end_system") doc) in
-    let test : Site → Bool = λ s. table_shows g s.fields s.members in
-    rw (
-      list_any-append test end (links ++ ports),
-      list_any-append test links ports,
-      end_any g (section_at (codes "end_system") doc),
-      rows_any g Link (fields_in (is_version_2 doc) link_fields) 1 (rows_at (codes "vl") doc),
-      rows_any g Port (fields_in (is_version_2 doc) port_fields) 1 (rows_at (codes "port") doc),
-    ) (or_four (table_shows g document_fields doc) _ _ _)
 
 -- the findings of a fault in a document
 pub of_shown : (f g : ConfigFault) (doc : Members) → list_any (has f) (findings_of g doc) ≡ (same f g && shows g doc)
 of_shown f g doc =
-    list_any-append (has f) (flat_map (site_findings g) (sites doc)) (plan_findings g (plan_of doc).links (plan_of doc).ports)
-    ∙ rw (
-      many f (same f g) (site_findings g) (λ s. table_shows g s.fields s.members) (sites doc) (site_shown f g),
-      values_any g doc,
-      plan_shown f g (plan_of doc).links (plan_of doc).ports,
-    ) (and_or (same f g) (values_show g doc) (parts_show (plan_of doc).links (plan_of doc).ports g))
+    list_any-append (has f) (filter (has g) (value_findings doc)) (plan_findings g (plan_of doc).links (plan_of doc).ports)
+    ∙ rw (those_shown f g (value_findings doc), plan_shown f g (plan_of doc).links (plan_of doc).ports)
+    (and_or (same f g) (values_show g doc) (parts_show (plan_of doc).links (plan_of doc).ports g))
 
--- values have only faults of 2 to 6
-one_small : (b : Bool) (fault : ConfigFault) → IsOfValues fault → IfSome (then_some b fault) IsOfValues
-one_small true fault is = is
-one_small false fault is = tt
+-- a fault of values
+abbrev pub is_value : ConfigFault → Bool
+is_value f = nat_lt 1 (fault_number f) && nat_lt (fault_number f) 7
 
-in_small : {X : Type 0} (fault : ConfigFault) (refuses : X → Bool) (o : Option X) → IsOfValues fault
-    → IfSome (fault_in fault refuses o) IsOfValues
-in_small fault refuses None is = (lit≤ tt, lit≤ tt)
-in_small fault refuses (Some x) is = one_small (refuses x) fault is
+abbrev AreValues : List Finding → Type 0
+AreValues xs = AllByRecursion (λ x. is_value x.fault ≡ true) xs
 
-content_small : (content : Content) (value : Data) → IfSome (content_fault content value) IsOfValues
-content_small content value = grind (arith, in_small)
+-- values have only such faults
+one_in : (b : Bool) (fault : ConfigFault) → is_value fault ≡ true → IfSome (then_some b fault) (λ f. is_value f ≡ true)
+one_in true fault is = is
+one_in false fault is = tt
 
-under_small : (field : Field) (o : Option Data) → IfSome (fault_under field o) IsOfValues
-under_small field None = one_small field.is_needed MissingKey (lit≤ tt, lit≤ tt)
-under_small field (Some value) = content_small field.content value
+read_in : {X : Type 0} (fault : ConfigFault) (refuses : X → Bool) (o : Option X) → is_value fault ≡ true
+    → IfSome (fault_in fault refuses o) (λ f. is_value f ≡ true)
+read_in fault refuses None is = refl
+read_in fault refuses (Some x) is = one_in (refuses x) fault is
 
--- no other fault is a fault of values
-far : (g : ConfigFault) (o : Option ConfigFault) → (IsOfValues g → ⊥) → IfSome o IsOfValues → is_fault g o ≡ false
-far g None other small = refl
-far g (Some e) other small = here (fault_number g == fault_number e) refl
+content_in : (content : Content) (value : Data) → IfSome (content_fault content value) (λ f. is_value f ≡ true)
+content_in content value = grind (arith, read_in)
+
+under_in : (field : Field) (o : Option Data) → IfSome (fault_under field o) (λ f. is_value f ≡ true)
+under_in field None = one_in field.is_needed MissingKey refl
+under_in field (Some value) = content_in field.content value
+
+key_in : (place : Place) (key : List ℕ) (o : Option ConfigFault) → IfSome o (λ f. is_value f ≡ true) → AreValues (key_finding place key o)
+key_in place key None is = tt
+key_in place key (Some f) is = (is, tt)
+
+table_in : (place : Place) (fields : List Field) (members : Members) → AreValues (table_findings place fields members)
+unfolding table_findings
+table_in place fields members = r_append (λ x. is_value x.fault ≡ true) _ _
+    (r_each _ (λ field. key_finding place field.key (field_fault members field)) fields
+    (λ field. key_in place field.key _ (under_in field (get_member field.key members))))
+    (r_each _ (λ key. key_finding place key (key_fault fields key)) (member_keys members)
+    (λ key. key_in place key _ (one_in (not (is_key_of fields key)) UnknownKey refl)))
+
+pub values_in : (doc : Members) → AreValues (value_findings doc)
+values_in doc = values_have (λ x. is_value x.fault ≡ true) doc (λ place fields members at. table_in place fields members)
+
+-- no other fault is one of values
+values_far : (f : ConfigFault) (xs : List Finding) → AreValues xs → is_value f ≡ false → list_any (has f) xs ≡ false
+values_far f [] all far = refl
+values_far f (x ∷ xs) all far = here (has f x) refl (values_far f xs all.1 far)
   where
-    here : (b : Bool) → (fault_number g == fault_number e) ≡ b → b ≡ false
-    here false is = refl
-    here true is = absurd (other (rw (eqb-true (fault_number g) (fault_number e) is) small))
-
-table_far : (g : ConfigFault) (fields : List Field) (members : Members) → (IsOfValues g → ⊥) → table_shows g fields members ≡ false
-unfolding table_shows
-table_far g fields members other =
-    rw (
-      any_same (λ field. is_fault g (field_fault members field)) (λ field. false) fields
-          (λ field. far g (field_fault members field) other (under_small field (get_member field.key members))),
-      any_no fields,
-    ) (far g (keys_fault fields members) other
-    (one_small (has_key_besides (is_key_of fields) members) UnknownKey (lit≤ tt, lit≤ tt)))
-
-values_far : (g : ConfigFault) (doc : Members) → (IsOfValues g → ⊥) → values_show g doc ≡ false
-values_far g doc other = sym (values_any g doc)
-    ∙ any_same (λ s. table_shows g s.fields s.members) (λ s. false) (sites doc) (λ s. table_far g s.fields s.members other)
-    ∙ any_no (sites doc)
+    here : (b : Bool) → has f x ≡ b → list_any (has f) xs ≡ false → (b || list_any (has f) xs) ≡ false
+    here false is rest = rest
+    here true is rest =
+        let other : is_value x.fault ≡ false = rw (eqb-true (fault_number f) (fault_number x.fault) is) at far in
+        let one = all.0 in cc
 
 pub no_toml : (doc : Members) → shows Toml doc ≡ false
-no_toml doc = rw (values_far Toml doc (λ is. absurd (omega (arith, is.0)))) refl
+no_toml doc = rw (values_far Toml (value_findings doc) (values_in doc) refl) refl
 
-no_memory : (doc : Members) → shows Memory doc ≡ false
-no_memory doc = rw (values_far Memory doc (λ is. absurd (omega (arith, is.1)))) refl
+pub no_memory : (doc : Members) → shows Memory doc ≡ false
+no_memory doc = rw (values_far Memory (value_findings doc) (values_in doc) refl) refl
 
 -- each fault of a document is in the list of faults
 among : (f : ConfigFault) (doc : Members) → list_any (λ g. same f g && shows g doc) shown_faults ≡ shows f doc

@@ -1,34 +1,35 @@
 -- A document whose values have no fault has tables without faults.
-use Rattle.afdx_config.proofs.Names.{◌≡◌, ◌-◌, codes, Bool, true, false, List, [], ◌∷◌, map, length, Option, Some, None}
-use Rattle.afdx_config.proofs.Names.{ℕ, refl, ap, sym, ◌∙◌, eq-eqb, same_Some, All-cons, All-nil, All-take}
-use Rattle.afdx_config.proofs.Names.{All-from_recursion, recursion_from_All, or_parts, All, list_any, option_map_or}
-use Rattle.afdx_config.proofs.Names.{ForSome, Members, table_view, fault_number, ConfigFault, number_at, Field}
-use Rattle.afdx_config.proofs.Names.{end_fields, link_fields, port_fields, fields_in, link_of, port_of, plan_of}
-use Rattle.afdx_config.proofs.Names.{is_fault, field_fault, is_version_2, values_show, IsDocument, AreSound}
-use Rattle.afdx_config.proofs.Names.{IsSoundTable, Document, data_of, map-map, LinkPlan, PortPlan}
-use Rattle.afdx_config.specs.Tables.{table_shows}
-use Rattle.afdx_config.proofs.SectionLemmas.{Found, shown_in, option_maps}
+use Rattle.afdx_config.proofs.Names.{◌≡◌, ◌-◌, ◌+◌, codes, Bool, true, false, List, [], ◌∷◌, ◌++◌, map, length, Option}
+use Rattle.afdx_config.proofs.Names.{Some, None, ℕ, refl, ap, sym, ◌∙◌, same_Some, All-cons, All-nil, All-take}
+use Rattle.afdx_config.proofs.Names.{All-from_recursion, recursion_from_All, All, flat_map, option_map_or, ForSome}
+use Rattle.afdx_config.proofs.Names.{Members, table_view, ConfigFault, number_at, Field, end_fields, link_fields}
+use Rattle.afdx_config.proofs.Names.{port_fields, fields_in, link_of, port_of, plan_of, field_fault, is_version_2}
+use Rattle.afdx_config.proofs.Names.{IsDocument, AreSound, IsSoundTable, Document, data_of, map-map, LinkPlan, PortPlan}
+use Rattle.afdx_config.proofs.Names.{Place, EndSystem, Link, Port, key_finding, each_row, section_at}
+use Rattle.afdx_config.specs.Findings.{table_findings, value_findings}
+use Rattle.afdx_config.proofs.SectionLemmas.{Found, option_maps}
 
--- an option that is no fault is none
-no_fault : (o : Option ConfigFault) → ((f : ConfigFault) → is_fault f o ≡ false) → o ≡ None
-no_fault None none = refl
-no_fault (Some g) none = let same = eq-eqb (fault_number g) (fault_number g) refl in let other = none g in cc
+-- two lists are empty if their concatenation is
+none : {A : Type 0} (xs ys : List A) → xs ++ ys ≡ [] → (xs ≡ []) × (ys ≡ [])
+none [] ys is = (refl, is)
+none (x ∷ xs) ys is = cc
 
--- fields without a fault are sound
-fields_sound : (fields : List Field) (members : Members)
-    → ((f : ConfigFault) → list_any (λ field. is_fault f (field_fault members field)) fields ≡ false)
-    → IsSoundTable fields members
-fields_sound [] members none = tt
-fields_sound (x ∷ xs) members none = (
-  no_fault (field_fault members x) (λ f. (or_parts _ _ (none f)).0),
-  fields_sound xs members (λ f. (or_parts _ _ (none f)).1),
-)
+-- a key without a finding has no fault
+no_fault : (place : Place) (key : List ℕ) (o : Option ConfigFault) → key_finding place key o ≡ [] → o ≡ None
+no_fault place key None is = refl
+no_fault place key (Some g) is = cc
 
--- a table without a fault is sound
-table_sound : (fields : List Field) (members : Members) → ((f : ConfigFault) → table_shows f fields members ≡ false)
-    → IsSoundTable fields members
-unfolding table_shows
-table_sound fields members none = fields_sound fields members (λ f. (or_parts _ _ (none f)).0)
+-- fields without findings are sound
+fields_sound : (place : Place) (fields : List Field) (members : Members)
+    → flat_map (λ field. key_finding place field.key (field_fault members field)) fields ≡ [] → IsSoundTable fields members
+fields_sound place [] members is = tt
+fields_sound place (x ∷ xs) members is = let (one, rest) = none _ _ is in
+    (no_fault place x.key (field_fault members x) one, fields_sound place xs members rest)
+
+-- a table without findings is sound
+table_sound : (place : Place) (fields : List Field) (members : Members) → table_findings place fields members ≡ [] → IsSoundTable fields members
+unfolding table_findings
+table_sound place fields members is = fields_sound place fields members (none _ _ is).0
 
 -- a table that is sound in its version is sound in version 1
 both_sound : (is_2 : Bool) (fields : List Field) (members : Members) → IsSoundTable (fields_in is_2 fields) members
@@ -38,33 +39,34 @@ both_sound true fields members is = recursion_from_All _ _ (All-take (λ field. 
     (length fields - 1) fields (All-from_recursion (λ field. field_fault members field ≡ None) fields is))
 
 -- the tables of a list are sound
-all_sound : (is_2 : Bool) (fields : List Field) (tables : List Found)
-    → ((f : ConfigFault) → list_any (λ t. table_shows f (fields_in is_2 fields) (table_view t.now)) tables ≡ false)
+all_sound : (is_2 : Bool) (like : ℕ → Place) (fields : List Field) (k : ℕ) (tables : List Found)
+    → each_row (λ k m rest. table_findings (like k) (fields_in is_2 fields) m) k (map (λ t. table_view t.now) tables) ≡ []
     → All (λ t. IsSoundTable (fields_in false fields) (table_view t.now)) tables
-all_sound is_2 fields [] none = All-nil (λ (t : Found). IsSoundTable (fields_in false fields) (table_view t.now))
-all_sound is_2 fields (x ∷ xs) none =
+all_sound is_2 like fields k [] is = All-nil (λ (t : Found). IsSoundTable (fields_in false fields) (table_view t.now))
+all_sound is_2 like fields k (x ∷ xs) is = let (one, rest) = none _ _ is in
     All-cons (λ (t : Found). IsSoundTable (fields_in false fields) (table_view t.now)) x xs
-    (both_sound is_2 fields (table_view x.now)
-    (table_sound (fields_in is_2 fields) (table_view x.now) (λ f. (or_parts _ _ (none f)).0)))
-    (all_sound is_2 fields xs (λ f. (or_parts _ _ (none f)).1))
+    (both_sound is_2 fields (table_view x.now) (table_sound (like k) (fields_in is_2 fields) (table_view x.now) one))
+    (all_sound is_2 like fields (k + 1) xs rest)
 
 -- the table of the end system is sound
-end_sound : (o : Option Found)
-    → ((f : ConfigFault) → option_map_or (λ t. table_shows f end_fields (table_view t.now)) o false ≡ false)
+end_sound : (o : Option Found) → option_map_or (λ t. table_findings EndSystem end_fields (table_view t.now)) o [] ≡ []
     → ForSome o (λ t. IsSoundTable end_fields (table_view t.now))
-end_sound None none = λ t e. cc
-end_sound (Some x) none = λ t e. rw (← same_Some x t e) (table_sound end_fields (table_view x.now) none)
+end_sound None is = λ t e. cc
+end_sound (Some x) is = λ t e. rw (← same_Some x t e) (table_sound EndSystem end_fields (table_view x.now) is)
 
--- the tables of a document whose values have no fault are sound
-pub sound : (s : Document) → IsDocument s → ((f : ConfigFault) → values_show f (data_of s) ≡ false)
-    → AreSound s
-sound s are none =
-    let ports = λ (f : ConfigFault). or_parts _ _ (sym (shown_in s are f) ∙ none f) in
-    let links = λ (f : ConfigFault). or_parts _ _ (ports f).0 in
+-- the tables of a document whose values have no finding are sound
+pub sound : (s : Document) → IsDocument s → value_findings (data_of s) ≡ [] → AreSound s
+unfolding value_findings
+sound s are is =
+    let (before_ports, ports) = none _ _ is in
+    let (before_links, links) = none _ _ before_ports in
+    let end : option_map_or (table_findings EndSystem end_fields) (section_at (codes "end_system") (data_of s)) [] ≡ [] =
+    (none _ _ before_links).1 in
     record {
-      end_sound = end_sound s.end (λ f. (or_parts _ _ (links f).0).1);
-      links_sound = all_sound (is_version_2 (data_of s)) link_fields s.links.items (λ f. (links f).1);
-      ports_sound = all_sound (is_version_2 (data_of s)) port_fields s.ports.items (λ f. (ports f).1);
+      end_sound = end_sound s.end (sym (option_maps (table_findings EndSystem end_fields) (λ (t : Found). table_view t.now) s.end [])
+          ∙ rw (← are.end_is) at end);
+      links_sound = all_sound (is_version_2 (data_of s)) Link link_fields 1 s.links.items (rw are.links_are links);
+      ports_sound = all_sound (is_version_2 (data_of s)) Port port_fields 1 s.ports.items (rw are.ports_are ports);
     }
 
 -- the plan of the parts is that of the document

@@ -1,6 +1,6 @@
 -- Texts of values.
-use Rattle.afdx_config.proofs.Names.{◌≡◌, ℕ, ◌+◌, ◌≤◌, List, [], ◌∷◌, ◌++◌, length, take, refl, ap, sym, ◌∙◌, map}
-use Rattle.afdx_config.proofs.Names.{codes, arith, decimal, append-nil, Vec, Global, le-ltb, take_all, flat_map, array}
+use Rattle.afdx_config.proofs.Names.{◌≡◌, ℕ, ◌≤◌, List, [], ◌∷◌, length, refl, ap, sym}
+use Rattle.afdx_config.proofs.Names.{arith, append-nil, Vec, Global, le-ltb, take_all, flat_map}
 use Rattle.afdx_config.proofs.Names.{items_view, view, Value, Array, view-Array, escaped}
 use Rattle.afdx_config.specs.Told.{cut_text, array_text, items_count, known_text}
 

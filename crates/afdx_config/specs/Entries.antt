@@ -1,5 +1,5 @@
 -- Values of a table by key.
-use Rattle.std.specs.Prelude.{ℕ, ℤ, pos, negsuc, nat_lt, List, [], Bool, true, false, not, ◌||◌, Option, option_and_then}
+use Rattle.std.specs.Prelude.{ℕ, ℤ, pos, negsuc, nat_lt, List, [], ◌∷◌, Bool, true, ◌||◌, Option, option_and_then}
 use Rattle.std.specs.List.{cons_option}
 use Rattle.std.specs.Option.{option_map_or}
 use Rattle.toml.specs.Data.{Items, no_items, item, Members, no_members, member, get_member, as_integer, as_str, as_table}
@@ -26,10 +26,10 @@ natural (negsuc n) = 0
 abbrev pub number_at : List ℕ → Members → ℕ
 number_at key members = option_map_or natural (whole_at key members) 0
 
--- the table has an unknown key
-abbrev pub has_key_besides : (List ℕ → Bool) → Members → Bool
-has_key_besides known no_members = false
-has_key_besides known (member k d ms) = not (known k) || has_key_besides known ms
+-- the keys of a table
+abbrev pub member_keys : Members → List (List ℕ)
+member_keys no_members = []
+member_keys (member key value rest) = key ∷ member_keys rest
 
 -- the tables among the items of an array
 abbrev pub tables_among : Items → List Members

@@ -5,7 +5,7 @@ use Rattle.toml.specs.Parse.{parse_document}
 use Rattle.afdx_plan.specs.Config.{Plan}
 use Rattle.afdx_config.specs.PlanOf.{plan_of}
 use Rattle.afdx_plan.specs.PlanFaults.{fault_number, plan_shows}
-use Rattle.afdx_config.specs.Tables.{values_show}
+use Rattle.afdx_config.specs.Findings.{values_show}
 use Rattle.afdx_plan.specs.declared.fault.ConfigFault.{ConfigFault}
 use Rattle.afdx_plan.specs.declared.fault.ConfigFault.TheVariants.{Toml}
 

@@ -1,9 +1,8 @@
 -- Laws of the findings of a document.
-use Rattle.std.specs.Prelude.{◌≡◌, ◌==◌, ◌∷◌, [], ◌-◌, ℕ, List, length, codes, bytes_eq, slice_get, nat_lt, Bool, true, false, ◌&&◌, ◌||◌, not, Option, Some, None, All}
+use Rattle.std.specs.Prelude.{◌≡◌, ◌∷◌, [], ◌-◌, ℕ, List, length, codes, bytes_eq, slice_get, nat_lt, Bool, true, false, ◌&&◌, ◌||◌, not, Option, Some, None, All}
 use Rattle.std.specs.List.{list_any}
 use Rattle.std.specs.Option.{option_map_or}
 use Rattle.toml.specs.Data.{Members}
-use Rattle.afdx_plan.specs.PlanFaults.{fault_number}
 use Rattle.afdx_plan.specs.declared.fault.ConfigFault.{ConfigFault}
 use Rattle.afdx_plan.specs.declared.fault.ConfigFault.TheVariants.{UnknownKey}
 use Rattle.afdx_plan.specs.declared.link_plan.LinkPlan.{LinkPlan}
@@ -11,14 +10,11 @@ use Rattle.afdx_plan.specs.declared.port_plan.PortPlan.{PortPlan}
 use Rattle.afdx_config.specs.declared.findings.Place.{Place}
 use Rattle.afdx_config.specs.declared.findings.Place.TheVariants.{Top, Link, Port}
 use Rattle.afdx_config.specs.Faults.{shows, Reads, IsLeastFault, IsPlanOf}
-use Rattle.afdx_config.specs.Findings.{Finding, findings, member_keys, links_clash, ports_clash, is_misfit, is_last_crowded, count_is_wrong}
+use Rattle.afdx_config.specs.Findings.{Finding, findings, has, links_clash, ports_clash, is_misfit, is_last_crowded, count_is_wrong}
+use Rattle.afdx_config.specs.Entries.{member_keys}
 use Rattle.afdx_config.specs.PlanOf.{plan_of}
 use Rattle.afdx_config.specs.Tables.{field_fault, is_fault, is_key_of}
 use Rattle.afdx_config.specs.Told.{members_at, fields_at}
-
--- a finding has this fault
-abbrev pub has : ConfigFault → Finding → Bool
-has fault finding = fault_number fault == fault_number finding.fault
 
 -- a document has a fault exactly if some finding has it
 abbrev pub FaultsAreFound : Type 0

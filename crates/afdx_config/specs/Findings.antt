@@ -1,9 +1,8 @@
 -- All faults of a document, each with its place.
-use Rattle.std.specs.Prelude.{codes, ℕ, ◌+◌, List, [], ◌∷◌, ◌++◌, length, map, Bool, true, false, ◌&&◌, not, if◌then◌else◌, ◌==◌, Option, Some, None, option_map}
+use Rattle.std.specs.Prelude.{codes, ℕ, ◌+◌, List, [], ◌∷◌, ◌++◌, length, filter, Bool, true, false, ◌&&◌, not, ◌==◌, Option, Some, None, option_map}
 use Rattle.std.specs.List.{list_any, position, flat_map}
 use Rattle.std.specs.Option.{option_map_or}
-use Rattle.toml.specs.Data.{Members, no_members, member}
-use Rattle.afdx_plan.specs.Config.{Plan}
+use Rattle.toml.specs.Data.{Members}
 use Rattle.afdx_plan.specs.PlanFaults.{fault_number, has_same_vl, has_same_port, is_link_of, names_no_link, names_no_sub, is_too_long, has_same_flow, shares_unicast, is_no_count, is_crowded}
 use Rattle.afdx_plan.specs.declared.fault.ConfigFault.{ConfigFault}
 use Rattle.afdx_plan.specs.declared.fault.ConfigFault.TheVariants.{MissingKey, UnknownKey, WrongKind, OutOfRange, BadBag, DuplicateVl, DuplicatePort, NoSuchVl, NoSuchSub, SamplingTooLong, SameFlow, SharedUnicast, Limit}
@@ -13,7 +12,8 @@ use Rattle.afdx_config.specs.declared.findings.Place.{Place}
 use Rattle.afdx_config.specs.declared.findings.Place.TheVariants.{Top, EndSystem, Link, Port}
 use Rattle.afdx_config.specs.Format.{Field, document_fields, end_fields, link_fields, port_fields, fields_in}
 use Rattle.afdx_config.specs.PlanOf.{plan_of}
-use Rattle.afdx_config.specs.Tables.{field_fault, is_key_of, is_fault, rows_at, section_at, is_version_2}
+use Rattle.afdx_config.specs.Entries.{member_keys}
+use Rattle.afdx_config.specs.Tables.{field_fault, key_fault, rows_at, section_at, is_version_2}
 
 -- a fault, its place, its key, and the other table of a fault of two
 pub record Finding : Type 0 where
@@ -26,56 +26,50 @@ pub record Finding : Type 0 where
 abbrev pub found : ConfigFault → Place → List ℕ → Option ℕ → Finding
 found which at name with_other = record { fault = which; place = at; key = name; other = with_other }
 
+-- a finding has this fault
+abbrev pub has : ConfigFault → Finding → Bool
+has fault finding = fault_number fault == fault_number finding.fault
+
 -- this finding if the test holds, else none
 abbrev pub one_if : Bool → Finding → List Finding
 one_if true finding = finding ∷ []
 one_if false finding = []
 
--- a table of a document, its place and its format
-pub record Site : Type 0 where
-  pub place : Place
-  pub fields : List Field
-  pub members : Members
+-- the finding of a key, if it has a fault
+abbrev pub key_finding : Place → List ℕ → Option ConfigFault → List Finding
+key_finding place key None = []
+key_finding place key (Some fault) = found fault place key None ∷ []
 
--- a site made of its parts
-abbrev pub site : Place → List Field → Members → Site
-site at keys table = record { place = at; fields = keys; members = table }
+-- the findings of a table: those of the keys of its format, then those of its own keys
+unfoldable pub table_findings : Place → List Field → Members → List Finding
+table_findings place fields members =
+    flat_map (λ field. key_finding place field.key (field_fault members field)) fields
+    ++ flat_map (λ key. key_finding place key (key_fault fields key)) (member_keys members)
 
--- the tables of an array, counted from k
-abbrev pub row_sites : (ℕ → Place) → List Field → ℕ → List Members → List Site
-row_sites at fields k [] = []
-row_sites at fields k (members ∷ rest) = site (at k) fields members ∷ row_sites at fields (k + 1) rest
+-- the findings of the rows of an array, counted from k: those of each row, with the later rows
+abbrev pub each_row : {A : Type 0} → (ℕ → A → List A → List Finding) → ℕ → List A → List Finding
+each_row each k [] = []
+each_row each k (row ∷ rest) = each k row rest ++ each_row each (k + 1) rest
 
--- the table of the end system
-abbrev pub end_sites : Option Members → List Site
-end_sites end = option_map_or (λ members. site EndSystem end_fields members ∷ []) end []
+-- the place of row k of the array of this place
+abbrev pub row_like : Place → ℕ → Place
+row_like (Link j) k = Link k
+row_like _ k = Port k
 
--- the tables of a document: the top level, the end system, the links and the ports
-abbrev pub sites : Members → List Site
-sites document = site Top document_fields document
-    ∷ (end_sites (section_at (codes "end_system") document)
-    ++ (row_sites Link (fields_in (is_version_2 document) link_fields) 1 (rows_at (codes "vl") document)
-    ++ row_sites Port (fields_in (is_version_2 document) port_fields) 1 (rows_at (codes "port") document)))
+-- the findings of 2 to 6: those of the top level, the end system, the links and the ports
+unfoldable pub value_findings : Members → List Finding
+value_findings document = table_findings Top document_fields document
+    ++ option_map_or (table_findings EndSystem end_fields) (section_at (codes "end_system") document) []
+    ++ each_row
+    (λ k row rest. table_findings (Link k) (fields_in (is_version_2 document) link_fields) row) 1
+    (rows_at (codes "vl") document)
+    ++ each_row
+    (λ k row rest. table_findings (Port k) (fields_in (is_version_2 document) port_fields) row) 1
+    (rows_at (codes "port") document)
 
--- the finding of a key of a table's format, if it has the fault
-abbrev pub field_findings : ConfigFault → Place → Members → Field → List Finding
-field_findings fault place members field =
-    one_if (is_fault fault (field_fault members field)) (found fault place field.key None)
-
--- the finding of a key of a table, if it is not in the format
-abbrev pub key_findings : ConfigFault → Place → List Field → List ℕ → List Finding
-key_findings fault place fields key =
-    one_if (is_fault fault (Some UnknownKey) && not (is_key_of fields key)) (found fault place key None)
-
--- the keys of a table
-abbrev pub member_keys : Members → List (List ℕ)
-member_keys no_members = []
-member_keys (member key value rest) = key ∷ member_keys rest
-
--- a table's findings: those of the keys of its format, then those of its own keys
-unfoldable pub site_findings : ConfigFault → Site → List Finding
-site_findings fault s = flat_map (field_findings fault s.place s.members) s.fields
-    ++ flat_map (key_findings fault s.place s.fields) (member_keys s.members)
+-- the values of a document have a fault of 2 to 6
+abbrev pub values_show : ConfigFault → Members → Bool
+values_show fault document = list_any (has fault) (value_findings document)
 
 -- the key that a finding of a plan's fault names
 abbrev pub plan_key : ConfigFault → List ℕ
@@ -97,11 +91,9 @@ abbrev pub links_clash : ConfigFault → LinkPlan → LinkPlan → Bool
 links_clash DuplicateVl a b = has_same_vl a b
 links_clash _ a b = false
 
--- the findings of clashing links, counted from k
-abbrev pub link_findings : ConfigFault → ℕ → List LinkPlan → List Finding
-link_findings fault k [] = []
-link_findings fault k (link ∷ rest) =
-    pair_finding fault Link k (position (links_clash fault link) rest) ++ link_findings fault (k + 1) rest
+-- the finding of link k, with the later links
+abbrev pub link_finding : ConfigFault → ℕ → LinkPlan → List LinkPlan → List Finding
+link_finding fault k link rest = pair_finding fault Link k (position (links_clash fault link) rest)
 
 -- two ports have this fault together
 abbrev pub ports_clash : ConfigFault → PortPlan → PortPlan → Bool
@@ -136,12 +128,6 @@ port_finding fault links ports k port rest = pair_finding fault Port k (position
     ++ one_if (is_misfit fault links port) (found fault (Port k) (plan_key fault) (link_number links port))
     ++ one_if (is_last_crowded fault ports port rest) (found fault (Port k) (plan_key fault) None)
 
--- the findings of ports, counted from k, among all ports
-abbrev pub port_findings : ConfigFault → List LinkPlan → List PortPlan → ℕ → List PortPlan → List Finding
-port_findings fault links ports k [] = []
-port_findings fault links ports k (port ∷ rest) =
-    port_finding fault links ports k port rest ++ port_findings fault links ports (k + 1) rest
-
 -- there are no or too many tables
 abbrev pub count_is_wrong : ConfigFault → ℕ → ℕ → Bool
 count_is_wrong Limit most count = is_no_count most count
@@ -154,13 +140,13 @@ count_findings fault links ports = one_if (count_is_wrong fault 64 (length links
 
 -- the findings of a fault in a plan
 unfoldable pub plan_findings : ConfigFault → List LinkPlan → List PortPlan → List Finding
-plan_findings fault links ports = link_findings fault 1 links
+plan_findings fault links ports = each_row (link_finding fault) 1 links
     ++ count_findings fault links ports
-    ++ port_findings fault links ports 1 ports
+    ++ each_row (port_finding fault links ports) 1 ports
 
 -- the findings of a fault in a document
 abbrev pub findings_of : ConfigFault → Members → List Finding
-findings_of fault document = flat_map (site_findings fault) (sites document)
+findings_of fault document = filter (has fault) (value_findings document)
     ++ plan_findings fault (plan_of document).links (plan_of document).ports
 
 -- the faults of documents, in the order of their numbers

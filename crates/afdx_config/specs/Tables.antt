@@ -1,5 +1,5 @@
 -- The tables of a document, and the faults of their values.
-use Rattle.std.specs.Prelude.{codes, ℕ, List, [], Bool, false, ◌==◌, ◌||◌, is_none, bytes_eq, Option, Some, None, option_and_then}
+use Rattle.std.specs.Prelude.{codes, ℕ, List, [], Bool, false, not, ◌==◌, ◌||◌, is_none, bytes_eq, Option, Some, None, option_and_then}
 use Rattle.std.specs.Bool.{then_some}
 use Rattle.std.specs.List.{list_any}
 use Rattle.std.specs.Option.{option_map_or}
@@ -9,9 +9,9 @@ use Rattle.afdx_plan.specs.declared.fault.ConfigFault.{ConfigFault}
 use Rattle.afdx_plan.specs.declared.fault.ConfigFault.TheVariants.{MissingKey, UnknownKey, WrongKind, OutOfRange, BadBag}
 use Rattle.afdx_config.specs.declared.format.Content.{Content}
 use Rattle.afdx_config.specs.declared.format.Content.TheVariants.{Whole, Gap, Networks, PortKind, Address, Checksum, Section, Rows}
-use Rattle.afdx_config.specs.Entries.{number_at, tables_among, lies_outside, has_key_besides}
+use Rattle.afdx_config.specs.Entries.{number_at, tables_among, lies_outside}
 use Rattle.afdx_config.specs.Values.{bag_of, networks_of, kind_of, address_of, checksum_of}
-use Rattle.afdx_config.specs.Format.{Field, document_fields, end_fields, link_fields, port_fields, fields_in}
+use Rattle.afdx_config.specs.Format.{Field}
 
 -- some item is not a table
 abbrev pub has_other_item : Items → Bool
@@ -47,19 +47,14 @@ field_fault members field = fault_under field (get_member field.key members)
 abbrev pub is_key_of : List Field → List ℕ → Bool
 is_key_of fields key = list_any (λ field. bytes_eq key field.key) fields
 
--- the fault of the keys of a table: one is not in the format
-abbrev pub keys_fault : List Field → Members → Option ConfigFault
-keys_fault fields members = then_some (has_key_besides (is_key_of fields) members) UnknownKey
+-- the fault of a key that a table has: it is not in the format
+abbrev pub key_fault : List Field → List ℕ → Option ConfigFault
+key_fault fields key = then_some (not (is_key_of fields key)) UnknownKey
 
 -- a fault is shown and is this one
 abbrev pub is_fault : ConfigFault → Option ConfigFault → Bool
 is_fault fault None = false
 is_fault fault (Some other) = fault_number fault == fault_number other
-
--- a table has a fault of 2 to 6
-unfoldable pub table_shows : ConfigFault → List Field → Members → Bool
-table_shows fault fields members =
-    list_any (λ field. is_fault fault (field_fault members field)) fields || is_fault fault (keys_fault fields members)
 
 -- the tables of the array under a key
 abbrev pub rows_at : List ℕ → Members → List Members
@@ -73,14 +68,3 @@ section_at key document = option_and_then as_table (get_member key document)
 -- the document is of format version 2
 abbrev pub is_version_2 : Members → Bool
 is_version_2 document = number_at (codes "version") document == 2
-
--- the values of a document have a fault of 2 to 6, at the top level or in one of its tables
-unfoldable pub values_show : ConfigFault → Members → Bool
-values_show fault document = table_shows fault document_fields document
-    || option_map_or (table_shows fault end_fields) (section_at (codes "end_system") document) false
-    || list_any
-    (table_shows fault (fields_in (is_version_2 document) link_fields))
-    (rows_at (codes "vl") document)
-    || list_any
-    (table_shows fault (fields_in (is_version_2 document) port_fields))
-    (rows_at (codes "port") document)

@@ -12,7 +12,7 @@ use Rattle.afdx_config.specs.declared.findings.Place.TheVariants.{Text, Top, End
 use Rattle.afdx_config.specs.declared.format.Content.{Content}
 use Rattle.afdx_config.specs.declared.format.Content.TheVariants.{Whole, Gap, Networks, PortKind, Address, Checksum, Section, Rows}
 use Rattle.afdx_config.specs.Entries.{whole_at}
-use Rattle.afdx_config.specs.Findings.{Finding}
+use Rattle.afdx_config.specs.Findings.{Finding, row_like}
 use Rattle.afdx_config.specs.Format.{Field, document_fields, end_fields, link_fields, port_fields, fields_in}
 use Rattle.afdx_config.specs.Tables.{rows_at, section_at, is_version_2}
 
@@ -188,11 +188,6 @@ allowed_text NoSuchSub document f = bound_text document f.other (codes "below su
 allowed_text SamplingTooLong document f = bound_text document f.other (codes "at most lmax - 47 of its vl") (codes "lmax")
 allowed_text Limit document f = limit_text f.place f.key
 allowed_text _ document f = content_at document f
-
--- the other table of a pair is of the same array
-abbrev pub row_like : Place → ℕ → Place
-row_like (Link k) other = Link other
-row_like _ other = Port other
 
 -- the places of two tables
 unfoldable pub pair_text : Members → Place → Option ℕ → List ℕ

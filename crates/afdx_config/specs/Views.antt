@@ -1,12 +1,13 @@
 -- The specification values of formats and documents in the code.
-use Rattle.std.specs.Prelude.{◌≡◌, ◌≤◌, ◌<◌, nat_lt, if◌then◌else◌, codes, Bool, true, false, List, map, Option, Some, None, option_map, All}
+use Rattle.std.specs.Prelude.{◌≡◌, codes, false, List, map, find, Option, None, option_map, All}
 use Rattle.std.specs.List.{AllByRecursion}
 use Rattle.std.specs.Option.{ForSome}
 use Rattle.toml.specs.Data.{Members}
 use Rattle.toml.specs.View.{table_view}
 use Rattle.afdx_plan.specs.declared.fault.ConfigFault.{ConfigFault}
-use Rattle.afdx_plan.specs.PlanFaults.{fault_number}
 use Rattle.afdx_plan.specs.Config.{Plan, plan_of_parts}
+use Rattle.afdx_config.specs.Faults.{shows}
+use Rattle.afdx_config.specs.Findings.{shown_faults}
 use Rattle.afdx_config.specs.Format.{Field, end_fields, link_fields, port_fields, fields_in}
 use Rattle.afdx_config.specs.Tables.{field_fault, section_at, rows_at}
 use Rattle.afdx_config.specs.declared.format.Field.{Field as Written}
@@ -31,25 +32,9 @@ pub record IsDocument (document : Document) : Type 0 where
   pub links_are : map (λ r. table_view r.now) document.links.items ≡ rows_at (codes "vl") (data_of document)
   pub ports_are : map (λ r. table_view r.now) document.ports.items ≡ rows_at (codes "port") (data_of document)
 
--- the fault of the least number that passes a test
-pub record IsLeast (shows : ConfigFault → Bool) (least : ConfigFault) : Type 0 where
-  pub shown : shows least ≡ true
-  pub first : (other : ConfigFault) → fault_number other < fault_number least → shows other ≡ false
-
--- a fault of values
-abbrev pub IsOfValues : ConfigFault → Type 0
-IsOfValues fault = (2 ≤ fault_number fault) × (fault_number fault ≤ 6)
-
--- the least fault of values that passes a test, or none if no fault does
-abbrev pub IsLeastOf : (ConfigFault → Bool) → Option ConfigFault → Type 0
-IsLeastOf shows None = (fault : ConfigFault) → shows fault ≡ false
-IsLeastOf shows (Some least) = IsLeast shows least × IsOfValues least
-
--- the fault of the lower number
-abbrev pub lesser : Option ConfigFault → Option ConfigFault → Option ConfigFault
-lesser None b = b
-lesser (Some a) None = Some a
-lesser (Some a) (Some b) = if nat_lt (fault_number b) (fault_number a) then Some b else Some a
+-- the first of the faults that a document has
+abbrev pub first_fault : Members → Option ConfigFault
+first_fault document = find (λ fault. shows fault document) shown_faults
 
 -- no key of this format has a fault in the table
 abbrev pub IsSoundTable : List Field → Members → Type 0

@@ -1,40 +1,23 @@
 //! All faults of a configuration, each with its place.
-ghost use Rattle.std.specs.Prelude.{◌≡◌, ◌++◌, map, IfOk, OnOk};
+ghost use Rattle.std.specs.Prelude.{◌≡◌, ◌++◌, map, filter, IfOk, OnOk};
 ghost use Rattle.std.specs.List.{flat_map};
 ghost use Rattle.toml.specs.Errors.{IsWithin};
 ghost use Rattle.toml.specs.View.{table_view};
 ghost use Rattle.afdx_config.specs.Explained.{begins_character, column_after, line_of, Explains, TellsDocument, TellsStop, TellsToml};
-ghost use Rattle.afdx_config.specs.Findings.{findings as findings_in, plan_findings, site_findings, sites};
+ghost use Rattle.afdx_config.specs.Findings.{findings as findings_in, has, plan_findings};
 ghost use Rattle.afdx_config.specs.Seen.{Adds, finding_of};
 ghost use Rattle.afdx_config.specs.Views.{IsDocument, data_of};
 
 use crate::document::Document;
-use crate::findings::{Finding, Place, add};
+use crate::findings::{Finding, Place, SHOWN_FAULTS, add};
 use crate::plan_findings::add_plan;
 use crate::rows::{LinkRow, PortRow, link_rows, port_rows};
 use crate::told::{write_explanation, write_toml};
-use crate::value_findings::add_sites;
+use crate::value_findings::{add_those, value_findings};
 use afdx_plan::ConfigFault;
 use std::alloc::{AllocError, Global};
 use toml::Table;
 use toml::de::Error;
-
-/// The faults of documents, in the order of their numbers.
-const SHOWN_FAULTS: [ConfigFault; 13] = [
-    ConfigFault::MissingKey,
-    ConfigFault::UnknownKey,
-    ConfigFault::WrongKind,
-    ConfigFault::OutOfRange,
-    ConfigFault::BadBag,
-    ConfigFault::DuplicateVl,
-    ConfigFault::DuplicatePort,
-    ConfigFault::NoSuchVl,
-    ConfigFault::NoSuchSub,
-    ConfigFault::SamplingTooLong,
-    ConfigFault::SameFlow,
-    ConfigFault::SharedUnicast,
-    ConfigFault::Limit,
-];
 
 /// All faults of a text.
 #[derive(Debug, Drop)]
@@ -50,19 +33,18 @@ fn add_faults(
     alloc: Global,
     found: &mut Vec<Finding>,
     faults: &[ConfigFault],
-    document: &Document<'_>,
+    values: &[Finding],
     links: &[LinkRow],
     ports: &[PortRow],
 ) -> Result<(), AllocError>
-    requires { IsDocument document.now }
     ensures { OnOk result (Adds found.old.items found.new.items
         (flat_map
-        (λ fault. flat_map (site_findings fault) (sites (data_of document.now))
+        (λ fault. filter (has fault) (map finding_of values.now)
         ++ plan_findings fault links.now ports.now)
         faults.now)) }
 {
     for fault in faults {
-        add_sites(alloc, found, *fault, document)?;
+        add_those(alloc, found, *fault, values)?;
         add_plan(alloc, found, *fault, links, ports)?;
     }
     Ok(())
@@ -74,6 +56,7 @@ fn findings_in(alloc: Global, document: &Document<'_>) -> Result<Vec<Finding>, A
     ensures { IfOk result (λ found.
         map finding_of found.items ≡ findings_in (data_of document.now)) }
 {
+    let values = value_findings(alloc, document)?;
     let links = link_rows(alloc, document.links.as_slice())?;
     let ports = port_rows(alloc, document.ports.as_slice())?;
     let mut found = Vec::new(alloc);
@@ -81,7 +64,7 @@ fn findings_in(alloc: Global, document: &Document<'_>) -> Result<Vec<Finding>, A
         alloc,
         &mut found,
         &SHOWN_FAULTS,
-        document,
+        values.as_slice(),
         links.as_slice(),
         ports.as_slice(),
     )?;

@@ -1,6 +1,6 @@
 //! Faults of a configuration with their places.
 ghost use Rattle.std.specs.Prelude.{◌≡◌, ◌∷◌, [], OnOk};
-ghost use Rattle.afdx_config.specs.Findings.{found as finding_at};
+ghost use Rattle.afdx_config.specs.Findings.{found as finding_at, row_like};
 ghost use Rattle.afdx_config.specs.Seen.{Adds};
 
 use afdx_plan::ConfigFault;
@@ -32,6 +32,33 @@ pub struct Finding {
     /// For a fault of two tables, the number of the second one. For a port that does not fit its link,
     /// the number of the link.
     pub other: Option<usize>,
+}
+
+/// The faults of documents, in the order of their numbers; the first five are those of values.
+pub(crate) const SHOWN_FAULTS: [ConfigFault; 13] = [
+    ConfigFault::MissingKey,
+    ConfigFault::UnknownKey,
+    ConfigFault::WrongKind,
+    ConfigFault::OutOfRange,
+    ConfigFault::BadBag,
+    ConfigFault::DuplicateVl,
+    ConfigFault::DuplicatePort,
+    ConfigFault::NoSuchVl,
+    ConfigFault::NoSuchSub,
+    ConfigFault::SamplingTooLong,
+    ConfigFault::SameFlow,
+    ConfigFault::SharedUnicast,
+    ConfigFault::Limit,
+];
+
+/// The place of row `k` of the array of this place.
+pub(crate) fn row_like(place: Place, k: usize) -> Place
+    ensures { result ≡ row_like place k }
+{
+    match place {
+        Place::Link(_) => Place::Link(k),
+        _ => Place::Port(k),
+    }
 }
 
 /// Adds a finding.

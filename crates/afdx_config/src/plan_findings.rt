@@ -3,7 +3,7 @@ ghost use Rattle.std.specs.Prelude.{◌≡◌, ◌==◌, ◌&&◌, ◌+◌, ◌<
 ghost use Rattle.std.specs.List.{list_any, position};
 ghost use Rattle.afdx_plan.specs.Config.{ports_on};
 ghost use Rattle.afdx_plan.specs.PlanFaults.{is_link_of, names_no_link, names_no_sub, is_too_long, are_one_address, are_one_destination, has_same_flow, shares_unicast, is_no_count, is_crowded};
-ghost use Rattle.afdx_config.specs.Findings.{found as finding_at, one_if, plan_key, pair_finding, links_clash, link_findings, ports_clash, is_misfit, link_number, has_same_sub, is_last_crowded, port_finding, port_findings, count_is_wrong, count_findings, plan_findings};
+ghost use Rattle.afdx_config.specs.Findings.{found as finding_at, one_if, plan_key, pair_finding, links_clash, each_row, link_finding, ports_clash, is_misfit, link_number, has_same_sub, is_last_crowded, port_finding, count_is_wrong, count_findings, plan_findings};
 ghost use Rattle.afdx_config.specs.Seen.{Adds};
 ghost use Rattle.afdx_config.specs.declared.findings.Place.TheVariants.{Link, Port};
 
@@ -45,26 +45,26 @@ fn next_link(fault: ConfigFault, link: &LinkRow, rest: &[LinkRow]) -> Option<usi
         .position(|other| links_clash(fault, link, other))
 }
 
-/// Adds the link if it clashes with a later one.
+/// Adds link `k` if it clashes with a later one.
 fn add_link(
     alloc: Global,
     found: &mut Vec<Finding>,
     fault: ConfigFault,
-    i: usize,
+    k: usize,
     link: &LinkRow,
     rest: &[LinkRow],
 ) -> Result<(), AllocError>
-    requires { i + 1 + length rest.now < 2 ^ 63 }
+    requires { k + length rest.now < 2 ^ 63 }
     ensures { OnOk result (Adds found.old.items found.new.items
-        (pair_finding fault Link (i + 1)
-        (position (links_clash fault link.now) rest.now))) }
+        (link_finding fault k link.now rest.now)) }
 {
-    if let Some(behind) = next_link(fault, link, rest) {
-        let other = Some(i + 2 + behind);
-        let key = plan_key(fault);
-        add(alloc, found, fault, Place::Link(i + 1), key, other)?;
+    match next_link(fault, link, rest) {
+        Some(behind) => {
+            let other = Some(k + 1 + behind);
+            add(alloc, found, fault, Place::Link(k), plan_key(fault), other)
+        }
+        None => Ok(()),
     }
-    Ok(())
 }
 
 /// Adds the links that clash with a later one.
@@ -75,10 +75,10 @@ fn add_links(
     links: &[LinkRow],
 ) -> Result<(), AllocError>
     ensures { OnOk result (Adds found.old.items found.new.items
-        (link_findings fault 1 links.now)) }
+        (each_row (link_finding fault) 1 links.now)) }
 {
     for (i, link) in links.iter().enumerate() {
-        add_link(alloc, found, fault, i, link, &links[i + 1..])?;
+        add_link(alloc, found, fault, i + 1, link, &links[i + 1..])?;
     }
     Ok(())
 }
@@ -238,69 +238,40 @@ fn is_last_crowded(fault: ConfigFault, ports: &[PortRow], port: &PortRow, rest: 
     }
 }
 
-/// Adds the port if it clashes with a later one.
-fn add_clash(
+/// Adds the findings of port `k`: it clashes with a later one, does not fit its link, or is the last one on
+/// a sub-VL with too many ports.
+#[tactic(auto, unfolding(crate::specs::Findings::port_finding))]
+fn add_port(
     alloc: Global,
     found: &mut Vec<Finding>,
     fault: ConfigFault,
-    i: usize,
-    port: &PortRow,
-    rest: &[PortRow],
-) -> Result<(), AllocError>
-    requires { i + 1 + length rest.now < 2 ^ 63 }
-    ensures { OnOk result (Adds found.old.items found.new.items
-        (pair_finding fault Port (i + 1)
-        (position (ports_clash fault port.now) rest.now))) }
-{
-    if let Some(behind) = next_port(fault, port, rest) {
-        let other = Some(i + 2 + behind);
-        let key = plan_key(fault);
-        add(alloc, found, fault, Place::Port(i + 1), key, other)?;
-    }
-    Ok(())
-}
-
-/// Adds the port if it does not fit its link.
-fn add_misfit(
-    alloc: Global,
-    found: &mut Vec<Finding>,
-    fault: ConfigFault,
-    i: usize,
+    k: usize,
     port: &PortRow,
     links: &[LinkRow],
-) -> Result<(), AllocError>
-    requires { i < 2 ^ 63 }
-    ensures { OnOk result (Adds found.old.items found.new.items
-        (one_if (is_misfit fault links.now port.now)
-        (finding_at fault (Port (i + 1)) (plan_key fault)
-        (link_number links.now port.now)))) }
-{
-    if is_misfit(fault, links, port) {
-        let link = link_number(links, port);
-        let key = plan_key(fault);
-        add(alloc, found, fault, Place::Port(i + 1), key, link)?;
-    }
-    Ok(())
-}
-
-/// Adds the port if it is the last one on a sub-VL with too many ports.
-fn add_crowded(
-    alloc: Global,
-    found: &mut Vec<Finding>,
-    fault: ConfigFault,
-    i: usize,
-    port: &PortRow,
     ports: &[PortRow],
     rest: &[PortRow],
 ) -> Result<(), AllocError>
-    requires { i < 2 ^ 63 }
+    requires { k + length rest.now < 2 ^ 63 }
     ensures { OnOk result (Adds found.old.items found.new.items
-        (one_if (is_last_crowded fault ports.now port.now rest.now)
-        (finding_at fault (Port (i + 1)) (plan_key fault) None))) }
+        (port_finding fault links.now ports.now k port.now rest.now)) }
 {
+    let key = plan_key(fault);
+    if let Some(behind) = next_port(fault, port, rest) {
+        add(
+            alloc,
+            found,
+            fault,
+            Place::Port(k),
+            key,
+            Some(k + 1 + behind),
+        )?;
+    }
+    if is_misfit(fault, links, port) {
+        let link = link_number(links, port);
+        add(alloc, found, fault, Place::Port(k), key, link)?;
+    }
     if is_last_crowded(fault, ports, port, rest) {
-        let key = plan_key(fault);
-        add(alloc, found, fault, Place::Port(i + 1), key, None)?;
+        add(alloc, found, fault, Place::Port(k), key, None)?;
     }
     Ok(())
 }
@@ -314,13 +285,11 @@ fn add_ports(
     ports: &[PortRow],
 ) -> Result<(), AllocError>
     ensures { OnOk result (Adds found.old.items found.new.items
-        (port_findings fault links.now ports.now 1 ports.now)) }
+        (each_row (port_finding fault links.now ports.now) 1 ports.now)) }
 {
     for (i, port) in ports.iter().enumerate() {
         let rest = &ports[i + 1..];
-        add_clash(alloc, found, fault, i, port, rest)?;
-        add_misfit(alloc, found, fault, i, port, links)?;
-        add_crowded(alloc, found, fault, i, port, ports, rest)?;
+        add_port(alloc, found, fault, i + 1, port, links, ports, rest)?;
     }
     Ok(())
 }

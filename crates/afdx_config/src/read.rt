@@ -1,29 +1,28 @@
 //! Reading a configuration.
-ghost use Rattle.std.specs.Prelude.{◌≡◌, ◌≢◌, ◌≤◌, false, IfOk, IfErr};
-ghost use Rattle.afdx_plan.specs.PlanFaults.{fault_number};
+ghost use Rattle.std.specs.Prelude.{◌≡◌, ◌≢◌, Some, None, IfOk, IfErr};
 ghost use Rattle.afdx_plan.specs.declared.fault.ConfigFault.{ConfigFault};
 ghost use Rattle.afdx_config.specs.PlanOf.{plan_of};
-ghost use Rattle.afdx_config.specs.Faults.{shows, IsPlanOf, IsLeastFault};
-ghost use Rattle.afdx_config.specs.Views.{IsDocument, IsLeast, data_of};
+ghost use Rattle.afdx_config.specs.Faults.{IsPlanOf, IsLeastFault};
+ghost use Rattle.afdx_config.specs.Views.{IsDocument, data_of, first_fault};
 
 use crate::document::Document;
-use crate::fields::value_fault;
+use crate::findings::SHOWN_FAULTS;
 use crate::parts::parts_of;
+use crate::value_findings::{first_among, value_findings};
 use afdx_plan::{Config, ConfigFault};
 use std::alloc::Global;
 
 /// Converts a document.
 fn read_document(alloc: Global, document: &Document<'_>) -> Result<Config, ConfigFault>
     requires { IsDocument document.now }
-    ensures fine { IfOk result (λ _. (fault : ConfigFault) →
-        shows fault (data_of document.now) ≡ false) }
+    ensures fine { IfOk result (λ _. first_fault (data_of document.now) ≡ None) }
     ensures plan { IfOk result (λ config. config ≡ plan_of (data_of document.now)) }
-    ensures fault { IfErr result (λ least. least ≢ ConfigFault.Memory →
-        IsLeast (λ fault. shows fault (data_of document.now)) least
-        × (2 ≤ fault_number least)) }
+    ensures fault { IfErr result (λ fault. fault ≢ ConfigFault.Memory →
+        first_fault (data_of document.now) ≡ Some fault) }
 {
-    if let Some(fault) = value_fault(document) {
-        return Err(fault);
+    let found = value_findings(alloc, document).map_err(|_| ConfigFault::Memory)?;
+    if let Some(fault) = first_among(found.as_slice(), &SHOWN_FAULTS[..5]) {
+        return Err(*fault);
     }
     let parts = parts_of(alloc, document).map_err(|_| ConfigFault::Memory)?;
     Config::new(parts.end_system, parts.links, parts.ports)

@@ -5,12 +5,12 @@ ghost use Rattle.std.specs.List.{flat_map};
 ghost use Rattle.toml.specs.Data.{get_member};
 ghost use Rattle.toml.specs.View.{table_view, view};
 ghost use Rattle.afdx_config.specs.Seen.{finding_of};
-ghost use Rattle.afdx_config.specs.Told.{fault_name, is_plain, hex_digit, escaped, cut_text, array_text, known_text, value_text, members_at, id_text, id_at, place_text, joint, subject, fields_at, field_at, content_text, kind_text, key_names, limit_text, link_text, content_at, kind_at, keys_text, wanted_text, bound_text, allowed_text, row_like, pair_text, same_text, is_of_pair, pair_line, key_line, told, stop_text, toml_line, toml_text, finding_line, count_line, explanation};
+ghost use Rattle.afdx_config.specs.Told.{fault_name, is_plain, hex_digit, escaped, cut_text, array_text, known_text, value_text, members_at, id_text, id_at, place_text, joint, subject, fields_at, field_at, content_text, kind_text, key_names, limit_text, link_text, content_at, kind_at, keys_text, wanted_text, bound_text, allowed_text, pair_text, same_text, is_of_pair, pair_line, key_line, told, stop_text, toml_line, toml_text, finding_line, count_line, explanation};
 ghost use Rattle.afdx_config.specs.Views.{IsDocument, data_of, field_of};
 
 use crate::document::{Document, fields_in};
 use crate::entries::{value_at, whole_number};
-use crate::findings::{Finding, Place};
+use crate::findings::{Finding, Place, row_like};
 use crate::format::{Content, DOCUMENT, END, Field, LINK, PORT};
 use afdx_plan::ConfigFault;
 use std::io::{self, Write};
@@ -448,15 +448,6 @@ fn write_allowed<W: Write>(
             writer.write_all(limit_text(finding.place, finding.key.as_str()).as_bytes())
         }
         _ => write_content_at(writer, document, finding),
-    }
-}
-
-fn row_like(place: Place, other: usize) -> Place
-    ensures { result ≡ row_like place other }
-{
-    match place {
-        Place::Link(_) => Place::Link(other),
-        _ => Place::Port(other),
     }
 }
 

@@ -1,104 +1,55 @@
-//! The faults of values of tables with their places.
-ghost use Rattle.std.specs.Prelude.{◌≡◌, ◌&&◌, not, map, Some, OnOk, option_map, string_bytes};
-ghost use Rattle.std.specs.List.{flat_map};
+//! The faults of the values of a document, with their places.
+ghost use Rattle.std.specs.Prelude.{◌≡◌, [], map, find, filter, string_bytes, option_copied, OnOk, IfOk};
+ghost use Rattle.std.specs.List.{flat_map, list_any};
+ghost use Rattle.std.specs.Option.{option_map_or};
 ghost use Rattle.std.specs.BTreeMap.{keys};
 ghost use Rattle.toml.specs.View.{table_view};
-ghost use Rattle.afdx_config.specs.Findings.{end_sites, field_findings, key_findings, row_sites, site_findings, sites};
-ghost use Rattle.afdx_config.specs.Seen.{Adds, row_place, site_of};
-ghost use Rattle.afdx_config.specs.Tables.{is_fault};
+ghost use Rattle.afdx_config.specs.Findings.{each_row, has, key_finding, row_like, table_findings, value_findings};
+ghost use Rattle.afdx_config.specs.Tables.{field_fault, key_fault};
+ghost use Rattle.afdx_config.specs.Seen.{Adds, finding_of};
 ghost use Rattle.afdx_config.specs.Views.{IsDocument, data_of, field_of};
+ghost use Rattle.afdx_config.specs.Format.{end_fields};
+ghost use Rattle.afdx_config.specs.declared.findings.Place.TheVariants.{EndSystem};
 
 use crate::document::{Document, fields_in};
-use crate::fields::{field_fault, is_key_of};
-use crate::findings::{Finding, Place, add};
+use crate::fields::{field_fault, key_fault};
+use crate::findings::{Finding, Place, add, row_like};
 use crate::format::{DOCUMENT, END, Field, LINK, PORT};
 use afdx_plan::ConfigFault;
 use std::alloc::{AllocError, Global};
 use toml::Table;
 
-/// A table of a document, its place and the keys of its format.
-#[derive(Clone, Copy)]
-pub(crate) struct Site<'a> {
-    pub place: Place,
-    pub fields: &'a [Field],
-    pub table: &'a Table,
-}
-
-/// An array of tables.
-#[derive(Clone, Copy)]
-pub(crate) enum Rows {
-    Links,
-    Ports,
-}
-
-/// The place of table `k` of an array.
-fn row_place(rows: Rows, k: usize) -> Place
-    ensures { result ≡ row_place rows k }
-{
-    match rows {
-        Rows::Links => Place::Link(k),
-        Rows::Ports => Place::Port(k),
-    }
-}
-
-/// A fault is shown and is this one.
-fn is_fault(fault: ConfigFault, shown: Option<ConfigFault>) -> bool
-    ensures { result ≡ is_fault fault shown }
-{
-    match shown {
-        Some(other) => fault.number() == other.number(),
-        None => false,
-    }
-}
-
-/// Adds a key of the table's format if it has the fault.
-fn add_field(
-    alloc: Global,
-    found: &mut Vec<Finding>,
-    fault: ConfigFault,
-    site: &Site<'_>,
-    field: &Field,
-) -> Result<(), AllocError>
-    ensures { OnOk result (Adds found.old.items found.new.items
-        (field_findings fault site.now.place (table_view site.now.table.now) (field_of field.now))) }
-{
-    if is_fault(fault, field_fault(site.table, field)) {
-        add(alloc, found, fault, site.place, field.0, None)?;
-    }
-    Ok(())
-}
-
-/// Adds a key of the table if its format lacks it.
+/// Adds a key of a table if it has a fault.
 fn add_key(
     alloc: Global,
     found: &mut Vec<Finding>,
-    fault: ConfigFault,
-    site: &Site<'_>,
+    place: Place,
     key: &str,
+    fault: Option<ConfigFault>,
 ) -> Result<(), AllocError>
-    ensures { OnOk result (Adds found.old.items found.new.items
-        (key_findings fault site.now.place (map field_of site.now.fields.now) key.now)) }
+    ensures { OnOk result (Adds found.old.items found.new.items (key_finding place key.now fault)) }
 {
-    if is_fault(fault, Some(ConfigFault::UnknownKey)) && !is_key_of(site.fields, key) {
-        add(alloc, found, fault, site.place, key, None)?;
+    match fault {
+        Some(fault) => add(alloc, found, fault, place, key, None),
+        None => Ok(()),
     }
-    Ok(())
 }
 
-/// Adds the keys of a table's format that have the fault.
+/// Adds the keys of a table's format that have a fault.
 fn add_fields(
     alloc: Global,
     found: &mut Vec<Finding>,
-    fault: ConfigFault,
-    site: &Site<'_>,
+    place: Place,
+    fields: &[Field],
+    table: &Table,
 ) -> Result<(), AllocError>
     ensures { OnOk result (Adds found.old.items found.new.items
         (flat_map
-        (λ f. field_findings fault site.now.place (table_view site.now.table.now) (field_of f))
-        site.now.fields.now)) }
+        (λ f. key_finding place (field_of f).key (field_fault (table_view table.now) (field_of f)))
+        fields.now)) }
 {
-    for field in site.fields {
-        add_field(alloc, found, fault, site, field)?;
+    for field in fields {
+        add_key(alloc, found, place, field.0, field_fault(table, field))?;
     }
     Ok(())
 }
@@ -107,101 +58,142 @@ fn add_fields(
 fn add_keys(
     alloc: Global,
     found: &mut Vec<Finding>,
-    fault: ConfigFault,
-    site: &Site<'_>,
+    place: Place,
+    fields: &[Field],
+    table: &Table,
 ) -> Result<(), AllocError>
     ensures { OnOk result (Adds found.old.items found.new.items
         (flat_map
-        (λ k. key_findings fault site.now.place (map field_of site.now.fields.now) (string_bytes k))
-        (keys site.now.table.now))) }
+        (λ k. key_finding place (string_bytes k) (key_fault (map field_of fields.now) (string_bytes k)))
+        (keys table.now))) }
 {
-    for key in site.table.keys() {
-        add_key(alloc, found, fault, site, key.as_str())?;
+    for key in table.keys() {
+        let fault = key_fault(fields, key.as_str());
+        add_key(alloc, found, place, key.as_str(), fault)?;
     }
     Ok(())
 }
 
-/// Adds the findings of a fault in a table.
-fn add_site(
+/// Adds the findings of a table.
+fn add_table(
     alloc: Global,
     found: &mut Vec<Finding>,
-    fault: ConfigFault,
-    site: &Site<'_>,
+    place: Place,
+    fields: &[Field],
+    table: &Table,
 ) -> Result<(), AllocError>
     ensures { OnOk result (Adds found.old.items found.new.items
-        (site_findings fault (site_of site.now))) }
+        (table_findings place (map field_of fields.now) (table_view table.now))) }
 {
-    add_fields(alloc, found, fault, site)?;
-    add_keys(alloc, found, fault, site)
+    add_fields(alloc, found, place, fields, table)?;
+    add_keys(alloc, found, place, fields, table)
 }
 
-/// Adds the findings of a fault in the tables of an array.
+/// Adds the findings of the tables of an array that has this place.
 fn add_rows(
     alloc: Global,
     found: &mut Vec<Finding>,
-    fault: ConfigFault,
-    rows: Rows,
+    array: Place,
     fields: &[Field],
     tables: &[&Table],
 ) -> Result<(), AllocError>
     ensures { OnOk result (Adds found.old.items found.new.items
-        (flat_map (site_findings fault) (row_sites (row_place rows) (map field_of fields.now) 1
-        (map (λ t. table_view t.now) tables.now)))) }
+        (each_row
+        (λ k t rest. table_findings (row_like array k) (map field_of fields.now) (table_view t.now))
+        1 tables.now)) }
 {
     for (i, table) in tables.iter().enumerate() {
-        let site = Site {
-            place: row_place(rows, i + 1),
-            fields,
-            table,
-        };
-        add_site(alloc, found, fault, &site)?;
+        let place = row_like(array, i + 1);
+        add_table(alloc, found, place, fields, table)?;
     }
     Ok(())
 }
 
-/// Adds the findings of a fault in the table of the end system.
-fn add_end(
-    alloc: Global,
-    found: &mut Vec<Finding>,
-    fault: ConfigFault,
-    end: Option<&Table>,
-) -> Result<(), AllocError>
+/// Adds the findings of the table of the end system.
+fn add_end(alloc: Global, found: &mut Vec<Finding>, end: Option<&Table>) -> Result<(), AllocError>
     ensures { OnOk result (Adds found.old.items found.new.items
-        (flat_map (site_findings fault) (end_sites (option_map (λ t. table_view t.now) end.entry)))) }
+        (option_map_or (λ t. table_findings EndSystem end_fields (table_view t.now)) end.entry [])) }
 {
-    if let Some(table) = end {
-        let site = Site {
-            place: Place::EndSystem,
-            fields: &END,
-            table,
-        };
-        add_site(alloc, found, fault, &site)?;
+    match end {
+        Some(table) => add_table(alloc, found, Place::EndSystem, &END, table),
+        None => Ok(()),
     }
-    Ok(())
 }
 
-/// Adds the findings of a fault in the tables of a document.
-pub(crate) fn add_sites(
+/// The findings in the values of a document.
+pub(crate) fn value_findings(
     alloc: Global,
-    found: &mut Vec<Finding>,
-    fault: ConfigFault,
     document: &Document<'_>,
-) -> Result<(), AllocError>
+) -> Result<Vec<Finding>, AllocError>
     requires { IsDocument document.now }
-    ensures { OnOk result (Adds found.old.items found.new.items
-        (flat_map (site_findings fault) (sites (data_of document.now)))) }
+    ensures { IfOk result (λ found.
+        map finding_of found.items ≡ value_findings (data_of document.now)) }
 {
-    let top = Site {
-        place: Place::Top,
-        fields: &DOCUMENT,
-        table: document.top,
-    };
-    add_site(alloc, found, fault, &top)?;
-    add_end(alloc, found, fault, document.end)?;
+    let mut found = Vec::new(alloc);
+    add_table(alloc, &mut found, Place::Top, &DOCUMENT, document.top)?;
+    add_end(alloc, &mut found, document.end)?;
     let fields = fields_in(document, &LINK);
     let links = document.links.as_slice();
-    add_rows(alloc, found, fault, Rows::Links, fields, links)?;
+    add_rows(alloc, &mut found, Place::Link(0), fields, links)?;
     let fields = fields_in(document, &PORT);
     let ports = document.ports.as_slice();
-    add_rows(alloc, found, fault, Rows::Ports, fields, ports)
+    add_rows(alloc, &mut found, Place::Port(0), fields, ports)?;
+    Ok(found)
+}
+
+fn has(fault: ConfigFault, finding: &Finding) -> bool
+    ensures { result ≡ has fault (finding_of finding.now) }
+{
+    fault.number() == finding.fault.number()
+}
+
+/// Adds those of the findings that have the fault.
+pub(crate) fn add_those(
+    alloc: Global,
+    found: &mut Vec<Finding>,
+    fault: ConfigFault,
+    findings: &[Finding],
+) -> Result<(), AllocError>
+    ensures { OnOk result (Adds found.old.items found.new.items
+        (filter (has fault) (map finding_of findings.now))) }
+{
+    for finding in findings {
+        if has(fault, finding) {
+            let key = finding.key.as_str();
+            add(
+                alloc,
+                found,
+                finding.fault,
+                finding.place,
+                key,
+                finding.other,
+            )?;
+        }
+    }
+    Ok(())
+}
+
+fn some_has(findings: &[Finding], fault: ConfigFault) -> bool
+    ensures { result ≡ list_any (λ f. has fault (finding_of f)) findings.now }
+{
+    findings.iter().any(|finding| has(fault, finding))
+}
+
+/// Some finding has the fault.
+#[tactic(auto, using(crate::proofs::SectionLemmas::list_any_map))]
+fn is_among(findings: &[Finding], fault: ConfigFault) -> bool
+    ensures { result ≡ list_any (has fault) (map finding_of findings.now) }
+{
+    some_has(findings, fault)
+}
+
+/// The first of these faults that some finding has.
+pub(crate) fn first_among<'a>(
+    findings: &[Finding],
+    faults: &'a [ConfigFault],
+) -> Option<&'a ConfigFault>
+    ensures { option_copied result
+        ≡ find (λ fault. list_any (has fault) (map finding_of findings.now)) faults.now }
+{
+    faults.iter().find(|fault| is_among(findings, **fault))
 }

@@ -1,4 +1,4 @@
-use Rattle.afdx_config.proofs.Names.{◌≡◌, ◌≤◌, drop, length, column_after}
+use Rattle.afdx_config.proofs.Names.{◌≡◌, ◌≤◌, drop, column_after}
 use Rattle.afdx_config.proofs.explaining.column_of.Given as goal
 
 abbrev pub invariant-loop-byte : goal.invariant-loop-byte

@@ -1,5 +1,5 @@
 use Rattle.afdx_config.proofs.Names.{◌≡◌, rules, data_of, table_view}
-use Rattle.afdx_config.proofs.TextLemmas.{answer_ok, answer_err}
+use Rattle.afdx_config.proofs.FirstLemmas.{answer_ok, answer_err}
 use Rattle.afdx_config.proofs.read.read_config.Goals as goal
 
 pub returns-in_ok-document-in-Ok-clause-plan : goal.returns-in_ok-document-in-Ok-clause-plan

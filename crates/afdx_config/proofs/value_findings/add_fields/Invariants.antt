@@ -1,7 +1,7 @@
-use Rattle.afdx_config.proofs.Names.{take, table_view, field_of, flat_map, field_findings, Adds}
+use Rattle.afdx_config.proofs.Names.{take, table_view, field_of, flat_map, key_finding, field_fault, Adds}
 use Rattle.afdx_config.proofs.value_findings.add_fields.Given as goal
 
 abbrev pub invariant-loop-field : goal.invariant-loop-field
 invariant-loop-field l = Adds l.initial.found.items l.found.items
-    (flat_map (λ f. field_findings l.fault l.site.place (table_view l.site.table.now) (field_of f))
-    (take l.field-index l.site.fields.now))
+    (flat_map (λ f. key_finding l.place (field_of f).key (field_fault (table_view l.table) (field_of f)))
+    (take l.field-index l.fields))

@@ -1,9 +1,10 @@
-use Rattle.afdx_config.proofs.Names.{◌≡◌, ◌+◌, ◌++◌, drop, map, flat_map, table_view, field_of, row_sites}
-use Rattle.afdx_config.proofs.Names.{site_findings, finding_of, row_place}
+use Rattle.afdx_config.proofs.Names.{◌≡◌, ◌+◌, ◌++◌, drop, map, table_view, field_of, each_row, table_findings}
+use Rattle.afdx_config.proofs.Names.{finding_of, row_like}
 use Rattle.afdx_config.proofs.value_findings.add_rows.Given as goal
 
 abbrev pub invariant-loop-i : goal.invariant-loop-i
-invariant-loop-i l = map finding_of l.found.items ++ flat_map (site_findings l.fault)
-    (row_sites (row_place l.rows) (map field_of l.fields) (l.i + 1) (map (λ t. table_view t.now) (drop l.i l.tables)))
-    ≡ map finding_of l.initial.found.items ++ flat_map (site_findings l.fault)
-    (row_sites (row_place l.rows) (map field_of l.fields) 1 (map (λ t. table_view t.now) l.tables))
+invariant-loop-i l = map finding_of l.found.items
+    ++ each_row (λ k t rest. table_findings (row_like l.array k) (map field_of l.fields) (table_view t.now)) (l.i + 1)
+    (drop l.i l.tables)
+    ≡ map finding_of l.initial.found.items
+    ++ each_row (λ k t rest. table_findings (row_like l.array k) (map field_of l.fields) (table_view t.now)) 1 l.tables
