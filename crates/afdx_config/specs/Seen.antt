@@ -1,5 +1,6 @@
 -- The specification values of findings in the code.
-use Rattle.std.specs.Prelude.{◌≡◌, ◌++◌, List, map, string_bytes}
+use Rattle.std.specs.Prelude.{◌≡◌, ◌++◌, ℕ, List, map, string_bytes}
+use Rattle.std.specs.Global.{Vec}
 use Rattle.afdx_config.specs.Findings.{Finding}
 use Rattle.afdx_config.specs.declared.findings.Finding.{Finding as Written}
 
@@ -15,3 +16,7 @@ finding_of written = record {
 -- these findings were added
 abbrev pub Adds : List Written → List Written → List Finding → Type 0
 Adds old new more = map finding_of new ≡ map finding_of old ++ more
+
+-- a text was extended by these bytes
+abbrev pub Tells : Vec ℕ → Vec ℕ → List ℕ → Type 0
+Tells old new bytes = new.items ≡ old.items ++ bytes

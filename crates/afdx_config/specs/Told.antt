@@ -56,21 +56,13 @@ abbrev pub items_count : Items → ℕ
 items_count no_items = 0
 items_count (item value rest) = 1 + items_count rest
 
--- an array of `count` items
-unfoldable pub array_text : ℕ → List ℕ
-array_text count = codes "an array of " ++ decimal count
-
--- a value: a string in quotes, a whole number, else the kind
-unfoldable pub known_text : Data → List ℕ
-known_text (string text) = 34 ∷ [] ++ cut_text text ++ 34 ∷ []
-known_text (integer number) = signed_decimal number
-known_text (array items) = array_text (items_count items)
-known_text value = codes "a " ++ type_name value
-
--- the value under a key
+-- the value under a key: a string in quotes, a whole number, else the kind
 unfoldable pub value_text : Option Data → List ℕ
 value_text None = codes "missing"
-value_text (Some value) = known_text value
+value_text (Some (string text)) = 34 ∷ [] ++ cut_text text ++ 34 ∷ []
+value_text (Some (integer number)) = signed_decimal number
+value_text (Some (array items)) = codes "an array of " ++ decimal (items_count items)
+value_text (Some value) = codes "a " ++ type_name value
 
 -- the table at a place
 abbrev pub members_at : Members → Place → Option Members
@@ -154,11 +146,6 @@ abbrev pub limit_text : Place → List ℕ → List ℕ
 limit_text Top key = if bytes_eq key (codes "vl") then codes "1 to 64 tables" else codes "1 to 256 tables"
 limit_text _ key = codes "at most 64 ports of one sub-VL"
 
--- a port's link, a key of it and its value
-unfoldable pub link_text : Members → Option ℕ → List ℕ → List ℕ
-link_text document None key = []
-link_text document (Some k) key = codes "; " ++ subject document (Link k) key
-
 -- the values that are allowed under the key of a finding
 abbrev pub content_at : Members → Finding → List ℕ
 content_at document f = option_map_or (λ field. content_text field.content) (field_at document f.place f.key) []
@@ -167,22 +154,15 @@ content_at document f = option_map_or (λ field. content_text field.content) (fi
 abbrev pub kind_at : Members → Finding → List ℕ
 kind_at document f = option_map_or (λ field. kind_text field.content) (field_at document f.place f.key) []
 
--- the keys that a table can have
-unfoldable pub keys_text : List Field → List ℕ
-keys_text fields = codes "the keys are" ++ key_names fields
-
--- the kind of value that a finding requires
-unfoldable pub wanted_text : Members → Finding → List ℕ
-wanted_text document f = kind_at document f ++ codes " is wanted"
-
 -- a bound that a port's link sets, and the value of the link
 unfoldable pub bound_text : Members → Option ℕ → List ℕ → List ℕ → List ℕ
-bound_text document other bound key = bound ++ link_text document other key
+bound_text document None bound key = bound
+bound_text document (Some k) bound key = bound ++ codes "; " ++ subject document (Link k) key
 
 -- the values that are allowed at a finding
 unfoldable pub allowed_text : ConfigFault → Members → Finding → List ℕ
-allowed_text UnknownKey document f = keys_text (fields_at document f.place)
-allowed_text WrongKind document f = wanted_text document f
+allowed_text UnknownKey document f = codes "the keys are" ++ key_names (fields_at document f.place)
+allowed_text WrongKind document f = kind_at document f ++ codes " is wanted"
 allowed_text NoSuchVl document f = codes "no vl has this id"
 allowed_text NoSuchSub document f = bound_text document f.other (codes "below sub_vls of its vl") (codes "sub_vls")
 allowed_text SamplingTooLong document f = bound_text document f.other (codes "at most lmax - 47 of its vl") (codes "lmax")
@@ -209,17 +189,11 @@ is_of_pair SameFlow = true
 is_of_pair SharedUnicast = true
 is_of_pair _ = false
 
--- a fault of two tables
-unfoldable pub pair_line : Members → Finding → List ℕ
-pair_line document f = pair_text document f.place f.other ++ codes ": " ++ same_text f.fault
-
--- a fault of one key
-unfoldable pub key_line : Members → Finding → List ℕ
-key_line document f = subject document f.place f.key ++ codes ": " ++ allowed_text f.fault document f
-
--- a finding without its number and name
-abbrev pub told : Members → Finding → List ℕ
-told document f = if is_of_pair f.fault then pair_line document f else key_line document f
+-- a finding without its number and name: a fault of two tables, or of one key
+unfoldable pub told : Members → Finding → List ℕ
+told document f = if is_of_pair f.fault
+    then pair_text document f.place f.other ++ codes ": " ++ same_text f.fault
+    else subject document f.place f.key ++ codes ": " ++ allowed_text f.fault document f
 
 -- the line of a finding
 unfoldable pub finding_line : Members → Finding → List ℕ
@@ -237,11 +211,8 @@ count_line count =
 unfoldable pub explanation : Members → List Finding → List ℕ
 explanation document findings = count_line (length findings) ++ flat_map (finding_line document) findings
 
--- the place at which a text stops being TOML, and the message of the TOML parser
-unfoldable pub toml_line : ℕ → ℕ → List ℕ → List ℕ
-toml_line line column message =
-    codes "1 Toml: " ++ stop_text line column ++ codes ": " ++ message ++ 10 ∷ []
-
--- the whole explanation of a text that is not TOML
+-- the explanation of a text that is not TOML: the place at which it stops being TOML, and the message of the
+-- TOML parser
 unfoldable pub toml_text : ℕ → ℕ → List ℕ → List ℕ
-toml_text line column message = codes "1 fault" ++ 10 ∷ [] ++ toml_line line column message
+toml_text line column message = codes "1 fault" ++ 10 ∷ [] ++ codes "1 Toml: " ++ stop_text line column
+    ++ codes ": " ++ message ++ 10 ∷ []

@@ -1,11 +1,10 @@
 //! The text of findings.
-ghost use Rattle.std.specs.Prelude.{◌≡◌, ◌++◌, ◌-◌, ◌<◌, map, find, bytes_eq, codes, option_copied, option_map, option_and_then, length, slice_get, OnOk};
-ghost use Rattle.std.specs.Io.KnownBytes.{Appends};
+ghost use Rattle.std.specs.Prelude.{◌≡◌, ◌++◌, ◌∷◌, [], ◌-◌, ◌<◌, map, find, bytes_eq, codes, option_copied, option_map, option_and_then, slice_get, OnOk};
 ghost use Rattle.std.specs.List.{flat_map};
 ghost use Rattle.toml.specs.Data.{get_member};
 ghost use Rattle.toml.specs.View.{table_view, view};
-ghost use Rattle.afdx_config.specs.Seen.{finding_of};
-ghost use Rattle.afdx_config.specs.Told.{fault_name, is_plain, hex_digit, escaped, cut_text, array_text, known_text, value_text, members_at, id_text, id_at, place_text, joint, subject, fields_at, field_at, content_text, kind_text, key_names, limit_text, link_text, content_at, kind_at, keys_text, wanted_text, bound_text, allowed_text, pair_text, same_text, is_of_pair, pair_line, key_line, told, stop_text, toml_line, toml_text, finding_line, count_line, explanation};
+ghost use Rattle.afdx_config.specs.Seen.{finding_of, Tells};
+ghost use Rattle.afdx_config.specs.Told.{fault_name, is_plain, hex_digit, escaped, cut_text, value_text, members_at, id_text, id_at, place_text, joint, subject, fields_at, field_at, content_text, kind_text, key_names, limit_text, content_at, kind_at, bound_text, allowed_text, pair_text, same_text, is_of_pair, told, stop_text, toml_text, finding_line, count_line, explanation};
 ghost use Rattle.afdx_config.specs.Views.{IsDocument, data_of, field_of};
 
 use crate::document::{Document, fields_in};
@@ -13,8 +12,11 @@ use crate::entries::{value_at, whole_number};
 use crate::findings::{Finding, Place, row_like};
 use crate::format::{Content, DOCUMENT, END, Field, LINK, PORT};
 use afdx_plan::ConfigFault;
-use std::io::{self, Write};
+use std::io::{Result, Write};
 use toml::{Table, Value};
+
+/// The text of an explanation.
+type Text = Vec<u8>;
 
 /// The most bytes of a string that a finding prints.
 const TOLD_LIMIT: usize = 40;
@@ -57,75 +59,60 @@ fn hex_digit(digit: u8) -> u8
 }
 
 #[tactic(auto, unfolding(crate::specs::Told::escaped))]
-fn write_escaped<W: Write>(writer: &mut W, byte: u8) -> io::Result<()>
-    ensures { OnOk result (Appends (W.contents writer.old) (W.contents writer.new) (escaped byte)) }
+fn write_escaped(out: &mut Text, byte: u8) -> Result<()>
+    ensures { OnOk result (Tells out.old out.new (escaped byte)) }
 {
     if is_plain(byte) {
-        writer.write_all(&[byte])
+        out.write_all(&[byte])
     } else {
-        writer.write_all(&[92, 120, hex_digit(byte / 16), hex_digit(byte % 16)])
+        out.write_all(&[92, 120, hex_digit(byte / 16), hex_digit(byte % 16)])
     }
 }
 
-fn write_bytes<W: Write>(writer: &mut W, bytes: &[u8]) -> io::Result<()>
-    ensures { OnOk result (Appends (W.contents writer.old) (W.contents writer.new)
-        (flat_map escaped bytes.now)) }
+fn write_bytes(out: &mut Text, bytes: &[u8]) -> Result<()>
+    ensures { OnOk result (Tells out.old out.new (flat_map escaped bytes.now)) }
 {
     for byte in bytes {
-        write_escaped(writer, *byte)?;
+        write_escaped(out, *byte)?;
     }
     Ok(())
 }
 
 /// Writes a string, cut after `TOLD_LIMIT` bytes.
-#[tactic(auto, unfolding(crate::specs::Told::cut_text))]
-fn write_cut<W: Write>(writer: &mut W, text: &[u8]) -> io::Result<()>
-    ensures { OnOk result (Appends (W.contents writer.old) (W.contents writer.new)
-        (cut_text text.now)) }
+#[tactic(auto, unfolding(crate::specs::Told::cut_text), using(crate::proofs::TellLemmas::cut_short))]
+fn write_cut(out: &mut Text, text: &[u8]) -> Result<()>
+    ensures { OnOk result (Tells out.old out.new (cut_text text.now)) }
 {
     if text.len() > TOLD_LIMIT {
         let (front, _rest) = text.split_at(TOLD_LIMIT);
-        write_bytes(writer, front)?;
-        writer.write_all(b"...")
+        write_bytes(out, front)?;
+        out.write_all(b"...")
     } else {
-        write_bytes(writer, text)
+        write_bytes(out, text)
     }
 }
 
-#[tactic(auto, unfolding(crate::specs::Told::array_text))]
-fn write_array<W: Write>(writer: &mut W, items: &[Value]) -> io::Result<()>
-    ensures { OnOk result (Appends (W.contents writer.old) (W.contents writer.new)
-        (array_text (length items.now))) }
-{
-    let count = items.len();
-    write!(writer, "an array of {count}")
-}
-
-#[tactic(auto, unfolding(crate::specs::Told::known_text))]
-fn write_known<W: Write>(writer: &mut W, value: &Value) -> io::Result<()>
-    ensures { OnOk result (Appends (W.contents writer.old) (W.contents writer.new)
-        (known_text (view value.now))) }
-{
-    match value {
-        Value::String(text) => {
-            writer.write_all(b"\"")?;
-            write_cut(writer, text.as_bytes())?;
-            writer.write_all(b"\"")
-        }
-        Value::Integer(number) => write!(writer, "{number}"),
-        Value::Array(items) => write_array(writer, items.as_slice()),
-        _ => write!(writer, "a {}", value.type_str()),
-    }
-}
-
+/// Writes a value: a string in quotes, a whole number, else the kind.
 #[tactic(auto, unfolding(crate::specs::Told::value_text))]
-fn write_value<W: Write>(writer: &mut W, value: Option<&Value>) -> io::Result<()>
-    ensures { OnOk result (Appends (W.contents writer.old) (W.contents writer.new)
+fn write_value(out: &mut Text, value: Option<&Value>) -> Result<()>
+    ensures { OnOk result (Tells out.old out.new
         (value_text (option_map (λ v. view v.now) value.entry))) }
 {
     match value {
-        Some(value) => write_known(writer, value),
-        None => writer.write_all(b"missing"),
+        None => out.write_all(b"missing"),
+        Some(value) => match value {
+            Value::String(text) => {
+                out.write_all(b"\"")?;
+                write_cut(out, text.as_bytes())?;
+                out.write_all(b"\"")
+            }
+            Value::Integer(number) => write!(out, "{number}"),
+            Value::Array(items) => {
+                let count = items.as_slice().len();
+                write!(out, "an array of {count}")
+            }
+            _ => write!(out, "a {}", value.type_str()),
+        },
     }
 }
 
@@ -152,44 +139,34 @@ fn table_at<'a>(document: &Document<'a>, place: Place) -> Option<&'a Table>
     }
 }
 
-/// The identifier of the table at a place.
-fn id_at(document: &Document<'_>, place: Place) -> Option<i64>
-    requires { IsDocument document.now }
-    ensures { result ≡ id_at (data_of document.now) place }
-{
-    match table_at(document, place) {
-        Some(table) => whole_number(table, "id"),
-        None => None,
-    }
-}
-
+/// Writes the identifier of the table at a place, if it is a whole number.
 #[tactic(auto, unfolding(crate::specs::Told::id_text))]
-fn write_id<W: Write>(writer: &mut W, id: Option<i64>) -> io::Result<()>
-    ensures { OnOk result (Appends (W.contents writer.old) (W.contents writer.new) (id_text id)) }
+fn write_id(out: &mut Text, document: &Document<'_>, place: Place) -> Result<()>
+    requires { IsDocument document.now }
+    ensures { OnOk result (Tells out.old out.new (id_text (id_at (data_of document.now) place))) }
 {
-    match id {
-        Some(id) => write!(writer, " (id {id})"),
+    match table_at(document, place).and_then(|table| whole_number(table, "id")) {
+        Some(id) => write!(out, " (id {id})"),
         None => Ok(()),
     }
 }
 
 #[tactic(auto, unfolding(crate::specs::Told::place_text))]
-fn write_place<W: Write>(writer: &mut W, document: &Document<'_>, place: Place) -> io::Result<()>
+fn write_place(out: &mut Text, document: &Document<'_>, place: Place) -> Result<()>
     requires { IsDocument document.now }
-    ensures { OnOk result (Appends (W.contents writer.old) (W.contents writer.new)
-        (place_text (data_of document.now) place)) }
+    ensures { OnOk result (Tells out.old out.new (place_text (data_of document.now) place)) }
 {
     match place {
-        Place::Text(line, column) => write_stop(writer, line, column),
+        Place::Text(line, column) => write_stop(out, line, column),
         Place::Top => Ok(()),
-        Place::EndSystem => writer.write_all(b"end_system"),
+        Place::EndSystem => out.write_all(b"end_system"),
         Place::Link(k) => {
-            write!(writer, "vl {k}")?;
-            write_id(writer, id_at(document, place))
+            write!(out, "vl {k}")?;
+            write_id(out, document, place)
         }
         Place::Port(k) => {
-            write!(writer, "port {k}")?;
-            write_id(writer, id_at(document, place))
+            write!(out, "port {k}")?;
+            write_id(out, document, place)
         }
     }
 }
@@ -202,8 +179,7 @@ fn joint(place: Place) -> &'static str
         Place::Text(_, _) => ": ",
         Place::Top => "",
         Place::EndSystem => ".",
-        Place::Link(_) => ", ",
-        Place::Port(_) => ", ",
+        Place::Link(_) | Place::Port(_) => ", ",
     }
 }
 
@@ -219,22 +195,17 @@ fn value_under<'a>(document: &Document<'a>, place: Place, key: &str) -> Option<&
     }
 }
 
+/// Writes a key of a place and its value.
 #[tactic(auto, unfolding(crate::specs::Told::subject))]
-fn write_subject<W: Write>(
-    writer: &mut W,
-    document: &Document<'_>,
-    place: Place,
-    key: &str,
-) -> io::Result<()>
+fn write_subject(out: &mut Text, document: &Document<'_>, place: Place, key: &str) -> Result<()>
     requires { IsDocument document.now }
-    ensures { OnOk result (Appends (W.contents writer.old) (W.contents writer.new)
-        (subject (data_of document.now) place key.now)) }
+    ensures { OnOk result (Tells out.old out.new (subject (data_of document.now) place key.now)) }
 {
-    write_place(writer, document, place)?;
-    writer.write_all(joint(place).as_bytes())?;
-    write_cut(writer, key.as_bytes())?;
-    writer.write_all(b" is ")?;
-    write_value(writer, value_under(document, place, key))
+    write_place(out, document, place)?;
+    out.write_all(joint(place).as_bytes())?;
+    write_cut(out, key.as_bytes())?;
+    out.write_all(b" is ")?;
+    write_value(out, value_under(document, place, key))
 }
 
 /// The keys of the format of the table at a place.
@@ -250,35 +221,39 @@ fn fields_at(document: &Document<'_>, place: Place) -> &'static [Field]
     }
 }
 
-fn field_named(fields: &[Field], key: &str) -> Option<Field>
-    ensures { option_map field_of result ≡ find (λ f. bytes_eq key.now f.key) (map field_of fields.now) }
-{
-    row_named(fields, key).copied()
-}
-
 fn row_named<'a>(fields: &'a [Field], key: &str) -> Option<&'a Field>
     ensures { option_copied result ≡ find (λ f. bytes_eq key.now (field_of f).key) fields.now }
 {
     fields.iter().find(|field| key == field.0)
 }
 
+/// The content of a finding's key.
+#[tactic(auto, using(crate::proofs::FindingLemmas::find_map))]
+fn field_at(document: &Document<'_>, finding: &Finding) -> Option<Field>
+    ensures { option_map field_of result
+        ≡ field_at (data_of document.now) finding.now.place (finding_of finding.now).key }
+{
+    row_named(fields_at(document, finding.place), finding.key.as_str()).copied()
+}
+
+/// Writes the values that a content allows.
 #[tactic(auto, unfolding(crate::specs::Told::content_text))]
-fn write_content<W: Write>(writer: &mut W, content: Content) -> io::Result<()>
-    ensures { OnOk result (Appends (W.contents writer.old) (W.contents writer.new)
-        (content_text content)) }
+fn write_content(out: &mut Text, content: Content) -> Result<()>
+    ensures { OnOk result (Tells out.old out.new (content_text content)) }
 {
     match content {
-        Content::Whole((least, most)) => write!(writer, "{least} to {most}"),
-        Content::Gap => writer.write_all(b"1, 2, 4, 8, 16, 32, 64 or 128"),
-        Content::Networks => writer.write_all(b"both, a or b"),
-        Content::PortKind => writer.write_all(b"sampling or queuing"),
-        Content::Address => writer.write_all(b"an address in 10.0.0.0/8"),
-        Content::Checksum => writer.write_all(b"none or udp"),
-        Content::Section => writer.write_all(b"a table"),
-        Content::Rows => writer.write_all(b"an array of tables"),
+        Content::Whole((least, most)) => write!(out, "{least} to {most}"),
+        Content::Gap => out.write_all(b"1, 2, 4, 8, 16, 32, 64 or 128"),
+        Content::Networks => out.write_all(b"both, a or b"),
+        Content::PortKind => out.write_all(b"sampling or queuing"),
+        Content::Address => out.write_all(b"an address in 10.0.0.0/8"),
+        Content::Checksum => out.write_all(b"none or udp"),
+        Content::Section => out.write_all(b"a table"),
+        Content::Rows => out.write_all(b"an array of tables"),
     }
 }
 
+/// The kind of value that a content requires.
 fn kind_text(content: Content) -> &'static str
     ensures { result.now ≡ kind_text content }
 {
@@ -290,58 +265,25 @@ fn kind_text(content: Content) -> &'static str
     }
 }
 
-/// The format of a finding's key.
-fn field_at(document: &Document<'_>, finding: &Finding) -> Option<Field>
-    ensures { option_map field_of result
-        ≡ field_at (data_of document.now) finding.now.place (finding_of finding.now).key }
-{
-    field_named(fields_at(document, finding.place), finding.key.as_str())
-}
-
-fn write_content_at<W: Write>(
-    writer: &mut W,
-    document: &Document<'_>,
-    finding: &Finding,
-) -> io::Result<()>
-    ensures { OnOk result (Appends (W.contents writer.old) (W.contents writer.new)
-        (content_at (data_of document.now) (finding_of finding.now))) }
+/// The kind of value that a finding requires.
+fn kind_at(document: &Document<'_>, finding: &Finding) -> &'static str
+    ensures { result.now ≡ kind_at (data_of document.now) (finding_of finding.now) }
 {
     match field_at(document, finding) {
-        Some(field) => write_content(writer, field.2),
-        None => Ok(()),
-    }
-}
-
-fn write_kind_at<W: Write>(
-    writer: &mut W,
-    document: &Document<'_>,
-    finding: &Finding,
-) -> io::Result<()>
-    ensures { OnOk result (Appends (W.contents writer.old) (W.contents writer.new)
-        (kind_at (data_of document.now) (finding_of finding.now))) }
-{
-    match field_at(document, finding) {
-        Some(field) => writer.write_all(kind_text(field.2).as_bytes()),
-        None => Ok(()),
+        Some(field) => kind_text(field.2),
+        None => "",
     }
 }
 
 /// Writes the keys of a format.
-fn write_names<W: Write>(writer: &mut W, fields: &[Field]) -> io::Result<()>
-    ensures { OnOk result (Appends (W.contents writer.old) (W.contents writer.new)
-        (key_names (map field_of fields.now))) }
+fn write_keys(out: &mut Text, head: &str, fields: &[Field]) -> Result<()>
+    ensures { OnOk result (Tells out.old out.new (head.now ++ key_names (map field_of fields.now))) }
 {
+    out.write_all(head.as_bytes())?;
     for field in fields {
-        write_name(writer, field)?;
+        write!(out, " {}", field.0)?;
     }
     Ok(())
-}
-
-fn write_name<W: Write>(writer: &mut W, field: &Field) -> io::Result<()>
-    ensures { OnOk result (Appends (W.contents writer.old) (W.contents writer.new)
-        (codes " " ++ (field_of field.now).key)) }
-{
-    write!(writer, " {}", field.0)
 }
 
 /// The allowed number of tables or ports.
@@ -349,127 +291,89 @@ fn limit_text(place: Place, key: &str) -> &'static str
     ensures { result.now ≡ limit_text place key.now }
 {
     match place {
-        Place::Top => {
-            if key == "vl" {
-                "1 to 64 tables"
-            } else {
-                "1 to 256 tables"
-            }
-        }
+        Place::Top if key == "vl" => "1 to 64 tables",
+        Place::Top => "1 to 256 tables",
         _ => "at most 64 ports of one sub-VL",
     }
 }
 
-/// Writes the value of a port's link that sets a bound.
-#[tactic(auto, unfolding(crate::specs::Told::link_text))]
-fn write_link<W: Write>(
-    writer: &mut W,
+/// Writes a bound that a port's link sets, and the value of the link.
+#[tactic(auto, unfolding(crate::specs::Told::bound_text))]
+fn write_bound(
+    out: &mut Text,
     document: &Document<'_>,
     other: Option<usize>,
+    bound: &str,
     key: &str,
-) -> io::Result<()>
+) -> Result<()>
     requires { IsDocument document.now }
-    ensures { OnOk result (Appends (W.contents writer.old) (W.contents writer.new)
-        (link_text (data_of document.now) other key.now)) }
+    ensures { OnOk result (Tells out.old out.new
+        (bound_text (data_of document.now) other bound.now key.now)) }
 {
+    out.write_all(bound.as_bytes())?;
     match other {
         Some(k) => {
-            writer.write_all(b"; ")?;
-            write_subject(writer, document, Place::Link(k), key)
+            out.write_all(b"; ")?;
+            write_subject(out, document, Place::Link(k), key)
         }
         None => Ok(()),
     }
 }
 
-#[tactic(auto, unfolding(crate::specs::Told::keys_text))]
-fn write_keys<W: Write>(writer: &mut W, fields: &[Field]) -> io::Result<()>
-    ensures { OnOk result (Appends (W.contents writer.old) (W.contents writer.new)
-        (keys_text (map field_of fields.now))) }
-{
-    writer.write_all(b"the keys are")?;
-    write_names(writer, fields)
-}
-
-#[tactic(auto, unfolding(crate::specs::Told::wanted_text))]
-fn write_wanted<W: Write>(
-    writer: &mut W,
-    document: &Document<'_>,
-    finding: &Finding,
-) -> io::Result<()>
-    ensures { OnOk result (Appends (W.contents writer.old) (W.contents writer.new)
-        (wanted_text (data_of document.now) (finding_of finding.now))) }
-{
-    write_kind_at(writer, document, finding)?;
-    writer.write_all(b" is wanted")
-}
-
-/// Writes a bound that a port's link sets.
-#[tactic(auto, unfolding(crate::specs::Told::bound_text))]
-fn write_bound<W: Write>(
-    writer: &mut W,
-    document: &Document<'_>,
-    other: Option<usize>,
-    bound: &str,
-    key: &str,
-) -> io::Result<()>
-    requires { IsDocument document.now }
-    ensures { OnOk result (Appends (W.contents writer.old) (W.contents writer.new)
-        (bound_text (data_of document.now) other bound.now key.now)) }
-{
-    writer.write_all(bound.as_bytes())?;
-    write_link(writer, document, other, key)
-}
-
 /// Writes the values that are allowed at a finding.
 #[tactic(auto, unfolding(crate::specs::Told::allowed_text))]
-fn write_allowed<W: Write>(
-    writer: &mut W,
+fn write_allowed(
+    out: &mut Text,
     document: &Document<'_>,
     fault: ConfigFault,
     finding: &Finding,
-) -> io::Result<()>
+) -> Result<()>
     requires { IsDocument document.now }
-    ensures { OnOk result (Appends (W.contents writer.old) (W.contents writer.new)
+    ensures { OnOk result (Tells out.old out.new
         (allowed_text fault (data_of document.now) (finding_of finding.now))) }
 {
     match fault {
-        ConfigFault::UnknownKey => write_keys(writer, fields_at(document, finding.place)),
-        ConfigFault::WrongKind => write_wanted(writer, document, finding),
-        ConfigFault::NoSuchVl => writer.write_all(b"no vl has this id"),
+        ConfigFault::UnknownKey => {
+            write_keys(out, "the keys are", fields_at(document, finding.place))
+        }
+        ConfigFault::WrongKind => write!(out, "{} is wanted", kind_at(document, finding)),
+        ConfigFault::NoSuchVl => out.write_all(b"no vl has this id"),
         ConfigFault::NoSuchSub => {
             let bound = "below sub_vls of its vl";
-            write_bound(writer, document, finding.other, bound, "sub_vls")
+            write_bound(out, document, finding.other, bound, "sub_vls")
         }
         ConfigFault::SamplingTooLong => {
             let bound = "at most lmax - 47 of its vl";
-            write_bound(writer, document, finding.other, bound, "lmax")
+            write_bound(out, document, finding.other, bound, "lmax")
         }
         ConfigFault::Limit => {
-            writer.write_all(limit_text(finding.place, finding.key.as_str()).as_bytes())
+            out.write_all(limit_text(finding.place, finding.key.as_str()).as_bytes())
         }
-        _ => write_content_at(writer, document, finding),
+        _ => match field_at(document, finding) {
+            Some(field) => write_content(out, field.2),
+            None => Ok(()),
+        },
     }
 }
 
 /// Writes the places of two tables.
 #[tactic(auto, unfolding(crate::specs::Told::pair_text))]
-fn write_pair<W: Write>(
-    writer: &mut W,
+fn write_pair(
+    out: &mut Text,
     document: &Document<'_>,
     place: Place,
     other: Option<usize>,
-) -> io::Result<()>
+) -> Result<()>
     requires { IsDocument document.now }
-    ensures { OnOk result (Appends (W.contents writer.old) (W.contents writer.new)
-        (pair_text (data_of document.now) place other)) }
+    ensures { OnOk result (Tells out.old out.new (pair_text (data_of document.now) place other)) }
 {
+    write_place(out, document, place)?;
     match other {
         Some(k) => {
-            write_place(writer, document, place)?;
-            writer.write_all(b" and ")?;
-            write_place(writer, document, row_like(place, k))
+            out.write_all(b" and ")?;
+            write_place(out, document, row_like(place, k))
         }
-        None => write_place(writer, document, place),
+        None => Ok(()),
     }
 }
 
@@ -488,159 +392,87 @@ fn same_text(fault: ConfigFault) -> &'static str
 fn is_of_pair(fault: ConfigFault) -> bool
     ensures { result ≡ is_of_pair fault }
 {
-    match fault {
-        ConfigFault::DuplicateVl => true,
-        ConfigFault::DuplicatePort => true,
-        ConfigFault::SameFlow => true,
-        ConfigFault::SharedUnicast => true,
-        _ => false,
-    }
-}
-
-#[tactic(auto, unfolding(crate::specs::Told::pair_line))]
-fn write_pair_line<W: Write>(
-    writer: &mut W,
-    document: &Document<'_>,
-    finding: &Finding,
-) -> io::Result<()>
-    requires { IsDocument document.now }
-    ensures { OnOk result (Appends (W.contents writer.old) (W.contents writer.new)
-        (pair_line (data_of document.now) (finding_of finding.now))) }
-{
-    write_pair(writer, document, finding.place, finding.other)?;
-    writer.write_all(b": ")?;
-    writer.write_all(same_text(finding.fault).as_bytes())
-}
-
-#[tactic(auto, unfolding(crate::specs::Told::key_line))]
-fn write_key_line<W: Write>(
-    writer: &mut W,
-    document: &Document<'_>,
-    finding: &Finding,
-) -> io::Result<()>
-    requires { IsDocument document.now }
-    ensures { OnOk result (Appends (W.contents writer.old) (W.contents writer.new)
-        (key_line (data_of document.now) (finding_of finding.now))) }
-{
-    write_subject(writer, document, finding.place, finding.key.as_str())?;
-    writer.write_all(b": ")?;
-    write_allowed(writer, document, finding.fault, finding)
+    matches!(
+        fault,
+        ConfigFault::DuplicateVl
+            | ConfigFault::DuplicatePort
+            | ConfigFault::SameFlow
+            | ConfigFault::SharedUnicast
+    )
 }
 
 /// Writes a finding without its number and name.
-fn write_told<W: Write>(
-    writer: &mut W,
-    document: &Document<'_>,
-    finding: &Finding,
-) -> io::Result<()>
+#[tactic(auto, unfolding(crate::specs::Told::told))]
+fn write_told(out: &mut Text, document: &Document<'_>, finding: &Finding) -> Result<()>
     requires { IsDocument document.now }
-    ensures { OnOk result (Appends (W.contents writer.old) (W.contents writer.new)
-        (told (data_of document.now) (finding_of finding.now))) }
+    ensures { OnOk result (Tells out.old out.new (told (data_of document.now) (finding_of finding.now))) }
 {
     if is_of_pair(finding.fault) {
-        write_pair_line(writer, document, finding)
+        write_pair(out, document, finding.place, finding.other)?;
+        write!(out, ": {}", same_text(finding.fault))
     } else {
-        write_key_line(writer, document, finding)
+        write_subject(out, document, finding.place, finding.key.as_str())?;
+        out.write_all(b": ")?;
+        write_allowed(out, document, finding.fault, finding)
     }
 }
 
 #[tactic(auto, unfolding(crate::specs::Told::finding_line))]
-fn write_finding<W: Write>(
-    writer: &mut W,
-    document: &Document<'_>,
-    finding: &Finding,
-) -> io::Result<()>
+fn write_finding(out: &mut Text, document: &Document<'_>, finding: &Finding) -> Result<()>
     requires { IsDocument document.now }
-    ensures { OnOk result (Appends (W.contents writer.old) (W.contents writer.new)
+    ensures { OnOk result (Tells out.old out.new
         (finding_line (data_of document.now) (finding_of finding.now))) }
 {
     let number = finding.fault.number();
     let name = fault_name(finding.fault);
-    write!(writer, "{number} {name}: ")?;
-    write_told(writer, document, finding)?;
-    writer.write_all(b"\n")
+    write!(out, "{number} {name}: ")?;
+    write_told(out, document, finding)?;
+    out.write_all(b"\n")
 }
 
 /// Writes the number of findings.
 #[tactic(auto, unfolding(crate::specs::Told::count_line))]
-fn write_count<W: Write>(writer: &mut W, count: usize) -> io::Result<()>
-    ensures { OnOk result (Appends (W.contents writer.old) (W.contents writer.new)
-        (count_line count)) }
+fn write_count(out: &mut Text, count: usize) -> Result<()>
+    ensures { OnOk result (Tells out.old out.new (count_line count)) }
 {
-    if count == 0 {
-        writer.write_all(b"no faults\n")
-    } else if count == 1 {
-        writer.write_all(b"1 fault\n")
-    } else {
-        writeln!(writer, "{count} faults")
+    match count {
+        0 => out.write_all(b"no faults\n"),
+        1 => out.write_all(b"1 fault\n"),
+        _ => writeln!(out, "{count} faults"),
     }
-}
-
-fn write_findings<W: Write>(
-    writer: &mut W,
-    document: &Document<'_>,
-    findings: &[Finding],
-) -> io::Result<()>
-    requires { IsDocument document.now }
-    ensures { OnOk result (Appends (W.contents writer.old) (W.contents writer.new)
-        (flat_map (finding_line (data_of document.now)) (map finding_of findings.now))) }
-{
-    for finding in findings {
-        write_finding(writer, document, finding)?;
-    }
-    Ok(())
 }
 
 /// Writes the number of findings, and a line for each.
 #[tactic(auto, unfolding(crate::specs::Told::explanation))]
-pub(crate) fn write_explanation<W: Write>(
-    writer: &mut W,
+pub(crate) fn write_explanation(
+    out: &mut Text,
     document: &Document<'_>,
     findings: &[Finding],
-) -> io::Result<()>
+) -> Result<()>
     requires { IsDocument document.now }
-    ensures { OnOk result (Appends (W.contents writer.old) (W.contents writer.new)
+    ensures { OnOk result (Tells out.old out.new
         (explanation (data_of document.now) (map finding_of findings.now))) }
 {
-    write_count(writer, findings.len())?;
-    write_findings(writer, document, findings)
+    write_count(out, findings.len())?;
+    for finding in findings {
+        write_finding(out, document, finding)?;
+    }
+    Ok(())
 }
 
 #[tactic(auto, unfolding(crate::specs::Told::stop_text))]
-fn write_stop<W: Write>(writer: &mut W, line: usize, column: usize) -> io::Result<()>
-    ensures { OnOk result (Appends (W.contents writer.old) (W.contents writer.new)
-        (stop_text line column)) }
+fn write_stop(out: &mut Text, line: usize, column: usize) -> Result<()>
+    ensures { OnOk result (Tells out.old out.new (stop_text line column)) }
 {
-    write!(writer, "line {line}, column {column}")
-}
-
-#[tactic(auto, unfolding(crate::specs::Told::toml_line))]
-fn write_toml_line<W: Write>(
-    writer: &mut W,
-    line: usize,
-    column: usize,
-    message: &str,
-) -> io::Result<()>
-    ensures { OnOk result (Appends (W.contents writer.old) (W.contents writer.new)
-        (toml_line line column message.now)) }
-{
-    writer.write_all(b"1 Toml: ")?;
-    write_stop(writer, line, column)?;
-    writer.write_all(b": ")?;
-    writer.write_all(message.as_bytes())?;
-    writer.write_all(b"\n")
+    write!(out, "line {line}, column {column}")
 }
 
 /// Writes the place at which a text stops being TOML, and the message of the TOML parser.
-pub(crate) fn write_toml<W: Write>(
-    writer: &mut W,
-    line: usize,
-    column: usize,
-    message: &str,
-) -> io::Result<()>
-    ensures { OnOk result (Appends (W.contents writer.old) (W.contents writer.new)
-        (toml_text line column message.now)) }
+pub(crate) fn write_toml(out: &mut Text, line: usize, column: usize, message: &str) -> Result<()>
+    ensures { OnOk result (Tells out.old out.new (toml_text line column message.now)) }
 {
-    writer.write_all(b"1 fault\n")?;
-    write_toml_line(writer, line, column, message)
+    write!(
+        out,
+        "1 fault\n1 Toml: line {line}, column {column}: {message}\n"
+    )
 }
