@@ -2,9 +2,9 @@
 use Rattle.afdx_config.proofs.Names.{◌≡◌, ℕ, ◌+◌, ◌<◌, List, [], ◌∷◌, ◌++◌, length, get_or, drop, refl, ap, sym}
 use Rattle.afdx_config.proofs.Names.{◌∙◌, map, filter, append_assoc, option_map_or}
 use Rattle.afdx_config.proofs.Names.{drop_more, flat_map, flat_map-map, Members, table_view, string_bytes, codes}
-use Rattle.afdx_config.proofs.Names.{keys_of, String, Global, ConfigFault, LinkPlan, PortPlan, Place, Link, Port, Top}
-use Rattle.afdx_config.proofs.Names.{EndSystem, Field, Finding, has, key_finding, each_row, link_finding}
-use Rattle.afdx_config.proofs.Names.{count_findings, port_finding, findings, shown_faults, Adds, finding_of, field_of}
+use Rattle.afdx_config.proofs.Names.{keys_of, String, Global, LinkPlan, PortPlan, Place, Link, Port, Top}
+use Rattle.afdx_config.proofs.Names.{EndSystem, Field, Finding, has, key_finding, each_row}
+use Rattle.afdx_config.proofs.Names.{ConfigFault, findings_of, finding_of, field_of}
 use Rattle.afdx_config.proofs.Names.{IsDocument, Document, data_of, document_fields, end_fields, link_fields}
 use Rattle.afdx_config.proofs.Names.{port_fields, fields_in, field_fault, key_fault, is_version_2, link_of}
 use Rattle.afdx_config.proofs.Names.{port_of, rows_at, map-map, BTreeMap, Value}
@@ -13,31 +13,28 @@ use Rattle.afdx_config.specs.declared.findings.Finding.{Finding as Written}
 use Rattle.afdx_config.specs.Findings.{plan_findings, table_findings, value_findings}
 use Rattle.afdx_config.proofs.SectionLemmas.{Found, keys_are, option_maps}
 
+-- these findings were added
+abbrev pub Grows : List Written → List Written → List Finding → Type 0
+Grows old new more = map finding_of new ≡ map finding_of old ++ more
+
 -- one after the other
-pub adds_both : (old mid new : List Written) (a b : List Finding) → Adds old mid a → Adds mid new b → Adds old new (a ++ b)
+pub adds_both : (old mid new : List Written) (a b : List Finding) → Grows old mid a → Grows mid new b → Grows old new (a ++ b)
 adds_both old mid new a b p q = q ∙ ap (λ xs. xs ++ b) p ∙ append_assoc (map finding_of old) a b
 
 -- adding the findings of one row
 pub row_more : {A : Type 0} (each : ℕ → A → List A → List Finding) (i : ℕ) (rows rest : List A) (x d : A) (mid new : List Written)
     (whole : List Finding) → i < length rows → x ≡ get_or rows i d → rest ≡ drop (i + 1) rows
-    → map finding_of mid ++ each_row each (i + 1) (drop i rows) ≡ whole → Adds mid new (each (i + 1) x rest)
+    → map finding_of mid ++ each_row each (i + 1) (drop i rows) ≡ whole → Grows mid new (each (i + 1) x rest)
     → map finding_of new ++ each_row each (i + 1 + 1) (drop (i + 1) rows) ≡ whole
 row_more each i rows rest x d mid new whole inside here later before this =
     rw (this, later) (append_assoc (map finding_of mid) (each (i + 1) x (drop (i + 1) rows)) (each_row each (i + 1 + 1) (drop (i + 1) rows))
     ∙ ap (λ xs. map finding_of mid ++ each_row each (i + 1) xs) (ap (λ y. y ∷ drop (i + 1) rows) here ∙ sym (drop_more rows i d inside)) ∙ before)
 
--- the findings of a plan
-pub plan_all : (fault : ConfigFault) (links : List LinkPlan) (ports : List PortPlan) (old one two new : List Written)
-    → Adds old one (each_row (link_finding fault) 1 links) → Adds one two (count_findings fault links ports)
-    → Adds two new (each_row (port_finding fault links ports) 1 ports) → Adds old new (plan_findings fault links ports)
-unfolding plan_findings
-plan_all fault links ports old one two new p q r = adds_both old two new _ _ (adds_both old one two _ _ p q) r
-
 -- the findings of a table
 pub table_all : (place : Place) (fields : List Key) (table : BTreeMap (String Global) Value) (old mid new : List Written)
-    → Adds old mid (flat_map (λ f. key_finding place (field_of f).key (field_fault (table_view table) (field_of f))) fields)
-    → Adds mid new (flat_map (λ k. key_finding place (string_bytes k) (key_fault (map field_of fields) (string_bytes k))) (keys_of table.entries))
-    → Adds old new (table_findings place (map field_of fields) (table_view table))
+    → Grows old mid (flat_map (λ f. key_finding place (field_of f).key (field_fault (table_view table) (field_of f))) fields)
+    → Grows mid new (flat_map (λ k. key_finding place (string_bytes k) (key_fault (map field_of fields) (string_bytes k))) (keys_of table.entries))
+    → Grows old new (table_findings place (map field_of fields) (table_view table))
 unfolding table_findings
 table_all place fields table old mid new p q =
     let of_field : Field → List Finding = λ f. key_finding place f.key (field_fault (table_view table) f) in
@@ -55,10 +52,10 @@ each_map each k (t ∷ ts) = ap (λ xs. each k (table_view t.now) ++ xs) (each_m
 -- the findings in the values of a document
 pub values_all : (s : Document) (lf pf : List Field) (ls ps : List Found) (old one two three new : List Written)
     → IsDocument s → old ≡ [] → lf ≡ fields_in (is_version_2 (data_of s)) link_fields → pf ≡ fields_in (is_version_2 (data_of s)) port_fields
-    → ls ≡ s.links.items → ps ≡ s.ports.items → Adds old one (table_findings Top document_fields (data_of s))
-    → Adds one two (option_map_or (λ t. table_findings EndSystem end_fields (table_view t.now)) s.end [])
-    → Adds two three (each_row (λ k t rest. table_findings (Link k) lf (table_view t.now)) 1 ls)
-    → Adds three new (each_row (λ k t rest. table_findings (Port k) pf (table_view t.now)) 1 ps)
+    → ls ≡ s.links.items → ps ≡ s.ports.items → Grows old one (table_findings Top document_fields (data_of s))
+    → Grows one two (option_map_or (λ t. table_findings EndSystem end_fields (table_view t.now)) s.end [])
+    → Grows two three (each_row (λ k t rest. table_findings (Link k) lf (table_view t.now)) 1 ls)
+    → Grows three new (each_row (λ k t rest. table_findings (Port k) pf (table_view t.now)) 1 ps)
     → map finding_of new ≡ value_findings (data_of s)
 unfolding value_findings
 values_all s lf pf ls ps old one two three new are none lf_is pf_is ls_is ps_is p q r t =
@@ -69,13 +66,13 @@ values_all s lf pf ls ps old one two three new are none lf_is pf_is ls_is ps_is 
     rw (none, ← end, links, ports, lf_is, pf_is, ls_is, ps_is, are.end_is, are.links_are, are.ports_are) at whole
 
 -- the findings of each fault, with the links and ports of the document
-pub all_found : (s : Document) (values : List Finding) (links : List LinkPlan) (ports : List PortPlan) (ls ps : List Found)
+pub all_found : (s : Document) (gs : List ConfigFault) (values : List Finding) (links : List LinkPlan) (ports : List PortPlan) (ls ps : List Found)
     (old new : List Written) → IsDocument s → old ≡ [] → values ≡ value_findings (data_of s)
     → ls ≡ s.links.items → links ≡ map (λ t. link_of (table_view t.now)) ls
     → ps ≡ s.ports.items → ports ≡ map (λ t. port_of (table_view t.now)) ps
-    → Adds old new (flat_map (λ fault. filter (has fault) values ++ plan_findings fault links ports) shown_faults)
-    → map finding_of new ≡ findings (data_of s)
-all_found s values links ports ls ps old new are none values_are at_ls at_links at_ps at_ports added =
+    → Grows old new (flat_map (λ fault. filter (has fault) values ++ plan_findings fault links ports) gs)
+    → map finding_of new ≡ flat_map (λ g. findings_of g (data_of s)) gs
+all_found s gs values links ports ls ps old new are none values_are at_ls at_links at_ps at_ports added =
     let links_are : links ≡ map link_of (rows_at (codes "vl") (data_of s)) =
     at_links ∙ sym (map-map link_of (λ (t : Found). table_view t.now) ls)
     ∙ ap (λ ts. map link_of (map (λ (t : Found). table_view t.now) ts)) at_ls ∙ ap (map link_of) are.links_are in

@@ -47,11 +47,7 @@ before p end h (g ∷ gs) n from is low high = here (p g) refl high (before p en
 -- what is found passes
 passes : (p : ConfigFault → Bool) (gs : List ConfigFault) (e : ConfigFault) → find p gs ≡ Some e → p e ≡ true
 passes p [] e is = cc
-passes p (g ∷ gs) e is = here (p g) refl is (passes p gs e)
-  where
-    here : (b : Bool) → p g ≡ b → cond b (Some g) (find p gs) ≡ Some e → (find p gs ≡ Some e → p e ≡ true) → p e ≡ true
-    here true at_g is rest = rw (← same_Some g e is) at_g
-    here false at_g is rest = rest is
+passes p (g ∷ gs) e is = grind (arith, passes p gs e)
 
 -- the fault of the first finding
 abbrev fault_of : List Finding → Option ConfigFault
@@ -128,19 +124,14 @@ five : (a b c d e : Bool) (m u w o g x : ConfigFault) (rest : Option ConfigFault
     → cond a (Some m) (cond b (Some u) (cond c (Some w) (cond d (Some o) (cond e (Some g) None)))) ≡ Some x
     → cond (a || false) (Some m) (cond (b || false) (Some u) (cond (c || false) (Some w) (cond (d || false) (Some o)
     (cond (e || false) (Some g) rest)))) ≡ Some x
-five true b c d e m u w o g x rest is = is
-five false true c d e m u w o g x rest is = is
-five false false true d e m u w o g x rest is = is
-five false false false true e m u w o g x rest is = is
-five false false false false true m u w o g x rest is = is
-five false false false false false m u w o g x rest is = cc
+five a b c d e m u w o g x rest is = grind arith
 
-pub value_first : (doc : Members) (e : ConfigFault)
-    → find (λ f. list_any (has f) (value_findings doc)) (take 5 shown_faults) ≡ Some e → first_fault doc ≡ Some e
-value_first doc e is =
+pub value_first : (doc : Members) (xs : List Finding) (e : ConfigFault) → xs ≡ value_findings doc
+    → Some e ≡ find (λ f. list_any (has f) xs) (take 5 shown_faults) → first_fault doc ≡ Some e
+value_first doc xs e are is =
     let shown : ConfigFault → Bool = λ f. list_any (has f) (value_findings doc) in
     five (shown MissingKey) (shown UnknownKey) (shown WrongKind) (shown OutOfRange) (shown BadBag)
-    MissingKey UnknownKey WrongKind OutOfRange BadBag e (find (λ f. shows f doc) plan_faults) is
+    MissingKey UnknownKey WrongKind OutOfRange BadBag e (find (λ f. shows f doc) plan_faults) (sym (rw are at is))
 
 -- if no fault of values is found, there is no finding of values
 empty : (xs : List Finding) → AllByRecursion (λ x. is_value x.fault ≡ true) xs
@@ -159,8 +150,9 @@ empty (x ∷ xs) all is = here x.fault refl all.0
     here : (h : ConfigFault) → x.fault ≡ h → is_value h ≡ true → x ∷ xs ≡ []
     here h same small = let lacks = out x.fault (rw same small) in let number = eq-eqb (fault_number x.fault) (fault_number x.fault) refl in cc
 
-pub no_value : (doc : Members) → find (λ f. list_any (has f) (value_findings doc)) (take 5 shown_faults) ≡ None → value_findings doc ≡ []
-no_value doc is = empty (value_findings doc) (values_in doc) is
+pub no_value : (doc : Members) (xs : List Finding) → xs ≡ value_findings doc
+    → None ≡ find (λ f. list_any (has f) xs) (take 5 shown_faults) → value_findings doc ≡ []
+no_value doc xs are is = empty (value_findings doc) (values_in doc) (sym (rw are at is))
 
 -- without findings of values, the first fault is that of the plan
 plan_first : (doc : Members) (plan : Plan) (r : Option ConfigFault) → plan ≡ plan_of doc → value_findings doc ≡ []

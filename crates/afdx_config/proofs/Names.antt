@@ -4,10 +4,11 @@ pub use Rattle.std.proofs.Common.{append-nil, append_assoc, arith, codes, cond, 
 pub use Rattle.std.proofs.Common.{get_or, if◌then◌else◌, inl, inr, is_none, is_some, length, length-drop, lit≤, map}
 pub use Rattle.std.proofs.Common.{not, option_map, refl, rules, slice_get, slice_index, string_bytes, subst, suc}
 pub use Rattle.std.proofs.Common.{sym, take, true, ℕ, ◌&&◌, ◌++◌, ◌+◌, ◌-◌, ◌<◌, ◌||◌, ◌∙◌, ◌∷◌, ◌≡◌, ◌≤◌}
-pub use Rattle.std.proofs.Math.Bool.{or-false, or-true}
+pub use Rattle.std.proofs.Math.Bool.{and-false, and-or_distrib_left, and-true, or-false, or-true}
 pub use Rattle.std.proofs.NetLemmas.Ipv4.{read_ipv4_complete, read_ipv4_sound}
 pub use Rattle.std.proofs.NetLemmas.Options.{and_then_some, cond_some}
 pub use Rattle.std.proofs.lemmas.Bool.{and_parts, cases_lt, eqb-true, le-ltb, lt-ltb, ltb-true}
+pub use Rattle.std.proofs.lemmas.Bool.Decides.{nat_tests}
 pub use Rattle.std.proofs.lemmas.Grind.{common_steps}
 pub use Rattle.std.proofs.lemmas.Iterator.Adapters.{position_from-zero}
 pub use Rattle.std.proofs.lemmas.List.{drop_more, length-map, take-map, take_all}

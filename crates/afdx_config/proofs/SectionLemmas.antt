@@ -4,6 +4,7 @@ use Rattle.afdx_config.proofs.Names.{refl, ap, ◌-◌, false, map, length, take
 use Rattle.afdx_config.proofs.Names.{BTreeMap, cons_option, filter_map, list_any, as_table, view, items_view}
 use Rattle.afdx_config.proofs.Names.{members_view, member_keys, tables_among, has_other_item}
 use Rattle.afdx_config.proofs.Names.{take-map, length-map, option_map_or, fields_in, field_of, keys_of, Value}
+use Rattle.afdx_config.proofs.Names.{find, arith}
 use Rattle.afdx_config.specs.declared.format.Field.{Field as Written}
 
 -- the keys of a table
@@ -41,3 +42,9 @@ pub first_fields : (is_2 : Bool) (count : ℕ) (fields : List Written) → false
     → map field_of (take count fields) ≡ fields_in is_2 (map field_of fields)
 first_fields is_2 count fields not_2 counted =
     rw (counted, ← take-map field_of (length fields - 1) fields, ← length-map fields field_of, ← not_2) refl
+
+-- `find` after `map`
+pub find_map : {A B : Type 0} (p : B → Bool) (f : A → B) (xs : List A)
+    → find p (map f xs) ≡ option_map f (find (λ x. p (f x)) xs)
+find_map p f [] = refl
+find_map p f (x ∷ xs) = grind (arith, find_map p f xs)

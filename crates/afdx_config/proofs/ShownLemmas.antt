@@ -1,7 +1,7 @@
 -- A document has a fault exactly if some finding has it.
 use Rattle.afdx_config.proofs.Names.{◌≡◌, ℕ, ◌+◌, List, [], ◌∷◌, ◌++◌, length, Bool, true, false, ◌||◌, ◌&&◌}
-use Rattle.afdx_config.proofs.Names.{not, cond, Option, Some, None, refl, ap, sym, ◌∙◌, filter, codes, arith, is_some}
-use Rattle.afdx_config.proofs.Names.{◌==◌, and_parts, eqb-true, or-true, or-false, nat_lt, list_any-append, position}
+use Rattle.afdx_config.proofs.Names.{not, Option, Some, None, refl, ap, sym, ◌∙◌, filter, codes, arith, is_some}
+use Rattle.afdx_config.proofs.Names.{◌==◌, and_parts, nat_tests, or-false, and-true, and-false, and-or_distrib_left, nat_lt, list_any-append, position}
 use Rattle.afdx_config.proofs.Names.{position_from, list_any, flat_map, then_some, position_from-zero, AllByRecursion}
 use Rattle.afdx_config.proofs.Names.{Data, Members, get_member, fault_number, has_pair, has_same_vl, has_same_port}
 use Rattle.afdx_config.proofs.Names.{has_same_flow, shares_unicast, names_no_link, names_no_sub, is_too_long, is_crowded}
@@ -24,25 +24,15 @@ any_no (x ∷ xs) = any_no xs
 
 -- a common condition
 and_or : (a b c : Bool) → ((a && b) || (a && c)) ≡ (a && (b || c))
-and_or true b c = refl
-and_or false b c = refl
-
-and_no : (a : Bool) → (a && false) ≡ false
-and_no true = refl
-and_no false = refl
+and_or a b c = sym (and-or_distrib_left a b c)
 
 absorbs : (a b : Bool) → (a || (a && b)) ≡ (a && true)
-absorbs true b = refl
-absorbs false b = refl
+absorbs a b = grind arith
 
 -- a conditional finding
 one : (f : ConfigFault) (b : Bool) (x : Finding) → list_any (has f) (one_if b x) ≡ (has f x && b)
-one f true x = here (has f x)
-  where
-    here : (b : Bool) → (b || false) ≡ (b && true)
-    here true = refl
-    here false = refl
-one f false x = sym (and_no (has f x))
+one f true x = or-false (has f x) ∙ sym (and-true (has f x))
+one f false x = sym (and-false (has f x))
 
 -- two faults have the same number
 abbrev same : ConfigFault → ConfigFault → Bool
@@ -51,7 +41,7 @@ same f g = fault_number f == fault_number g
 -- the findings of each element
 many : {A : Type 0} (f : ConfigFault) (a : Bool) (F : A → List Finding) (t : A → Bool) (xs : List A)
     → ((x : A) → list_any (has f) (F x) ≡ (a && t x)) → list_any (has f) (flat_map F xs) ≡ (a && list_any t xs)
-many f a F t [] each = sym (and_no a)
+many f a F t [] each = sym (and-false a)
 many f a F t (x ∷ xs) each = list_any-append (has f) (F x) (flat_map F xs)
     ∙ rw (each x, many f a F t xs each) (and_or a (t x) (list_any t xs))
 
@@ -64,31 +54,19 @@ any_row test (x ∷ xs) = test x xs || any_row test xs
 rows_shown : {A : Type 0} (f : ConfigFault) (a : Bool) (each : ℕ → A → List A → List Finding) (test : A → List A → Bool) (k : ℕ)
     (xs : List A) → ((j : ℕ) (x : A) (rest : List A) → list_any (has f) (each j x rest) ≡ (a && test x rest))
     → list_any (has f) (each_row each k xs) ≡ (a && any_row test xs)
-rows_shown f a each test k [] shown = sym (and_no a)
+rows_shown f a each test k [] shown = sym (and-false a)
 rows_shown f a each test k (x ∷ xs) shown = list_any-append (has f) (each k x xs) (each_row each (k + 1) xs)
     ∙ rw (shown k x xs, rows_shown f a each test (k + 1) xs shown) (and_or a (test x xs) (any_row test xs))
 
 -- the findings that have a fault
 those_shown : (f g : ConfigFault) (xs : List Finding) → list_any (has f) (filter (has g) xs) ≡ (same f g && list_any (has g) xs)
-those_shown f g [] = sym (and_no (same f g))
-those_shown f g (x ∷ xs) = here (has g x) refl (those_shown f g xs)
-  where
-    here : (b : Bool) → has g x ≡ b → list_any (has f) (filter (has g) xs) ≡ (same f g && list_any (has g) xs)
-        → list_any (has f) (cond b (x ∷ filter (has g) xs) (filter (has g) xs)) ≡ (same f g && (b || list_any (has g) xs))
-    here false is more = more
-    here true is more =
-        let number : fault_number g ≡ fault_number x.fault = eqb-true (fault_number g) (fault_number x.fault) is in
-        rw (← number, more) (absorbs (same f g) (list_any (has g) xs))
+those_shown f g [] = sym (and-false (same f g))
+those_shown f g (x ∷ xs) = grind (arith, nat_tests, those_shown f g xs)
 
 -- `position` returns an index exactly if some element passes
 place_any : {A : Type 0} (p : A → Bool) (k : ℕ) (xs : List A) → is_some (position_from p k xs) ≡ list_any p xs
 place_any p k [] = refl
-place_any p k (x ∷ xs) = here (p x) (place_any p (k + 1) xs)
-  where
-    here : (b : Bool) → is_some (position_from p (k + 1) xs) ≡ list_any p xs
-        → is_some (cond b (Some k) (position_from p (k + 1) xs)) ≡ (b || list_any p xs)
-    here true is = refl
-    here false is = is
+place_any p k (x ∷ xs) = grind (arith, place_any p (k + 1) xs)
 
 place_some : {A : Type 0} (p : A → Bool) (xs : List A) → is_some (position p xs) ≡ list_any p xs
 place_some p xs = ap is_some (position_from-zero p xs) ∙ place_any p 0 xs
@@ -96,7 +74,7 @@ place_some p xs = ap is_some (position_from-zero p xs) ∙ place_any p 0 xs
 -- the finding of a pair
 pair : (f g : ConfigFault) (at : ℕ → Place) (k : ℕ) (o : Option ℕ)
     → list_any (has f) (pair_finding g at k o) ≡ (same f g && is_some o)
-pair f g at k None = sym (and_no (same f g))
+pair f g at k None = sym (and-false (same f g))
 pair f g at k (Some d) = one f true (found g (at k) (plan_key g) (Some (k + 1 + d)))
 
 -- the findings of one link
@@ -157,28 +135,14 @@ counts_shown f g links ports = list_any-append (has f)
 crowd_same : (all : List PortPlan) (p : PortPlan) (rest : List PortPlan) → list_any (has_same_sub p) rest ≡ true
     → is_crowded all p ≡ true → list_any (is_crowded all) rest ≡ true
 crowd_same all p [] follows crowded = cc
-crowd_same all p (q ∷ rest) follows crowded = here (has_same_sub p q) refl follows (crowd_same all p rest)
-  where
-    here : (b : Bool) → has_same_sub p q ≡ b → (b || list_any (has_same_sub p) rest) ≡ true
-        → (list_any (has_same_sub p) rest ≡ true → is_crowded all p ≡ true → list_any (is_crowded all) rest ≡ true)
-        → (is_crowded all q || list_any (is_crowded all) rest) ≡ true
-    here true is some more =
-        let (vl, sub) = and_parts (q.vl.0 == p.vl.0) (q.sub == p.sub) is in
-        rw (eqb-true q.vl.0 p.vl.0 vl, eqb-true q.sub p.sub sub, crowded) refl
-    here false is some more = rw (more some crowded) (or-true (is_crowded all q))
+crowd_same all p (q ∷ rest) follows crowded =
+    grind (arith, nat_tests, and_parts (q.vl.0 == p.vl.0) (q.sub == p.sub), crowd_same all p rest)
 
 -- a crowded sub-VL has a last port
 last_is : (links : List LinkPlan) (all ports : List PortPlan)
     → any_row (port_shows Limit links all) ports ≡ list_any (is_crowded all) ports
 last_is links all [] = refl
-last_is links all (p ∷ rest) = rw (any_no rest, last_is links all rest)
-    (here (is_crowded all p) (list_any (has_same_sub p) rest) refl refl)
-  where
-    here : (b d : Bool) → is_crowded all p ≡ b → list_any (has_same_sub p) rest ≡ d
-        → ((b && not d) || list_any (is_crowded all) rest) ≡ (b || list_any (is_crowded all) rest)
-    here false d crowded follows = refl
-    here true false crowded follows = refl
-    here true true crowded follows = crowd_same all p rest follows crowded
+last_is links all (p ∷ rest) = rw (any_no rest) (grind (arith, last_is links all rest, crowd_same all p rest))
 
 -- the tests of a fault in links and ports
 abbrev plan_tests : ConfigFault → List LinkPlan → List PortPlan → Bool
@@ -277,13 +241,7 @@ values_in doc = values_have (λ x. is_value x.fault ≡ true) doc (λ place fiel
 -- no other fault is one of values
 values_far : (f : ConfigFault) (xs : List Finding) → AreValues xs → is_value f ≡ false → list_any (has f) xs ≡ false
 values_far f [] all far = refl
-values_far f (x ∷ xs) all far = here (has f x) refl (values_far f xs all.1 far)
-  where
-    here : (b : Bool) → has f x ≡ b → list_any (has f) xs ≡ false → (b || list_any (has f) xs) ≡ false
-    here false is rest = rest
-    here true is rest =
-        let other : is_value x.fault ≡ false = rw (eqb-true (fault_number f) (fault_number x.fault) is) at far in
-        let one = all.0 in cc
+values_far f (x ∷ xs) all far = grind (arith, nat_tests, all.0, values_far f xs all.1 far)
 
 pub no_toml : (doc : Members) → shows Toml doc ≡ false
 no_toml doc = rw (values_far Toml (value_findings doc) (values_in doc) refl) refl

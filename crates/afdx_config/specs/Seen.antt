@@ -14,8 +14,8 @@ finding_of written = record {
 }
 
 -- these findings were added
-abbrev pub Adds : List Written → List Written → List Finding → Type 0
-Adds old new more = map finding_of new ≡ map finding_of old ++ more
+abbrev pub Adds : Vec Written → Vec Written → List Finding → Type 0
+Adds old new more = map finding_of new.items ≡ map finding_of old.items ++ more
 
 -- a text was extended by these bytes
 abbrev pub Tells : Vec ℕ → Vec ℕ → List ℕ → Type 0

@@ -57,10 +57,7 @@ fn section<'a>(document: &'a Table, key: &str) -> Option<&'a Table>
 fn is_version_2(document: &Document<'_>) -> bool
     ensures { result ≡ is_version_2 (data_of document.now) }
 {
-    match whole_number(document.top, "version") {
-        Some(version) => version == 2,
-        None => false,
-    }
+    whole_number(document.top, "version").map_or(false, |version| version == 2)
 }
 
 /// Restricts the keys of version 2 of the format to those of the document's version.

@@ -1,17 +1,17 @@
 //! All faults of a configuration, each with its place.
-ghost use Rattle.std.specs.Prelude.{◌≡◌, ◌++◌, map, filter, IfOk, OnOk};
+ghost use Rattle.std.specs.Prelude.{◌≡◌, map, IfOk};
 ghost use Rattle.std.specs.List.{flat_map};
 ghost use Rattle.toml.specs.Errors.{IsWithin};
 ghost use Rattle.toml.specs.View.{table_view};
-ghost use Rattle.afdx_config.specs.Explained.{begins_character, column_after, line_of, Explains, TellsDocument, TellsStop, TellsToml};
-ghost use Rattle.afdx_config.specs.Findings.{findings as findings_in, has, plan_findings};
+ghost use Rattle.afdx_config.specs.Explained.{column_after, line_of, Explains, TellsDocument, TellsStop, TellsToml};
+ghost use Rattle.afdx_config.specs.Findings.{findings_of};
 ghost use Rattle.afdx_config.specs.Seen.{Adds, finding_of};
 ghost use Rattle.afdx_config.specs.Views.{IsDocument, data_of};
 
 use crate::document::Document;
 use crate::findings::{Finding, Place, SHOWN_FAULTS, add};
 use crate::plan_findings::add_plan;
-use crate::rows::{LinkRow, PortRow, link_rows, port_rows};
+use crate::rows::{link_rows, port_rows};
 use crate::told::{write_explanation, write_toml};
 use crate::value_findings::{add_those, value_findings};
 use afdx_plan::ConfigFault;
@@ -28,46 +28,24 @@ pub struct Explanation {
     pub text: Vec<u8>,
 }
 
-/// Adds the findings of these faults.
-fn add_faults(
+/// The findings of these faults in a document.
+fn findings_in(
     alloc: Global,
-    found: &mut Vec<Finding>,
+    document: &Document<'_>,
     faults: &[ConfigFault],
-    values: &[Finding],
-    links: &[LinkRow],
-    ports: &[PortRow],
-) -> Result<(), AllocError>
-    ensures { OnOk result (Adds found.old.items found.new.items
-        (flat_map
-        (λ fault. filter (has fault) (map finding_of values.now)
-        ++ plan_findings fault links.now ports.now)
-        faults.now)) }
-{
-    for fault in faults {
-        add_those(alloc, found, *fault, values)?;
-        add_plan(alloc, found, *fault, links, ports)?;
-    }
-    Ok(())
-}
-
-/// The findings of a document.
-fn findings_in(alloc: Global, document: &Document<'_>) -> Result<Vec<Finding>, AllocError>
+) -> Result<Vec<Finding>, AllocError>
     requires { IsDocument document.now }
-    ensures { IfOk result (λ found.
-        map finding_of found.items ≡ findings_in (data_of document.now)) }
+    ensures { IfOk result (λ found. map finding_of found.items
+        ≡ flat_map (λ fault. findings_of fault (data_of document.now)) faults.now) }
 {
     let values = value_findings(alloc, document)?;
     let links = link_rows(alloc, document.links.as_slice())?;
     let ports = port_rows(alloc, document.ports.as_slice())?;
     let mut found = Vec::new(alloc);
-    add_faults(
-        alloc,
-        &mut found,
-        &SHOWN_FAULTS,
-        values.as_slice(),
-        links.as_slice(),
-        ports.as_slice(),
-    )?;
+    for fault in faults {
+        add_those(&mut found, *fault, values.as_slice())?;
+        add_plan(&mut found, *fault, links.as_slice(), ports.as_slice())?;
+    }
     Ok(found)
 }
 
@@ -77,12 +55,10 @@ fn explain_document(alloc: Global, table: &Table) -> Result<Explanation, AllocEr
         TellsDocument (table_view table.now) (map finding_of e.findings.items) e.text.items) }
 {
     let document = Document::of(alloc, table)?;
-    let findings = findings_in(alloc, &document)?;
+    let findings = findings_in(alloc, &document, &SHOWN_FAULTS)?;
     let mut text = Vec::new(alloc);
-    match write_explanation(&mut text, &document, findings.as_slice()) {
-        Ok(()) => Ok(Explanation { findings, text }),
-        Err(_) => Err(AllocError),
-    }
+    write_explanation(&mut text, &document, findings.as_slice()).map_err(|_| AllocError)?;
+    Ok(Explanation { findings, text })
 }
 
 /// The line after these bytes, counted from 1.
@@ -100,18 +76,11 @@ fn column_of(before: &[u8]) -> usize
     for byte in before {
         if *byte == b'\n' {
             characters = 0;
-        } else if begins_character(*byte) {
+        } else if !(128 <= *byte && *byte < 192) {
             characters += 1;
         }
     }
     1 + characters
-}
-
-/// A byte begins a UTF-8 character.
-fn begins_character(byte: u8) -> bool
-    ensures { result ≡ begins_character byte }
-{
-    !(128 <= byte && byte < 192)
 }
 
 /// Explains a text that is not TOML.
@@ -120,10 +89,7 @@ fn explain_toml(alloc: Global, text: &[u8], error: &Error) -> Result<Explanation
     ensures { IfOk result (λ e.
         TellsToml text.now (map finding_of e.findings.items) e.text.items) }
 {
-    let start = match error.span() {
-        Some(span) => span.start,
-        None => 0,
-    };
+    let start = error.span().map_or(0, |span| span.start);
     let (before, _rest) = text.split_at(start);
     tell_toml(alloc, before, error.message())
 }
@@ -138,12 +104,10 @@ fn tell_toml(alloc: Global, before: &[u8], message: &str) -> Result<Explanation,
     let mut findings = Vec::new(alloc);
     let place = Place::Text(line, column);
     let fault = ConfigFault::Toml;
-    add(alloc, &mut findings, fault, place, message, None)?;
+    add(&mut findings, fault, place, message, None)?;
     let mut text = Vec::new(alloc);
-    match write_toml(&mut text, line, column, message) {
-        Ok(()) => Ok(Explanation { findings, text }),
-        Err(_) => Err(AllocError),
-    }
+    write_toml(&mut text, line, column, message).map_err(|_| AllocError)?;
+    Ok(Explanation { findings, text })
 }
 
 /// Finds all faults of a configuration, each with its place. A text that is not TOML has this one fault.

@@ -4,7 +4,7 @@ ghost use Rattle.afdx_config.specs.Findings.{found as finding_at, row_like};
 ghost use Rattle.afdx_config.specs.Seen.{Adds};
 
 use afdx_plan::ConfigFault;
-use std::alloc::{AllocError, Global};
+use std::alloc::AllocError;
 
 /// The place of a fault. Tables are counted from 1, in the order of the text.
 #[derive(Clone, Copy, Debug, PartialEq, Eq)]
@@ -61,19 +61,23 @@ pub(crate) fn row_like(place: Place, k: usize) -> Place
     }
 }
 
+/// The findings so far.
+pub(crate) type Found = Vec<Finding>;
+
+/// The result of an addition.
+pub(crate) type Added = Result<(), AllocError>;
+
 /// Adds a finding.
 pub(crate) fn add(
-    alloc: Global,
-    found: &mut Vec<Finding>,
+    found: &mut Found,
     fault: ConfigFault,
     place: Place,
     key: &str,
     other: Option<usize>,
-) -> Result<(), AllocError>
-    ensures { OnOk result (Adds found.old.items found.new.items
-        (finding_at fault place key.now other ∷ [])) }
+) -> Added
+    ensures { OnOk result (Adds found.old found.new (finding_at fault place key.now other ∷ [])) }
 {
-    let key = String::from_str(alloc, key)?;
+    let key = String::from_str(*found.allocator(), key)?;
     found.push(Finding {
         fault,
         place,

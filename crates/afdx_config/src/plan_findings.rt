@@ -7,10 +7,9 @@ ghost use Rattle.afdx_config.specs.Findings.{found as finding_at, one_if, plan_k
 ghost use Rattle.afdx_config.specs.Seen.{Adds};
 ghost use Rattle.afdx_config.specs.declared.findings.Place.TheVariants.{Link, Port};
 
-use crate::findings::{Finding, Place, add};
+use crate::findings::{Added, Found, Place, add};
 use crate::rows::{LinkRow, PortRow};
 use afdx_plan::{ConfigFault, Kind, LINKS_LIMIT, PORTS_LIMIT, SUB_PORTS_LIMIT};
-use std::alloc::{AllocError, Global};
 
 /// The key that a finding of a plan's fault names.
 fn plan_key(fault: ConfigFault) -> &'static str
@@ -47,38 +46,32 @@ fn next_link(fault: ConfigFault, link: &LinkRow, rest: &[LinkRow]) -> Option<usi
 
 /// Adds link `k` if it clashes with a later one.
 fn add_link(
-    alloc: Global,
-    found: &mut Vec<Finding>,
+    found: &mut Found,
     fault: ConfigFault,
     k: usize,
     link: &LinkRow,
     rest: &[LinkRow],
-) -> Result<(), AllocError>
+) -> Added
     requires { k + length rest.now < 2 ^ 63 }
-    ensures { OnOk result (Adds found.old.items found.new.items
+    ensures { OnOk result (Adds found.old found.new
         (link_finding fault k link.now rest.now)) }
 {
     match next_link(fault, link, rest) {
         Some(behind) => {
             let other = Some(k + 1 + behind);
-            add(alloc, found, fault, Place::Link(k), plan_key(fault), other)
+            add(found, fault, Place::Link(k), plan_key(fault), other)
         }
         None => Ok(()),
     }
 }
 
 /// Adds the links that clash with a later one.
-fn add_links(
-    alloc: Global,
-    found: &mut Vec<Finding>,
-    fault: ConfigFault,
-    links: &[LinkRow],
-) -> Result<(), AllocError>
-    ensures { OnOk result (Adds found.old.items found.new.items
+fn add_links(found: &mut Found, fault: ConfigFault, links: &[LinkRow]) -> Added
+    ensures { OnOk result (Adds found.old found.new
         (each_row (link_finding fault) 1 links.now)) }
 {
     for (i, link) in links.iter().enumerate() {
-        add_link(alloc, found, fault, i + 1, link, &links[i + 1..])?;
+        add_link(found, fault, i + 1, link, &links[i + 1..])?;
     }
     Ok(())
 }
@@ -89,20 +82,18 @@ fn ports_clash(fault: ConfigFault, a: &PortRow, b: &PortRow) -> bool
 {
     match fault {
         ConfigFault::DuplicatePort => a.id == b.id,
-        ConfigFault::SameFlow => is_same_flow(a, b),
-        ConfigFault::SharedUnicast => shares_address(a, b),
+        ConfigFault::SameFlow => {
+            a.vl == b.vl
+                && a.partition == b.partition
+                && a.source == b.source
+                && a.destination == b.destination
+                && is_one_destination(a.unicast, b.unicast)
+        }
+        ConfigFault::SharedUnicast => {
+            a.vl != b.vl && a.partition == b.partition && is_one_address(a.unicast, b.unicast)
+        }
         _ => false,
     }
-}
-
-fn is_same_flow(a: &PortRow, b: &PortRow) -> bool
-    ensures { result ≡ has_same_flow a.now b.now }
-{
-    a.vl == b.vl
-        && a.partition == b.partition
-        && a.source == b.source
-        && a.destination == b.destination
-        && is_one_destination(a.unicast, b.unicast)
 }
 
 fn is_one_destination(a: Option<[u8; 4]>, b: Option<[u8; 4]>) -> bool
@@ -113,12 +104,6 @@ fn is_one_destination(a: Option<[u8; 4]>, b: Option<[u8; 4]>) -> bool
         (Some(one), Some(other)) => one == other,
         _ => false,
     }
-}
-
-fn shares_address(a: &PortRow, b: &PortRow) -> bool
-    ensures { result ≡ shares_unicast a.now b.now }
-{
-    a.vl != b.vl && a.partition == b.partition && is_one_address(a.unicast, b.unicast)
 }
 
 fn is_one_address(a: Option<[u8; 4]>, b: Option<[u8; 4]>) -> bool
@@ -166,30 +151,18 @@ fn is_misfit(fault: ConfigFault, links: &[LinkRow], port: &PortRow) -> bool
 {
     match fault {
         ConfigFault::NoSuchVl => !has_link(links, port),
-        ConfigFault::NoSuchSub => has_no_sub(links, port),
-        ConfigFault::SamplingTooLong => is_too_long(links, port),
-        _ => false,
-    }
-}
-
-fn has_no_sub(links: &[LinkRow], port: &PortRow) -> bool
-    ensures { result ≡ names_no_sub links.now port.now }
-{
-    match link_of(links, port) {
-        Some(link) => link.sub_vls <= port.sub,
-        None => false,
-    }
-}
-
-fn is_too_long(links: &[LinkRow], port: &PortRow) -> bool
-    ensures { result ≡ is_too_long links.now port.now }
-{
-    match port.kind {
-        Kind::Queuing => false,
-        Kind::Sampling => match link_of(links, port) {
-            Some(link) => link.lmax.saturating_sub(47) < port.max,
-            None => false,
+        ConfigFault::NoSuchSub => link_of(links, port).map_or(
+            false,
+            |link| link.sub_vls <= port.sub,
+        ),
+        ConfigFault::SamplingTooLong => match port.kind {
+            Kind::Queuing => false,
+            Kind::Sampling => link_of(links, port).map_or(
+                false,
+                |link| link.lmax.saturating_sub(47) < port.max,
+            ),
         },
+        _ => false,
     }
 }
 
@@ -213,12 +186,6 @@ fn count_on(ports: &[PortRow], port: &PortRow) -> usize
         .count()
 }
 
-fn is_crowded(ports: &[PortRow], port: &PortRow) -> bool
-    ensures { result ≡ is_crowded ports.now port.now }
-{
-    SUB_PORTS_LIMIT < count_on(ports, port)
-}
-
 /// A later port is on the same sub-VL.
 fn is_followed(port: &PortRow, rest: &[PortRow]) -> bool
     ensures { result ≡ list_any (has_same_sub port.now) rest.now }
@@ -233,7 +200,9 @@ fn is_last_crowded(fault: ConfigFault, ports: &[PortRow], port: &PortRow, rest: 
         ≡ is_last_crowded fault ports.now port.now rest.now }
 {
     match fault {
-        ConfigFault::Limit => is_crowded(ports, port) && !is_followed(port, rest),
+        ConfigFault::Limit => {
+            SUB_PORTS_LIMIT < count_on(ports, port) && !is_followed(port, rest)
+        }
         _ => false,
     }
 }
@@ -242,54 +211,40 @@ fn is_last_crowded(fault: ConfigFault, ports: &[PortRow], port: &PortRow, rest: 
 /// a sub-VL with too many ports.
 #[tactic(auto, unfolding(crate::specs::Findings::port_finding))]
 fn add_port(
-    alloc: Global,
-    found: &mut Vec<Finding>,
+    found: &mut Found,
     fault: ConfigFault,
     k: usize,
     port: &PortRow,
     links: &[LinkRow],
     ports: &[PortRow],
     rest: &[PortRow],
-) -> Result<(), AllocError>
+) -> Added
     requires { k + length rest.now < 2 ^ 63 }
-    ensures { OnOk result (Adds found.old.items found.new.items
+    ensures { OnOk result (Adds found.old found.new
         (port_finding fault links.now ports.now k port.now rest.now)) }
 {
     let key = plan_key(fault);
     if let Some(behind) = next_port(fault, port, rest) {
-        add(
-            alloc,
-            found,
-            fault,
-            Place::Port(k),
-            key,
-            Some(k + 1 + behind),
-        )?;
+        add(found, fault, Place::Port(k), key, Some(k + 1 + behind))?;
     }
     if is_misfit(fault, links, port) {
         let link = link_number(links, port);
-        add(alloc, found, fault, Place::Port(k), key, link)?;
+        add(found, fault, Place::Port(k), key, link)?;
     }
     if is_last_crowded(fault, ports, port, rest) {
-        add(alloc, found, fault, Place::Port(k), key, None)?;
+        add(found, fault, Place::Port(k), key, None)?;
     }
     Ok(())
 }
 
 /// Adds the findings of ports.
-fn add_ports(
-    alloc: Global,
-    found: &mut Vec<Finding>,
-    fault: ConfigFault,
-    links: &[LinkRow],
-    ports: &[PortRow],
-) -> Result<(), AllocError>
-    ensures { OnOk result (Adds found.old.items found.new.items
+fn add_ports(found: &mut Found, fault: ConfigFault, links: &[LinkRow], ports: &[PortRow]) -> Added
+    ensures { OnOk result (Adds found.old found.new
         (each_row (port_finding fault links.now ports.now) 1 ports.now)) }
 {
     for (i, port) in ports.iter().enumerate() {
         let rest = &ports[i + 1..];
-        add_port(alloc, found, fault, i + 1, port, links, ports, rest)?;
+        add_port(found, fault, i + 1, port, links, ports, rest)?;
     }
     Ok(())
 }
@@ -304,37 +259,31 @@ fn count_is_wrong(fault: ConfigFault, most: usize, count: usize) -> bool
 }
 
 /// Adds a finding for no or too many links, and one for ports.
-fn add_counts(
-    alloc: Global,
-    found: &mut Vec<Finding>,
-    fault: ConfigFault,
-    links: &[LinkRow],
-    ports: &[PortRow],
-) -> Result<(), AllocError>
-    ensures { OnOk result (Adds found.old.items found.new.items
+fn add_counts(found: &mut Found, fault: ConfigFault, links: &[LinkRow], ports: &[PortRow]) -> Added
+    ensures { OnOk result (Adds found.old found.new
         (count_findings fault links.now ports.now)) }
 {
     if count_is_wrong(fault, LINKS_LIMIT, links.len()) {
-        add(alloc, found, fault, Place::Top, "vl", None)?;
+        add(found, fault, Place::Top, "vl", None)?;
     }
     if count_is_wrong(fault, PORTS_LIMIT, ports.len()) {
-        add(alloc, found, fault, Place::Top, "port", None)?;
+        add(found, fault, Place::Top, "port", None)?;
     }
     Ok(())
 }
 
 /// Adds the findings of a fault in links and ports.
+#[tactic(auto, unfolding(crate::specs::Findings::plan_findings))]
 pub(crate) fn add_plan(
-    alloc: Global,
-    found: &mut Vec<Finding>,
+    found: &mut Found,
     fault: ConfigFault,
     links: &[LinkRow],
     ports: &[PortRow],
-) -> Result<(), AllocError>
-    ensures { OnOk result (Adds found.old.items found.new.items
+) -> Added
+    ensures { OnOk result (Adds found.old found.new
         (plan_findings fault links.now ports.now)) }
 {
-    add_links(alloc, found, fault, links)?;
-    add_counts(alloc, found, fault, links, ports)?;
-    add_ports(alloc, found, fault, links, ports)
+    add_links(found, fault, links)?;
+    add_counts(found, fault, links, ports)?;
+    add_ports(found, fault, links, ports)
 }

@@ -75,10 +75,7 @@ impl Model for PortRow {
 fn number_or_0(table: &Table, key: &str) -> u64
     ensures { result ≡ number_at key.now (table_view table.now) }
 {
-    match whole_number(table, key) {
-        Some(number) => natural(number),
-        None => 0,
-    }
+    whole_number(table, key).map_or(0, natural)
 }
 
 /// A number, or 0 if it is negative.

@@ -189,10 +189,7 @@ fn value_under<'a>(document: &Document<'a>, place: Place, key: &str) -> Option<&
     ensures { option_map (λ v. view v.now) result
         ≡ option_and_then (get_member key.now) (members_at (data_of document.now) place) }
 {
-    match table_at(document, place) {
-        Some(table) => value_at(table, key),
-        None => None,
-    }
+    table_at(document, place).and_then(|table| value_at(table, key))
 }
 
 /// Writes a key of a place and its value.
@@ -228,7 +225,7 @@ fn row_named<'a>(fields: &'a [Field], key: &str) -> Option<&'a Field>
 }
 
 /// The content of a finding's key.
-#[tactic(auto, using(crate::proofs::FindingLemmas::find_map))]
+#[tactic(auto, using(crate::proofs::SectionLemmas::find_map))]
 fn field_at(document: &Document<'_>, finding: &Finding) -> Option<Field>
     ensures { option_map field_of result
         ≡ field_at (data_of document.now) finding.now.place (finding_of finding.now).key }
@@ -269,10 +266,7 @@ fn kind_text(content: Content) -> &'static str
 fn kind_at(document: &Document<'_>, finding: &Finding) -> &'static str
     ensures { result.now ≡ kind_at (data_of document.now) (finding_of finding.now) }
 {
-    match field_at(document, finding) {
-        Some(field) => kind_text(field.2),
-        None => "",
-    }
+    field_at(document, finding).map_or("", |field| kind_text(field.2))
 }
 
 /// Writes the keys of a format.

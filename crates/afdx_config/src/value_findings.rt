@@ -13,109 +13,68 @@ ghost use Rattle.afdx_config.specs.declared.findings.Place.TheVariants.{EndSyste
 
 use crate::document::{Document, fields_in};
 use crate::fields::{field_fault, key_fault};
-use crate::findings::{Finding, Place, add, row_like};
+use crate::findings::{Added, Finding, Found, Place, add, row_like};
 use crate::format::{DOCUMENT, END, Field, LINK, PORT};
 use afdx_plan::ConfigFault;
 use std::alloc::{AllocError, Global};
 use toml::Table;
 
 /// Adds a key of a table if it has a fault.
-fn add_key(
-    alloc: Global,
-    found: &mut Vec<Finding>,
-    place: Place,
-    key: &str,
-    fault: Option<ConfigFault>,
-) -> Result<(), AllocError>
-    ensures { OnOk result (Adds found.old.items found.new.items (key_finding place key.now fault)) }
+fn add_key(found: &mut Found, place: Place, key: &str, fault: Option<ConfigFault>) -> Added
+    ensures { OnOk result (Adds found.old found.new (key_finding place key.now fault)) }
 {
     match fault {
-        Some(fault) => add(alloc, found, fault, place, key, None),
+        Some(fault) => add(found, fault, place, key, None),
         None => Ok(()),
     }
 }
 
-/// Adds the keys of a table's format that have a fault.
-fn add_fields(
-    alloc: Global,
-    found: &mut Vec<Finding>,
-    place: Place,
-    fields: &[Field],
-    table: &Table,
-) -> Result<(), AllocError>
-    ensures { OnOk result (Adds found.old.items found.new.items
-        (flat_map
-        (λ f. key_finding place (field_of f).key (field_fault (table_view table.now) (field_of f)))
-        fields.now)) }
-{
-    for field in fields {
-        add_key(alloc, found, place, field.0, field_fault(table, field))?;
-    }
-    Ok(())
-}
-
 /// Adds the keys of a table that its format lacks.
-fn add_keys(
-    alloc: Global,
-    found: &mut Vec<Finding>,
-    place: Place,
-    fields: &[Field],
-    table: &Table,
-) -> Result<(), AllocError>
-    ensures { OnOk result (Adds found.old.items found.new.items
+fn add_keys(found: &mut Found, place: Place, fields: &[Field], table: &Table) -> Added
+    ensures { OnOk result (Adds found.old found.new
         (flat_map
         (λ k. key_finding place (string_bytes k) (key_fault (map field_of fields.now) (string_bytes k)))
         (keys table.now))) }
 {
     for key in table.keys() {
         let fault = key_fault(fields, key.as_str());
-        add_key(alloc, found, place, key.as_str(), fault)?;
+        add_key(found, place, key.as_str(), fault)?;
     }
     Ok(())
 }
 
-/// Adds the findings of a table.
-fn add_table(
-    alloc: Global,
-    found: &mut Vec<Finding>,
-    place: Place,
-    fields: &[Field],
-    table: &Table,
-) -> Result<(), AllocError>
-    ensures { OnOk result (Adds found.old.items found.new.items
+/// Adds the keys of a table's format that have a fault, and those of its keys that the format lacks.
+fn add_table(found: &mut Found, place: Place, fields: &[Field], table: &Table) -> Added
+    ensures { OnOk result (Adds found.old found.new
         (table_findings place (map field_of fields.now) (table_view table.now))) }
 {
-    add_fields(alloc, found, place, fields, table)?;
-    add_keys(alloc, found, place, fields, table)
+    for field in fields {
+        add_key(found, place, field.0, field_fault(table, field))?;
+    }
+    add_keys(found, place, fields, table)
 }
 
 /// Adds the findings of the tables of an array that has this place.
-fn add_rows(
-    alloc: Global,
-    found: &mut Vec<Finding>,
-    array: Place,
-    fields: &[Field],
-    tables: &[&Table],
-) -> Result<(), AllocError>
-    ensures { OnOk result (Adds found.old.items found.new.items
+fn add_rows(found: &mut Found, array: Place, fields: &[Field], tables: &[&Table]) -> Added
+    ensures { OnOk result (Adds found.old found.new
         (each_row
         (λ k t rest. table_findings (row_like array k) (map field_of fields.now) (table_view t.now))
         1 tables.now)) }
 {
     for (i, table) in tables.iter().enumerate() {
         let place = row_like(array, i + 1);
-        add_table(alloc, found, place, fields, table)?;
+        add_table(found, place, fields, table)?;
     }
     Ok(())
 }
 
 /// Adds the findings of the table of the end system.
-fn add_end(alloc: Global, found: &mut Vec<Finding>, end: Option<&Table>) -> Result<(), AllocError>
-    ensures { OnOk result (Adds found.old.items found.new.items
+fn add_end(found: &mut Found, end: Option<&Table>) -> Added
+    ensures { OnOk result (Adds found.old found.new
         (option_map_or (λ t. table_findings EndSystem end_fields (table_view t.now)) end.entry [])) }
 {
     match end {
-        Some(table) => add_table(alloc, found, Place::EndSystem, &END, table),
+        Some(table) => add_table(found, Place::EndSystem, &END, table),
         None => Ok(()),
     }
 }
@@ -130,14 +89,14 @@ pub(crate) fn value_findings(
         map finding_of found.items ≡ value_findings (data_of document.now)) }
 {
     let mut found = Vec::new(alloc);
-    add_table(alloc, &mut found, Place::Top, &DOCUMENT, document.top)?;
-    add_end(alloc, &mut found, document.end)?;
+    add_table(&mut found, Place::Top, &DOCUMENT, document.top)?;
+    add_end(&mut found, document.end)?;
     let fields = fields_in(document, &LINK);
     let links = document.links.as_slice();
-    add_rows(alloc, &mut found, Place::Link(0), fields, links)?;
+    add_rows(&mut found, Place::Link(0), fields, links)?;
     let fields = fields_in(document, &PORT);
     let ports = document.ports.as_slice();
-    add_rows(alloc, &mut found, Place::Port(0), fields, ports)?;
+    add_rows(&mut found, Place::Port(0), fields, ports)?;
     Ok(found)
 }
 
@@ -148,26 +107,14 @@ fn has(fault: ConfigFault, finding: &Finding) -> bool
 }
 
 /// Adds those of the findings that have the fault.
-pub(crate) fn add_those(
-    alloc: Global,
-    found: &mut Vec<Finding>,
-    fault: ConfigFault,
-    findings: &[Finding],
-) -> Result<(), AllocError>
-    ensures { OnOk result (Adds found.old.items found.new.items
+pub(crate) fn add_those(found: &mut Found, fault: ConfigFault, findings: &[Finding]) -> Added
+    ensures { OnOk result (Adds found.old found.new
         (filter (has fault) (map finding_of findings.now))) }
 {
     for finding in findings {
         if has(fault, finding) {
             let key = finding.key.as_str();
-            add(
-                alloc,
-                found,
-                finding.fault,
-                finding.place,
-                key,
-                finding.other,
-            )?;
+            add(found, finding.fault, finding.place, key, finding.other)?;
         }
     }
     Ok(())
