@@ -48,34 +48,23 @@ network    load-kbit/s  share-%  exceeded
    13     2   0         2         384750        3.906
 ";
 
+// Asserts the analysis of a plan, and how its page begins and ends.
 fn assert_analysis(rt: &impl Host, plan: &str, lateness: u64, wanted: &str)
     requires { lateness ≤ LATENESS_LIMIT }
 {
     let config = read_plan(rt.alloc(), plan.as_bytes()).ok().expect(rt, plan);
     let analysis = analyze(rt.alloc(), &config, lateness).ok().expect(rt, plan);
-    let mut text = Vec::new(rt.alloc());
+    let (mut text, mut page) = (Vec::new(rt.alloc()), Vec::new(rt.alloc()));
     write_analysis(&mut text, &analysis).ok().expect(rt, plan);
-    assert_same(rt, text.as_slice(), wanted.as_bytes());
+    assert_same(rt, text.as_slice(), wanted.as_bytes(), plan);
+    write_page(&mut page, &analysis).ok().expect(rt, plan);
+    assert!(rt; page.as_slice().starts_with(b"<!DOCTYPE html>"));
+    assert!(rt; page.as_slice().ends_with(b"</html>\n"));
 }
 
+// In the second plan a port waits for the longest of its sub-VL.
 #[test]
-fn the_demonstration_has_its_analysis(rt: HostRuntime) {
+fn each_plan_has_its_analysis_and_its_page(rt: HostRuntime) {
     assert_analysis(&rt, DEMO, 0, ANALYSIS);
-}
-
-#[test]
-fn a_port_waits_for_the_longest_of_its_sub_vl(rt: HostRuntime) {
     assert_analysis(&rt, UNEQUAL, 250, ANALYSIS_OF_UNEQUAL);
-}
-
-#[test]
-fn a_page_is_written(rt: HostRuntime) {
-    let config = read_plan(rt.alloc(), DEMO.as_bytes())
-        .ok()
-        .expect(&rt, "plan");
-    let analysis = analyze(rt.alloc(), &config, 0).ok().expect(&rt, "memory");
-    let mut page = Vec::new(rt.alloc());
-    write_page(&mut page, &analysis).ok().expect(&rt, "memory");
-    assert_same(&rt, page.as_slice().starts_with(b"<!DOCTYPE html>"), true);
-    assert_same(&rt, page.as_slice().ends_with(b"</html>\n"), true);
 }

@@ -25,41 +25,39 @@ impl Sub {
     }
 }
 
-/// The identifications of the messages that a sub-VL accepted and did not yet send, the next one, how many
-/// messages were accepted, and whether the sub-VL is closed.
+/// The identifications of the messages that a sub-VL accepted and did not yet send, how many messages were
+/// accepted, and whether the sub-VL is closed.
 #[derive(Drop)]
 struct Queue {
-    held: Vec<u16>,
-    next: u16,
+    held: Vec<u64>,
     accepted: u64,
     closed: bool,
 }
 
 impl Queue {
-    fn new(alloc: Global, next: u16) -> Queue {
+    fn new(alloc: Global) -> Queue {
         Queue {
             held: Vec::new(alloc),
-            next,
             accepted: 0,
             closed: false,
         }
     }
 
-    /// Accepts a message, or returns the name of its refusal.
-    fn send(&mut self) -> Result<Option<&'static str>, AllocError> {
+    /// Accepts a message, or returns the name of its refusal. Identifications go up by 4 from the first one.
+    fn send(&mut self, first: u64) -> Result<Option<&'static str>, AllocError> {
         if self.closed {
             return Ok(Some("Closed"));
         }
         if self.held.len() == CAPACITY {
             return Ok(Some("Full"));
         }
-        self.held.push(self.next)?;
-        self.next = self.next.wrapping_add(4);
+        self.held
+            .push(first.saturating_add(self.accepted.saturating_mul(4)))?;
         self.accepted = self.accepted.saturating_add(1);
         Ok(None)
     }
 
-    fn take(&mut self) -> Option<u16> {
+    fn take(&mut self) -> Option<u64> {
         if self.held.is_empty() {
             return None;
         }
@@ -77,63 +75,53 @@ enum Line {
 }
 
 /// The end system: its sub-VLs, and which of them is first; the time of the last poll; the times and
-/// identifications of the messages that it sent; the notes on the lines that it obeyed; how many messages
-/// it accepted and lines it refused.
+/// identifications of the messages that it sent; the notes on the lines that it obeyed; how many lines it
+/// refused.
 #[derive(Drop)]
 struct EndSystem {
     first: Queue,
     second: Queue,
     turn: Sub,
     now: u64,
-    sent: Vec<(u64, u16)>,
+    sent: Vec<(u64, u64)>,
     notes: String,
-    accepted: u64,
     refused: u64,
 }
 
 impl EndSystem {
     fn new(alloc: Global) -> EndSystem {
         EndSystem {
-            first: Queue::new(alloc, 0),
-            second: Queue::new(alloc, 1),
+            first: Queue::new(alloc),
+            second: Queue::new(alloc),
             turn: Sub::First,
             now: 0,
             sent: Vec::new(alloc),
             notes: String::new(alloc),
-            accepted: 0,
             refused: 0,
-        }
-    }
-
-    fn queue(&mut self, sub: Sub) -> &mut Queue {
-        match sub {
-            Sub::First => &mut self.first,
-            Sub::Second => &mut self.second,
         }
     }
 
     /// Obeys line `number`.
     fn obey(&mut self, number: u32, said: Line) -> Written {
-        match said {
-            Line::Send(sub) => {
-                if let Some(name) = self.queue(sub).send()? {
-                    return self.refuse(number, name);
-                }
-                self.accepted = self.accepted.saturating_add(1);
-                Ok(())
+        let refusal = match said {
+            Line::Send(Sub::First) => self.first.send(0)?,
+            Line::Send(Sub::Second) => self.second.send(1)?,
+            Line::At(moment) if moment < self.now => Some("TimeBack"),
+            Line::At(moment) => {
+                self.poll(moment)?;
+                None
             }
-            Line::At(moment) if moment < self.now => self.refuse(number, "TimeBack"),
-            Line::At(moment) => self.poll(moment),
             Line::CloseFirst => {
                 self.first.closed = true;
-                writeln!(self.notes, "line {number}: closed {}", self.first.accepted)
+                writeln!(self.notes, "line {number}: closed {}", self.first.accepted)?;
+                None
             }
+        };
+        if let Some(name) = refusal {
+            self.refused = self.refused.saturating_add(1);
+            writeln!(self.notes, "line {number}: refused {name}")?;
         }
-    }
-
-    fn refuse(&mut self, number: u32, name: &str) -> Written {
-        self.refused = self.refused.saturating_add(1);
-        writeln!(self.notes, "line {number}: refused {name}")
+        Ok(())
     }
 
     fn poll(&mut self, moment: u64) -> Written {
@@ -150,8 +138,15 @@ impl EndSystem {
         Ok(())
     }
 
+    fn queue(&mut self, sub: Sub) -> &mut Queue {
+        match sub {
+            Sub::First => &mut self.first,
+            Sub::Second => &mut self.second,
+        }
+    }
+
     /// A message of the sub-VL whose turn it is, or of the other one if that has none.
-    fn next_message(&mut self) -> Option<u16> {
+    fn next_message(&mut self) -> Option<u64> {
         for sub in [self.turn, self.turn.other()] {
             let taken = self.queue(sub).take();
             if taken.is_some() {
@@ -162,32 +157,24 @@ impl EndSystem {
         None
     }
 
-    /// How many messages were accepted, how many lines refused, and how many frames released.
+    /// The counts of messages accepted, lines refused and frames released.
     fn counts(&self) -> (u64, u64, u64) {
-        (self.accepted, self.refused, self.sent.len() as u64)
+        let accepted = self.first.accepted.saturating_add(self.second.accepted);
+        (accepted, self.refused, self.sent.len() as u64)
     }
 
     /// The notes, and the lines of the frames of each network.
     fn transcript(self) -> Result<String, AllocError> {
         let mut text = self.notes;
         for net in NETS {
-            for (place, (at, ident)) in self.sent.iter().enumerate() {
+            for (place, &(at, ident)) in self.sent.iter().enumerate() {
                 let sub = ident % 4;
-                let number = u8::try_from(place).unwrap_or(0);
-                let message = (*at, *ident, checksum(*ident), 1 + sub as u8, number);
-                push_one(&mut text, net, (1, 1000 + sub), message)?;
+                let message = (at, ident, 1 + sub);
+                push_one(&mut text, net, (1, 1000 + sub), message, place as u64)?;
             }
         }
         Ok(text)
     }
-}
-
-/// The checksum of the IPv4 header of a message of one byte: with it, the sum of the header's words is a
-/// multiple of 65,535.
-fn checksum(ident: u16) -> u16 {
-    let fixed = 0x4500 + 0x001d + 0x0111 + 0x0a00 + 0x0101 + 0xe0e0 + 0x0001;
-    let sum = fixed + u32::from(ident);
-    (0xffff - sum % 0xffff) as u16
 }
 
 // The lines of which scripts are made.
@@ -212,10 +199,9 @@ fn assert_script(rt: &impl Host, lines: u32, number: u32) {
         end_system.obey(place, line).expect(rt, "memory");
     }
     let (accepted, refused, frames) = end_system.counts();
-    let wanted = end_system.transcript().expect(rt, "memory");
-    let (told, text) = transcript_over(rt, IN_TURN, &script);
-    assert_eq!(rt; told, Ok(sums(accepted, refused, frames)), "{script}");
-    assert_eq!(rt; text.as_slice(), wanted.as_bytes(), "{script}");
+    let wanted = Ok(sums(accepted, refused, frames));
+    let lines = end_system.transcript().expect(rt, "memory");
+    assert_run(rt, &script, IN_TURN, script.as_bytes(), wanted, &lines);
 }
 
 #[test]

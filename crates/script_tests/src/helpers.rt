@@ -15,13 +15,8 @@ pub trait Host: Abort + AllocGlobal {}
 
 impl<R: Abort + AllocGlobal> Host for R {}
 
-/// Asserts that two values are the same.
-pub fn assert_same<V: PartialEq + Debug + Copy>(rt: &impl Abort, told: V, wanted: V) {
-    assert_eq!(rt; told, wanted);
-}
-
 /// Asserts that two values are the same, and prints the place if they are not.
-pub fn assert_same_at<V: PartialEq + Debug + Copy, P: Debug + Copy>(
+pub fn assert_same<V: PartialEq + Debug + Copy, P: Debug + Copy>(
     rt: &impl Abort,
     told: V,
     wanted: V,
@@ -30,24 +25,24 @@ pub fn assert_same_at<V: PartialEq + Debug + Copy, P: Debug + Copy>(
     assert_eq!(rt; told, wanted, "at {place:?}");
 }
 
-/// Gives at most `most` bytes a call, and returns `failure` once between two parts of its text.
+/// Returns at most `most` bytes a call, and `failure` once between two parts of its text.
 #[derive(Drop)]
 pub struct Failing<'a> {
-    pub before: &'a [u8],
-    pub failure: Option<ErrorKind>,
-    pub after: &'a [u8],
-    pub most: usize,
+    before: &'a [u8],
+    failure: Option<ErrorKind>,
+    after: &'a [u8],
+    most: usize,
 }
 
-impl Failing<'_> {
-    /// A reader that fails at the end of its text.
-    pub fn at_end(before: &[u8], kind: ErrorKind) -> Failing<'_> {
-        Failing {
-            before,
-            failure: Some(kind),
-            after: &[],
-            most: 3,
-        }
+/// A reader of a text that fails once after `bytes` bytes of it, if there is a failure. Returns at most `most`
+/// bytes a call.
+pub fn reader_of(text: &[u8], bytes: usize, kind: Option<ErrorKind>, most: usize) -> Failing<'_> {
+    let (before, after) = text.split_at_checked(bytes).unwrap_or((text, &[]));
+    Failing {
+        before,
+        failure: kind,
+        after,
+        most,
     }
 }
 
@@ -64,28 +59,22 @@ impl Read for Failing<'_> {
     }
 }
 
-/// The answer to the write that the writer below refuses.
-#[derive(Clone, Copy, Debug)]
-pub enum Answer {
-    Error(ErrorKind),
-    Nothing,
-}
-
-/// Accepts each write but number `number`, counted from 1. It counts writes and flushes.
+/// Accepts each write but number `number`, counted from 1, which returns `failure`, or 0 if that is none. It
+/// counts writes and flushes.
 #[derive(Drop)]
 pub struct Lapsing {
     number: usize,
-    answer: Answer,
+    failure: Option<ErrorKind>,
     pub writes: usize,
     pub flushes: usize,
     pub text: Vec<u8>,
 }
 
 impl Lapsing {
-    pub fn new(rt: &impl Host, number: usize, answer: Answer) -> Lapsing {
+    pub fn new(rt: &impl Host, number: usize, failure: Option<ErrorKind>) -> Lapsing {
         Lapsing {
             number,
-            answer,
+            failure,
             writes: 0,
             flushes: 0,
             text: Vec::new(rt.alloc()),
@@ -97,9 +86,9 @@ impl Write for Lapsing {
     fn write(&mut self, buf: &[u8]) -> io::Result<usize> {
         self.writes = self.writes.saturating_add(1);
         if self.writes == self.number {
-            return match self.answer {
-                Answer::Error(kind) => Err(io::Error::from(kind)),
-                Answer::Nothing => Ok(0),
+            return match self.failure {
+                Some(kind) => Err(io::Error::from(kind)),
+                None => Ok(0),
             };
         }
         self.text.extend_from_slice(buf)?;
@@ -150,29 +139,36 @@ pub fn repeated(rt: &impl Host, part: &str, many: usize) -> String {
     part.repeat(rt.alloc(), many).expect(rt, "memory")
 }
 
-pub fn changed(rt: &impl Host, text: &str, changes: &[(&str, &str)]) -> String {
+pub fn replaced(rt: &impl Host, text: &str, old: &str, new: &str) -> String {
+    text.replace(rt.alloc(), old, new).expect(rt, "memory")
+}
+
+/// A text with each of the changes `old -> new`, with `; ` between them. In them `|` is the end of a line.
+pub fn changed(rt: &impl Host, text: &str, changes: &str) -> String {
+    let changes = replaced(rt, changes, "|", "\n");
     let mut changed = joined(rt, &[text]);
-    for &(old, new) in changes {
-        changed = changed.replace(rt.alloc(), old, new).expect(rt, "memory");
+    for change in changes.split("; ") {
+        if let Some((old, new)) = change.split_once(" -> ") {
+            changed = replaced(rt, &changed, old, new);
+        }
     }
     changed
 }
 
-pub fn version_2(rt: &impl Host, text: &str, changes: &[(&str, &str)]) -> String {
-    changed(rt, &joined(rt, &["version = 2\n", text]), changes)
+/// The same in version 2 of the format.
+pub fn version_2(rt: &impl Host, text: &str, changes: &str) -> String {
+    joined(rt, &["version = 2\n", &changed(rt, text, changes)])
 }
 
-/// Asserts the result of `check`, and what it writes.
-pub fn assert_check(
-    rt: &impl Host,
-    reader: impl Read + Drop,
-    wanted: Result<(), Failure>,
-    wanted_report: &str,
-) {
+/// The result of `check`.
+pub type Checked = Result<(), Failure>;
+
+/// Asserts this result, and what `check` writes.
+pub fn assert_check(rt: &impl Host, text: impl Read + Drop, wanted: Checked, lines: &str) {
     let mut report = Vec::new(rt.alloc());
-    let told = check(rt.alloc(), reader, &mut report);
-    assert_same(rt, told, wanted);
-    assert_same(rt, report.as_slice(), wanted_report.as_bytes());
+    let told = check(rt.alloc(), text, &mut report);
+    assert_same(rt, told, wanted, lines);
+    assert_same(rt, report.as_slice(), lines.as_bytes(), "the report");
 }
 
 /// The result of a run.
@@ -190,39 +186,28 @@ pub fn at_line(line: u64, fault: LineFault) -> RunFault {
     RunFault::Line { line, fault }
 }
 
-/// Runs a script over the demonstration configuration.
-pub fn run(rt: &impl Host, script: impl Read + Drop, text: &mut impl Write) -> Ran {
-    let config = demo_config(rt.alloc()).expect(rt, "memory");
+/// Runs a script over a plan, by its text. No text is that of the demonstration.
+pub fn run(rt: &impl Host, plan: &str, script: impl Read + Drop, text: &mut impl Write) -> Ran {
+    let config = match plan {
+        "" => demo_config(rt.alloc()).expect(rt, "memory"),
+        _ => read_config(rt.alloc(), plan.as_bytes()).expect(rt, plan),
+    };
     run_script(rt.alloc(), config, script, text)
 }
 
-/// The same. Returns the transcript, too.
-pub fn transcript(rt: &impl Host, script: impl Read + Drop) -> (Ran, Vec<u8>) {
+/// Asserts the result of a script over a plan, and what it writes.
+pub fn assert_run(
+    rt: &impl Host,
+    name: &str,
+    plan: &str,
+    script: impl Read + Drop,
+    wanted: Ran,
+    lines: &str,
+) {
     let mut text = Vec::new(rt.alloc());
-    let ran = run(rt, script, &mut text);
-    (ran, text)
-}
-
-/// The same over another configuration, by its text.
-pub fn transcript_over(rt: &impl Host, plan: &str, script: &str) -> (Ran, Vec<u8>) {
-    let config = read_config(rt.alloc(), plan.as_bytes()).expect(rt, "a plan");
-    let mut text = Vec::new(rt.alloc());
-    let ran = run_script(rt.alloc(), config, script.as_bytes(), &mut text);
-    (ran, text)
-}
-
-/// Asserts the result and the transcript of a script over the demonstration configuration.
-pub fn assert_run(rt: &impl Host, script: impl Read + Drop, wanted: Ran, wanted_text: &str) {
-    let (told, text) = transcript(rt, script);
-    assert_same(rt, told, wanted);
-    assert_same(rt, text.as_slice(), wanted_text.as_bytes());
-}
-
-/// The same over another configuration.
-pub fn assert_run_over(rt: &impl Host, plan: &str, script: &str, wanted: Summary, lines: &str) {
-    let (told, text) = transcript_over(rt, plan, script);
-    assert_same(rt, told, Ok(wanted));
-    assert_same(rt, text.as_slice(), lines.as_bytes());
+    let told = run(rt, plan, script, &mut text);
+    assert_same(rt, told, wanted, name);
+    assert_same(rt, text.as_slice(), lines.as_bytes(), name);
 }
 
 /// A network's name in a transcript, and byte 11 of its frames.
@@ -233,14 +218,14 @@ pub const NETS: [Net; 2] = [("A", "20"), ("B", "40")];
 pub type Written = Result<(), AllocError>;
 
 // The beginning of a frame's line: the time, and the Ethernet header of a virtual link.
-fn push_head(text: &mut String, net: Net, at: u64, vl: u16) -> Written {
+fn push_head(text: &mut String, net: Net, at: u64, vl: u64) -> Written {
     let (name, byte_11) = net;
     write!(text, "{name} {at} 03000000{vl:04x}0200000001{byte_11}0800")
 }
 
 // The line of a frame of virtual link 1, by its number and by its IPv4 packet, which zeros pad to 45 bytes.
-fn push_frame(text: &mut String, net: Net, number: u8, packet: &str) -> Written {
-    push_head(text, net, 1_000 * u64::from(number), 1)?;
+fn push_frame(text: &mut String, net: Net, number: u64, packet: &str) -> Written {
+    push_head(text, net, number.saturating_mul(1_000), 1)?;
     writeln!(text, "{packet:0<90}{number:02x}")
 }
 
@@ -249,58 +234,52 @@ fn push_frame(text: &mut String, net: Net, number: u8, packet: &str) -> Written 
 pub fn frame_lines(rt: &impl Host, packets: &[&str]) -> String {
     let mut text = String::new(rt.alloc());
     for net in NETS {
-        for (number, packet) in (0..255u8).zip(packets) {
+        for (number, packet) in (0..255u64).zip(packets) {
             push_frame(&mut text, net, number, packet).expect(rt, "memory");
         }
     }
     text
 }
 
-/// Asserts that each message of a script over a configuration is accepted, of which there are `many`, and
-/// which frames are sent.
-pub fn assert_frames(rt: &impl Host, plan: &str, script: &str, many: u64, packets: &[&str]) {
-    let wanted = sums(many, 0, packets.len() as u64);
-    assert_run_over(rt, plan, script, wanted, &frame_lines(rt, packets));
-}
-
-/// A message of one byte that was sent as a frame of 60 bytes: its time, the identification and the
-/// checksum of the IPv4 header, the byte and the sequence number.
-pub type OneByte = (u64, u16, u16, u8, u8);
+/// A message of one byte that was sent as a frame of 60 bytes: its time, the identification of the IPv4
+/// header, and the byte.
+pub type OneByte = (u64, u64, u64);
 
 /// The first one of a run, of the byte 01.
-pub const FIRST: OneByte = (0, 0, 0xcdee, 1, 0);
+pub const FIRST: OneByte = (0, 0, 1);
 
-/// Appends its line on a network, of a virtual link and from a UDP port.
-pub fn push_one(text: &mut String, net: Net, flow: (u16, u16), message: OneByte) -> Written {
-    let (vl, source) = flow;
-    let (at, ident, checksum, byte, number) = message;
+/// Appends its line on a network, of a virtual link, from a UDP port, after `before` frames of the link. The
+/// header checksum goes down by one for each one that the address and the identification go up.
+pub fn push_one(
+    text: &mut String,
+    net: Net,
+    flow: (u64, u64),
+    message: OneByte,
+    before: u64,
+) -> Written {
+    let ((vl, source), (at, ident, byte)) = (flow, message);
+    let checksum = 0xcdefu64.saturating_sub(vl).saturating_sub(ident);
+    // (0 for the first one, and 1 to 255 in turn for the others)
+    let number = before.min(1) + before.saturating_sub(1) % 255;
     push_head(text, net, at, vl)?;
-    write!(
-        text,
-        "4500001d{ident:04x}00000111{checksum:04x}0a000101e0e0"
-    )?;
-    write!(text, "{vl:04x}{source:04x}07d000090000{byte:02x}")?;
-    writeln!(text, "00000000000000000000000000000000{number:02x}")
+    write!(text, "4500001d{ident:04x}00000111{checksum:04x}")?;
+    write!(text, "0a000101e0e0{vl:04x}{source:04x}07d000090000")?;
+    writeln!(text, "{byte:02x}{:032}{number:02x}", 0)
 }
 
 /// The notes, and the lines of messages of virtual link 1 on these networks.
-pub fn expected_on(rt: &impl Host, nets: &[Net], notes: &str, sent: &[OneByte]) -> String {
+pub fn expected(rt: &impl Host, nets: &[Net], notes: &str, sent: &[OneByte]) -> String {
     let mut text = joined(rt, &[notes]);
-    for net in nets {
-        for message in sent {
-            push_one(&mut text, *net, (1, 1000), *message).expect(rt, "memory");
+    for &net in nets {
+        for (place, &message) in sent.iter().enumerate() {
+            let line = push_one(&mut text, net, (1, 1000), message, place as u64);
+            line.expect(rt, "memory");
         }
     }
     text
 }
 
-/// The notes, the lines of A, and then those of B.
-pub fn expected(rt: &impl Host, notes: &str, sent: &[OneByte]) -> String {
-    expected_on(rt, &NETS, notes, sent)
-}
-
-/// Asserts the result of a script over the demonstration configuration, its notes, and which messages are
-/// sent.
+/// Asserts the result of a script over the demonstration, its notes, and which messages are sent.
 pub fn assert_sent(
     rt: &impl Host,
     script: impl Read + Drop,
@@ -308,5 +287,11 @@ pub fn assert_sent(
     notes: &str,
     sent: &[OneByte],
 ) {
-    assert_run(rt, script, wanted, &expected(rt, notes, sent));
+    let lines = expected(rt, &NETS, notes, sent);
+    assert_run(rt, notes, "", script, wanted, &lines);
+}
+
+/// The columns of a row of a table: the text before ` => `, and the text after it.
+pub fn columns<'a>(rt: &impl Abort, row: &'a str) -> (&'a str, &'a str) {
+    row.split_once(" => ").expect(rt, row)
 }

@@ -6,15 +6,7 @@
 #[cfg(test)]
 mod analysis_tests;
 #[cfg(test)]
-mod capture_tests;
-#[cfg(test)]
-mod check_tests;
-#[cfg(test)]
-mod close_tests;
-#[cfg(test)]
 mod every_script_tests;
-#[cfg(test)]
-mod explain_tests;
 #[cfg(test)]
 mod helpers;
 #[cfg(test)]
@@ -25,8 +17,6 @@ mod plan_tests;
 mod report_tests;
 #[cfg(test)]
 mod run_tests;
-#[cfg(test)]
-mod status_tests;
 #[cfg(test)]
 mod stream_tests;
 #[cfg(test)]

@@ -20,13 +20,13 @@ close 1 0 => Close { vl: 1, sub: 0 }
 fn assert_says(rt: &impl Host, line: &str, wanted: &str) {
     let said = read_line(rt.alloc(), line.as_bytes()).expect(rt, wanted);
     let text = format!(in rt.alloc(); "{said:?}").expect(rt, wanted);
-    assert_same(rt, text.as_str(), wanted);
+    assert_same(rt, text.as_str(), wanted, line);
 }
 
 #[test]
 fn a_line_says_a_send_a_moment_a_close_or_nothing(rt: HostRuntime) {
     for row in SAYINGS.lines() {
-        let (line, wanted) = row.split_once(" => ").expect(&rt, row);
+        let (line, wanted) = columns(&rt, row);
         assert_says(&rt, line, wanted);
     }
     assert_says(&rt, &repeated(&rt, " ", 20_000), "Nothing");
@@ -53,33 +53,16 @@ pub const LINES: [&str; 4] = [
     "at 0 0,send 10 01 02,close 1 0 0,close 1 0 # note,send 10 - # note",
 ];
 
-fn fault_of(rt: &impl Host, line: &[u8]) -> Option<LineFault> {
-    read_line(rt.alloc(), line).err()
+fn assert_fault(rt: &impl Host, line: &[u8], fault: LineFault) {
+    assert_same(rt, read_line(rt.alloc(), line).err(), Some(fault), line);
 }
 
 #[test]
 fn a_line_has_its_fault(rt: HostRuntime) {
     for (&(fault, _number, _name), lines) in FAULTS.iter().zip(LINES) {
         for line in lines.split(',') {
-            assert_same_at(&rt, fault_of(&rt, line.as_bytes()), Some(fault), line);
+            assert_fault(&rt, line.as_bytes(), fault);
         }
-    }
-}
-
-#[test]
-fn each_fault_of_a_line_has_its_number_and_its_name(rt: HostRuntime) {
-    for &(fault, number, name) in &FAULTS {
-        assert_same_at(&rt, fault.number(), number, name);
-        assert_same(&rt, InlineText::<16>::of(fault).as_str(), name);
-    }
-}
-
-#[test]
-fn a_failure_to_read_a_line_has_its_name(rt: HostRuntime) {
-    for (fault, name) in [(ReadFault::Read, "Read"), (ReadFault::Memory, "Memory")] {
-        let mut text = InlineText::<16>::new();
-        write!(text, "{fault:?}").expect(&rt, "room");
-        assert_same(&rt, text.as_str(), name);
     }
 }
 
@@ -88,60 +71,68 @@ fn a_line_of_20_001_bytes_is_long(rt: HostRuntime) {
     let mut line = vec![in rt.alloc(); b' '; 20_001].expect(&rt, "memory");
     for first in *b" #x" {
         line[0] = first;
-        assert_same(&rt, fault_of(&rt, &line), Some(LineFault::Long));
+        assert_fault(&rt, &line, LineFault::Long);
     }
 }
 
-fn assert_line<R: Read + Drop>(
-    rt: &impl Abort,
-    bytes: &mut Bytes<R>,
-    line: &mut Vec<u8>,
-    wanted: &str,
+#[test]
+fn each_fault_has_its_number_and_its_name(rt: HostRuntime) {
+    for &(fault, number, name) in &FAULTS {
+        assert_same(&rt, fault.number(), number, name);
+        assert_same(&rt, InlineText::<16>::of(fault).as_str(), name, number);
+    }
+    for (fault, name) in [(ReadFault::Read, "Read"), (ReadFault::Memory, "Memory")] {
+        let mut text = InlineText::<16>::new();
+        write!(text, "{fault:?}").expect(&rt, "room");
+        assert_same(&rt, text.as_str(), name, name);
+    }
+}
+
+// Asserts the lines of a text, and what follows them.
+fn assert_lines(
+    rt: &impl Host,
+    text: impl Read + Drop,
+    lines: &[&str],
+    end: Result<Next, ReadFault>,
 ) {
-    assert_same(rt, next_line(bytes, line), Ok(Next::Line));
-    assert_same(rt, line.as_slice(), wanted.as_bytes());
+    let mut bytes = Bytes::new(text);
+    let mut line = Vec::new(rt.alloc());
+    for &wanted in lines {
+        assert_same(rt, next_line(&mut bytes, &mut line), Ok(Next::Line), wanted);
+        assert_same(rt, line.as_slice(), wanted.as_bytes(), wanted);
+    }
+    assert_same(rt, next_line(&mut bytes, &mut line), end, "the end");
 }
 
 #[test]
 fn lines_lose_their_ends(rt: HostRuntime) {
-    let mut bytes = Bytes::new(b"at 0\r\n\nat\r 1\r\r\n\r\nat 2\r".as_slice());
-    let mut line = Vec::new(rt.alloc());
-    for wanted in ["at 0", "", "at\r 1\r", "", "at 2\r"] {
-        assert_line(&rt, &mut bytes, &mut line, wanted);
-    }
-    assert_same(&rt, next_line(&mut bytes, &mut line), Ok(Next::End));
-}
-
-// Asserts what a text of blanks and an end begins with. Returns the length of its first line.
-fn assert_first(rt: &impl Host, blanks: usize, end: &str, wanted: Next) -> usize {
-    let text = joined(rt, &[&repeated(rt, " ", blanks), end]);
-    let mut line = Vec::new(rt.alloc());
-    let next = next_line(&mut Bytes::new(text.as_bytes()), &mut line);
-    assert_same(rt, next, Ok(wanted));
-    line.len()
+    let text = b"at 0\r\n\nat\r 1\r\r\n\r\nat 2\r".as_slice();
+    let lines = ["at 0", "", "at\r 1\r", "", "at 2\r"];
+    assert_lines(&rt, text, &lines, Ok(Next::End));
 }
 
 #[test]
 fn a_line_ends_within_20_000_bytes(rt: HostRuntime) {
-    let length = assert_first(&rt, 20_000, "\r\n", Next::Line);
-    assert_same(&rt, length, 20_000);
+    let blanks = repeated(&rt, " ", 20_000);
+    let blanks = blanks.as_str();
+    let text = joined(&rt, &[blanks, "\r\n"]);
+    assert_lines(&rt, text.as_bytes(), &[blanks], Ok(Next::End));
     for end in ["\r\n", "\n", ""] {
-        let _length = assert_first(&rt, 20_001, end, Next::Long);
+        let longer = joined(&rt, &[blanks, " ", end]);
+        assert_lines(&rt, longer.as_bytes(), &[], Ok(Next::Long));
     }
 }
 
 #[test]
 fn an_interruption_is_a_failure_to_read(rt: HostRuntime) {
-    let interrupted = Failing::at_end(b"at 1000\nat 20", ErrorKind::Interrupted);
-    let mut bytes = Bytes::new(interrupted);
-    let mut line = Vec::new(rt.alloc());
-    assert_line(&rt, &mut bytes, &mut line, "at 1000");
-    assert_same(&rt, next_line(&mut bytes, &mut line), Err(ReadFault::Read));
+    let text = b"at 1000\nat 20";
+    let reader = reader_of(text, text.len(), Some(ErrorKind::Interrupted), 3);
+    assert_lines(&rt, reader, &["at 1000"], Err(ReadFault::Read));
 }
 
 #[test]
 fn a_message_gives_its_bytes_back(rt: HostRuntime) {
     let bytes = Vec::from_array(rt.alloc(), [1u8, 2]).expect(&rt, "memory");
     let back = Message::new(bytes).into_vec();
-    assert_same(&rt, back.as_slice(), [1, 2].as_slice());
+    assert_same(&rt, back.as_slice(), [1, 2].as_slice(), "the bytes");
 }

@@ -1,126 +1,82 @@
 //! Tests of scripts over configurations of their own, from the text of a configuration to the lines of both
 //! networks.
 use crate::helpers::*;
-use std::io::Write;
 
-// A message of 1,472 bytes, and two polls.
-fn long_send(rt: &impl Host) -> String {
-    joined(
-        rt,
-        &["send 10 ", &repeated(rt, "aa", 1_472), "\nat 0\nat 1000\n"],
-    )
+// Asserts that each message of a script over a plan is accepted, of which there are `many`, and which frames
+// are sent.
+fn assert_frames(rt: &impl Host, plan: &str, script: &str, many: u64, packets: &[&str]) {
+    let wanted = Ok(sums(many, 0, packets.len() as u64));
+    let lines = frame_lines(rt, packets);
+    assert_run(rt, script, plan, script.as_bytes(), wanted, &lines);
 }
 
-// Asserts that this message is sent as two frames, of which the first has this UDP checksum.
-fn assert_long(rt: &impl Host, plan: &str, checksum: &str) {
-    let header = "450005d4000020000111a8370a000101e0e0000103e807d005c8";
-    let first = joined(rt, &[header, checksum, &repeated(rt, "aa", 1_464)]);
-    let second = "4500001c000000b80111cd370a000101e0e00001aaaaaaaaaaaaaaaa";
-    assert_frames(rt, plan, &long_send(rt), 1, &[&first, second]);
-}
+// Changes of the demonstration, a message, and its IPv4 packet.
+const PACKETS: &str = "\
+max = 8192 -> max = 8192|dest_ip = '10.0.2.1' => 01 => \
+    4500001d000000000111a2cf0a0001010a00020103e807d00009000001
+end_system -> version = 2|end_system => 01 => \
+    4500001d000000000111cdee0a000101e0e0000103e807d00009000001
+end_system -> version = 2|end_system; max = 8192 -> max = 8192|checksum = 'none' => 01 => \
+    4500001d000000000111cdee0a000101e0e0000103e807d00009000001
+end_system -> version = 2|end_system; max = 8192 -> max = 8192|checksum = 'udp' => 01 => \
+    4500001d000000000111cdee0a000101e0e0000103e807d00009074201
+end_system -> version = 2|end_system; max = 8192 -> max = 8192|checksum = 'udp' => 0840 => \
+    4500001e000000000111cded0a000101e0e0000103e807d0000affff0840";
 
 #[test]
-fn a_message_past_one_frame_goes_out_as_two(rt: HostRuntime) {
-    assert_long(&rt, DEMO, "0000");
-}
-
-// A message of one byte, and a poll.
-const ONE: &str = "send 10 01\nat 0\n";
-
-// The IPv4 packet of this message.
-const PACKET: &str = "4500001d000000000111cdee0a000101e0e0000103e807d00009000001";
-
-#[test]
-fn a_unicast_message_carries_its_destination_address(rt: HostRuntime) {
-    let packet = "4500001d000000000111a2cf0a0001010a00020103e807d00009000001";
-    let plan = joined(&rt, &[DEMO, "dest_ip = '10.0.2.1'\n"]);
-    assert_frames(&rt, &plan, ONE, 1, &[packet]);
-}
-
-// The demonstration in version 2, whose port has this end of its table.
-fn plan_with(rt: &impl Host, end: &str) -> String {
-    version_2(rt, DEMO, &[("max = 8192", end)])
-}
-
-// The end of a port's table that turns checksums on.
-const WITH: &str = "max = 8192\nchecksum = 'udp'";
-
-#[test]
-fn a_datagram_carries_its_checksum(rt: HostRuntime) {
-    let packet = "4500001d000000000111cdee0a000101e0e0000103e807d00009074201";
-    assert_frames(&rt, &plan_with(&rt, WITH), ONE, 1, &[packet]);
-}
-
-#[test]
-fn a_port_without_carries_zero(rt: HostRuntime) {
-    for end in ["max = 8192", "max = 8192\nchecksum = 'none'"] {
-        assert_frames(&rt, &plan_with(&rt, end), ONE, 1, &[PACKET]);
+fn a_datagram_carries_its_address_and_its_checksum_or_zero(rt: HostRuntime) {
+    for row in PACKETS.lines() {
+        let (changes, rest) = columns(&rt, row);
+        let (message, packet) = columns(&rt, rest);
+        let script = joined(&rt, &["send 10 ", message, "\nat 0\n"]);
+        assert_frames(&rt, &changed(&rt, DEMO, changes), &script, 1, &[packet]);
     }
 }
 
-#[test]
-fn a_computed_zero_is_sent_as_ffff(rt: HostRuntime) {
-    let packet = "4500001e000000000111cded0a000101e0e0000103e807d0000affff0840";
-    let plan = plan_with(&rt, WITH);
-    assert_frames(&rt, &plan, "send 10 0840\nat 0\n", 1, &[packet]);
+// Asserts that a message of 1,472 bytes over the demonstration with these changes is sent as two frames, of
+// which the first has this UDP checksum.
+fn assert_long(rt: &impl Host, changes: &str, checksum: &str) {
+    let rest = repeated(rt, "aa", 1_464);
+    let parts = ["send 10 aaaaaaaaaaaaaaaa", &rest, "\nat 0\nat 1000\n"];
+    let header = "450005d4000020000111a8370a000101e0e0000103e807d005c8";
+    let first = joined(rt, &[header, checksum, &rest]);
+    let second = "4500001c000000b80111cd370a000101e0e00001aaaaaaaaaaaaaaaa";
+    let (plan, script) = (changed(rt, DEMO, changes), joined(rt, &parts));
+    assert_frames(rt, &plan, &script, 1, &[&first, second]);
 }
 
 #[test]
 fn the_first_of_two_frames_carries_the_checksum_of_both(rt: HostRuntime) {
-    assert_long(&rt, &plan_with(&rt, WITH), "5219");
-}
-
-// A message of one byte over a link with this end of its table, whose frame is sent on these networks.
-fn assert_nets(rt: &impl Host, end: &str, nets: &[Net]) {
-    let plan = version_2(rt, DEMO, &[("capacity = 2", end)]);
-    let wanted = expected_on(rt, nets, "", &[FIRST]);
-    assert_run_over(rt, &plan, ONE, sums(1, 0, 1), &wanted);
+    assert_long(&rt, "", "0000");
+    let with = "end_system -> version = 2|end_system; 8192 -> 8192|checksum = 'udp'";
+    assert_long(&rt, with, "5219");
 }
 
 #[test]
-fn a_link_on_one_network_is_handed_to_that_network_alone(rt: HostRuntime) {
-    assert_nets(&rt, "capacity = 2, networks = 'a'", &NETS[..1]);
-    assert_nets(&rt, "capacity = 2, networks = 'b'", &NETS[1..]);
-}
-
-#[test]
-fn a_link_on_both_is_handed_to_both(rt: HostRuntime) {
-    for end in ["capacity = 2, networks = 'both'", "capacity = 2"] {
-        assert_nets(&rt, end, &NETS);
+fn a_link_is_handed_to_its_networks_alone(rt: HostRuntime) {
+    let rows = [
+        ("capacity = 2", NETS.as_slice()),
+        ("capacity = 2, networks = 'both'", NETS.as_slice()),
+        ("capacity = 2, networks = 'a'", &NETS[..1]),
+        ("capacity = 2, networks = 'b'", &NETS[1..]),
+    ];
+    for (end, nets) in rows {
+        let plan = version_2(&rt, &replaced(&rt, DEMO, "capacity = 2", end), "");
+        let (script, lines) = ("send 10 01\nat 0\n", expected(&rt, nets, "", &[FIRST]));
+        assert_run(
+            &rt,
+            end,
+            &plan,
+            script.as_bytes(),
+            Ok(sums(1, 0, 1)),
+            &lines,
+        );
     }
 }
 
-// Asserts which messages are sent of a script over the demonstration with changes.
-fn assert_each(rt: &impl Host, changes: &[(&str, &str)], script: &str, sent: &[OneByte]) {
-    let plan = changed(rt, DEMO, changes);
-    let many = sent.len() as u64;
-    let wanted = expected(rt, "", sent);
-    assert_run_over(rt, &plan, script, sums(many, 0, many), &wanted);
-}
-
-#[test]
-fn a_link_releases_again_once_its_gap_is_over_and_not_before(rt: HostRuntime) {
-    let changes = [("bag_ms = 1", "bag_ms = 2")];
-    let script = "send 10 01\nsend 10 02\nat 0\nat 1999\nat 2000\n";
-    let sent = [FIRST, (2_000, 4, 0xcdea, 2, 1)];
-    assert_each(&rt, &changes, script, &sent);
-}
-
-#[test]
-fn a_link_that_is_polled_late_does_not_catch_up(rt: HostRuntime) {
-    let changes = [
-        ("bag_ms = 1", "bag_ms = 4"),
-        ("capacity = 2", "capacity = 3"),
-    ];
-    let script = "send 10 01\nsend 10 02\nsend 10 03\nat 0\nat 7000\nat 8000\nat 11000\n";
-    let late = (7_000, 4, 0xcdea, 2, 1);
-    let sent = [FIRST, late, (11_000, 8, 0xcde6, 3, 2)];
-    assert_each(&rt, &changes, script, &sent);
-}
-
-/// What two sub-VLs of a link with frames of 64 bytes send in turn: a message of 60 bytes, which is
-/// three pieces, and two of one byte.
-pub const SENT_IN_TURN: [&str; 5] = [
+// What two sub-VLs of a link with frames of 64 bytes send in turn: a message of 60 bytes, which is
+// three pieces, and two of one byte.
+const SENT_IN_TURN: [&str; 5] = [
     "4500002c000020000111addf0a000101e0e0000103e807d000440000aaaaaaaaaaaaaaaaaaaaaaaaaaaaaaaa",
     "4500001d000100000111cded0a000101e0e0000103e907d00009000001",
     "4500002c000020030111addc0a000101e0e00001aaaaaaaaaaaaaaaaaaaaaaaaaaaaaaaaaaaaaaaaaaaaaaaa",
@@ -135,6 +91,73 @@ fn two_sub_vls_send_piece_by_piece_in_turn(rt: HostRuntime) {
     assert_frames(&rt, IN_TURN, &script, 3, &SENT_IN_TURN);
 }
 
+// A message of three fragments, of which one is released before its sub-VL is closed. The other sub-VL is
+// open until it is closed too.
+#[test]
+fn a_message_that_is_being_sent_goes_out_whole_from_a_closed_sub_vl(rt: HostRuntime) {
+    let rest = "\nsend 21 01\nat 0\nclose 1 0\nsend 21 02\nsend 20 03\nclose 1 1\nsend 21 04\n\
+                at 1000\nat 2000\nat 3000\nat 4000\nat 5000\n";
+    let script = joined(&rt, &["send 20 ", &repeated(&rt, "aa", 60), rest]);
+    let notes =
+        "line 4: closed 1\nline 6: refused Closed\nline 7: closed 2\nline 8: refused Closed\n";
+    let wanted = joined(&rt, &[notes, &frame_lines(&rt, &SENT_IN_TURN)]);
+    assert_run(
+        &rt,
+        "closing",
+        IN_TURN,
+        script.as_bytes(),
+        Ok(sums(3, 2, 5)),
+        &wanted,
+    );
+}
+
+// Two links of two sub-VLs, and a port on each sub-VL.
+const TWO_LINKS: &str = "end_system = { id = 1 }
+vl = [
+    { id = 1, bag_ms = 1, lmax = 1518, sub_vls = 2, capacity = 2 },
+    { id = 2, bag_ms = 1, lmax = 1518, sub_vls = 2, capacity = 2 },
+]
+port = [
+    { id = 10, vl = 1, sub = 0, partition = 1, kind = 'queuing', source = 1000, destination = 2000, max = 8192 },
+    { id = 11, vl = 1, sub = 1, partition = 1, kind = 'queuing', source = 1001, destination = 2000, max = 8192 },
+    { id = 20, vl = 2, sub = 0, partition = 1, kind = 'queuing', source = 1000, destination = 2000, max = 8192 },
+    { id = 21, vl = 2, sub = 1, partition = 1, kind = 'queuing', source = 1001, destination = 2000, max = 8192 },
+]
+";
+
+// What both links send: the link, the UDP source port, and the message.
+const ON_LINKS: [(u64, u64, OneByte); 6] = [
+    (1, 1000, FIRST),
+    (2, 1000, (0, 0, 4)),
+    (1, 1001, (1_000, 1, 3)),
+    (2, 1001, (1_000, 1, 5)),
+    (1, 1001, (2_000, 5, 8)),
+    (2, 1000, (2_000, 4, 7)),
+];
+
+#[test]
+fn a_close_closes_no_other_sub_vl_of_its_link_or_of_another(rt: HostRuntime) {
+    let notes =
+        "line 2: closed 1\nline 3: refused Closed\nline 7: closed 1\nline 8: refused Closed\n";
+    let mut lines = joined(&rt, &[notes]);
+    for net in NETS {
+        for (vl, source, message) in ON_LINKS {
+            let before = message.0 / 1_000;
+            push_one(&mut lines, net, (vl, source), message, before).expect(&rt, "memory");
+        }
+    }
+    let script = b"send 10 01\nclose 1 0\nsend 10 02\nsend 11 03\nsend 20 04\nsend 21 05\n\
+                  close 2 1\nsend 21 06\nsend 20 07\nsend 11 08\nat 0\nat 1000\nat 2000\n";
+    assert_run(
+        &rt,
+        "two links",
+        TWO_LINKS,
+        script.as_slice(),
+        Ok(sums(6, 2, 6)),
+        &lines,
+    );
+}
+
 // 64 links of four sub-VLs with room for 256 messages, and a port on each: the greatest plan but for its
 // frames.
 fn greatest_plan(text: &mut String) -> Written {
@@ -143,30 +166,23 @@ fn greatest_plan(text: &mut String) -> Written {
         writeln!(text, "[[vl]]\nid = {id}\nbag_ms = 1\nlmax = 1518")?;
         text.push_str("sub_vls = 4\ncapacity = 256\n")?;
     }
-    for vl in 1..=64u32 {
-        for sub in 0..4u32 {
-            let (id, source) = (4 * vl + sub, 1000 + sub);
-            writeln!(text, "[[port]]\nid = {id}\nvl = {vl}\nsub = {sub}")?;
-            writeln!(text, "source = {source}\npartition = 1\nkind = 'queuing'")?;
-            text.push_str("destination = 2000\nmax = 8192\n")?;
-        }
+    for port in 0..256u32 {
+        let (id, vl, sub) = (4 + port, 1 + port / 4, port % 4);
+        writeln!(text, "[[port]]\nid = {id}\nvl = {vl}\nsub = {sub}")?;
+        writeln!(text, "source = 100{sub}\npartition = 1\nkind = 'queuing'")?;
+        text.push_str("destination = 2000\nmax = 8192\n")?;
     }
     Ok(())
 }
 
-// A port sends 256 messages of one byte, which fill its queue, and one more.
-fn push_sends(script: &mut String, port: u16) -> Written {
-    for message in 0..=255u8 {
-        writeln!(script, "send {port} {message:02x}")?;
-    }
-    writeln!(script, "send {port} ff")
-}
-
-// Each port sends, and then all are polled, a gap apart, once more than there are messages of a
-// link.
+// Each port sends 256 messages of one byte, which fill its queue, and one more. Then all are polled, a gap
+// apart, once more than there are messages of a link.
 fn greatest_script(script: &mut String) -> Written {
     for port in 4..260 {
-        push_sends(script, port)?;
+        for message in 0..=255u8 {
+            writeln!(script, "send {port} {message:02x}")?;
+        }
+        writeln!(script, "send {port} ff")?;
     }
     for k in 0..=1_024u64 {
         writeln!(script, "at {}", 1_000 * k)?;
@@ -174,28 +190,19 @@ fn greatest_script(script: &mut String) -> Written {
     Ok(())
 }
 
-// The lines of a network: at each poll one frame of each link, in the order of the plan. At poll number k
-// a link's sub-VLs take turns, so it releases message k / 4 of sub-VL k % 4, and its identification is k. The
-// header checksum goes down by one for each one that the address and the identification go up.
-fn push_polls(text: &mut String, net: Net) -> Written {
-    for k in 0..1_024u16 {
-        let number = if k == 0 { 0 } else { ((k - 1) % 255 + 1) as u8 };
-        for vl in 1..=64u16 {
-            let at = 1_000 * u64::from(k);
-            let message = (at, k, 0xcdef - vl - k, (k / 4) as u8, number);
-            push_one(text, net, (vl, 1000 + k % 4), message)?;
-        }
-    }
-    Ok(())
-}
-
-// The notes on the messages that found their queue full, and the lines of A and of B.
+// The notes on the messages that found their queue full, and the lines of A and of B: at each poll one frame
+// of each link, in the order of the plan. At poll number k a link's sub-VLs take turns, so it releases message
+// k / 4 of sub-VL k % 4, and its identification is k.
 fn greatest_transcript(text: &mut String) -> Written {
     for port in 1..=256u32 {
         writeln!(text, "line {}: refused Full", 257 * port)?;
     }
     for net in NETS {
-        push_polls(text, net)?;
+        for k in 0..1_024u64 {
+            for vl in 1..=64u64 {
+                push_one(text, net, (vl, 1000 + k % 4), (1_000 * k, k, k / 4), k)?;
+            }
+        }
     }
     Ok(())
 }
@@ -208,7 +215,8 @@ fn the_greatest_plan_sends_all_that_its_queues_hold_in_the_order_of_its_links(rt
     greatest_script(&mut script).expect(&rt, "memory");
     let mut wanted = String::new(alloc);
     greatest_transcript(&mut wanted).expect(&rt, "memory");
-    let (told, text) = transcript_over(&rt, &plan, &script);
-    assert_same(&rt, told, Ok(sums(65_536, 256, 65_536)));
+    let mut text = Vec::new(alloc);
+    let told = run(&rt, &plan, script.as_bytes(), &mut text);
+    assert_same(&rt, told, Ok(sums(65_536, 256, 65_536)), "the counts");
     assert!(rt; text.as_slice() == wanted.as_bytes());
 }

@@ -1,7 +1,10 @@
-//! Tests of the report on a plan.
+//! Tests of the report on a plan, of the reader and the writer of `check`, of a writer that writes nothing
+//! after a failure, and of the lines of `explain` about texts with faults.
 use crate::helpers::*;
 use afdx_plan::ConfigFault;
-use plan_report::{Failure, check};
+use plan_report::{End, Failure, Halting, check, tell_faults};
+use script_text::RunFault;
+use std::io::{self, BufWriter, Write};
 
 // Two links, the higher identifier first, and a port on each, in the other order
 const TWO_LINKS: &str = "end_system = { id = 65535 }
@@ -25,57 +28,28 @@ port 2: link 7 sub 3, partition 0, queuing, 65535 to 1, max 1, multicast
 jitter 169760 ns, limit 500000
 ";
 
-// Asserts the report on the demonstration in version 2 with more text after a key, whose line has more text
-// after some words.
-fn assert_more(rt: &impl Host, key: (&str, &str), told: (&str, &str)) {
-    let plan = version_2(rt, DEMO, &[(key.0, &joined(rt, &[key.0, key.1]))]);
-    let report = changed(rt, REPORT, &[(told.0, &joined(rt, &[told.0, told.1]))]);
-    assert_check(rt, plan.as_bytes(), Ok(()), &report);
-}
+// Changes of the demonstration in version 2, and of its report.
+const MORE: &str = "\
+no more keys => no change
+max = 8192 -> max = 8192|checksum = 'none' => no change
+max = 8192 -> max = 8192|checksum = 'udp' => multicast -> multicast, checksum udp
+capacity = 2 -> capacity = 2, networks = 'both' => no change
+capacity = 2 -> capacity = 2, networks = 'a' => capacity 2 -> capacity 2, network A
+capacity = 2 -> capacity = 2, networks = 'b' => capacity 2 -> capacity 2, network B";
 
-// More keys in the table of a port, and the end of its line.
-const CHECKSUMS: [(&str, &str); 3] = [
-    ("", ""),
-    ("\nchecksum = 'none'", ""),
-    ("\nchecksum = 'udp'", ", checksum udp"),
-];
+// Changes of the two links, of which the first is on B and the second on A, and of their report.
+const EACH_ON_ONE: &str = "capacity = 256 -> capacity = 256, networks = 'b'; \
+    capacity = 1  -> capacity = 1, networks = 'a'  => \
+    capacity 256| -> capacity 256, network B|; capacity 1| -> capacity 1, network A|";
 
-#[test]
-fn the_line_of_a_port_with_checksums_says_so(rt: HostRuntime) {
-    for &(checksum, told) in &CHECKSUMS {
-        assert_more(&rt, ("max = 8192", checksum), ("multicast", told));
+// Asserts the reports on a plan in version 2 with each of these changes.
+fn assert_rows(rt: &impl Host, plan: &str, report: &str, rows: &str) {
+    for row in rows.lines() {
+        let (more, told) = columns(rt, row);
+        let plan = version_2(rt, plan, more);
+        let report = changed(rt, report, told);
+        assert_check(rt, plan.as_bytes(), Ok(()), &report);
     }
-}
-
-// The same of the table of a link and its networks.
-const NETWORKS: [(&str, &str); 4] = [
-    ("", ""),
-    (", networks = 'both'", ""),
-    (", networks = 'a'", ", network A"),
-    (", networks = 'b'", ", network B"),
-];
-
-#[test]
-fn the_line_of_a_link_on_one_network_says_so(rt: HostRuntime) {
-    for &(networks, told) in &NETWORKS {
-        assert_more(&rt, ("capacity = 2", networks), ("capacity 2", told));
-    }
-}
-
-// Each line is of its own link: the first is on B, the second on A.
-#[test]
-fn links_on_one_network_each_are_told_apart(rt: HostRuntime) {
-    let changes = [
-        ("capacity = 256", "capacity = 256, networks = 'b'"),
-        ("capacity = 1 ", "capacity = 1, networks = 'a' "),
-    ];
-    let lines = [
-        ("capacity 256\n", "capacity 256, network B\n"),
-        ("capacity 1\n", "capacity 1, network A\n"),
-    ];
-    let plan = version_2(&rt, TWO_LINKS, &changes);
-    let report = changed(&rt, REPORT_OF_TWO_LINKS, &lines);
-    assert_check(&rt, plan.as_bytes(), Ok(()), &report);
 }
 
 #[test]
@@ -83,44 +57,35 @@ fn a_report_has_a_line_for_each_link_and_each_port(rt: HostRuntime) {
     for (text, wanted) in [(DEMO, REPORT), (TWO_LINKS, REPORT_OF_TWO_LINKS)] {
         assert_check(&rt, text.as_bytes(), Ok(()), wanted);
     }
+    assert_rows(&rt, DEMO, REPORT, MORE);
+    assert_rows(&rt, TWO_LINKS, REPORT_OF_TWO_LINKS, EACH_ON_ONE);
 }
 
-// The demonstration with links 2 to 4 too, of which the last has this greatest frame.
-fn four_links(rt: &impl Host, last: u16) -> String {
-    let mut links = joined(rt, &["capacity = 2 }"]);
-    for (id, lmax) in [(2, 1518), (3, 1518), (4, last)] {
-        let start = write!(links, ", {{ id = {id}, bag_ms = 1, lmax = {lmax}");
-        start.expect(rt, "memory");
-        links
-            .push_str(", sub_vls = 1, capacity = 2 }")
-            .expect(rt, "memory");
-    }
-    changed(rt, DEMO, &[("capacity = 2 }", &links)])
-}
-
-// Asserts the end of the report on a configuration.
-fn assert_last_line(rt: &impl Host, text: &str, line: &str) {
-    let mut report = Vec::new(rt.alloc());
-    let told = check(rt.alloc(), text.as_bytes(), &mut report);
-    assert_same(rt, told, Ok(()));
-    assert!(rt; report.as_slice().ends_with(line.as_bytes()), "{line}");
-}
+// The demonstration with links 2 to 4 too, of which the last has a greatest frame of LAST bytes.
+const MORE_LINKS: &str = "capacity = 2 } -> capacity = 2 }, \
+    { id = 2, bag_ms = 1, lmax = 1518, sub_vls = 1, capacity = 2 }, \
+    { id = 3, bag_ms = 1, lmax = 1518, sub_vls = 1, capacity = 2 }, \
+    { id = 4, bag_ms = 1, lmax = LAST, sub_vls = 1, capacity = 2 }; LAST -> ";
 
 #[test]
 fn a_jitter_over_500_000_nanoseconds_is_exceeded(rt: HostRuntime) {
     let lines = [
-        (1518, "\njitter 532160 ns, limit 500000, exceeded\n"),
-        (1117, "\njitter 500080 ns, limit 500000, exceeded\n"),
-        (1116, "\njitter 500000 ns, limit 500000\n"),
+        ("1518", "\njitter 532160 ns, limit 500000, exceeded\n"),
+        ("1117", "\njitter 500080 ns, limit 500000, exceeded\n"),
+        ("1116", "\njitter 500000 ns, limit 500000\n"),
     ];
     for (last, line) in lines {
-        assert_last_line(&rt, &four_links(&rt, last), line);
+        let plan = changed(&rt, DEMO, &joined(&rt, &[MORE_LINKS, last]));
+        let mut report = Vec::new(rt.alloc());
+        let told = check(rt.alloc(), plan.as_bytes(), &mut report);
+        assert_same(&rt, told, Ok(()), last);
+        assert!(rt; report.as_slice().ends_with(line.as_bytes()), "{line}");
     }
 }
 
 #[test]
 fn nothing_is_written_of_a_text_that_is_refused(rt: HostRuntime) {
-    let gap_of_3 = changed(&rt, DEMO, &[("bag_ms = 1", "bag_ms = 3")]);
+    let gap_of_3 = replaced(&rt, DEMO, "bag_ms = 1", "bag_ms = 3");
     let texts = [
         ("", ConfigFault::MissingKey),
         ("=", ConfigFault::Toml),
@@ -128,5 +93,171 @@ fn nothing_is_written_of_a_text_that_is_refused(rt: HostRuntime) {
     ];
     for (text, fault) in texts {
         assert_check(&rt, text.as_bytes(), Err(Failure::Config(fault)), "");
+    }
+}
+
+#[test]
+fn a_text_is_read_whole_or_not_at_all(rt: HostRuntime) {
+    let faults = [
+        (ErrorKind::InvalidData, RunFault::Read),
+        (ErrorKind::OutOfMemory, RunFault::Memory),
+    ];
+    for (kind, fault) in faults {
+        let reader = reader_of(DEMO.as_bytes(), DEMO.len(), Some(kind), 3);
+        assert_check(&rt, reader, Err(Failure::Run(fault)), "");
+    }
+    let interrupted = Some(ErrorKind::Interrupted);
+    let reader = reader_of(DEMO.as_bytes(), DEMO.len(), interrupted, 3);
+    assert_check(&rt, reader, Ok(()), REPORT);
+    let failed = Err(Failure::Run(RunFault::Read));
+    assert_check(&rt, io::repeat(b'\n'), failed, "");
+}
+
+#[test]
+fn a_writer_that_fails_is_told(rt: HostRuntime) {
+    for size in 0..REPORT.len() {
+        let mut room = vec![in rt.alloc(); 0u8; size].expect(&rt, "memory");
+        let told = check(rt.alloc(), DEMO.as_bytes(), &mut room.as_mut_slice());
+        assert_same(&rt, told, Err(Failure::Run(RunFault::Write)), size);
+    }
+}
+
+// Has `check` write its report through a buffer, as the program does, and flushes it.
+fn report(rt: &impl Host, lapsing: &mut Lapsing) -> Result<(), Failure> {
+    let writer = BufWriter::with_capacity(rt.alloc(), 24, Halting::new(lapsing));
+    let mut writer = writer.ok().expect(rt, "memory");
+    let told = check(rt.alloc(), DEMO.as_bytes(), &mut writer);
+    match writer.flush() {
+        Ok(()) => told,
+        Err(_) => Err(Failure::Run(RunFault::Write)),
+    }
+}
+
+#[test]
+fn nothing_is_written_after_a_failure(rt: HostRuntime) {
+    for failure in [
+        Some(ErrorKind::StorageFull),
+        Some(ErrorKind::BrokenPipe),
+        None,
+    ] {
+        for number in 1..6 {
+            let mut lapsing = Lapsing::new(&rt, number, failure);
+            let told = report(&rt, &mut lapsing);
+            assert_same(&rt, told, Err(Failure::Run(RunFault::Write)), number);
+            assert_same(&rt, (lapsing.writes, lapsing.flushes), (number, 0), failure);
+        }
+    }
+}
+
+#[test]
+fn an_interruption_is_no_failure(rt: HostRuntime) {
+    for number in 1..6 {
+        let mut lapsing = Lapsing::new(&rt, number, Some(ErrorKind::Interrupted));
+        let told = report(&rt, &mut lapsing);
+        assert_same(&rt, told, Ok(()), number);
+        assert_same(&rt, lapsing.text.as_slice(), REPORT.as_bytes(), number);
+        assert_same(&rt, lapsing.flushes, 1, number);
+    }
+}
+
+#[test]
+fn each_later_call_fails(rt: HostRuntime) {
+    let mut lapsing = Lapsing::new(&rt, 2, None);
+    let mut writer = Halting::new(&mut lapsing);
+    for (text, written) in [("one", Some(3)), ("two", Some(0)), ("three", None)] {
+        assert_same(&rt, writer.write(text.as_bytes()).ok(), written, text);
+    }
+    assert_same(&rt, writer.flush().is_err(), true, "a flush");
+    assert_same(&rt, writer.write_all(b"four").is_err(), true, "four");
+    drop(writer);
+    assert_same(&rt, lapsing.writes, 2, "writes");
+    assert_same(&rt, lapsing.text.as_slice(), b"one".as_slice(), "text");
+}
+
+// Asserts how `explain` of a text ends. Returns what it prints.
+fn explained(rt: &impl Host, text: &str, end: End) -> Vec<u8> {
+    let mut told = Vec::new(rt.alloc());
+    let ended = tell_faults(rt.alloc(), text.as_bytes(), &mut told);
+    assert_same(rt, ended, Ok(end), text);
+    told
+}
+
+#[test]
+fn a_text_without_fault_is_told_to_have_none(rt: HostRuntime) {
+    let told = explained(&rt, DEMO, End::Told);
+    assert_same(&rt, told.as_slice(), b"no faults\n".as_slice(), "the lines");
+}
+
+// Asserts what `explain` prints of a text with each change of a table, after some front. A row has what is
+// replaced, by what, and the lines about it; in a row `|` ends a line.
+fn assert_explained(rt: &impl Host, front: &str, text: &str, rows: &str) {
+    for row in rows.lines() {
+        let row = replaced(rt, row, "|", "\n");
+        let (old, rest) = columns(rt, &row);
+        let (new, wanted) = columns(rt, rest);
+        let text = joined(rt, &[front, &replaced(rt, text, old, new)]);
+        let told = explained(rt, &text, End::FaultsTold);
+        assert_same(rt, told.as_slice(), wanted.as_bytes(), new);
+    }
+}
+
+// Changes of the demonstration.
+const FAULTS: &str = "\
+lmax = 1518,  =>  => 1 fault|2 MissingKey: vl 1 (id 1), lmax is missing: 64 to 1518|
+lmax = 1518 => lmax = 1518, lmx = 2.5 => 1 fault|3 UnknownKey: vl 1 (id 1), lmx is a float: \
+    the keys are id bag_ms lmax sub_vls capacity|
+system = { id = 1 } => system = { id = '1' } => 1 fault|4 WrongKind: end_system.id is \"1\": a whole number is wanted|
+max = 8192 => max = 8192|dest_ip = 'q\\' => 1 fault|5 OutOfRange: port 1 (id 10), dest_ip is \"q\\x5c\": \
+    an address in 10.0.0.0/8|
+max = 8192 => max = 8192|dest_ip = '01234567890123456789012345678901234567891' => 1 fault|5 OutOfRange: \
+    port 1 (id 10), dest_ip is \"0123456789012345678901234567890123456789...\": an address in 10.0.0.0/8|
+partition = 1 => partition = -1 => 1 fault|5 OutOfRange: port 1 (id 10), partition is -1: 0 to 31|
+id = 10 => id = 65536 => 1 fault|5 OutOfRange: port 1 (id 65536), id is 65536: 0 to 65535|
+bag_ms = 1 => bag_ms = 3 => 1 fault|6 BadBag: vl 1 (id 1), bag_ms is 3: 1, 2, 4, 8, 16, 32, 64 or 128|
+bag_ms = 1, lmax = 1518 => bag_ms = 0, lmax = 63 => 2 faults|5 OutOfRange: vl 1 (id 1), lmax is 63: 64 to 1518|\
+    6 BadBag: vl 1 (id 1), bag_ms is 0: 1, 2, 4, 8, 16, 32, 64 or 128|
+vl = 1 => vl = 9 => 1 fault|9 NoSuchVl: port 1 (id 10), vl is 9: no vl has this id|
+sub = 0 => sub = 1 => 1 fault|10 NoSuchSub: port 1 (id 10), sub is 1: below sub_vls of its vl; \
+    vl 1 (id 1), sub_vls is 1|
+queuing => sampling => 1 fault|11 SamplingTooLong: port 1 (id 10), max is 8192: at most lmax - 47 of its vl; \
+    vl 1 (id 1), lmax is 1518|
+vl = [{ id = 1, => vl = [{ id = 7, bag_ms = 2, lmax = 64, sub_vls = 1, capacity = 1 }, \
+    { id = 7, bag_ms = 2, lmax = 64, sub_vls = 1, capacity = 1 }, { id = 1, => \
+    1 fault|7 DuplicateVl: vl 1 (id 7) and vl 2 (id 7): the same id|
+[[port]] => [other] => 3 faults|2 MissingKey: port is missing: an array of tables|\
+    3 UnknownKey: other is a table: the keys are version end_system vl port|\
+    14 Limit: port is missing: 1 to 256 tables|";
+
+#[test]
+fn each_fault_is_told_with_its_place(rt: HostRuntime) {
+    assert_explained(&rt, "", DEMO, FAULTS);
+}
+
+// Changes of a second port like the demonstration's.
+const PAIRS: &str = "\
+source = 1000 => source = 1001 => 1 fault|8 DuplicatePort: port 1 (id 10) and port 2 (id 10): the same id|
+id = 10 => id = 11 => 1 fault|12 SameFlow: port 1 (id 10) and port 2 (id 11): \
+    the same vl, partition, source, destination and dest_ip|
+id = 10|vl = 1 => id = 11|vl = 9 => 1 fault|9 NoSuchVl: port 2 (id 11), vl is 9: no vl has this id|
+id = 10|vl = 1|sub = 0 => id = 11|vl = 1|sub = 3|dest_ip = '10.0.0.1' => 1 fault|10 NoSuchSub: \
+    port 2 (id 11), sub is 3: below sub_vls of its vl; vl 1 (id 1), sub_vls is 1|";
+
+#[test]
+fn two_ports_that_agree_are_told_both(rt: HostRuntime) {
+    let (_, port) = DEMO.split_once("[[port]]").expect(&rt, "a port");
+    assert_explained(&rt, &joined(&rt, &[DEMO, "[[port]]"]), port, PAIRS);
+}
+
+// Texts that aren't TOML, and what the lines about them begin with.
+const NO_TOML: [(&str, &str); 2] = [
+    ("=", "1 fault\n1 Toml: line 1, column 1: "),
+    ("a = 1\n\nb = ?", "1 fault\n1 Toml: line 3, column 5: "),
+];
+
+#[test]
+fn a_text_that_is_not_toml_is_told_with_its_line_and_column(rt: HostRuntime) {
+    for &(text, wanted) in &NO_TOML {
+        let told = explained(&rt, text, End::FaultsTold);
+        assert!(rt; told.as_slice().starts_with(wanted.as_bytes()), "{text}");
     }
 }

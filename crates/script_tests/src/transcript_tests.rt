@@ -1,9 +1,8 @@
-//! Tests of what a run writes.
+//! Tests of what a run writes, and of captures.
 use crate::helpers::*;
-use crate::line_tests::FAULTS;
 use crate::run_tests::FIRST_LINES;
+use capture::write_capture;
 use redundant_mux::Network;
-use std::fmt::Write;
 use tx_script::{FrameLog, Outcome, Refusal, RunFault, Summary, write_note, write_streams};
 
 #[test]
@@ -30,7 +29,7 @@ fn a_note_tells_the_line_and_the_refusal_or_the_total(rt: HostRuntime) {
                   line 1000000: refused TimeBack\n\
                   line 7: closed 0\nline 8: refused NoSub\n\
                   line 1000000: closed 18446744073709551615\n";
-    assert_same(&rt, text.as_slice(), wanted.as_bytes());
+    assert_same(&rt, text.as_slice(), wanted.as_bytes(), "the notes");
 }
 
 // The frame of the message 01 in the demonstration configuration, for network A.
@@ -41,30 +40,33 @@ const FRAME: [u8; 60] = *b"\x03\x00\x00\x00\x00\x01\x02\x00\x00\x00\x01\x20\x08\
 
 #[test]
 fn the_frames_of_a_come_before_those_of_b(rt: HostRuntime) {
-    let mut for_a = FrameLog::new(rt.alloc());
+    let (mut for_a, mut for_b) = (FrameLog::new(rt.alloc()), FrameLog::new(rt.alloc()));
     for_a.hand(0, &FRAME).expect(&rt, "memory");
     for_a.hand(u64::MAX, &[0xab]).expect(&rt, "memory");
     let mut twin = FRAME;
     twin[11] = 0x40;
-    let mut for_b = FrameLog::new(rt.alloc());
     for_b.hand(0, &twin).expect(&rt, "memory");
     let mut text = Vec::new(rt.alloc());
-    assert_same(&rt, write_streams(&mut text, &for_a, &for_b), Ok(()));
-    let wanted = changed(&rt, FIRST_LINES, &[("B", "A 18446744073709551615 ab\nB")]);
-    assert_same(&rt, text.as_slice(), wanted.as_bytes());
+    assert_same(
+        &rt,
+        write_streams(&mut text, &for_a, &for_b),
+        Ok(()),
+        "written",
+    );
+    let wanted = replaced(&rt, FIRST_LINES, "B", "A 18446744073709551615 ab\nB");
+    assert_same(&rt, text.as_slice(), wanted.as_bytes(), "the lines");
 }
 
 #[test]
 fn a_full_writer_is_a_failure_to_write(rt: HostRuntime) {
-    let none = FrameLog::new(rt.alloc());
-    let mut one = FrameLog::new(rt.alloc());
+    let (none, mut one) = (FrameLog::new(rt.alloc()), FrameLog::new(rt.alloc()));
     one.hand(0, &FRAME).expect(&rt, "memory");
     let mut room = [0u8; 60];
     let mut text = room.as_mut_slice();
     let told = write_streams(&mut text, &none, &one);
-    assert_same(&rt, told, Err(RunFault::Write));
-    let refused = Outcome::Refused(Refusal::Full);
-    assert_same(&rt, write_note(&mut text, 1, refused), Err(RunFault::Write));
+    assert_same(&rt, told, Err(RunFault::Write), "the frames");
+    let told = write_note(&mut text, 1, Outcome::Refused(Refusal::Full));
+    assert_same(&rt, told, Err(RunFault::Write), "a note");
 }
 
 #[test]
@@ -76,7 +78,7 @@ fn a_summary_counts_what_became_of_lines(rt: HostRuntime) {
     };
     let one = none.count(Outcome::Released(2));
     assert_eq!(rt; (one.accepted, one.refused, one.frames), (0, 0, 2));
-    assert_same(&rt, one.count(Outcome::Closed(3)), one);
+    assert_same(&rt, one.count(Outcome::Closed(3)), one, "closed");
 }
 
 // Why a line is refused at run time, and its name in a note.
@@ -94,31 +96,76 @@ const REFUSALS: [(Refusal, &str); 8] = [
 #[test]
 fn each_refusal_of_a_line_has_its_name(rt: HostRuntime) {
     for &(refusal, name) in &REFUSALS {
-        assert_same(&rt, refusal.name(), name);
+        assert_same(&rt, refusal.name(), name, refusal);
     }
 }
 
-#[test]
-fn a_fault_of_a_line_tells_the_line_and_the_fault(rt: HostRuntime) {
-    for &(fault, number, name) in &FAULTS {
-        let mut wanted = InlineText::<64>::new();
-        write!(wanted, "script line 2: {number} {name}").expect(&rt, "room");
-        let told = InlineText::<64>::of(at_line(2, fault));
-        assert_same(&rt, told.as_str(), wanted.as_str());
-    }
-}
-
-/// The texts of the other faults of a run.
-pub const RUN_TEXTS: [(RunFault, &str); 4] = [
-    (RunFault::Lines, "script refused: too many lines"),
-    (RunFault::Read, "read failed"),
-    (RunFault::Write, "write failed"),
-    (RunFault::Memory, "out of memory"),
+// The section header, and an interface for each network.
+const HEADER: [u8; 92] = [
+    0x0a, 0x0d, 0x0d, 0x0a, 0x1c, 0x00, 0x00, 0x00, // a section header block of 28 bytes
+    0x4d, 0x3c, 0x2b, 0x1a, // the byte-order magic
+    0x01, 0x00, 0x00, 0x00, // version 1.0
+    0xff, 0xff, 0xff, 0xff, 0xff, 0xff, 0xff, 0xff, // a section of unknown length
+    0x1c, 0x00, 0x00, 0x00, // 28 again
+    0x01, 0x00, 0x00, 0x00, 0x20, 0x00, 0x00, 0x00, // an interface description block of 32 bytes
+    0x01, 0x00, 0x00, 0x00, // Ethernet
+    0xea, 0x05, 0x00, 0x00, // 1514 bytes at most
+    0x02, 0x00, 0x01, 0x00, 0x41, 0x00, 0x00, 0x00, // its name, of 1 byte: A
+    0x00, 0x00, 0x00, 0x00, // the end of the options
+    0x20, 0x00, 0x00, 0x00, // 32 again
+    0x01, 0x00, 0x00, 0x00, 0x20, 0x00, 0x00, 0x00, 0x01, 0x00, 0x00, 0x00, 0xea, 0x05, 0x00, 0x00,
+    0x02, 0x00, 0x01, 0x00, 0x42, 0x00, 0x00, 0x00, 0x00, 0x00, 0x00, 0x00, 0x20, 0x00, 0x00, 0x00,
 ];
 
+// The front of a frame of 60 bytes on network A at 0x100000002 microseconds.
+const FRONT_A: [u8; 28] = [
+    0x06, 0x00, 0x00, 0x00, 0x5c, 0x00, 0x00, 0x00, // an enhanced packet block of 92 bytes
+    0x00, 0x00, 0x00, 0x00, // interface 0
+    0x01, 0x00, 0x00, 0x00, 0x02, 0x00, 0x00, 0x00, // the time, its high word first
+    0x3c, 0x00, 0x00, 0x00, 0x3c, 0x00, 0x00, 0x00, // 60 bytes of 60
+];
+
+// The front of a frame of 61 bytes on network B at 3 microseconds.
+const FRONT_B: [u8; 28] = [
+    0x06, 0x00, 0x00, 0x00, 0x60, 0x00, 0x00, 0x00, // an enhanced packet block of 96 bytes
+    0x01, 0x00, 0x00, 0x00, // interface 1
+    0x00, 0x00, 0x00, 0x00, 0x03, 0x00, 0x00, 0x00, // the time
+    0x3d, 0x00, 0x00, 0x00, 0x3d, 0x00, 0x00, 0x00, // 61 bytes of 61
+];
+
+const ON_A: [u8; 60] = [0xa1; 60];
+
+const ON_B: [u8; 61] = [0xb2; 61];
+
+// The ends of these packets: the padding, and the length of the block again.
+const BEHIND_A: [u8; 4] = [0x5c, 0x00, 0x00, 0x00];
+
+const BEHIND_B: [u8; 7] = [0x00, 0x00, 0x00, 0x60, 0x00, 0x00, 0x00];
+
+// Asserts the capture of frames of A and B.
+fn assert_capture(rt: &impl Host, a: &FrameLog, b: &FrameLog, wanted: &[&[u8]]) {
+    let wanted = wanted.concat(rt.alloc()).expect(rt, "memory");
+    let mut bytes = Vec::new(rt.alloc());
+    write_capture(&mut bytes, a, b).expect(rt, "memory");
+    assert_same(rt, bytes.as_slice(), wanted.as_slice(), "the capture");
+}
+
 #[test]
-fn a_run_fault_tells_its_text(rt: HostRuntime) {
-    for &(fault, wanted) in &RUN_TEXTS {
-        assert_same(&rt, InlineText::<64>::of(fault).as_str(), wanted);
-    }
+fn the_earlier_frame_comes_first(rt: HostRuntime) {
+    let (mut a, mut b) = (FrameLog::new(rt.alloc()), FrameLog::new(rt.alloc()));
+    assert_capture(&rt, &a, &b, &[&HEADER]);
+    assert!(rt; a.hand(0x1_0000_0002, &ON_A).is_ok());
+    assert!(rt; b.hand(3, &ON_B).is_ok());
+    let parts: [&[u8]; 7] = [
+        &HEADER, &FRONT_B, &ON_B, &BEHIND_B, &FRONT_A, &ON_A, &BEHIND_A,
+    ];
+    assert_capture(&rt, &a, &b, &parts);
+}
+
+#[test]
+fn a_writer_without_room_fails(rt: HostRuntime) {
+    let none = FrameLog::new(rt.alloc());
+    let mut bytes = [0; 91];
+    let mut room: &mut [u8] = &mut bytes;
+    assert!(rt; write_capture(&mut room, &none, &none).is_err());
 }

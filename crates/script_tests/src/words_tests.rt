@@ -1,8 +1,12 @@
-//! Tests of the words of the command line.
+//! Tests of the words of the command line, of exit statuses and of the texts of failures.
 use crate::helpers::*;
+use crate::line_tests::FAULTS;
+use afdx_plan::ConfigFault;
 use bench_words::{Words, parse, tell_words};
 use clap::Error;
-use plan_report::End;
+use plan_report::{End, Failure, status_of};
+use script_text::{LineFault, RunFault};
+use std::fmt::Write;
 
 // Parses a line, which is split at its blanks, after the program's name.
 fn parsed(rt: &impl Host, line: &str) -> Result<Words, Error> {
@@ -12,12 +16,6 @@ fn parsed(rt: &impl Host, line: &str) -> Result<Words, Error> {
         words.push(joined(rt, &[word])).expect(rt, "memory");
     }
     parse(rt.alloc(), words.as_slice())
-}
-
-fn assert_asks(rt: &impl Host, line: &str, wanted: &str) {
-    let words = parsed(rt, line).ok().expect(rt, line);
-    let text = format!(in rt.alloc(); "{words:?}").expect(rt, line);
-    assert_same(rt, text.as_str(), wanted);
 }
 
 // Command lines, and their commands.
@@ -37,69 +35,98 @@ storm a.toml --messages 0065535 --turns=01 => Storm { config: \"a.toml\", messag
 #[test]
 fn each_command_has_its_words(rt: HostRuntime) {
     for row in COMMANDS.lines() {
-        let (line, wanted) = row.split_once(" => ").expect(&rt, row);
-        assert_asks(&rt, line, wanted);
+        let (line, wanted) = columns(&rt, row);
+        let words = parsed(&rt, line).ok().expect(&rt, line);
+        let text = format!(in rt.alloc(); "{words:?}").expect(&rt, line);
+        assert_same(&rt, text.as_str(), wanted, line);
     }
 }
 
-// Asserts how the program ends at a line that has no command.
-fn assert_ends(rt: &(impl Host + Print + Eprint), line: &str, end: End) {
-    let error = parsed(rt, line).err().expect(rt, line);
-    assert_same_at(rt, tell_words(rt, &error), end, line);
+// Command lines with commas between them that are refused, and those that print help or the version.
+const REFUSED: &str = "help,chekc a.toml,check,check a.toml b.txt,check --all a.toml,run a.toml,\
+    run a.toml b.txt c.txt,run a.toml b.txt --capture,run a.toml b.txt --capture c --capture d,\
+    check a.toml --capture c.pcapng,report,report a.toml --lateness 1000001,report a.toml --lateness +1,\
+    report a.toml --html,report a.toml --capture c.pcapng,storm a.toml,storm a.toml --messages 1,\
+    storm a.toml --messages 0 --turns 1,storm a.toml --messages 65536 --turns 1,\
+    storm a.toml --messages 1 --turns 0,storm a.toml --messages 1 --turns 1000000001,\
+    storm a.toml --messages x --turns 1,storm a.toml --messages +5 --turns 1,\
+    storm a.toml --messages 5 --turns +1,storm a.toml --messages=-5 --turns 1,\
+    storm a.toml --messages -5 --turns 1,storm a.toml --messages= --turns 1,\
+    storm a.toml --messages 0x5 --turns 1,storm a.toml --messages 5 --turns 1_000,check --version";
+
+const PRINTED: &str = "--version,-V,--help,-h,check --help,run -h,report -h,storm --help";
+
+#[test]
+fn other_words_are_refused_and_help_and_the_version_are_printed(rt: HostRuntime) {
+    for (lines, end) in [(REFUSED, End::WordsRefused), (PRINTED, End::Told)] {
+        for line in lines.split(',') {
+            let error = parsed(&rt, line).err().expect(&rt, line);
+            assert_same(&rt, tell_words(&rt, &error), end, line);
+        }
+    }
 }
 
-const OTHER_WORDS: [&str; 30] = [
-    "help",
-    "chekc a.toml",
-    "check",
-    "check a.toml b.txt",
-    "check --all a.toml",
-    "run a.toml",
-    "run a.toml b.txt c.txt",
-    "run a.toml b.txt --capture",
-    "run a.toml b.txt --capture c --capture d",
-    "check a.toml --capture c.pcapng",
-    "report",
-    "report a.toml --lateness 1000001",
-    "report a.toml --lateness +1",
-    "report a.toml --html",
-    "report a.toml --capture c.pcapng",
-    "storm a.toml",
-    "storm a.toml --messages 1",
-    "storm a.toml --messages 0 --turns 1",
-    "storm a.toml --messages 65536 --turns 1",
-    "storm a.toml --messages 1 --turns 0",
-    "storm a.toml --messages 1 --turns 1000000001",
-    "storm a.toml --messages x --turns 1",
-    "storm a.toml --messages +5 --turns 1",
-    "storm a.toml --messages 5 --turns +1",
-    "storm a.toml --messages=-5 --turns 1",
-    "storm a.toml --messages -5 --turns 1",
-    "storm a.toml --messages= --turns 1",
-    "storm a.toml --messages 0x5 --turns 1",
-    "storm a.toml --messages 5 --turns 1_000",
-    "check --version",
+#[test]
+fn the_status_tells_how_the_program_ended(rt: HostRuntime) {
+    let number = at_line(2, LineFault::Number);
+    let ends = [
+        (End::Told, 0),
+        (End::Ran(sums(1, 0, 1)), 0),
+        (End::Ran(sums(1, 1, 1)), 3),
+        (End::Ran(sums(2, 2, 2)), 3),
+        (End::FaultsTold, 2),
+        (End::WordsRefused, 2),
+        (End::Failed(Failure::Short), 2),
+        (End::Failed(Failure::Turns), 5),
+        (End::Failed(Failure::Config(ConfigFault::Toml)), 2),
+        (End::Failed(Failure::Config(ConfigFault::Limit)), 2),
+        (End::Failed(Failure::Config(ConfigFault::Memory)), 4),
+        (End::Failed(Failure::Run(number)), 2),
+        (End::Failed(Failure::Run(RunFault::Lines)), 2),
+        (End::Failed(Failure::Run(RunFault::Read)), 4),
+        (End::Failed(Failure::Run(RunFault::Write)), 4),
+        (End::Failed(Failure::Run(RunFault::Memory)), 4),
+    ];
+    for (end, status) in ends {
+        assert_same(&rt, status_of(&end), status, end);
+    }
+}
+
+// The texts of failures.
+const TEXTS: [(Failure, &str); 8] = [
+    (
+        Failure::Run(RunFault::Lines),
+        "script refused: too many lines",
+    ),
+    (Failure::Run(RunFault::Read), "read failed"),
+    (Failure::Run(RunFault::Write), "write failed"),
+    (Failure::Run(RunFault::Memory), "out of memory"),
+    (
+        Failure::Config(ConfigFault::SharedUnicast),
+        "configuration refused: 13 SharedUnicast",
+    ),
+    (Failure::Config(ConfigFault::Memory), "out of memory"),
+    (Failure::Short, "storm refused: a port's max is below 6"),
+    (Failure::Turns, "turns used up"),
 ];
 
-#[test]
-fn other_words_are_refused(rt: HostRuntime) {
-    for &line in &OTHER_WORDS {
-        assert_ends(&rt, line, End::WordsRefused);
+// Asserts the text of a failure, and of the fault of a run that it is.
+fn assert_text(rt: &impl Abort, failure: Failure, wanted: &str) {
+    let text = InlineText::<64>::of(failure);
+    assert_same(rt, text.as_str(), wanted, failure);
+    if let Failure::Run(fault) = failure {
+        assert_same(rt, InlineText::<64>::of(fault).as_str(), wanted, "a fault");
     }
 }
 
 #[test]
-fn help_and_the_version_are_printed(rt: HostRuntime) {
-    for line in [
-        "--version",
-        "-V",
-        "--help",
-        "-h",
-        "check --help",
-        "run -h",
-        "report -h",
-        "storm --help",
-    ] {
-        assert_ends(&rt, line, End::Told);
+fn a_failure_has_its_text(rt: HostRuntime) {
+    for &(failure, wanted) in &TEXTS {
+        assert_text(&rt, failure, wanted);
+    }
+    for &(fault, number, name) in &FAULTS {
+        let mut wanted = InlineText::<64>::new();
+        write!(wanted, "script line 7: {number} {name}").expect(&rt, "room");
+        assert_text(&rt, Failure::Run(at_line(7, fault)), wanted.as_str());
     }
 }
