@@ -1,28 +1,53 @@
-//! Storms over networks that fail.
+//! Storms over networks that fail, and over links of which one is on one network alone.
 use crate::plans::*;
-
-// All was sent, and the networks have this many frames.
-fn assert_unequal(rt: &impl Abort, report: &StormReport, a: usize, b: usize) {
-    assert_same(rt, report.accepted, 400);
-    assert_same(rt, (report.equal, report.back), (false, false));
-    assert_handed(rt, report, a, b);
-    assert_same(rt, only_link(rt, report).frames, 400);
-}
 
 #[test]
 fn a_network_that_fails_in_the_middle_is_left_behind(rt: HostRuntime) {
+    let text = small_text(&rt, "256", "64");
     for (a, b, handed_a, handed_b) in [(200, NEVER, 199, 400), (NEVER, 400, 400, 399)] {
-        let config = plan_of(&rt, small_text(rt.alloc(), 256, 64));
-        let report = storm_failing(&rt, config, 100, (a, b)).expect(&rt, "a report");
-        assert_unequal(&rt, &report, handed_a, handed_b);
+        let report = storm_failing(&rt, &text, 100, (a, b)).expect(&rt, "a report");
+        assert_same(&rt, report.accepted, 400);
+        assert_same(&rt, (report.equal, report.back), (false, false));
+        assert_handed(&rt, &report, handed_a, handed_b);
+        assert_same(&rt, only_link(&rt, &report).frames, 400);
     }
 }
 
 #[test]
 fn no_storm_ends_well_where_both_networks_fail(rt: HostRuntime) {
+    let text = small_text(&rt, "256", "64");
     for fails in [(1, 1), (200, 200), (1, 400), (400, 1)] {
-        let config = plan_of(&rt, small_text(rt.alloc(), 256, 64));
-        let fault = storm_failing(&rt, config, 100, fails).err();
+        let fault = storm_failing(&rt, &text, 100, fails).err();
         assert_same(&rt, fault, Some(StormFault::Memory));
     }
+}
+
+// Ten messages of each of the two ports were accepted, sent and counted. The networks have this many
+// frames, and are equal or not.
+fn assert_report(rt: &impl Abort, report: &StormReport, handed: (usize, usize), equal: bool) {
+    assert_same(rt, report.accepted, 20);
+    assert_same(rt, report.links.len(), 2);
+    for counts in &report.links {
+        assert_same(rt, counts.frames, 10);
+    }
+    assert_handed(rt, report, handed.0, handed.1);
+    assert_same(rt, report.equal, equal);
+}
+
+#[test]
+fn networks_are_equal_over_the_links_on_both(rt: HostRuntime) {
+    let ended = storm_of(&rt, WITH_LINK_ON_A, (10, 1_000), &OpenGate);
+    assert_report(&rt, &ended.expect(&rt, "a report"), (20, 10), true);
+}
+
+#[test]
+fn networks_differ_where_one_missed_a_link_on_both(rt: HostRuntime) {
+    let ended = storm_failing(&rt, WITH_LINK_ON_A, 10, (NEVER, 1));
+    assert_report(&rt, &ended.expect(&rt, "a report"), (20, 0), false);
+}
+
+#[test]
+fn a_link_whose_one_network_failed_uses_up_the_turns(rt: HostRuntime) {
+    let fault = storm_failing(&rt, WITH_LINK_ON_A, 10, (1, NEVER)).err();
+    assert_same(&rt, fault, Some(StormFault::Turns));
 }

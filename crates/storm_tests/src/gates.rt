@@ -51,6 +51,9 @@ pub enum Until {
     Released(u32),
     /// One worker is refused at one call.
     Never { worker: usize, call: u32 },
+    /// Before and after each call of the only worker, it waits for some polls, after which exactly the frames
+    /// of the messages that were accepted before are released.
+    Followed,
 }
 
 /// A gate that counts its calls, and holds the workers until a condition is met.
@@ -64,6 +67,9 @@ pub struct Holding {
     /// How often the watcher read each of two links.
     pub first: Count,
     pub second: Count,
+    /// How often a worker that is followed was before or after a call, and how often at the wrong time.
+    pub calls: Count,
+    pub wrong: Count,
 }
 
 impl Holding {
@@ -76,6 +82,18 @@ impl Holding {
             polls: Count::new(),
             first: Count::new(),
             second: Count::new(),
+            calls: Count::new(),
+            wrong: Count::new(),
+        }
+    }
+
+    // The worker's call after `before` others, when `accepted` messages were accepted.
+    fn follow(&self, before: u64, accepted: u64) {
+        let calls = self.calls.add(1);
+        // Of these polls the second at the latest began after the call.
+        let is_polled = self.polls.reaches(self.polls.get().saturating_add(3));
+        if !is_polled || calls != before || self.frames.get() != accepted {
+            self.wrong.add(1);
         }
     }
 }
@@ -97,16 +115,25 @@ impl Gate for Holding {
                 worker: one,
                 call: at,
             } => worker != one || call != at,
+            Until::Followed => {
+                let before = u64::from(call).saturating_sub(1);
+                self.follow(2 * before, before);
+                true
+            }
         }
     }
 
-    fn answered(&self, _worker: usize, _call: u32) {
+    fn answered(&self, _worker: usize, call: u32) {
         self.accepted.add(1);
+        if let Until::Followed = self.until {
+            let accepted = u64::from(call);
+            self.follow((2 * accepted).saturating_sub(1), accepted);
+        }
     }
 
     fn polled(&self, frames: usize) {
-        self.polls.add(1);
         self.frames.add(frames as u64);
+        self.polls.add(1);
         if let Until::Released(_call) = self.until {
             let _is_sent = self.accepted.reaches(1);
         }
@@ -115,56 +142,5 @@ impl Gate for Holding {
     fn watched(&self, link: usize) {
         let readings = if link == 0 { &self.first } else { &self.second };
         readings.add(1);
-    }
-}
-
-/// Follows the one worker of a storm. Each of its calls waits for some polls, after which exactly the
-/// frames of the messages that were accepted before the call are released.
-#[derive(Drop)]
-pub struct Following {
-    polls: Count,
-    frames: Count,
-    /// How often the worker called.
-    pub calls: Count,
-    /// How many of its calls came at the wrong time.
-    pub wrong: Count,
-}
-
-impl Following {
-    pub fn new() -> Following {
-        Following {
-            polls: Count::new(),
-            frames: Count::new(),
-            calls: Count::new(),
-            wrong: Count::new(),
-        }
-    }
-
-    // The worker's call after `before` others, when `accepted` messages were accepted.
-    fn follow(&self, before: u64, accepted: u64) {
-        let calls = self.calls.add(1);
-        // Of these polls the second at the latest began after the call.
-        let is_polled = self.polls.reaches(self.polls.get().saturating_add(3));
-        if !is_polled || calls != before || self.frames.get() != accepted {
-            self.wrong.add(1);
-        }
-    }
-}
-
-impl Gate for Following {
-    fn enter(&self, _worker: usize, call: u32) -> bool {
-        let before = u64::from(call).saturating_sub(1);
-        self.follow(2 * before, before);
-        true
-    }
-
-    fn answered(&self, _worker: usize, call: u32) {
-        let accepted = u64::from(call);
-        self.follow((2 * accepted).saturating_sub(1), accepted);
-    }
-
-    fn polled(&self, frames: usize) {
-        self.frames.add(frames as u64);
-        self.polls.add(1);
     }
 }

@@ -6,8 +6,6 @@ mod failing_tests;
 #[cfg(test)]
 mod gates;
 #[cfg(test)]
-mod one_network_tests;
-#[cfg(test)]
 mod plans;
 #[cfg(test)]
 mod storm_tests;
@@ -15,5 +13,3 @@ mod storm_tests;
 mod text_tests;
 #[cfg(test)]
 mod turn_tests;
-#[cfg(test)]
-mod watching_tests;

@@ -1,6 +1,7 @@
 //! The configurations and assertions that tests of storms share.
 use afdx_config::read_config;
 use afdx_plan::Config;
+use plan_report::Failure;
 use redundant_mux::MemNetwork;
 use status_board::Counts;
 pub use std::alloc::{AllocError, Global};
@@ -9,7 +10,7 @@ pub use std::process::Abort;
 use std::sync::Wait;
 use std::thread::Threads;
 pub use storm::{Gate, OpenGate, StormFault, StormReport};
-use storm::{storm, storm_over};
+use storm::{bench_storm, storm, storm_over};
 
 /// The runtime of a test, which asserts, allocates, starts threads and waits for them.
 pub trait Host: Abort + AllocGlobal + Threads + Wait + Sync {}
@@ -33,106 +34,131 @@ pub fn only_link(rt: &impl Abort, report: &StormReport) -> Counts {
     *report.links.first().expect(rt, "one")
 }
 
-/// The plan of a text.
-pub fn plan_of(rt: &impl Host, text: Result<String, AllocError>) -> Config {
-    let text = text.expect(rt, "memory");
-    read_config(rt.alloc(), text.as_bytes()).expect(rt, "a valid plan")
-}
-
 /// How many ports the small plan has, two on each of the two sub-VLs of its one link.
 pub const PORTS: u8 = 4;
 
-fn push_port(text: &mut String, id: u16, vl: u16, sub: u16, max: u16) -> Result<(), AllocError> {
-    let partition = id % 32;
-    writeln!(text, "[[port]]\nid = {id}\nvl = {vl}\nsub = {sub}")?;
-    writeln!(text, "partition = {partition}\nkind = 'queuing'")?;
-    writeln!(text, "source = 1000\ndestination = 2000\nmax = {max}")
-}
+/// The small plan. Ports 1 to 4 are of partitions 1 to 4. MAX stands for the greatest message of port 3.
+pub const SMALL: &str = "end_system = { id = 1 }
+vl = [{ id = 1, bag_ms = 1, lmax = 1518, sub_vls = 2, capacity = 256 }]
+port = [
+    { id = 1, vl = 1, sub = 0, partition = 1, kind = 'queuing', source = 1000, destination = 2000, max = 64 },
+    { id = 2, vl = 1, sub = 0, partition = 2, kind = 'queuing', source = 1000, destination = 2000, max = 64 },
+    { id = 3, vl = 1, sub = 1, partition = 3, kind = 'queuing', source = 1000, destination = 2000, max = MAX },
+    { id = 4, vl = 1, sub = 1, partition = 4, kind = 'queuing', source = 1000, destination = 2000, max = 64 },
+]
+";
 
-/// End system 1 with one link of two sub-VLs of this capacity. Ports 1 to 4 are of partitions 1 to 4, the
-/// first two on sub-VL 0. Port 3 sends messages of at most `max` bytes.
-pub fn small_text(alloc: Global, capacity: u16, max: u16) -> Result<String, AllocError> {
-    let mut text = "[end_system]\nid = 1\n".to_string(alloc)?;
-    text.push_str("[[vl]]\nid = 1\nbag_ms = 1\nlmax = 1518\nsub_vls = 2\n")?;
-    writeln!(text, "capacity = {capacity}")?;
-    for (id, sub, max) in [(1, 0, 64), (2, 0, 64), (3, 1, max), (4, 1, 64)] {
-        push_port(&mut text, id, 1, sub, max)?;
-    }
-    Ok(text)
-}
+/// Link 1 on both networks and link 2 on network A alone, with one port each.
+pub const WITH_LINK_ON_A: &str = "version = 2
+end_system = { id = 1 }
+vl = [
+    { id = 1, bag_ms = 1, lmax = 64, sub_vls = 1, capacity = 16, networks = 'both' },
+    { id = 2, bag_ms = 1, lmax = 64, sub_vls = 1, capacity = 16, networks = 'a' },
+]
+port = [
+    { id = 1, vl = 1, sub = 0, partition = 1, kind = 'queuing', source = 1000, destination = 2000, max = 6 },
+    { id = 2, vl = 2, sub = 0, partition = 2, kind = 'queuing', source = 1000, destination = 2000, max = 6 },
+]
+";
 
-/// End system 1 with link 1 on both networks and link 2 on network A alone, with one port each.
-pub fn text_with_link_on_a(alloc: Global) -> Result<String, AllocError> {
-    let mut text = "version = 2\n[end_system]\nid = 1\n".to_string(alloc)?;
-    for (id, networks) in [(1, "both"), (2, "a")] {
-        writeln!(text, "[[vl]]\nid = {id}\nbag_ms = 1\nlmax = 64")?;
-        writeln!(text, "sub_vls = 1\ncapacity = 16\nnetworks = '{networks}'")?;
-    }
-    for id in [1, 2] {
-        push_port(&mut text, id, id, 0, 6)?;
-    }
-    Ok(text)
-}
+/// Link 5 with the greatest gap and one port, and after it link 2 with the least gap and two ports.
+pub const TWO_LINKS: &str = "end_system = { id = 1 }
+vl = [
+    { id = 5, bag_ms = 128, lmax = 64, sub_vls = 1, capacity = 256 },
+    { id = 2, bag_ms = 1, lmax = 64, sub_vls = 1, capacity = 256 },
+]
+port = [
+    { id = 1, vl = 5, sub = 0, partition = 1, kind = 'queuing', source = 1000, destination = 2000, max = 6 },
+    { id = 2, vl = 2, sub = 0, partition = 2, kind = 'queuing', source = 1000, destination = 2000, max = 6 },
+    { id = 3, vl = 2, sub = 0, partition = 3, kind = 'queuing', source = 1000, destination = 2000, max = 6 },
+]
+";
 
-/// End system 1 with a link for each of these: its identifier, its gap in milliseconds, and the number of
-/// ports on its one sub-VL. Ports are numbered from 1.
-pub fn links_text(alloc: Global, links: &[(u16, u16, u16)]) -> Result<String, AllocError> {
-    let mut text = "[end_system]\nid = 1\n".to_string(alloc)?;
-    for &(vl, gap, _ports) in links {
-        writeln!(text, "[[vl]]\nid = {vl}\nbag_ms = {gap}\nlmax = 64")?;
-        text.push_str("sub_vls = 1\ncapacity = 256\n")?;
-    }
-    let mut id = 0u16;
-    for &(vl, _gap, ports) in links {
-        for _port in 0..ports {
-            id = id.saturating_add(1);
-            push_port(&mut text, id, vl, 0, 6)?;
-        }
-    }
-    Ok(text)
-}
+/// One link with the greatest gap, and a port or two.
+pub const ONE_PORT: &str = "end_system = { id = 1 }
+vl = [{ id = 1, bag_ms = 128, lmax = 64, sub_vls = 1, capacity = 256 }]
+port = [
+    { id = 1, vl = 1, sub = 0, partition = 1, kind = 'queuing', source = 1000, destination = 2000, max = 6 },
+]
+";
+
+pub const TWO_PORTS: &str = "end_system = { id = 1 }
+vl = [{ id = 1, bag_ms = 128, lmax = 64, sub_vls = 1, capacity = 256 }]
+port = [
+    { id = 1, vl = 1, sub = 0, partition = 1, kind = 'queuing', source = 1000, destination = 2000, max = 6 },
+    { id = 2, vl = 1, sub = 0, partition = 2, kind = 'queuing', source = 1000, destination = 2000, max = 6 },
+]
+";
 
 /// How many links the great plan has, with a sub-VL for each of four ports.
 pub const GREAT_LINKS: u16 = 64;
 
-/// The greatest plan: 256 ports on 64 links, each on a sub-VL of its own with this capacity.
-pub fn great_text(alloc: Global, capacity: u16) -> Result<String, AllocError> {
+/// The greatest plan: 256 ports on 64 links, each on a sub-VL of its own with room for two messages.
+pub fn great_text(alloc: Global) -> Result<String, AllocError> {
     let mut text = "[end_system]\nid = 1\n".to_string(alloc)?;
     for vl in 0..GREAT_LINKS {
         writeln!(text, "[[vl]]\nid = {vl}\nbag_ms = 1\nlmax = 64")?;
-        writeln!(text, "sub_vls = 4\ncapacity = {capacity}")?;
+        text.push_str("sub_vls = 4\ncapacity = 2\n")?;
     }
-    for vl in 0..GREAT_LINKS {
-        for sub in 0..4 {
-            push_port(&mut text, 4 * vl + sub, vl, sub, 6)?;
-        }
+    for id in 0..4 * GREAT_LINKS {
+        let (vl, sub, partition) = (id / 4, id % 4, id % 32);
+        writeln!(text, "[[port]]\nid = {id}\nvl = {vl}\nsub = {sub}")?;
+        writeln!(text, "partition = {partition}\nkind = 'queuing'")?;
+        text.push_str("source = 1000\ndestination = 2000\nmax = 6\n")?;
     }
     Ok(text)
+}
+
+pub fn plan_of(rt: &impl Host, text: &str) -> Config {
+    read_config(rt.alloc(), text.as_bytes()).expect(rt, text)
+}
+
+/// The text of the small plan with another capacity, and this greatest message of port 3.
+pub fn small_text(rt: &impl Host, capacity: &str, max: &str) -> String {
+    let text = SMALL
+        .replace(rt.alloc(), "256", capacity)
+        .expect(rt, "memory");
+    text.replace(rt.alloc(), "MAX", max).expect(rt, "memory")
 }
 
 /// The result of a storm.
 pub type Ended = Result<StormReport, StormFault>;
 
-/// Runs a storm in which each port sends `load.0` messages, and each thread may try `load.1` times.
-pub fn storm_of<G: Gate + Sync>(
-    rt: &impl Host,
-    config: Config,
-    load: (u16, u64),
-    gate: &G,
-) -> Ended {
+/// Runs a storm over the plan of a text in which each port sends `load.0` messages, and each thread may try
+/// `load.1` times.
+pub fn storm_of<G: Gate + Sync>(rt: &impl Host, text: &str, load: (u16, u64), gate: &G) -> Ended {
     let (messages, turns) = load;
     assert!(rt; 1 <= messages && 1 <= turns && turns <= 1_000_000_000);
+    let config = plan_of(rt, text);
     storm(rt, rt.alloc(), config, u32::from(messages), turns, gate)
 }
 
 /// The same over networks whose hands of these numbers fail. Each thread may try a thousand times.
-pub fn storm_failing(rt: &impl Host, config: Config, messages: u16, fails: (u64, u64)) -> Ended {
+pub fn storm_failing(rt: &impl Host, text: &str, messages: u16, fails: (u64, u64)) -> Ended {
     assert!(rt; 1 <= messages);
     let a = MemNetwork::failing_at(rt.alloc(), fails.0);
     let b = MemNetwork::failing_at(rt.alloc(), fails.1);
-    let messages = u32::from(messages);
+    let (config, messages) = (plan_of(rt, text), u32::from(messages));
     storm_over(rt, rt.alloc(), config, a, b, messages, 1_000, &OpenGate)
 }
 
 /// The number of a hand that never comes.
 pub const NEVER: u64 = 1_000;
+
+/// Asserts the result of the command over the plan of a text, and what it writes.
+pub fn assert_told(
+    rt: &impl Host,
+    text: &str,
+    load: (u16, u64),
+    wanted: Result<(), Failure>,
+    lines: &str,
+) {
+    let (messages, turns) = load;
+    assert!(rt; 1 <= messages && 1 <= turns && turns <= 1_000_000_000);
+    let mut told = Vec::new(rt.alloc());
+    let messages = u32::from(messages);
+    let text = text.as_bytes();
+    let ended = bench_storm(rt, rt.alloc(), text, &mut told, messages, turns, &OpenGate);
+    assert_same(rt, ended, wanted);
+    assert_same(rt, told.as_slice(), lines.as_bytes());
+}

@@ -45,12 +45,11 @@ fn assert_report(rt: &impl Abort, report: &StormReport, messages: u16) {
 }
 
 // The capacity of each sub-VL of the small plan and its third port's maximum, and the messages and tries.
-type Setting = ((u16, u16), (u16, u64));
+type Setting = ((&'static str, &'static str), (u16, u64));
 
 fn small_storm(rt: &impl Host, setting: Setting, gate: &(impl Gate + Sync)) -> Ended {
     let ((capacity, max), load) = setting;
-    let config = plan_of(rt, small_text(rt.alloc(), capacity, max));
-    storm_of(rt, config, load, gate)
+    storm_of(rt, &small_text(rt, capacity, max), load, gate)
 }
 
 fn assert_sent(rt: &impl Host, setting: Setting, gate: &(impl Gate + Sync)) {
@@ -64,39 +63,39 @@ fn assert_fault(rt: &impl Host, setting: Setting, gate: &(impl Gate + Sync), fau
 
 #[test]
 fn four_workers_send_a_hundred_messages_each(rt: HostRuntime) {
-    assert_sent(&rt, ((256, 64), (100, 1_000)), &OpenGate);
+    assert_sent(&rt, (("256", "64"), (100, 1_000)), &OpenGate);
 }
 
 #[test]
 fn all_workers_run_at_once(rt: HostRuntime) {
     let gate = Holding::until(Until::Entered(u64::from(PORTS)));
-    assert_sent(&rt, ((256, 64), (100, 1_000)), &gate);
+    assert_sent(&rt, (("256", "64"), (100, 1_000)), &gate);
 }
 
 #[test]
 fn what_has_no_room_is_sent_again_while_the_emitter_is_polled(rt: HostRuntime) {
-    assert_sent(&rt, ((2, 64), (20, TURNS)), &OpenGate);
+    assert_sent(&rt, (("2", "64"), (20, TURNS)), &OpenGate);
 }
 
 #[test]
 fn a_worker_or_a_drain_that_may_try_once_uses_up_its_turns(rt: HostRuntime) {
     for messages in [100, 1] {
-        let setting = ((256, 64), (messages, 1));
+        let setting = (("256", "64"), (messages, 1));
         assert_fault(&rt, setting, &OpenGate, StormFault::Turns);
     }
 }
 
 #[test]
 fn a_port_with_a_greatest_message_of_5_bytes_is_short_and_of_6_is_not(rt: HostRuntime) {
-    let short = ((256, 5), (100, 1_000));
+    let short = (("256", "5"), (100, 1_000));
     assert_fault(&rt, short, &OpenGate, StormFault::Short);
-    assert_sent(&rt, ((256, 6), (2, 1_000)), &OpenGate);
+    assert_sent(&rt, (("256", "6"), (2, 1_000)), &OpenGate);
 }
 
 #[test]
 fn a_gate_that_refuses_ends_its_worker_and_no_other(rt: HostRuntime) {
     let gate = Holding::until(Until::Never { worker: 2, call: 3 });
-    let setting = ((256, 64), (10, 1_000));
+    let setting = (("256", "64"), (10, 1_000));
     assert_fault(&rt, setting, &gate, StormFault::Turns);
     assert_same(&rt, gate.accepted.get(), 32);
 }
@@ -115,8 +114,8 @@ fn assert_great(rt: &impl Abort, report: &StormReport) {
 
 #[test]
 fn workers_of_256_ports_send_at_once_through_queues_with_room_for_two(rt: HostRuntime) {
-    let config = plan_of(&rt, great_text(rt.alloc(), 2));
+    let text = great_text(rt.alloc()).expect(&rt, "memory");
     let gate = Holding::until(Until::Entered(256));
-    let report = storm_of(&rt, config, (20, 100_000_000), &gate).expect(&rt, "a report");
+    let report = storm_of(&rt, &text, (20, TURNS), &gate).expect(&rt, "a report");
     assert_great(&rt, &report);
 }

@@ -1,5 +1,5 @@
 //! What the command prints of storms.
-ghost use Rattle.std.specs.Prelude.{◌≡◌, ◌≤◌, ◌+◌, IfOk, length};
+ghost use Rattle.std.specs.Prelude.{◌≡◌, ◌+◌, IfOk, length};
 
 use crate::plans::*;
 use afdx_plan::{Bag, LinkPlan, Lmax, Networks, VlId};
@@ -9,18 +9,6 @@ use script_text::RunFault;
 use status_board::Counts;
 use storm::{bench_storm, write_totals};
 
-// Asserts the result of the command over the small plan with this maximum, and what it writes.
-fn assert_told(rt: &impl Host, max: u16, turns: u64, wanted: Result<(), Failure>, lines: &str)
-    requires { (1 ≤ turns) × (turns ≤ 1000000000) }
-{
-    let text = small_text(rt.alloc(), 256, max).expect(rt, "memory");
-    let text = text.as_bytes();
-    let mut told = Vec::new(rt.alloc());
-    let ended = bench_storm(rt, rt.alloc(), text, &mut told, 100, turns, &OpenGate);
-    assert_same(rt, ended, wanted);
-    assert_same(rt, told.as_slice(), lines.as_bytes());
-}
-
 const REPORT: &str = "accepted 400
 link 1: frames 400, bytes 24000, messages 400
 networks equal
@@ -29,23 +17,42 @@ watcher never back
 
 #[test]
 fn a_storm_is_told_in_four_lines(rt: HostRuntime) {
-    assert_told(&rt, 64, 1_000, Ok(()), REPORT);
+    assert_told(
+        &rt,
+        &small_text(&rt, "256", "64"),
+        (100, 1_000),
+        Ok(()),
+        REPORT,
+    );
 }
 
 #[test]
 fn nothing_is_written_of_a_storm_that_is_refused(rt: HostRuntime) {
-    assert_told(&rt, 64, 1, Err(Failure::Turns), "");
-    assert_told(&rt, 5, 1_000, Err(Failure::Short), "");
+    let (turns, short) = (Err(Failure::Turns), Err(Failure::Short));
+    assert_told(&rt, &small_text(&rt, "256", "64"), (100, 1), turns, "");
+    assert_told(&rt, &small_text(&rt, "256", "5"), (100, 1_000), short, "");
 }
 
 #[test]
 fn a_writer_without_room_is_told(rt: HostRuntime) {
-    let text = small_text(rt.alloc(), 256, 64).expect(&rt, "memory");
+    let text = small_text(&rt, "256", "64");
     let mut room = [0u8; 60];
     let mut writer: &mut [u8] = &mut room;
     let text = text.as_bytes();
     let ended = bench_storm(&rt, rt.alloc(), text, &mut writer, 100, 1_000, &OpenGate);
     assert_same(&rt, ended, Err(Failure::Run(RunFault::Write)));
+}
+
+const TWO_LINES: &str = "accepted 30
+link 5: frames 10, bytes 600, messages 10
+link 2: frames 20, bytes 1200, messages 20
+networks equal
+watcher never back
+";
+
+#[test]
+fn links_are_told_in_the_order_of_the_configuration(rt: HostRuntime) {
+    assert_told(&rt, TWO_LINKS, (10, 1_000), Ok(()), TWO_LINES);
 }
 
 // A report on two links, of networks that differ, in which a count fell.

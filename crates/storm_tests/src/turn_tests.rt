@@ -1,63 +1,79 @@
-//! How often the threads of a storm may try, and when a worker calls its gate.
-use crate::gates::{Following, Holding, Until};
+//! How often the threads of a storm may try, when a worker calls its gate, and what the watcher reads.
+use crate::gates::{Holding, Until};
 use crate::plans::*;
 
-// Runs a storm over one link with the greatest gap and some ports.
-fn slow_storm(rt: &impl Host, ports: u16, load: (u16, u64), gate: &(impl Gate + Sync)) -> Ended {
-    let config = plan_of(rt, links_text(rt.alloc(), &[(1, 128, ports)]));
-    storm_of(rt, config, load, gate)
-}
-
-fn assert_sent(rt: &impl Host, ports: u16, load: (u16, u64), gate: &(impl Gate + Sync)) {
-    let report = slow_storm(rt, ports, load, gate).expect(rt, "a report");
-    let all = u64::from(ports) * u64::from(load.0);
-    assert_same(rt, (report.accepted, report.equal), (all, true));
-}
-
-fn assert_used_up(rt: &impl Host, ports: u16, load: (u16, u64), gate: &(impl Gate + Sync)) {
-    let fault = slow_storm(rt, ports, load, gate).err();
-    assert_same(rt, fault, Some(StormFault::Turns));
-}
-
-// Both workers are held until the main thread has used up its polls, so each of their six frames is left
-// for the drain, which polls once for each.
-#[test]
-fn the_drain_polls_as_often_as_the_main_thread_may(rt: HostRuntime) {
-    let gate = Holding::until(Until::Polled(6));
-    assert_sent(&rt, 2, (3, 6), &gate);
-    assert_same(&rt, gate.polls.get(), 12);
+// Asserts how many messages were accepted in a storm over one link with the greatest gap, or its fault.
+fn assert_tries(
+    rt: &impl Host,
+    gate: &Holding,
+    ports: u8,
+    load: (u16, u64),
+    wanted: Result<u64, StormFault>,
+) {
+    let text = if ports == 1 { ONE_PORT } else { TWO_PORTS };
+    let told = match storm_of(rt, text, load, gate) {
+        Ok(report) => {
+            assert_same(rt, report.equal, true);
+            Ok(report.accepted)
+        }
+        Err(fault) => Err(fault),
+    };
+    assert_same(rt, told, wanted);
 }
 
 #[test]
-fn a_drain_that_lacks_one_poll_uses_up_its_turns(rt: HostRuntime) {
-    let gate = Holding::until(Until::Polled(5));
-    assert_used_up(&rt, 2, (3, 5), &gate);
-    assert_same(&rt, gate.polls.get(), 10);
-}
-
-#[test]
-fn the_main_thread_polls_as_often_as_it_may(rt: HostRuntime) {
-    let gate = Holding::until(Until::Polled(150_000));
-    assert_sent(&rt, 1, (1, 150_000), &gate);
-    assert_same(&rt, gate.polls.get(), 150_001);
-}
-
-#[test]
-fn a_worker_sends_as_often_as_it_may(rt: HostRuntime) {
-    let gate = Holding::until(Until::Released(4));
-    assert_sent(&rt, 1, (4, 4), &gate);
-}
-
-// What is left for the drain is no more than it may poll, so the turns are the worker's.
-#[test]
-fn a_worker_that_lacks_one_send_uses_up_its_turns(rt: HostRuntime) {
-    let gate = Holding::until(Until::Released(5));
-    assert_used_up(&rt, 1, (5, 4), &gate);
+fn threads_try_as_often_as_they_may_and_no_more(rt: HostRuntime) {
+    let used_up = Err(StormFault::Turns);
+    let rows = [
+        // Both workers are held until the main thread has used up its polls, so each of their frames is left
+        // for the drain, which polls once for each.
+        (Until::Polled(6), 2, (3, 6), Ok(6), Some(12)),
+        (Until::Polled(5), 2, (3, 5), used_up, Some(10)),
+        (
+            Until::Polled(150_000),
+            1,
+            (1, 150_000),
+            Ok(1),
+            Some(150_001),
+        ),
+        // What is left for the drain is no more than it may poll, so the turns are the worker's.
+        (Until::Released(4), 1, (4, 4), Ok(4), None),
+        (Until::Released(5), 1, (5, 4), used_up, None),
+    ];
+    for (until, ports, load, wanted, polls) in rows {
+        let gate = Holding::until(until);
+        assert_tries(&rt, &gate, ports, load, wanted);
+        assert_same(&rt, gate.polls.get(), polls.unwrap_or(gate.polls.get()));
+    }
 }
 
 #[test]
 fn a_gate_is_asked_before_each_send_and_told_after_it(rt: HostRuntime) {
-    let gate = Following::new();
-    assert_sent(&rt, 1, (10, 100_000_000), &gate);
+    let gate = Holding::until(Until::Followed);
+    assert_tries(&rt, &gate, 1, (10, 100_000_000), Ok(10));
     assert_same(&rt, (gate.calls.get(), gate.wrong.get()), (20, 0));
+}
+
+// Each of two links has the counts of its own messages, each in a frame.
+fn assert_counts(rt: &impl Abort, report: &StormReport, messages: [u64; 2]) {
+    assert_same(rt, report.links.len(), 2);
+    for (counts, sent) in report.links.iter().zip(messages.iter()) {
+        let told = (counts.frames, counts.messages);
+        assert_same(rt, told, (*sent, *sent));
+    }
+}
+
+#[test]
+fn each_link_has_its_own_counts(rt: HostRuntime) {
+    let ended = storm_of(&rt, TWO_LINKS, (10, 1_000), &OpenGate);
+    assert_counts(&rt, &ended.expect(&rt, "a report"), [10, 20]);
+}
+
+// The workers are held until the watcher has read both links as often as it has to.
+#[test]
+fn a_watcher_reads_each_link_while_the_workers_are_held(rt: HostRuntime) {
+    let gate = Holding::until(Until::Read(50));
+    let ended = storm_of(&rt, TWO_LINKS, (50, 100_000_000), &gate);
+    assert_counts(&rt, &ended.expect(&rt, "a report"), [50, 100]);
+    assert_same(&rt, (gate.first.get(), gate.second.get()), (50, 50));
 }
