@@ -6,8 +6,6 @@ mod failing_tests;
 #[cfg(test)]
 mod field_tests;
 #[cfg(test)]
-mod gauge;
-#[cfg(test)]
 mod headline_tests;
 #[cfg(test)]
 mod library_call;

@@ -23,10 +23,9 @@ fn open_links(rt: &impl Host, links: &[ListLink], fails: (u8, u8)) -> Rig {
     let mut ports: Vec<PortRow> = Vec::new(rt.alloc());
     for link in links {
         let row = (link.vl, name_of(link.networks), 1_518, 1, 6);
+        let port = (link.vl, link.vl, 0, 1, 8_192);
         rows.push(row).expect(rt, "memory");
-        ports
-            .push((link.vl, link.vl, 0, 1, 8_192))
-            .expect(rt, "memory");
+        ports.push(port).expect(rt, "memory");
     }
     let plan: Plan = (rows.as_slice(), ports.as_slice());
     open(rt, plan, (u64::from(fails.0), u64::from(fails.1)))
@@ -158,27 +157,12 @@ fn links_on_a_on_b_and_on_both_whenever_both_networks_fail(rt: HostRuntime) {
     run_failing(&rt, &links, &HANDS, &TIMES, 6);
 }
 
+// The drain begins before any frame of a message was sent, or after a part of it.
 #[test]
 fn each_network_keeps_what_it_took_before_it_failed_in_the_drain(rt: HostRuntime) {
-    run_failing(
-        &rt,
-        &[link(1, Networks::Both, 0, 2)],
-        &[1, 2, 3, 4, 5],
-        &TIMES,
-        0,
-    );
-}
-
-#[test]
-fn networks_fail_in_the_drain_of_a_message_that_was_partly_sent(rt: HostRuntime) {
-    for before in [1, 3] {
-        run_failing(
-            &rt,
-            &[link(1, Networks::Both, 0, 2)],
-            &[1, 2, 3, 4, 5],
-            &TIMES,
-            before,
-        );
+    let links = [link(1, Networks::Both, 0, 2)];
+    for before in [0, 1, 3] {
+        run_failing(&rt, &links, &HANDS[..5], &TIMES, before);
     }
 }
 
@@ -189,7 +173,7 @@ fn counts_are_what_is_read_over_links_on_a_on_b_and_on_both(rt: HostRuntime) {
     for first in NETWORKS {
         for second in NETWORKS {
             let links = [link(1, first, 1, 1), link(2, second, 1, 1)];
-            run_failing(&rt, &links, &[1, 3, 9], &[0, 1_000, 2_000, 3_000], 4);
+            run_failing(&rt, &links, &[1, 3, 9], &TIMES[..4], 4);
             run_failing(&rt, &links, &[1, 3, 9], &[0, 0, 1_000, 2_000, 3_000], 1);
         }
     }

@@ -55,22 +55,20 @@ fn plan_text(alloc: Global, (links, ports): Plan) -> Result<String, AllocError> 
     for &(id, networks, lmax, sub_vls, capacity) in links {
         writeln!(
             text,
-            "[[vl]]\nid = {id}\nnetworks = '{networks}'\nbag_ms = 1"
+            "[[vl]]\nid = {id}\nnetworks = '{networks}'\nlmax = {lmax}"
         )?;
         writeln!(
             text,
-            "lmax = {lmax}\nsub_vls = {sub_vls}\ncapacity = {capacity}"
+            "bag_ms = 1\nsub_vls = {sub_vls}\ncapacity = {capacity}"
         )?;
     }
     for &(id, vl, sub, partition, max) in ports {
         writeln!(
             text,
-            "[[port]]\nid = {id}\nvl = {vl}\nsub = {sub}\npartition = {partition}"
+            "[[port]]\nid = {id}\nvl = {vl}\nsub = {sub}\nmax = {max}"
         )?;
-        writeln!(
-            text,
-            "kind = 'queuing'\nsource = 100{sub}\ndestination = 2000\nmax = {max}"
-        )?;
+        writeln!(text, "partition = {partition}\nsource = 100{sub}")?;
+        text.push_str("kind = 'queuing'\ndestination = 2000\n")?;
     }
     Ok(text)
 }

@@ -52,28 +52,25 @@ fn hand_in_turn(rt: &impl Host, rig: Rig, polls: u8) -> (MemNetwork, MemNetwork)
     tx.into_networks()
 }
 
-// Frames a gap apart, by their sub-VLs and their identifications.
-type Row<'a> = &'a [(u8, u16)];
-
-// Asserts the place, the sub-VL and the identification of a frame in the row.
-fn assert_frame(rt: &impl Abort, entry: &Handed, place: u8, (sub, ident): (u8, u16)) {
+// Asserts that a frame has this place and identification. The identifications of sub-VL s are s modulo 4.
+fn assert_frame(rt: &impl Abort, entry: &Handed, place: u8, ident: u16) {
     let frame = entry.frame.as_slice();
     assert_same(rt, entry.at, GAP * u64::from(place));
-    assert_same(rt, sub_of(frame), Some(sub));
+    assert_same(rt, sub_of(frame), Some((ident % 4) as u8));
     assert_same(rt, ident_of(frame), Some(ident));
     assert_same(rt, sn_of(frame), Some(place));
 }
 
-// Asserts that a network took these frames.
-fn assert_row(rt: &impl Abort, network: &MemNetwork, row: Row) {
+// Asserts that a network took frames with these identifications, a gap apart.
+fn assert_row(rt: &impl Abort, network: &MemNetwork, row: &[u16]) {
     assert_same(rt, network.handed().len(), row.len());
-    for (place, (entry, frame)) in (0u8..).zip(network.handed().iter().zip(row)) {
-        assert_frame(rt, entry, place, *frame);
+    for (place, (entry, ident)) in (0u8..).zip(network.handed().iter().zip(row)) {
+        assert_frame(rt, entry, place, *ident);
     }
 }
 
 // Asserts what both networks took of a plan in `polls` polls.
-fn assert_turns(rt: &impl Host, plan: Plan, polls: u8, row: Row) {
+fn assert_turns(rt: &impl Host, plan: Plan, polls: u8, row: &[u16]) {
     let mut rig = open(rt, plan, NEVER);
     send_all(rt, &mut rig);
     let (a, b) = hand_in_turn(rt, rig, polls);
@@ -83,22 +80,10 @@ fn assert_turns(rt: &impl Host, plan: Plan, polls: u8, row: Row) {
 
 #[test]
 fn two_sub_vls_take_turns_by_pieces(rt: HostRuntime) {
-    let row = [(0, 0), (1, 1), (0, 0), (1, 5), (0, 0)];
-    assert_turns(&rt, TWO_SUB_VLS, 5, &row);
+    assert_turns(&rt, TWO_SUB_VLS, 5, &[0, 1, 0, 5, 0]);
 }
 
 #[test]
 fn four_sub_vls_take_turns_by_pieces(rt: HostRuntime) {
-    let row = [
-        (0, 0),
-        (1, 1),
-        (2, 2),
-        (3, 3),
-        (0, 0),
-        (1, 5),
-        (2, 6),
-        (3, 7),
-        (0, 0),
-    ];
-    assert_turns(&rt, FOUR, 9, &row);
+    assert_turns(&rt, FOUR, 9, &[0, 1, 2, 3, 0, 5, 6, 7, 0]);
 }

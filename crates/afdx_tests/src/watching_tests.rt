@@ -77,9 +77,8 @@ const FRAMES: u64 = 16 * 342;
 fn open_greatest(rt: &impl Host) -> Rig {
     let mut links: Vec<LinkRow> = Vec::new(rt.alloc());
     for vl in 0..64 {
-        links
-            .push((vl, "both", 64, 1, LONG_MESSAGES))
-            .expect(rt, "memory");
+        let row = (vl, "both", 64, 1, LONG_MESSAGES);
+        links.push(row).expect(rt, "memory");
     }
     let ports = [(0, 0, 0, 1, 8_192), (63, 63, 0, 1, 8_192)];
     open(rt, (links.as_slice(), &ports), NEVER)
