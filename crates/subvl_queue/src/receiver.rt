@@ -104,6 +104,8 @@ impl Receiver {
             calls,
             asks: 0,
             accepted: 0,
+            place: 0,
+            slot: 0,
         })
     }
 

@@ -4,7 +4,7 @@ ghost use mathlib.Core.Option.{some};
 ghost use lib.ListN.{get_elem?};
 ghost use Rattle.subvl_queue.specs.declared.rule.Role.TheVariants.{Sender, Receiver};
 ghost use Rattle.subvl_queue.specs.declared.rule.Stage.TheVariants.{Idle, Asked, Refused, Drew, Late, Holding};
-ghost use Rattle.subvl_queue.specs.Queue.{IsAtTable, RestsAs};
+ghost use Rattle.subvl_queue.specs.Queue.{IsAtTable, RestsAs, IsSlotOf};
 ghost use Rattle.subvl_queue.specs.Steps.{new_seat, Finds, Misses, IsLog, with_ask, idle, drawn, lated, with_glance, with_total, one_made, with_joined, with_all, freed_of};
 
 use crate::item::Message;
@@ -88,9 +88,28 @@ impl Ring {
 
     /// The slot of a place.
     pub fn slot_of(&self, place: u64) -> usize
-        ensures { (result ≡ place % self.now.capacity) × (result < self.now.capacity) }
+        ensures { IsSlotOf self.now.capacity place result }
     {
         (place % self.capacity as u64) as usize
+    }
+
+    /// The slot of a place, from an earlier place and its slot: no division, unless a whole round of other places
+    /// lies between.
+    #[inline(always)]
+    pub fn slot_from(&self, place: u64, earlier: u64, slot: usize) -> usize
+        requires { IsSlotOf self.now.capacity earlier slot }
+        ensures { IsSlotOf self.now.capacity place result }
+    {
+        if place < earlier || place - earlier >= self.capacity as u64 {
+            return self.slot_of(place);
+        }
+        let ahead = (place - earlier) as usize;
+        let left = self.capacity - slot;
+        if ahead < left {
+            slot + ahead
+        } else {
+            ahead - left
+        }
     }
 
     /// The slot after one, that of the next place.
@@ -104,15 +123,15 @@ impl Ring {
     }
 
     /// Puts the parcel into the slot of its place, and makes it ready.
-    pub fn ready(&self, seat: &mut Knowing, place: u64, parcel: Parcel)
+    pub fn ready(&self, seat: &mut Knowing, place: u64, slot: usize, parcel: Parcel)
         requires seat { IsAtTable self.now.table.shared.table_id seat.old × (place < 2 ^ 63) }
-        requires slot { seat.old.me.1 ≡ (place % self.now.capacity, None) ∷ [] }
+        requires held { seat.old.me.1 ≡ (place % self.now.capacity, None) ∷ [] }
+        requires slot { IsSlotOf self.now.capacity place slot }
         requires view { (seat.old.me.0.role ≡ Sender) × (seat.old.me.0.stage ≡ Drew) }
         requires item { (seat.old.me.0.at ≡ place) × (seat.old.me.0.item ≡ Some parcel) }
         ensures seat { IsAtTable self.now.table.shared.table_id seat.new }
         ensures view { seat.new.me ≡ (idle seat.old.me.0, []) }
     {
-        let slot = self.slot_of(place);
         match self.table.shared.exchange(seat, slot, Some(parcel)) {
             None => {}
             Some(_) => unreachable!(),

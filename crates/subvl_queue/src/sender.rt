@@ -65,12 +65,15 @@ pub struct Sender {
     pub(crate) calls: u64,
     pub(crate) asks: u64,
     pub(crate) accepted: u64,
+    // The last place, or 0, and its slot.
+    pub(crate) place: u64,
+    pub(crate) slot: usize,
 }
 
 impl Model for Sender {
     ghost use Rattle.std.specs.Prelude.{◌≡◌, ◌^◌, ◌≤◌, length};
     ghost use Rattle.subvl_queue.specs.declared.rule.Role.TheVariants.{Sender as AsSender};
-    ghost use Rattle.subvl_queue.specs.Queue.{RestsAs};
+    ghost use Rattle.subvl_queue.specs.Queue.{RestsAs, IsSlotOf};
     ghost use Rattle.subvl_queue.specs.Gathers.{own_of, places_of};
     ghost use Rattle.subvl_queue.specs.Views.{SenderView};
 
@@ -91,7 +94,8 @@ impl Model for Sender {
 
     ghost invariant = { λ s. RestsAs s.ring.value.table.shared.table_id AsSender s.seat
         × (s.seat.me.0.port ≡ s.port) × (s.seat.me.0.asks ≡ s.asks) × (s.asks ≤ s.calls) × (s.calls ≤ 2 ^ 40)
-        × (s.accepted ≡ length s.seat.me.0.own) × (s.accepted ≤ s.asks) };
+        × (s.accepted ≡ length s.seat.me.0.own) × (s.accepted ≤ s.asks)
+        × IsSlotOf s.ring.value.capacity s.place s.slot };
 }
 
 impl Sender {
@@ -132,7 +136,10 @@ impl Sender {
         ) {
             Ok(place) => {
                 pause();
-                self.ring.ready(&mut self.seat, place, parcel);
+                let slot = self.ring.slot_from(place, self.place, self.slot);
+                self.ring.ready(&mut self.seat, place, slot, parcel);
+                self.place = place;
+                self.slot = slot;
                 self.accepted += 1;
                 Ok(())
             }

@@ -4,17 +4,17 @@ use Rattle.subvl_queue.proofs.ring.Ring.ready.Goals as goal
 
 pub exchange-requires : goal.exchange-requires
 exchange-requires c =
-    let slot = c.requires.slot in
-    (c.requires.seat.0, (None, slot ∙ (λ k. (sym c.slot_of-slot.ensures.0 k, None) ∷ rest (sym slot k))))
+    let held = c.requires.held in
+    (c.requires.seat.0, (None, held ∙ (λ k. (sym c.requires.slot.0 k, None) ∷ rest (sym held k))))
 
 pub store-requires : goal.store-requires
 store-requires c =
-    let held = c.requires.slot in
+    let held = c.requires.held in
     let view = c.requires.view in
     let item = c.requires.item in
     let me = c.exchange.ensures.3 in
     let capacity = c.args.self.now.sized.1 in
-    let slot = c.slot_of-slot.ensures.0 ∙ (λ k. sym item.0 k % sym capacity k) ∙ ap (λ m. m.0.at % c.args.self.now.table.shared.table_id.slots) (sym me) in
+    let slot = c.requires.slot.0 ∙ (λ k. sym item.0 k % sym capacity k) ∙ ap (λ m. m.0.at % c.args.self.now.table.shared.table_id.slots) (sym me) in
     let at = ap (λ m. m.0.at) me ∙ item.0 in (
       search rules,
       search rules,
