@@ -1,4 +1,5 @@
 pub mod Roles
+pub mod Buffered
 pub mod Checksum
 pub mod Frame
 pub mod Cutting

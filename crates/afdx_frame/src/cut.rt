@@ -9,11 +9,11 @@ ghost use Rattle.afdx_frame.specs.Fragments.{blanked, fragments_at, fragments_le
 ghost use Rattle.afdx_frame.specs.declared.net.Net.{Net as Network};
 ghost use Rattle.afdx_frame.specs.Cutting.{Cutting, IsCut, cutting, pieces_from, pieces_left, piece_at, SameMessage, TakesFirst, written};
 
+use crate::buffer::FrameBuffer;
 use crate::net::{Frame, Net};
 use crate::piece::Piece;
 use crate::write::write_frame;
 use afdx_plan::{LinkPlan, PortPlan};
-use arrayvec::ArrayVec;
 use std::marker::Model;
 
 /// A message of a port at a place of its sub-VL, given frame by frame. The datagram's bytes before
@@ -24,10 +24,12 @@ pub struct Cut {
     place: u64,
     port: PortPlan,
     start: usize,
+    // The length of the datagram.
+    end: usize,
 }
 
 impl Model for Cut {
-    ghost use Rattle.std.specs.Prelude.{vec_capacity};
+    ghost use Rattle.std.specs.Prelude.{◌≡◌, ◌+◌, length, vec_capacity};
     ghost use Rattle.afdx_frame.specs.Cutting.{Cutting, IsCut};
 
     ghost Value = { Cutting };
@@ -40,7 +42,7 @@ impl Model for Cut {
       start = c.start;
     } };
 
-    ghost invariant = { λ c. IsCut c.port c.bytes.items c.start };
+    ghost invariant = { λ c. IsCut c.port c.bytes.items c.start × (c.end ≡ 8 + length c.bytes.items) };
 }
 
 /// The next piece, if there is one. If the rest doesn't fit into the room, the piece is the
@@ -89,11 +91,13 @@ impl Cut {
             ≡ fragments_at end_system room net place
             (record { port = port.now; bytes = bytes.items }) }
     {
+        let end = 8 + bytes.len();
         Cut {
             bytes,
             place,
             port: *port,
             start: 0,
+            end,
         }
     }
 
@@ -101,7 +105,7 @@ impl Cut {
     pub fn is_done(&self) -> bool
         ensures { (room : ℕ) → IsTrue result ↔ (pieces_left room self.now ≡ []) }
     {
-        self.start == 8 + self.bytes.len()
+        self.start == self.end
     }
 
     /// Returns the frame of the next piece, with this sequence number, for this network. Returns
@@ -129,11 +133,11 @@ impl Cut {
             ≡ blanked frame.items
             ∷ fragments_left end_system (room_of link.now.lmax) net self.new) }
     {
-        let mut frame = ArrayVec::new();
+        let mut frame = FrameBuffer::new();
         if !self.write_next(link, end_system, number, net, &mut frame) {
             return None;
         }
-        Some(frame)
+        Some(frame.to_frame())
     }
 
     /// As `next_frame`, into the caller's buffer, which it overwrites. Returns whether a piece was
@@ -145,7 +149,7 @@ impl Cut {
         end_system: u16,
         number: u8,
         net: Net,
-        out: &mut Frame,
+        out: &mut FrameBuffer,
     ) -> bool
         requires { SendsOver self.old.port link.now }
         ensures frame { TakesFirst
@@ -166,7 +170,7 @@ impl Cut {
         ensures none { result ≡ false → out.new ≡ out.old }
     {
         let room = link.lmax.room() as usize;
-        let Some(piece) = next_piece(room, 8 + self.bytes.len(), self.start) else {
+        let Some(piece) = next_piece(room, self.end, self.start) else {
             return false;
         };
         write_frame(

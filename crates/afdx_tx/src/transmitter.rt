@@ -14,7 +14,7 @@ use crate::gather::gather_links;
 use crate::port::TxPort;
 use crate::report::{Release, Report};
 use crate::routing::link_of_sub;
-use afdx_frame::Frame;
+use afdx_frame::FrameBuffer;
 use afdx_plan::{Config, Networks, VlId};
 use arrayvec::ArrayVec;
 use redundant_mux::{Mux, Network};
@@ -37,7 +37,7 @@ fn note(released: &mut ArrayVec<Release, 64>, vl: VlId, did: &Served)
 /// Gives each link its turn, in order.
 fn serve_all<A: Network + Drop, B: Network + Drop>(
     links: &mut [Link],
-    frame: &mut Frame,
+    frame: &mut FrameBuffer,
     mux: &mut Mux<A, B>,
     now: u64,
     released: &mut ArrayVec<Release, 64>,
@@ -114,7 +114,7 @@ pub struct Transmitter<A: Network + Drop, B: Network + Drop> {
     links: BoxedSlice<Link>,
     pub(crate) mux: Mux<A, B>,
     // The buffer of each frame.
-    frame: Frame,
+    frame: FrameBuffer,
     pub(crate) moment: u64,
     pub(crate) board: Board,
 }
@@ -173,7 +173,7 @@ impl<A: Network + Drop, B: Network + Drop> Transmitter<A, B> {
             config,
             links: links.into_boxed_slice(),
             mux: Mux::new(a, b),
-            frame: Frame::new(),
+            frame: FrameBuffer::new(),
             moment: 0,
             board,
         }

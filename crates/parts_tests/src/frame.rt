@@ -3,7 +3,7 @@ ghost use Rattle.std.specs.Prelude.{◌≡◌, ◌<◌, ◌≤◌};
 ghost use Rattle.afdx_plan.specs.Plan.{IsPort, SendsOver};
 
 use crate::testing::*;
-use afdx_frame::{Cut, Frame, Net, ident_of, more_of, offset_of, sn_of, sub_of, twin, vl_of};
+use afdx_frame::{Cut, Frame, FrameBuffer, Net, ident_of, more_of, offset_of, sn_of, sub_of, twin, vl_of};
 use afdx_plan::{Bag, Kind, LinkPlan, Lmax, Networks, PortId, PortPlan, UdpSum, VlId};
 
 /// The demonstration port's message 01 at place 0, with number 0.
@@ -118,12 +118,12 @@ fn a_short_message_is_one_padded_frame(rt: HostRuntime) {
 #[test]
 fn the_twin_differs_in_the_interface_alone(rt: HostRuntime) {
     let mut cut = cut_of_one(&rt, &demo_port(), 0);
-    let mut frame = Frame::new();
+    let mut frame = FrameBuffer::new();
     let was_left = cut.write_next(&link(Lmax::new(1518), 1), 1, 0, Net::B, &mut frame);
     assert_same(&rt, was_left, true);
     let expected = first_frame_for_b();
     assert_same(&rt, frame.as_slice(), expected.as_slice());
-    let twin = twin(&frame, Net::A);
+    let twin = twin(&frame.to_frame(), Net::A);
     assert_same(&rt, twin.as_slice(), FIRST_FRAME.as_slice());
 }
 

@@ -11,5 +11,5 @@ mod trail;
 pub use memory::{Handed, MemNetwork};
 pub use mux::{BothDown, Mux, Standing};
 pub use network::{HandFault, Network};
-pub use outbox::{Outbox, ROOM};
+pub use outbox::{Kept, Outbox, ROOM};
 pub use trail::Trail;

@@ -9,7 +9,7 @@ ghost use Rattle.redundant_mux.specs.Lines.{Handing, BothEndure, some_of, stands
 
 use crate::network::Network;
 use crate::trail::Trail;
-use afdx_frame::{Frame, GREATEST_FRAME, Net, make_twin, twin};
+use afdx_frame::{Frame, FrameBuffer, GREATEST_FRAME, Net};
 use afdx_plan::Networks;
 use std::marker::Model;
 
@@ -88,21 +88,20 @@ fn hand_twin<N: Network + Drop>(
     stands: &mut bool,
     named: bool,
     at: u64,
-    frame: &mut [u8],
+    frame: &mut FrameBuffer,
 )
-    requires for_a { twin_of ForA frame.old ≡ frame.old }
-    requires short { length frame.old ≤ GREATEST_FRAME }
+    requires for_a { twin_of ForA frame.old.items ≡ frame.old.items }
     requires unfailed { stands.old ≡ true → N.failures network.old ≡ 0 }
-    ensures handing { Handing named (entry at (twin_of ForB frame.old)) stands.old stands.new
+    ensures handing { Handing named (entry at (twin_of ForB frame.old.items)) stands.old stands.new
         (N.handed network.old) (N.handed network.new)
         (N.failures network.old) (N.failures network.new) }
     ensures unfailed { stands.new ≡ true → N.failures network.new ≡ 0 }
-    ensures same { frame.new ≡ frame.old }
+    ensures same { frame.new.items ≡ frame.old.items }
 {
     if named && *stands {
-        make_twin(frame, Net::B);
-        hand_to(network, stands, true, at, frame);
-        make_twin(frame, Net::A);
+        frame.turn(Net::B);
+        hand_to(network, stands, true, at, frame.as_slice());
+        frame.turn(Net::A);
     }
 }
 
@@ -214,7 +213,10 @@ impl<A: Network + Drop, B: Network + Drop> Mux<A, B> {
         ensures a_stands { IfOk result (λ standing. standing.a ≡ self.new.a_stands) }
         ensures b_stands { IfOk result (λ standing. standing.b ≡ self.new.b_stands) }
     {
-        self.hand_lent(at, &mut twin(frame, Net::A), networks)
+        let mut lent = FrameBuffer::new();
+        lent.fill(frame);
+        lent.turn(Net::A);
+        self.hand_lent(at, &mut lent, networks)
     }
 
     /// As `hand`, with a frame that is lent: the twin for B is made in its bytes, which are the same afterwards.
@@ -222,7 +224,7 @@ impl<A: Network + Drop, B: Network + Drop> Mux<A, B> {
     pub fn hand_lent(
         &mut self,
         at: u64,
-        frame: &mut Frame,
+        frame: &mut FrameBuffer,
         networks: Networks,
     ) -> Result<Standing, BothDown>
         requires { twin_of ForA frame.old.items ≡ frame.old.items }
@@ -248,10 +250,16 @@ impl<A: Network + Drop, B: Network + Drop> Mux<A, B> {
         }
         let named_a = networks.names_a();
         let named_b = networks.names_b();
-        hand_to(&mut self.a, &mut self.standing.a, named_a, at, frame);
+        hand_to(
+            &mut self.a,
+            &mut self.standing.a,
+            named_a,
+            at,
+            frame.as_slice(),
+        );
         hand_twin(&mut self.b, &mut self.standing.b, named_b, at, frame);
         let taken = self.standing.has_one_of(networks);
-        note(&mut self.trail, taken, networks, at, frame);
+        note(&mut self.trail, taken, networks, at, frame.as_slice());
         Ok(self.standing)
     }
 }

@@ -1,9 +1,9 @@
 //! A network that keeps the last frames that it accepted.
 ghost use Rattle.std.specs.Prelude.{◌≡◌, length, IfOk};
 
-use crate::memory::Handed;
 use crate::network::{HandFault, Network};
 use crate::trail::Trail;
+use afdx_frame::FrameBuffer;
 use afdx_plan::Networks;
 use std::alloc::{AllocError, Global};
 use std::boxed::BoxedSlice;
@@ -14,12 +14,19 @@ use std::sync::atomic::{AtomicBool, Ordering};
 /// The number of frames that are kept: the most of one poll, one per virtual link.
 pub const ROOM: usize = 64;
 
+/// A frame that is kept until 64 more were accepted, and its time in microseconds.
+#[derive(Drop)]
+pub struct Kept {
+    pub at: u64,
+    pub frame: FrameBuffer,
+}
+
 /// A network that keeps the last 64 frames that it accepted, by their numbers, and fails each
 /// `hand` while its flag is set. Contracts see all frames that it accepted, and the failures.
 #[derive(Drop)]
 pub struct Outbox {
     // Frame n is in slot n modulo 64.
-    slots: BoxedSlice<Handed>,
+    slots: BoxedSlice<Kept>,
     count: u64,
     failures: u64,
     fails: Arc<AtomicBool, Global>,
@@ -43,12 +50,15 @@ impl Model for Outbox {
 }
 
 /// 64 empty slots.
-fn make_slots(alloc: Global) -> Result<Vec<Handed>, AllocError>
+fn make_slots(alloc: Global) -> Result<Vec<Kept>, AllocError>
     ensures { IfOk result (λ slots. length slots.items ≡ 64) }
 {
     let mut slots = Vec::with_capacity(alloc, ROOM)?;
     for _ in 0..ROOM {
-        slots.push(Handed::empty())?;
+        slots.push(Kept {
+            at: 0,
+            frame: FrameBuffer::new(),
+        })?;
     }
     Ok(slots)
 }
@@ -56,7 +66,7 @@ fn make_slots(alloc: Global) -> Result<Vec<Handed>, AllocError>
 impl Outbox {
     ghost use Rattle.std.specs.Prelude.{◌≡◌, ◌↔◌, [], length, IsSome, IfSome, IfOk};
     ghost use Rattle.redundant_mux.specs.Outbox.{IsAmongLast, entry_at};
-    ghost use Rattle.redundant_mux.specs.Memory.{entry_of};
+    ghost use Rattle.redundant_mux.specs.Outbox.{kept_entry};
 
     /// An outbox without frames. It fails each `hand` while `fails` is set. No later call
     /// allocates.
@@ -80,9 +90,9 @@ impl Outbox {
     }
 
     /// The frame with this number, from 0, or `None` exactly if it isn't among the last 64.
-    pub fn frame(&self, number: u64) -> Option<&Handed>
+    pub fn frame(&self, number: u64) -> Option<&Kept>
         ensures some { IsSome result ↔ IsAmongLast (length self.now.handed) number }
-        ensures frame { IfSome result (λ kept. entry_of kept.now ≡ entry_at self.now.handed number) }
+        ensures frame { IfSome result (λ kept. kept_entry kept.now ≡ entry_at self.now.handed number) }
     {
         if number >= self.count || self.count - number > ROOM as u64 {
             return None;
@@ -105,7 +115,9 @@ impl Network for Outbox {
             self.failures += 1;
             return Err(HandFault);
         }
-        self.slots[(self.count % ROOM as u64) as usize].fill(at, frame);
+        let slot = &mut self.slots[(self.count % ROOM as u64) as usize];
+        slot.at = at;
+        slot.frame.fill(frame);
         self.count += 1;
         // Contracts read the entries alone, so any `Networks` will do.
         self.trail = Trail::with(&self.trail, &Networks::Both, &at, frame);

@@ -11,7 +11,7 @@ use crate::queues::{gather_told, send_paused_told, send_told, take_told};
 use crate::quiet::tell_fields;
 use crate::shelf::{Shelf, empty_shelf};
 use crate::trouble::*;
-use afdx_frame::{Cut, Frame, Net, twin};
+use afdx_frame::{Cut, Frame, FrameBuffer, Net, twin};
 use afdx_plan::laws::flows_apart;
 use afdx_plan::{Bag, Config, Networks, jitter_ns};
 use redundant_mux::{MemNetwork, Mux};
@@ -137,7 +137,7 @@ fn use_cut(out: &mut Out<'_>, config: &Config, message: Vec<u8>) {
     }
     let (second, is_done) = {
         let mut cut = Cut::new(message, 0, &port);
-        let mut first = Frame::new();
+        let mut first = FrameBuffer::new();
         let _is_written = cut.write_next(&link, 1, 0, Net::A, &mut first);
         let second = cut.next_frame(&link, 1, 1, Net::A).unwrap_or_default();
         (second, cut.is_done())

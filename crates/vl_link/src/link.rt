@@ -11,7 +11,7 @@ ghost use Rattle.vl_link.specs.LinkGathering.{AreFullSubs, GathersSubs};
 use crate::count::counts_after;
 use crate::served::Served;
 use crate::sub::Sub;
-use afdx_frame::Frame;
+use afdx_frame::FrameBuffer;
 use afdx_plan::{LinkPlan, VlId};
 use redundant_mux::{Mux, Network};
 use status_board::Counts;
@@ -43,7 +43,7 @@ fn serve_due<A: Network + Drop, B: Network + Drop>(
     plan: &LinkPlan,
     shaper: &mut Shaper,
     subs: &mut [Sub],
-    frame: &mut Frame,
+    frame: &mut FrameBuffer,
     mux: &mut Mux<A, B>,
     now: u64,
 ) -> Served
@@ -240,7 +240,7 @@ impl Link {
     /// in the caller's buffer.
     pub fn serve<A: Network + Drop, B: Network + Drop>(
         &mut self,
-        frame: &mut Frame,
+        frame: &mut FrameBuffer,
         mux: &mut Mux<A, B>,
         now: u64,
     ) -> Served
@@ -267,7 +267,7 @@ impl Link {
             now,
         );
         self.lost = self.lost || did.is_lost();
-        self.counts = counts_after(&self.counts, &did, now, frame);
+        self.counts = counts_after(&self.counts, &did, now, frame.as_slice());
         did
     }
 

@@ -8,7 +8,7 @@ ghost use Rattle.vl_link.specs.Links.{left_of, TellsCutting};
 
 use crate::queue::Queue;
 use crate::sub_vl::SubVl;
-use afdx_frame::{Cut, Frame, Net};
+use afdx_frame::{Cut, FrameBuffer, Net};
 use afdx_plan::PortPlan;
 use std::alloc::AllocError;
 use std::boxed::BoxedSlice;
@@ -91,8 +91,8 @@ impl Sub {
             None => false,
             Some(item) => {
                 let Item { port, bytes } = item;
-                let sender = self.ports[usize::from(port)];
-                self.sending = Some(Cut::new(bytes, u64::from(self.place), &sender));
+                let sender = &self.ports[usize::from(port)];
+                self.sending = Some(Cut::new(bytes, u64::from(self.place), sender));
                 self.place = (self.place + 1) % 16384;
                 true
             }
@@ -108,13 +108,13 @@ impl Sub {
 
     /// Writes the next frame, for network A and with this sequence number, into the caller's
     /// buffer.
-    pub fn write_next(&mut self, number: u8, out: &mut Frame)
+    pub fn write_next(&mut self, number: u8, out: &mut FrameBuffer)
         requires { self.old.left ≢ [] }
         ensures left { self.old.left ≡ blanked out.new.items ∷ self.new.left }
         ensures frame { IsFrameOf self.old.of.link.id.0 self.old.of.sub number ForA out.new.items }
         ensures same { self.new ≡ record self.old { left = self.new.left } }
     {
-        let of = self.of;
+        let of = &self.of;
         match &mut self.sending {
             None => unreachable!(),
             Some(cut) => {

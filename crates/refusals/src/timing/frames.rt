@@ -5,7 +5,7 @@ ghost use Rattle.redundant_mux.specs.Logged.{entries_of};
 
 use super::{Load, message, now};
 use crate::trouble::*;
-use afdx_frame::{Cut, Frame, Net};
+use afdx_frame::{Cut, FrameBuffer, Net};
 use afdx_plan::{Config, LinkPlan, Networks};
 use redundant_mux::{HandFault, Mux, Network, Trail};
 use script_text::{FrameLog, write_streams};
@@ -58,7 +58,7 @@ impl Network for Touch {
 #[tactic(auto, using(afdx_frame::proofs::Twins::twin_same))]
 fn send_cut<N: Network + Drop>(
     mux: &mut Mux<N, N>,
-    frame: &mut Frame,
+    frame: &mut FrameBuffer,
     link: &LinkPlan,
     cut: &mut Cut,
 )
@@ -75,7 +75,7 @@ fn send_cut<N: Network + Drop>(
 /// Cuts messages of the first port of a configuration, and sends the frames to both networks.
 fn send_all<N: Network + Drop>(
     mux: &mut Mux<N, N>,
-    frame: &mut Frame,
+    frame: &mut FrameBuffer,
     config: &Config,
     messages: Vec<Vec<u8>>,
 ) -> Ended {
@@ -107,7 +107,7 @@ fn make_messages(alloc: Global, count: u32, size: usize) -> Result<Vec<Vec<u8>>,
 /// The nanoseconds of cutting messages of a size into the frames for both networks.
 pub fn time(rt: &HostRuntime, config: &Config, load: Load) -> Result<u64, Trouble> {
     let mut mux = Mux::new(Touch::new(), Touch::new());
-    let mut frame = Frame::new();
+    let mut frame = FrameBuffer::new();
     let mut nanos = 0u64;
     for _ in 0..load.units / BATCH {
         let messages = make_messages(rt.alloc(), BATCH, load.size)?;
@@ -127,7 +127,7 @@ pub fn time(rt: &HostRuntime, config: &Config, load: Load) -> Result<u64, Troubl
 pub fn tell(alloc: Global, out: &mut Out<'_>, config: &Config, size: usize) -> Ended {
     let mut mux = Mux::new(FrameLog::new(alloc), FrameLog::new(alloc));
     let messages = make_messages(alloc, 1, size)?;
-    send_all(&mut mux, &mut Frame::new(), config, messages)?;
+    send_all(&mut mux, &mut FrameBuffer::new(), config, messages)?;
     let (a, b) = mux.into_networks();
     let is_printed = write_streams(out.writer(), &a, &b).is_ok();
     out.note(is_printed);

@@ -25,9 +25,8 @@ returns-clause-frame c =
       capacity = vec_capacity c.self.inside.bytes;
       start = c.self.inside.start;
     } in
-    let size : c.len.result ≡ length cut.bytes = grind arith in
     let first : c.in-Some.piece ≡ piece_at room (8 + length cut.bytes) cut.start =
-    rw (← c.room-room.ensures.value, ← size) c.in-Some.ensures.1 in
+    rw (← c.room-room.ensures.value, ← c.self.invariant.1) c.in-Some.ensures.1 in
     rw (← c.self.view_is) (rw (left_first room cut (omega arith) (omega (arith, c.in-Some.ensures.0)))
     (rw (c.write_frame.ensures, c.deref.ensures.value, first) refl, rw first refl))
 
@@ -46,5 +45,5 @@ returns-clause-header c =
     let says : IsFrameOf c.self.inside.port.vl.0 c.self.inside.port.sub c.args.number c.args.net c.write_frame.new.out.items =
     rw c.write_frame.ensures
     (header_says c.args.end_system c.self.inside.port c.deref.result.now c.self.inside.place c.in-Some.piece
-    c.args.net c.args.number c.self.invariant.port within) in
+    c.args.net c.args.number c.self.invariant.0.port within) in
     λ _. subst (λ (cut : Cutting). IsFrameOf cut.port.vl.0 cut.port.sub c.args.number c.args.net c.write_frame.new.out.items) c.self.view_is says

@@ -1,5 +1,4 @@
-use Rattle.std.proofs.Common.{ap, length, ◌∙◌}
-use Rattle.arrayvec.proofs.ArrayVecLemmas.{items-with_items}
+use Rattle.std.proofs.Common.{ap, ◌∙◌}
 use Rattle.redundant_mux.specs.Entry.{entry}
 use Rattle.redundant_mux.specs.Lines.{lines_of, IsMirrored}
 use Rattle.redundant_mux.proofs.Enduring.{both_hands}
@@ -14,10 +13,9 @@ left : (g : Given.Over) (c : goal.After-result-1 g)
     c.hand_to.new.stands c.hand_twin.new.stands c.note.new.trail.logged)
 left g c =
     let for_a = ap (entry c.args.at) c.requires in
-    let undone = c.hand_twin.ensures.same ∙ c.deref_mut.ensures.value in
-    let same = c.deref-2.ensures.0 ∙ items-with_items c.args.frame.now c.hand_twin.new.frame (ap length undone) ∙ undone in
-    let a = rw (c.names_a-named_a.ensures, c.deref.ensures.0) at c.hand_to.ensures.handing in
-    let b = rw (c.names_b-named_b.ensures, c.deref_mut.ensures.value) at c.hand_twin.ensures.handing in
+    let same = c.as_slice-2.ensures.value ∙ c.hand_twin.ensures.same in
+    let a = rw (c.names_a-named_a.ensures, c.as_slice.ensures.value) at c.hand_to.ensures.handing in
+    let b = rw c.names_b-named_b.ensures at c.hand_twin.ensures.handing in
     handed_on _ _ c.args.networks (entry c.args.at c.args.frame.now.items) c.self.invariant.mirrored for_a a b
     (rw (c.has_one_of-taken.ensures, same) at c.note.ensures.taken)
     (rw (c.has_one_of-taken.ensures) at c.note.ensures.lost)

@@ -24,7 +24,7 @@ returns-clause-counted g c =
     c.counts_after-self-inside.ensures (link_stream vl (log c.args.mux.now))
     (rw (← c.self.view_is) at c.requires.counted)
     ∙ ap (λ (frame : List ℕ). counts_in (link_stream vl (log c.args.mux.now) ++ entered c.args.now c.serve_due-did.result frame))
-    c.deref.ensures.0
+    c.as_slice.ensures.value
     ∙ ap counts_in (sym c.serve_due-did.ensures.entered)
 
 pub returns-clause-same : goal.returns-clause-same

@@ -13,18 +13,18 @@ has_port c =
 -- The cut is of this sub-VL.
 own : (c : goal.After-self-in-Some-1) → IsCutOf c.self.inside.of c.new.result
 own c =
-    let port = subst (IsPortOf c.self.inside.of) (sym c.index.ensures)
-    (c.self.invariant.senders c.from.result c.index.result.now (has_port c)) in
+    let port = subst (IsPortOf c.self.inside.of) (sym c.index-sender.ensures)
+    (c.self.invariant.senders c.from.result c.index-sender.result.now (has_port c)) in
     let same = c.new.ensures.message.0 in
     record { over = rw same port.over; of_sub = rw same port.of_sub }
 
 -- The cut message is the found one.
 cut_is : (c : goal.After-self-in-Some-1)
-    → record { port = c.index.result.now; bytes = c.item.inside.bytes.items } ≡ sent_of c.self.inside.ports.items.items c.in-Some.item
+    → record { port = c.index-sender.result.now; bytes = c.item.inside.bytes.items } ≡ sent_of c.self.inside.ports.items.items c.in-Some.item
 cut_is c =
     let place = c.from.ensures ∙ ap (λ (i : ℕ × List ℕ). i.0) c.item.view_is in
-    let sender = get_or_read c.self.inside.ports.items.items c.from.result c.index.result.now (has_port c)
-    c.index.ensures (port_plan_at [] 0) in
+    let sender = get_or_read c.self.inside.ports.items.items c.from.result c.index-sender.result.now (has_port c)
+    c.index-sender.ensures (port_plan_at [] 0) in
     λ i. record {
       port = (sender ∙ ap (port_plan_at c.self.inside.ports.items.items) place) i;
       bytes = (c.item.view_is i).1;
@@ -40,7 +40,7 @@ returns-in-Some c =
     let of = c.self.inside.of in
     let left = c.new.ensures.fragments of.end_system (room_of of.link.lmax) A
     ∙ ap (λ (place : ℕ). message_fragments c.self.inside.of place
-    (record { port = c.index.result.now; bytes = c.item.inside.bytes.items })) (c.from-in-Some.ensures ∙ c.self.invariant.place)
+    (record { port = c.index-sender.result.now; bytes = c.item.inside.bytes.items })) (c.from-in-Some.ensures ∙ c.self.invariant.place)
     ∙ ap (message_fragments c.self.inside.of (length (taken_of (seen_of c.self.inside.queue)) % 16384)) (cut_is c)
     ∙ fragments_again of.end_system (room_of of.link.lmax) A (length (taken_of (seen_of c.self.inside.queue)))
     (sent_of c.self.inside.ports.items.items c.in-Some.item) in

@@ -1,0 +1,94 @@
+//! The buffer of a frame, which is overwritten in place.
+ghost use Rattle.std.specs.Prelude.{◌≡◌, ◌≤◌, [], length, take};
+ghost use Rattle.afdx_frame.specs.Twin.{twin_of};
+
+use crate::net::{Frame, GREATEST_FRAME, INTERFACE_PLACE, Net, SHORTEST_FRAME};
+use crate::put::{append, put};
+use crate::write::interface;
+use arrayvec::ArrayVec;
+use std::marker::Model;
+
+/// A frame, over what longer ones left in its buffer: unlike a `Frame`, it is never blanked. Contracts see the
+/// bytes of the frame.
+#[derive(Drop)]
+pub struct FrameBuffer {
+    pub(crate) bytes: [u8; GREATEST_FRAME],
+    // The length of the frame.
+    pub(crate) len: usize,
+}
+
+impl Model for FrameBuffer {
+    ghost use Rattle.std.specs.Prelude.{◌≤◌, take};
+    ghost use Rattle.afdx_frame.specs.declared.net.TheConstants.{GREATEST_FRAME};
+    ghost use Rattle.afdx_frame.specs.Buffered.{Buffered};
+
+    ghost Value = { Buffered };
+
+    ghost view = { λ b. record { items = take b.len b.bytes } };
+
+    ghost invariant = { λ b. b.len ≤ GREATEST_FRAME };
+}
+
+/// Overwrites the first bytes.
+#[inline(always)]
+fn put_front(out: &mut [u8; GREATEST_FRAME], frame: &[u8])
+    requires { length frame.now ≤ GREATEST_FRAME }
+    ensures { take (length frame.now) out.new ≡ frame.now }
+{
+    if frame.len() == SHORTEST_FRAME {
+        // A copy of a fixed length is no call.
+        put(out, 0, &frame[..SHORTEST_FRAME]);
+    } else {
+        put(out, 0, frame);
+    }
+}
+
+impl FrameBuffer {
+    /// A buffer without a frame.
+    pub fn new() -> FrameBuffer
+        ensures { result.items ≡ [] }
+    {
+        FrameBuffer {
+            bytes: [0; GREATEST_FRAME],
+            len: 0,
+        }
+    }
+
+    /// The frame.
+    #[inline(always)]
+    pub fn as_slice(&self) -> &[u8]
+        ensures value { result.now ≡ self.now.items }
+        ensures short { length result.now ≤ GREATEST_FRAME }
+    {
+        &self.bytes[..self.len]
+    }
+
+    /// Copies a frame in.
+    #[inline(always)]
+    pub fn fill(&mut self, frame: &[u8])
+        requires { length frame.now ≤ GREATEST_FRAME }
+        ensures { self.new.items ≡ frame.now }
+    {
+        put_front(&mut self.bytes, frame);
+        self.len = frame.len();
+    }
+
+    /// Turns the frame into its twin for a network, as `make_twin`.
+    #[inline(always)]
+    pub fn turn(&mut self, net: Net)
+        ensures { self.new.items ≡ twin_of net self.old.items }
+    {
+        if INTERFACE_PLACE < self.len {
+            self.bytes[INTERFACE_PLACE] = interface(net);
+        }
+    }
+
+    /// Returns a copy of the frame.
+    pub fn to_frame(&self) -> Frame
+        ensures { result.items ≡ self.now.items }
+    {
+        let mut frame: Frame = ArrayVec::new();
+        append(&mut frame, self.as_slice());
+        frame
+    }
+}
