@@ -1,5 +1,6 @@
 -- An emitter and its polls, before and after its ports are gathered.
-use Rattle.std.specs.Prelude.{ℕ, ◌≡◌, ◌-◌, ◌^◌, List, Bool, true, false, Option, Some, None}
+use Rattle.std.specs.Prelude.{ℕ, ◌≡◌, ◌-◌, ◌^◌, ◌≤◌, List, length, Bool, true, false, Option, Some, None}
+use Rattle.redundant_mux.specs.declared.mux.Standing.{Standing}
 use Rattle.redundant_mux.specs.Lines.{BothEndure, IsMirrored, log}
 use Rattle.afdx_legal.specs.Legal.{Accepted, IsLegal}
 use Rattle.afdx_legal.specs.Allowed.{AreAllowed}
@@ -69,3 +70,10 @@ pub record PollsTx (gathered : Bool) (now : ℕ) (old : Tx) (report : Report) (n
   pub plan : new.plan ≡ old.plan
   pub board : new.board ≡ old.board
   pub messages : KeepsMessages gathered old new
+
+-- A poll at `now` without a report: the networks that are up, and what the report would have been.
+pub record PollsStage (gathered : Bool) (now : ℕ) (old : Tx) (standing : Standing) (new : Tx) : Type 0 where
+  pub report : Report
+  pub stands : report.standing ≡ standing
+  pub few : length report.released.items ≤ 64
+  pub polls : PollsTx gathered now old report new

@@ -10,7 +10,6 @@ use crate::stage::Stage;
 use afdx_frame::Net;
 use afdx_plan::VlId;
 use afdx_tx::TxPort;
-use redundant_mux::ROOM;
 use status_board::Counts;
 use std::alloc::Global;
 use std::marker::Model;
@@ -83,14 +82,13 @@ impl EndSystem {
         }
         let a_before = self.stage.network(Net::A).count();
         let b_before = self.stage.network(Net::B).count();
-        let Ok(report) = self.stage.poll(now) else {
+        let Ok(up) = self.stage.poll(now) else {
             *standing = 0;
             return BOTH_DOWN;
         };
-        prove!(report.released.len() <= ROOM);
         self.a.before = a_before;
         self.b.before = b_before;
-        *standing = standing_bits(report.standing);
+        *standing = standing_bits(up);
         DONE
     }
 

@@ -3,8 +3,8 @@ ghost use Rattle.std.specs.Prelude.{◌≡◌, ℕ};
 
 use afdx_frame::Net;
 use afdx_plan::{Config, VlId};
-use afdx_tx::{Draining, Emitter, PollFault, Report};
-use redundant_mux::Outbox;
+use afdx_tx::{Draining, Emitter, PollFault};
+use redundant_mux::{Outbox, Standing};
 use status_board::Counts;
 
 /// An emitter over two outboxes, before or after its ports are gathered.
@@ -22,7 +22,7 @@ impl Stage {
     ghost use Rattle.afdx_legal.specs.Counting.{counts_in};
     ghost use Rattle.afdx_legal.specs.Own.{own_stream};
     ghost use Rattle.afdx_handle.specs.Numbers.{line_of};
-    ghost use Rattle.afdx_handle.specs.Polling.{tx_of, is_gathered, PollsTx};
+    ghost use Rattle.afdx_handle.specs.Polling.{tx_of, is_gathered, PollsStage};
 
     /// The time of the last poll, in microseconds.
     pub fn now(&self) -> u64
@@ -78,19 +78,20 @@ impl Stage {
         }
     }
 
-    /// Gives each link its turn at `now`, in microseconds. An error changes nothing.
+    /// Gives each link its turn at `now`, in microseconds, and returns which networks are up. An error changes
+    /// nothing.
     #[inline(always)]
-    pub fn poll(&mut self, now: u64) -> Result<Report, PollFault>
+    pub fn poll(&mut self, now: u64) -> Result<Standing, PollFault>
         requires { (tx_of self.old).moment ≤ now }
         ensures both_down { IsErr result ↔ (is_alive (tx_of self.old).lines ≡ false) }
         ensures unchanged { OnErr result (self.new ≡ self.old) }
         ensures stage { is_gathered self.new ≡ is_gathered self.old }
-        ensures polled { IfOk result (λ report.
-            PollsTx (is_gathered self.old) now (tx_of self.old) report (tx_of self.new)) }
+        ensures polled { IfOk result (λ standing.
+            PollsStage (is_gathered self.old) now (tx_of self.old) standing (tx_of self.new)) }
     {
         match self {
-            Stage::Sending(emitter) => Ok(emitter.poll(now)?),
-            Stage::Draining(draining) => Ok(draining.poll(now)?),
+            Stage::Sending(emitter) => Ok(emitter.poll_unreported(now)?),
+            Stage::Draining(draining) => Ok(draining.poll_unreported(now)?),
         }
     }
 }

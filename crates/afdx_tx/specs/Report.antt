@@ -1,9 +1,10 @@
 -- The report of a poll.
-use Rattle.std.specs.Prelude.{ℕ, ◌≡◌, List, [], ◌∷◌, ◌++◌, map}
+use Rattle.std.specs.Prelude.{ℕ, ◌≡◌, ◌≤◌, List, [], ◌∷◌, ◌++◌, length, map}
 use Rattle.afdx_plan.specs.declared.identifiers.VlId.{VlId}
 use Rattle.afdx_frame.specs.Header.{link_in, sub_in, number_in}
 use Rattle.redundant_mux.specs.Entry.{Entry}
 use Rattle.redundant_mux.specs.Lines.{Lines, log}
+use Rattle.redundant_mux.specs.declared.mux.Standing.{Standing}
 use Rattle.vl_link.specs.declared.served.Served.{Served}
 use Rattle.vl_link.specs.declared.served.Served.TheVariants.{Nothing, Released, Lost}
 use Rattle.afdx_tx.specs.declared.report.Release.{Release}
@@ -38,3 +39,10 @@ pub record Polls (now : ℕ) (old : Tx) (report : Report) (new : Tx) : Type 0 wh
   pub released : IsTold now report.released.items old.lines new.lines
   pub a_stands : report.standing.a ≡ new.lines.a_stands
   pub b_stands : report.standing.b ≡ new.lines.b_stands
+
+-- A poll without a report: the networks that are up, and what the report would have been.
+pub record PollsUnreported (now : ℕ) (old : Tx) (standing : Standing) (new : Tx) : Type 0 where
+  pub report : Report
+  pub stands : report.standing ≡ standing
+  pub few : length report.released.items ≤ 64
+  pub polls : Polls now old report new

@@ -3,7 +3,7 @@ use crate::fault::PollFault;
 use crate::report::Report;
 use crate::transmitter::Transmitter;
 use afdx_plan::{Config, VlId};
-use redundant_mux::Network;
+use redundant_mux::{Network, Standing};
 use status_board::{Counts, Monitor, laws};
 use std::marker::Model;
 use std::sync::Wait;
@@ -32,7 +32,7 @@ impl<A: Network + Drop, B: Network + Drop> Draining<A, B> {
     ghost use Rattle.afdx_legal.specs.Legal.{IsLegal};
     ghost use Rattle.afdx_legal.specs.Allowed.{AreAllowed};
     ghost use Rattle.afdx_legal.specs.Turns.{TakeTurns};
-    ghost use Rattle.afdx_tx.specs.Report.{Polls};
+    ghost use Rattle.afdx_tx.specs.Report.{Polls, PollsUnreported};
     ghost use Rattle.afdx_tx.specs.Publishing.{Publishes, ShowsCounts};
     ghost use Rattle.afdx_tx.specs.NextDue.{TellsNextDue};
     ghost use Rattle.afdx_legal.specs.Done.{IsAllDone};
@@ -133,6 +133,30 @@ impl<A: Network + Drop, B: Network + Drop> Draining<A, B> {
             (IsDrained now self.old.plan (accepted_in self.old.links) self.old.lines self.new.lines) }
     {
         self.inner.poll(now)
+    }
+
+    /// As `poll`, without a report: for a caller that asks the networks for the frames.
+    #[inline(always)]
+    pub fn poll_unreported(&mut self, now: u64) -> Result<Standing, PollFault>
+        requires { self.old.moment ≤ now }
+        ensures both_down { IsErr result ↔ (is_alive self.old.lines ≡ false) }
+        ensures unchanged { OnErr result (self.new ≡ self.old) }
+        ensures legal { IsLegal self.new.plan (accepted_in self.new.links)
+            self.new.lines.a self.new.lines.b }
+        ensures turns { TakeTurns self.new.plan self.new.lines.a self.new.lines.b }
+        ensures allowed { AreAllowed self.new.plan (accepted_in self.new.links) }
+        ensures plan { self.new.plan ≡ self.old.plan }
+        ensures board { self.new.board ≡ self.old.board }
+        ensures accepted { accepted_in self.new.links ≡ accepted_in self.old.links }
+        ensures mirrored { IsMirrored self.new.lines }
+        ensures streams { AreOwnStreams self.new.plan (log self.new.lines)
+            self.new.lines.a self.new.lines.b }
+        ensures endure { BothEndure self.old.lines self.new.lines }
+        ensures told { IfOk result (λ standing. PollsUnreported now self.old standing self.new) }
+        ensures run { OnOk result
+            (IsDrained now self.old.plan (accepted_in self.old.links) self.old.lines self.new.lines) }
+    {
+        self.inner.poll_unreported(now)
     }
 
     /// As `Emitter::publish`.

@@ -6,7 +6,7 @@ use crate::port::TxPort;
 use crate::report::Report;
 use crate::transmitter::Transmitter;
 use afdx_plan::{Config, VlId};
-use redundant_mux::Network;
+use redundant_mux::{Network, Standing};
 use status_board::Counts;
 use std::marker::Model;
 use std::sync::Wait;
@@ -37,7 +37,7 @@ impl<A: Network + Drop, B: Network + Drop> Emitter<A, B> {
     ghost use Rattle.afdx_tx.specs.Drain.{accepted_in};
     ghost use Rattle.afdx_tx.specs.Run.{IsRun};
     ghost use Rattle.afdx_legal.specs.Own.{AreOwnStreams};
-    ghost use Rattle.afdx_tx.specs.Report.{Polls};
+    ghost use Rattle.afdx_tx.specs.Report.{Polls, PollsUnreported};
     ghost use Rattle.afdx_tx.specs.Emitter.{AreTied, taken_in, queues_in, total_in};
     ghost use Rattle.afdx_tx.specs.Publishing.{Publishes, ShowsCounts};
     ghost use Rattle.afdx_tx.specs.NextDue.{TellsNextDue};
@@ -138,6 +138,31 @@ impl<A: Network + Drop, B: Network + Drop> Emitter<A, B> {
             (IsRun now self.old.links self.new.links self.old.lines self.new.lines) }
     {
         self.inner.poll(now)
+    }
+
+    /// As `poll`, without a report: for a caller that asks the networks for the frames.
+    #[inline(always)]
+    pub fn poll_unreported(&mut self, now: u64) -> Result<Standing, PollFault>
+        requires { self.old.moment ≤ now }
+        ensures both_down { IsErr result ↔ (is_alive self.old.lines ≡ false) }
+        ensures unchanged { OnErr result (self.new ≡ self.old) }
+        ensures legal { IsLegal self.new.plan (taken_in self.new.links) self.new.lines.a self.new.lines.b }
+        ensures turns { TakeTurns self.new.plan self.new.lines.a self.new.lines.b }
+        ensures allowed { AreAllowed self.new.plan (taken_in self.new.links) }
+        ensures tied { AreTied self.new.links (log self.new.lines) }
+        ensures plan { self.new.plan ≡ self.old.plan }
+        ensures board { self.new.board ≡ self.old.board }
+        ensures queues { queues_in self.new.links ≡ queues_in self.old.links }
+        ensures totals { (k s : ℕ) → total_in self.new.links k s ≡ total_in self.old.links k s }
+        ensures mirrored { IsMirrored self.new.lines }
+        ensures streams { AreOwnStreams self.new.plan (log self.new.lines)
+            self.new.lines.a self.new.lines.b }
+        ensures endure { BothEndure self.old.lines self.new.lines }
+        ensures told { IfOk result (λ standing. PollsUnreported now self.old standing self.new) }
+        ensures run { OnOk result
+            (IsRun now self.old.links self.new.links self.old.lines self.new.lines) }
+    {
+        self.inner.poll_unreported(now)
     }
 
     /// Closes a sub-VL, by its link and its index there, and returns the number of accepted

@@ -1,5 +1,6 @@
 //! All links over two networks, before and after the ports are taken back.
-ghost use Rattle.std.specs.Prelude.{◌≡◌, ◌<◌, ◌≤◌, ◌++◌, [], length};
+ghost use Rattle.std.specs.Prelude.{◌≡◌, ◌<◌, ◌≤◌, ◌++◌, List, [], length};
+ghost use Rattle.afdx_tx.specs.declared.report.Release.{Release};
 ghost use Rattle.arrayvec.specs.ArrayVec.{array_vec_len};
 ghost use Rattle.redundant_mux.specs.Lines.{BothEndure};
 ghost use Rattle.afdx_tx.specs.Run.{IsRun};
@@ -17,7 +18,7 @@ use crate::routing::link_of_sub;
 use afdx_frame::FrameBuffer;
 use afdx_plan::{Config, Networks, VlId};
 use arrayvec::ArrayVec;
-use redundant_mux::{Mux, Network};
+use redundant_mux::{Mux, Network, Standing};
 use status_board::{Board, Counts};
 use std::boxed::BoxedSlice;
 use std::marker::Model;
@@ -57,6 +58,30 @@ fn serve_all<A: Network + Drop, B: Network + Drop>(
         if link.may_release(mux, now) {
             let did = link.serve(frame, mux, now);
             note(released, link.id(), &did);
+        }
+    }
+}
+
+/// As `serve_all`, without a list of the frames. Each link released at most one.
+fn serve_each<A: Network + Drop, B: Network + Drop>(
+    links: &mut [Link],
+    frame: &mut FrameBuffer,
+    mux: &mut Mux<A, B>,
+    now: u64,
+)
+    requires steady { IsSteady now links.old links.old mux.old }
+    requires apart { AreApart links.old }
+    requires whole { AreWhole links.old mux.old }
+    ensures steady { IsSteady now links.old links.new mux.new }
+    ensures run { IsRun now links.old links.new mux.old mux.new }
+    ensures whole { AreWhole links.new mux.new }
+    ensures told { (released : List Release) × (length released ≤ length links.old)
+        × IsTold now released mux.old mux.new }
+    ensures endure { BothEndure mux.old mux.new }
+{
+    for link in links.iter_mut() {
+        if link.may_release(mux, now) {
+            let _did = link.serve(frame, mux, now);
         }
     }
 }
@@ -145,7 +170,7 @@ impl<A: Network + Drop, B: Network + Drop> Transmitter<A, B> {
     ghost use Rattle.redundant_mux.specs.Lines.{BothEndure, is_alive, log};
     ghost use Rattle.afdx_legal.specs.Done.{IsAllDone};
     ghost use Rattle.afdx_tx.specs.Run.{IsRun};
-    ghost use Rattle.afdx_tx.specs.Report.{Polls};
+    ghost use Rattle.afdx_tx.specs.Report.{Polls, PollsUnreported};
     ghost use Rattle.afdx_tx.specs.Emitter.{IsFreshTx, AreFreshLinks, AreLinksOf, AreReceiving, IsSamePlan};
     ghost use Rattle.afdx_tx.specs.Serving.{Conforms};
     ghost use Rattle.afdx_tx.specs.Publishing.{Publishes, ShowsCounts};
@@ -255,6 +280,30 @@ impl<A: Network + Drop, B: Network + Drop> Transmitter<A, B> {
             released,
             standing: self.mux.standing(),
         })
+    }
+
+    /// As `poll`, without a report: blanking its list takes longer than the turn of a link that isn't due.
+    #[inline(always)]
+    pub fn poll_unreported(&mut self, now: u64) -> Result<Standing, PollFault>
+        requires { self.old.moment ≤ now }
+        ensures both_down { IsErr result ↔ (is_alive self.old.lines ≡ false) }
+        ensures unchanged { OnErr result (self.new ≡ self.old) }
+        ensures conforms { Conforms self.new }
+        ensures plan { self.new.plan ≡ self.old.plan }
+        ensures board { self.new.board ≡ self.old.board }
+        ensures same { IsSamePlan self.old.links self.new.links }
+        ensures of_plan { AreLinksOf self.old.plan self.old.links }
+        ensures endure { BothEndure self.old.lines self.new.lines }
+        ensures told { IfOk result (λ standing. PollsUnreported now self.old standing self.new) }
+        ensures run { OnOk result
+            (IsRun now self.old.links self.new.links self.old.lines self.new.lines) }
+    {
+        if !self.mux.stands_for(Networks::Both) {
+            return Err(PollFault::BothDown);
+        }
+        self.moment = now;
+        serve_each(&mut self.links, &mut self.frame, &mut self.mux, now);
+        Ok(self.mux.standing())
     }
 
     /// Closes the queue of a sub-VL, and returns the number of its accepted messages.

@@ -1,4 +1,4 @@
-use Rattle.afdx_handle.proofs.Names.{◌≤◌, ◌∙◌, Bool, length, sym, ap, subst, vec_capacity, tx_of, end_view, IsEndSystem, the_view}
+use Rattle.afdx_handle.proofs.Names.{◌∙◌, Bool, length, sym, ap, subst, vec_capacity, tx_of, end_view, IsEndSystem, the_view}
 use Rattle.afdx_handle.proofs.FewFrames.{poll_keeps}
 use Rattle.afdx_handle.proofs.end_system.EndSystem.poll.Goals as goal
 
@@ -9,6 +9,6 @@ invariant_of-self-2 c =
     let b = c.count-b_before.result in
     subst (λ (gathered : Bool). IsEndSystem (end_view gathered (tx_of c.poll.new.self) own.ports.items (vec_capacity own.ports) a b))
     (sym c.in-Ok.ensures.stage)
-    (poll_keeps (the_view own) (tx_of c.poll.new.self) a b c.args.now c.in-Ok.report c.self.invariant c.in-Ok.ensures.polled
-    (subst (λ n. n ≤ 64) c.len.ensures.value c.if-prove.false)
+    (poll_keeps (the_view own) (tx_of c.poll.new.self) a b c.args.now c.in-Ok.ensures.polled.report c.self.invariant
+    c.in-Ok.ensures.polled.polls c.in-Ok.ensures.polled.few
     (c.count-a_before.ensures ∙ ap length c.network.ensures) (c.count-b_before.ensures ∙ ap length c.network-2.ensures))

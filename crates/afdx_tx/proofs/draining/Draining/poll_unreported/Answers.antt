@@ -1,0 +1,11 @@
+use Rattle.afdx_tx.proofs.Conforming.{accepted_same, on_ok}
+use Rattle.afdx_tx.proofs.NothingLeft.{run_drained}
+use Rattle.afdx_tx.proofs.draining.Draining.poll_unreported.Goals as goal
+
+pub returns-clause-accepted : goal.returns-clause-accepted
+returns-clause-accepted g c = rw (← c.self.view_is) (accepted_same _ _ c.poll_unreported.ensures.same c.self.invariant)
+
+pub returns-clause-run : goal.returns-clause-run
+returns-clause-run g c =
+    rw (← c.self.view_is) (on_ok c.poll_unreported.result _ _ (run_drained _ _ _ _ _ _ c.poll_unreported.ensures.of_plan c.self.invariant)
+    c.poll_unreported.ensures.run)

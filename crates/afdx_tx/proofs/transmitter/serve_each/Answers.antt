@@ -1,0 +1,57 @@
+use Rattle.afdx_tx.proofs.Names.{◌++◌, rules, [], ◌≡◌, ◌<◌, ◌∙◌, ap, sym, length, get_or, arith, and_parts, get_or_default, set-get_or, VlId, LinkPlan, link_at, no_link, Release, turn_release}
+use Rattle.afdx_tx.proofs.PollTurns.{turned_at, polling_more, polling_on}
+use Rattle.afdx_tx.proofs.transmitter.serve_each.Goals.{then-may_release, else-may_release}
+use Rattle.afdx_tx.proofs.transmitter.serve_each.Given
+use Rattle.afdx_tx.proofs.transmitter.serve_each.Goals as goal
+
+-- The place is that of a link.
+within : (g : Given.Over) (c : goal.Joined-may_release g) → c.loop-link.link-index < length c.loop-link.links
+within g c = let q = c.loop-link.invariant.polls.steady.same.count in let r = c.loop-link-test.true in omega arith
+
+-- The tested link is the one at that place.
+asked : (g : Given.Over) (c : goal.Joined-may_release g)
+    → get_or c.loop-link.links c.loop-link.link-index c.link-item.result
+    ≡ link_at c.loop-link.links c.loop-link.link-index
+asked g c = get_or_default c.loop-link.links c.loop-link.link-index c.link-item.result no_link (within g c)
+
+pub serve-did-requires-clause-paced : goal.serve-did-requires-clause-paced
+serve-did-requires-clause-paced g c =
+    let s = c.loop-link.invariant.polls in
+    let i = c.loop-link.link-index in
+    let lt : c.loop-link.link-index < length c.loop-link.links =
+    let q = s.steady.same.count in let r = c.loop-link-test.true in omega arith in
+    let is = get_or_default c.loop-link.links i c.link-item.result no_link lt in
+    let may = rw is at (sym c.may_release.ensures ∙ c.if-may_release.true) in
+    rw is ((s.steady.kept i lt).paced (s.whole i lt (and_parts _ _ may).1))
+
+pub loop-link-preserved : goal.loop-link-preserved
+loop-link-preserved g c =
+    let links = c.loop-link.links in
+    let i = c.loop-link.link-index in
+    let p = c.loop-link.invariant.polls in
+    let before = c.loop-link.invariant.released in
+    let lt = within g c in
+    elim c.if-may_release.branch [
+      | then-may_release w ↦
+          let e = w.serve-did.ensures in
+          let may = rw (asked g c) at (sym c.may_release.ensures ∙ w.if-may_release.true) in
+          let turned = turned_at _ _ links _ _ _ _ _ (asked g c) lt p.steady.later (p.whole i lt (and_parts _ _ may).1)
+          e.serves e.paced e.same e.lost e.counted in
+          rw (w.links-is, w.mux-is) (record {
+            released = before ++ turn_release (link_at links i).plan.id w.serve-did.result;
+            polls = polling_more c.args.now i c.args.links.now links c.args.mux.now c.loop-link.mux w.serve-did.new.mux
+                w.serve-did.new.self w.serve-did.result before p c.requires.apart lt turned e.later e.endure;
+          })
+      | else-may_release w ↦
+          let no = rw (asked g c) at (sym c.may_release.ensures ∙ w.if-may_release.false) in
+          rw (w.links-is ∙ set-get_or links i c.link-item.result, w.mux-is) (record {
+            released = before;
+            polls = polling_on c.args.now i c.args.links.now links c.args.mux.now c.loop-link.mux before p lt no;
+          })
+    ]
+
+pub loop-link-init : goal.loop-link-init
+loop-link-init g c = record {
+  released = [];
+  polls = search rules;
+}
