@@ -12,9 +12,9 @@ use std::marker::Model;
 /// bytes of the frame.
 #[derive(Drop)]
 pub struct FrameBuffer {
-    pub(crate) bytes: [u8; GREATEST_FRAME],
-    // The length of the frame.
+    // The length of the frame. First, so that a short frame and its length are in the same lines of the cache.
     pub(crate) len: usize,
+    pub(crate) bytes: [u8; GREATEST_FRAME],
 }
 
 impl Model for FrameBuffer {
