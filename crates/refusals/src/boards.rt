@@ -17,12 +17,8 @@ const FIRST: Counts = Counts {
 
 /// Prints a reading.
 pub fn tell_counts(out: &mut Out<'_>, counts: Counts) {
-    let Counts {
-        frames,
-        bytes,
-        messages,
-        last,
-    } = counts;
+    let (frames, bytes) = (counts.frames, counts.bytes);
+    let (messages, last) = (counts.messages, counts.last);
     out.line(format_args!("frames {frames}, bytes {bytes}, messages {messages}, last {last}"));
 }
 

@@ -5,8 +5,6 @@
 
 mod boards;
 mod configs;
-mod hands;
-mod lines;
 mod opening;
 mod parts;
 mod polls;
@@ -51,9 +49,9 @@ fn run_case<R: Threads + Wait + Sync>(
         "make" => queues::make_one(alloc, out),
         "open_tx" => opening::open(alloc, out),
         "open_board" => boards::open(rt, alloc, out),
-        "read_line" => lines::read(alloc, out),
+        "read_line" => scripts::read(alloc, out),
         "run_script" => scripts::run(alloc, out),
-        "hand" => hands::hand(alloc, out),
+        "hand" => opening::hand(alloc, out),
         "storm" => storms::throw(rt, alloc, out),
         "quiet" => quiet::send(rt, alloc, out),
         "parts" => parts::call(rt, alloc, out),

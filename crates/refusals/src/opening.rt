@@ -1,10 +1,11 @@
-//! Opens an emitter.
+//! Opens emitters, and sends to networks in memory.
 use crate::configs::prepared;
-use crate::polls::{message, send_two_told};
+use crate::polls::{Two, message, send_two_told};
 use crate::shelf::{Shelf, empty_shelf};
 use crate::trouble::*;
 use afdx_plan::Config;
 use afdx_tx::{Emitter, OpenFault, TxPort, open_tx};
+use redundant_mux::MemNetwork;
 use status_board::Monitor;
 
 /// An emitter, its ports and its monitor.
@@ -50,5 +51,49 @@ pub fn open(alloc: Global, out: &mut Out<'_>) -> Ended {
     let messages = (message(alloc, 1)?, message(alloc, 2)?);
     let (mut tx, mut ports, _monitor) = open_told(alloc, out)?;
     send_two_told(out, &mut tx, &mut ports, messages);
+    Ok(())
+}
+
+/// An emitter over two networks in memory, its ports and two messages.
+type InMemory = (Emitter<MemNetwork, MemNetwork>, Vec<TxPort>, Two);
+
+fn open_in_memory(alloc: Global) -> Result<InMemory, Trouble> {
+    let messages = (message(alloc, 1)?, message(alloc, 2)?);
+    let config = prepared(alloc)?;
+    let (a, b) = (MemNetwork::new(alloc), MemNetwork::new(alloc));
+    match open_tx(alloc, config, a, b).ok() {
+        Some((tx, ports, _monitor)) => Ok((tx, ports, messages)),
+        None => Err(Trouble::Unprepared),
+    }
+}
+
+/// Prints how many frames a network accepted, and how often it failed.
+fn tell(out: &mut Out<'_>, name: &str, network: &MemNetwork) {
+    let (handed, failures) = (network.handed().len(), network.failures());
+    out.line(format_args!("{name}: handed {handed}, failures {failures}"));
+}
+
+/// The same of both networks. Returns whether one of them failed.
+fn tell_both(out: &mut Out<'_>, a: &MemNetwork, b: &MemNetwork) -> bool {
+    tell(out, "A", a);
+    tell(out, "B", b);
+    a.failures() != 0 || b.failures() != 0
+}
+
+/// Sends two messages. Returns whether a network failed.
+fn send_two(out: &mut Out<'_>, opened: InMemory) -> bool {
+    let (mut tx, mut ports, messages) = opened;
+    send_two_told(out, &mut tx, &mut ports, messages);
+    let (a, b) = tx.into_networks();
+    tell_both(out, &a, &b)
+}
+
+/// Sends two messages, a second time if an allocation of a network fails.
+pub fn hand(alloc: Global, out: &mut Out<'_>) -> Ended {
+    let first = open_in_memory(alloc)?;
+    let second = open_in_memory(alloc)?;
+    if send_two(out, first) {
+        let _has_failed = send_two(out, second);
+    }
     Ok(())
 }

@@ -49,12 +49,15 @@ pub fn send_told(out: &mut Out<'_>, port: &mut TxPort, message: Vec<u8>)
     }
 }
 
+/// Two messages.
+pub type Two = (Vec<u8>, Vec<u8>);
+
 /// Sends two messages by the last port, and polls twice.
 pub fn send_two_told<A: Network + Drop, B: Network + Drop>(
     out: &mut Out<'_>,
     tx: &mut Emitter<A, B>,
     ports: &mut [TxPort],
-    messages: (Vec<u8>, Vec<u8>),
+    messages: Two,
 ) {
     let Some(port) = ports.last_mut() else {
         out.line("missing");

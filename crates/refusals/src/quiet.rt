@@ -6,7 +6,7 @@ ghost use Rattle.afdx_tx.specs.Ports.{PortView, IsPortOfTx};
 
 use crate::boards::tell_counts;
 use crate::configs::prepared;
-use crate::polls::{message, poll_told, send_told, tell_report};
+use crate::polls::{Two, message, poll_told, send_told, tell_report};
 use crate::shelf::{Shelf, empty_shelf};
 use crate::trouble::*;
 use afdx_frame::{ident_of, more_of, offset_of, sn_of, sub_of, vl_of};
@@ -87,22 +87,14 @@ fn tell_state(out: &mut Out<'_>, of: (usize, u64), nets: (&Shelf, &Shelf), count
 
 fn tell_emitter(out: &mut Out<'_>, tx: &ShelfTx) {
     let of = (tx.config().links().len(), tx.now());
-    tell_state(
-        out,
-        of,
-        (tx.network_a(), tx.network_b()),
-        tx.counts(VlId(1)),
-    )
+    let nets = (tx.network_a(), tx.network_b());
+    tell_state(out, of, nets, tx.counts(VlId(1)))
 }
 
 fn tell_draining(out: &mut Out<'_>, tx: &Draining<Shelf, Shelf>) {
     let of = (tx.config().links().len(), tx.now());
-    tell_state(
-        out,
-        of,
-        (tx.network_a(), tx.network_b()),
-        tx.counts(VlId(1)),
-    )
+    let nets = (tx.network_a(), tx.network_b());
+    tell_state(out, of, nets, tx.counts(VlId(1)))
 }
 
 /// Takes the networks back from an emitter that sent nothing.
@@ -151,10 +143,9 @@ fn gather(opened: Opened) -> Option<Draining<Shelf, Shelf>>
     let Opened {
         tx,
         port,
-        others,
+        others: mut ports,
         monitor: _monitor,
     } = opened;
-    let mut ports = others;
     ports.clear();
     ports.push(port).ok()?;
     tx.gather(ports).ok()
@@ -170,11 +161,8 @@ fn drain<R: Wait>(rt: &R, out: &mut Out<'_>, draining: &mut Draining<Shelf, Shel
     tell_report(out, 2_000, answer);
     draining.publish(rt);
     tell_draining(out, draining);
-    out.line(if draining.is_done() {
-        "done"
-    } else {
-        "not done"
-    });
+    let is_done = draining.is_done();
+    out.line(if is_done { "done" } else { "not done" });
 }
 
 /// Prints the fields of a frame.
@@ -202,17 +190,12 @@ fn tell_shelf(out: &mut Out<'_>, name: &str, shelf: &Shelf) {
 
 /// Sends, polls, publishes, reads, sends once more and closes. What is printed after `opened` allocates
 /// nothing.
-fn use_opened<R: Wait>(
-    rt: &R,
-    out: &mut Out<'_>,
-    opened: &mut Opened,
-    long: Vec<u8>,
-    short: Vec<u8>,
-)
+fn use_opened<R: Wait>(rt: &R, out: &mut Out<'_>, opened: &mut Opened, messages: Two)
     requires { 0 < links_of opened.old.monitor }
     ensures { IsPortOfTx opened.old.tx opened.old.port
         → IsPortOfTx opened.new.tx opened.new.port }
 {
+    let (long, short) = messages;
     out.line("opened");
     send_and_poll(out, &mut opened.tx, &mut opened.port, long);
     publish_and_read(rt, out, &mut opened.tx, &mut opened.monitor);
@@ -223,11 +206,11 @@ fn use_opened<R: Wait>(
 }
 
 /// Uses an open emitter, drains it, and prints what both networks accepted.
-fn use_all<R: Wait>(rt: &R, out: &mut Out<'_>, mut opened: Opened, long: Vec<u8>, short: Vec<u8>)
+fn use_all<R: Wait>(rt: &R, out: &mut Out<'_>, mut opened: Opened, messages: Two)
     requires port { IsPortOfTx opened.tx opened.port }
     requires monitor { 0 < links_of opened.monitor }
 {
-    use_opened(rt, out, &mut opened, long, short);
+    use_opened(rt, out, &mut opened, messages);
     let Some(mut draining) = gather(opened) else {
         out.line("missing");
         return;
@@ -241,13 +224,12 @@ fn use_all<R: Wait>(rt: &R, out: &mut Out<'_>, mut opened: Opened, long: Vec<u8>
 /// Sends a message of two frames, and one that is left to the drain. Both are made before the emitter is
 /// opened, and so is another emitter, which sends nothing.
 pub fn send<R: Wait>(rt: &R, alloc: Global, out: &mut Out<'_>) -> Ended {
-    let long = vec![in alloc; 0xaau8; 1_472]?;
-    let short = message(alloc, 1)?;
+    let messages = (vec![in alloc; 0xaau8; 1_472]?, message(alloc, 1)?);
     let spare = open(alloc)?;
     match open(alloc) {
         Ok(opened) => {
             give_up(out, spare);
-            use_all(rt, out, opened, long, short);
+            use_all(rt, out, opened, messages);
             Ok(())
         }
         Err(trouble) => {

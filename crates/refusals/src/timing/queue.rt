@@ -123,9 +123,5 @@ pub fn time_threads<T: Threads>(rt: &HostRuntime, threads: &T, load: Load) -> Re
         is_whole = worker.join(threads) && is_whole;
     }
     let nanos = now(rt)?.wrapping_sub(begun);
-    if is_whole {
-        Ok(nanos)
-    } else {
-        Err(Trouble::Missing)
-    }
+    is_whole.then_some(nanos).ok_or(Trouble::Missing)
 }
