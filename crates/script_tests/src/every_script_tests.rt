@@ -201,7 +201,7 @@ fn assert_script(rt: &impl Host, lines: u32, number: u32) {
     let (accepted, refused, frames) = end_system.counts();
     let wanted = Ok(sums(accepted, refused, frames));
     let lines = end_system.transcript().expect(rt, "memory");
-    assert_run(rt, &script, IN_TURN, script.as_bytes(), wanted, &lines);
+    assert_named(rt, &script, IN_TURN, script.as_bytes(), wanted, &lines);
 }
 
 #[test]

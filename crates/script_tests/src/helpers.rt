@@ -195,8 +195,8 @@ pub fn run(rt: &impl Host, plan: &str, script: impl Read + Drop, text: &mut impl
     run_script(rt.alloc(), config, script, text)
 }
 
-/// Asserts the result of a script over a plan, and what it writes.
-pub fn assert_run(
+/// Asserts the result of a script that has a name over a plan, and what it writes.
+pub fn assert_named(
     rt: &impl Host,
     name: &str,
     plan: &str,
@@ -208,6 +208,11 @@ pub fn assert_run(
     let told = run(rt, plan, script, &mut text);
     assert_same(rt, told, wanted, name);
     assert_same(rt, text.as_slice(), lines.as_bytes(), name);
+}
+
+/// The same of a script without a name.
+pub fn assert_run(rt: &impl Host, plan: &str, script: impl Read + Drop, wanted: Ran, lines: &str) {
+    assert_named(rt, lines, plan, script, wanted, lines);
 }
 
 /// A network's name in a transcript, and byte 11 of its frames.
@@ -288,7 +293,7 @@ pub fn assert_sent(
     sent: &[OneByte],
 ) {
     let lines = expected(rt, &NETS, notes, sent);
-    assert_run(rt, notes, "", script, wanted, &lines);
+    assert_run(rt, "", script, wanted, &lines);
 }
 
 /// The columns of a row of a table: the text before ` => `, and the text after it.

@@ -7,7 +7,7 @@ use crate::helpers::*;
 fn assert_frames(rt: &impl Host, plan: &str, script: &str, many: u64, packets: &[&str]) {
     let wanted = Ok(sums(many, 0, packets.len() as u64));
     let lines = frame_lines(rt, packets);
-    assert_run(rt, script, plan, script.as_bytes(), wanted, &lines);
+    assert_run(rt, plan, script.as_bytes(), wanted, &lines);
 }
 
 // Changes of the demonstration, a message, and its IPv4 packet.
@@ -63,14 +63,7 @@ fn a_link_is_handed_to_its_networks_alone(rt: HostRuntime) {
     for (end, nets) in rows {
         let plan = version_2(&rt, &replaced(&rt, DEMO, "capacity = 2", end), "");
         let (script, lines) = ("send 10 01\nat 0\n", expected(&rt, nets, "", &[FIRST]));
-        assert_run(
-            &rt,
-            end,
-            &plan,
-            script.as_bytes(),
-            Ok(sums(1, 0, 1)),
-            &lines,
-        );
+        assert_run(&rt, &plan, script.as_bytes(), Ok(sums(1, 0, 1)), &lines);
     }
 }
 
@@ -101,14 +94,7 @@ fn a_message_that_is_being_sent_goes_out_whole_from_a_closed_sub_vl(rt: HostRunt
     let notes =
         "line 4: closed 1\nline 6: refused Closed\nline 7: closed 2\nline 8: refused Closed\n";
     let wanted = joined(&rt, &[notes, &frame_lines(&rt, &SENT_IN_TURN)]);
-    assert_run(
-        &rt,
-        "closing",
-        IN_TURN,
-        script.as_bytes(),
-        Ok(sums(3, 2, 5)),
-        &wanted,
-    );
+    assert_run(&rt, IN_TURN, script.as_bytes(), Ok(sums(3, 2, 5)), &wanted);
 }
 
 // Two links of two sub-VLs, and a port on each sub-VL.
@@ -148,14 +134,7 @@ fn a_close_closes_no_other_sub_vl_of_its_link_or_of_another(rt: HostRuntime) {
     }
     let script = b"send 10 01\nclose 1 0\nsend 10 02\nsend 11 03\nsend 20 04\nsend 21 05\n\
                   close 2 1\nsend 21 06\nsend 20 07\nsend 11 08\nat 0\nat 1000\nat 2000\n";
-    assert_run(
-        &rt,
-        "two links",
-        TWO_LINKS,
-        script.as_slice(),
-        Ok(sums(6, 2, 6)),
-        &lines,
-    );
+    assert_run(&rt, TWO_LINKS, script.as_slice(), Ok(sums(6, 2, 6)), &lines);
 }
 
 // 64 links of four sub-VLs with room for 256 messages, and a port on each: the greatest plan but for its

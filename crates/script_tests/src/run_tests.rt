@@ -13,14 +13,7 @@ pub const FIRST_LINES: &str = "\
 #[test]
 fn a_message_goes_out_on_both_networks(rt: HostRuntime) {
     for script in ["send 10 01\nat 0\n", "# note\r\n\n send\t0010 01\nat 0"] {
-        assert_run(
-            &rt,
-            script,
-            "",
-            script.as_bytes(),
-            Ok(sums(1, 0, 1)),
-            FIRST_LINES,
-        );
+        assert_run(&rt, "", script.as_bytes(), Ok(sums(1, 0, 1)), FIRST_LINES);
     }
 }
 
@@ -75,7 +68,7 @@ fn assert_script(rt: &impl Host, name: &str, plan: &str, script: &str, wanted: &
     let (accepted, refused, frames) = three(rt, counts);
     let wanted = Ok(sums(accepted, refused, frames));
     let lines = expected(rt, &NETS, notes, &sent);
-    assert_run(rt, name, plan, script.as_bytes(), wanted, &lines);
+    assert_named(rt, name, plan, script.as_bytes(), wanted, &lines);
 }
 
 #[test]
@@ -97,14 +90,7 @@ fn a_message_of_1_471_bytes_fills_one_frame(rt: HostRuntime) {
     let headers = "450005db000000000111c8300a000101e0e0000103e807d005c70000";
     let wanted = frame_lines(&rt, &[&joined(&rt, &[headers, &message])]);
     assert_same(&rt, wanted.len(), 2 * (4 + 2 * 1_514 + 1), "the length");
-    assert_run(
-        &rt,
-        "one frame",
-        "",
-        script.as_bytes(),
-        Ok(sums(1, 0, 1)),
-        &wanted,
-    );
+    assert_run(&rt, "", script.as_bytes(), Ok(sums(1, 0, 1)), &wanted);
 }
 
 // An empty message, one that is too long, one of no port, and then one that is accepted.
@@ -114,13 +100,8 @@ fn a_refused_message_takes_no_identification(rt: HostRuntime) {
     let rest = "\nsend 99 01\nsend 10 07\nat 0\n";
     let script = joined(&rt, &["send 10 -\nsend 10 ", &long, rest]);
     let notes = "line 1: refused Empty\nline 2: refused TooLong\nline 3: refused NoPort\n";
-    assert_sent(
-        &rt,
-        script.as_bytes(),
-        Ok(sums(1, 3, 1)),
-        notes,
-        &[(0, 0, 7)],
-    );
+    let sent = [(0, 0, 7)];
+    assert_sent(&rt, script.as_bytes(), Ok(sums(1, 3, 1)), notes, &sent);
 }
 
 // Each of 257 times, a gap apart, the message 01 and a poll, until the numbers begin again.
@@ -138,7 +119,7 @@ fn numbers_go_on_with_1_after_255(rt: HostRuntime) {
 // Asserts the fault of a line that comes after one that sends a message.
 fn assert_second(rt: &impl Host, line: &str, fault: LineFault) {
     let script = joined(rt, &["send 10 01\n", line]);
-    assert_run(rt, line, "", script.as_bytes(), Err(at_line(2, fault)), "");
+    assert_named(rt, line, "", script.as_bytes(), Err(at_line(2, fault)), "");
 }
 
 #[test]
@@ -159,10 +140,8 @@ fn notes_and_frames_so_far_are_written_after_a_fault(rt: HostRuntime) {
     let reader = reader_of(&script[..40], 40, Some(ErrorKind::Interrupted), 3);
     assert_sent(&rt, reader, Err(RunFault::Read), notes, &[FIRST]);
     let script = b"send 10 01\nclose 1 0\nsend 10 02\nclose 1 0 1\nat 0\n";
-    let (extra, notes) = (
-        Err(at_line(4, LineFault::Extra)),
-        "line 2: closed 1\nline 3: refused Closed\n",
-    );
+    let extra = Err(at_line(4, LineFault::Extra));
+    let notes = "line 2: closed 1\nline 3: refused Closed\n";
     assert_sent(&rt, script.as_slice(), extra, notes, &[]);
 }
 
@@ -179,14 +158,7 @@ fn a_writer_that_fails_ends_the_run(rt: HostRuntime) {
 #[test]
 fn a_script_has_1_000_000_lines_at_most(rt: HostRuntime) {
     let script = repeated(&rt, "\n", 1_000_000);
-    assert_run(&rt, "most", "", script.as_bytes(), Ok(sums(0, 0, 0)), "");
+    assert_run(&rt, "", script.as_bytes(), Ok(sums(0, 0, 0)), "");
     let longer = joined(&rt, &[&script, "at x"]);
-    assert_run(
-        &rt,
-        "one more",
-        "",
-        longer.as_bytes(),
-        Err(RunFault::Lines),
-        "",
-    );
+    assert_run(&rt, "", longer.as_bytes(), Err(RunFault::Lines), "");
 }

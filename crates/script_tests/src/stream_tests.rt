@@ -23,7 +23,7 @@ fn a_reader_may_give_few_bytes_a_call(rt: HostRuntime) {
     let wanted = late_text(&rt, LATE.len());
     for most in [1, 2, 3, LATE.len()] {
         let reader = reader_of(LATE.as_bytes(), LATE.len(), None, most);
-        assert_run(&rt, "few bytes", "", reader, Ok(sums(2, 1, 1)), &wanted);
+        assert_run(&rt, "", reader, Ok(sums(2, 1, 1)), &wanted);
     }
 }
 
@@ -40,7 +40,7 @@ fn a_reader_that_fails_at_any_byte_ends_the_run_there(rt: HostRuntime) {
         for bytes in 0..=LATE.len() {
             let reader = reader_of(LATE.as_bytes(), bytes, Some(kind), usize::MAX);
             let wanted = late_text(&rt, bytes);
-            assert_run(&rt, &wanted, "", reader, Err(RunFault::Read), &wanted);
+            assert_run(&rt, "", reader, Err(RunFault::Read), &wanted);
         }
     }
 }

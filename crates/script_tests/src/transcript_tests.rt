@@ -47,12 +47,8 @@ fn the_frames_of_a_come_before_those_of_b(rt: HostRuntime) {
     twin[11] = 0x40;
     for_b.hand(0, &twin).expect(&rt, "memory");
     let mut text = Vec::new(rt.alloc());
-    assert_same(
-        &rt,
-        write_streams(&mut text, &for_a, &for_b),
-        Ok(()),
-        "written",
-    );
+    let written = write_streams(&mut text, &for_a, &for_b);
+    assert_same(&rt, written, Ok(()), "the result");
     let wanted = replaced(&rt, FIRST_LINES, "B", "A 18446744073709551615 ab\nB");
     assert_same(&rt, text.as_slice(), wanted.as_bytes(), "the lines");
 }
