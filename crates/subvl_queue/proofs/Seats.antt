@@ -1,5 +1,5 @@
 -- The rule at the start, with a new sender, and after a sender has ended.
-use Rattle.subvl_queue.proofs.Names.{◌≡◌, ◌≢◌, ℕ, zero, suc, ◌+◌, ◌-◌, ◌^◌, ◌%◌, ◌<◌, ◌≤◌, false, List, [], ◌∷◌, ◌++◌, map, length, get_or, set, replicate, sym, refl, ap, ◌∙◌, subst, ⊎_elim, arith, mod-eq_of_lt, length-set, length-append, none, some, get_elem?, length-map, length-replicate, Option, None, Splits, Joins, opening, set_else, at_snoc, at_longer, View, Role, Sender, Receiver, Spent, Idle, owned, Gone, Whole, Collects, free, Knows, Fits, Queue, first_view, new_seat, spent_view, one_made, with_joined}
+use Rattle.subvl_queue.proofs.Names.{◌≡◌, ◌≢◌, ℕ, zero, suc, ◌+◌, ◌-◌, ◌^◌, ◌%◌, ◌<◌, ◌≤◌, false, List, [], ◌∷◌, ◌++◌, map, length, get_or, set, replicate, sym, refl, ap, ◌∙◌, subst, ⊎_elim, arith, mod-eq_of_lt, length-set, length-append, some, get_elem?, length-map, length-replicate, Option, None, Splits, Joins, opening, set_else, at_snoc, at_longer, View, Role, Sender, Receiver, Spent, Idle, owned, Gone, Whole, Collects, free, Knows, Fits, Queue, first_view, new_seat, spent_view, one_made, with_joined}
 use mathlib.Core.Option as maybe
 use Rattle.subvl_queue.proofs.Totals.{sums, sums_end}
 use Rattle.subvl_queue.proofs.Cells.{fits, holds_none, each_after}

@@ -1,5 +1,5 @@
 -- A close changes only the total of a queue.
-use Rattle.vl_link.proofs.Names.{ℕ, ◌≡◌, ap, Seen, receiving, gathered, taken_of, known_of, ports_of, queue_of}
+use Rattle.vl_link.proofs.Names.{ℕ, ◌≡◌, ap, Seen, receiving, gathered, taken_of, known_of, queue_of}
 use Rattle.vl_link.specs.Closing.{Closes}
 
 -- The messages taken are the same.

@@ -1,5 +1,5 @@
 -- A queue after a poll, and the invariant of its sub-VL.
-use Rattle.vl_link.proofs.Names.{ℕ, ◌≡◌, ◌≤◌, ◌∙◌, List, [], ◌∷◌, ◌++◌, Some, arith, refl, ap, sym, subst, append_assoc, length-append, get_or_append_left, All-push, All-weaker, BecomesWhole, Seen, receiving, gathered, taken_of, known_of, ports_of, queue_of, total_of, FindsNothing, Finds, IsReceiving, IsSameQueue, ◌+◌, ◌%◌, Option, PortPlan, Cutting, SubVl, IsSub, IsCutOf}
+use Rattle.vl_link.proofs.Names.{ℕ, ◌≡◌, ◌≤◌, ◌∙◌, List, [], ◌∷◌, ◌++◌, Some, arith, refl, ap, sym, subst, append_assoc, length-append, get_or_append_left, All-push, Seen, receiving, gathered, taken_of, known_of, ports_of, queue_of, total_of, FindsNothing, Finds, IsReceiving, IsSameQueue, ◌+◌, ◌%◌, Option, PortPlan, Cutting, SubVl, IsSub, IsCutOf}
 use Rattle.subvl_queue.specs.Messages.{IsItem, AreItems}
 
 -- A poll that found nothing took nothing.
