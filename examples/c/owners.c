@@ -301,8 +301,8 @@ static size_t room(size_t many) {
 /* The bytes that an end system holds from afdx_open to afdx_free: docs/guide/c.md has this formula. */
 static size_t formula(size_t links, size_t sub_vls, size_t capacity, size_t each) {
     size_t ports = links * sub_vls * each;
-    size_t of_sub_vl = 304 + 48 * capacity + 32 * room(each);
-    return 198576 + 280 * links + 24 * (links < 4 ? 4 : links) + 80 * ports + 32 * (ports < 4 ? 4 : ports)
+    size_t of_sub_vl = 312 + 48 * capacity + 32 * room(each);
+    return 198592 + 280 * links + 24 * (links < 4 ? 4 : links) + 96 * ports + 32 * (ports < 4 ? 4 : ports)
         + links * sub_vls * of_sub_vl;
 }
 
@@ -320,8 +320,8 @@ static void check_memory(void) {
         open_plan(&it, text);
         CHECK(bytes == wanted);
         CHECK(most == wanted || most < 60 * strlen(text));
-        CHECK(afdx_port_of(&it, 0, &port) == AFDX_OK && bytes == wanted + 96);
-        CHECK(afdx_send(&port, message, sizeof message) == AFDX_OK && bytes == wanted + 96 + sizeof message);
+        CHECK(afdx_port_of(&it, 0, &port) == AFDX_OK && bytes == wanted + 112);
+        CHECK(afdx_send(&port, message, sizeof message) == AFDX_OK && bytes == wanted + 112 + sizeof message);
         /* no allocation from here on */
         size_t asked = requests;
         for (uint64_t now = 0; now < 10000; now += 1000) CHECK(afdx_poll(&it, now, &standing) == AFDX_OK);
