@@ -26,9 +26,6 @@ any_no (x ∷ xs) = any_no xs
 and_or : (a b c : Bool) → ((a && b) || (a && c)) ≡ (a && (b || c))
 and_or a b c = sym (and-or_distrib_left a b c)
 
-absorbs : (a b : Bool) → (a || (a && b)) ≡ (a && true)
-absorbs a b = grind arith
-
 -- a conditional finding
 one : (f : ConfigFault) (b : Bool) (x : Finding) → list_any (has f) (one_if b x) ≡ (has f x && b)
 one f true x = or-false (has f x) ∙ sym (and-true (has f x))

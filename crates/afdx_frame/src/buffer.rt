@@ -73,7 +73,8 @@ impl FrameBuffer {
         self.len = frame.len();
     }
 
-    /// Turns the frame into its twin for a network, as `make_twin`.
+    /// Turns the frame into its twin for a network, which differs in the interface identifier alone. Bytes too
+    /// short to have one are unchanged.
     #[inline(always)]
     pub fn turn(&mut self, net: Net)
         ensures { self.new.items ≡ twin_of net self.old.items }
@@ -91,4 +92,15 @@ impl FrameBuffer {
         append(&mut frame, self.as_slice());
         frame
     }
+}
+
+/// Returns the frame's twin for a network: the same bytes, with the interface identifier of the
+/// network in byte 11. Bytes too short to have one are unchanged.
+pub fn twin(frame: &Frame, net: Net) -> Frame
+    ensures { result.items ≡ twin_of net frame.now.items }
+{
+    let mut out = FrameBuffer::new();
+    out.fill(frame);
+    out.turn(net);
+    out.to_frame()
 }

@@ -3,7 +3,7 @@ ghost use Rattle.std.specs.Prelude.{◌≡◌, OnOk, flat_map};
 ghost use Rattle.std.specs.Io.KnownBytes.{Appends};
 ghost use Rattle.plan_analysis.specs.Text.{thousandths as text_of_thousandths, hundredths as text_of_hundredths};
 ghost use Rattle.plan_analysis.specs.Text.{head_line, links_head, link_cells, link_line, jitter_line};
-ghost use Rattle.plan_analysis.specs.Text.{networks_head, network_line, ports_head, port_cells, port_line};
+ghost use Rattle.plan_analysis.specs.Text.{network_line, ports_head, port_cells, port_line};
 ghost use Rattle.plan_analysis.specs.Text.{links_table, networks_table, ports_table, text_of};
 ghost use Rattle.plan_analysis.specs.Text.{networks_cell as cell_of_networks, network_name as name_of_network};
 ghost use Rattle.plan_analysis.specs.Text.{exceeded_cell as cell_of_exceeded};
@@ -39,12 +39,12 @@ fn write_links_table<W: Write>(writer: &mut W, links: &[LinkRow], jitter: u64) -
     write_jitter(writer, jitter)
 }
 
-#[tactic(auto, unfolding(crate::specs::Text::networks_table))]
+#[tactic(auto, unfolding(crate::specs::Text::networks_table, crate::specs::Text::networks_head))]
 fn write_networks_table<W: Write>(writer: &mut W, a: &NetworkRow, b: &NetworkRow) -> io::Result<()>
     ensures { OnOk result (Appends (W.contents writer.old) (W.contents writer.new)
         (networks_table a.now b.now)) }
 {
-    write_networks_head(writer)?;
+    writer.write_all(b"network    load-kbit/s  share-%  exceeded\n")?;
     write_network(writer, a)?;
     write_network(writer, b)
 }
@@ -156,14 +156,6 @@ fn write_jitter<W: Write>(writer: &mut W, jitter: u64) -> io::Result<()>
     } else {
         writer.write_all(b"\n")
     }
-}
-
-#[tactic(auto, unfolding(crate::specs::Text::networks_head))]
-fn write_networks_head<W: Write>(writer: &mut W) -> io::Result<()>
-    ensures { OnOk result (Appends (W.contents writer.old) (W.contents writer.new)
-        networks_head) }
-{
-    writer.write_all(b"network    load-kbit/s  share-%  exceeded\n")
 }
 
 #[tactic(auto, unfolding(crate::specs::Text::network_line))]

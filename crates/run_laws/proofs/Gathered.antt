@@ -1,7 +1,5 @@
 -- What gathering says of the lengths of the accepted messages.
-use Rattle.run_laws.proofs.Names.{ℕ, ◌≡◌, ◌<◌, List, [], ◌∷◌, Bool, true, false, length, get_or, nat_eq, if◌then◌else◌, refl, ap, ◌∙◌, sym, subst, All, eq-eqb}
-use Rattle.run_laws.proofs.Names.{both_ways, get_or_default, All-cons, All-nil, All-head, All-tail, All-contains, Plan, port_plan_at, link_place, PortPlan}
-use Rattle.run_laws.proofs.Names.{Sent, IsAllowed, messages_of, accepted_in, Tx, FitsItsPort, GatheredFit}
+use Rattle.run_laws.proofs.Names.{ℕ, ◌≡◌, ◌<◌, List, [], ◌∷◌, Bool, true, false, length, get_or, nat_eq, if◌then◌else◌, refl, ap, ◌∙◌, sym, subst, All, eq-eqb, both_ways, get_or_default, All-cons, All-nil, All-head, All-tail, All-contains, Plan, port_plan_at, link_place, PortPlan, Sent, IsAllowed, messages_of, accepted_in, Tx, FitsItsPort, GatheredFit}
 use Rattle.afdx_tx.specs.Gathering.{IsGatheredTx}
 use Rattle.afdx_tx.specs.Ports.{PortView, MaySend, IsPortOfTx, AreOpenedWith}
 use Rattle.run_laws.proofs.MessageRun.{own_link}

@@ -1,7 +1,5 @@
 -- An emitter stays ready.
-use Rattle.run_laws.proofs.Names.{ℕ, ◌≡◌, ◌<◌, List, [], length, arith, ap, ◌∙◌, sym, subst, All, All-nil, Plan, PortPlan, Pace, Held, LinkState, held_at}
-use Rattle.run_laws.proofs.Names.{link_at, sent_by, taken_by, IsSameLink, turns_each, IsAllowed, AreAllowed, Tx, taken_in, IsOpenedSub, IsFreshTx, IsRun}
-use Rattle.run_laws.proofs.Names.{IsTurnAt, IsPlanned, IsReadyFor, IsReady, KeptReady}
+use Rattle.run_laws.proofs.Names.{ℕ, ◌≡◌, ◌<◌, List, [], length, arith, ap, ◌∙◌, sym, subst, All, All-nil, Plan, PortPlan, Pace, Held, LinkState, held_at, link_at, sent_by, taken_by, IsSameLink, turns_each, IsAllowed, AreAllowed, Tx, taken_in, IsOpenedSub, IsFreshTx, IsRun, IsTurnAt, IsPlanned, IsReadyFor, IsReady, KeptReady}
 use Rattle.vl_link.specs.declared.sub_vl.SubVl.{SubVl}
 use Rattle.vl_link.specs.Seen.{Seen, taken_of}
 use Rattle.afdx_tx.specs.Closing.{ClosesTx}

@@ -1,15 +1,9 @@
 -- The names of other crates, and of this one's definitions, that the proofs here use.
-pub use Rattle.std.proofs.Common.{Bool, List, None, Option, Some, [], ap, arith, cond, drop, false, get_or}
-pub use Rattle.std.proofs.Common.{if◌then◌else◌, inl, inr, length, map, nat_eq, nat_le, nat_lt, refl, subst, suc, sym}
-pub use Rattle.std.proofs.Common.{take, true, zero, ℕ, ⊎_elim, ◌%◌, ◌&&◌, ◌*◌, ◌++◌, ◌+◌, ◌-◌, ◌<◌, ◌||◌, ◌∙◌, ◌∷◌, ◌≡◌}
-pub use Rattle.std.proofs.Common.{◌≢◌, ◌≤◌, ◌⊎◌}
-pub use Rattle.std.proofs.lemmas.Bool.{and_from, and_parts, both_ways, cases_eq, cases_lt, eq-eqb, false≢true, le-leb}
-pub use Rattle.std.proofs.lemmas.Bool.{le-ltb, lt-ltb, ne_eqb}
+pub use Rattle.std.proofs.Common.{Bool, List, None, Option, Some, [], ap, arith, cond, drop, false, get_or, if◌then◌else◌, inl, inr, length, map, nat_eq, nat_le, nat_lt, refl, subst, suc, sym, take, true, zero, ℕ, ⊎_elim, ◌%◌, ◌&&◌, ◌*◌, ◌++◌, ◌+◌, ◌-◌, ◌<◌, ◌||◌, ◌∙◌, ◌∷◌, ◌≡◌, ◌≢◌, ◌≤◌, ◌⊎◌}
+pub use Rattle.std.proofs.lemmas.Bool.{and_from, and_parts, both_ways, cases_eq, cases_lt, eq-eqb, false≢true, le-leb, le-ltb, lt-ltb, ne_eqb}
 pub use Rattle.std.proofs.lemmas.Bool.Decides.{nat_tests}
-pub use Rattle.std.proofs.lemmas.List.{append-nil, append_assoc, get_or_default, length-append, length-drop, length-map}
-pub use Rattle.std.proofs.lemmas.List.{map-append, take-append-drop}
-pub use Rattle.std.proofs.lemmas.List.Elements.{All-cons, All-contains, All-drop, All-from_recursion, All-head, All-nil}
-pub use Rattle.std.proofs.lemmas.List.Elements.{All-tail, All-weaker, filter-append}
+pub use Rattle.std.proofs.lemmas.List.{append-nil, append_assoc, get_or_default, length-append, length-drop, length-map, map-append, take-append-drop}
+pub use Rattle.std.proofs.lemmas.List.Elements.{All-cons, All-contains, All-drop, All-from_recursion, All-head, All-nil, All-tail, All-weaker, filter-append}
 pub use Rattle.std.proofs.lemmas.Nat.{mul-le}
 pub use Rattle.std.proofs.lemmas.Result.{on_ok_weaker}
 pub use Rattle.std.specs.Prelude.{All, Contains, slice_index}
@@ -40,8 +34,7 @@ pub use Rattle.afdx_legal.specs.Allowed.{AreAllowed, IsAllowed, messages_of}
 pub use Rattle.afdx_legal.specs.Legal.{Accepted}
 pub use Rattle.afdx_legal.specs.Streams.{IsPrefixOf, latest, link_stream, stamp_of, sub_stream, told}
 pub use Rattle.vl_link.proofs.TurnLaws.{turn_endures, turns_each, turns_endure, turns_seen}
-pub use Rattle.vl_link.specs.Links.{Held, IsSameLink, LinkState, Passes, held_at, held_view, link_at, no_link_plan}
-pub use Rattle.vl_link.specs.Links.{pace_of, sent_by, taken_by}
+pub use Rattle.vl_link.specs.Links.{Held, IsSameLink, LinkState, Passes, held_at, held_view, link_at, no_link_plan, pace_of, sent_by, taken_by}
 pub use Rattle.vl_link.specs.Shown.{begun_after, begun_by, none_begun}
 pub use Rattle.vl_link.specs.Turn.{AreTurns, Turn, TurnView, may_release}
 pub use Rattle.vl_link.specs.declared.served.Served.{Served}
@@ -50,12 +43,9 @@ pub use Rattle.afdx_tx.specs.Drain.{Drains, DrainsAt, IsDrained, accepted_in, ac
 pub use Rattle.afdx_tx.specs.DrainEnds.{stream_at}
 pub use Rattle.afdx_tx.specs.Emitter.{IsFreshTx, IsOpenedSub, Tx, taken_in}
 pub use Rattle.afdx_tx.specs.Run.{IsRun, IsTurnAt}
-pub use Rattle.plan_analysis.specs.Wait.{message_wait, most_pieces, pieces_of, pieces_on, port_pieces, queued_before}
-pub use Rattle.plan_analysis.specs.Wait.{worst_wait}
+pub use Rattle.plan_analysis.specs.Wait.{message_wait, most_pieces, pieces_of, pieces_on, port_pieces, queued_before, worst_wait}
 pub use Rattle.afdx_laws.proofs.ListLemmas.{all_front, below_both, below_one, cons_parts, cons_same}
 pub use Rattle.afdx_laws.proofs.NextFragment.{few_in, next_polled_in_time, wait_at}
 pub use Rattle.afdx_laws.specs.NextFragment.{link_wait}
-pub use Rattle.run_laws.specs.MessageInRun.{ApartAreTimely, AreFinding, AreTimely, ComesIn, FindsIt, FitsItsPort}
-pub use Rattle.run_laws.specs.MessageInRun.{GatheredFit, HasPlace, IsAccepted, MessageInRun, fragments_of, seen_of}
-pub use Rattle.run_laws.specs.Runs.{ArePolls, AreRuns, ComeWithin, ComesBy, DrainPolls, EmitterPolls, IsPlanned}
-pub use Rattle.run_laws.specs.Runs.{IsReady, IsReadyFor, KeptReady, NextInRun, latest_of}
+pub use Rattle.run_laws.specs.MessageInRun.{ApartAreTimely, AreFinding, AreTimely, ComesIn, FindsIt, FitsItsPort, GatheredFit, HasPlace, IsAccepted, MessageInRun, fragments_of, seen_of}
+pub use Rattle.run_laws.specs.Runs.{ArePolls, AreRuns, ComeWithin, ComesBy, DrainPolls, EmitterPolls, IsPlanned, IsReady, IsReadyFor, KeptReady, NextInRun, latest_of}

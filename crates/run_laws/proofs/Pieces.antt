@@ -1,8 +1,5 @@
 -- How many fragments messages have.
-use Rattle.run_laws.proofs.Names.{ℕ, suc, zero, ◌≡◌, ◌+◌, ◌-◌, ◌*◌, ◌<◌, ◌≤◌, true, ◌&&◌, nat_eq, List, [], ◌∷◌, ◌++◌, length, arith, refl, ap, ◌∙◌, sym, inl}
-use Rattle.run_laws.proofs.Names.{inr, All, Contains, mul-le, cases_lt, and_from, eq-eqb, length-append, length-map, append_assoc, All-head, All-tail}
-use Rattle.run_laws.proofs.Names.{All-contains, suc-mul, step_of, cutting, cut_by, pieces_from, Sent, fragments_at, fragments_from, unnumbered, LinkPlan}
-use Rattle.run_laws.proofs.Names.{PortPlan, pieces_of, port_pieces, pieces_on, most_pieces}
+use Rattle.run_laws.proofs.Names.{ℕ, suc, zero, ◌≡◌, ◌+◌, ◌-◌, ◌*◌, ◌<◌, ◌≤◌, true, ◌&&◌, nat_eq, List, [], ◌∷◌, ◌++◌, length, arith, refl, ap, ◌∙◌, sym, inl, inr, All, Contains, mul-le, cases_lt, and_from, eq-eqb, length-append, length-map, append_assoc, All-head, All-tail, All-contains, suc-mul, step_of, cutting, cut_by, pieces_from, Sent, fragments_at, fragments_from, unnumbered, LinkPlan, PortPlan, pieces_of, port_pieces, pieces_on, most_pieces}
 use Rattle.std.specs.Int.{div_ceil}
 use Rattle.std.proofs.lemmas.Grind.{div_ceil_times}
 use Rattle.std.proofs.lemmas.List.Recursion.{max_bounds}

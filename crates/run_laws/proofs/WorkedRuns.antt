@@ -1,11 +1,5 @@
 -- The worked runs, by computation.
-use Rattle.run_laws.proofs.Names.{◌≡◌, ℕ, ◌+◌, ◌<◌, ◌≤◌, ◌⊎◌, List, [], ◌∷◌, ◌++◌, length, Bool, true, false, ◌&&◌, refl, ap, sym, ◌∙◌, arith, inl, inr, Some}
-use Rattle.run_laws.proofs.Names.{false≢true, length-append, All-from_recursion, A, cutting, fragments_at, blanked, Sent, addresses, header_front}
-use Rattle.run_laws.proofs.Names.{internet_header, link_header, udp_header, datagram, unnumbered, Entry, entry, Lines, Endures, BothEndure, log, stands_for}
-use Rattle.run_laws.proofs.Names.{LinkPlan, may_release, is_due, turn_of, IsAllowed, AreAllowed, Served, Nothing, Released, Lost, Drains, pace_in, stream_at}
-use Rattle.run_laws.proofs.Names.{link_wait, EmitterPolls, DrainPolls, AreRuns, ComesBy, cons_parts, below_one, below_both, slice_index, link_in, sub_in}
-use Rattle.run_laws.proofs.Names.{number_in, interface_byte, suc, None, ⊎_elim, All, length-map, All-head, All-tail, IsPlan, IsLink, IsPort, IsLater, AreTimely}
-use Rattle.run_laws.proofs.Names.{latest, IsPrefixOf, sub_stream, IsAccepted, HasPlace, AreFinding, fragments_of, seen_of, few_in}
+use Rattle.run_laws.proofs.Names.{◌≡◌, ℕ, ◌+◌, ◌<◌, ◌≤◌, ◌⊎◌, List, [], ◌∷◌, ◌++◌, length, Bool, true, false, ◌&&◌, refl, ap, sym, ◌∙◌, arith, inl, inr, Some, false≢true, length-append, All-from_recursion, A, cutting, fragments_at, blanked, Sent, addresses, header_front, internet_header, link_header, udp_header, datagram, unnumbered, Entry, entry, Lines, Endures, BothEndure, log, stands_for, LinkPlan, may_release, is_due, turn_of, IsAllowed, AreAllowed, Served, Nothing, Released, Lost, Drains, pace_in, stream_at, link_wait, EmitterPolls, DrainPolls, AreRuns, ComesBy, cons_parts, below_one, below_both, slice_index, link_in, sub_in, number_in, interface_byte, suc, None, ⊎_elim, All, length-map, All-head, All-tail, IsPlan, IsLink, IsPort, IsLater, AreTimely, latest, IsPrefixOf, sub_stream, IsAccepted, HasPlace, AreFinding, fragments_of, seen_of, few_in}
 use Rattle.afdx_legal.specs.Done.{Owes}
 use Rattle.afdx_plan.specs.declared.networks.Networks.TheVariants.{Both}
 use Rattle.redundant_mux.specs.Logged.{logged_for}

@@ -1,7 +1,5 @@
 -- How many slots a worker's port requested.
-use Rattle.storm.proofs.Names.{◌≡◌, ℕ, zero, suc, ◌+◌, ◌<◌, ◌≤◌, List, [], ◌∷◌, ◌++◌, length, get_or, map, ap}
-use Rattle.storm.proofs.Names.{sym, ◌∙◌, subst, ⊎_elim, arith, length-map, map-append, SenderView, IsRefused}
-use Rattle.storm.proofs.Names.{PortView, Accepts, Refuses, asked_by, AreAtMost}
+use Rattle.storm.proofs.Names.{◌≡◌, ℕ, zero, suc, ◌+◌, ◌<◌, ◌≤◌, List, [], ◌∷◌, ◌++◌, length, get_or, map, ap, sym, ◌∙◌, subst, ⊎_elim, arith, length-map, map-append, SenderView, IsRefused, PortView, Accepts, Refuses, asked_by, AreAtMost}
 use Rattle.subvl_queue.specs.declared.refused.Why.{Why}
 use Rattle.afdx_tx.specs.declared.fault.Refusal.{Refusal}
 use Rattle.afdx_tx.specs.declared.fault.Refusal.TheVariants.{Empty, TooLong, Closed, Exhausted, Full}

@@ -1,7 +1,5 @@
 -- The cells of a board and of a monitor.
-use Rattle.storm.proofs.Names.{◌≡◌, ℕ, suc, ◌<◌, List, [], ◌∷◌, length, map, set, get_or, refl, sym, ap, ◌∙◌, arith}
-use Rattle.storm.proofs.Names.{get_or-map, length-map, map-set_same, Published, Watched, published, seen, no_cell}
-use Rattle.storm.proofs.Names.{AreNew, cells_of, cells_read}
+use Rattle.storm.proofs.Names.{◌≡◌, ℕ, suc, ◌<◌, List, [], ◌∷◌, length, map, set, get_or, refl, sym, ap, ◌∙◌, arith, get_or-map, length-map, map-set_same, Published, Watched, published, seen, no_cell, AreNew, cells_of, cells_read}
 use Rattle.atomic_table.specs.Seated.{TableId}
 
 abbrev written : Published → TableId

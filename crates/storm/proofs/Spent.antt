@@ -1,10 +1,5 @@
 -- The ports of an emitter, once each of them sent its messages.
-use Rattle.storm.proofs.Names.{◌≡◌, ◌∙◌, ℕ, zero, suc, ◌+◌, ◌*◌, ◌<◌, ◌≤◌, List, [], ◌∷◌, ◌++◌, length, map, get_or}
-use Rattle.storm.proofs.Names.{Option, Some, refl, ap, sym, subst, arith, sum_by, get_or-map, length-map}
-use Rattle.storm.proofs.Names.{length-append, Contains-get_or, Plan, port_plan_at, QueueName, SenderView, Tx}
-use Rattle.storm.proofs.Names.{queues_in, PortView, BelongsTo, AreOpenedWith, AreFreshPorts, HasEveryPlace}
-use Rattle.storm.proofs.Names.{index_of, queue_for, message, messages_to, own_messages, Named, named, sent_all}
-use Rattle.storm.proofs.Names.{asked_by, asked_after, AreAtMost, IsSpent, AreSpent}
+use Rattle.storm.proofs.Names.{◌≡◌, ◌∙◌, ℕ, zero, suc, ◌+◌, ◌*◌, ◌<◌, ◌≤◌, List, [], ◌∷◌, ◌++◌, length, map, get_or, Option, Some, refl, ap, sym, subst, arith, sum_by, get_or-map, length-map, length-append, Contains-get_or, Plan, port_plan_at, QueueName, SenderView, Tx, queues_in, PortView, BelongsTo, AreOpenedWith, AreFreshPorts, HasEveryPlace, index_of, queue_for, message, messages_to, own_messages, Named, named, sent_all, asked_by, asked_after, AreAtMost, IsSpent, AreSpent}
 use Rattle.std.proofs.lemmas.List.Sums.{sum_by-cons}
 
 -- a port that is the same but for its own messages belongs to the same configuration and queues

@@ -1,6 +1,5 @@
 -- Why a storm over a plan or a text is refused.
-use Rattle.storm.proofs.Names.{◌≡◌, List, ℕ, refl, Plan, Failure, StormFault, HasShortPort, IsPlanRefusal}
-use Rattle.storm.proofs.Names.{IsStormRefusal, failure_of}
+use Rattle.storm.proofs.Names.{◌≡◌, List, ℕ, refl, Plan, Failure, StormFault, HasShortPort, IsPlanRefusal, IsStormRefusal, failure_of}
 use Rattle.afdx_config.specs.Faults.{IsPlanOf}
 use Rattle.storm.specs.declared.fault.StormFault.TheVariants.{Short, Turns, Memory}
 use Rattle.plan_report.specs.declared.failure.Failure.TheVariants as Failures

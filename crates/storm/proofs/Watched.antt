@@ -1,7 +1,5 @@
 -- What a watcher does to its monitor.
-use Rattle.storm.proofs.Names.{◌≡◌, ℕ, ◌+◌, ◌<◌, ◌≤◌, ◌⊎◌, inl, inr, List, set, refl, sym, ap, ◌∙◌, subst}
-use Rattle.storm.proofs.Names.{arith, get_or-set_other, eq-or-lt_of_le, Counts, Watched, seen, IsReading, ReadsOnly}
-use Rattle.storm.proofs.Names.{ReadsFirst}
+use Rattle.storm.proofs.Names.{◌≡◌, ℕ, ◌+◌, ◌<◌, ◌≤◌, ◌⊎◌, inl, inr, List, set, refl, sym, ap, ◌∙◌, subst, arith, get_or-set_other, eq-or-lt_of_le, Counts, Watched, seen, IsReading, ReadsOnly, ReadsFirst}
 use Rattle.storm.proofs.SameCells.{cells_kept, no_seen}
 
 pub only_none : (monitor : List Watched) (link : ℕ) → ReadsOnly monitor monitor link 0

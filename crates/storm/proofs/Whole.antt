@@ -1,7 +1,5 @@
 -- The frames of a storm, once its ports are taken back and all is sent.
-use Rattle.storm.proofs.Names.{◌≡◌, ◌∙◌, ℕ, ◌<◌, List, length, All, ap, sym, subst, All-contains, Plan, Entry, log}
-use Rattle.storm.proofs.Names.{Accepted, IsLegal, AreAllowed, AreOwn, AreOwnStreams, accepted_in, Tx, PortView}
-use Rattle.storm.proofs.Names.{own_messages, AreSpent}
+use Rattle.storm.proofs.Names.{◌≡◌, ◌∙◌, ℕ, ◌<◌, List, length, All, ap, sym, subst, All-contains, Plan, Entry, log, Accepted, IsLegal, AreAllowed, AreOwn, AreOwnStreams, accepted_in, Tx, PortView, own_messages, AreSpent}
 use Rattle.afdx_legal.specs.Done.{IsAllDone, IsHandedWhole}
 use Rattle.afdx_tx.specs.Gathering.{IsGatheredTx}
 

@@ -1,5 +1,4 @@
-use Rattle.storm.proofs.Names.{List, ◌∙◌, subst, sym, Appends, LinkPlan, Failure, IsPlanRefusal}
-use Rattle.storm.proofs.Names.{totals_of}
+use Rattle.storm.proofs.Names.{List, ◌∙◌, subst, sym, Appends, LinkPlan, Failure, IsPlanRefusal, totals_of}
 use Rattle.storm.proofs.StormLemmas.{refuses_plan}
 use Rattle.storm.proofs.command.throw_storm.Goals as goal
 
