@@ -3,7 +3,9 @@ ghost use Rattle.std.specs.Prelude.{◌≡◌, ◌<◌, ◌≤◌};
 ghost use Rattle.afdx_plan.specs.Plan.{IsPort, SendsOver};
 
 use crate::testing::*;
-use afdx_frame::{Cut, Frame, FrameBuffer, Net, ident_of, more_of, offset_of, sn_of, sub_of, twin, vl_of};
+use afdx_frame::{
+    Cut, Frame, FrameBuffer, Net, ident_of, more_of, offset_of, sn_of, sub_of, twin, vl_of,
+};
 use afdx_plan::{Bag, Kind, LinkPlan, Lmax, Networks, PortId, PortPlan, UdpSum, VlId};
 
 /// The demonstration port's message 01 at place 0, with number 0.
