@@ -1,34 +1,34 @@
 //! The types of public fields, each taken by its name with its type written out, and the names of faults.
+use crate::rig::{System, open};
 use crate::testing::*;
-use afdx_plan::{VlId, demo_config};
-use afdx_tx::{NoSuchSub, PollFault, Refusal, Release, Report, SendFault, open_tx};
+use afdx_plan::VlId;
+use afdx_tx::{NoSuchSub, PollFault, Refusal, Release, Report, SendFault};
 use arrayvec::ArrayVec;
-use redundant_mux::{MemNetwork, Standing};
+use redundant_mux::Standing;
 use status_board::Counts;
 use std::fmt::InlineText;
 use subvl_queue::{Item, Refused, Why, make};
 
+/// The fields of what a full queue refuses.
+fn refused(told: Result<(), Refused>) -> Option<(Why, usize)> {
+    let Refused { why, bytes } = told.err()?;
+    let (why, bytes): (Why, Vec<u8>) = (why, bytes);
+    Some((why, bytes.len()))
+}
+
 #[test]
-fn fields_of_a_queues_values(rt: HostRuntime) -> Result<(), Fail> {
+fn fields_of_a_queues_values(rt: HostRuntime) {
     let alloc = rt.alloc();
-    let (mut receiver, mut senders) = make(alloc, 1, 1, 2)?;
+    let (mut receiver, mut senders) = make(alloc, 1, 1, 2).ok().expect(&rt, "memory");
     for sender in senders.iter_mut() {
-        let first = vec![in alloc; 1, 2]?;
+        let first = vec![in alloc; 1, 2].expect(&rt, "memory");
         assert!(rt; sender.send(first).is_ok());
-        let second = vec![in alloc; 3]?;
-        if let Err(Refused { why, bytes }) = sender.send(second) {
-            let (why, bytes): (Why, Vec<u8>) = (why, bytes);
-            assert_same(&rt, why, Why::Full);
-            assert_same(&rt, bytes.len(), 1);
-        }
+        let second = vec![in alloc; 3].expect(&rt, "memory");
+        assert_same(&rt, refused(sender.send(second)), Some((Why::Full, 1)));
     }
-    let Some(Item { bytes, port }) = receiver.take() else {
-        return Err(Fail::from("nothing to take"));
-    };
+    let Item { bytes, port } = receiver.take().expect(&rt, "the first message");
     let (bytes, port): (Vec<u8>, u8) = (bytes, port);
-    assert_same(&rt, bytes.len(), 2);
-    assert_same(&rt, port, 0);
-    Ok(())
+    assert_same(&rt, (bytes.len(), port), (2, 0));
 }
 
 /// The fields of a report of one release.
@@ -38,37 +38,37 @@ fn released(report: &Report) -> Option<(VlId, u8, u8)> {
     Some((vl, sub, number))
 }
 
-#[test]
-fn fields_of_an_emitters_values(rt: HostRuntime) -> Result<(), Fail> {
-    let alloc = rt.alloc();
-    let (a, b) = (MemNetwork::new(alloc), MemNetwork::new(alloc));
-    let Ok((mut emitter, mut ports, _monitor)) = open_tx(alloc, demo_config(alloc)?, a, b) else {
-        return Err(Fail::from("out of memory"));
-    };
-    for port in ports.iter_mut() {
-        let message = vec![in alloc; 1]?;
-        assert!(rt; port.send(message).is_ok());
-        if let Err(SendFault { why, bytes }) = port.send(Vec::new(alloc)) {
-            let (why, bytes): (Refusal, Vec<u8>) = (why, bytes);
-            assert_same(&rt, why, Refusal::Empty);
-            assert_same(&rt, bytes.len(), 0);
-        }
-    }
-    let report = emitter.poll(5)?;
-    assert_same(&rt, released(&report), Some((VlId(1), 0, 0)));
-    let Standing { a, b }: Standing = report.standing;
-    let up: (bool, bool) = (a, b);
-    assert_same(&rt, up, (true, true));
-    let counts = emitter.counts(VlId(1));
+/// The fields of what a port refuses.
+fn returned(told: Result<(), SendFault>) -> Option<(Refusal, usize)> {
+    let SendFault { why, bytes } = told.err()?;
+    let (why, bytes): (Refusal, Vec<u8>) = (why, bytes);
+    Some((why, bytes.len()))
+}
+
+/// The fields of a link's counts.
+fn counted(counts: Counts) -> (u64, u64, u64, u64) {
     let Counts {
         frames,
         bytes,
         messages,
         last,
-    } = counts.expect(&rt, "the link");
-    let counts: (u64, u64, u64, u64) = (frames, bytes, messages, last);
-    assert_same(&rt, counts, (1, 60, 1, 5));
-    Ok(())
+    } = counts;
+    (frames, bytes, messages, last)
+}
+
+#[test]
+fn fields_of_an_emitters_values(rt: HostRuntime) {
+    let mut rig = open(&rt, DEMO, NEVER);
+    assert_same(&rt, rig.send(&rt, 0, &[1]), None);
+    let told = rig.take_first(&rt).send(Vec::new(rt.alloc()));
+    assert_same(&rt, returned(told), Some((Refusal::Empty, 0)));
+    let report = rig.poll(&rt, 5).expect(&rt, "a network that is up");
+    assert_same(&rt, released(&report), Some((VlId(1), 0, 0)));
+    let Standing { a, b }: Standing = report.standing;
+    let up: (bool, bool) = (a, b);
+    assert_same(&rt, up, (true, true));
+    let counts = rig.counts(1).map(counted);
+    assert_same(&rt, counts, Some((1, 60, 1, 5)));
 }
 
 // Why a port refuses a message, with the number and the name of that.

@@ -24,15 +24,14 @@ fn assert_sent(rt: &impl Abort, report: &Report, a: &MemNetwork, b: &MemNetwork)
 fn one_message_from_its_port_to_both_networks(rt: HostRuntime) -> Result<(), Fail> {
     let alloc = rt.alloc();
     let (a, b) = (MemNetwork::new(alloc), MemNetwork::new(alloc));
-    let Ok((mut emitter, mut ports, mut monitor)) = open_tx(alloc, demo_config(alloc)?, a, b) else {
-        return Err(Fail::from("out of memory"));
-    };
+    let opened = open_tx(alloc, demo_config(alloc)?, a, b).ok();
+    let (mut emitter, mut ports, mut monitor) = opened.expect(&rt, "memory");
     for port in ports.iter_mut() {
-        let message = b"hello".as_slice().to_vec(alloc)?;
+        let message = b"hello".as_slice().to_vec(alloc).expect(&rt, "memory");
         assert!(rt; port.send(message).is_ok());
     }
     assert_same(&rt, emitter.now(), 0);
-    let report = emitter.poll(0)?;
+    let report = emitter.poll(0).expect(&rt, "a network that is up");
     emitter.publish(&rt);
     assert_eq!(rt; monitor.read(&rt, 0).frames, 1);
     let (a, b) = emitter.into_networks();

@@ -1,6 +1,6 @@
 //! Tests on one thread, each a list of steps.
 use crate::play::Step::*;
-use crate::play::{act_all, play};
+use crate::play::{Step, act_all, play};
 use crate::rig::{Rig, open, send};
 use crate::testing::*;
 use afdx_tx::{NoSuchSub, Refusal};
@@ -22,7 +22,7 @@ fn assert_first(rt: &impl Abort, network: &MemNetwork, frame: &[u8]) {
 // It is counted once it is sent. A missing link has no counts.
 #[test]
 fn a_message_of_one_byte_goes_out_as_one_frame_on_each_network(rt: HostRuntime) {
-    let steps = [
+    const STEPS: &[Step] = &[
         Reads(&[(0, 0, 0, 0)]),
         Sends(0, &[1]),
         Reads(&[(0, 0, 0, 0)]),
@@ -31,8 +31,8 @@ fn a_message_of_one_byte_goes_out_as_one_frame_on_each_network(rt: HostRuntime) 
         Counts(0, None),
         Counts(2, None),
     ];
-    let in_rest = [IsDone(true), Holds((1, 0), (1, 0))];
-    let rest = play(&rt, DEMO, NEVER, &steps, &in_rest);
+    const IN_REST: &[Step] = &[IsDone(true), Holds((1, 0), (1, 0))];
+    let rest = play(&rt, DEMO, NEVER, STEPS, IN_REST);
     let (a, b) = rest.draining.into_networks();
     let mut for_b = FOR_A;
     for_b[11] = 0x40;
@@ -43,7 +43,7 @@ fn a_message_of_one_byte_goes_out_as_one_frame_on_each_network(rt: HostRuntime) 
 // 1,472 bytes are sent in two frames: of 14 + 20 + 1,472 + 1 bytes, and of 60, the least.
 #[test]
 fn a_message_in_two_frames_counts_with_its_last(rt: HostRuntime) {
-    let steps = [
+    const STEPS: &[Step] = &[
         Sends(0, &[0xaa; 1_472]),
         Counts(1, Some((0, 0, 0, 0))),
         Polls(0, &[(1, 0, 0)], BOTH),
@@ -55,26 +55,26 @@ fn a_message_in_two_frames_counts_with_its_last(rt: HostRuntime) {
         Counts(1, Some((2, 1_567, 1, 1_000))),
         Reads(&[(2, 1_567, 1, 1_000)]),
     ];
-    let in_rest = [Counts(1, Some((2, 1_567, 1, 1_000))), IsDone(true)];
-    play(&rt, DEMO, NEVER, &steps, &in_rest);
+    const IN_REST: &[Step] = &[Counts(1, Some((2, 1_567, 1, 1_000))), IsDone(true)];
+    play(&rt, DEMO, NEVER, STEPS, IN_REST);
 }
 
 #[test]
 fn a_link_releases_nothing_before_its_gap_is_over(rt: HostRuntime) {
-    let steps = [
+    const STEPS: &[Step] = &[
         Sends(0, &[1]),
         Sends(0, &[2]),
         Polls(0, &[(1, 0, 0)], BOTH),
         Polls(999, &[], BOTH),
         Polls(1_000, &[(1, 0, 1)], BOTH),
     ];
-    play(&rt, DEMO, NEVER, &steps, &[Holds((2, 0), (2, 0))]);
+    play(&rt, DEMO, NEVER, STEPS, &[Holds((2, 0), (2, 0))]);
 }
 
 // A fails at its third hand. B, the last that is up, fails at its sixth. That frame is lost and isn't counted.
 #[test]
 fn frames_that_one_network_alone_took_count_and_those_that_none_took_do_not(rt: HostRuntime) {
-    let steps = [
+    const STEPS: &[Step] = &[
         Sends(0, &[1]),
         Sends(0, &[2]),
         Sends(0, &[3]),
@@ -98,14 +98,14 @@ fn frames_that_one_network_alone_took_count_and_those_that_none_took_do_not(rt: 
         IsAt(5_000),
         Holds((2, 1), (5, 1)),
     ];
-    let in_rest = [FindsBothDown(7_000), IsAt(5_000), IsDone(false)];
-    play(&rt, SIX, (3, 6), &steps, &in_rest);
+    const IN_REST: &[Step] = &[FindsBothDown(7_000), IsAt(5_000), IsDone(false)];
+    play(&rt, SIX, (3, 6), STEPS, IN_REST);
 }
 
 // Messages fill the queue before the close. They are sent after it, and later ones are refused as closed.
 #[test]
 fn a_closed_sub_vl_refuses_what_comes_and_sends_what_it_accepted(rt: HostRuntime) {
-    let steps = [
+    const STEPS: &[Step] = &[
         Sends(0, &[1]),
         Sends(0, &[2]),
         Refused(0, &[3], Refusal::Full),
@@ -119,26 +119,26 @@ fn a_closed_sub_vl_refuses_what_comes_and_sends_what_it_accepted(rt: HostRuntime
         Closes(1, 0, Ok(2)),
         Accepted(0, 10, 2),
     ];
-    let in_rest = [IsDone(true), Holds((2, 0), (2, 0))];
-    play(&rt, DEMO, NEVER, &steps, &in_rest);
+    const IN_REST: &[Step] = &[IsDone(true), Holds((2, 0), (2, 0))];
+    play(&rt, DEMO, NEVER, STEPS, IN_REST);
 }
 
 #[test]
 fn a_sub_vl_that_is_closed_first_accepts_none(rt: HostRuntime) {
-    let steps = [
+    const STEPS: &[Step] = &[
         Closes(1, 0, Ok(0)),
         Refused(0, &[1], Refusal::Closed),
         Polls(0, &[], BOTH),
         Accepted(0, 10, 0),
     ];
-    let in_rest = [IsDone(true), Holds((0, 0), (0, 0))];
-    play(&rt, DEMO, NEVER, &steps, &in_rest);
+    const IN_REST: &[Step] = &[IsDone(true), Holds((0, 0), (0, 0))];
+    play(&rt, DEMO, NEVER, STEPS, IN_REST);
 }
 
 // The link is missing, or the index is, or both are.
 #[test]
 fn a_sub_vl_that_is_not_there_is_not_closed(rt: HostRuntime) {
-    let steps = [
+    const STEPS: &[Step] = &[
         Sends(0, &[1]),
         Polls(1_000, &[(1, 0, 0)], BOTH),
         Closes(2, 1, Err(NoSuchSub)),
@@ -149,12 +149,12 @@ fn a_sub_vl_that_is_not_there_is_not_closed(rt: HostRuntime) {
         Sends(0, &[2]),
         Polls(2_000, &[(1, 0, 1)], BOTH),
     ];
-    play(&rt, DEMO, NEVER, &steps, &[IsDone(true)]);
+    play(&rt, DEMO, NEVER, STEPS, &[IsDone(true)]);
 }
 
 #[test]
 fn what_is_left_goes_out_after_the_port_came_back(rt: HostRuntime) {
-    let in_rest = [
+    const IN_REST: &[Step] = &[
         Polls(0, &[(1, 0, 0)], BOTH),
         IsDone(false),
         Polls(1_000, &[(1, 0, 1)], BOTH),
@@ -164,13 +164,13 @@ fn what_is_left_goes_out_after_the_port_came_back(rt: HostRuntime) {
         IsAt(2_000),
         Holds((2, 0), (2, 0)),
     ];
-    let steps = [Sends(0, &[1]), Sends(0, &[2])];
-    play(&rt, DEMO, NEVER, &steps, &in_rest);
+    const STEPS: &[Step] = &[Sends(0, &[1]), Sends(0, &[2])];
+    play(&rt, DEMO, NEVER, STEPS, IN_REST);
 }
 
 #[test]
 fn a_lost_frame_is_never_done(rt: HostRuntime) {
-    let in_rest = [
+    const IN_REST: &[Step] = &[
         Polls(0, &[(1, 0, 0)], BOTH),
         IsDone(false),
         Polls(1_000, &[], NEITHER),
@@ -179,27 +179,27 @@ fn a_lost_frame_is_never_done(rt: HostRuntime) {
         IsAt(1_000),
         IsDone(false),
     ];
-    let steps = [Sends(0, &[1]), Sends(0, &[2])];
-    play(&rt, DEMO, (2, 2), &steps, &in_rest);
+    const STEPS: &[Step] = &[Sends(0, &[1]), Sends(0, &[2])];
+    play(&rt, DEMO, (2, 2), STEPS, IN_REST);
 }
 
 // Networks are seen while ports send, in the drain, and after it.
 #[test]
 fn networks_are_seen_while_ports_send_and_while_what_is_left_goes_out(rt: HostRuntime) {
-    let steps = [
+    const STEPS: &[Step] = &[
         Sends(0, &[1]),
         Sends(0, &[2]),
         Holds((0, 0), (0, 0)),
         Polls(0, &[(1, 0, 0)], BOTH),
         Holds((1, 0), (1, 0)),
     ];
-    let in_rest = [
+    const IN_REST: &[Step] = &[
         Holds((1, 0), (1, 0)),
         Polls(1_000, &[(1, 0, 1)], ONLY_A),
         IsDone(true),
         Holds((2, 0), (1, 1)),
     ];
-    let rest = play(&rt, DEMO, (u64::MAX, 2), &steps, &in_rest);
+    let rest = play(&rt, DEMO, (u64::MAX, 2), STEPS, IN_REST);
     let (a, b) = rest.draining.into_networks();
     assert_holds(&rt, &a, (2, 0));
     assert_holds(&rt, &b, (1, 1));
@@ -215,21 +215,21 @@ const ON_A_AND_ON_BOTH: Plan = (
 // frame isn't counted.
 #[test]
 fn a_link_whose_network_failed_holds_up_no_other_and_is_never_done(rt: HostRuntime) {
-    let steps = [
+    const STEPS: &[Step] = &[
         Sends(0, &[1]),
         Sends(1, &[2]),
         Polls(0, &[(2, 0, 0)], ONLY_B),
         Polls(1_000, &[], ONLY_B),
         Reads(&[(0, 0, 0, 0), (1, 60, 1, 0)]),
     ];
-    let in_rest = [
+    const IN_REST: &[Step] = &[
         IsAt(1_000),
         IsDone(false),
         Polls(2_000, &[], ONLY_B),
         IsDone(false),
         Holds((0, 1), (1, 0)),
     ];
-    play(&rt, ON_A_AND_ON_BOTH, (1, u64::MAX), &steps, &in_rest);
+    play(&rt, ON_A_AND_ON_BOTH, (1, u64::MAX), STEPS, IN_REST);
 }
 
 // One sub-VL with room for two messages, and two ports on it, of 100 bytes and of 4.
@@ -242,7 +242,7 @@ const TWO_PORTS: Plan = (
 // and one too many are refused.
 #[test]
 fn what_two_ports_sent_into_one_queue_goes_out_before_and_after_they_are_gathered(rt: HostRuntime) {
-    let steps = [
+    const STEPS: &[Step] = &[
         Refused(0, &[], Refusal::Empty),
         Refused(1, &[7; 5], Refusal::TooLong),
         Sends(1, &[7; 4]),
@@ -252,13 +252,13 @@ fn what_two_ports_sent_into_one_queue_goes_out_before_and_after_they_are_gathere
         Accepted(1, 20, 1),
         Polls(0, &[(1, 0, 0)], BOTH),
     ];
-    let in_rest = [
+    const IN_REST: &[Step] = &[
         IsAt(0),
         IsDone(false),
         Polls(1_000, &[(1, 0, 1)], BOTH),
         IsDone(true),
     ];
-    play(&rt, TWO_PORTS, NEVER, &steps, &in_rest);
+    play(&rt, TWO_PORTS, NEVER, STEPS, IN_REST);
 }
 
 // The queue lives as long as one of its ends, and stays full.
