@@ -260,18 +260,20 @@ static double none_due(struct side *side, const struct work *work) {
     return (now_ns() - begun) / work->units;
 }
 
-/* By hand alone: the cutting of messages that are made before. */
+/* By hand alone: the cutting of messages that are made before, of less than 128 KB, since the allocator gives more than that
+   back to the system when it is freed. */
 static double frames_alone(struct side *side, const struct work *work) {
     enum { BATCH = 32 };
     uint8_t *messages[BATCH];
+    const unsigned batch = work->length > 2048 ? 8 : BATCH;
     double sum = 0;
-    for (unsigned k = 0; k < work->units; k += BATCH) {
-        for (unsigned j = 0; j < BATCH; j++) {
+    for (unsigned k = 0; k < work->units; k += batch) {
+        for (unsigned j = 0; j < batch; j++) {
             want((messages[j] = malloc(work->length)) != NULL, "no memory");
             memcpy(messages[j], message, work->length);
         }
         double begun = now_ns();
-        want(hand_cut(side->hand, messages, BATCH, work->length) > 0, "no frames");
+        want(hand_cut(side->hand, messages, batch, work->length) > 0, "no frames");
         sum += now_ns() - begun;
     }
     return sum / work->units;

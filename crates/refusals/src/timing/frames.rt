@@ -1,5 +1,5 @@
 //! Times the cutting of messages into frames for two networks.
-ghost use Rattle.std.specs.Prelude.{◌≡◌, []};
+ghost use Rattle.std.specs.Prelude.{◌≡◌, ◌<◌, []};
 ghost use Rattle.afdx_plan.specs.Plan.{SendsOver};
 ghost use Rattle.redundant_mux.specs.Logged.{entries_of};
 
@@ -10,8 +10,13 @@ use afdx_plan::{Config, LinkPlan, Networks};
 use redundant_mux::{HandFault, Mux, Network, Trail};
 use script_text::{FrameLog, write_streams};
 
-/// How many messages are made before they are timed.
-const BATCH: u32 = 32;
+/// How many messages of a size are made before they are timed: of less than 128 KB, since the C library's
+/// allocator gives more than that back to the system when it is freed, and takes it anew.
+fn batch(size: usize) -> u32
+    ensures { 0 < result }
+{
+    if size > 2_048 { 8 } else { 32 }
+}
 
 /// The most frames of a message.
 const FRAMES: u8 = 6;
@@ -109,8 +114,9 @@ pub fn time(rt: &HostRuntime, config: &Config, load: Load) -> Result<u64, Troubl
     let mut mux = Mux::new(Touch::new(), Touch::new());
     let mut frame = FrameBuffer::new();
     let mut nanos = 0u64;
-    for _ in 0..load.units / BATCH {
-        let messages = make_messages(rt.alloc(), BATCH, load.size)?;
+    let batch = batch(load.size);
+    for _ in 0..load.units / batch {
+        let messages = make_messages(rt.alloc(), batch, load.size)?;
         let begun = now(rt)?;
         send_all(&mut mux, &mut frame, config, messages)?;
         nanos = nanos.wrapping_add(now(rt)?.wrapping_sub(begun));
