@@ -74,8 +74,8 @@ fn hand_to<N: Network + Drop>(
         (N.failures network.old) (N.failures network.new) }
     ensures unfailed { stands.new ≡ true → N.failures network.new ≡ 0 }
 {
-    if named {
-        *stands = *stands && network.hand(at, frame).is_ok();
+    if named && *stands && network.hand(at, frame).is_err() {
+        *stands = false;
     }
 }
 
