@@ -1,4 +1,5 @@
 //! Bars of the page, as SVG.
+use std::fmt;
 use std::io::{self, Write};
 
 /// The width of a bar's drawing.
@@ -7,73 +8,71 @@ const WIDTH: u64 = 10_000;
 /// The width of a mark.
 const MARK: u64 = 50;
 
-/// A bar being drawn. Scale and fill are in the unit of its values.
-#[derive(Drop)]
-pub(crate) struct Bar {
-    scale: u64,
-    filled: u64,
-    parts: u64,
+/// The begin of a drawing: a track of the whole width.
+pub(crate) const TRACK: &str = "<svg viewBox=\"0 0 10000 100\" preserveAspectRatio=\"none\" \
+    aria-hidden=\"true\"><rect class=\"track\" width=\"10000\" height=\"100\"/>";
+
+/// The position of a value in the drawing of a bar that `scale` fills.
+fn place(scale: u64, value: u64) -> u64 {
+    value.min(scale).saturating_mul(WIDTH) / scale.max(1)
 }
 
-impl Bar {
-    /// An empty bar; a value of `scale` fills it.
-    pub(crate) fn new(scale: u64) -> Bar {
-        Bar {
-            scale: scale.max(1),
-            filled: 0,
-            parts: 0,
-        }
-    }
+/// A bar of one value. Scale and value are in one unit.
+#[derive(Drop)]
+pub(crate) struct Bar {
+    // the value that fills the bar
+    pub(crate) scale: u64,
+    pub(crate) value: u64,
+}
 
-    /// The position of a value in the drawing.
-    fn place(&self, value: u64) -> u64 {
-        value.min(self.scale).saturating_mul(WIDTH) / self.scale.max(1)
-    }
-
-    /// Begins the drawing.
-    pub(crate) fn begin<W: Write>(&self, writer: &mut W) -> io::Result<()> {
+impl fmt::Display for Bar {
+    fn fmt<W: fmt::Write>(&self, f: &mut fmt::Formatter<W>) -> fmt::Result {
+        let width = place(self.scale, self.value);
         write!(
-            writer,
-            "<svg viewBox=\"0 0 {WIDTH} 100\" preserveAspectRatio=\"none\" "
-        )?;
-        write!(
-            writer,
-            "aria-hidden=\"true\"><rect class=\"track\" width=\"{WIDTH}\" height=\"100\"/>"
+            f,
+            "{TRACK}<rect class=\"one\" x=\"0\" width=\"{width}\" height=\"100\"/></svg>"
         )
+    }
+}
+
+/// A bar of several parts, being drawn over a track. Scale and fill are in the unit of its values.
+#[derive(Drop)]
+pub(crate) struct Parts {
+    scale: u64,
+    filled: u64,
+    // whether the next part has the second color
+    second: bool,
+}
+
+impl Parts {
+    /// A bar with no part; a value of `scale` fills it.
+    pub(crate) fn new(scale: u64) -> Parts {
+        Parts {
+            scale,
+            filled: 0,
+            second: false,
+        }
     }
 
     /// Adds a part. Neighbouring parts differ in color.
     pub(crate) fn fill<W: Write>(&mut self, writer: &mut W, value: u64) -> io::Result<()> {
-        let start = self.place(self.filled);
+        let start = place(self.scale, self.filled);
         self.filled = self.filled.saturating_add(value);
-        let width = self.place(self.filled).saturating_sub(start);
-        let class = if self.parts % 2 == 0 { "one" } else { "two" };
-        self.parts = self.parts.saturating_add(1);
+        let width = place(self.scale, self.filled).saturating_sub(start);
+        let class = if self.second { "two" } else { "one" };
+        self.second = !self.second;
         write!(
             writer,
             "<rect class=\"{class}\" x=\"{start}\" width=\"{width}\" height=\"100\"/>"
         )
     }
 
-    /// Marks a limit.
-    pub(crate) fn mark<W: Write>(&self, writer: &mut W, limit: u64) -> io::Result<()> {
-        let place = self.place(limit).saturating_sub(MARK);
+    /// Marks a limit and ends the drawing.
+    pub(crate) fn end<W: Write>(&self, writer: &mut W, limit: u64) -> io::Result<()> {
+        let place = place(self.scale, limit).saturating_sub(MARK);
         write!(
             writer,
-            "<rect class=\"mark\" x=\"{place}\" width=\"{MARK}\" height=\"100\"/>"
+            "<rect class=\"mark\" x=\"{place}\" width=\"{MARK}\" height=\"100\"/></svg>"
         )
     }
-
-    /// Ends the drawing.
-    pub(crate) fn end<W: Write>(&self, writer: &mut W) -> io::Result<()> {
-        writer.write_all(b"</svg>")
-    }
-}
-
-/// A bar of one value.
-pub(crate) fn write_bar<W: Write>(writer: &mut W, scale: u64, value: u64) -> io::Result<()> {
-    let mut bar = Bar::new(scale);
-    bar.begin(writer)?;
-    bar.fill(writer, value)?;
-    bar.end(writer)
 }

@@ -9,6 +9,7 @@ mod limits;
 mod link_row;
 mod load;
 mod network_row;
+mod numbers;
 mod page;
 mod port_row;
 mod style;
