@@ -66,12 +66,21 @@ impl Parts {
             "<rect class=\"{class}\" x=\"{start}\" width=\"{width}\" height=\"100\"/>"
         )
     }
+}
 
-    /// Marks a limit and ends the drawing.
-    pub(crate) fn end<W: Write>(&self, writer: &mut W, limit: u64) -> io::Result<()> {
-        let place = place(self.scale, limit).saturating_sub(MARK);
+/// The mark of a limit on a bar of parts, and the end of the drawing.
+#[derive(Drop)]
+pub(crate) struct Mark {
+    // the value that fills the bar
+    pub(crate) scale: u64,
+    pub(crate) limit: u64,
+}
+
+impl fmt::Display for Mark {
+    fn fmt<W: fmt::Write>(&self, f: &mut fmt::Formatter<W>) -> fmt::Result {
+        let place = place(self.scale, self.limit).saturating_sub(MARK);
         write!(
-            writer,
+            f,
             "<rect class=\"mark\" x=\"{place}\" width=\"{MARK}\" height=\"100\"/></svg>"
         )
     }

@@ -1,6 +1,6 @@
 //! The page of an analysis: one self-contained HTML file.
 use crate::analysis::Analysis;
-use crate::bars::{Bar, Parts, TRACK};
+use crate::bars::{Bar, Mark, Parts, TRACK};
 use crate::limits::JITTER_LIMIT;
 use crate::link_row::LinkRow;
 use crate::load::carries;
@@ -9,6 +9,7 @@ use crate::numbers::{Load, Rate, Share};
 use crate::port_row::PortRow;
 use crate::style::STYLE;
 use crate::text::{network_name, networks_cell};
+use std::fmt;
 use std::io::{self, Write};
 
 /// The rate of a network in bits a second.
@@ -17,16 +18,6 @@ const LINE_RATE: u64 = 100_000_000;
 /// Writes an analysis as a page: the numbers of `write_analysis`, and bars of loads, jitter and waits.
 /// All text on it is numeric or fixed, so nothing needs escaping.
 pub fn write_page<W: Write>(writer: &mut W, analysis: &Analysis) -> io::Result<()> {
-    write_top(writer, analysis)?;
-    write_loads(writer, analysis)?;
-    write_links(writer, analysis.links.as_slice())?;
-    write_jitter(writer, analysis)?;
-    write_waits(writer, analysis.ports.as_slice())?;
-    writer.write_all(b"</body>\n</html>\n")
-}
-
-/// Writes the head of the page and its title.
-fn write_top<W: Write>(writer: &mut W, analysis: &Analysis) -> io::Result<()> {
     let id = analysis.end_system;
     let lateness = analysis.lateness;
     writeln!(
@@ -36,7 +27,12 @@ fn write_top<W: Write>(writer: &mut W, analysis: &Analysis) -> io::Result<()> {
         <title>End system {id}</title>\n<style>{STYLE}</style>\n</head>\n<body>\n\
         <h1>End system <span id=\"end-system\">{id}</span></h1>\n\
         <p>Polls come up to <span id=\"lateness\">{lateness}</span> &micro;s late.</p>"
-    )
+    )?;
+    write_loads(writer, analysis)?;
+    write_links(writer, analysis.links.as_slice())?;
+    write_jitter(writer, analysis)?;
+    write_waits(writer, analysis.ports.as_slice())?;
+    writer.write_all(b"</body>\n</html>\n")
 }
 
 /// Writes a load bar for each network, split by link, and the table of the networks.
@@ -51,13 +47,13 @@ fn write_loads<W: Write>(writer: &mut W, analysis: &Analysis) -> io::Result<()> 
     )?;
     write_network_bar(writer, scale, a, links)?;
     write_network_bar(writer, scale, b, links)?;
-    writer.write_all(
-        b"</div>\n<div class=\"scroll\"><table id=\"networks\">\n\
-        <tr><th>network<th>load kbit/s<th>share %<th>exceeded\n",
-    )?;
-    write_network(writer, a)?;
-    write_network(writer, b)?;
-    writer.write_all(b"</table></div>\n")
+    let (cells_a, cells_b) = (NetworkCells(a), NetworkCells(b));
+    writeln!(
+        writer,
+        "</div>\n<div class=\"scroll\"><table id=\"networks\">\n\
+        <tr><th>network<th>load kbit/s<th>share %<th>exceeded\n\
+        {cells_a}{cells_b}</table></div>"
+    )
 }
 
 /// Writes a load bar for each link, and the table of the links.
@@ -67,7 +63,13 @@ fn write_links<W: Write>(writer: &mut W, links: &[LinkRow]) -> io::Result<()> {
         <div class=\"bars\">\n",
     )?;
     for row in links {
-        write_link_bar(writer, row)?;
+        let id = row.plan.id.0;
+        let load = Load(row.load);
+        let bar = Bar {
+            scale: LINE_RATE,
+            value: row.load,
+        };
+        writeln!(writer, "<span>link {id}</span>{bar}<span>{load}</span>")?;
     }
     writer.write_all(
         b"</div>\n<div class=\"scroll\"><table id=\"links\">\n<tr><th>link<th>BAG ms\
@@ -94,33 +96,30 @@ fn write_network_bar<W: Write>(
             bar.fill(writer, row.load)?;
         }
     }
-    bar.end(writer, LINE_RATE)?;
+    let mark = Mark {
+        scale,
+        limit: LINE_RATE,
+    };
     let share = Share(network.share);
-    writeln!(writer, "<span>{share} %</span>")
+    writeln!(writer, "{mark}<span>{share} %</span>")
 }
 
-/// Writes a row of the table of the networks.
-fn write_network<W: Write>(writer: &mut W, row: &NetworkRow) -> io::Result<()> {
-    let name = network_name(row.name);
-    let load = Load(row.load);
-    let share = Share(row.share);
-    let exceeded = if row.exceeded {
-        " class=\"over\">yes"
-    } else {
-        ">no"
-    };
-    writeln!(writer, "<tr><td>{name}<td>{load}<td>{share}<td{exceeded}")
-}
+/// A row of the table of the networks.
+#[derive(Drop)]
+struct NetworkCells<'a>(&'a NetworkRow);
 
-/// Writes the load bar of a link.
-fn write_link_bar<W: Write>(writer: &mut W, row: &LinkRow) -> io::Result<()> {
-    let id = row.plan.id.0;
-    let bar = Bar {
-        scale: LINE_RATE,
-        value: row.load,
-    };
-    let load = Load(row.load);
-    writeln!(writer, "<span>link {id}</span>{bar}<span>{load}</span>")
+impl fmt::Display for NetworkCells<'_> {
+    fn fmt<W: fmt::Write>(&self, f: &mut fmt::Formatter<W>) -> fmt::Result {
+        let name = network_name(self.0.name);
+        let load = Load(self.0.load);
+        let share = Share(self.0.share);
+        let exceeded = if self.0.exceeded {
+            " class=\"over\">yes"
+        } else {
+            ">no"
+        };
+        writeln!(f, "<tr><td>{name}<td>{load}<td>{share}<td{exceeded}")
+    }
 }
 
 /// Writes a row of the table of the links.
@@ -156,7 +155,13 @@ fn write_jitter<W: Write>(writer: &mut W, analysis: &Analysis) -> io::Result<()>
     )?;
     write_jitter_parts(writer, analysis)?;
     for row in analysis.links.as_slice() {
-        write_part(writer, row)?;
+        let id = row.plan.id.0;
+        let part = row.jitter;
+        let bar = Bar {
+            scale: JITTER_LIMIT,
+            value: part,
+        };
+        writeln!(writer, "<span>link {id}</span>{bar}<span>{part}</span>")?;
     }
     writer.write_all(b"</div>\n")
 }
@@ -168,24 +173,17 @@ fn write_jitter_parts<W: Write>(writer: &mut W, analysis: &Analysis) -> io::Resu
     for row in analysis.links.as_slice() {
         parts = parts.saturating_add(row.jitter);
     }
-    let mut bar = Parts::new(jitter.max(JITTER_LIMIT));
+    let scale = jitter.max(JITTER_LIMIT);
+    let mut bar = Parts::new(scale);
     bar.fill(writer, jitter.saturating_sub(parts))?;
     for row in analysis.links.as_slice() {
         bar.fill(writer, row.jitter)?;
     }
-    bar.end(writer, JITTER_LIMIT)?;
-    writeln!(writer, "<span>{jitter}</span>")
-}
-
-/// Writes the jitter bar of a link.
-fn write_part<W: Write>(writer: &mut W, row: &LinkRow) -> io::Result<()> {
-    let id = row.plan.id.0;
-    let part = row.jitter;
-    let bar = Bar {
-        scale: JITTER_LIMIT,
-        value: part,
+    let mark = Mark {
+        scale,
+        limit: JITTER_LIMIT,
     };
-    writeln!(writer, "<span>link {id}</span>{bar}<span>{part}</span>")
+    writeln!(writer, "{mark}<span>{jitter}</span>")
 }
 
 /// Writes a bar of the longest wait for each port, and the table of the ports.
@@ -200,7 +198,13 @@ fn write_waits<W: Write>(writer: &mut W, ports: &[PortRow]) -> io::Result<()> {
         come and no sender is stopped in the middle of a send.</p>\n<div class=\"bars\">\n",
     )?;
     for row in ports {
-        write_wait(writer, longest, row)?;
+        let id = row.id.0;
+        let wait = row.wait;
+        let bar = Bar {
+            scale: longest,
+            value: wait,
+        };
+        writeln!(writer, "<span>port {id}</span>{bar}<span>{wait}</span>")?;
     }
     writer.write_all(
         b"</div>\n<div class=\"scroll\"><table id=\"ports\">\n<tr><th>port<th>link\
@@ -210,17 +214,6 @@ fn write_waits<W: Write>(writer: &mut W, ports: &[PortRow]) -> io::Result<()> {
         write_port(writer, row)?;
     }
     writer.write_all(b"</table></div>\n")
-}
-
-/// Writes the bar of a port's wait, which the longest wait fills.
-fn write_wait<W: Write>(writer: &mut W, longest: u64, row: &PortRow) -> io::Result<()> {
-    let id = row.id.0;
-    let wait = row.wait;
-    let bar = Bar {
-        scale: longest,
-        value: wait,
-    };
-    writeln!(writer, "<span>port {id}</span>{bar}<span>{wait}</span>")
 }
 
 /// Writes a row of the table of the ports.

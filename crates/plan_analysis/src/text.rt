@@ -1,9 +1,8 @@
 //! The text of an analysis.
 ghost use Rattle.std.specs.Prelude.{◌≡◌, OnOk, flat_map};
 ghost use Rattle.std.specs.Io.KnownBytes.{Appends};
-ghost use Rattle.plan_analysis.specs.Text.{thousandths as text_of_thousandths, hundredths as text_of_hundredths};
-ghost use Rattle.plan_analysis.specs.Text.{head_line, links_head, link_cells, link_line, jitter_line};
-ghost use Rattle.plan_analysis.specs.Text.{network_line, ports_head, port_cells, port_line};
+ghost use Rattle.plan_analysis.specs.Text.{head_line, links_head, link_line, jitter_line};
+ghost use Rattle.plan_analysis.specs.Text.{network_line, ports_head, port_line};
 ghost use Rattle.plan_analysis.specs.Text.{links_table, networks_table, ports_table, text_of};
 ghost use Rattle.plan_analysis.specs.Text.{networks_cell as cell_of_networks, network_name as name_of_network};
 ghost use Rattle.plan_analysis.specs.Text.{exceeded_cell as cell_of_exceeded};
@@ -12,8 +11,9 @@ use crate::analysis::Analysis;
 use crate::limits::JITTER_LIMIT;
 use crate::link_row::LinkRow;
 use crate::network_row::{NetworkName, NetworkRow};
+use crate::numbers::{Load, Rate, Share};
 use crate::port_row::PortRow;
-use afdx_plan::{LinkPlan, Networks};
+use afdx_plan::Networks;
 use std::io::{self, Write};
 
 /// Writes an analysis as text: one table each for links, networks and ports. Each row is a line of
@@ -87,30 +87,23 @@ fn write_links<W: Write>(writer: &mut W, links: &[LinkRow]) -> io::Result<()>
     Ok(())
 }
 
-#[tactic(auto, unfolding(crate::specs::Text::link_line))]
+#[tactic(auto, unfolding(crate::specs::Text::link_line, crate::specs::Text::link_cells))]
 fn write_link<W: Write>(writer: &mut W, row: &LinkRow) -> io::Result<()>
     ensures { OnOk result (Appends (W.contents writer.old) (W.contents writer.new)
         (link_line row.now)) }
 {
-    write_plan(writer, &row.plan)?;
-    write_load(writer, row.load)?;
-    write_share(writer, row.share)?;
+    let id = row.plan.id.0;
+    let bag = row.plan.bag.ms();
+    let lmax = row.plan.lmax.bytes();
+    let subs = row.plan.sub_vls;
+    let networks = networks_cell(row.plan.networks);
+    let load = Load(row.load);
+    let share = Share(row.share);
     let jitter = row.jitter;
-    writeln!(writer, "{jitter:>11}")
-}
-
-/// The columns of a link that come from the plan.
-#[tactic(auto, unfolding(crate::specs::Text::link_cells))]
-fn write_plan<W: Write>(writer: &mut W, plan: &LinkPlan) -> io::Result<()>
-    ensures { OnOk result (Appends (W.contents writer.old) (W.contents writer.new)
-        (link_cells plan.now)) }
-{
-    let id = plan.id.0;
-    let bag = plan.bag.ms();
-    let lmax = plan.lmax.bytes();
-    let subs = plan.sub_vls;
-    let networks = networks_cell(plan.networks);
-    write!(writer, "{id:>5}{bag:>7}{lmax:>5}{subs:>5} {networks}")
+    writeln!(
+        writer,
+        "{id:>5}{bag:>7}{lmax:>5}{subs:>5} {networks}{load}{share}{jitter:>11}"
+    )
 }
 
 pub(crate) fn networks_cell(networks: Networks) -> &'static str
@@ -123,39 +116,17 @@ pub(crate) fn networks_cell(networks: Networks) -> &'static str
     }
 }
 
-/// Writes a load in kbit/s.
-#[tactic(auto, unfolding(crate::specs::Text::thousandths))]
-pub(crate) fn write_load<W: Write>(writer: &mut W, load: u64) -> io::Result<()>
-    ensures { OnOk result (Appends (W.contents writer.old) (W.contents writer.new)
-        (text_of_thousandths 11 load)) }
-{
-    let whole = load / 1_000;
-    let rest = load % 1_000;
-    write!(writer, "{whole:>11}.{rest:03}")
-}
-
-/// Writes a share in percent.
-#[tactic(auto, unfolding(crate::specs::Text::hundredths))]
-pub(crate) fn write_share<W: Write>(writer: &mut W, share: u64) -> io::Result<()>
-    ensures { OnOk result (Appends (W.contents writer.old) (W.contents writer.new)
-        (text_of_hundredths 6 share)) }
-{
-    let whole = share / 100;
-    let rest = share % 100;
-    write!(writer, "{whole:>6}.{rest:02}")
-}
-
 #[tactic(auto, unfolding(crate::specs::Text::jitter_line))]
 fn write_jitter<W: Write>(writer: &mut W, jitter: u64) -> io::Result<()>
     ensures { OnOk result (Appends (W.contents writer.old) (W.contents writer.new)
         (jitter_line jitter)) }
 {
-    write!(writer, "jitter {jitter} ns of {JITTER_LIMIT}")?;
-    if jitter > JITTER_LIMIT {
-        writer.write_all(b", exceeded\n")
+    let exceeded = if jitter > JITTER_LIMIT {
+        ", exceeded"
     } else {
-        writer.write_all(b"\n")
-    }
+        ""
+    };
+    writeln!(writer, "jitter {jitter} ns of {JITTER_LIMIT}{exceeded}")
 }
 
 #[tactic(auto, unfolding(crate::specs::Text::network_line))]
@@ -163,11 +134,11 @@ fn write_network<W: Write>(writer: &mut W, row: &NetworkRow) -> io::Result<()>
     ensures { OnOk result (Appends (W.contents writer.old) (W.contents writer.new)
         (network_line row.now)) }
 {
-    writer.write_all(network_name(row.name).as_bytes())?;
-    write_load(writer, row.load)?;
-    write_share(writer, row.share)?;
+    let name = network_name(row.name);
+    let load = Load(row.load);
+    let share = Share(row.share);
     let exceeded = exceeded_cell(row.exceeded);
-    writeln!(writer, "{exceeded}")
+    writeln!(writer, "{name}{load}{share}{exceeded}")
 }
 
 pub(crate) fn network_name(name: NetworkName) -> &'static str
@@ -203,38 +174,19 @@ fn write_ports<W: Write>(writer: &mut W, ports: &[PortRow]) -> io::Result<()>
     Ok(())
 }
 
-#[tactic(auto, unfolding(crate::specs::Text::port_line))]
+#[tactic(auto, unfolding(crate::specs::Text::port_line, crate::specs::Text::port_cells))]
 fn write_port<W: Write>(writer: &mut W, row: &PortRow) -> io::Result<()>
     ensures { OnOk result (Appends (W.contents writer.old) (W.contents writer.new)
         (port_line row.now)) }
 {
-    write_place(writer, row)?;
-    let fragments = row.fragments;
-    let wait = row.wait;
-    write!(writer, "{fragments:>10}{wait:>15}")?;
-    write_sustained(writer, row.sustained)?;
-    writer.write_all(b"\n")
-}
-
-/// Writes the port, its link and its sub-VL.
-#[tactic(auto, unfolding(crate::specs::Text::port_cells))]
-fn write_place<W: Write>(writer: &mut W, row: &PortRow) -> io::Result<()>
-    ensures { OnOk result (Appends (W.contents writer.old) (W.contents writer.new)
-        (port_cells row.now)) }
-{
     let id = row.id.0;
     let link = row.vl.0;
     let sub = row.sub;
-    write!(writer, "{id:>5}{link:>6}{sub:>4}")
-}
-
-/// Writes a rate in messages per second.
-#[tactic(auto, unfolding(crate::specs::Text::thousandths))]
-pub(crate) fn write_sustained<W: Write>(writer: &mut W, sustained: u64) -> io::Result<()>
-    ensures { OnOk result (Appends (W.contents writer.old) (W.contents writer.new)
-        (text_of_thousandths 9 sustained)) }
-{
-    let whole = sustained / 1_000;
-    let rest = sustained % 1_000;
-    write!(writer, "{whole:>9}.{rest:03}")
+    let fragments = row.fragments;
+    let wait = row.wait;
+    let rate = Rate(row.sustained);
+    writeln!(
+        writer,
+        "{id:>5}{link:>6}{sub:>4}{fragments:>10}{wait:>15}{rate}"
+    )
 }
