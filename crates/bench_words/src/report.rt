@@ -2,22 +2,26 @@
 ghost use Rattle.std.specs.Prelude.{◌≤◌, IfOk, IfSome};
 ghost use Rattle.bench_words.specs.Words.{IsInRange};
 
-use crate::words::{Words, flag, given_path, not_decimal, over_config, path};
+use crate::words::{Words, flag, given_path, over_config, refuse_number};
 use clap::{ArgMatches, Command, Error, value_parser};
 use plan_analysis::LATENESS_LIMIT;
 use script_text::number;
 use std::alloc::{AllocError, Global};
 
-pub(crate) fn report_words(alloc: Global, matches: &ArgMatches<'_>) -> Result<Words, Error>
+pub(crate) fn report_words(
+    alloc: Global,
+    matches: &ArgMatches<'_>,
+    config: String,
+) -> Result<Words, Error>
     ensures { IfOk result IsInRange }
 {
     match lateness_of(matches) {
         Some(lateness) => Ok(Words::Report {
-            config: path(alloc, matches, "config")?,
+            config,
             lateness,
             html: given_path(alloc, matches, "html")?,
         }),
-        None => Err(not_decimal(alloc)?),
+        None => refuse_number(alloc),
     }
 }
 
@@ -34,11 +38,11 @@ fn lateness_of(matches: &ArgMatches<'_>) -> Option<u64>
 pub(crate) fn report_command<'a>(alloc: Global) -> Result<Command<'a>, AllocError> {
     let about = "Prints the loads, the jitter and the longest waits of a configuration";
     let report = over_config(alloc, "report", about)?;
-    let lateness = flag(alloc, "lateness")
+    let help = "How late polls come at most, in microseconds: 0 if left out";
+    let lateness = flag(alloc, "lateness", help)
         .value_name("micros")
-        .value_parser(value_parser!(u64).range(0..1_000_001))
-        .help("How late polls come at most, in microseconds: 0 if left out");
+        .value_parser(value_parser!(u64).range(0..1_000_001));
     let report = report.arg(lateness)?;
     let help = "Also writes the report as a page to a file";
-    report.arg(flag(alloc, "html").value_name("file").help(help))
+    report.arg(flag(alloc, "html", help).value_name("file"))
 }

@@ -1,11 +1,11 @@
 //! The words of the command line.
-ghost use Rattle.std.specs.Prelude.{◌≡◌, ◌≤◌, ◌⊎◌, Some, None, IfOk, IfSome, IfNone};
+ghost use Rattle.std.specs.Prelude.{◌≡◌, ◌≤◌, ◌⊎◌, Some, None, IfOk, IfSome, IfNone, IsErr};
 ghost use Rattle.script_text.specs.Numbers.{number_of};
 ghost use Rattle.bench_words.specs.Words.{IsInRange};
 
 use crate::report::{report_command, report_words};
 use clap::error::ErrorKind;
-use clap::{Arg, ArgAction, ArgMatches, Command, Error, value_parser};
+use clap::{Arg, ArgMatches, Command, Error, value_parser};
 use script_text::number;
 use std::alloc::{AllocError, Global};
 use std::io;
@@ -61,16 +61,28 @@ pub fn read_words<R: Env + AllocGlobal>(rt: &R) -> Result<Words, Error>
             let words: Vec<String> = words.collect(alloc)?;
             parse(alloc, words.as_slice())
         }
-        Err(error) => Err(unread(alloc, &error)?),
+        Err(error) => match error.kind() {
+            io::ErrorKind::OutOfMemory => Err(Error::from(AllocError)),
+            _ => refuse(alloc, "a word is not UTF-8"),
+        },
     }
 }
 
-/// The error if the words can't be read.
-fn unread(alloc: Global, error: &io::Error) -> Result<Error, AllocError> {
-    if error.kind() == io::ErrorKind::OutOfMemory {
-        return Err(AllocError);
+/// Fails with a text on a word that clap doesn't read.
+fn refuse(alloc: Global, text: &str) -> Result<Words, Error>
+    ensures { IsErr result }
+{
+    match command(alloc)?.error(ErrorKind::InvalidValue, text) {
+        Ok(error) => Err(error),
+        Err(error) => Err(Error::from(error)),
     }
-    command(alloc)?.error(ErrorKind::InvalidValue, "a word is not UTF-8")
+}
+
+/// Fails for a number that isn't decimal digits alone.
+pub(crate) fn refuse_number(alloc: Global) -> Result<Words, Error>
+    ensures { IsErr result }
+{
+    refuse(alloc, "a number is written in decimal digits alone")
 }
 
 /// Parses a command line. Its first word is the program's name.
@@ -79,48 +91,48 @@ pub fn parse<'a>(alloc: Global, words: &'a [String]) -> Result<Words, Error>
 {
     let matches = command(alloc)?.try_get_matches_from(words)?;
     match matches.subcommand() {
-        Some(("run", inner)) => Ok(Words::Run {
-            config: path(alloc, inner, "config")?,
-            script: path(alloc, inner, "script")?,
-            capture: given_path(alloc, inner, "capture")?,
-        }),
-        Some(("check", inner)) => Ok(Words::Check {
-            config: path(alloc, inner, "config")?,
-        }),
-        Some(("explain", inner)) => Ok(Words::Explain {
-            config: path(alloc, inner, "config")?,
-        }),
-        Some(("report", inner)) => report_words(alloc, inner),
-        Some((_, inner)) => storm_words(alloc, inner),
+        Some((name, inner)) => words_of(alloc, name, inner),
         None => Ok(Words::Script),
     }
 }
 
-fn storm_words(alloc: Global, matches: &ArgMatches<'_>) -> Result<Words, Error>
+/// The words of a command, by its name. Each names a configuration.
+fn words_of(alloc: Global, name: &str, matches: &ArgMatches<'_>) -> Result<Words, Error>
+    ensures { IfOk result IsInRange }
+{
+    let config = path(alloc, matches, "config")?;
+    match name {
+        "run" => Ok(Words::Run {
+            config,
+            script: path(alloc, matches, "script")?,
+            capture: given_path(alloc, matches, "capture")?,
+        }),
+        "check" => Ok(Words::Check { config }),
+        "explain" => Ok(Words::Explain { config }),
+        "report" => report_words(alloc, matches, config),
+        _ => storm_words(alloc, matches, config),
+    }
+}
+
+fn storm_words(alloc: Global, matches: &ArgMatches<'_>, config: String) -> Result<Words, Error>
     ensures { IfOk result IsInRange }
 {
     match (messages_of(matches), turns_of(matches)) {
         (Some(messages), Some(turns)) => Ok(Words::Storm {
-            config: path(alloc, matches, "config")?,
+            config,
             messages,
             turns,
         }),
         // clap has checked the ranges, but it accepts a plus sign.
-        _ => Err(not_decimal(alloc)?),
+        _ => refuse_number(alloc),
     }
-}
-
-/// The error of a number that isn't decimal digits alone.
-pub(crate) fn not_decimal(alloc: Global) -> Result<Error, AllocError> {
-    let text = "a number is written in decimal digits alone";
-    command(alloc)?.error(ErrorKind::InvalidValue, text)
 }
 
 /// How many messages each port is to send.
 fn messages_of(matches: &ArgMatches<'_>) -> Option<u32>
     ensures { IfSome result (λ messages. (1 ≤ messages) × (messages ≤ MESSAGES_LIMIT)) }
 {
-    let messages = count(matches.get_str("messages")?, u64::from(MESSAGES_LIMIT))?;
+    let messages = count(matches.get_str("messages")?, MESSAGES_LIMIT as u64)?;
     Some(messages as u32)
 }
 
@@ -177,8 +189,11 @@ fn command<'a>(alloc: Global) -> Result<Command<'a>, AllocError> {
         )
         .disable_help_subcommand(true);
     let program = with(program, run_command(alloc))?;
-    let program = with(program, check_command(alloc))?;
-    let program = with(program, explain_command(alloc))?;
+    let about = "Prints the plan and the jitter of a configuration; `explain` locates its faults";
+    let program = with(program, over_config(alloc, "check", about))?;
+    let about =
+        "Prints all faults of a configuration, each with its place and what is allowed there";
+    let program = with(program, over_config(alloc, "explain", about))?;
     let program = with(program, report_command(alloc))?;
     with(program, storm_command(alloc))
 }
@@ -188,7 +203,10 @@ fn with<'a>(
     program: Command<'a>,
     made: Result<Command<'a>, AllocError>,
 ) -> Result<Command<'a>, AllocError> {
-    program.subcommand(made?)
+    match made {
+        Ok(command) => program.subcommand(command),
+        Err(error) => Err(error),
+    }
 }
 
 /// A command over the file of a configuration.
@@ -197,51 +215,37 @@ pub(crate) fn over_config<'a>(
     name: &'a str,
     about: &'a str,
 ) -> Result<Command<'a>, AllocError> {
-    Command::new(alloc, name).about(about).arg(file(alloc, "config").help(
-        "The file of the configuration",
-    ))
+    let config = file(alloc, "config", "The file of the configuration");
+    Command::new(alloc, name).about(about).arg(config)
 }
 
 /// The word of a file.
-fn file<'a>(alloc: Global, id: &'a str) -> Arg<'a> {
-    Arg::new(alloc, id).required(true).action(ArgAction::Set)
+fn file<'a>(alloc: Global, id: &'a str, help: &'a str) -> Arg<'a> {
+    Arg::new(alloc, id).required(true).help(help)
 }
 
 /// A flag that a word follows.
-pub(crate) fn flag<'a>(alloc: Global, name: &'a str) -> Arg<'a> {
-    Arg::new(alloc, name).long(name).action(ArgAction::Set)
+pub(crate) fn flag<'a>(alloc: Global, name: &'a str, help: &'a str) -> Arg<'a> {
+    Arg::new(alloc, name).long(name).help(help)
 }
 
 fn run_command<'a>(alloc: Global) -> Result<Command<'a>, AllocError> {
     let about = "Runs a script over a configuration and prints the frames of both networks";
     let help = "Also writes the frames of both networks to a file in the pcapng format";
     let run = over_config(alloc, "run", about)?;
-    let run = run.arg(file(alloc, "script").help("The file of the script"))?;
-    run.arg(flag(alloc, "capture").value_name("file").help(help))
-}
-
-fn check_command<'a>(alloc: Global) -> Result<Command<'a>, AllocError> {
-    let about = "Prints the plan and the jitter of a configuration; `explain` locates its faults";
-    over_config(alloc, "check", about)
-}
-
-fn explain_command<'a>(alloc: Global) -> Result<Command<'a>, AllocError> {
-    let about =
-        "Prints all faults of a configuration, each with its place and what is allowed there";
-    over_config(alloc, "explain", about)
+    let run = run.arg(file(alloc, "script", "The file of the script"))?;
+    run.arg(flag(alloc, "capture", help).value_name("file"))
 }
 
 fn storm_command<'a>(alloc: Global) -> Result<Command<'a>, AllocError> {
     let about = "Has all ports of a configuration send at once, and prints what came of it";
     let storm = over_config(alloc, "storm", about)?;
-    let messages = flag(alloc, "messages")
+    let messages = flag(alloc, "messages", "How many messages each port sends")
         .required(true)
-        .value_parser(value_parser!(u32).range(1..65536))
-        .help("How many messages each port sends");
+        .value_parser(value_parser!(u32).range(1..65536));
     let storm = storm.arg(messages)?;
-    let turns = flag(alloc, "turns")
+    let turns = flag(alloc, "turns", "How often each thread may try")
         .required(true)
-        .value_parser(value_parser!(u64).range(1..1_000_000_001))
-        .help("How often each thread may try");
+        .value_parser(value_parser!(u64).range(1..1_000_000_001));
     storm.arg(turns)
 }
