@@ -20,13 +20,13 @@ pub enum Failure {
 impl fmt::Display for Failure {
     fn fmt<W: fmt::Write>(&self, f: &mut fmt::Formatter<W>) -> fmt::Result {
         match self {
-            Failure::Config(ConfigFault::Memory) => write!(f, "{}", RunFault::Memory),
+            Failure::Config(ConfigFault::Memory) => fmt::Display::fmt(&RunFault::Memory, f),
             Failure::Config(fault) => {
                 write!(f, "configuration refused: {} {fault}", fault.number())
             }
-            Failure::Run(fault) => write!(f, "{fault}"),
-            Failure::Short => write!(f, "storm refused: a port's max is below 6"),
-            Failure::Turns => write!(f, "turns used up"),
+            Failure::Run(fault) => fmt::Display::fmt(fault, f),
+            Failure::Short => f.write_str("storm refused: a port's max is below 6"),
+            Failure::Turns => f.write_str("turns used up"),
         }
     }
 }

@@ -45,7 +45,10 @@ pub fn check<R: Read + Drop, W: Write>(
         Keeps (W.contents writer.old) (W.contents writer.new)) }
 {
     let config = read_plan(alloc, reader)?;
-    write_report(writer, &config).map_err(|_| Failure::Run(RunFault::Write))
+    match write_report(writer, &config) {
+        Ok(()) => Ok(()),
+        Err(_) => Err(Failure::Run(RunFault::Write)),
+    }
 }
 
 /// Reads a configuration and writes all of its faults, each with its place. Writes nothing if an

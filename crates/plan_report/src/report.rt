@@ -3,11 +3,11 @@ ghost use Rattle.std.specs.Prelude.{◌≡◌, OnOk, flat_map};
 ghost use Rattle.std.specs.Io.KnownBytes.{Appends};
 ghost use Rattle.plan_report.specs.Report.{kind_name as name_of_kind, checksum_text as text_of_checksum};
 ghost use Rattle.plan_report.specs.Report.{networks_text as text_of_networks};
-ghost use Rattle.plan_report.specs.Report.{end_system_line, jitter_line, report_of};
-ghost use Rattle.plan_report.specs.Report.{pace_text, queues_text, link_line};
-ghost use Rattle.plan_report.specs.Report.{way_text, flow_text, destination_text, port_line};
+ghost use Rattle.plan_report.specs.Report.{end_system_line, jitter_line, report_of, link_line};
+ghost use Rattle.plan_report.specs.Report.{way_text, flow_text, port_line};
 
 use afdx_plan::{Config, Kind, LinkPlan, Networks, PortPlan, UdpSum, jitter_ns};
+use std::fmt;
 use std::io::{self, Write};
 use std::net::Ipv4Addr;
 
@@ -45,36 +45,20 @@ fn write_links<W: Write>(writer: &mut W, links: &[LinkPlan]) -> io::Result<()>
     Ok(())
 }
 
-#[tactic(auto, unfolding(crate::specs::Report::link_line))]
 fn write_link<W: Write>(writer: &mut W, link: &LinkPlan) -> io::Result<()>
     ensures { OnOk result (Appends (W.contents writer.old) (W.contents writer.new)
         (link_line link.now)) }
 {
-    write_pace(writer, link)?;
-    write_queues(writer, link)?;
-    let networks = networks_text(link.networks);
-    writeln!(writer, "{networks}")
-}
-
-#[tactic(auto, unfolding(crate::specs::Report::pace_text))]
-fn write_pace<W: Write>(writer: &mut W, link: &LinkPlan) -> io::Result<()>
-    ensures { OnOk result (Appends (W.contents writer.old) (W.contents writer.new)
-        (pace_text link.now)) }
-{
     let id = link.id.0;
     let gap = link.bag.ms();
     let lmax = link.lmax.bytes();
-    write!(writer, "link {id}: bag {gap} ms, lmax {lmax}")
-}
-
-#[tactic(auto, unfolding(crate::specs::Report::queues_text))]
-fn write_queues<W: Write>(writer: &mut W, link: &LinkPlan) -> io::Result<()>
-    ensures { OnOk result (Appends (W.contents writer.old) (W.contents writer.new)
-        (queues_text link.now)) }
-{
-    let sub_vls = link.sub_vls;
+    let subs = link.sub_vls;
     let capacity = link.capacity;
-    write!(writer, ", sub-VLs {sub_vls}, capacity {capacity}")
+    let networks = networks_text(link.networks);
+    writeln!(
+        writer,
+        "link {id}: bag {gap} ms, lmax {lmax}, sub-VLs {subs}, capacity {capacity}{networks}"
+    )
 }
 
 fn networks_text(networks: Networks) -> &'static str
@@ -104,10 +88,9 @@ fn write_port<W: Write>(writer: &mut W, port: &PortPlan) -> io::Result<()>
 {
     write_way(writer, port)?;
     write_flow(writer, port)?;
-    writer.write_all(b", ")?;
-    write_destination(writer, port.unicast)?;
+    let address = Address(port.unicast);
     let checksum = checksum_text(port.checksum);
-    writeln!(writer, "{checksum}")
+    writeln!(writer, ", {address}{checksum}")
 }
 
 #[tactic(auto, unfolding(crate::specs::Report::way_text))]
@@ -137,14 +120,22 @@ fn write_flow<W: Write>(writer: &mut W, port: &PortPlan) -> io::Result<()>
     write!(writer, ", {kind}, {source} to {destination}, max {max}")
 }
 
-#[tactic(auto, unfolding(crate::specs::Report::destination_text))]
-fn write_destination<W: Write>(writer: &mut W, unicast: Option<[u8; 4]>) -> io::Result<()>
-    ensures { OnOk result (Appends (W.contents writer.old) (W.contents writer.new)
-        (destination_text unicast)) }
-{
-    match unicast {
-        Some(address) => write!(writer, "{}", Ipv4Addr::from(address)),
-        None => writer.write_all(b"multicast"),
+/// The destination of a port: its unicast address, if it has one.
+#[derive(Drop)]
+struct Address(Option<[u8; 4]>);
+
+impl fmt::Display for Address {
+    ghost use Rattle.std.specs.Prelude.{Some};
+    ghost use Rattle.plan_report.specs.Report.{destination_text};
+
+    ghost output = { λ address. Some (destination_text address.0) };
+
+    #[tactic(auto, unfolding(crate::specs::Report::destination_text))]
+    fn fmt<W: fmt::Write>(&self, f: &mut fmt::Formatter<W>) -> fmt::Result {
+        match self.0 {
+            Some(address) => write!(f, "{}", Ipv4Addr::from(address)),
+            None => f.write_str("multicast"),
+        }
     }
 }
 
