@@ -162,10 +162,10 @@ fn write_jitter<W: Write>(writer: &mut W, jitter: u64) -> io::Result<()>
     ensures { OnOk result (Appends (W.contents writer.old) (W.contents writer.new)
         (jitter_line jitter)) }
 {
-    write!(writer, "jitter {jitter} ns, limit {JITTER_LIMIT}")?;
-    if jitter > JITTER_LIMIT {
-        writer.write_all(b", exceeded\n")
+    let exceeded = if jitter > JITTER_LIMIT {
+        ", exceeded"
     } else {
-        writer.write_all(b"\n")
-    }
+        ""
+    };
+    writeln!(writer, "jitter {jitter} ns, limit {JITTER_LIMIT}{exceeded}")
 }
