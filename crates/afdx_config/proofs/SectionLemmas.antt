@@ -4,7 +4,10 @@ use Rattle.afdx_config.proofs.Names.{refl, ap, ◌-◌, false, map, length, take
 use Rattle.afdx_config.proofs.Names.{BTreeMap, cons_option, filter_map, list_any, as_table, view, items_view}
 use Rattle.afdx_config.proofs.Names.{members_view, member_keys, tables_among, has_other_item}
 use Rattle.afdx_config.proofs.Names.{take-map, length-map, option_map_or, fields_in, field_of, keys_of, Value}
-use Rattle.afdx_config.proofs.Names.{find, arith}
+use Rattle.afdx_config.proofs.Names.{find, arith, cond, is_some, nat_tests, not, ◌∙◌}
+use Rattle.std.proofs.lemmas.List.Sums.{sum_by-cons}
+use Rattle.std.specs.List.{count_by}
+use Rattle.std.specs.Prelude.{nat_eq}
 use Rattle.afdx_config.specs.declared.format.Field.{Field as Written}
 
 -- the keys of a table
@@ -48,3 +51,19 @@ pub find_map : {A B : Type 0} (p : B → Bool) (f : A → B) (xs : List A)
     → find p (map f xs) ≡ option_map f (find (λ x. p (f x)) xs)
 find_map p f [] = refl
 find_map p f (x ∷ xs) = grind (arith, find_map p f xs)
+
+-- an element passes a test exactly if the search for it finds one
+pub any_found : {A : Type 0} (p : A → Bool) (xs : List A) → list_any p xs ≡ is_some (find p xs)
+any_found p [] = refl
+any_found p (x ∷ xs) = grind (arith, any_found p xs)
+
+-- the same after `map`
+pub any_mapped : {A B : Type 0} (p : B → Bool) (f : A → B) (xs : List A) → list_any p (map f xs) ≡ is_some (find (λ x. p (f x)) xs)
+any_mapped p f xs = list_any_map p f xs ∙ any_found (λ x. p (f x)) xs
+
+-- no element passes a test exactly if the count of those that pass is 0
+pub none_counted : {A : Type 0} (p : A → Bool) (xs : List A) → not (list_any p xs) ≡ nat_eq (count_by p xs) 0
+none_counted p [] = refl
+none_counted p (x ∷ xs) =
+    let step = sum_by-cons (λ y. cond {A = ℕ} (p y) 1 0) x xs in
+    grind (arith, nat_tests, none_counted p xs, step)

@@ -6,7 +6,7 @@ ghost use Rattle.afdx_config.specs.Format.{fields_in};
 ghost use Rattle.afdx_config.specs.Tables.{rows_at, section_at, is_version_2};
 ghost use Rattle.afdx_config.specs.Views.{IsDocument, data_of, field_of};
 
-use crate::entries::{value_at, whole_number};
+use crate::entries::{number_or_0, value_at};
 use crate::format::Field;
 use std::alloc::{AllocError, Global};
 use toml::{Table, Value};
@@ -50,14 +50,17 @@ fn section<'a>(document: &'a Table, key: &str) -> Option<&'a Table>
     ensures { option_map (λ t. table_view t.now) result
         ≡ section_at key.now (table_view document.now) }
 {
-    value_at(document, key).and_then(|value| value.as_table())
+    match value_at(document, key) {
+        Some(value) => value.as_table(),
+        None => None,
+    }
 }
 
 /// The document is of format version 2.
 fn is_version_2(document: &Document<'_>) -> bool
     ensures { result ≡ is_version_2 (data_of document.now) }
 {
-    whole_number(document.top, "version").map_or(false, |version| version == 2)
+    number_or_0(document.top, "version") == 2
 }
 
 /// Restricts the keys of version 2 of the format to those of the document's version.

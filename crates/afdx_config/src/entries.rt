@@ -22,14 +22,30 @@ pub(crate) fn value_at<'a>(table: &'a Table, key: &str) -> Option<&'a Value>
 pub(crate) fn whole_number(table: &Table, key: &str) -> Option<i64>
     ensures { result ≡ whole_at key.now (table_view table.now) }
 {
-    value_at(table, key).and_then(|value| value.as_integer())
+    match value_at(table, key) {
+        Some(value) => value.as_integer(),
+        None => None,
+    }
 }
 
 /// The text under a key.
 pub(crate) fn text<'a>(table: &'a Table, key: &str) -> Option<&'a str>
     ensures { option_copied result ≡ text_at key.now (table_view table.now) }
 {
-    value_at(table, key).and_then(|value| value.as_str())
+    match value_at(table, key) {
+        Some(value) => value.as_str(),
+        None => None,
+    }
+}
+
+/// The number under a key, or 0 if it is missing or negative.
+pub(crate) fn number_or_0(table: &Table, key: &str) -> u64
+    ensures { result ≡ number_at key.now (table_view table.now) }
+{
+    match whole_number(table, key) {
+        Some(number) if 0 <= number => number as u64,
+        _ => 0,
+    }
 }
 
 /// The number under a key whose value has no fault.

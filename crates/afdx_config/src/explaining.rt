@@ -16,6 +16,7 @@ use crate::told::{write_explanation, write_toml};
 use crate::value_findings::{add_those, value_findings};
 use afdx_plan::ConfigFault;
 use std::alloc::{AllocError, Global};
+use std::io::Error as WriteError;
 use toml::Table;
 use toml::de::Error;
 
@@ -49,6 +50,11 @@ fn findings_in(
     Ok(found)
 }
 
+/// The error of a failed write: a `Vec` fails only for want of memory.
+fn no_memory(_error: WriteError) -> AllocError {
+    AllocError
+}
+
 /// Explains a document.
 fn explain_document(alloc: Global, table: &Table) -> Result<Explanation, AllocError>
     ensures { IfOk result (λ e.
@@ -57,7 +63,7 @@ fn explain_document(alloc: Global, table: &Table) -> Result<Explanation, AllocEr
     let document = Document::of(alloc, table)?;
     let findings = findings_in(alloc, &document, &SHOWN_FAULTS)?;
     let mut text = Vec::new(alloc);
-    write_explanation(&mut text, &document, findings.as_slice()).map_err(|_| AllocError)?;
+    write_explanation(&mut text, &document, findings.as_slice()).map_err(no_memory)?;
     Ok(Explanation { findings, text })
 }
 
@@ -89,7 +95,10 @@ fn explain_toml(alloc: Global, text: &[u8], error: &Error) -> Result<Explanation
     ensures { IfOk result (λ e.
         TellsToml text.now (map finding_of e.findings.items) e.text.items) }
 {
-    let start = error.span().map_or(0, |span| span.start);
+    let start = match error.span() {
+        Some(span) => span.start,
+        None => 0,
+    };
     let (before, _rest) = text.split_at(start);
     tell_toml(alloc, before, error.message())
 }
@@ -106,7 +115,7 @@ fn tell_toml(alloc: Global, before: &[u8], message: &str) -> Result<Explanation,
     let fault = ConfigFault::Toml;
     add(&mut findings, fault, place, message, None)?;
     let mut text = Vec::new(alloc);
-    write_toml(&mut text, line, column, message).map_err(|_| AllocError)?;
+    write_toml(&mut text, line, column, message).map_err(no_memory)?;
     Ok(Explanation { findings, text })
 }
 

@@ -1,7 +1,7 @@
 //! The faults of keys of tables.
-ghost use Rattle.std.specs.Prelude.{◌≡◌, map, is_none, bytes_eq};
+ghost use Rattle.std.specs.Prelude.{◌≡◌, map, find, is_none, bytes_eq, option_copied};
 ghost use Rattle.std.specs.List.{list_any};
-ghost use Rattle.toml.specs.Data.{as_table};
+ghost use Rattle.toml.specs.Data.{as_table, integer, string};
 ghost use Rattle.toml.specs.View.{table_view, items_view, view};
 ghost use Rattle.afdx_config.specs.Entries.{lies_outside};
 ghost use Rattle.afdx_config.specs.Tables.{has_other_item, content_fault, field_fault, key_fault, is_key_of};
@@ -34,27 +34,51 @@ fn lies_outside(range: Range, number: i64) -> bool
     number < i64::from(least) || i64::from(most) < number
 }
 
+/// The fault of a whole number: it is out of range, not a BAG, or not wanted.
+fn number_fault(content: Content, number: i64) -> Option<ConfigFault>
+    ensures { result ≡ content_fault content (integer number) }
+{
+    match content {
+        Content::Whole(range) => lies_outside(range, number).then_some(ConfigFault::OutOfRange),
+        Content::Gap => bag_of_ms(number).is_none().then_some(ConfigFault::BadBag),
+        _ => Some(ConfigFault::WrongKind),
+    }
+}
+
+/// The fault of a text: it names nothing, or is not wanted.
+fn text_fault(content: Content, text: &str) -> Option<ConfigFault>
+    ensures { result ≡ content_fault content (string text.now) }
+{
+    let is_unknown = match content {
+        Content::Networks => networks_named(text).is_none(),
+        Content::PortKind => kind_named(text).is_none(),
+        Content::Address => unicast_address(text).is_none(),
+        Content::Checksum => checksum_named(text).is_none(),
+        _ => return Some(ConfigFault::WrongKind),
+    };
+    is_unknown.then_some(ConfigFault::OutOfRange)
+}
+
 /// The fault of a value: it is of the wrong kind, out of range, or not a BAG.
 fn content_fault(content: Content, value: &Value) -> Option<ConfigFault>
     ensures { result ≡ content_fault content (view value.now) }
 {
-    let is_bad = match content {
-        Content::Whole(range) => value.as_integer().map(|n| lies_outside(range, n)),
-        Content::Gap => value.as_integer().map(|n| bag_of_ms(n).is_none()),
-        Content::Networks => value.as_str().map(|name| networks_named(name).is_none()),
-        Content::PortKind => value.as_str().map(|name| kind_named(name).is_none()),
-        Content::Address => value.as_str().map(|text| unicast_address(text).is_none()),
-        Content::Checksum => value.as_str().map(|name| checksum_named(name).is_none()),
-        Content::Section => value.as_table().map(|_| false),
-        Content::Rows => value
-            .as_array()
-            .map(|values| holds_other_item(values.as_slice())),
-    };
-    match (is_bad, content) {
-        (Some(false), _) => None,
-        (Some(true), Content::Gap) => Some(ConfigFault::BadBag),
-        (Some(true), Content::Rows) | (None, _) => Some(ConfigFault::WrongKind),
-        (Some(true), _) => Some(ConfigFault::OutOfRange),
+    match content {
+        Content::Whole(_) | Content::Gap => match value.as_integer() {
+            Some(number) => number_fault(content, number),
+            None => Some(ConfigFault::WrongKind),
+        },
+        Content::Section => (!value.is_table()).then_some(ConfigFault::WrongKind),
+        Content::Rows => match value.as_array() {
+            Some(values) => {
+                holds_other_item(values.as_slice()).then_some(ConfigFault::WrongKind)
+            }
+            None => Some(ConfigFault::WrongKind),
+        },
+        _ => match value.as_str() {
+            Some(text) => text_fault(content, text),
+            None => Some(ConfigFault::WrongKind),
+        },
     }
 }
 
@@ -69,18 +93,19 @@ pub(crate) fn field_fault(table: &Table, field: &Field) -> Option<ConfigFault>
     }
 }
 
-fn names_some(fields: &[Field], key: &str) -> bool
-    ensures { result ≡ list_any (λ f. bytes_eq key.now (field_of f).key) fields.now }
+/// The row of a format that has this key.
+pub(crate) fn row_named<'a>(fields: &'a [Field], key: &str) -> Option<&'a Field>
+    ensures { option_copied result ≡ find (λ f. bytes_eq key.now (field_of f).key) fields.now }
 {
-    fields.iter().any(|field| key == field.0)
+    fields.iter().find(|field| key == field.0)
 }
 
 /// The key is in the format.
-#[tactic(auto, using(crate::proofs::SectionLemmas::list_any_map))]
+#[tactic(auto, using(crate::proofs::SectionLemmas::any_mapped))]
 fn is_key_of(fields: &[Field], key: &str) -> bool
     ensures { result ≡ is_key_of (map field_of fields.now) key.now }
 {
-    names_some(fields, key)
+    matches!(row_named(fields, key), Some(_))
 }
 
 /// The fault of a key that a table has: it is not in the format.

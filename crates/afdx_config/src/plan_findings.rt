@@ -139,28 +139,23 @@ fn link_of<'a>(links: &'a [LinkRow], port: &PortRow) -> Option<&'a LinkRow>
     links.iter().find(|link| link.id == port.vl)
 }
 
-fn has_link(links: &[LinkRow], port: &PortRow) -> bool
-    ensures { result ≡ list_any (is_link_of port.now) links.now }
-{
-    links.iter().any(|link| link.id == port.vl)
-}
-
 /// A port does not fit its link, or has no link.
+#[tactic(auto, using(crate::proofs::SectionLemmas::any_found))]
 fn is_misfit(fault: ConfigFault, links: &[LinkRow], port: &PortRow) -> bool
     ensures { result ≡ is_misfit fault links.now port.now }
 {
     match fault {
-        ConfigFault::NoSuchVl => !has_link(links, port),
-        ConfigFault::NoSuchSub => link_of(links, port).map_or(
-            false,
-            |link| link.sub_vls <= port.sub,
-        ),
+        ConfigFault::NoSuchVl => matches!(link_of(links, port), None),
+        ConfigFault::NoSuchSub => match link_of(links, port) {
+            Some(link) => link.sub_vls <= port.sub,
+            None => false,
+        },
         ConfigFault::SamplingTooLong => match port.kind {
             Kind::Queuing => false,
-            Kind::Sampling => link_of(links, port).map_or(
-                false,
-                |link| link.lmax.saturating_sub(47) < port.max,
-            ),
+            Kind::Sampling => match link_of(links, port) {
+                Some(link) => link.lmax.saturating_sub(47) < port.max,
+                None => false,
+            },
         },
         _ => false,
     }
@@ -186,22 +181,15 @@ fn count_on(ports: &[PortRow], port: &PortRow) -> usize
         .count()
 }
 
-/// A later port is on the same sub-VL.
-fn is_followed(port: &PortRow, rest: &[PortRow]) -> bool
-    ensures { result ≡ list_any (has_same_sub port.now) rest.now }
-{
-    rest.iter()
-        .any(|other| other.vl == port.vl && other.sub == port.sub)
-}
-
 /// The port is the last one on a sub-VL with too many ports.
+#[tactic(auto, using(crate::proofs::SectionLemmas::none_counted))]
 fn is_last_crowded(fault: ConfigFault, ports: &[PortRow], port: &PortRow, rest: &[PortRow]) -> bool
     ensures { result
         ≡ is_last_crowded fault ports.now port.now rest.now }
 {
     match fault {
         ConfigFault::Limit => {
-            SUB_PORTS_LIMIT < count_on(ports, port) && !is_followed(port, rest)
+            SUB_PORTS_LIMIT < count_on(ports, port) && count_on(rest, port) == 0
         }
         _ => false,
     }

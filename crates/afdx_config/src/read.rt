@@ -10,7 +10,14 @@ use crate::findings::SHOWN_FAULTS;
 use crate::parts::parts_of;
 use crate::value_findings::{first_among, value_findings};
 use afdx_plan::{Config, ConfigFault};
-use std::alloc::Global;
+use std::alloc::{AllocError, Global};
+
+/// The fault of a failed allocation.
+fn no_memory(_error: AllocError) -> ConfigFault
+    ensures { result ≡ ConfigFault.Memory }
+{
+    ConfigFault::Memory
+}
 
 /// Converts a document.
 fn read_document(alloc: Global, document: &Document<'_>) -> Result<Config, ConfigFault>
@@ -20,11 +27,11 @@ fn read_document(alloc: Global, document: &Document<'_>) -> Result<Config, Confi
     ensures fault { IfErr result (λ fault. fault ≢ ConfigFault.Memory →
         first_fault (data_of document.now) ≡ Some fault) }
 {
-    let found = value_findings(alloc, document).map_err(|_| ConfigFault::Memory)?;
+    let found = value_findings(alloc, document).map_err(no_memory)?;
     if let Some(fault) = first_among(found.as_slice(), &SHOWN_FAULTS[..5]) {
         return Err(*fault);
     }
-    let parts = parts_of(alloc, document).map_err(|_| ConfigFault::Memory)?;
+    let parts = parts_of(alloc, document).map_err(no_memory)?;
     Config::new(parts.end_system, parts.links, parts.ports)
 }
 
@@ -37,7 +44,7 @@ pub fn read_config(alloc: Global, text: &[u8]) -> Result<Config, ConfigFault>
 {
     match toml::table_from_slice(alloc, text) {
         Ok(table) => {
-            let document = Document::of(alloc, &table).map_err(|_| ConfigFault::Memory)?;
+            let document = Document::of(alloc, &table).map_err(no_memory)?;
             read_document(alloc, &document)
         }
         Err(error) => {

@@ -1,10 +1,9 @@
 //! Links and ports from tables that may have faults.
-ghost use Rattle.std.specs.Prelude.{◌≡◌, codes, map, IfOk};
+ghost use Rattle.std.specs.Prelude.{◌≡◌, map, IfOk};
 ghost use Rattle.toml.specs.View.{table_view};
-ghost use Rattle.afdx_config.specs.Entries.{natural, number_at};
 ghost use Rattle.afdx_config.specs.PlanOf.{link_of, port_of};
 
-use crate::entries::{text, whole_number};
+use crate::entries::{number_or_0, text, whole_number};
 use crate::values::{bag_of_ms, checksum_named, kind_named, networks_named, unicast_address};
 use afdx_plan::{Bag, Kind, Networks, UdpSum};
 use std::alloc::{AllocError, Global};
@@ -69,20 +68,6 @@ impl Model for PortRow {
       unicast = r.unicast;
       checksum = r.checksum;
     } };
-}
-
-/// The number under a key, or 0.
-fn number_or_0(table: &Table, key: &str) -> u64
-    ensures { result ≡ number_at key.now (table_view table.now) }
-{
-    whole_number(table, key).map_or(0, natural)
-}
-
-/// A number, or 0 if it is negative.
-fn natural(number: i64) -> u64
-    ensures { result ≡ natural number }
-{
-    if number < 0 { 0 } else { number as u64 }
 }
 
 #[tactic(auto, unfolding(crate::specs::PlanOf::link_of))]

@@ -1,5 +1,5 @@
 //! The text of findings.
-ghost use Rattle.std.specs.Prelude.{◌≡◌, ◌++◌, ◌∷◌, [], ◌-◌, ◌<◌, map, find, bytes_eq, codes, option_copied, option_map, option_and_then, slice_get, OnOk};
+ghost use Rattle.std.specs.Prelude.{◌≡◌, ◌++◌, ◌∷◌, [], ◌-◌, ◌<◌, map, codes, option_map, option_and_then, slice_get, decimal, OnOk};
 ghost use Rattle.std.specs.List.{flat_map};
 ghost use Rattle.toml.specs.Data.{get_member};
 ghost use Rattle.toml.specs.View.{table_view, view};
@@ -9,6 +9,7 @@ ghost use Rattle.afdx_config.specs.Views.{IsDocument, data_of, field_of};
 
 use crate::document::{Document, fields_in};
 use crate::entries::{value_at, whole_number};
+use crate::fields::row_named;
 use crate::findings::{Finding, Place, row_like};
 use crate::format::{Content, DOCUMENT, END, Field, LINK, PORT};
 use afdx_plan::ConfigFault;
@@ -139,35 +140,40 @@ fn table_at<'a>(document: &Document<'a>, place: Place) -> Option<&'a Table>
     }
 }
 
-/// Writes the identifier of the table at a place, if it is a whole number.
+/// Writes the name and number of the table at a place, and its identifier if it is a whole number.
 #[tactic(auto, unfolding(crate::specs::Told::id_text))]
-fn write_id(out: &mut Text, document: &Document<'_>, place: Place) -> Result<()>
+fn write_row(
+    out: &mut Text,
+    document: &Document<'_>,
+    place: Place,
+    name: &str,
+    k: usize,
+) -> Result<()>
     requires { IsDocument document.now }
-    ensures { OnOk result (Tells out.old out.new (id_text (id_at (data_of document.now) place))) }
+    ensures { OnOk result (Tells out.old out.new
+        (name.now ++ decimal k ++ id_text (id_at (data_of document.now) place))) }
 {
-    match table_at(document, place).and_then(|table| whole_number(table, "id")) {
+    write!(out, "{name}{k}")?;
+    let Some(table) = table_at(document, place) else {
+        return Ok(());
+    };
+    match whole_number(table, "id") {
         Some(id) => write!(out, " (id {id})"),
         None => Ok(()),
     }
 }
 
-#[tactic(auto, unfolding(crate::specs::Told::place_text))]
+#[tactic(auto, unfolding(crate::specs::Told::place_text, crate::specs::Told::stop_text))]
 fn write_place(out: &mut Text, document: &Document<'_>, place: Place) -> Result<()>
     requires { IsDocument document.now }
     ensures { OnOk result (Tells out.old out.new (place_text (data_of document.now) place)) }
 {
     match place {
-        Place::Text(line, column) => write_stop(out, line, column),
+        Place::Text(line, column) => write!(out, "line {line}, column {column}"),
         Place::Top => Ok(()),
         Place::EndSystem => out.write_all(b"end_system"),
-        Place::Link(k) => {
-            write!(out, "vl {k}")?;
-            write_id(out, document, place)
-        }
-        Place::Port(k) => {
-            write!(out, "port {k}")?;
-            write_id(out, document, place)
-        }
+        Place::Link(k) => write_row(out, document, place, "vl ", k),
+        Place::Port(k) => write_row(out, document, place, "port ", k),
     }
 }
 
@@ -189,7 +195,10 @@ fn value_under<'a>(document: &Document<'a>, place: Place, key: &str) -> Option<&
     ensures { option_map (λ v. view v.now) result
         ≡ option_and_then (get_member key.now) (members_at (data_of document.now) place) }
 {
-    table_at(document, place).and_then(|table| value_at(table, key))
+    match table_at(document, place) {
+        Some(table) => value_at(table, key),
+        None => None,
+    }
 }
 
 /// Writes a key of a place and its value.
@@ -218,12 +227,6 @@ fn fields_at(document: &Document<'_>, place: Place) -> &'static [Field]
     }
 }
 
-fn row_named<'a>(fields: &'a [Field], key: &str) -> Option<&'a Field>
-    ensures { option_copied result ≡ find (λ f. bytes_eq key.now (field_of f).key) fields.now }
-{
-    fields.iter().find(|field| key == field.0)
-}
-
 /// The content of a finding's key.
 #[tactic(auto, using(crate::proofs::SectionLemmas::find_map))]
 fn field_at(document: &Document<'_>, finding: &Finding) -> Option<Field>
@@ -238,16 +241,17 @@ fn field_at(document: &Document<'_>, finding: &Finding) -> Option<Field>
 fn write_content(out: &mut Text, content: Content) -> Result<()>
     ensures { OnOk result (Tells out.old out.new (content_text content)) }
 {
-    match content {
-        Content::Whole((least, most)) => write!(out, "{least} to {most}"),
-        Content::Gap => out.write_all(b"1, 2, 4, 8, 16, 32, 64 or 128"),
-        Content::Networks => out.write_all(b"both, a or b"),
-        Content::PortKind => out.write_all(b"sampling or queuing"),
-        Content::Address => out.write_all(b"an address in 10.0.0.0/8"),
-        Content::Checksum => out.write_all(b"none or udp"),
-        Content::Section => out.write_all(b"a table"),
-        Content::Rows => out.write_all(b"an array of tables"),
-    }
+    let text = match content {
+        Content::Whole((least, most)) => return write!(out, "{least} to {most}"),
+        Content::Gap => "1, 2, 4, 8, 16, 32, 64 or 128",
+        Content::Networks => "both, a or b",
+        Content::PortKind => "sampling or queuing",
+        Content::Address => "an address in 10.0.0.0/8",
+        Content::Checksum => "none or udp",
+        Content::Section => "a table",
+        Content::Rows => "an array of tables",
+    };
+    out.write_all(text.as_bytes())
 }
 
 /// The kind of value that a content requires.
@@ -266,7 +270,10 @@ fn kind_text(content: Content) -> &'static str
 fn kind_at(document: &Document<'_>, finding: &Finding) -> &'static str
     ensures { result.now ≡ kind_at (data_of document.now) (finding_of finding.now) }
 {
-    field_at(document, finding).map_or("", |field| kind_text(field.2))
+    match field_at(document, finding) {
+        Some(field) => kind_text(field.2),
+        None => "",
+    }
 }
 
 /// Writes the keys of a format.
@@ -371,14 +378,14 @@ fn write_pair(
     }
 }
 
-/// The values that the two tables of a fault share.
+/// The values that the two tables of a fault share, after a colon.
 fn same_text(fault: ConfigFault) -> &'static str
-    ensures { result.now ≡ same_text fault }
+    ensures { result.now ≡ codes ": " ++ same_text fault }
 {
     match fault {
-        ConfigFault::SameFlow => "the same vl, partition, source, destination and dest_ip",
-        ConfigFault::SharedUnicast => "the same partition and dest_ip, but another vl",
-        _ => "the same id",
+        ConfigFault::SameFlow => ": the same vl, partition, source, destination and dest_ip",
+        ConfigFault::SharedUnicast => ": the same partition and dest_ip, but another vl",
+        _ => ": the same id",
     }
 }
 
@@ -403,7 +410,7 @@ fn write_told(out: &mut Text, document: &Document<'_>, finding: &Finding) -> Res
 {
     if is_of_pair(finding.fault) {
         write_pair(out, document, finding.place, finding.other)?;
-        write!(out, ": {}", same_text(finding.fault))
+        out.write_all(same_text(finding.fault).as_bytes())
     } else {
         write_subject(out, document, finding.place, finding.key.as_str())?;
         out.write_all(b": ")?;
@@ -452,13 +459,6 @@ pub(crate) fn write_explanation(
         write_finding(out, document, finding)?;
     }
     Ok(())
-}
-
-#[tactic(auto, unfolding(crate::specs::Told::stop_text))]
-fn write_stop(out: &mut Text, line: usize, column: usize) -> Result<()>
-    ensures { OnOk result (Tells out.old out.new (stop_text line column)) }
-{
-    write!(out, "line {line}, column {column}")
 }
 
 /// Writes the place at which a text stops being TOML, and the message of the TOML parser.

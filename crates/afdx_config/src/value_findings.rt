@@ -37,8 +37,8 @@ fn add_keys(found: &mut Found, place: Place, fields: &[Field], table: &Table) ->
         (keys table.now))) }
 {
     for key in table.keys() {
-        let fault = key_fault(fields, key.as_str());
-        add_key(found, place, key.as_str(), fault)?;
+        let key = key.as_str();
+        add_key(found, place, key, key_fault(fields, key))?;
     }
     Ok(())
 }
