@@ -39,7 +39,10 @@ fn rows<'a>(alloc: Global, document: &'a Table, key: &str) -> Result<Vec<&'a Tab
     ensures { IfOk result (λ rows.
         map (λ r. table_view r.now) rows.items ≡ rows_at key.now (table_view document.now)) }
 {
-    match value_at(document, key).and_then(|value| value.as_array()) {
+    let Some(value) = value_at(document, key) else {
+        return Ok(Vec::new(alloc));
+    };
+    match value.as_array() {
         Some(values) => tables_of(alloc, values.as_slice()),
         None => Ok(Vec::new(alloc)),
     }

@@ -99,11 +99,7 @@ fn ports_clash(fault: ConfigFault, a: &PortRow, b: &PortRow) -> bool
 fn is_one_destination(a: Option<[u8; 4]>, b: Option<[u8; 4]>) -> bool
     ensures { result ≡ are_one_destination a b }
 {
-    match (a, b) {
-        (None, None) => true,
-        (Some(one), Some(other)) => one == other,
-        _ => false,
-    }
+    a == b
 }
 
 fn is_one_address(a: Option<[u8; 4]>, b: Option<[u8; 4]>) -> bool

@@ -254,25 +254,25 @@ fn write_content(out: &mut Text, content: Content) -> Result<()>
     out.write_all(text.as_bytes())
 }
 
-/// The kind of value that a content requires.
+/// The text that the kind of value of a content is wanted.
 fn kind_text(content: Content) -> &'static str
-    ensures { result.now ≡ kind_text content }
+    ensures { result.now ≡ kind_text content ++ codes " is wanted" }
 {
     match content {
-        Content::Whole(_) | Content::Gap => "a whole number",
-        Content::Section => "a table",
-        Content::Rows => "an array of tables",
-        _ => "a text",
+        Content::Whole(_) | Content::Gap => "a whole number is wanted",
+        Content::Section => "a table is wanted",
+        Content::Rows => "an array of tables is wanted",
+        _ => "a text is wanted",
     }
 }
 
-/// The kind of value that a finding requires.
+/// The text that the kind of value of a finding's key is wanted.
 fn kind_at(document: &Document<'_>, finding: &Finding) -> &'static str
-    ensures { result.now ≡ kind_at (data_of document.now) (finding_of finding.now) }
+    ensures { result.now ≡ kind_at (data_of document.now) (finding_of finding.now) ++ codes " is wanted" }
 {
     match field_at(document, finding) {
         Some(field) => kind_text(field.2),
-        None => "",
+        None => " is wanted",
     }
 }
 
@@ -333,28 +333,27 @@ fn write_allowed(
     ensures { OnOk result (Tells out.old out.new
         (allowed_text fault (data_of document.now) (finding_of finding.now))) }
 {
-    match fault {
+    let text = match fault {
         ConfigFault::UnknownKey => {
-            write_keys(out, "the keys are", fields_at(document, finding.place))
+            return write_keys(out, "the keys are", fields_at(document, finding.place));
         }
-        ConfigFault::WrongKind => write!(out, "{} is wanted", kind_at(document, finding)),
-        ConfigFault::NoSuchVl => out.write_all(b"no vl has this id"),
+        ConfigFault::WrongKind => kind_at(document, finding),
+        ConfigFault::NoSuchVl => "no vl has this id",
         ConfigFault::NoSuchSub => {
             let bound = "below sub_vls of its vl";
-            write_bound(out, document, finding.other, bound, "sub_vls")
+            return write_bound(out, document, finding.other, bound, "sub_vls");
         }
         ConfigFault::SamplingTooLong => {
             let bound = "at most lmax - 47 of its vl";
-            write_bound(out, document, finding.other, bound, "lmax")
+            return write_bound(out, document, finding.other, bound, "lmax");
         }
-        ConfigFault::Limit => {
-            out.write_all(limit_text(finding.place, finding.key.as_str()).as_bytes())
-        }
+        ConfigFault::Limit => limit_text(finding.place, finding.key.as_str()),
         _ => match field_at(document, finding) {
-            Some(field) => write_content(out, field.2),
-            None => Ok(()),
+            Some(field) => return write_content(out, field.2),
+            None => "",
         },
-    }
+    };
+    out.write_all(text.as_bytes())
 }
 
 /// Writes the places of two tables.

@@ -29,14 +29,11 @@ pub(crate) fn bag_of_ms(number: i64) -> Option<Bag>
 pub(crate) fn networks_named(text: &str) -> Option<Networks>
     ensures { result ≡ networks_of text.now }
 {
-    if text == "both" {
-        Some(Networks::Both)
-    } else if text == "a" {
-        Some(Networks::OnlyA)
-    } else if text == "b" {
-        Some(Networks::OnlyB)
-    } else {
-        None
+    match text {
+        "both" => Some(Networks::Both),
+        "a" => Some(Networks::OnlyA),
+        "b" => Some(Networks::OnlyB),
+        _ => None,
     }
 }
 
@@ -45,12 +42,10 @@ pub(crate) fn networks_named(text: &str) -> Option<Networks>
 pub(crate) fn kind_named(text: &str) -> Option<Kind>
     ensures { result ≡ kind_of text.now }
 {
-    if text == "sampling" {
-        Some(Kind::Sampling)
-    } else if text == "queuing" {
-        Some(Kind::Queuing)
-    } else {
-        None
+    match text {
+        "sampling" => Some(Kind::Sampling),
+        "queuing" => Some(Kind::Queuing),
+        _ => None,
     }
 }
 
@@ -59,12 +54,10 @@ pub(crate) fn kind_named(text: &str) -> Option<Kind>
 pub(crate) fn checksum_named(text: &str) -> Option<UdpSum>
     ensures { result ≡ checksum_of text.now }
 {
-    if text == "none" {
-        Some(UdpSum::Omitted)
-    } else if text == "udp" {
-        Some(UdpSum::Generated)
-    } else {
-        None
+    match text {
+        "none" => Some(UdpSum::Omitted),
+        "udp" => Some(UdpSum::Generated),
+        _ => None,
     }
 }
 
