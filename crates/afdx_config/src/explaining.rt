@@ -16,7 +16,6 @@ use crate::told::{write_explanation, write_toml};
 use crate::value_findings::{add_those, value_findings};
 use afdx_plan::ConfigFault;
 use std::alloc::{AllocError, Global};
-use std::io::Error as WriteError;
 use toml::Table;
 use toml::de::Error;
 
@@ -50,11 +49,6 @@ fn findings_in(
     Ok(found)
 }
 
-/// The error of a failed write: a `Vec` fails only for want of memory.
-fn no_memory(_error: WriteError) -> AllocError {
-    AllocError
-}
-
 /// Explains a document.
 fn explain_document(alloc: Global, table: &Table) -> Result<Explanation, AllocError>
     ensures { IfOk result (λ e.
@@ -63,8 +57,10 @@ fn explain_document(alloc: Global, table: &Table) -> Result<Explanation, AllocEr
     let document = Document::of(alloc, table)?;
     let findings = findings_in(alloc, &document, &SHOWN_FAULTS)?;
     let mut text = Vec::new(alloc);
-    write_explanation(&mut text, &document, findings.as_slice()).map_err(no_memory)?;
-    Ok(Explanation { findings, text })
+    match write_explanation(&mut text, &document, findings.as_slice()) {
+        Ok(()) => Ok(Explanation { findings, text }),
+        Err(_) => Err(AllocError),
+    }
 }
 
 /// The line after these bytes, counted from 1.
@@ -115,8 +111,10 @@ fn tell_toml(alloc: Global, before: &[u8], message: &str) -> Result<Explanation,
     let fault = ConfigFault::Toml;
     add(&mut findings, fault, place, message, None)?;
     let mut text = Vec::new(alloc);
-    write_toml(&mut text, line, column, message).map_err(no_memory)?;
-    Ok(Explanation { findings, text })
+    match write_toml(&mut text, line, column, message) {
+        Ok(()) => Ok(Explanation { findings, text }),
+        Err(_) => Err(AllocError),
+    }
 }
 
 /// Finds all faults of a configuration, each with its place. A text that is not TOML has this one fault.

@@ -87,26 +87,14 @@ fn ports_clash(fault: ConfigFault, a: &PortRow, b: &PortRow) -> bool
                 && a.partition == b.partition
                 && a.source == b.source
                 && a.destination == b.destination
-                && is_one_destination(a.unicast, b.unicast)
+                && a.unicast == b.unicast
         }
         ConfigFault::SharedUnicast => {
-            a.vl != b.vl && a.partition == b.partition && is_one_address(a.unicast, b.unicast)
+            a.vl != b.vl
+                && a.partition == b.partition
+                && a.unicast.is_some()
+                && a.unicast == b.unicast
         }
-        _ => false,
-    }
-}
-
-fn is_one_destination(a: Option<[u8; 4]>, b: Option<[u8; 4]>) -> bool
-    ensures { result ≡ are_one_destination a b }
-{
-    a == b
-}
-
-fn is_one_address(a: Option<[u8; 4]>, b: Option<[u8; 4]>) -> bool
-    ensures { result ≡ are_one_address a b }
-{
-    match (a, b) {
-        (Some(one), Some(other)) => one == other,
         _ => false,
     }
 }
@@ -140,18 +128,14 @@ fn link_of<'a>(links: &'a [LinkRow], port: &PortRow) -> Option<&'a LinkRow>
 fn is_misfit(fault: ConfigFault, links: &[LinkRow], port: &PortRow) -> bool
     ensures { result ≡ is_misfit fault links.now port.now }
 {
+    let Some(link) = link_of(links, port) else {
+        return matches!(fault, ConfigFault::NoSuchVl);
+    };
     match fault {
-        ConfigFault::NoSuchVl => matches!(link_of(links, port), None),
-        ConfigFault::NoSuchSub => match link_of(links, port) {
-            Some(link) => link.sub_vls <= port.sub,
-            None => false,
-        },
+        ConfigFault::NoSuchSub => link.sub_vls <= port.sub,
         ConfigFault::SamplingTooLong => match port.kind {
             Kind::Queuing => false,
-            Kind::Sampling => match link_of(links, port) {
-                Some(link) => link.lmax.saturating_sub(47) < port.max,
-                None => false,
-            },
+            Kind::Sampling => link.lmax.saturating_sub(47) < port.max,
         },
         _ => false,
     }

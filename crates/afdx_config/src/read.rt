@@ -10,14 +10,7 @@ use crate::findings::SHOWN_FAULTS;
 use crate::parts::parts_of;
 use crate::value_findings::{first_among, value_findings};
 use afdx_plan::{Config, ConfigFault};
-use std::alloc::{AllocError, Global};
-
-/// The fault of a failed allocation.
-fn no_memory(_error: AllocError) -> ConfigFault
-    ensures { result ≡ ConfigFault.Memory }
-{
-    ConfigFault::Memory
-}
+use std::alloc::Global;
 
 /// Converts a document.
 fn read_document(alloc: Global, document: &Document<'_>) -> Result<Config, ConfigFault>
@@ -27,12 +20,16 @@ fn read_document(alloc: Global, document: &Document<'_>) -> Result<Config, Confi
     ensures fault { IfErr result (λ fault. fault ≢ ConfigFault.Memory →
         first_fault (data_of document.now) ≡ Some fault) }
 {
-    let found = value_findings(alloc, document).map_err(no_memory)?;
+    let Ok(found) = value_findings(alloc, document) else {
+        return Err(ConfigFault::Memory);
+    };
     if let Some(fault) = first_among(found.as_slice(), &SHOWN_FAULTS[..5]) {
         return Err(*fault);
     }
-    let parts = parts_of(alloc, document).map_err(no_memory)?;
-    Config::new(parts.end_system, parts.links, parts.ports)
+    match parts_of(alloc, document) {
+        Ok(parts) => Config::new(parts.end_system, parts.links, parts.ports),
+        Err(_) => Err(ConfigFault::Memory),
+    }
 }
 
 /// Reads a configuration from a TOML text. Returns its plan, or the fault of the least number that the
@@ -43,10 +40,10 @@ pub fn read_config(alloc: Global, text: &[u8]) -> Result<Config, ConfigFault>
         least ≢ ConfigFault.Memory → IsLeastFault text.now least) }
 {
     match toml::table_from_slice(alloc, text) {
-        Ok(table) => {
-            let document = Document::of(alloc, &table).map_err(no_memory)?;
-            read_document(alloc, &document)
-        }
+        Ok(table) => match Document::of(alloc, &table) {
+            Ok(document) => read_document(alloc, &document),
+            Err(_) => Err(ConfigFault::Memory),
+        },
         Err(error) => {
             if error.is_memory() {
                 Err(ConfigFault::Memory)

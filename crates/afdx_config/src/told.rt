@@ -93,26 +93,26 @@ fn write_cut(out: &mut Text, text: &[u8]) -> Result<()>
     }
 }
 
-/// Writes a value: a string in quotes, a whole number, else the kind.
+/// Writes what a value is: a string in quotes, a whole number, else the kind.
 #[tactic(auto, unfolding(crate::specs::Told::value_text))]
 fn write_value(out: &mut Text, value: Option<&Value>) -> Result<()>
     ensures { OnOk result (Tells out.old out.new
-        (value_text (option_map (λ v. view v.now) value.entry))) }
+        (codes " is " ++ value_text (option_map (λ v. view v.now) value.entry))) }
 {
     match value {
-        None => out.write_all(b"missing"),
+        None => out.write_all(b" is missing"),
         Some(value) => match value {
             Value::String(text) => {
-                out.write_all(b"\"")?;
+                out.write_all(b" is \"")?;
                 write_cut(out, text.as_bytes())?;
                 out.write_all(b"\"")
             }
-            Value::Integer(number) => write!(out, "{number}"),
+            Value::Integer(number) => write!(out, " is {number}"),
             Value::Array(items) => {
                 let count = items.as_slice().len();
-                write!(out, "an array of {count}")
+                write!(out, " is an array of {count}")
             }
-            _ => write!(out, "a {}", value.type_str()),
+            _ => write!(out, " is a {}", value.type_str()),
         },
     }
 }
@@ -210,7 +210,6 @@ fn write_subject(out: &mut Text, document: &Document<'_>, place: Place, key: &st
     write_place(out, document, place)?;
     out.write_all(joint(place).as_bytes())?;
     write_cut(out, key.as_bytes())?;
-    out.write_all(b" is ")?;
     write_value(out, value_under(document, place, key))
 }
 
@@ -291,9 +290,9 @@ fn write_keys(out: &mut Text, head: &str, fields: &[Field]) -> Result<()>
 fn limit_text(place: Place, key: &str) -> &'static str
     ensures { result.now ≡ limit_text place key.now }
 {
-    match place {
-        Place::Top if key == "vl" => "1 to 64 tables",
-        Place::Top => "1 to 256 tables",
+    match (place, key) {
+        (Place::Top, "vl") => "1 to 64 tables",
+        (Place::Top, _) => "1 to 256 tables",
         _ => "at most 64 ports of one sub-VL",
     }
 }

@@ -9,12 +9,12 @@ returns-in-Some-clause-fault c = λ other. value_first (data_of c.args.document.
 
 pub parts_of-requires-clause-sound : goal.parts_of-requires-clause-sound
 parts_of-requires-clause-sound c = sound _ c.requires (no_value (data_of c.args.document.now)
-    (map finding_of c.as_slice.result.now) (search rules) c.in_default.ensures)
+    (map finding_of c.as_slice.result.now) (search rules) c.in_default-first_among.ensures)
 
-pub returns-clause-fine : goal.returns-clause-fine
-returns-clause-fine c = plan_ok (data_of c.args.document.now) (plan_in c.in_ok-parts.parts) c.new.result (search rules)
-    (no_value _ (map finding_of c.as_slice.result.now) (search rules) c.in_default.ensures) c.new.ensures.fine
+pub returns-in-Ok-parts_of-clause-fine : goal.returns-in-Ok-parts_of-clause-fine
+returns-in-Ok-parts_of-clause-fine c = plan_ok (data_of c.args.document.now) (plan_in c.in-Ok-parts_of.parts) c.new.result (search rules)
+    (no_value _ (map finding_of c.as_slice.result.now) (search rules) c.in_default-first_among.ensures) c.new.ensures.fine
 
-pub returns-clause-fault : goal.returns-clause-fault
-returns-clause-fault c = plan_err (data_of c.args.document.now) (plan_in c.in_ok-parts.parts) c.new.result (search rules)
-    (no_value _ (map finding_of c.as_slice.result.now) (search rules) c.in_default.ensures) c.new.ensures.fault
+pub returns-in-Ok-parts_of-clause-fault : goal.returns-in-Ok-parts_of-clause-fault
+returns-in-Ok-parts_of-clause-fault c = plan_err (data_of c.args.document.now) (plan_in c.in-Ok-parts_of.parts) c.new.result (search rules)
+    (no_value _ (map finding_of c.as_slice.result.now) (search rules) c.in_default-first_among.ensures) c.new.ensures.fault
