@@ -4,7 +4,7 @@ ghost use Rattle.std.specs.List.{list_any};
 ghost use Rattle.toml.specs.Data.{as_table, integer, string};
 ghost use Rattle.toml.specs.View.{table_view, items_view, view};
 ghost use Rattle.afdx_config.specs.Entries.{lies_outside};
-ghost use Rattle.afdx_config.specs.Tables.{has_other_item, content_fault, field_fault, key_fault, is_key_of};
+ghost use Rattle.afdx_config.specs.Tables.{has_other_item, content_fault, field_fault, key_fault};
 ghost use Rattle.afdx_config.specs.Views.{field_of};
 
 use crate::entries::value_at;
@@ -100,17 +100,13 @@ pub(crate) fn row_named<'a>(fields: &'a [Field], key: &str) -> Option<&'a Field>
     fields.iter().find(|field| key == field.0)
 }
 
-/// The key is in the format.
-#[tactic(auto, using(crate::proofs::SectionLemmas::any_mapped))]
-fn is_key_of(fields: &[Field], key: &str) -> bool
-    ensures { result ≡ is_key_of (map field_of fields.now) key.now }
-{
-    matches!(row_named(fields, key), Some(_))
-}
-
 /// The fault of a key that a table has: it is not in the format.
+#[tactic(auto, using(crate::proofs::SectionLemmas::any_mapped))]
 pub(crate) fn key_fault(fields: &[Field], key: &str) -> Option<ConfigFault>
     ensures { result ≡ key_fault (map field_of fields.now) key.now }
 {
-    (!is_key_of(fields, key)).then_some(ConfigFault::UnknownKey)
+    match row_named(fields, key) {
+        Some(_) => None,
+        None => Some(ConfigFault::UnknownKey),
+    }
 }

@@ -1,9 +1,9 @@
 //! The faults of plans with their places. In these plans a faulty value is 0 or the first variant.
 ghost use Rattle.std.specs.Prelude.{◌≡◌, ◌==◌, ◌&&◌, ◌+◌, ◌<◌, ◌≤◌, ◌^◌, not, map, find, option_copied, option_map, length, IfSome, OnOk};
-ghost use Rattle.std.specs.List.{list_any, position};
+ghost use Rattle.std.specs.List.{position};
 ghost use Rattle.afdx_plan.specs.Config.{ports_on};
-ghost use Rattle.afdx_plan.specs.PlanFaults.{is_link_of, names_no_link, names_no_sub, is_too_long, are_one_address, are_one_destination, has_same_flow, shares_unicast, is_no_count, is_crowded};
-ghost use Rattle.afdx_config.specs.Findings.{found as finding_at, one_if, plan_key, pair_finding, links_clash, each_row, link_finding, ports_clash, is_misfit, link_number, has_same_sub, is_last_crowded, port_finding, count_is_wrong, count_findings, plan_findings};
+ghost use Rattle.afdx_plan.specs.PlanFaults.{is_link_of, names_no_link, names_no_sub, is_too_long, has_same_flow, shares_unicast, is_no_count, is_crowded};
+ghost use Rattle.afdx_config.specs.Findings.{found as finding_at, one_if, plan_key, pair_finding, links_clash, each_row, link_finding, ports_clash, is_misfit, link_number, is_last_crowded, port_finding, count_is_wrong, count_findings, plan_findings};
 ghost use Rattle.afdx_config.specs.Seen.{Adds};
 ghost use Rattle.afdx_config.specs.declared.findings.Place.TheVariants.{Link, Port};
 

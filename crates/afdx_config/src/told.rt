@@ -4,7 +4,7 @@ ghost use Rattle.std.specs.List.{flat_map};
 ghost use Rattle.toml.specs.Data.{get_member};
 ghost use Rattle.toml.specs.View.{table_view, view};
 ghost use Rattle.afdx_config.specs.Seen.{finding_of, Tells};
-ghost use Rattle.afdx_config.specs.Told.{fault_name, is_plain, hex_digit, escaped, cut_text, value_text, members_at, id_text, id_at, place_text, joint, subject, fields_at, field_at, content_text, kind_text, key_names, limit_text, content_at, kind_at, bound_text, allowed_text, pair_text, same_text, is_of_pair, told, stop_text, toml_text, finding_line, count_line, explanation};
+ghost use Rattle.afdx_config.specs.Told.{fault_name, is_plain, hex_digit, escaped, cut_text, value_text, members_at, id_text, id_at, place_text, joint, subject, fields_at, field_at, content_text, kind_text, key_names, limit_text, content_at, kind_at, bound_text, allowed_text, pair_text, same_text, is_of_pair, told, toml_text, finding_line, count_line, explanation};
 ghost use Rattle.afdx_config.specs.Views.{IsDocument, data_of, field_of};
 
 use crate::document::{Document, fields_in};
