@@ -1,5 +1,5 @@
 //! After the joins: takes back the ports, and sends what is left.
-ghost use Rattle.std.specs.Prelude.{◌≡◌, ◌*◌, ◌≤◌, length, IfOk};
+ghost use Rattle.std.specs.Prelude.{◌≡◌, ◌*◌, ◌≤◌, length, OnOk};
 ghost use Rattle.redundant_mux.specs.Lines.{log};
 ghost use Rattle.afdx_legal.specs.Allowed.{AreOwn};
 ghost use Rattle.afdx_legal.specs.Done.{IsAllDone};
@@ -49,36 +49,34 @@ fn drain_once<G: Gate, R: Wait>(rt: &R, draining: &mut StormDraining, gate: &G, 
 /// Polls from poll number `first` on, at most `turns` times, until all that was accepted is transmitted.
 pub(crate) fn drain<G: Gate, R: Wait>(
     rt: &R,
-    draining: StormDraining,
+    draining: &mut StormDraining,
     gate: &G,
     first: u64,
     turns: u64,
-) -> Result<StormDraining, Stop>
-    requires moment { draining.moment ≤ first * STEP }
+) -> Result<(), Stop>
+    requires moment { draining.old.moment ≤ first * STEP }
     requires first { first ≤ 1000000000 }
     requires turns { turns ≤ 1000000000 }
-    requires shown { IsShown draining }
-    ensures plan { IfOk result (λ drained. drained.plan ≡ draining.plan) }
-    ensures accepted { IfOk result (λ drained.
-        accepted_in drained.links ≡ accepted_in draining.links) }
-    ensures done { IfOk result (λ drained. IsAllDone drained.plan
-        (accepted_in drained.links) (log drained.lines)) }
-    ensures streams { IfOk result (λ drained. AreOwnStreams drained.plan
-        (log drained.lines) drained.lines.a drained.lines.b) }
-    ensures shown { IfOk result (λ drained. IsShown drained) }
-    ensures cells { IfOk result (λ drained. cells_of drained.board ≡ cells_of draining.board) }
+    requires shown { IsShown draining.old }
+    ensures plan { draining.new.plan ≡ draining.old.plan }
+    ensures accepted { accepted_in draining.new.links ≡ accepted_in draining.old.links }
+    ensures done { OnOk result (IsAllDone draining.new.plan
+        (accepted_in draining.new.links) (log draining.new.lines)) }
+    ensures streams { OnOk result (AreOwnStreams draining.new.plan
+        (log draining.new.lines) draining.new.lines.a draining.new.lines.b) }
+    ensures shown { IsShown draining.new }
+    ensures cells { cells_of draining.new.board ≡ cells_of draining.old.board }
 {
-    let mut draining = draining;
     for turn in 0..turns {
         if draining.is_done() {
-            return Ok(draining);
+            return Ok(());
         }
-        if !drain_once(rt, &mut draining, gate, (first + turn) * STEP) {
+        if !drain_once(rt, draining, gate, (first + turn) * STEP) {
             return Err(Stop::Memory);
         }
     }
     if draining.is_done() {
-        Ok(draining)
+        Ok(())
     } else {
         Err(Stop::Turns)
     }

@@ -21,7 +21,7 @@ pub enum StormFault {
 }
 
 /// Why a running storm stops early.
-#[derive(Clone, Copy, Debug, PartialEq, Eq)]
+#[derive(Clone, Copy)]
 pub(crate) enum Stop {
     Memory,
     Turns,

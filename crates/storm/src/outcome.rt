@@ -54,7 +54,7 @@ fn read_links<R: Wait>(
     ensures counts { IfOk result (λ counts. counts.items ≡ all_counts draining.old.plan.links
         draining.old.lines.a draining.old.lines.b) }
 {
-    let mut counts = Vec::with_capacity(alloc, links)?;
+    let mut counts = Vec::new(alloc);
     for link in 0..links {
         counts.push(draining.read_last(rt, monitor, link))?;
     }
@@ -85,8 +85,8 @@ fn finish<G: Gate, R: Wait>(
     } = joined;
     let count = tx.config().links().len();
     let accepted = count_accepted(ports.as_slice());
-    let draining = gather_all(tx, ports);
-    let mut draining = drain(rt, draining, gate, polls, load.turns)?;
+    let mut draining = gather_all(tx, ports);
+    drain(rt, &mut draining, gate, polls, load.turns)?;
     let links = read_links(rt, alloc, &mut draining, &mut monitor, count)?;
     let (a, b) = draining.into_networks();
     Ok(Outcome {

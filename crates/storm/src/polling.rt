@@ -27,8 +27,9 @@ fn poll_once<G: Gate, R: Wait>(rt: &R, tx: &mut StormTx, gate: &G, now: u64) -> 
         return false;
     };
     tx.publish(rt);
-    gate.polled(report.released.len());
-    if report.released.is_empty() {
+    let released = report.released.len();
+    gate.polled(released);
+    if released == 0 {
         thread::yield_now();
     }
     report.standing.a | report.standing.b

@@ -10,8 +10,9 @@ use std::time::{Clock, Instant};
 pub struct Progress<'a, R: Clock + Eprint> {
     rt: &'a R,
     begun: Instant,
-    messages: u32,
-    workers: AtomicU64,
+    messages: u64,
+    // The messages of all workers that have begun.
+    all: AtomicU64,
     accepted: AtomicU64,
     frames: AtomicU64,
     // The tenth of a second of the last print, counted from the beginning.
@@ -24,8 +25,8 @@ impl<'a, R: Clock + Eprint> Progress<'a, R> {
         Ok(Progress {
             rt,
             begun: Instant::now(rt)?,
-            messages,
-            workers: AtomicU64::new(0),
+            messages: u64::from(messages),
+            all: AtomicU64::new(0),
             accepted: AtomicU64::new(0),
             frames: AtomicU64::new(0),
             told: AtomicU64::new(0),
@@ -46,18 +47,14 @@ impl<'a, R: Clock + Eprint> Progress<'a, R> {
         };
         let tenths = u64::from(passed.subsec_millis() / 100);
         let tenth = passed.as_secs().saturating_mul(10).saturating_add(tenths);
-        let is_due = tenth > self.told.load(Ordering::SeqCst);
-        if is_due {
-            self.told.store(tenth, Ordering::SeqCst);
-        }
-        is_due
+        self.told.fetch_max(tenth, Ordering::SeqCst) < tenth
     }
 }
 
 impl<R: Clock + Eprint> Gate for Progress<'_, R> {
     fn enter(&self, _worker: usize, call: u32) -> bool {
         if call == 1 {
-            self.workers.fetch_add(1, Ordering::SeqCst);
+            self.all.fetch_add(self.messages, Ordering::SeqCst);
         }
         true
     }
@@ -69,8 +66,7 @@ impl<R: Clock + Eprint> Gate for Progress<'_, R> {
     fn polled(&self, frames: usize) {
         self.frames.fetch_add(frames as u64, Ordering::SeqCst);
         if self.is_due() {
-            let messages = u64::from(self.messages);
-            let all = self.workers.load(Ordering::SeqCst).saturating_mul(messages);
+            let all = self.all.load(Ordering::SeqCst);
             let accepted = self.accepted.load(Ordering::SeqCst);
             let frames = self.frames.load(Ordering::SeqCst);
             let _told = eprint!(self.rt; "\raccepted {accepted} of {all}, frames {frames}");

@@ -65,18 +65,16 @@ fn run_in_scope<'s, E: 's, G: Gate + Sync, R: Threads + Wait + Sync>(
     let started = start_workers(scope, alloc, ports, load, gate, running);
     // If not all were started, polling lets those that were come to their end.
     let polls = poll_while(rt, &mut tx, gate, running, load.turns);
-    let ended = join_workers(rt, alloc, started);
     let (monitor, back) = watching.join(rt);
-    match (polls, ended) {
-        (None, _) => Err(Stop::Memory),
-        (_, Err(stop)) => Err(stop),
-        (Some(polls), Ok(ports)) => Ok(Joined {
+    match join_workers(rt, alloc, started, polls) {
+        Ok((polls, ports)) => Ok(Joined {
             tx,
             ports,
             monitor,
             polls,
             back,
         }),
+        Err(stop) => Err(stop),
     }
 }
 

@@ -30,25 +30,7 @@ impl Promise<(TxPort, Result<(), Stop>)> for SendsAll {
 
 pub(crate) type Worker = PromisedHandle<(TxPort, Result<(), Stop>), SendsAll>;
 
-/// The body of a worker's thread, which counts itself out.
-fn run_worker<G: Gate>(
-    alloc: Global,
-    port: TxPort,
-    worker: usize,
-    load: Load,
-    gate: &G,
-    running: &AtomicU64,
-) -> (TxPort, Result<(), Stop>)
-    ensures sent { OnOk result.1 (named result.0 ≡ sent_all load.messages port) }
-    ensures asks { asked_by result.0 ≤ asked_after load.turns port }
-{
-    let mut port = port;
-    let ended = work(alloc, &mut port, worker, load, gate);
-    running.fetch_sub(1, Ordering::SeqCst);
-    (port, ended)
-}
-
-/// Starts a worker, which is counted in before it runs.
+/// Starts a worker, which is counted in before it runs, and counts itself out.
 fn start_worker<'s, E: 's, G: Gate + Sync>(
     scope: &'s Scope<'s, E>,
     alloc: Global,
@@ -68,7 +50,15 @@ fn start_worker<'s, E: 's, G: Gate + Sync>(
         turns: load.turns,
     };
     running.fetch_add(1, Ordering::SeqCst);
-    let body = move || run_worker(alloc, port, worker, load, gate, running);
+    let body = move || -> (TxPort, Result<(), Stop>)
+        ensures sent { OnOk result.1 (named result.0 ≡ sent_all load.messages port) }
+        ensures asks { asked_by result.0 ≤ asked_after load.turns port }
+    {
+        let mut port = port;
+        let ended = work(alloc, &mut port, worker, load, gate);
+        running.fetch_sub(1, Ordering::SeqCst);
+        (port, ended)
+    };
     match scope.spawn_with(promise, body) {
         Ok(started) => Ok(started),
         Err(_) => {
@@ -94,7 +84,7 @@ pub(crate) fn start_workers<'s, E: 's, G: Gate + Sync>(
         map (λ w. asked_after w.promise.turns w.promise.before.value) workers.items
         ≡ map (asked_after load.turns) ports.items) }
 {
-    let mut workers = Vec::with_capacity(alloc, ports.len())?;
+    let mut workers = Vec::new(alloc);
     for port in ports {
         let worker = workers.len();
         let started = start_worker(scope, alloc, port, worker, load, gate, running)?;
@@ -103,28 +93,33 @@ pub(crate) fn start_workers<'s, E: 's, G: Gate + Sync>(
     Ok(workers)
 }
 
-/// Joins the workers, if all were started. Returns their ports, in order, if all succeeded.
+/// Joins the workers, if all were started. Returns the number of polls and the workers' ports, in order, if
+/// a network is up and all workers succeeded.
 pub(crate) fn join_workers<R: Threads>(
     rt: &R,
     alloc: Global,
     started: Result<Vec<Worker>, Stop>,
-) -> Result<Vec<TxPort>, Stop>
-    ensures sent { IfOk result (λ ports. IsOkAnd started (λ workers. map named ports.items
+    polls: Option<u64>,
+) -> Result<(u64, Vec<TxPort>), Stop>
+    ensures polls { IfOk result (λ joined. polls ≡ Some joined.0) }
+    ensures sent { IfOk result (λ joined. IsOkAnd started (λ workers. map named joined.1.items
         ≡ map (λ w. sent_all w.promise.messages w.promise.before.value) workers.items)) }
-    ensures asks { IfOk result (λ ports. IsOkAnd started (λ workers. AreAtMost (map asked_by ports.items)
+    ensures asks { IfOk result (λ joined. IsOkAnd started (λ workers.
+        AreAtMost (map asked_by joined.1.items)
         (map (λ w. asked_after w.promise.turns w.promise.before.value) workers.items))) }
 {
     let workers = started?;
-    let mut ports = Vec::with_capacity(alloc, workers.len())?;
+    let mut ports = Vec::new(alloc);
     let mut worst = None;
     for worker in workers {
         let (port, ended) = worker.join(rt);
         worst = worse(worst, ended);
         ports.push(port)?;
     }
-    match worst {
-        None => Ok(ports),
-        Some(stop) => Err(stop),
+    match (polls, worst) {
+        (None, _) => Err(Stop::Memory),
+        (_, Some(stop)) => Err(stop),
+        (Some(polls), None) => Ok((polls, ports)),
     }
 }
 

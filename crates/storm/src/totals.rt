@@ -1,7 +1,7 @@
 //! Writing the totals of a storm.
 ghost use Rattle.std.specs.Prelude.{◌≡◌, length, OnOk};
 ghost use Rattle.std.specs.Io.KnownBytes.{Appends};
-ghost use Rattle.storm.specs.Totals.{accepted_line, link_line, link_lines_to, networks_line, watcher_line, totals_of};
+ghost use Rattle.storm.specs.Totals.{link_line, link_lines_to, networks_line, watcher_line, totals_of};
 
 use crate::report::StormReport;
 use afdx_plan::{LinkPlan, VlId};
@@ -11,7 +11,7 @@ use std::io::{self, Write};
 /// Writes the totals of a storm over these links, in the order of their plan: how many messages were
 /// accepted, the counts of each link, whether both networks have the same frames, and whether a count was
 /// seen to fall.
-#[tactic(auto, unfolding(crate::specs::Totals::totals_text))]
+#[tactic(auto, unfolding(crate::specs::Totals::totals_text, crate::specs::Totals::accepted_line))]
 pub fn write_totals<W: Write>(
     writer: &mut W,
     links: &[LinkPlan],
@@ -21,18 +21,11 @@ pub fn write_totals<W: Write>(
     ensures { OnOk result (Appends (W.contents writer.old) (W.contents writer.new)
         (totals_of links.now report.now)) }
 {
-    write_accepted(writer, report.accepted)?;
+    let accepted = report.accepted;
+    writeln!(writer, "accepted {accepted}")?;
     write_links(writer, links, report)?;
     write_networks(writer, report.equal)?;
     write_watcher(writer, report.back)
-}
-
-#[tactic(auto, unfolding(crate::specs::Totals::accepted_line))]
-fn write_accepted<W: Write>(writer: &mut W, accepted: u64) -> io::Result<()>
-    ensures { OnOk result (Appends (W.contents writer.old) (W.contents writer.new)
-        (accepted_line accepted)) }
-{
-    writeln!(writer, "accepted {accepted}")
 }
 
 fn write_links<W: Write>(writer: &mut W, links: &[LinkPlan], report: &StormReport) -> io::Result<()>

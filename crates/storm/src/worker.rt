@@ -12,7 +12,7 @@ use std::thread;
 
 /// How many messages each port sends, and how often a worker may send and the main thread may poll, while
 /// the workers run and again after them.
-#[derive(Clone, Copy, Debug, PartialEq, Eq)]
+#[derive(Clone, Copy)]
 pub(crate) struct Load {
     pub messages: u32,
     pub turns: u64,
@@ -25,7 +25,7 @@ pub(crate) const MESSAGE_BYTES: usize = 6;
 fn make_message(alloc: Global, port: PortId, call: u32) -> Result<Vec<u8>, AllocError>
     ensures { IfOk result (λ bytes. bytes.items ≡ message port.0 call) }
 {
-    let mut bytes = Vec::with_capacity(alloc, MESSAGE_BYTES)?;
+    let mut bytes = Vec::new(alloc);
     bytes.extend_from_slice(&port.0.to_be_bytes())?;
     bytes.extend_from_slice(&call.to_be_bytes())?;
     Ok(bytes)

@@ -19,21 +19,21 @@ gather_all-draining-requires-clause-every g c = every_place c.args.joined.tx c.a
 pub returns : goal.returns
 returns g c =
     let joined = c.args.joined in
-    let drained = c.in_ok-draining.draining in
+    let drained = c.drain.new.draining in
     let same : c.read_links.new.draining ≡ drained = c.read_links.ensures.draining in
     let end = c.into_networks-a.ensures in
     let a = end.a ∙ ap (λ (t : Tx). t.lines.a) same in
     let b = end.b ∙ ap (λ (t : Tx). t.lines.b) same in
     record {
       whole = handed_whole joined.tx c.gather_all-draining.result drained c.args.load.messages c.args.load.turns joined.ports.items _ _
-          c.requires.joined.spent c.gather_all-draining.ensures c.in_ok-draining.ensures.plan c.in_ok-draining.ensures.accepted
-          c.in_ok-draining.ensures.done c.in_ok-draining.ensures.streams
+          c.requires.joined.spent c.gather_all-draining.ensures c.in_ok-drain.ensures.plan c.in_ok-drain.ensures.accepted
+          c.in_ok-drain.ensures.done c.in_ok-drain.ensures.streams
           (subst (λ (t : Tx). IsLegal t.plan (accepted_in t.links) t.lines.a t.lines.b) same end.legal)
           (subst (λ (t : Tx). AreAllowed t.plan (accepted_in t.links)) same end.allowed) a b;
       accepted = c.count_accepted-accepted.ensures
           ∙ ap (λ (ports : List PortView). sum_by (λ (port : PortView). length port.sender.own) ports) c.as_slice.ensures.value
           ∙ sum_spent joined.tx c.args.load.messages c.args.load.turns joined.ports.items c.requires.joined.spent;
       links = counts_kept joined.tx.plan drained.plan drained.lines.a drained.lines.b _ _ _ c.in_ok-links.ensures.counts
-          (c.in_ok-draining.ensures.plan ∙ c.gather_all-draining.ensures.plan) a b;
+          (c.in_ok-drain.ensures.plan ∙ c.gather_all-draining.ensures.plan) a b;
       back = c.requires.joined.none_back;
     }

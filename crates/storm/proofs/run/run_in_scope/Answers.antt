@@ -1,21 +1,19 @@
-use Rattle.std.proofs.lemmas.Result.{IfOk-at_ok}
 use Rattle.storm.proofs.Names.{rules, ◌≡◌, ◌∙◌, map, subst, named, sent_all, asked_by, asked_after, AreAtMost}
 use Rattle.storm.proofs.Asks.{at_ok}
 use Rattle.storm.proofs.Spent.{spent}
 use Rattle.storm.proofs.run.run_in_scope.Goals as goal
 
-pub returns-in-Some-Ok : goal.returns-in-Some-Ok
-returns-in-Some-Ok g c =
+pub returns-in-Ok : goal.returns-in-Ok
+returns-in-Ok g c =
     let opened = c.args.opened in
     let n = c.args.load.messages in
-    let ports = c.in-Some-Ok.ports.items in
+    let ports = c.in-Ok.ports.items in
     let started = c.start_workers-started in
-    let joined = c.join_workers-ended.ensures in
+    let joined = c.in-Ok.ensures in
     let same = at_ok started.result _ _ (map named ports ≡ map (sent_all n) opened.ports.items)
-    (λ workers before after. after ∙ before) started.ensures.sent (IfOk-at_ok _ c.in-Some-Ok.is-1 joined.sent) in
+    (λ workers before after. after ∙ before) started.ensures.sent joined.sent in
     let most = at_ok started.result _ _ (AreAtMost (map asked_by ports) (map (asked_after c.args.load.turns) opened.ports.items))
-    (λ workers before after. subst (AreAtMost (map asked_by ports)) before after) started.ensures.asks
-    (IfOk-at_ok _ c.in-Some-Ok.is-1 joined.asks) in
+    (λ workers before after. subst (AreAtMost (map asked_by ports)) before after) started.ensures.asks joined.asks in
     record {
       plan = search rules;
       ended = record {
