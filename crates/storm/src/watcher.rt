@@ -55,7 +55,7 @@ fn watch_link<G: Gate, R: Wait>(
     for _ in 0..times {
         let found = monitor.read(rt, link);
         gate.watched(link);
-        back = back || is_back(&last, &found);
+        back |= is_back(&last, &found);
         last = found;
     }
     back
@@ -77,7 +77,7 @@ fn watch<G: Gate, R: Wait>(
     let mut back = false;
     for link in 0..links {
         let fell = watch_link(rt, gate, &mut monitor, link, times);
-        back = back || fell;
+        back |= fell;
     }
     (monitor, back)
 }
