@@ -1,6 +1,8 @@
 //! Tests of reading the text of a configuration.
 use crate::testing::*;
-use afdx_config::{Networks, UdpSum, read_config};
+use afdx_config::Networks::{self, Both, OnlyA, OnlyB};
+use afdx_config::UdpSum::{self, Generated, Omitted};
+use afdx_config::read_config;
 use afdx_plan::{Config, demo_config, jitter_ns};
 use std::fmt::Write;
 
@@ -42,6 +44,11 @@ fn assert_fault(rt: &impl Host, text: &str, number: u8) {
     assert_same_at(rt, fault_of(rt, text.as_bytes()), number, text);
 }
 
+/// Asserts the number of the fault of the text of these parts, or 0.
+fn assert_fault_of(rt: &impl Host, parts: &[&str], number: u8) {
+    assert_fault(rt, &joined(rt, parts), number);
+}
+
 /// A text with a change.
 fn changed(rt: &impl Host, text: &str, (old, new): (&str, &str)) -> String {
     text.replace(rt.alloc(), old, new).expect(rt, "memory")
@@ -72,7 +79,7 @@ const BLANKS: [(&str, &str); 5] = [
 
 #[test]
 fn the_text_of_the_demonstration_is_its_plan_in_either_version_with_any_blanks(rt: HostRuntime) {
-    for version in ["", "version = 1\n", "version = 2\n"] {
+    for &version in &["", "version = 1\n", "version = 2\n"] {
         assert_demo(&rt, &joined(&rt, &[version, TEXT]));
     }
     for &change in &BLANKS {
@@ -134,12 +141,14 @@ fn a_text_with_one_change_has_its_fault(rt: HostRuntime) {
     }
 }
 
+// The port as a sampling port, without its greatest message.
+const SAMPLING: &str = "[[port]]\nid = 10\nvl = 1\nsub = 0\npartition = 1\nkind = \"sampling\"\n\
+    source = 1000\ndestination = 2000\n";
+
 #[test]
 fn a_sampling_port_s_message_fits_into_one_frame(rt: HostRuntime) {
-    let sampling = changed(&rt, TEXT, ("queuing", "sampling"));
-    for (max, number) in [("max = 1471", 0), ("max = 1472", 11)] {
-        let text = changed(&rt, &sampling, ("max = 8192", max));
-        assert_fault(&rt, &text, number);
+    for &(max, number) in &[("max = 1471\n", 0), ("max = 1472\n", 11)] {
+        assert_fault_of(&rt, &[HEAD, LINK, SAMPLING, max], number);
     }
 }
 
@@ -202,7 +211,7 @@ const TEXTS: [(&[&str], u8); 22] = [
 #[test]
 fn a_text_of_parts_has_its_fault(rt: HostRuntime) {
     for &(parts, number) in &TEXTS {
-        assert_fault(&rt, &joined(&rt, parts), number);
+        assert_fault_of(&rt, parts, number);
     }
 }
 
@@ -241,26 +250,28 @@ fn a_line_of_a_link_or_a_port_has_its_fault(rt: HostRuntime) {
     }
 }
 
-// Lines of a link and of a port, and their values.
-const NAMED: [(&str, &str, Networks, UdpSum); 6] = [
-    ("", "", Networks::Both, UdpSum::Omitted),
-    ("", "checksum = 'none'\n", Networks::Both, UdpSum::Omitted),
-    ("", "checksum = 'udp'\n", Networks::Both, UdpSum::Generated),
-    ("networks = 'both'\n", "", Networks::Both, UdpSum::Omitted),
-    ("networks = 'a'\n", "", Networks::OnlyA, UdpSum::Omitted),
-    ("networks = 'b'\n", "", Networks::OnlyB, UdpSum::Omitted),
+const VERSION_2: &str = "version = 2\n";
+
+// The first line of a text, the last lines of its link and of its port, and the values that these have.
+const NAMED: [(&str, &str, &str, Networks, UdpSum, Option<[u8; 4]>); 7] = [
+    (VERSION_2, "", "", Both, Omitted, None),
+    (VERSION_2, "", "checksum = 'none'\n", Both, Omitted, None),
+    (VERSION_2, "", "checksum = 'udp'\n", Both, Generated, None),
+    (VERSION_2, "networks = 'both'\n", "", Both, Omitted, None),
+    (VERSION_2, "networks = 'a'\n", "", OnlyA, Omitted, None),
+    (VERSION_2, "networks = 'b'\n", "", OnlyB, Omitted, None),
+    ("", "", ADDRESS, Both, Omitted, Some([10, 0, 2, 1])),
 ];
 
 #[test]
 fn a_link_has_the_networks_and_a_port_the_checksum_and_address_of_its_table(rt: HostRuntime) {
-    for &(of_link, of_port, networks, checksum) in &NAMED {
-        let parts = ["version = 2\n", HEAD, LINK, of_link, PORT, of_port];
+    for &(first, of_link, of_port, networks, checksum, unicast) in &NAMED {
+        let parts = [first, HEAD, LINK, of_link, PORT, of_port];
         let config = read(&rt, &joined(&rt, &parts));
-        assert_same(&rt, only(&rt, config.links()).networks, networks);
-        assert_same(&rt, only(&rt, config.ports()).checksum, checksum);
+        let (link, port) = (only(&rt, config.links()), only(&rt, config.ports()));
+        let told = (link.networks, port.checksum, port.unicast);
+        assert_same(&rt, told, (networks, checksum, unicast));
     }
-    let config = read(&rt, &joined(&rt, &[TEXT, ADDRESS]));
-    assert_same(&rt, only(&rt, config.ports()).unicast, Some([10, 0, 2, 1]));
 }
 
 /// The text of the demonstration with links up to this identifier, which differ in it alone.
@@ -275,7 +286,7 @@ fn text_with_links(rt: &impl Host, last: u8) -> String {
 
 #[test]
 fn a_plan_has_64_links_at_most(rt: HostRuntime) {
-    for (last, number) in [(64, 0), (65, 14)] {
+    for &(last, number) in &[(64, 0), (65, 14)] {
         assert_fault(&rt, &text_with_links(&rt, last), number);
     }
     // four of the greatest frame have a jitter of 532,160 ns
@@ -283,25 +294,31 @@ fn a_plan_has_64_links_at_most(rt: HostRuntime) {
     assert_same(&rt, jitter_ns(&four), 532_160);
 }
 
-// A change of the link and one of the port, each with a fault, and the lesser number of the two.
-const PAIRS: [((&str, &str), (&str, &str), u8); 8] = [
-    (("lmax = 1518", "lmax = 63"), ("max", "speed = 1\nmax"), 3),
-    (("lmax", "speed = 1\nlmax"), ("max = 8192", "max = 0"), 3),
-    (("lmax = 1518", "lmax = '1518'"), ("max = 8192", ""), 2),
-    (("lmax = 1518", ""), ("max = 8192", "max = '8192'"), 2),
-    (("bag_ms = 1", "bag_ms = 3"), ("sub = 0", "sub = 4"), 5),
-    (("bag_ms = 1", "bag_ms = 3"), ("sub = 0", "sub = 1"), 6),
-    (("vls = 1", "vls = 5"), ("\nvl = 1", "\nvl = 9"), 5),
-    (("lmax = 1518", "lmax = true"), ("max = 8192", "max ="), 1),
+// A part of the link and its replacement, a part of the port and its replacement, each with a fault, and the
+// lesser number of the two.
+const PAIRS: [(&str, &str, &str, &str, u8); 8] = [
+    ("lmax = 1518", "lmax = 63", "max", "speed = 1\nmax", 3),
+    ("lmax", "speed = 1\nlmax", "max = 8192", "max = 0", 3),
+    ("lmax = 1518", "lmax = '1518'", "max = 8192", "", 2),
+    ("lmax = 1518", "", "max = 8192", "max = '8192'", 2),
+    ("bag_ms = 1", "bag_ms = 3", "sub = 0", "sub = 4", 5),
+    ("bag_ms = 1", "bag_ms = 3", "sub = 0", "sub = 1", 6),
+    ("vls = 1", "vls = 5", "\nvl = 1", "\nvl = 9", 5),
+    ("lmax = 1518", "lmax = true", "max = 8192", "max =", 1),
 ];
+
+/// Asserts the number of the fault of a link and a port, in either order.
+fn assert_pair(rt: &impl Host, link: &str, port: &str, number: u8) {
+    assert_fault_of(rt, &[HEAD, link, port], number);
+    assert_fault_of(rt, &[port, link, HEAD], number);
+}
 
 #[test]
 fn the_fault_of_the_least_number_is_returned_in_either_order(rt: HostRuntime) {
-    for &(of_link, of_port, number) in &PAIRS {
-        let link = changed(&rt, LINK, of_link);
-        let port = changed(&rt, PORT, of_port);
-        assert_fault(&rt, &joined(&rt, &[HEAD, &link, &port]), number);
-        assert_fault(&rt, &joined(&rt, &[&port, &link, HEAD]), number);
+    for &(old, new, old_of_port, new_of_port, number) in &PAIRS {
+        let link = changed(&rt, LINK, (old, new));
+        let port = changed(&rt, PORT, (old_of_port, new_of_port));
+        assert_pair(&rt, &link, &port, number);
     }
 }
 
@@ -328,26 +345,34 @@ fn bytes_that_are_no_text_are_no_toml(rt: HostRuntime) {
 }
 
 /// Appends a port that differs from that of the demonstration in its identifier, its sub-VL and its source.
-fn push_port(text: &mut String, id: u16, sub: u16) -> Result<(), AllocError> {
+fn push_port(rt: &impl Host, text: &mut String, id: u16, sub: u16) {
     let source = id.saturating_add(1000);
-    write!(text, "[[port]]\nid = {id}\nvl = 1\nsub = {sub}\n")?;
-    write!(text, "source = {source}\npartition = 1\nkind = 'queuing'\n")?;
-    text.push_str("destination = 2000\nmax = 8192\n")
+    let port = write!(
+        text,
+        "[[port]]\nid = {id}\nvl = 1\nsub = {sub}\nsource = {source}\npartition = 1\n\
+        kind = 'queuing'\ndestination = 2000\nmax = 8192\n"
+    );
+    port.expect(rt, "memory");
+}
+
+/// The text of the demonstration with 64 ports on each of four sub-VLs.
+fn text_with_256_ports(rt: &impl Host) -> String {
+    let mut text = changed(rt, TEXT, ("sub_vls = 1", "sub_vls = 4"));
+    for number in 1..256u16 {
+        push_port(rt, &mut text, 100 + number, number / 64);
+    }
+    text
 }
 
 #[test]
 fn a_plan_has_256_ports_and_a_sub_vl_64_at_most(rt: HostRuntime) {
-    let mut text = changed(&rt, TEXT, ("sub_vls = 1", "sub_vls = 4"));
-    for number in 1..256u16 {
-        push_port(&mut text, 100 + number, number / 64).expect(&rt, "memory");
-    }
-    assert_same(&rt, read(&rt, &text).ports().len(), 256);
-    let more = joined(&rt, &[&text, LINK_2, ON_LINK_2, PORT_END]);
-    assert_fault(&rt, &more, 14);
+    let most = text_with_256_ports(&rt);
+    assert_same(&rt, read(&rt, &most).ports().len(), 256);
+    assert_fault_of(&rt, &[&most, LINK_2, ON_LINK_2, PORT_END], 14);
     let mut text = joined(&rt, &[TEXT]);
     for id in 11..75u16 {
-        assert_same_at(&rt, fault_of(&rt, text.as_bytes()), 0, id);
-        push_port(&mut text, id, 0).expect(&rt, "memory");
+        assert_fault(&rt, &text, 0);
+        push_port(&rt, &mut text, id, 0);
     }
     assert_fault(&rt, &text, 14);
 }

@@ -26,7 +26,7 @@ pub fn first_frame_for_b() -> [u8; 60] {
 type Piece = (u16, u16, u16, Option<u16>, usize, usize);
 
 /// A frame with this piece and this sequence number.
-fn frame_of(alloc: Global, piece: &Piece, number: u8) -> Result<Vec<u8>, AllocError> {
+fn frame_of(rt: &impl Host, piece: &Piece, number: u8) -> Vec<u8> {
     let (total, fragment, checksum, udp, len, _whole) = *piece;
     let mut first = FIRST_FRAME;
     first[16..18].copy_from_slice(total.to_be_bytes().as_slice());
@@ -34,16 +34,17 @@ fn frame_of(alloc: Global, piece: &Piece, number: u8) -> Result<Vec<u8>, AllocEr
     first[24..26].copy_from_slice(checksum.to_be_bytes().as_slice());
     first[38..40].copy_from_slice(udp.unwrap_or(0).to_be_bytes().as_slice());
     let begin = if udp.is_some() { 42 } else { 34 };
-    let mut frame = first[..begin].to_vec(alloc)?;
-    frame.resize(begin.saturating_add(len), 0xaa)?;
-    frame.resize(frame.len().max(59), 0)?;
-    frame.push(number)?;
-    Ok(frame)
+    let mut frame = first[..begin].to_vec(rt.alloc()).expect(rt, "memory");
+    let filled = begin.saturating_add(len);
+    frame.resize(filled, 0xaa).expect(rt, "memory");
+    frame.resize(filled.max(59), 0).expect(rt, "memory");
+    frame.push(number).expect(rt, "memory");
+    frame
 }
 
 /// Asserts that a frame has this piece and this sequence number.
 fn assert_piece(rt: &impl Host, frame: &[u8], piece: &Piece, number: u8) {
-    let wanted = frame_of(rt.alloc(), piece, number).expect(rt, "memory");
+    let wanted = frame_of(rt, piece, number);
     assert_same(rt, frame, wanted.as_slice());
     assert_same(rt, frame.len(), piece.5);
     let (offset, more) = (piece.1 % 0x2000, piece.1 >= 0x2000);
@@ -129,17 +130,6 @@ fn the_twin_differs_in_the_interface_alone(rt: HostRuntime) {
     assert_same(&rt, twin.as_slice(), FIRST_FRAME.as_slice());
 }
 
-/// A message of `len` bytes `aa` of the demonstration port.
-fn cut_of_aa(rt: &impl Host, len: usize) -> Cut
-    requires some { 1 ≤ len }
-    requires most { len ≤ 8192 }
-    ensures vl { result.port.vl ≡ record { 0 = 1 } }
-    ensures sub { result.port.sub ≡ 0 }
-{
-    let message = vec![in rt.alloc(); 0xaau8; len].expect(rt, "memory");
-    Cut::new(message, 0, &demo_port())
-}
-
 /// Asserts that a message has frames with these pieces, and no other.
 fn assert_cut(rt: &impl Host, cut: &mut Cut, link: &LinkPlan, pieces: &[Piece])
     requires { SendsOver cut.old.port link.now }
@@ -151,6 +141,17 @@ fn assert_cut(rt: &impl Host, cut: &mut Cut, link: &LinkPlan, pieces: &[Piece])
     }
     assert_same(rt, cut.is_done(), true);
     assert_same(rt, cut.next_frame(link, 1, 9, Net::A).is_none(), true);
+}
+
+/// Asserts that a message of `len` bytes `aa` of the demonstration port has these pieces over frames of at most
+/// `lmax` bytes.
+fn assert_cut_of_aa(rt: &impl Host, len: usize, lmax: Lmax, pieces: &[Piece])
+    requires some { 1 ≤ len }
+    requires most { len ≤ 8192 }
+{
+    let message = vec![in rt.alloc(); 0xaau8; len].expect(rt, "memory");
+    let mut cut = Cut::new(message, 0, &demo_port());
+    assert_cut(rt, &mut cut, &link(lmax, 1), pieces);
 }
 
 // Over frames of 64 bytes, a datagram of 25 bytes is sent whole, and one of 26 is cut at 24.
@@ -179,12 +180,12 @@ const LAST_PIECE: Piece = (0x001c, 0x00b8, 0xcd37, None, 8, 60);
 
 #[test]
 fn a_message_is_cut_into_frames_that_its_link_may_send(rt: HostRuntime) {
-    let (short, long) = (link(Lmax::new(64), 1), link(Lmax::new(1518), 1));
-    assert_cut(&rt, &mut cut_of_aa(&rt, 17), &short, &OF_17);
-    assert_cut(&rt, &mut cut_of_aa(&rt, 18), &short, &OF_18);
-    assert_cut(&rt, &mut cut_of_aa(&rt, 41), &short, &OF_41);
-    assert_cut(&rt, &mut cut_of_aa(&rt, 1471), &long, &OF_1471);
-    assert_cut(&rt, &mut cut_of_aa(&rt, 1472), &long, &OF_1472);
+    let (short, long) = (Lmax::new(64), Lmax::new(1518));
+    assert_cut_of_aa(&rt, 17, short, &OF_17);
+    assert_cut_of_aa(&rt, 18, short, &OF_18);
+    assert_cut_of_aa(&rt, 41, short, &OF_41);
+    assert_cut_of_aa(&rt, 1471, long, &OF_1471);
+    assert_cut_of_aa(&rt, 1472, long, &OF_1472);
 }
 
 #[test]
@@ -207,7 +208,7 @@ fn identifications_give_the_place_and_the_sub_vl(rt: HostRuntime) {
         sub: 3,
         ..demo_port()
     };
-    for (place, identification) in [(0u64, 3u16), (1, 7), (16_384, 3)] {
+    for &(place, identification) in &[(0u64, 3u16), (1, 7), (16_384, 3)] {
         let frame = first_frame(&rt, &port, place, 4);
         assert_same(&rt, ident_of(&frame), Some(identification));
         assert_same(&rt, sub_of(&frame), Some(3));
@@ -236,7 +237,7 @@ fn fields_of(bytes: &[u8]) -> Fields {
 
 #[test]
 fn the_readers_give_the_fields_of_a_frame_and_of_nothing_else(rt: HostRuntime) {
-    let frame = frame_of(rt.alloc(), &LAST_PIECE, 1).expect(&rt, "memory");
+    let frame = frame_of(&rt, &LAST_PIECE, 1);
     assert_same(&rt, fields_of(&frame), last_fields(1, 184));
     // a frame that is cut short or padded with ones is no frame
     let mut padded = FIRST_FRAME;

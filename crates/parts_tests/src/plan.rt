@@ -8,27 +8,35 @@ fn the_demonstration_is_one_link_and_one_port_which_are_found_by_their_identifie
     rt: HostRuntime,
 ) {
     let config = demo_config(rt.alloc()).expect(&rt, "memory");
-    assert_same(&rt, config.end_system(), 1);
-    assert_same(&rt, config.links().len(), 1);
+    let whole = (
+        config.end_system(),
+        config.links().len(),
+        jitter_ns(&config),
+    );
+    assert_same(&rt, whole, (1, 1, 163_040));
     let port = only(&rt, config.ports());
-    let names = (port.id, port.vl, port.kind);
-    assert_same(&rt, names, (PortId(10), VlId(1), Kind::Queuing));
-    let numbers = (port.source, port.destination, port.max);
-    assert_same(&rt, numbers, (1000, 2000, 8192));
-    assert_same(&rt, config.link_index(VlId(1)), Some(0));
-    assert_same(&rt, config.link_index(VlId(2)), None);
-    assert_same(&rt, config.port_index(PortId(10)), Some(0));
-    assert_same(&rt, config.port_index(PortId(1)), None);
-    assert_same(&rt, jitter_ns(&config), 163_040);
+    let told = (
+        port.id,
+        port.vl,
+        port.kind,
+        port.source,
+        port.destination,
+        port.max,
+    );
+    let wanted = (PortId(10), VlId(1), Kind::Queuing, 1000, 2000, 8192);
+    assert_same(&rt, told, wanted);
+    let links = (config.link_index(VlId(1)), config.link_index(VlId(2)));
+    let ports = (config.port_index(PortId(10)), config.port_index(PortId(1)));
+    assert_same(&rt, (links, ports), ((Some(0), None), (Some(0), None)));
     laws::flows_apart(&config);
 }
 
 #[test]
 fn gaps_are_1_to_128_milliseconds_and_rooms_25_to_1479_bytes(rt: HostRuntime) {
-    for (bag, ms, micros) in [(Bag::Ms1, 1, 1_000), (Bag::Ms128, 128, 128_000)] {
+    for &(bag, ms, micros) in &[(Bag::Ms1, 1, 1_000), (Bag::Ms128, 128, 128_000)] {
         assert_same(&rt, (bag.ms(), bag.micros()), (ms, micros));
     }
-    for (lmax, bytes, room) in [(Lmax::new(64), 64, 25), (Lmax::new(1518), 1518, 1479)] {
+    for &(lmax, bytes, room) in &[(Lmax::new(64), 64, 25), (Lmax::new(1518), 1518, 1479)] {
         assert_same(&rt, (lmax.bytes(), lmax.room()), (bytes, room));
     }
 }

@@ -6,7 +6,7 @@ use subvl_queue::{Why, make};
 
 #[test]
 fn a_queue_of_two_takes_two_messages_and_gives_them_in_order(rt: HostRuntime) {
-    let steps = [
+    const STEPS: &[Step] = &[
         Accepted(0, 0),
         Takes(None),
         Sends(0, [1, 10], None),
@@ -19,7 +19,7 @@ fn a_queue_of_two_takes_two_messages_and_gives_them_in_order(rt: HostRuntime) {
         Takes(None),
         Accepted(0, 3),
     ];
-    let _ends = play_one(&rt, 2, 10, &steps);
+    let _ends = play_one(&rt, 2, 10, STEPS);
 }
 
 #[test]
@@ -55,19 +55,19 @@ fn each_senders_messages_keep_their_order(rt: HostRuntime) {
 #[test]
 fn gathering_needs_every_sender_in_any_order(rt: HostRuntime) {
     let mut ends = open(&rt, 8, 2, 10);
-    let steps = [
+    const STEPS: &[Step] = &[
         Sends(0, [5, 1], None),
         Sends(1, [6, 1], None),
         Sends(0, [5, 2], None),
         Takes(Some([0, 5, 1])),
     ];
-    ends.play(&rt, &steps);
+    ends.play(&rt, STEPS);
     assert_left(&rt, ends.gather(&rt), &[[1, 6, 1], [0, 5, 2]]);
 }
 
 #[test]
 fn two_calls_of_one_place_are_ok_and_full_and_then_exhausted(rt: HostRuntime) {
-    let steps = [
+    const STEPS: &[Step] = &[
         Sends(0, [1, 0], None),
         Sends(0, [2, 0], Some(Why::Full)),
         Sends(0, [3, 0], Some(Why::Exhausted)),
@@ -75,7 +75,7 @@ fn two_calls_of_one_place_are_ok_and_full_and_then_exhausted(rt: HostRuntime) {
         Sends(0, [4, 0], Some(Why::Exhausted)),
         Accepted(0, 1),
     ];
-    let ends = play_one(&rt, 1, 2, &steps);
+    let ends = play_one(&rt, 1, 2, STEPS);
     assert_left(&rt, ends.gather(&rt), &[]);
 }
 
@@ -84,7 +84,7 @@ fn a_sender_goes_on_without_its_receiver_until_there_is_no_room(rt: HostRuntime)
     let (receiver, mut sender) = open_one(&rt, 2, 4);
     assert_same(&rt, send_bytes(&rt, &mut sender, [1, 0]), None);
     drop(receiver);
-    for why in [None, Some(Why::Full), Some(Why::Full), Some(Why::Exhausted)] {
+    for &why in &[None, Some(Why::Full), Some(Why::Full), Some(Why::Exhausted)] {
         assert_same(&rt, send_bytes(&rt, &mut sender, [2, 0]), why);
     }
     assert_same(&rt, sender.accepted(), 2);

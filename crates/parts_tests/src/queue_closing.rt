@@ -7,7 +7,7 @@ use subvl_queue::{Receiver, Sender, Why};
 
 #[test]
 fn a_close_returns_what_was_accepted_and_lets_no_more_in(rt: HostRuntime) {
-    let steps = [
+    const STEPS: &[Step] = &[
         Sends(0, [1, 0], None),
         Sends(0, [2, 0], None),
         Takes(Some([0, 1, 0])),
@@ -19,38 +19,38 @@ fn a_close_returns_what_was_accepted_and_lets_no_more_in(rt: HostRuntime) {
         Closes(2),
         Accepted(0, 2),
     ];
-    let _ends = play_one(&rt, 4, 8, &steps);
+    let _ends = play_one(&rt, 4, 8, STEPS);
 }
 
 #[test]
 fn closed_comes_before_exhausted_and_full(rt: HostRuntime) {
-    let steps = [
+    const STEPS: &[Step] = &[
         Sends(0, [1, 0], None),
         Sends(0, [2, 0], Some(Why::Full)),
         Sends(0, [3, 0], Some(Why::Exhausted)),
         Closes(1),
         Sends(0, [4, 0], Some(Why::Closed)),
     ];
-    let _ends = play_one(&rt, 1, 2, &steps);
+    let _ends = play_one(&rt, 1, 2, STEPS);
 }
 
 #[test]
 fn a_queue_that_is_closed_first_accepts_none(rt: HostRuntime) {
-    let steps = [Closes(0), Sends(0, [1, 0], Some(Why::Closed))];
-    let ends = play_one(&rt, 1, 1, &steps);
+    const STEPS: &[Step] = &[Closes(0), Sends(0, [1, 0], Some(Why::Closed))];
+    let ends = play_one(&rt, 1, 1, STEPS);
     assert_left(&rt, ends.gather(&rt), &[]);
 }
 
 #[test]
 fn a_closed_queue_gives_what_is_left_when_it_is_gathered(rt: HostRuntime) {
-    let steps = [
+    const STEPS: &[Step] = &[
         Sends(0, [1, 0], None),
         Sends(0, [2, 0], None),
         Takes(Some([0, 1, 0])),
         Closes(2),
         Sends(0, [3, 0], Some(Why::Closed)),
     ];
-    let ends = play_one(&rt, 4, 8, &steps);
+    let ends = play_one(&rt, 4, 8, STEPS);
     assert_left(&rt, ends.gather(&rt), &[[0, 2, 0]]);
 }
 
@@ -144,6 +144,7 @@ fn send_held(alloc: Global, mut sender: Sender, mut here: Sender, mut go: Receiv
 // Another queue is used while a sender is held. Then its queue gives the message of the held sender.
 #[test]
 fn a_sender_in_its_pause_holds_back_its_own_queue_alone(rt: HostRuntime) {
+    const STEPS: &[Step] = &[Sends(0, [2, 0], None), Takes(Some([0, 2, 0]))];
     let alloc = rt.alloc();
     let (mut held, sender) = open_one(&rt, 2, 8);
     let (mut here, says_here) = open_one(&rt, 1, 1);
@@ -152,8 +153,7 @@ fn a_sender_in_its_pause_holds_back_its_own_queue_alone(rt: HostRuntime) {
     let worker = started.expect(&rt, "a thread");
     assert!(rt; await_message(&mut here));
     receive(&rt, &mut held, Takes(None));
-    let steps = [Sends(0, [2, 0], None), Takes(Some([0, 2, 0]))];
-    let _other = play_one(&rt, 2, 8, &steps);
+    let _other = play_one(&rt, 2, 8, STEPS);
     receive(&rt, &mut held, Takes(None));
     assert_same(&rt, send_bytes(&rt, &mut says_go, [0, 0]), None);
     assert!(rt; worker.join(&rt));

@@ -66,8 +66,13 @@ pub fn close(receiver: &mut Receiver) -> u64
 
 // An item's port and its two bytes.
 fn shown(taken: &Option<Item>) -> Option<[u8; 3]> {
-    let item = taken.as_ref()?;
-    Some([item.port, *item.bytes.first()?, *item.bytes.get(1)?])
+    match taken {
+        Some(item) => match item.bytes.as_slice() {
+            [first, second] => Some([item.port, *first, *second]),
+            _ => None,
+        },
+        None => None,
+    }
 }
 
 /// A receiver takes a step.
@@ -103,8 +108,8 @@ impl Model for Ends {
 
 /// Opens a queue with room for `capacity` messages, whose senders may each call `calls` times.
 pub fn open(rt: &impl Host, capacity: usize, senders: usize, calls: u64) -> Ends {
-    assert!(rt; 1 <= capacity && capacity <= 256 && senders <= 64);
-    assert!(rt; 1 <= calls && calls <= 1 << 40);
+    let is_size = 1 <= capacity && capacity <= 256 && senders <= 64;
+    assert!(rt; is_size && 1 <= calls && calls <= 1 << 40);
     let (receiver, senders) = make(rt.alloc(), capacity, senders, calls).expect(rt, "memory");
     Ends { receiver, senders }
 }
@@ -143,7 +148,8 @@ impl Ends {
         }
     }
 
-    /// Gathers without the first sender, which is refused and returns all ends, and then with it as the last.
+    /// Gathers without the first sender, which is refused and returns all ends in their order, and then with it as
+    /// the last.
     pub fn gather(self, rt: &impl Abort) -> Gathered {
         let Ends {
             receiver,
@@ -154,19 +160,14 @@ impl Ends {
         match receiver.gather(senders) {
             Ok(_) => panic!(rt; "a sender is missing"),
             Err((receiver, others)) => {
+                for (index, sender) in (1usize..).zip(&others) {
+                    assert_same(rt, sender.index(), index);
+                }
                 let mut senders = others;
-                assert_indexes(rt, &senders);
                 senders.push(first).expect(rt, "memory");
                 receiver.gather(senders).ok().expect(rt, "each sender")
             }
         }
-    }
-}
-
-// Asserts the indexes of all senders of a queue but the first.
-fn assert_indexes(rt: &impl Abort, senders: &[Sender]) {
-    for (index, sender) in (1usize..).zip(senders) {
-        assert_same(rt, sender.index(), index);
     }
 }
 

@@ -121,27 +121,26 @@ fn take_rest(rt: &impl Abort, receiver: Receiver, senders: Vec<Sender>, into: &m
     }
 }
 
-// Asserts that an item has the next number of its sender, which then rises by one.
-fn check_item(rt: &impl Abort, item: &Item, number: &mut u8) {
-    assert!(rt; *number < MESSAGES);
-    let wanted = [item.port, *number];
-    assert_same(rt, item.bytes.as_slice(), wanted.as_slice());
-    *number += 1;
-}
-
 // Asserts that each sender's numbers rise from 0 by one.
 fn check_items(rt: &impl Host, items: &[Item], ports: usize) {
     let mut next = vec![in rt.alloc(); 0u8; ports].expect(rt, "memory");
     for item in items {
-        let number = next.get_mut(usize::from(item.port));
-        check_item(rt, item, number.expect(rt, "its port"));
+        let place = usize::from(item.port);
+        let number = next.get_mut(place).expect(rt, "its port");
+        assert!(rt; *number < MESSAGES);
+        let wanted = [item.port, *number];
+        assert_same(rt, item.bytes.as_slice(), wanted.as_slice());
+        *number += 1;
     }
 }
 
 // How many messages the senders say that were accepted.
 fn accepted_by(senders: &[Sender]) -> u64 {
-    let accepted = senders.iter().map(|sender| sender.accepted());
-    accepted.fold(0u64, |sum, more| sum.saturating_add(more))
+    let mut sum = 0u64;
+    for sender in senders {
+        sum = sum.saturating_add(sender.accepted());
+    }
+    sum
 }
 
 // A queue, a thread for each sender, and `taken` messages taken while they run; then the queue may be closed. All

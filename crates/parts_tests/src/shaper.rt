@@ -60,7 +60,7 @@ fn sub_vls_take_turns_in_cyclic_order_after_the_one_served_last(rt: HostRuntime)
         assert_same(&rt, shaper.turn(place), place);
     }
     shaper.stamp(0, 2);
-    for (place, sub) in [(0, 3), (1, 0), (2, 1), (3, 2)] {
+    for &(place, sub) in &[(0, 3), (1, 0), (2, 1), (3, 2)] {
         assert_same(&rt, shaper.turn(place), sub);
     }
 }

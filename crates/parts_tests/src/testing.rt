@@ -14,13 +14,13 @@ pub fn assert_same<V: PartialEq + Debug + Copy>(rt: &impl Abort, told: V, wanted
 }
 
 /// Asserts that two values are the same, and names the place if they differ.
-pub fn assert_same_at<V: PartialEq + Debug + Copy, P: Debug + Copy>(
+pub fn assert_same_at<V: PartialEq + Debug + Copy, P: PartialEq + Debug + Copy>(
     rt: &impl Abort,
     told: V,
     wanted: V,
     place: P,
 ) {
-    assert_eq!(rt; told, wanted, "at {place:?}");
+    assert_same(rt, (told, place), (wanted, place));
 }
 
 /// Asserts how a value is printed.
