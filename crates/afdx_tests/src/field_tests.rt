@@ -6,7 +6,6 @@ use afdx_tx::{NoSuchSub, PollFault, Refusal, Release, Report, SendFault};
 use arrayvec::ArrayVec;
 use redundant_mux::Standing;
 use status_board::Counts;
-use std::fmt::InlineText;
 use subvl_queue::{Item, Refused, Why, make};
 
 /// The fields of what a full queue refuses.
@@ -22,7 +21,7 @@ fn fields_of_a_queues_values(rt: HostRuntime) {
     let (mut receiver, mut senders) = make(alloc, 1, 1, 2).ok().expect(&rt, "memory");
     for sender in senders.iter_mut() {
         let first = vec![in alloc; 1, 2].expect(&rt, "memory");
-        assert!(rt; sender.send(first).is_ok());
+        assert_same(&rt, sender.send(first).is_ok(), true);
         let second = vec![in alloc; 3].expect(&rt, "memory");
         assert_same(&rt, refused(sender.send(second)), Some((Why::Full, 1)));
     }
@@ -66,9 +65,8 @@ fn fields_of_an_emitters_values(rt: HostRuntime) {
     assert_same(&rt, released(&report), Some((VlId(1), 0, 0)));
     let Standing { a, b }: Standing = report.standing;
     let up: (bool, bool) = (a, b);
-    assert_same(&rt, up, (true, true));
     let counts = rig.counts(1).map(counted);
-    assert_same(&rt, counts, Some((1, 60, 1, 5)));
+    assert_same(&rt, (up, counts), ((true, true), Some((1, 60, 1, 5))));
 }
 
 // Why a port refuses a message, with the number and the name of that.
@@ -83,15 +81,15 @@ const REFUSALS: [(Refusal, u8, &str); 5] = [
 #[test]
 fn each_refusal_of_a_port_has_its_number_and_its_name(rt: HostRuntime) {
     for &(refusal, number, name) in &REFUSALS {
-        assert_eq!(rt; refusal as u8, number, "{name}");
-        assert_eq!(rt; InlineText::<16>::of(refusal).as_str(), name);
+        assert_same(&rt, (name, refusal as u8), (name, number));
+        assert_text(&rt, refusal, name);
     }
 }
 
 #[test]
 fn the_faults_of_a_poll_and_of_a_close_have_their_names(rt: HostRuntime) {
     let fault = PollFault::BothDown;
-    assert_eq!(rt; fault as u8, 1);
-    assert_eq!(rt; InlineText::<16>::of(fault).as_str(), "BothDown");
-    assert_eq!(rt; InlineText::<16>::of(NoSuchSub).as_str(), "NoSuchSub");
+    assert_same(&rt, fault as u8, 1);
+    assert_text(&rt, fault, "BothDown");
+    assert_text(&rt, NoSuchSub, "NoSuchSub");
 }

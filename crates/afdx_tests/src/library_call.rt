@@ -9,7 +9,7 @@ fn assert_hello(rt: &impl Abort, network: &MemNetwork) {
     let handed = network.handed();
     assert_same(rt, handed.len(), 1);
     for entry in handed {
-        assert_bytes(rt, entry.frame.get(42..47).unwrap_or(&[]), b"hello");
+        assert_same(rt, entry.frame.get(42..47), Some(b"hello".as_slice()));
     }
 }
 

@@ -6,7 +6,7 @@ use status_board::Counts;
 
 /// A frame: its time in microseconds, its link, its sequence number, its length in bytes, and whether more
 /// pieces of its message follow.
-#[derive(Clone, Copy, Debug, PartialEq, Eq)]
+#[derive(Clone, Copy)]
 pub(crate) struct Seen {
     pub(crate) at: u64,
     pub(crate) vl: u16,

@@ -157,12 +157,12 @@ const WRONG: [Handed; 7] = [
 #[test]
 fn a_gauge_takes_the_next_frame_alone(rt: HostRuntime) {
     let mut gauge = Gauge::new(0x20);
-    assert!(rt; takes(&mut gauge, FIRST));
-    for wrong in WRONG {
-        assert!(rt; !takes(&mut gauge, wrong));
+    assert_same(&rt, takes(&mut gauge, FIRST), true);
+    for &wrong in &WRONG {
+        assert_same(&rt, takes(&mut gauge, wrong), false);
     }
-    assert!(rt; takes(&mut gauge, SECOND));
-    assert!(rt; takes(&mut gauge, THIRD));
+    assert_same(&rt, takes(&mut gauge, SECOND), true);
+    assert_same(&rt, takes(&mut gauge, THIRD), true);
     assert_same(&rt, gauge.seen.frames, 3);
     assert_same(&rt, gauge.failures, 7);
 }
@@ -181,8 +181,8 @@ fn gauges_have_seen_the_same_where_their_frames_are_twins(rt: HostRuntime) {
     let seen = seen_with(0, 0x20, 1);
     assert_same(&rt, seen.frames, 1);
     assert_same(&rt, seen_with(0, 0x40, 1), seen);
-    assert_ne!(rt; seen_with(0, 0x40, 2), seen);
-    assert_ne!(rt; seen_with(1, 0x40, 1), seen);
+    assert_same(&rt, seen_with(0, 0x40, 2) == seen, false);
+    assert_same(&rt, seen_with(1, 0x40, 1) == seen, false);
 }
 
 // How many messages the link sends.
@@ -221,13 +221,12 @@ fn assert_counts(rt: &impl Host, monitor: &mut Monitor)
 }
 
 #[test]
-fn a_million_messages_keep_number_gap_and_twin(rt: HostRuntime) -> Result<(), Fail> {
-    let config = demo_config(rt.alloc())?;
+fn a_million_messages_keep_number_gap_and_twin(rt: HostRuntime) {
+    let config = demo_config(rt.alloc()).expect(&rt, "memory");
     assert!(rt; !config.links().is_empty());
     let (a, b) = (Gauge::new(0x20), Gauge::new(0x40));
-    let Ok((mut tx, mut ports, mut monitor)) = open_tx(rt.alloc(), config, a, b) else {
-        return Err(Fail::from("no memory"));
-    };
+    let opened = open_tx(rt.alloc(), config, a, b).ok();
+    let (mut tx, mut ports, mut monitor) = opened.expect(&rt, "memory");
     let mut port = ports.pop().expect(&rt, "a port");
     for place in 0..MESSAGES {
         send_one(&rt, &mut tx, &mut port, place);
@@ -237,5 +236,4 @@ fn a_million_messages_keep_number_gap_and_twin(rt: HostRuntime) -> Result<(), Fa
     assert_seen(&rt, a.seen);
     assert_same(&rt, a.seen, b.seen);
     assert_same(&rt, port.accepted(), MESSAGES);
-    Ok(())
 }

@@ -4,7 +4,7 @@ use crate::play::assert_report;
 use crate::rig::*;
 use crate::testing::*;
 use afdx_frame::{more_of, sn_of, vl_of};
-use afdx_plan::Networks;
+use afdx_plan::{Networks, VlId};
 use afdx_tx::{PollFault, Report};
 use redundant_mux::{Handed, MemNetwork, Standing};
 
@@ -58,23 +58,21 @@ fn assert_answer(
     }
 }
 
-// What a list keeps of a frame.
-fn seen_of(handed: &Handed) -> Option<Seen> {
+// Asserts that a frame is as a list has it.
+fn assert_seen(rt: &impl Abort, handed: &Handed, seen: &Seen) {
     let frame = handed.frame.as_slice();
-    Some(Seen {
-        at: handed.at,
-        vl: vl_of(frame)?.0,
-        number: sn_of(frame)?,
-        length: frame.len() as u64,
-        has_more: more_of(frame)?,
-    })
+    assert_same(rt, handed.at, seen.at);
+    assert_same(rt, vl_of(frame), Some(VlId(seen.vl)));
+    assert_same(rt, sn_of(frame), Some(seen.number));
+    assert_same(rt, frame.len() as u64, seen.length);
+    assert_same(rt, more_of(frame), Some(seen.has_more));
 }
 
 // Asserts that a network took the frames of the list, and failed if the list did.
 fn assert_list(rt: &impl Abort, network: &MemNetwork, list: &ListNetwork) {
     assert_same(rt, network.handed().len(), list.taken.len());
     for (handed, seen) in network.handed().iter().zip(list.taken.iter()) {
-        assert_same(rt, seen_of(handed), Some(*seen));
+        assert_seen(rt, handed, seen);
     }
     assert_same(rt, network.failures(), u64::from(!list.stands));
 }
@@ -100,6 +98,16 @@ fn assert_turn<S: System>(rt: &impl Host, system: &mut S, lists: &mut ListSystem
     assert_list(rt, b, &lists.b);
 }
 
+// Drains, and polls at these times but for the first `before`. Asserts that the drain is done when the lists are.
+fn drain(rt: &impl Host, rig: Rig, lists: &mut ListSystem, times: &[u64], before: usize) {
+    let mut rest = rig.gather(rt);
+    for at in times.iter().skip(before) {
+        assert_same(rt, rest.draining.is_done(), lists.is_done());
+        assert_turn(rt, &mut rest, lists, *at);
+    }
+    assert_same(rt, rest.draining.is_done(), lists.is_done());
+}
+
 // A run over these links, polled at these times, in which A and B fail at these hands, counted from 1. The drain
 // begins after `before` polls. Returns the lists.
 fn run(
@@ -115,12 +123,7 @@ fn run(
     for at in times.iter().take(before) {
         assert_turn(rt, &mut rig, &mut lists, *at);
     }
-    let mut rest = rig.gather(rt);
-    for at in times.iter().skip(before) {
-        assert_same(rt, rest.draining.is_done(), lists.is_done());
-        assert_turn(rt, &mut rest, &mut lists, *at);
-    }
-    assert_same(rt, rest.draining.is_done(), lists.is_done());
+    drain(rt, rig, &mut lists, times, before);
     lists
 }
 
@@ -161,7 +164,7 @@ fn links_on_a_on_b_and_on_both_whenever_both_networks_fail(rt: HostRuntime) {
 #[test]
 fn each_network_keeps_what_it_took_before_it_failed_in_the_drain(rt: HostRuntime) {
     let links = [link(1, Networks::Both, 0, 2)];
-    for before in [0, 1, 3] {
+    for &before in &[0, 1, 3] {
         run_failing(&rt, &links, &HANDS[..5], &TIMES, before);
     }
 }
@@ -170,8 +173,8 @@ fn each_network_keeps_what_it_took_before_it_failed_in_the_drain(rt: HostRuntime
 // emitter's one poll.
 #[test]
 fn counts_are_what_is_read_over_links_on_a_on_b_and_on_both(rt: HostRuntime) {
-    for first in NETWORKS {
-        for second in NETWORKS {
+    for &first in &NETWORKS {
+        for &second in &NETWORKS {
             let links = [link(1, first, 1, 1), link(2, second, 1, 1)];
             run_failing(&rt, &links, &[1, 3, 9], &TIMES[..4], 4);
             run_failing(&rt, &links, &[1, 3, 9], &[0, 0, 1_000, 2_000, 3_000], 1);
@@ -209,7 +212,7 @@ fn assert_times(rt: &impl Abort, list: &ListNetwork, times: &[u64]) {
 
 #[test]
 fn no_gap_runs_over_the_last_moment(rt: HostRuntime) {
-    for (times, released) in EDGES {
+    for &(times, released) in &EDGES {
         for before in 0..=3 {
             let links = vec![in rt.alloc(); link(1, Networks::Both, 2, 0)].expect(&rt, "memory");
             let lists = run(&rt, links, (9, 9), &times, before);
@@ -227,17 +230,18 @@ fn shuffled(state: u64) -> u64 {
 }
 
 // One to five links with at most five messages each, by a number.
-fn some_links(alloc: Global, seed: u64) -> Result<Vec<ListLink>, AllocError> {
-    let mut links = Vec::new(alloc);
+fn some_links(rt: &impl Host, seed: u64) -> Vec<ListLink> {
+    let mut links = Vec::new(rt.alloc());
     let mut state = seed;
     for vl in 1..=5u16 {
         if u64::from(vl) <= 1 + seed % 5 {
             state = shuffled(state);
             let networks = NETWORKS[(state / 64 % 3) as usize];
-            links.push(link(vl, networks, (state / 1_024 % 6) as u8, 0))?;
+            let row = link(vl, networks, (state / 1_024 % 6) as u8, 0);
+            links.push(row).expect(rt, "memory");
         }
     }
-    Ok(links)
+    links
 }
 
 #[test]
@@ -245,7 +249,7 @@ fn plans_that_look_random_are_as_lists_say(rt: HostRuntime) {
     let mut state = 0x2545_f491_4f6c_dd1du64;
     for _plan in 0..150 {
         state = shuffled(state);
-        let links = some_links(rt.alloc(), state).expect(&rt, "memory");
+        let links = some_links(&rt, state);
         let fails = (state / 4_096 % 12 + 1, state / 65_536 % 12 + 1);
         run(&rt, links, (fails.0 as u8, fails.1 as u8), &TIMES, 6);
     }

@@ -24,7 +24,11 @@ fn send_paused(
         act_all(rt, rig, steps);
         ran = true;
     });
-    assert_same(rt, sent.err().map(|fault| fault.why), why);
+    let refused = match sent {
+        Ok(()) => None,
+        Err(fault) => Some(fault.why),
+    };
+    assert_same(rt, refused, why);
     assert_same(rt, ran, is_taken);
 }
 
@@ -40,45 +44,45 @@ fn play_paused(rt: &impl Host, sends: &[Paused], after: &[Step]) {
 
 #[test]
 fn another_sub_vl_releases_in_the_pause_of_a_port(rt: HostRuntime) {
-    let steps = &[Sends(0, &[2]), Polls(0, &[(1, 1, 0)], BOTH)];
-    let after = &[Polls(1_000, &[(1, 0, 1)], BOTH)];
-    play_paused(&rt, &[(1, steps, true, None)], after);
+    const STEPS: &[Step] = &[Sends(0, &[2]), Polls(0, &[(1, 1, 0)], BOTH)];
+    const AFTER: &[Step] = &[Polls(1_000, &[(1, 0, 1)], BOTH)];
+    play_paused(&rt, &[(1, STEPS, true, None)], AFTER);
 }
 
 // The close in the pause counts the message. It is sent, and so is one of the other sub-VL, which is open.
 #[test]
 fn a_close_in_the_pause_of_a_port_counts_its_message(rt: HostRuntime) {
-    let sends: [Paused; 2] = [
+    const SENDS: &[Paused] = &[
         (1, &[Closes(1, 0, Ok(1))], true, None),
         (1, &[], false, Some(Refusal::Closed)),
     ];
-    let after = &[
+    const AFTER: &[Step] = &[
         Closes(1, 0, Ok(1)),
         Sends(0, &[2]),
         Polls(0, &[(1, 0, 0)], BOTH),
         Polls(1_000, &[(1, 1, 1)], BOTH),
         Closes(1, 1, Ok(1)),
     ];
-    play_paused(&rt, &sends, after);
+    play_paused(&rt, SENDS, AFTER);
 }
 
 #[test]
 fn a_pause_runs_where_a_port_accepts_alone(rt: HostRuntime) {
-    let sends: [Paused; 5] = [
+    const SENDS: &[Paused] = &[
         (0, &[], false, Some(Refusal::Empty)),
         (8_193, &[], false, Some(Refusal::TooLong)),
         (8_192, &[], true, None),
         (1, &[], true, None),
         (1, &[], false, Some(Refusal::Full)),
     ];
-    play_paused(&rt, &sends, &[Closes(1, 0, Ok(2))]);
+    play_paused(&rt, SENDS, &[Closes(1, 0, Ok(2))]);
 }
 
 #[test]
 fn a_message_goes_out_after_the_pause_of_its_port(rt: HostRuntime) {
-    let steps = &[Polls(0, &[], BOTH)];
-    let after = &[Polls(0, &[(1, 0, 0)], BOTH)];
-    play_paused(&rt, &[(1, steps, true, None)], after);
+    const STEPS: &[Step] = &[Polls(0, &[], BOTH)];
+    const AFTER: &[Step] = &[Polls(0, &[(1, 0, 0)], BOTH)];
+    play_paused(&rt, &[(1, STEPS, true, None)], AFTER);
 }
 
 // Sends a message. In its pause, the port meets another thread at the gate, and then again before it goes on.
@@ -112,7 +116,7 @@ fn a_port_held_in_its_pause_holds_back_its_own_sub_vl_alone(rt: HostRuntime) {
             gate.wait(&rt);
         },
     );
-    assert!(rt; is_sent);
+    assert_same(&rt, is_sent, true);
     assert_same(&rt, port.accepted(), 1);
     act_all(&rt, &mut rig, &[Polls(1_000, &[(1, 0, 1)], BOTH)]);
 }

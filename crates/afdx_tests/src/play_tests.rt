@@ -1,6 +1,6 @@
 //! Tests on one thread, each a list of steps.
 use crate::play::Step::*;
-use crate::play::{Step, act_all, play};
+use crate::play::{Step, act_all, play, play_all};
 use crate::rig::{Rig, open, send};
 use crate::testing::*;
 use afdx_tx::{NoSuchSub, Refusal};
@@ -15,7 +15,7 @@ const FOR_A: [u8; 60] = *b"\x03\x00\x00\x00\x00\x01\x02\x00\x00\x00\x01\x20\x08\
 // Asserts that a network holds this frame alone.
 fn assert_first(rt: &impl Abort, network: &MemNetwork, frame: &[u8]) {
     for entry in network.handed() {
-        assert_bytes(rt, entry.frame.as_slice(), frame);
+        assert_same(rt, entry.frame.as_slice(), frame);
     }
 }
 
@@ -56,7 +56,7 @@ fn a_message_in_two_frames_counts_with_its_last(rt: HostRuntime) {
         Reads(&[(2, 1_567, 1, 1_000)]),
     ];
     const IN_REST: &[Step] = &[Counts(1, Some((2, 1_567, 1, 1_000))), IsDone(true)];
-    play(&rt, DEMO, NEVER, STEPS, IN_REST);
+    play_all(&rt, DEMO, NEVER, STEPS, IN_REST);
 }
 
 #[test]
@@ -68,7 +68,7 @@ fn a_link_releases_nothing_before_its_gap_is_over(rt: HostRuntime) {
         Polls(999, &[], BOTH),
         Polls(1_000, &[(1, 0, 1)], BOTH),
     ];
-    play(&rt, DEMO, NEVER, STEPS, &[Holds((2, 0), (2, 0))]);
+    play_all(&rt, DEMO, NEVER, STEPS, &[Holds((2, 0), (2, 0))]);
 }
 
 // A fails at its third hand. B, the last that is up, fails at its sixth. That frame is lost and isn't counted.
@@ -99,7 +99,7 @@ fn frames_that_one_network_alone_took_count_and_those_that_none_took_do_not(rt: 
         Holds((2, 1), (5, 1)),
     ];
     const IN_REST: &[Step] = &[FindsBothDown(7_000), IsAt(5_000), IsDone(false)];
-    play(&rt, SIX, (3, 6), STEPS, IN_REST);
+    play_all(&rt, SIX, (3, 6), STEPS, IN_REST);
 }
 
 // Messages fill the queue before the close. They are sent after it, and later ones are refused as closed.
@@ -120,7 +120,7 @@ fn a_closed_sub_vl_refuses_what_comes_and_sends_what_it_accepted(rt: HostRuntime
         Accepted(0, 10, 2),
     ];
     const IN_REST: &[Step] = &[IsDone(true), Holds((2, 0), (2, 0))];
-    play(&rt, DEMO, NEVER, STEPS, IN_REST);
+    play_all(&rt, DEMO, NEVER, STEPS, IN_REST);
 }
 
 #[test]
@@ -132,7 +132,7 @@ fn a_sub_vl_that_is_closed_first_accepts_none(rt: HostRuntime) {
         Accepted(0, 10, 0),
     ];
     const IN_REST: &[Step] = &[IsDone(true), Holds((0, 0), (0, 0))];
-    play(&rt, DEMO, NEVER, STEPS, IN_REST);
+    play_all(&rt, DEMO, NEVER, STEPS, IN_REST);
 }
 
 // The link is missing, or the index is, or both are.
@@ -149,7 +149,7 @@ fn a_sub_vl_that_is_not_there_is_not_closed(rt: HostRuntime) {
         Sends(0, &[2]),
         Polls(2_000, &[(1, 0, 1)], BOTH),
     ];
-    play(&rt, DEMO, NEVER, STEPS, &[IsDone(true)]);
+    play_all(&rt, DEMO, NEVER, STEPS, &[IsDone(true)]);
 }
 
 #[test]
@@ -165,7 +165,7 @@ fn what_is_left_goes_out_after_the_port_came_back(rt: HostRuntime) {
         Holds((2, 0), (2, 0)),
     ];
     const STEPS: &[Step] = &[Sends(0, &[1]), Sends(0, &[2])];
-    play(&rt, DEMO, NEVER, STEPS, IN_REST);
+    play_all(&rt, DEMO, NEVER, STEPS, IN_REST);
 }
 
 #[test]
@@ -180,7 +180,7 @@ fn a_lost_frame_is_never_done(rt: HostRuntime) {
         IsDone(false),
     ];
     const STEPS: &[Step] = &[Sends(0, &[1]), Sends(0, &[2])];
-    play(&rt, DEMO, (2, 2), STEPS, IN_REST);
+    play_all(&rt, DEMO, (2, 2), STEPS, IN_REST);
 }
 
 // Networks are seen while ports send, in the drain, and after it.
@@ -229,7 +229,7 @@ fn a_link_whose_network_failed_holds_up_no_other_and_is_never_done(rt: HostRunti
         IsDone(false),
         Holds((0, 1), (1, 0)),
     ];
-    play(&rt, ON_A_AND_ON_BOTH, (1, u64::MAX), STEPS, IN_REST);
+    play_all(&rt, ON_A_AND_ON_BOTH, (1, u64::MAX), STEPS, IN_REST);
 }
 
 // One sub-VL with room for two messages, and two ports on it, of 100 bytes and of 4.
@@ -258,7 +258,7 @@ fn what_two_ports_sent_into_one_queue_goes_out_before_and_after_they_are_gathere
         Polls(1_000, &[(1, 0, 1)], BOTH),
         IsDone(true),
     ];
-    play(&rt, TWO_PORTS, NEVER, STEPS, IN_REST);
+    play_all(&rt, TWO_PORTS, NEVER, STEPS, IN_REST);
 }
 
 // The queue lives as long as one of its ends, and stays full.

@@ -152,7 +152,7 @@ pub(crate) fn send(rt: &impl Host, port: &mut TxPort, bytes: &[u8]) -> Option<Re
     match port.send(message) {
         Ok(()) => None,
         Err(fault) => {
-            assert_bytes(rt, fault.bytes.as_slice(), bytes);
+            assert_same(rt, fault.bytes.as_slice(), bytes);
             Some(fault.why)
         }
     }

@@ -151,12 +151,13 @@ fn drain(rt: &impl Host, rig: Rig, count: u16) -> Rest {
 // partition names the port.
 fn check_message(rt: &impl Abort, frame: &[u8], next: &mut [u8; PORTS as usize], messages: u8) {
     let port = frame.get(29).copied().expect(rt, "a partition");
-    assert!(rt; 1 <= port);
-    let number = next
-        .get_mut(usize::from(port.saturating_sub(1)))
-        .expect(rt, "a port's partition");
-    assert!(rt; *number < messages);
-    assert_eq!(rt; frame.get(42..44), Some([port, *number].as_slice()));
+    let place = usize::from(port)
+        .checked_sub(1)
+        .expect(rt, "no partition 0");
+    let number = next.get_mut(place).expect(rt, "a port's partition");
+    let message = [port, *number];
+    assert_same(rt, frame.get(42..44), Some(message.as_slice()));
+    assert_same(rt, *number < messages, true);
     *number = number.saturating_add(1);
 }
 
@@ -241,7 +242,7 @@ fn a_close_while_ports_send_tells_what_is_sent_in_the_end(rt: HostRuntime) {
     assert_same(&rt, accepted_on(&rig.ports, 0), first);
     assert_same(&rt, accepted_on(&rig.ports, 1), second);
     let total = first.saturating_add(second);
-    assert!(rt; 60 <= total && total <= 64);
+    assert_same(&rt, 60 <= total && total <= 64, true);
     assert_same(&rt, rig.tx.close(VlId(1), 0), Ok(first));
     let rest = drain(&rt, rig, 4);
     let (a, b) = rest.networks();

@@ -2,8 +2,8 @@
 use afdx_config::read_config;
 use afdx_plan::Config;
 use redundant_mux::{Handed, MemNetwork, Standing};
-pub(crate) use std::alloc::{AllocError, Global};
-use std::fmt::Debug;
+pub(crate) use std::alloc::Global;
+use std::fmt::{Debug, Display, InlineText};
 pub(crate) use std::process::Abort;
 use std::sync::Wait;
 pub(crate) use std::test::Fail;
@@ -49,33 +49,38 @@ pub(crate) const TWO_SUB_VLS: Plan = (
     &[(20, 1, 0, 1, 8_192), (21, 1, 1, 1, 8_192)],
 );
 
-/// The text of a plan.
-fn plan_text(alloc: Global, (links, ports): Plan) -> Result<String, AllocError> {
-    let mut text = "version = 2\n[end_system]\nid = 1\n".to_string(alloc)?;
-    for &(id, networks, lmax, sub_vls, capacity) in links {
-        writeln!(
-            text,
-            "[[vl]]\nid = {id}\nnetworks = '{networks}'\nlmax = {lmax}"
-        )?;
-        writeln!(
-            text,
-            "bag_ms = 1\nsub_vls = {sub_vls}\ncapacity = {capacity}"
-        )?;
-    }
-    for &(id, vl, sub, partition, max) in ports {
-        writeln!(
-            text,
-            "[[port]]\nid = {id}\nvl = {vl}\nsub = {sub}\nmax = {max}"
-        )?;
-        writeln!(text, "partition = {partition}\nsource = 100{sub}")?;
-        text.push_str("kind = 'queuing'\ndestination = 2000\n")?;
-    }
-    Ok(text)
+/// Appends the table of a link to the text of a plan.
+fn push_link(rt: &impl Host, text: &mut String, link: &LinkRow) {
+    let (id, networks, lmax, sub_vls, capacity) = *link;
+    let table = writeln!(
+        text,
+        "[[vl]]\nid = {id}\nnetworks = '{networks}'\nlmax = {lmax}\n\
+        bag_ms = 1\nsub_vls = {sub_vls}\ncapacity = {capacity}"
+    );
+    table.expect(rt, "memory");
 }
 
-/// The configuration of a plan.
-pub(crate) fn config_of(rt: &impl Host, plan: Plan) -> Config {
-    let text = plan_text(rt.alloc(), plan).expect(rt, "memory");
+/// Appends the table of a port.
+fn push_port(rt: &impl Host, text: &mut String, port: &PortRow) {
+    let (id, vl, sub, partition, max) = *port;
+    let table = writeln!(
+        text,
+        "[[port]]\nid = {id}\nvl = {vl}\nsub = {sub}\nmax = {max}\n\
+        partition = {partition}\nsource = 100{sub}\nkind = 'queuing'\ndestination = 2000"
+    );
+    table.expect(rt, "memory");
+}
+
+/// The configuration of a plan, which is read from its text.
+pub(crate) fn config_of(rt: &impl Host, (links, ports): Plan) -> Config {
+    let front = "version = 2\n[end_system]\nid = 1\n";
+    let mut text = front.to_string(rt.alloc()).expect(rt, "memory");
+    for link in links {
+        push_link(rt, &mut text, link);
+    }
+    for port in ports {
+        push_port(rt, &mut text, port);
+    }
     read_config(rt.alloc(), text.as_bytes()).expect(rt, "a valid plan")
 }
 
@@ -84,8 +89,9 @@ pub(crate) fn assert_same<V: PartialEq + Debug + Copy>(rt: &impl Abort, told: V,
     assert_eq!(rt; told, wanted);
 }
 
-pub(crate) fn assert_bytes(rt: &impl Abort, found: &[u8], bytes: &[u8]) {
-    assert_eq!(rt; found, bytes);
+/// Asserts how a value is printed.
+pub(crate) fn assert_text(rt: &impl Abort, told: impl Display + Drop, wanted: &str) {
+    assert_same(rt, InlineText::<16>::of(told).as_str(), wanted);
 }
 
 /// Asserts that a frame is of the poll at this place, of polls a gap apart, and has the place as its number.

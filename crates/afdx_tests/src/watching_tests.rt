@@ -61,7 +61,7 @@ fn a_watcher_reads_whole_counts_while_the_emitter_polls_and_publishes(rt: HostRu
         }
         poll_and_publish(&rt, &mut tx, 1);
     }
-    assert!(rt; watcher.join(&rt));
+    assert_same(&rt, watcher.join(&rt), true);
 }
 
 // The place of the last link of the greatest plan.
@@ -121,5 +121,5 @@ fn the_first_link_is_never_read_behind_the_last(rt: HostRuntime) {
     for _poll in 0..FRAMES {
         poll_and_publish(&rt, &mut tx, 2);
     }
-    assert!(rt; watcher.join(&rt));
+    assert_same(&rt, watcher.join(&rt), true);
 }
