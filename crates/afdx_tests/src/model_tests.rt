@@ -98,16 +98,6 @@ fn assert_turn<S: System>(rt: &impl Host, system: &mut S, lists: &mut ListSystem
     assert_list(rt, b, &lists.b);
 }
 
-// Drains, and polls at these times but for the first `before`. Asserts that the drain is done when the lists are.
-fn drain(rt: &impl Host, rig: Rig, lists: &mut ListSystem, times: &[u64], before: usize) {
-    let mut rest = rig.gather(rt);
-    for at in times.iter().skip(before) {
-        assert_same(rt, rest.draining.is_done(), lists.is_done());
-        assert_turn(rt, &mut rest, lists, *at);
-    }
-    assert_same(rt, rest.draining.is_done(), lists.is_done());
-}
-
 // A run over these links, polled at these times, in which A and B fail at these hands, counted from 1. The drain
 // begins after `before` polls. Returns the lists.
 fn run(
@@ -123,7 +113,13 @@ fn run(
     for at in times.iter().take(before) {
         assert_turn(rt, &mut rig, &mut lists, *at);
     }
-    drain(rt, rig, &mut lists, times, before);
+    let mut rest = rig.gather(rt);
+    for at in times.iter().skip(before) {
+        assert_same(rt, rest.draining.is_done(), lists.is_done());
+        assert_turn(rt, &mut rest, &mut lists, *at);
+    }
+    assert_same(rt, rest.draining.is_done(), lists.is_done());
+    drop(rest);
     lists
 }
 

@@ -40,6 +40,7 @@ fn play_paused(rt: &impl Host, sends: &[Paused], after: &[Step]) {
         send_paused(rt, &mut rig, &mut port, *paused);
     }
     act_all(rt, &mut rig, after);
+    drop(rig);
 }
 
 #[test]
@@ -119,4 +120,5 @@ fn a_port_held_in_its_pause_holds_back_its_own_sub_vl_alone(rt: HostRuntime) {
     assert_same(&rt, is_sent, true);
     assert_same(&rt, port.accepted(), 1);
     act_all(&rt, &mut rig, &[Polls(1_000, &[(1, 0, 1)], BOTH)]);
+    drop(rig);
 }

@@ -200,6 +200,7 @@ fn send_from_threads(rt: &impl Host, capacity: u16, messages: u8) {
     let each = [messages; PORTS as usize];
     assert_same(rt, check_frames(rt, a, many, messages), each);
     assert_same(rt, check_frames(rt, b, many, messages), each);
+    drop(rest);
 }
 
 #[test]
@@ -248,4 +249,5 @@ fn a_close_while_ports_send_tells_what_is_sent_in_the_end(rt: HostRuntime) {
     let (a, b) = rest.networks();
     check_frames(&rt, a, total as usize, 100);
     check_frames(&rt, b, total as usize, 100);
+    drop(rest);
 }
