@@ -108,7 +108,7 @@ fn progress_of(rt: &HostRuntime, messages: u32) -> Option<Progress<'_, HostRunti
 }
 
 /// Runs a storm over a configuration, by the path of its file.
-fn storm_over<W: Write, T: Threads + Wait + Sync>(
+fn storm_file<W: Write, T: Threads + Wait + Sync>(
     rt: &HostRuntime,
     threads: &T,
     config: &str,
@@ -166,7 +166,7 @@ fn obey<W: Write, T: Threads + Wait + Sync>(
             config,
             messages,
             turns,
-        } => storm_over(rt, threads, config.as_str(), messages, turns, writer),
+        } => storm_file(rt, threads, config.as_str(), messages, turns, writer),
     }
 }
 

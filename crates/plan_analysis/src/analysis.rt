@@ -10,7 +10,7 @@ use afdx_plan::{Config, LinkPlan, jitter_ns};
 use std::alloc::{AllocError, Global};
 
 /// The analysis of a plan, with rows in the order of the plan.
-#[derive(Drop)]
+#[derive(Debug, Drop)]
 pub struct Analysis {
     pub end_system: u16,
     // the greatest lateness of a poll, in microseconds

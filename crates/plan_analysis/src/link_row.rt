@@ -6,7 +6,7 @@ use crate::load::{bit_rate, share, window_bits};
 use afdx_plan::LinkPlan;
 
 /// The analysis of a virtual link.
-#[derive(Clone, Copy, PartialEq, Eq)]
+#[derive(Clone, Copy, Debug, PartialEq, Eq)]
 pub struct LinkRow {
     pub plan: LinkPlan,
     // the greatest load in bits per second on the wire, rounded up

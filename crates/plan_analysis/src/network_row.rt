@@ -6,14 +6,14 @@ use crate::load::{bit_rate, is_over, network_bits, share};
 use afdx_plan::LinkPlan;
 
 /// One of the two networks.
-#[derive(Clone, Copy, PartialEq, Eq)]
+#[derive(Clone, Copy, Debug, PartialEq, Eq)]
 pub enum NetworkName {
     A,
     B,
 }
 
 /// The analysis of a network, from the links that it carries.
-#[derive(Clone, Copy, PartialEq, Eq)]
+#[derive(Clone, Copy, Debug, PartialEq, Eq)]
 pub struct NetworkRow {
     pub name: NetworkName,
     // the greatest load of its links, in bits per second on the wire, rounded up

@@ -9,7 +9,7 @@ use crate::limits::LATENESS_LIMIT;
 use afdx_plan::{Config, LinkPlan, PortId, PortPlan, VlId};
 
 /// The analysis of a port.
-#[derive(Clone, Copy, PartialEq, Eq)]
+#[derive(Clone, Copy, Debug, PartialEq, Eq)]
 pub struct PortRow {
     pub id: PortId,
     pub vl: VlId,

@@ -17,7 +17,7 @@ pub trait Gate {
 }
 
 /// A gate that is always open.
-#[derive(Clone, Copy)]
+#[derive(Clone, Copy, Debug, PartialEq, Eq)]
 pub struct OpenGate;
 
 impl Gate for OpenGate {

@@ -25,7 +25,7 @@ pub(crate) const MESSAGE_BYTES: usize = 6;
 fn make_message(alloc: Global, port: PortId, call: u32) -> Result<Vec<u8>, AllocError>
     ensures { IfOk result (λ bytes. bytes.items ≡ message port.0 call) }
 {
-    let mut bytes = Vec::new(alloc);
+    let mut bytes = Vec::with_capacity(alloc, MESSAGE_BYTES)?;
     bytes.extend_from_slice(&port.0.to_be_bytes())?;
     bytes.extend_from_slice(&call.to_be_bytes())?;
     Ok(bytes)
