@@ -1,8 +1,9 @@
 //! The main thread's part while workers run.
-ghost use Rattle.std.specs.Prelude.{◌≡◌, ◌*◌, ◌≤◌, IfSome};
+ghost use Rattle.std.specs.Prelude.{◌≡◌, ◌*◌, ◌≤◌, IfOk};
 ghost use Rattle.afdx_tx.specs.Emitter.{queues_in};
 ghost use Rattle.storm.specs.Boards.{cells_of, IsShown};
 
+use crate::fault::Stop;
 use crate::gate::Gate;
 use crate::run::StormTx;
 use std::sync::Wait;
@@ -35,7 +36,7 @@ fn poll_once<G: Gate, R: Wait>(rt: &R, tx: &mut StormTx, gate: &G, now: u64) -> 
     report.standing.a | report.standing.b
 }
 
-/// Polls and publishes while workers run, at most `turns` times. Returns how often it polled; `None` if no
+/// Polls and publishes while workers run, at most `turns` times. Returns how often it polled; `Memory` if no
 /// network is up any more.
 pub(crate) fn poll_while<G: Gate, R: Wait>(
     rt: &R,
@@ -43,24 +44,24 @@ pub(crate) fn poll_while<G: Gate, R: Wait>(
     gate: &G,
     running: &AtomicU64,
     turns: u64,
-) -> Option<u64>
+) -> Result<u64, Stop>
     requires first { tx.old.moment ≡ 0 }
     requires shown { IsShown tx.old }
     requires turns { turns ≤ 1000000000 }
     ensures plan { tx.new.plan ≡ tx.old.plan }
     ensures queues { queues_in tx.new.links ≡ queues_in tx.old.links }
-    ensures most { IfSome result (λ polls. polls ≤ turns) }
-    ensures moment { IfSome result (λ polls. tx.new.moment ≤ polls * STEP) }
+    ensures most { IfOk result (λ polls. polls ≤ turns) }
+    ensures moment { IfOk result (λ polls. tx.new.moment ≤ polls * STEP) }
     ensures shown { IsShown tx.new }
     ensures cells { cells_of tx.new.board ≡ cells_of tx.old.board }
 {
     for poll in 0..turns {
         if running.load(Ordering::SeqCst) == 0 {
-            return Some(poll);
+            return Ok(poll);
         }
         if !poll_once(rt, tx, gate, poll * STEP) {
-            return None;
+            return Err(Stop::Memory);
         }
     }
-    Some(turns)
+    Ok(turns)
 }

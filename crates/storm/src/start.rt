@@ -99,9 +99,9 @@ pub(crate) fn join_workers<R: Threads>(
     rt: &R,
     alloc: Global,
     started: Result<Vec<Worker>, Stop>,
-    polls: Option<u64>,
+    polls: Result<u64, Stop>,
 ) -> Result<(u64, Vec<TxPort>), Stop>
-    ensures polls { IfOk result (λ joined. polls ≡ Some joined.0) }
+    ensures polls { IfOk result (λ joined. polls ≡ Ok joined.0) }
     ensures sent { IfOk result (λ joined. IsOkAnd started (λ workers. map named joined.1.items
         ≡ map (λ w. sent_all w.promise.messages w.promise.before.value) workers.items)) }
     ensures asks { IfOk result (λ joined. IsOkAnd started (λ workers.
@@ -110,28 +110,28 @@ pub(crate) fn join_workers<R: Threads>(
 {
     let workers = started?;
     let mut ports = Vec::new(alloc);
-    let mut worst = None;
+    let mut worst = polls;
     for worker in workers {
         let (port, ended) = worker.join(rt);
         worst = worse(worst, ended);
         ports.push(port)?;
     }
-    match (polls, worst) {
-        (None, _) => Err(Stop::Memory),
-        (_, Some(stop)) => Err(stop),
-        (Some(polls), None) => Ok((polls, ports)),
+    match worst {
+        Ok(polls) => Ok((polls, ports)),
+        Err(stop) => Err(stop),
     }
 }
 
-/// The worse of two ends of workers: out of memory, then turns.
-fn worse(worst: Option<Stop>, ended: Result<(), Stop>) -> Option<Stop>
-    ensures none { result ≡ None ↔ ((worst ≡ None) × (ended ≡ Ok tt)) }
-    ensures memory { result ≡ Some Stop.Memory
-        ↔ ((worst ≡ Some Stop.Memory) ⊎ (ended ≡ Err Stop.Memory)) }
+/// The worse of two ends, that of the polls and a worker's: out of memory, then turns.
+fn worse(worst: Result<u64, Stop>, ended: Result<(), Stop>) -> Result<u64, Stop>
+    ensures ok { IfOk result (λ polls. (worst ≡ Ok polls) × (ended ≡ Ok tt)) }
+    ensures memory { result ≡ Err Stop.Memory
+        ↔ ((worst ≡ Err Stop.Memory) ⊎ (ended ≡ Err Stop.Memory)) }
 {
-    match ended {
-        Ok(()) => worst,
-        Err(Stop::Memory) => Some(Stop::Memory),
-        Err(Stop::Turns) => Some(worst.unwrap_or(Stop::Turns)),
+    match (worst, ended) {
+        (worst, Ok(())) => worst,
+        (Ok(_), Err(stop)) => Err(stop),
+        (Err(_), Err(Stop::Memory)) => Err(Stop::Memory),
+        (Err(worst), Err(Stop::Turns)) => Err(worst),
     }
 }

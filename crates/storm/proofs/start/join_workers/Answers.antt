@@ -4,6 +4,7 @@ use Rattle.storm.proofs.start.join_workers.Goals as goal
 
 pub loop-worker-preserved : goal.loop-worker-preserved
 loop-worker-preserved g c = record {
+  polls = grind (arith, common_steps);
   sent = grind (arith, common_steps);
   count = grind (arith, common_steps);
   asks = rw c.in_ok-push.ensures.items

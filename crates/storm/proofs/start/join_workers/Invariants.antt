@@ -1,9 +1,11 @@
-use Rattle.storm.proofs.Names.{◌≡◌, map, length, None, named, sent_all, asked_by, asked_after, AreAtMost}
+use Rattle.std.proofs.Common.{Ok}
+use Rattle.storm.proofs.Names.{ℕ, ◌≡◌, map, length, named, sent_all, asked_by, asked_after, AreAtMost}
 use Rattle.storm.proofs.start.join_workers.Given as goal
 
 abbrev pub invariant-loop-worker : goal.invariant-loop-worker
 invariant-loop-worker g l = record {
-  sent : l.worst ≡ None → map named l.ports.items ≡ map (λ w. sent_all w.promise.messages w.promise.before.value) l.yielded;
+  polls : (n : ℕ) → l.worst ≡ Ok n → l.fn.polls ≡ Ok n;
+  sent : (n : ℕ) → l.worst ≡ Ok n → map named l.ports.items ≡ map (λ w. sent_all w.promise.messages w.promise.before.value) l.yielded;
   count : length l.ports.items ≡ length l.yielded;
   asks : AreAtMost (map asked_by l.ports.items) (map (λ w. asked_after w.promise.turns w.promise.before.value) l.yielded);
 }
