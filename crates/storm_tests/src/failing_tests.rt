@@ -5,11 +5,9 @@ use crate::plans::*;
 fn a_network_that_fails_in_the_middle_is_left_behind(rt: HostRuntime) {
     let text = small_text(&rt, "256", "64");
     for (a, b, handed_a, handed_b) in [(200, NEVER, 199, 400), (NEVER, 400, 400, 399)] {
-        let report = storm_failing(&rt, &text, 100, (a, b)).expect(&rt, "a report");
-        assert_same(&rt, report.accepted, 400);
-        assert_same(&rt, (report.equal, report.back), (false, false));
-        assert_handed(&rt, &report, handed_a, handed_b);
-        assert_same(&rt, only_link(&rt, &report).frames, 400);
+        let ended = storm_failing(&rt, &text, 100, (a, b));
+        let wanted = (400, handed_a, handed_b, false);
+        assert_report(&rt, ended, wanted, &[(400, 24_000, 400)]);
     }
 }
 
@@ -22,28 +20,19 @@ fn no_storm_ends_well_where_both_networks_fail(rt: HostRuntime) {
     }
 }
 
-// Ten messages of each of the two ports were accepted, sent and counted. The networks have this many
-// frames, and are equal or not.
-fn assert_report(rt: &impl Abort, report: &StormReport, handed: (usize, usize), equal: bool) {
-    assert_same(rt, report.accepted, 20);
-    assert_same(rt, report.links.len(), 2);
-    for counts in &report.links {
-        assert_same(rt, counts.frames, 10);
-    }
-    assert_handed(rt, report, handed.0, handed.1);
-    assert_same(rt, report.equal, equal);
-}
+// What each of two links sent: ten messages, each in a frame.
+const TEN_EACH: [Sent; 2] = [(10, 600, 10); 2];
 
 #[test]
 fn networks_are_equal_over_the_links_on_both(rt: HostRuntime) {
     let ended = storm_of(&rt, WITH_LINK_ON_A, (10, 1_000), &OpenGate);
-    assert_report(&rt, &ended.expect(&rt, "a report"), (20, 10), true);
+    assert_report(&rt, ended, (20, 20, 10, true), &TEN_EACH);
 }
 
 #[test]
 fn networks_differ_where_one_missed_a_link_on_both(rt: HostRuntime) {
     let ended = storm_failing(&rt, WITH_LINK_ON_A, 10, (NEVER, 1));
-    assert_report(&rt, &ended.expect(&rt, "a report"), (20, 0), false);
+    assert_report(&rt, ended, (20, 20, 0, false), &TEN_EACH);
 }
 
 #[test]

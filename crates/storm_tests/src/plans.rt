@@ -1,10 +1,10 @@
 //! The configurations and assertions that tests of storms share.
+ghost use Rattle.std.specs.Prelude.{◌≤◌};
+
 use afdx_config::read_config;
 use afdx_plan::Config;
 use plan_report::Failure;
 use redundant_mux::MemNetwork;
-use status_board::Counts;
-pub use std::alloc::{AllocError, Global};
 use std::fmt::Debug;
 pub use std::process::Abort;
 use std::sync::Wait;
@@ -19,19 +19,7 @@ impl<R: Abort + AllocGlobal + Threads + Wait + Sync> Host for R {}
 
 /// Asserts that two values are the same.
 pub fn assert_same<V: PartialEq + Debug + Copy>(rt: &impl Abort, told: V, wanted: V) {
-    assert_eq!(rt; told, wanted);
-}
-
-/// Asserts how many frames the networks of a storm have.
-pub fn assert_handed(rt: &impl Abort, report: &StormReport, a: usize, b: usize) {
-    assert_same(rt, report.a.handed().len(), a);
-    assert_same(rt, report.b.handed().len(), b);
-}
-
-/// The counts of a report's only link.
-pub fn only_link(rt: &impl Abort, report: &StormReport) -> Counts {
-    assert_same(rt, report.links.len(), 1);
-    *report.links.first().expect(rt, "one")
+    assert!(rt; told == wanted, "{told:?} is not {wanted:?}");
 }
 
 /// How many ports the small plan has, two on each of the two sub-VLs of its one link.
@@ -94,19 +82,26 @@ port = [
 pub const GREAT_LINKS: u16 = 64;
 
 /// The greatest plan: 256 ports on 64 links, each on a sub-VL of its own with room for two messages.
-pub fn great_text(alloc: Global) -> Result<String, AllocError> {
-    let mut text = "[end_system]\nid = 1\n".to_string(alloc)?;
+pub fn great_text(rt: &impl Host) -> String {
+    let mut text = String::new(rt.alloc());
+    text.push_str("[end_system]\nid = 1\n").expect(rt, "memory");
     for vl in 0..GREAT_LINKS {
-        writeln!(text, "[[vl]]\nid = {vl}\nbag_ms = 1\nlmax = 64")?;
-        text.push_str("sub_vls = 4\ncapacity = 2\n")?;
+        writeln!(
+            text,
+            "[[vl]]\nid = {vl}\nbag_ms = 1\nlmax = 64\nsub_vls = 4\ncapacity = 2"
+        )
+        .expect(rt, "memory");
     }
     for id in 0..4 * GREAT_LINKS {
         let (vl, sub, partition) = (id / 4, id % 4, id % 32);
-        writeln!(text, "[[port]]\nid = {id}\nvl = {vl}\nsub = {sub}")?;
-        writeln!(text, "partition = {partition}\nkind = 'queuing'")?;
-        text.push_str("source = 1000\ndestination = 2000\nmax = 6\n")?;
+        writeln!(
+            text,
+            "[[port]]\nid = {id}\nvl = {vl}\nsub = {sub}\npartition = {partition}\n\
+            kind = 'queuing'\nsource = 1000\ndestination = 2000\nmax = 6"
+        )
+        .expect(rt, "memory");
     }
-    Ok(text)
+    text
 }
 
 pub fn plan_of(rt: &impl Host, text: &str) -> Config {
@@ -145,20 +140,46 @@ pub fn storm_failing(rt: &impl Host, text: &str, messages: u16, fails: (u64, u64
 /// The number of a hand that never comes.
 pub const NEVER: u64 = 1_000;
 
+/// The frames, bytes and messages of a link.
+pub type Sent = (u64, u64, u64);
+
+/// Asserts that a storm ended with a report: how many messages were accepted, how many frames A and B have,
+/// and whether they are equal; and what each link sent. No count fell.
+pub fn assert_report(
+    rt: &impl Host,
+    ended: Ended,
+    wanted: (u64, usize, usize, bool),
+    links: &[Sent],
+) {
+    let report = ended.expect(rt, "a report");
+    let mut sent = Vec::new(rt.alloc());
+    for counts in &report.links {
+        sent.push((counts.frames, counts.bytes, counts.messages))
+            .expect(rt, "memory");
+    }
+    let (a, b) = (report.a.handed().len(), report.b.handed().len());
+    let told = (report.accepted, a, b, report.equal);
+    assert_same(
+        rt,
+        (told, report.back, sent.as_slice()),
+        (wanted, false, links),
+    );
+}
+
 /// Asserts the result of the command over the plan of a text, and what it writes.
 pub fn assert_told(
     rt: &impl Host,
     text: &str,
-    load: (u16, u64),
+    messages: u32,
+    turns: u64,
     wanted: Result<(), Failure>,
     lines: &str,
-) {
-    let (messages, turns) = load;
-    assert!(rt; 1 <= messages && 1 <= turns && turns <= 1_000_000_000);
+)
+    requires messages { (1 ≤ messages) × (messages ≤ 65535) }
+    requires turns { (1 ≤ turns) × (turns ≤ 1000000000) }
+{
     let mut told = Vec::new(rt.alloc());
-    let messages = u32::from(messages);
     let text = text.as_bytes();
     let ended = bench_storm(rt, rt.alloc(), text, &mut told, messages, turns, &OpenGate);
-    assert_same(rt, ended, wanted);
-    assert_same(rt, told.as_slice(), lines.as_bytes());
+    assert_same(rt, (ended, told.as_slice()), (wanted, lines.as_bytes()));
 }

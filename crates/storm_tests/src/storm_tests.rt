@@ -8,40 +8,22 @@ const TURNS: u64 = 100_000_000;
 
 // A frame holds the next message, numbered from 1, of the port that its partition names, after `calls`
 // messages of each port.
-fn assert_message(rt: &impl Abort, frame: &[u8], calls: &mut [u16; 5], messages: u16) {
+fn assert_message(rt: &impl Abort, frame: &[u8], calls: &mut [u16; 5]) {
     assert!(rt; frame.len() == 60);
     let port = frame[29];
-    assert!(rt; 1 <= port && port <= PORTS);
-    let call = calls[usize::from(port)];
-    assert!(rt; call < messages);
-    let [high, low] = (call + 1).to_be_bytes();
+    let call = calls.get_mut(usize::from(port)).expect(rt, "a port");
+    *call = call.saturating_add(1);
+    let [high, low] = call.to_be_bytes();
     assert_same(rt, &frame[42..48], [0, port, 0, 0, high, low].as_slice());
-    calls[usize::from(port)] = call + 1;
 }
 
 // Each port's messages were transmitted whole, in its order.
 fn assert_messages(rt: &impl Abort, network: &MemNetwork, messages: u16) {
-    let handed = network.handed();
-    let all = usize::from(PORTS) * usize::from(messages);
-    assert_same(rt, handed.len(), all);
     let mut calls = [0u16; 5];
-    for entry in handed {
-        assert_message(rt, entry.frame.as_slice(), &mut calls, messages);
+    for entry in network.handed() {
+        assert_message(rt, entry.frame.as_slice(), &mut calls);
     }
-    assert_same(rt, &calls[1..], [messages; 4].as_slice());
-}
-
-// `messages` messages of each of the four ports were accepted, sent and counted, and both networks have
-// the same frames.
-fn assert_report(rt: &impl Abort, report: &StormReport, messages: u16) {
-    let sent = u64::from(PORTS) * u64::from(messages);
-    assert_same(rt, report.accepted, sent);
-    let counts = only_link(rt, report);
-    let told = (counts.frames, counts.bytes, counts.messages);
-    assert_same(rt, told, (sent, 60 * sent, sent));
-    assert_same(rt, (report.equal, report.back), (true, false));
-    assert_messages(rt, &report.a, messages);
-    assert_messages(rt, &report.b, messages);
+    assert_same(rt, calls, [0, messages, messages, messages, messages]);
 }
 
 // The capacity of each sub-VL of the small plan and its third port's maximum, and the messages and tries.
@@ -52,9 +34,21 @@ fn small_storm(rt: &impl Host, setting: Setting, gate: &(impl Gate + Sync)) -> E
     storm_of(rt, &small_text(rt, capacity, max), load, gate)
 }
 
+// The messages of each of the four ports were accepted, sent and counted, and both networks have the same
+// frames.
 fn assert_sent(rt: &impl Host, setting: Setting, gate: &(impl Gate + Sync)) {
     let report = small_storm(rt, setting, gate).expect(rt, "a report");
-    assert_report(rt, &report, setting.1.0);
+    let messages = setting.1.0;
+    assert_messages(rt, &report.a, messages);
+    assert_messages(rt, &report.b, messages);
+    let all = usize::from(PORTS) * usize::from(messages);
+    let sent = all as u64;
+    assert_report(
+        rt,
+        Ok(report),
+        (sent, all, all, true),
+        &[(sent, 60 * sent, sent)],
+    );
 }
 
 fn assert_fault(rt: &impl Host, setting: Setting, gate: &(impl Gate + Sync), fault: StormFault) {
@@ -100,22 +94,11 @@ fn a_gate_that_refuses_ends_its_worker_and_no_other(rt: HostRuntime) {
     assert_same(&rt, gate.accepted.get(), 32);
 }
 
-// Twenty messages of one frame of all ports were accepted, sent and counted.
-fn assert_great(rt: &impl Abort, report: &StormReport) {
-    assert_same(rt, report.accepted, 256 * 20);
-    assert_same(rt, report.links.len(), usize::from(GREAT_LINKS));
-    for counts in &report.links {
-        let told = (counts.frames, counts.bytes, counts.messages);
-        assert_same(rt, told, (80, 80 * 60, 80));
-    }
-    assert_same(rt, (report.equal, report.back), (true, false));
-    assert_handed(rt, report, 256 * 20, 256 * 20);
-}
-
+// Twenty messages of one frame of all ports are accepted, sent and counted.
 #[test]
 fn workers_of_256_ports_send_at_once_through_queues_with_room_for_two(rt: HostRuntime) {
-    let text = great_text(rt.alloc()).expect(&rt, "memory");
     let gate = Holding::until(Until::Entered(256));
-    let report = storm_of(&rt, &text, (20, TURNS), &gate).expect(&rt, "a report");
-    assert_great(&rt, &report);
+    let ended = storm_of(&rt, &great_text(&rt), (20, TURNS), &gate);
+    let wanted = (256 * 20, 256 * 20, 256 * 20, true);
+    assert_report(&rt, ended, wanted, &[(80, 80 * 60, 80); 64]);
 }

@@ -1,6 +1,4 @@
 //! What the command prints of storms.
-ghost use Rattle.std.specs.Prelude.{◌≡◌, ◌+◌, IfOk, length};
-
 use crate::plans::*;
 use afdx_plan::{Bag, LinkPlan, Lmax, Networks, VlId};
 use plan_report::Failure;
@@ -17,20 +15,15 @@ watcher never back
 
 #[test]
 fn a_storm_is_told_in_four_lines(rt: HostRuntime) {
-    assert_told(
-        &rt,
-        &small_text(&rt, "256", "64"),
-        (100, 1_000),
-        Ok(()),
-        REPORT,
-    );
+    let text = small_text(&rt, "256", "64");
+    assert_told(&rt, &text, 100, 1_000, Ok(()), REPORT);
 }
 
 #[test]
 fn nothing_is_written_of_a_storm_that_is_refused(rt: HostRuntime) {
     let (turns, short) = (Err(Failure::Turns), Err(Failure::Short));
-    assert_told(&rt, &small_text(&rt, "256", "64"), (100, 1), turns, "");
-    assert_told(&rt, &small_text(&rt, "256", "5"), (100, 1_000), short, "");
+    assert_told(&rt, &small_text(&rt, "256", "64"), 100, 1, turns, "");
+    assert_told(&rt, &small_text(&rt, "256", "5"), 100, 1_000, short, "");
 }
 
 #[test]
@@ -52,28 +45,16 @@ watcher never back
 
 #[test]
 fn links_are_told_in_the_order_of_the_configuration(rt: HostRuntime) {
-    assert_told(&rt, TWO_LINKS, (10, 1_000), Ok(()), TWO_LINES);
+    assert_told(&rt, TWO_LINKS, 10, 1_000, Ok(()), TWO_LINES);
 }
 
-// A report on two links, of networks that differ, in which a count fell.
-fn bad_report(alloc: Global) -> Result<StormReport, AllocError>
-    ensures { IfOk result (λ report. length report.links.items ≡ 2) }
-{
-    let counts = Counts {
-        frames: 1,
-        bytes: 60,
-        messages: 2,
-        last: 7,
-    };
-    Ok(StormReport {
-        accepted: 3,
-        links: vec![in alloc; Counts::ZERO, counts]?,
-        equal: false,
-        back: true,
-        a: MemNetwork::new(alloc),
-        b: MemNetwork::new(alloc),
-    })
-}
+// The counts of a link that sent one frame.
+const COUNTS: Counts = Counts {
+    frames: 1,
+    bytes: 60,
+    messages: 2,
+    last: 7,
+};
 
 fn link(id: u16) -> LinkPlan {
     LinkPlan {
@@ -95,7 +76,15 @@ watcher back
 
 #[test]
 fn networks_that_differ_and_a_count_that_fell_are_told(rt: HostRuntime) {
-    let report = bad_report(rt.alloc()).expect(&rt, "memory");
+    let counts = vec![in rt.alloc(); Counts::ZERO, COUNTS].expect(&rt, "memory");
+    let report = StormReport {
+        accepted: 3,
+        links: counts,
+        equal: false,
+        back: true,
+        a: MemNetwork::new(rt.alloc()),
+        b: MemNetwork::new(rt.alloc()),
+    };
     let links = [link(65535), link(4)];
     let mut told = Vec::new(rt.alloc());
     write_totals(&mut told, &links, &report).expect(&rt, "memory");
