@@ -52,14 +52,15 @@ network    load-kbit/s  share-%  exceeded
 fn assert_analysis(rt: &impl Host, plan: &str, lateness: u64, wanted: &str)
     requires { lateness ≤ LATENESS_LIMIT }
 {
-    let config = read_plan(rt.alloc(), plan.as_bytes()).ok().expect(rt, plan);
-    let analysis = analyze(rt.alloc(), &config, lateness).ok().expect(rt, plan);
+    let config = read_plan(rt.alloc(), plan.as_bytes()).expect(rt, plan);
+    let analysis = analyze(rt.alloc(), &config, lateness).expect(rt, plan);
     let (mut text, mut page) = (Vec::new(rt.alloc()), Vec::new(rt.alloc()));
-    write_analysis(&mut text, &analysis).ok().expect(rt, plan);
-    assert_same(rt, text.as_slice(), wanted.as_bytes(), plan);
-    write_page(&mut page, &analysis).ok().expect(rt, plan);
-    assert!(rt; page.as_slice().starts_with(b"<!DOCTYPE html>"));
-    assert!(rt; page.as_slice().ends_with(b"</html>\n"));
+    write_analysis(&mut text, &analysis).expect(rt, plan);
+    write_page(&mut page, &analysis).expect(rt, plan);
+    let begins = page.as_slice().starts_with(b"<!DOCTYPE html>");
+    let ends = page.as_slice().ends_with(b"</html>\n");
+    let told = (text.as_slice(), begins, ends);
+    assert_same(rt, told, (wanted.as_bytes(), true, true), plan);
 }
 
 // In the second plan a port waits for the longest of its sub-VL.

@@ -1,11 +1,7 @@
 //! Every short script, against a model of one link with two sub-VLs, and a port on each, made of bounded
 //! lists. The model uses none of the crates under test.
 use crate::helpers::*;
-use std::alloc::Global;
 use std::fmt::Write;
-
-/// The capacity of a sub-VL in messages.
-const CAPACITY: usize = 2;
 
 /// The link's bandwidth allocation gap in microseconds.
 const GAP: u64 = 1_000;
@@ -16,52 +12,43 @@ enum Sub {
     Second,
 }
 
-impl Sub {
-    fn other(self) -> Sub {
-        match self {
-            Sub::First => Sub::Second,
-            Sub::Second => Sub::First,
-        }
-    }
-}
-
-/// The identifications of the messages that a sub-VL accepted and did not yet send, how many messages were
-/// accepted, and whether the sub-VL is closed.
-#[derive(Drop)]
+/// The identifications of the messages that a sub-VL holds, in two places. How many messages it accepted, and
+/// whether it is closed.
+#[derive(Clone, Copy)]
 struct Queue {
-    held: Vec<u64>,
+    front: Option<u64>,
+    back: Option<u64>,
     accepted: u64,
     closed: bool,
 }
 
-impl Queue {
-    fn new(alloc: Global) -> Queue {
-        Queue {
-            held: Vec::new(alloc),
-            accepted: 0,
-            closed: false,
-        }
-    }
+const EMPTY: Queue = Queue {
+    front: None,
+    back: None,
+    accepted: 0,
+    closed: false,
+};
 
+impl Queue {
     /// Accepts a message, or returns the name of its refusal. Identifications go up by 4 from the first one.
-    fn send(&mut self, first: u64) -> Result<Option<&'static str>, AllocError> {
+    fn send(&mut self, first: u64) -> Option<&'static str> {
         if self.closed {
-            return Ok(Some("Closed"));
+            return Some("Closed");
         }
-        if self.held.len() == CAPACITY {
-            return Ok(Some("Full"));
+        let ident = Some(first.saturating_add(self.accepted.saturating_mul(4)));
+        match (self.front, self.back) {
+            (None, _) => self.front = ident,
+            (_, None) => self.back = ident,
+            _ => return Some("Full"),
         }
-        self.held
-            .push(first.saturating_add(self.accepted.saturating_mul(4)))?;
         self.accepted = self.accepted.saturating_add(1);
-        Ok(None)
+        None
     }
 
     fn take(&mut self) -> Option<u64> {
-        if self.held.is_empty() {
-            return None;
-        }
-        Some(self.held.remove(0))
+        let taken = self.front;
+        (self.front, self.back) = (self.back, None);
+        taken
     }
 }
 
@@ -74,68 +61,54 @@ enum Line {
     CloseFirst,
 }
 
-/// The end system: its sub-VLs, and which of them is first; the time of the last poll; the times and
-/// identifications of the messages that it sent; the notes on the lines that it obeyed; how many lines it
-/// refused.
+/// The end system: its sub-VLs, and which of them is first; the time of the last poll, and the earliest time of
+/// the next frame; the messages that it sent; the notes on the lines that it obeyed; how many lines it refused.
 #[derive(Drop)]
 struct EndSystem {
     first: Queue,
     second: Queue,
     turn: Sub,
     now: u64,
-    sent: Vec<(u64, u64)>,
+    due: u64,
+    sent: Vec<OneByte>,
     notes: String,
     refused: u64,
 }
 
 impl EndSystem {
-    fn new(alloc: Global) -> EndSystem {
-        EndSystem {
-            first: Queue::new(alloc),
-            second: Queue::new(alloc),
-            turn: Sub::First,
-            now: 0,
-            sent: Vec::new(alloc),
-            notes: String::new(alloc),
-            refused: 0,
-        }
-    }
-
     /// Obeys line `number`.
-    fn obey(&mut self, number: u32, said: Line) -> Written {
+    fn obey(&mut self, rt: &impl Abort, number: u32, said: Line) {
         let refusal = match said {
-            Line::Send(Sub::First) => self.first.send(0)?,
-            Line::Send(Sub::Second) => self.second.send(1)?,
+            Line::Send(Sub::First) => self.first.send(0),
+            Line::Send(Sub::Second) => self.second.send(1),
             Line::At(moment) if moment < self.now => Some("TimeBack"),
             Line::At(moment) => {
-                self.poll(moment)?;
+                self.poll(rt, moment);
                 None
             }
             Line::CloseFirst => {
                 self.first.closed = true;
-                writeln!(self.notes, "line {number}: closed {}", self.first.accepted)?;
+                let told = writeln!(self.notes, "line {number}: closed {}", self.first.accepted);
+                told.expect(rt, "memory");
                 None
             }
         };
         if let Some(name) = refusal {
             self.refused = self.refused.saturating_add(1);
-            writeln!(self.notes, "line {number}: refused {name}")?;
+            writeln!(self.notes, "line {number}: refused {name}").expect(rt, "memory");
         }
-        Ok(())
     }
 
-    fn poll(&mut self, moment: u64) -> Written {
+    fn poll(&mut self, rt: &impl Abort, moment: u64) {
         self.now = moment;
-        let is_due = match self.sent.last() {
-            Some((at, _ident)) => moment.saturating_sub(*at) >= GAP,
-            None => true,
-        };
-        if is_due {
+        if self.due <= moment {
             if let Some(ident) = self.next_message() {
-                self.sent.push((moment, ident))?;
+                self.due = moment.saturating_add(GAP);
+                self.sent
+                    .push((moment, ident, 1 + ident % 4))
+                    .expect(rt, "memory");
             }
         }
-        Ok(())
     }
 
     fn queue(&mut self, sub: Sub) -> &mut Queue {
@@ -147,33 +120,17 @@ impl EndSystem {
 
     /// A message of the sub-VL whose turn it is, or of the other one if that has none.
     fn next_message(&mut self) -> Option<u64> {
-        for sub in [self.turn, self.turn.other()] {
-            let taken = self.queue(sub).take();
-            if taken.is_some() {
-                self.turn = sub.other();
-                return taken;
-            }
+        let turn = self.turn;
+        let other = match turn {
+            Sub::First => Sub::Second,
+            Sub::Second => Sub::First,
+        };
+        let taken = self.queue(turn).take();
+        if taken.is_none() {
+            return self.queue(other).take();
         }
-        None
-    }
-
-    /// The counts of messages accepted, lines refused and frames released.
-    fn counts(&self) -> (u64, u64, u64) {
-        let accepted = self.first.accepted.saturating_add(self.second.accepted);
-        (accepted, self.refused, self.sent.len() as u64)
-    }
-
-    /// The notes, and the lines of the frames of each network.
-    fn transcript(self) -> Result<String, AllocError> {
-        let mut text = self.notes;
-        for net in NETS {
-            for (place, &(at, ident)) in self.sent.iter().enumerate() {
-                let sub = ident % 4;
-                let message = (at, ident, 1 + sub);
-                push_one(&mut text, net, (1, 1000 + sub), message, place as u64)?;
-            }
-        }
-        Ok(text)
+        self.turn = other;
+        taken
     }
 }
 
@@ -190,23 +147,36 @@ const LINES: [(&str, Line); 5] = [
 // choose the lines, the last digit first.
 fn assert_script(rt: &impl Host, lines: u32, number: u32) {
     let mut script = String::new(rt.alloc());
-    let mut end_system = EndSystem::new(rt.alloc());
+    let mut end_system = EndSystem {
+        first: EMPTY,
+        second: EMPTY,
+        turn: Sub::First,
+        now: 0,
+        due: 0,
+        sent: Vec::new(rt.alloc()),
+        notes: String::new(rt.alloc()),
+        refused: 0,
+    };
     let mut rest = number;
     for place in 1..=lines {
         let (text, line) = LINES[(rest % 5) as usize];
         rest /= 5;
         script.push_str(text).expect(rt, "memory");
-        end_system.obey(place, line).expect(rt, "memory");
+        end_system.obey(rt, place, line);
     }
-    let (accepted, refused, frames) = end_system.counts();
-    let wanted = Ok(sums(accepted, refused, frames));
-    let lines = end_system.transcript().expect(rt, "memory");
+    let accepted = end_system
+        .first
+        .accepted
+        .saturating_add(end_system.second.accepted);
+    let sent = end_system.sent.as_slice();
+    let wanted = Ok(sums(accepted, end_system.refused, sent.len() as u64));
+    let lines = expected(rt, &NETS, &end_system.notes, sent);
     assert_named(rt, &script, IN_TURN, script.as_bytes(), wanted, &lines);
 }
 
 #[test]
 fn every_script_of_one_to_five_lines_writes_what_bounded_lists_tell(rt: HostRuntime) {
-    for (lines, scripts) in [(1, 5), (2, 25), (3, 125), (4, 625), (5, 3_125)] {
+    for &(lines, scripts) in &[(1, 5), (2, 25), (3, 125), (4, 625), (5, 3_125)] {
         for number in 0..scripts {
             assert_script(&rt, lines, number);
         }

@@ -22,7 +22,7 @@ pub fn assert_same<V: PartialEq + Debug + Copy, P: Debug + Copy>(
     wanted: V,
     place: P,
 ) {
-    assert_eq!(rt; told, wanted, "at {place:?}");
+    assert!(rt; told == wanted, "{told:?} is not {wanted:?}, at {place:?}");
 }
 
 /// Returns at most `most` bytes a call, and `failure` once between two parts of its text.
@@ -48,14 +48,14 @@ pub fn reader_of(text: &[u8], bytes: usize, kind: Option<ErrorKind>, most: usize
 
 impl Read for Failing<'_> {
     fn read(&mut self, buf: &mut [u8]) -> io::Result<usize> {
+        if self.before.is_empty() {
+            if let Some(kind) = self.failure.take() {
+                return Err(io::Error::from(kind));
+            }
+            (self.before, self.after) = (self.after, &[]);
+        }
         let len = buf.len().min(self.most);
-        if !self.before.is_empty() {
-            return self.before.read(&mut buf[..len]);
-        }
-        match self.failure.take() {
-            Some(kind) => Err(io::Error::from(kind)),
-            None => self.after.read(&mut buf[..len]),
-        }
+        self.before.read(&mut buf[..len])
     }
 }
 
@@ -155,11 +155,6 @@ pub fn changed(rt: &impl Host, text: &str, changes: &str) -> String {
     changed
 }
 
-/// The same in version 2 of the format.
-pub fn version_2(rt: &impl Host, text: &str, changes: &str) -> String {
-    joined(rt, &["version = 2\n", &changed(rt, text, changes)])
-}
-
 /// The result of `check`.
 pub type Checked = Result<(), Failure>;
 
@@ -188,11 +183,12 @@ pub fn at_line(line: u64, fault: LineFault) -> RunFault {
 
 /// Runs a script over a plan, by its text. No text is that of the demonstration.
 pub fn run(rt: &impl Host, plan: &str, script: impl Read + Drop, text: &mut impl Write) -> Ran {
-    let config = match plan {
-        "" => demo_config(rt.alloc()).expect(rt, "memory"),
-        _ => read_config(rt.alloc(), plan.as_bytes()).expect(rt, plan),
+    let config = if plan.is_empty() {
+        demo_config(rt.alloc())
+    } else {
+        read_config(rt.alloc(), plan.as_bytes())
     };
-    run_script(rt.alloc(), config, script, text)
+    run_script(rt.alloc(), config.expect(rt, plan), script, text)
 }
 
 /// Asserts the result of a script that has a name over a plan, and what it writes.
@@ -218,29 +214,24 @@ pub fn assert_run(rt: &impl Host, plan: &str, script: impl Read + Drop, wanted: 
 /// A network's name in a transcript, and byte 11 of its frames.
 pub type Net = (&'static str, &'static str);
 
-pub const NETS: [Net; 2] = [("A", "20"), ("B", "40")];
+pub const A: Net = ("A", "20");
 
-pub type Written = Result<(), AllocError>;
+pub const B: Net = ("B", "40");
 
-// The beginning of a frame's line: the time, and the Ethernet header of a virtual link.
-fn push_head(text: &mut String, net: Net, at: u64, vl: u64) -> Written {
-    let (name, byte_11) = net;
-    write!(text, "{name} {at} 03000000{vl:04x}0200000001{byte_11}0800")
-}
+pub const NETS: [Net; 2] = [A, B];
 
-// The line of a frame of virtual link 1, by its number and by its IPv4 packet, which zeros pad to 45 bytes.
-fn push_frame(text: &mut String, net: Net, number: u64, packet: &str) -> Written {
-    push_head(text, net, number.saturating_mul(1_000), 1)?;
-    writeln!(text, "{packet:0<90}{number:02x}")
-}
-
-/// The lines of A, and then those of B, of frames of virtual link 1, released a gap apart: of each its
-/// IPv4 packet in hexadecimal.
-pub fn frame_lines(rt: &impl Host, packets: &[&str]) -> String {
-    let mut text = String::new(rt.alloc());
-    for net in NETS {
-        for (number, packet) in (0..255u64).zip(packets) {
-            push_frame(&mut text, net, number, packet).expect(rt, "memory");
+/// The notes, the lines of A, and then those of B, of frames of virtual link 1, released a gap apart: of each
+/// its IPv4 packet in hexadecimal, which zeros pad to 45 bytes.
+pub fn frame_lines(rt: &impl Host, notes: &str, packets: &[&str]) -> String {
+    let mut text = joined(rt, &[notes]);
+    for &(name, byte_11) in &NETS {
+        for (number, packet) in packets.iter().enumerate() {
+            let at = number.saturating_mul(1_000);
+            writeln!(
+                text,
+                "{name} {at} 0300000000010200000001{byte_11}0800{packet:0<90}{number:02x}"
+            )
+            .expect(rt, "memory");
         }
     }
     text
@@ -253,23 +244,28 @@ pub type OneByte = (u64, u64, u64);
 /// The first one of a run, of the byte 01.
 pub const FIRST: OneByte = (0, 0, 1);
 
-/// Appends its line on a network, of a virtual link, from a UDP port, after `before` frames of the link. The
-/// header checksum goes down by one for each one that the address and the identification go up.
+/// Appends its line on a network, of a virtual link, after `before` frames of the link. Sub-VL `s` has the
+/// identifications `s`, `s + 4` and so on, and the UDP port `1000 + s`. The header checksum goes down by one
+/// for each one that the address and the identification go up.
 pub fn push_one(
+    rt: &impl Abort,
     text: &mut String,
     net: Net,
-    flow: (u64, u64),
+    vl: u64,
     message: OneByte,
     before: u64,
-) -> Written {
-    let ((vl, source), (at, ident, byte)) = (flow, message);
+) {
+    let ((name, byte_11), (at, ident, byte)) = (net, message);
     let checksum = 0xcdefu64.saturating_sub(vl).saturating_sub(ident);
+    let source = 1000 + ident % 4;
     // (0 for the first one, and 1 to 255 in turn for the others)
     let number = before.min(1) + before.saturating_sub(1) % 255;
-    push_head(text, net, at, vl)?;
-    write!(text, "4500001d{ident:04x}00000111{checksum:04x}")?;
-    write!(text, "0a000101e0e0{vl:04x}{source:04x}07d000090000")?;
-    writeln!(text, "{byte:02x}{:032}{number:02x}", 0)
+    writeln!(
+        text,
+        "{name} {at} 03000000{vl:04x}0200000001{byte_11}08004500001d{ident:04x}00000111{checksum:04x}\
+        0a000101e0e0{vl:04x}{source:04x}07d000090000{byte:02x}00000000000000000000000000000000{number:02x}"
+    )
+    .expect(rt, "memory");
 }
 
 /// The notes, and the lines of messages of virtual link 1 on these networks.
@@ -277,8 +273,7 @@ pub fn expected(rt: &impl Host, nets: &[Net], notes: &str, sent: &[OneByte]) -> 
     let mut text = joined(rt, &[notes]);
     for &net in nets {
         for (place, &message) in sent.iter().enumerate() {
-            let line = push_one(&mut text, net, (1, 1000), message, place as u64);
-            line.expect(rt, "memory");
+            push_one(rt, &mut text, net, 1, message, place as u64);
         }
     }
     text

@@ -1,7 +1,6 @@
 //! Tests of the lines of a script.
 use crate::helpers::*;
 use script_text::{Bytes, LineFault, Message, Next, ReadFault, next_line, read_line};
-use std::fmt::Write;
 use std::io::Read;
 
 // Lines, and what they say.
@@ -19,7 +18,7 @@ close 1 0 => Close { vl: 1, sub: 0 }
 
 fn assert_says(rt: &impl Host, line: &str, wanted: &str) {
     let said = read_line(rt.alloc(), line.as_bytes()).expect(rt, wanted);
-    let text = format!(in rt.alloc(); "{said:?}").expect(rt, wanted);
+    let text = InlineText::<128>::of(format_args!("{said:?}"));
     assert_same(rt, text.as_str(), wanted, line);
 }
 
@@ -43,14 +42,26 @@ pub const FAULTS: [(LineFault, u8, &str); 6] = [
 ];
 
 /// Lines that have each of the first four faults, with commas between them.
-pub const LINES: [&str; 4] = [
-    "sand 10 01,send,send 10,send x,at,Send 10 01,sendd 10 01,close,close 1,close x,closed 1 0,\
-     Close 1 0",
-    "at x,at +1,at -1,at 1x,send 65536 01,send - 0g 01,at 18446744073709551616 0,\
-     at 100000000000000000000000,close x 0,close 1 x,close 1 -,close 65536 0,close 70000 0,\
-     close 1 256,close 1 256 0",
-    "send 10 0g,send 10 012,send 10 0x01,send 10 --,send 10 0g 01",
-    "at 0 0,send 10 01 02,close 1 0 0,close 1 0 # note,send 10 - # note",
+pub const LINES: [(LineFault, &str); 4] = [
+    (
+        LineFault::Word,
+        "sand 10 01,send,send 10,send x,at,Send 10 01,sendd 10 01,close,close 1,close x,closed 1 0,\
+         Close 1 0",
+    ),
+    (
+        LineFault::Number,
+        "at x,at +1,at -1,at 1x,send 65536 01,send - 0g 01,at 18446744073709551616 0,\
+         at 100000000000000000000000,close x 0,close 1 x,close 1 -,close 65536 0,close 70000 0,\
+         close 1 256,close 1 256 0",
+    ),
+    (
+        LineFault::Hex,
+        "send 10 0g,send 10 012,send 10 0x01,send 10 --,send 10 0g 01",
+    ),
+    (
+        LineFault::Extra,
+        "at 0 0,send 10 01 02,close 1 0 0,close 1 0 # note,send 10 - # note",
+    ),
 ];
 
 fn assert_fault(rt: &impl Host, line: &[u8], fault: LineFault) {
@@ -59,7 +70,7 @@ fn assert_fault(rt: &impl Host, line: &[u8], fault: LineFault) {
 
 #[test]
 fn a_line_has_its_fault(rt: HostRuntime) {
-    for (&(fault, _number, _name), lines) in FAULTS.iter().zip(LINES) {
+    for &(fault, lines) in &LINES {
         for line in lines.split(',') {
             assert_fault(&rt, line.as_bytes(), fault);
         }
@@ -78,12 +89,11 @@ fn a_line_of_20_001_bytes_is_long(rt: HostRuntime) {
 #[test]
 fn each_fault_has_its_number_and_its_name(rt: HostRuntime) {
     for &(fault, number, name) in &FAULTS {
-        assert_same(&rt, fault.number(), number, name);
-        assert_same(&rt, InlineText::<16>::of(fault).as_str(), name, number);
+        let text = InlineText::<16>::of(fault);
+        assert_same(&rt, (fault.number(), text.as_str()), (number, name), name);
     }
-    for (fault, name) in [(ReadFault::Read, "Read"), (ReadFault::Memory, "Memory")] {
-        let mut text = InlineText::<16>::new();
-        write!(text, "{fault:?}").expect(&rt, "room");
+    for &(fault, name) in &[(ReadFault::Read, "Read"), (ReadFault::Memory, "Memory")] {
+        let text = InlineText::<16>::of(format_args!("{fault:?}"));
         assert_same(&rt, text.as_str(), name, name);
     }
 }

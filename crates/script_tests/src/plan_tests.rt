@@ -6,7 +6,7 @@ use crate::helpers::*;
 // are sent.
 fn assert_frames(rt: &impl Host, plan: &str, script: &str, many: u64, packets: &[&str]) {
     let wanted = Ok(sums(many, 0, packets.len() as u64));
-    let lines = frame_lines(rt, packets);
+    let lines = frame_lines(rt, "", packets);
     assert_run(rt, plan, script.as_bytes(), wanted, &lines);
 }
 
@@ -52,16 +52,19 @@ fn the_first_of_two_frames_carries_the_checksum_of_both(rt: HostRuntime) {
     assert_long(&rt, with, "5219");
 }
 
+// Ends of a link of the demonstration, and the networks that it is handed to.
+const ENDS: [(&str, &[Net]); 4] = [
+    ("capacity = 2", &NETS),
+    ("capacity = 2, networks = 'both'", &NETS),
+    ("capacity = 2, networks = 'a'", &[A]),
+    ("capacity = 2, networks = 'b'", &[B]),
+];
+
 #[test]
 fn a_link_is_handed_to_its_networks_alone(rt: HostRuntime) {
-    let rows = [
-        ("capacity = 2", NETS.as_slice()),
-        ("capacity = 2, networks = 'both'", NETS.as_slice()),
-        ("capacity = 2, networks = 'a'", &NETS[..1]),
-        ("capacity = 2, networks = 'b'", &NETS[1..]),
-    ];
-    for (end, nets) in rows {
-        let plan = version_2(&rt, &replaced(&rt, DEMO, "capacity = 2", end), "");
+    for &(end, nets) in &ENDS {
+        let link = replaced(&rt, DEMO, "capacity = 2", end);
+        let plan = joined(&rt, &["version = 2\n", &link]);
         let (script, lines) = ("send 10 01\nat 0\n", expected(&rt, nets, "", &[FIRST]));
         assert_run(&rt, &plan, script.as_bytes(), Ok(sums(1, 0, 1)), &lines);
     }
@@ -77,11 +80,17 @@ const SENT_IN_TURN: [&str; 5] = [
     "45000028000000060111cddd0a000101e0e00001aaaaaaaaaaaaaaaaaaaaaaaaaaaaaaaaaaaaaaaa",
 ];
 
+// Asserts the result of a script that begins with such a message, and its notes; what it sends is the above.
+fn assert_in_turn(rt: &impl Host, rest: &str, wanted: Ran, notes: &str) {
+    let script = joined(rt, &["send 20 ", &repeated(rt, "aa", 60), rest]);
+    let lines = frame_lines(rt, notes, &SENT_IN_TURN);
+    assert_run(rt, IN_TURN, script.as_bytes(), wanted, &lines);
+}
+
 #[test]
 fn two_sub_vls_send_piece_by_piece_in_turn(rt: HostRuntime) {
     let rest = "\nsend 21 01\nsend 21 02\nat 0\nat 1000\nat 2000\nat 3000\nat 4000\n";
-    let script = joined(&rt, &["send 20 ", &repeated(&rt, "aa", 60), rest]);
-    assert_frames(&rt, IN_TURN, &script, 3, &SENT_IN_TURN);
+    assert_in_turn(&rt, rest, Ok(sums(3, 0, 5)), "");
 }
 
 // A message of three fragments, of which one is released before its sub-VL is closed. The other sub-VL is
@@ -90,11 +99,9 @@ fn two_sub_vls_send_piece_by_piece_in_turn(rt: HostRuntime) {
 fn a_message_that_is_being_sent_goes_out_whole_from_a_closed_sub_vl(rt: HostRuntime) {
     let rest = "\nsend 21 01\nat 0\nclose 1 0\nsend 21 02\nsend 20 03\nclose 1 1\nsend 21 04\n\
                 at 1000\nat 2000\nat 3000\nat 4000\nat 5000\n";
-    let script = joined(&rt, &["send 20 ", &repeated(&rt, "aa", 60), rest]);
     let notes =
         "line 4: closed 1\nline 6: refused Closed\nline 7: closed 2\nline 8: refused Closed\n";
-    let wanted = joined(&rt, &[notes, &frame_lines(&rt, &SENT_IN_TURN)]);
-    assert_run(&rt, IN_TURN, script.as_bytes(), Ok(sums(3, 2, 5)), &wanted);
+    assert_in_turn(&rt, rest, Ok(sums(3, 2, 5)), notes);
 }
 
 // Two links of two sub-VLs, and a port on each sub-VL.
@@ -111,14 +118,14 @@ port = [
 ]
 ";
 
-// What both links send: the link, the UDP source port, and the message.
-const ON_LINKS: [(u64, u64, OneByte); 6] = [
-    (1, 1000, FIRST),
-    (2, 1000, (0, 0, 4)),
-    (1, 1001, (1_000, 1, 3)),
-    (2, 1001, (1_000, 1, 5)),
-    (1, 1001, (2_000, 5, 8)),
-    (2, 1000, (2_000, 4, 7)),
+// What both links send: the link, and the message.
+const ON_LINKS: [(u64, OneByte); 6] = [
+    (1, FIRST),
+    (2, (0, 0, 4)),
+    (1, (1_000, 1, 3)),
+    (2, (1_000, 1, 5)),
+    (1, (2_000, 5, 8)),
+    (2, (2_000, 4, 7)),
 ];
 
 #[test]
@@ -126,10 +133,9 @@ fn a_close_closes_no_other_sub_vl_of_its_link_or_of_another(rt: HostRuntime) {
     let notes =
         "line 2: closed 1\nline 3: refused Closed\nline 7: closed 1\nline 8: refused Closed\n";
     let mut lines = joined(&rt, &[notes]);
-    for net in NETS {
-        for (vl, source, message) in ON_LINKS {
-            let before = message.0 / 1_000;
-            push_one(&mut lines, net, (vl, source), message, before).expect(&rt, "memory");
+    for &net in &NETS {
+        for &(vl, message) in &ON_LINKS {
+            push_one(&rt, &mut lines, net, vl, message, message.0 / 1_000);
         }
     }
     let script = b"send 10 01\nclose 1 0\nsend 10 02\nsend 11 03\nsend 20 04\nsend 21 05\n\
@@ -139,63 +145,71 @@ fn a_close_closes_no_other_sub_vl_of_its_link_or_of_another(rt: HostRuntime) {
 
 // 64 links of four sub-VLs with room for 256 messages, and a port on each: the greatest plan but for its
 // frames.
-fn greatest_plan(text: &mut String) -> Written {
-    text.push_str("[end_system]\nid = 1\n")?;
+fn greatest_plan(rt: &impl Host) -> String {
+    let mut text = joined(rt, &["[end_system]\nid = 1\n"]);
     for id in 1..=64 {
-        writeln!(text, "[[vl]]\nid = {id}\nbag_ms = 1\nlmax = 1518")?;
-        text.push_str("sub_vls = 4\ncapacity = 256\n")?;
+        writeln!(
+            text,
+            "[[vl]]\nid = {id}\nbag_ms = 1\nlmax = 1518\nsub_vls = 4\ncapacity = 256"
+        )
+        .expect(rt, "memory");
     }
     for port in 0..256u32 {
         let (id, vl, sub) = (4 + port, 1 + port / 4, port % 4);
-        writeln!(text, "[[port]]\nid = {id}\nvl = {vl}\nsub = {sub}")?;
-        writeln!(text, "source = 100{sub}\npartition = 1\nkind = 'queuing'")?;
-        text.push_str("destination = 2000\nmax = 8192\n")?;
+        writeln!(
+            text,
+            "[[port]]\nid = {id}\nvl = {vl}\nsub = {sub}\nsource = 100{sub}\n\
+            partition = 1\nkind = 'queuing'\ndestination = 2000\nmax = 8192"
+        )
+        .expect(rt, "memory");
     }
-    Ok(())
+    text
 }
 
 // Each port sends 256 messages of one byte, which fill its queue, and one more. Then all are polled, a gap
 // apart, once more than there are messages of a link.
-fn greatest_script(script: &mut String) -> Written {
+fn greatest_script(rt: &impl Host) -> String {
+    let mut script = String::new(rt.alloc());
     for port in 4..260 {
-        for message in 0..=255u8 {
-            writeln!(script, "send {port} {message:02x}")?;
+        for message in 0..=256u32 {
+            writeln!(script, "send {port} {:02x}", message.min(255)).expect(rt, "memory");
         }
-        writeln!(script, "send {port} ff")?;
     }
     for k in 0..=1_024u64 {
-        writeln!(script, "at {}", 1_000 * k)?;
+        writeln!(script, "at {}", 1_000 * k).expect(rt, "memory");
     }
-    Ok(())
+    script
 }
 
 // The notes on the messages that found their queue full, and the lines of A and of B: at each poll one frame
 // of each link, in the order of the plan. At poll number k a link's sub-VLs take turns, so it releases message
 // k / 4 of sub-VL k % 4, and its identification is k.
-fn greatest_transcript(text: &mut String) -> Written {
+fn greatest_transcript(rt: &impl Host) -> String {
+    let mut text = String::new(rt.alloc());
     for port in 1..=256u32 {
-        writeln!(text, "line {}: refused Full", 257 * port)?;
+        writeln!(text, "line {}: refused Full", 257 * port).expect(rt, "memory");
     }
-    for net in NETS {
+    for &net in &NETS {
         for k in 0..1_024u64 {
             for vl in 1..=64u64 {
-                push_one(text, net, (vl, 1000 + k % 4), (1_000 * k, k, k / 4), k)?;
+                push_one(rt, &mut text, net, vl, (1_000 * k, k, k / 4), k);
             }
         }
     }
-    Ok(())
+    text
 }
 
 #[test]
 fn the_greatest_plan_sends_all_that_its_queues_hold_in_the_order_of_its_links(rt: HostRuntime) {
-    let alloc = rt.alloc();
-    let (mut plan, mut script) = (String::new(alloc), String::new(alloc));
-    greatest_plan(&mut plan).expect(&rt, "memory");
-    greatest_script(&mut script).expect(&rt, "memory");
-    let mut wanted = String::new(alloc);
-    greatest_transcript(&mut wanted).expect(&rt, "memory");
-    let mut text = Vec::new(alloc);
+    let (plan, script) = (greatest_plan(&rt), greatest_script(&rt));
+    let mut text = Vec::new(rt.alloc());
     let told = run(&rt, &plan, script.as_bytes(), &mut text);
-    assert_same(&rt, told, Ok(sums(65_536, 256, 65_536)), "the counts");
-    assert!(rt; text.as_slice() == wanted.as_bytes());
+    let is_whole = text.as_slice() == greatest_transcript(&rt).as_bytes();
+    let wanted = Ok(sums(65_536, 256, 65_536));
+    assert_same(
+        &rt,
+        (told, is_whole),
+        (wanted, true),
+        "the counts and the transcript",
+    );
 }

@@ -46,15 +46,14 @@ const EACH_ON_ONE: &str = "capacity = 256 -> capacity = 256, networks = 'b'; \
 fn assert_rows(rt: &impl Host, plan: &str, report: &str, rows: &str) {
     for row in rows.lines() {
         let (more, told) = columns(rt, row);
-        let plan = version_2(rt, plan, more);
-        let report = changed(rt, report, told);
-        assert_check(rt, plan.as_bytes(), Ok(()), &report);
+        let plan = joined(rt, &["version = 2\n", &changed(rt, plan, more)]);
+        assert_check(rt, plan.as_bytes(), Ok(()), &changed(rt, report, told));
     }
 }
 
 #[test]
 fn a_report_has_a_line_for_each_link_and_each_port(rt: HostRuntime) {
-    for (text, wanted) in [(DEMO, REPORT), (TWO_LINKS, REPORT_OF_TWO_LINKS)] {
+    for &(text, wanted) in &[(DEMO, REPORT), (TWO_LINKS, REPORT_OF_TWO_LINKS)] {
         assert_check(&rt, text.as_bytes(), Ok(()), wanted);
     }
     assert_rows(&rt, DEMO, REPORT, MORE);
@@ -67,19 +66,29 @@ const MORE_LINKS: &str = "capacity = 2 } -> capacity = 2 }, \
     { id = 3, bag_ms = 1, lmax = 1518, sub_vls = 1, capacity = 2 }, \
     { id = 4, bag_ms = 1, lmax = LAST, sub_vls = 1, capacity = 2 }; LAST -> ";
 
+// Its report, before the last link's greatest frame and the jitter.
+const REPORT_OF_MORE: &str = "capacity 2 -> capacity 2\
+    |link 2: bag 1 ms, lmax 1518, sub-VLs 1, capacity 2\
+    |link 3: bag 1 ms, lmax 1518, sub-VLs 1, capacity 2\
+    |link 4: bag 1 ms, lmax LAST, sub-VLs 1, capacity 2; LAST -> ";
+
 #[test]
 fn a_jitter_over_500_000_nanoseconds_is_exceeded(rt: HostRuntime) {
-    let lines = [
-        ("1518", "\njitter 532160 ns, limit 500000, exceeded\n"),
-        ("1117", "\njitter 500080 ns, limit 500000, exceeded\n"),
-        ("1116", "\njitter 500000 ns, limit 500000\n"),
+    let rows = [
+        (
+            "1518",
+            "; 163040 ns, limit 500000 -> 532160 ns, limit 500000, exceeded",
+        ),
+        (
+            "1117",
+            "; 163040 ns, limit 500000 -> 500080 ns, limit 500000, exceeded",
+        ),
+        ("1116", "; 163040 ns -> 500000 ns"),
     ];
-    for (last, line) in lines {
+    for &(last, jitter) in &rows {
         let plan = changed(&rt, DEMO, &joined(&rt, &[MORE_LINKS, last]));
-        let mut report = Vec::new(rt.alloc());
-        let told = check(rt.alloc(), plan.as_bytes(), &mut report);
-        assert_same(&rt, told, Ok(()), last);
-        assert!(rt; report.as_slice().ends_with(line.as_bytes()), "{line}");
+        let report = changed(&rt, REPORT, &joined(&rt, &[REPORT_OF_MORE, last, jitter]));
+        assert_check(&rt, plan.as_bytes(), Ok(()), &report);
     }
 }
 
@@ -91,33 +100,39 @@ fn nothing_is_written_of_a_text_that_is_refused(rt: HostRuntime) {
         ("=", ConfigFault::Toml),
         (gap_of_3.as_str(), ConfigFault::BadBag),
     ];
-    for (text, fault) in texts {
+    for &(text, fault) in &texts {
         assert_check(&rt, text.as_bytes(), Err(Failure::Config(fault)), "");
     }
 }
 
 #[test]
 fn a_text_is_read_whole_or_not_at_all(rt: HostRuntime) {
-    let faults = [
-        (ErrorKind::InvalidData, RunFault::Read),
-        (ErrorKind::OutOfMemory, RunFault::Memory),
+    let rows = [
+        (
+            ErrorKind::InvalidData,
+            Err(Failure::Run(RunFault::Read)),
+            "",
+        ),
+        (
+            ErrorKind::OutOfMemory,
+            Err(Failure::Run(RunFault::Memory)),
+            "",
+        ),
+        (ErrorKind::Interrupted, Ok(()), REPORT),
     ];
-    for (kind, fault) in faults {
+    for &(kind, wanted, report) in &rows {
         let reader = reader_of(DEMO.as_bytes(), DEMO.len(), Some(kind), 3);
-        assert_check(&rt, reader, Err(Failure::Run(fault)), "");
+        assert_check(&rt, reader, wanted, report);
     }
-    let interrupted = Some(ErrorKind::Interrupted);
-    let reader = reader_of(DEMO.as_bytes(), DEMO.len(), interrupted, 3);
-    assert_check(&rt, reader, Ok(()), REPORT);
     let failed = Err(Failure::Run(RunFault::Read));
     assert_check(&rt, io::repeat(b'\n'), failed, "");
 }
 
 #[test]
 fn a_writer_that_fails_is_told(rt: HostRuntime) {
+    let mut room = [0u8; REPORT.len()];
     for size in 0..REPORT.len() {
-        let mut room = vec![in rt.alloc(); 0u8; size].expect(&rt, "memory");
-        let told = check(rt.alloc(), DEMO.as_bytes(), &mut room.as_mut_slice());
+        let told = check(rt.alloc(), DEMO.as_bytes(), &mut &mut room[..size]);
         assert_same(&rt, told, Err(Failure::Run(RunFault::Write)), size);
     }
 }
@@ -135,7 +150,7 @@ fn report(rt: &impl Host, lapsing: &mut Lapsing) -> Result<(), Failure> {
 
 #[test]
 fn nothing_is_written_after_a_failure(rt: HostRuntime) {
-    for failure in [
+    for &failure in &[
         Some(ErrorKind::StorageFull),
         Some(ErrorKind::BrokenPipe),
         None,
@@ -143,8 +158,13 @@ fn nothing_is_written_after_a_failure(rt: HostRuntime) {
         for number in 1..6 {
             let mut lapsing = Lapsing::new(&rt, number, failure);
             let told = report(&rt, &mut lapsing);
-            assert_same(&rt, told, Err(Failure::Run(RunFault::Write)), number);
-            assert_same(&rt, (lapsing.writes, lapsing.flushes), (number, 0), failure);
+            let wanted = (Err(Failure::Run(RunFault::Write)), number, 0);
+            assert_same(
+                &rt,
+                (told, lapsing.writes, lapsing.flushes),
+                wanted,
+                failure,
+            );
         }
     }
 }
@@ -154,9 +174,8 @@ fn an_interruption_is_no_failure(rt: HostRuntime) {
     for number in 1..6 {
         let mut lapsing = Lapsing::new(&rt, number, Some(ErrorKind::Interrupted));
         let told = report(&rt, &mut lapsing);
-        assert_same(&rt, told, Ok(()), number);
-        assert_same(&rt, lapsing.text.as_slice(), REPORT.as_bytes(), number);
-        assert_same(&rt, lapsing.flushes, 1, number);
+        let ended = (told, lapsing.text.as_slice(), lapsing.flushes);
+        assert_same(&rt, ended, (Ok(()), REPORT.as_bytes(), 1), number);
     }
 }
 
@@ -164,28 +183,31 @@ fn an_interruption_is_no_failure(rt: HostRuntime) {
 fn each_later_call_fails(rt: HostRuntime) {
     let mut lapsing = Lapsing::new(&rt, 2, None);
     let mut writer = Halting::new(&mut lapsing);
-    for (text, written) in [("one", Some(3)), ("two", Some(0)), ("three", None)] {
+    for &(text, written) in &[("one", Some(3)), ("two", Some(0)), ("three", None)] {
         assert_same(&rt, writer.write(text.as_bytes()).ok(), written, text);
     }
-    assert_same(&rt, writer.flush().is_err(), true, "a flush");
-    assert_same(&rt, writer.write_all(b"four").is_err(), true, "four");
+    let are_refused = (writer.flush().is_err(), writer.write_all(b"four").is_err());
+    assert_same(&rt, are_refused, (true, true), "a flush and four");
     drop(writer);
-    assert_same(&rt, lapsing.writes, 2, "writes");
-    assert_same(&rt, lapsing.text.as_slice(), b"one".as_slice(), "text");
+    let written = (lapsing.writes, lapsing.text.as_slice());
+    assert_same(&rt, written, (2, b"one".as_slice()), "writes and text");
 }
 
-// Asserts how `explain` of a text ends. Returns what it prints.
-fn explained(rt: &impl Host, text: &str, end: End) -> Vec<u8> {
+// Asserts how `explain` of a text ends, and what it prints.
+fn assert_tells(rt: &impl Host, text: &str, end: End, lines: &str) {
     let mut told = Vec::new(rt.alloc());
     let ended = tell_faults(rt.alloc(), text.as_bytes(), &mut told);
-    assert_same(rt, ended, Ok(end), text);
-    told
+    assert_same(
+        rt,
+        (ended, told.as_slice()),
+        (Ok(end), lines.as_bytes()),
+        text,
+    );
 }
 
 #[test]
 fn a_text_without_fault_is_told_to_have_none(rt: HostRuntime) {
-    let told = explained(&rt, DEMO, End::Told);
-    assert_same(&rt, told.as_slice(), b"no faults\n".as_slice(), "the lines");
+    assert_tells(&rt, DEMO, End::Told, "no faults\n");
 }
 
 // Asserts what `explain` prints of a text with each change of a table, after some front. A row has what is
@@ -196,8 +218,7 @@ fn assert_explained(rt: &impl Host, front: &str, text: &str, rows: &str) {
         let (old, rest) = columns(rt, &row);
         let (new, wanted) = columns(rt, rest);
         let text = joined(rt, &[front, &replaced(rt, text, old, new)]);
-        let told = explained(rt, &text, End::FaultsTold);
-        assert_same(rt, told.as_slice(), wanted.as_bytes(), new);
+        assert_tells(rt, &text, End::FaultsTold, wanted);
     }
 }
 
@@ -257,7 +278,9 @@ const NO_TOML: [(&str, &str); 2] = [
 #[test]
 fn a_text_that_is_not_toml_is_told_with_its_line_and_column(rt: HostRuntime) {
     for &(text, wanted) in &NO_TOML {
-        let told = explained(&rt, text, End::FaultsTold);
-        assert!(rt; told.as_slice().starts_with(wanted.as_bytes()), "{text}");
+        let mut told = Vec::new(rt.alloc());
+        let ended = tell_faults(rt.alloc(), text.as_bytes(), &mut told);
+        let begins = told.as_slice().starts_with(wanted.as_bytes());
+        assert_same(&rt, (ended, begins), (Ok(End::FaultsTold), true), text);
     }
 }

@@ -1,6 +1,6 @@
 //! Tests of scripts over the demonstration configuration and over small changes of it.
 use crate::helpers::*;
-use crate::line_tests::{FAULTS, LINES};
+use crate::line_tests::LINES;
 use tx_script::{LineFault, RunFault};
 
 /// The lines of the message 01, sent at 0.
@@ -12,7 +12,7 @@ pub const FIRST_LINES: &str = "\
 
 #[test]
 fn a_message_goes_out_on_both_networks(rt: HostRuntime) {
-    for script in ["send 10 01\nat 0\n", "# note\r\n\n send\t0010 01\nat 0"] {
+    for &script in &["send 10 01\nat 0\n", "# note\r\n\n send\t0010 01\nat 0"] {
         assert_run(&rt, "", script.as_bytes(), Ok(sums(1, 0, 1)), FIRST_LINES);
     }
 }
@@ -88,7 +88,7 @@ fn a_message_of_1_471_bytes_fills_one_frame(rt: HostRuntime) {
     let message = repeated(&rt, "aa", 1_471);
     let script = joined(&rt, &["send 10 ", &message, "\nat 0\n"]);
     let headers = "450005db000000000111c8300a000101e0e0000103e807d005c70000";
-    let wanted = frame_lines(&rt, &[&joined(&rt, &[headers, &message])]);
+    let wanted = frame_lines(&rt, "", &[&joined(&rt, &[headers, &message])]);
     assert_same(&rt, wanted.len(), 2 * (4 + 2 * 1_514 + 1), "the length");
     assert_run(&rt, "", script.as_bytes(), Ok(sums(1, 0, 1)), &wanted);
 }
@@ -124,7 +124,7 @@ fn assert_second(rt: &impl Host, line: &str, fault: LineFault) {
 
 #[test]
 fn a_fault_tells_its_line(rt: HostRuntime) {
-    for (&(fault, _number, _name), lines) in FAULTS.iter().zip(LINES) {
+    for &(fault, lines) in &LINES {
         for line in lines.split(',') {
             assert_second(&rt, line, fault);
         }
@@ -147,10 +147,11 @@ fn notes_and_frames_so_far_are_written_after_a_fault(rt: HostRuntime) {
 
 #[test]
 fn a_writer_that_fails_ends_the_run(rt: HostRuntime) {
-    for size in [10, 30, 200] {
-        let script = b"send 99 01\nsend 10 01\nat 0\n".as_slice();
-        let mut room = vec![in rt.alloc(); 0u8; size].expect(&rt, "memory");
-        let told = run(&rt, "", script, &mut room.as_mut_slice());
+    let script = b"send 99 01\nsend 10 01\nat 0\n".as_slice();
+    let mut room = [0u8; 200];
+    for &size in &[10, 30, 200] {
+        let mut writer = room.get_mut(..size).expect(&rt, "room");
+        let told = run(&rt, "", script, &mut writer);
         assert_same(&rt, told, Err(RunFault::Write), size);
     }
 }

@@ -21,7 +21,7 @@ fn late_text(rt: &impl Host, bytes: usize) -> String {
 #[test]
 fn a_reader_may_give_few_bytes_a_call(rt: HostRuntime) {
     let wanted = late_text(&rt, LATE.len());
-    for most in [1, 2, 3, LATE.len()] {
+    for &most in &[1, 2, 3, LATE.len()] {
         let reader = reader_of(LATE.as_bytes(), LATE.len(), None, most);
         assert_run(&rt, "", reader, Ok(sums(2, 1, 1)), &wanted);
     }
@@ -36,7 +36,7 @@ fn a_reader_that_fails_at_any_byte_ends_the_run_there(rt: HostRuntime) {
         ErrorKind::WouldBlock,
         ErrorKind::UnexpectedEof,
     ];
-    for kind in kinds {
+    for &kind in &kinds {
         for bytes in 0..=LATE.len() {
             let reader = reader_of(LATE.as_bytes(), bytes, Some(kind), usize::MAX);
             let wanted = late_text(&rt, bytes);
@@ -55,14 +55,12 @@ fn run_lapsing(rt: &impl Host, script: &str, number: usize) -> (Ran, Lapsing) {
 // Asserts that a writer which fails at any write of a script's run ends it, and is not called again.
 fn assert_limited(rt: &impl Host, script: &str, wanted: Ran) {
     let (told, whole) = run_lapsing(rt, script, 0);
-    assert_same(rt, told, wanted, script);
-    assert!(rt; whole.writes > 4);
+    assert_same(rt, (told, whole.writes > 4), (wanted, true), script);
     for number in 1..=whole.writes {
         let (told, writer) = run_lapsing(rt, script, number);
-        assert_same(rt, told, Err(RunFault::Write), number);
-        assert_same(rt, writer.writes, number, number);
         let begins = whole.text.as_slice().starts_with(writer.text.as_slice());
-        assert_same(rt, begins, true, number);
+        let ended = (told, writer.writes, begins);
+        assert_same(rt, ended, (Err(RunFault::Write), number, true), script);
     }
 }
 
@@ -73,23 +71,18 @@ fn a_writer_that_fails_at_any_write_ends_the_run(rt: HostRuntime) {
     assert_limited(&rt, LATE, Ok(sums(2, 1, 1)));
 }
 
-// Asserts the result of a script that sends the message 01 at 0.
-fn assert_first(rt: &impl Host, script: &[u8], wanted: Ran) {
-    assert_sent(rt, script, wanted, "", &[FIRST]);
-}
-
 #[test]
 fn lines_may_end_in_carriage_returns_and_have_many_blanks(rt: HostRuntime) {
     let script =
         b"\r\n  send\t10   01 \r\n\t\t# \x00\xff\xc3\xa9\r\n \t \r\n at \t 0\r\n   at     1000";
-    assert_first(&rt, script, Ok(sums(1, 0, 1)));
+    assert_sent(&rt, script.as_slice(), Ok(sums(1, 0, 1)), "", &[FIRST]);
 }
 
 // Asserts the result of a run with a third line, after two that sent a message.
 fn assert_third(rt: &impl Host, line: &[u8], wanted: Ran) {
     let parts = [b"send 10 01\nat 0\r\n".as_slice(), line];
     let script = parts.concat(rt.alloc()).expect(rt, "memory");
-    assert_first(rt, &script, wanted);
+    assert_sent(rt, script.as_slice(), wanted, "", &[FIRST]);
 }
 
 // Lines of odd bytes, and the fault of each.

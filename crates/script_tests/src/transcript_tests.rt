@@ -5,23 +5,25 @@ use capture::write_capture;
 use redundant_mux::Network;
 use tx_script::{FrameLog, Outcome, Refusal, RunFault, Summary, write_note, write_streams};
 
+// Numbers of lines, and what became of them.
+const OUTCOMES: [(u64, Outcome); 11] = [
+    (1, Outcome::Refused(Refusal::Empty)),
+    (2, Outcome::Quiet),
+    (3, Outcome::Refused(Refusal::TooLong)),
+    (4, Outcome::Accepted),
+    (5, Outcome::Refused(Refusal::Full)),
+    (6, Outcome::Released(2)),
+    (999_999, Outcome::Refused(Refusal::NoPort)),
+    (1_000_000, Outcome::Refused(Refusal::TimeBack)),
+    (7, Outcome::Closed(0)),
+    (8, Outcome::Refused(Refusal::NoSub)),
+    (1_000_000, Outcome::Closed(u64::MAX)),
+];
+
 #[test]
 fn a_note_tells_the_line_and_the_refusal_or_the_total(rt: HostRuntime) {
-    let outcomes: [(u64, Outcome); 11] = [
-        (1, Outcome::Refused(Refusal::Empty)),
-        (2, Outcome::Quiet),
-        (3, Outcome::Refused(Refusal::TooLong)),
-        (4, Outcome::Accepted),
-        (5, Outcome::Refused(Refusal::Full)),
-        (6, Outcome::Released(2)),
-        (999_999, Outcome::Refused(Refusal::NoPort)),
-        (1_000_000, Outcome::Refused(Refusal::TimeBack)),
-        (7, Outcome::Closed(0)),
-        (8, Outcome::Refused(Refusal::NoSub)),
-        (1_000_000, Outcome::Closed(u64::MAX)),
-    ];
     let mut text = Vec::new(rt.alloc());
-    for (line, outcome) in outcomes {
+    for &(line, outcome) in &OUTCOMES {
         write_note(&mut text, line, outcome).expect(&rt, "written");
     }
     let wanted = "line 1: refused Empty\nline 3: refused TooLong\n\
@@ -47,10 +49,9 @@ fn the_frames_of_a_come_before_those_of_b(rt: HostRuntime) {
     twin[11] = 0x40;
     for_b.hand(0, &twin).expect(&rt, "memory");
     let mut text = Vec::new(rt.alloc());
-    let written = write_streams(&mut text, &for_a, &for_b);
-    assert_same(&rt, written, Ok(()), "the result");
+    let told = (write_streams(&mut text, &for_a, &for_b), text.as_slice());
     let wanted = replaced(&rt, FIRST_LINES, "B", "A 18446744073709551615 ab\nB");
-    assert_same(&rt, text.as_slice(), wanted.as_bytes(), "the lines");
+    assert_same(&rt, told, (Ok(()), wanted.as_bytes()), "the lines");
 }
 
 #[test]
@@ -59,10 +60,15 @@ fn a_full_writer_is_a_failure_to_write(rt: HostRuntime) {
     one.hand(0, &FRAME).expect(&rt, "memory");
     let mut room = [0u8; 60];
     let mut text = room.as_mut_slice();
-    let told = write_streams(&mut text, &none, &one);
-    assert_same(&rt, told, Err(RunFault::Write), "the frames");
-    let told = write_note(&mut text, 1, Outcome::Refused(Refusal::Full));
-    assert_same(&rt, told, Err(RunFault::Write), "a note");
+    let frames = write_streams(&mut text, &none, &one);
+    let note = write_note(&mut text, 1, Outcome::Refused(Refusal::Full));
+    let failed = Err(RunFault::Write);
+    assert_same(
+        &rt,
+        (frames, note),
+        (failed, failed),
+        "the frames and a note",
+    );
 }
 
 #[test]
@@ -150,8 +156,8 @@ fn assert_capture(rt: &impl Host, a: &FrameLog, b: &FrameLog, wanted: &[&[u8]]) 
 fn the_earlier_frame_comes_first(rt: HostRuntime) {
     let (mut a, mut b) = (FrameLog::new(rt.alloc()), FrameLog::new(rt.alloc()));
     assert_capture(&rt, &a, &b, &[&HEADER]);
-    assert!(rt; a.hand(0x1_0000_0002, &ON_A).is_ok());
-    assert!(rt; b.hand(3, &ON_B).is_ok());
+    a.hand(0x1_0000_0002, &ON_A).expect(&rt, "memory");
+    b.hand(3, &ON_B).expect(&rt, "memory");
     let parts: [&[u8]; 7] = [
         &HEADER, &FRONT_B, &ON_B, &BEHIND_B, &FRONT_A, &ON_A, &BEHIND_A,
     ];
@@ -161,7 +167,7 @@ fn the_earlier_frame_comes_first(rt: HostRuntime) {
 #[test]
 fn a_writer_without_room_fails(rt: HostRuntime) {
     let none = FrameLog::new(rt.alloc());
-    let mut bytes = [0; 91];
-    let mut room: &mut [u8] = &mut bytes;
-    assert!(rt; write_capture(&mut room, &none, &none).is_err());
+    let mut room = [0u8; 91];
+    let written = write_capture(&mut room.as_mut_slice(), &none, &none);
+    assert_same(&rt, written.is_err(), true, "the capture");
 }

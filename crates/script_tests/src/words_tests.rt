@@ -6,12 +6,12 @@ use bench_words::{Words, parse, tell_words};
 use clap::Error;
 use plan_report::{End, Failure, status_of};
 use script_text::{LineFault, RunFault};
-use std::fmt::Write;
+use tx_script::Summary;
 
 // Parses a line, which is split at its blanks, after the program's name.
 fn parsed(rt: &impl Host, line: &str) -> Result<Words, Error> {
+    let line = joined(rt, &["afdx_bench ", line]);
     let mut words = Vec::new(rt.alloc());
-    words.push(joined(rt, &["afdx_bench"])).expect(rt, "memory");
     for word in line.split_whitespace() {
         words.push(joined(rt, &[word])).expect(rt, "memory");
     }
@@ -37,7 +37,7 @@ fn each_command_has_its_words(rt: HostRuntime) {
     for row in COMMANDS.lines() {
         let (line, wanted) = columns(&rt, row);
         let words = parsed(&rt, line).ok().expect(&rt, line);
-        let text = format!(in rt.alloc(); "{words:?}").expect(&rt, line);
+        let text = InlineText::<128>::of(format_args!("{words:?}"));
         assert_same(&rt, text.as_str(), wanted, line);
     }
 }
@@ -58,7 +58,7 @@ const PRINTED: &str = "--version,-V,--help,-h,check --help,run -h,report -h,stor
 
 #[test]
 fn other_words_are_refused_and_help_and_the_version_are_printed(rt: HostRuntime) {
-    for (lines, end) in [(REFUSED, End::WordsRefused), (PRINTED, End::Told)] {
+    for &(lines, end) in &[(REFUSED, End::WordsRefused), (PRINTED, End::Told)] {
         for line in lines.split(',') {
             let error = parsed(&rt, line).err().expect(&rt, line);
             assert_same(&rt, tell_words(&rt, &error), end, line);
@@ -66,28 +66,52 @@ fn other_words_are_refused_and_help_and_the_version_are_printed(rt: HostRuntime)
     }
 }
 
+// How the program ends, and its status.
+const STATUSES: [(End, u8); 16] = [
+    (End::Told, 0),
+    (End::Ran(ONE_ACCEPTED), 0),
+    (End::Ran(ONE_OF_TWO), 3),
+    (End::Ran(TWO_OF_FOUR), 3),
+    (End::FaultsTold, 2),
+    (End::WordsRefused, 2),
+    (End::Failed(Failure::Short), 2),
+    (End::Failed(Failure::Turns), 5),
+    (End::Failed(Failure::Config(ConfigFault::Toml)), 2),
+    (End::Failed(Failure::Config(ConfigFault::Limit)), 2),
+    (End::Failed(Failure::Config(ConfigFault::Memory)), 4),
+    (End::Failed(Failure::Run(IN_LINE_2)), 2),
+    (End::Failed(Failure::Run(RunFault::Lines)), 2),
+    (End::Failed(Failure::Run(RunFault::Read)), 4),
+    (End::Failed(Failure::Run(RunFault::Write)), 4),
+    (End::Failed(Failure::Run(RunFault::Memory)), 4),
+];
+
+const ONE_ACCEPTED: Summary = Summary {
+    accepted: 1,
+    refused: 0,
+    frames: 1,
+};
+
+const ONE_OF_TWO: Summary = Summary {
+    accepted: 1,
+    refused: 1,
+    frames: 1,
+};
+
+const TWO_OF_FOUR: Summary = Summary {
+    accepted: 2,
+    refused: 2,
+    frames: 2,
+};
+
+const IN_LINE_2: RunFault = RunFault::Line {
+    line: 2,
+    fault: LineFault::Number,
+};
+
 #[test]
 fn the_status_tells_how_the_program_ended(rt: HostRuntime) {
-    let number = at_line(2, LineFault::Number);
-    let ends = [
-        (End::Told, 0),
-        (End::Ran(sums(1, 0, 1)), 0),
-        (End::Ran(sums(1, 1, 1)), 3),
-        (End::Ran(sums(2, 2, 2)), 3),
-        (End::FaultsTold, 2),
-        (End::WordsRefused, 2),
-        (End::Failed(Failure::Short), 2),
-        (End::Failed(Failure::Turns), 5),
-        (End::Failed(Failure::Config(ConfigFault::Toml)), 2),
-        (End::Failed(Failure::Config(ConfigFault::Limit)), 2),
-        (End::Failed(Failure::Config(ConfigFault::Memory)), 4),
-        (End::Failed(Failure::Run(number)), 2),
-        (End::Failed(Failure::Run(RunFault::Lines)), 2),
-        (End::Failed(Failure::Run(RunFault::Read)), 4),
-        (End::Failed(Failure::Run(RunFault::Write)), 4),
-        (End::Failed(Failure::Run(RunFault::Memory)), 4),
-    ];
-    for (end, status) in ends {
+    for &(end, status) in &STATUSES {
         assert_same(&rt, status_of(&end), status, end);
     }
 }
@@ -125,8 +149,7 @@ fn a_failure_has_its_text(rt: HostRuntime) {
         assert_text(&rt, failure, wanted);
     }
     for &(fault, number, name) in &FAULTS {
-        let mut wanted = InlineText::<64>::new();
-        write!(wanted, "script line 7: {number} {name}").expect(&rt, "room");
+        let wanted = InlineText::<64>::of(format_args!("script line 7: {number} {name}"));
         assert_text(&rt, Failure::Run(at_line(7, fault)), wanted.as_str());
     }
 }
