@@ -1,5 +1,5 @@
 -- The names of other crates, and of this one's definitions, that the proofs here use.
-pub use Rattle.std.proofs.Common.{All, List, None, Option, Some, [], add-one, ap, arith, cond, false, get_or, inl, inr, length, map, nat_eq, refl, rules, set, subst, suc, sym, take, tests, zero, ℕ, ⊎_elim, ◌&&◌, ◌*◌, ◌++◌, ◌+◌, ◌<◌, ◌^◌, ◌∙◌, ◌∷◌, ◌≡◌, ◌≤◌, ◌⊎◌}
+pub use Rattle.std.proofs.Common.{All, List, Option, Some, [], add-one, ap, arith, cond, false, get_or, inl, inr, length, map, nat_eq, refl, rules, set, subst, suc, sym, take, tests, zero, ℕ, ⊎_elim, ◌&&◌, ◌*◌, ◌++◌, ◌+◌, ◌<◌, ◌^◌, ◌∙◌, ◌∷◌, ◌≡◌, ◌≤◌, ◌⊎◌}
 pub use Rattle.std.proofs.Math.Nat.{eq-or-lt_of_le, mul-le-mul_right}
 pub use Rattle.std.proofs.Math.Seq.{map-set_same, take-length, take-suc}
 pub use Rattle.std.proofs.lemmas.Grind.{common_steps}
