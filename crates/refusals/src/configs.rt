@@ -64,5 +64,5 @@ pub fn demo(alloc: Global, out: &mut Out<'_>) -> Ended {
 
 /// The demonstration configuration, made before the call under test.
 pub fn prepared(alloc: Global) -> Result<Config, Trouble> {
-    Ok(demo_config(alloc)?)
+    demo_config(alloc).map_err(|_| Trouble::Unprepared)
 }

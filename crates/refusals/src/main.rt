@@ -21,78 +21,49 @@ use std::sync::Wait;
 use std::thread::Threads;
 use trouble::*;
 
-/// What a case calls.
-#[derive(Clone, Copy)]
-enum Case {
-    ReadConfig,
-    DemoConfig,
-    Make,
-    OpenTx,
-    OpenBoard,
-    ReadLine,
-    RunScript,
-    Hand,
-    Storm,
-    Quiet,
-    Parts,
-}
-
 /// The words that name cases, in the order in which all run.
-const CASES: [(&str, Case); 11] = [
-    ("read_config", Case::ReadConfig),
-    ("demo_config", Case::DemoConfig),
-    ("make", Case::Make),
-    ("open_tx", Case::OpenTx),
-    ("open_board", Case::OpenBoard),
-    ("read_line", Case::ReadLine),
-    ("run_script", Case::RunScript),
-    ("hand", Case::Hand),
-    ("storm", Case::Storm),
-    ("quiet", Case::Quiet),
-    ("parts", Case::Parts),
+const CASES: [&str; 11] = [
+    "read_config",
+    "demo_config",
+    "make",
+    "open_tx",
+    "open_board",
+    "read_line",
+    "run_script",
+    "hand",
+    "storm",
+    "quiet",
+    "parts",
 ];
 
-fn run_case<R: Threads + Wait + Sync>(
-    rt: &R,
-    alloc: Global,
-    out: &mut Out<'_>,
-    case: Case,
-) -> Ended {
-    match case {
-        Case::ReadConfig => configs::read(alloc, out),
-        Case::DemoConfig => configs::demo(alloc, out),
-        Case::Make => queues::make_one(alloc, out),
-        Case::OpenTx => opening::open(alloc, out),
-        Case::OpenBoard => boards::open(rt, alloc, out),
-        Case::ReadLine => scripts::read(alloc, out),
-        Case::RunScript => scripts::run(alloc, out),
-        Case::Hand => opening::hand(alloc, out),
-        Case::Storm => storms::throw(rt, alloc, out),
-        Case::Quiet => quiet::send(rt, alloc, out),
-        Case::Parts => parts::call(rt, alloc, out),
-    }
-}
-
 /// Runs the case that a word names.
-fn run_named<R: Threads + Wait + Sync>(
+fn run_case<R: Threads + Wait + Sync>(
     rt: &R,
     alloc: Global,
     out: &mut Out<'_>,
     word: &str,
 ) -> Ended {
-    for &(name, case) in &CASES {
-        if name == word {
-            return run_case(rt, alloc, out, case);
-        }
+    match word {
+        "read_config" => configs::read(alloc, out),
+        "demo_config" => configs::demo(alloc, out),
+        "make" => queues::make_one(alloc, out),
+        "open_tx" => opening::open(alloc, out),
+        "open_board" => boards::open(rt, alloc, out),
+        "read_line" => scripts::read(alloc, out),
+        "run_script" => scripts::run(alloc, out),
+        "hand" => opening::hand(alloc, out),
+        "storm" => storms::throw(rt, alloc, out),
+        "quiet" => quiet::send(rt, alloc, out),
+        "parts" => parts::call(rt, alloc, out),
+        _ => Err(Trouble::NoCase),
     }
-    Err(Trouble::NoCase)
 }
 
 /// Runs all cases, each after a line that names it.
 fn run_all<R: Threads + Wait + Sync>(rt: &R, alloc: Global, out: &mut Out<'_>) -> Ended {
-    for &(name, case) in &CASES {
-        out.line(format_args!("== {name}"));
-        run_case(rt, alloc, out, case)?;
+    for word in CASES.iter() {
+        out.line(format_args!("== {word}"));
+        run_case(rt, alloc, out, word)?;
     }
     Ok(())
 }
@@ -101,7 +72,7 @@ fn run_all<R: Threads + Wait + Sync>(rt: &R, alloc: Global, out: &mut Out<'_>) -
 /// to be timed, and the two words after it are its load.
 fn run<T: Threads + Wait + Sync>(rt: &HostRuntime, threads: &T) -> Ended {
     let mut out = Out::new(rt);
-    let mut words = std::env::args(rt)?;
+    let mut words = std::env::args(rt).map_err(|_| Trouble::Unprepared)?;
     let _program = words.next();
     match words.next() {
         Some(word) if word.as_str() == "time" => {
@@ -109,7 +80,7 @@ fn run<T: Threads + Wait + Sync>(rt: &HostRuntime, threads: &T) -> Ended {
             let load = timing::load_of(words.next(), words.next()).ok_or(Trouble::NoCase)?;
             timing::run(rt, threads, &mut out, part.as_str(), load)?
         }
-        Some(word) => run_named(threads, rt.alloc(), &mut out, word.as_str())?,
+        Some(word) => run_case(threads, rt.alloc(), &mut out, word.as_str())?,
         None => run_all(threads, rt.alloc(), &mut out)?,
     }
     out.end()
@@ -119,9 +90,8 @@ fn main(rt: HostRuntime) -> ExitCode {
     match run(&rt, &rt) {
         Ok(()) => ExitCode::SUCCESS,
         Err(trouble) => {
-            let (text, status) = trouble.told();
-            let _told = eprintln!(rt; "{text}");
-            ExitCode::from(status)
+            let _told = eprintln!(rt; "{trouble}");
+            ExitCode::from(trouble.status())
         }
     }
 }

@@ -11,21 +11,25 @@ use status_board::Monitor;
 /// An emitter, its ports and its monitor.
 type Opened = (Emitter<Shelf, Shelf>, Vec<TxPort>, Monitor);
 
-/// Prints that an opening failed, and whether its arguments are returned unchanged: of each network how many
-/// frames it takes, how many it has, and how often it failed.
+/// Prints that an opening failed, and whether its arguments are returned unchanged.
 fn tell_back(out: &mut Out<'_>, kept: &Config, back: &OpenFault<Shelf, Shelf>) {
     let is_same = back.config.end_system() == kept.end_system()
         && back.config.links() == kept.links()
         && back.config.ports() == kept.ports();
     let plan = if is_same { "same" } else { "other" };
-    let (a, b) = (&back.a, &back.b);
-    let (a_kept, b_kept) = (a.kept.len(), b.kept.len());
+    out.line(format_args!("refused OpenFault, plan {plan}"));
+    tell_network(out, "A", &back.a);
+    tell_network(out, "B", &back.b)
+}
+
+/// Prints how many frames a returned network takes, how many it has, and how often it failed.
+fn tell_network(out: &mut Out<'_>, name: &str, network: &Shelf) {
     out.line(format_args!(
-        "refused OpenFault, plan {plan}\n\
-        A takes {}, kept {a_kept}, failures {}\n\
-        B takes {}, kept {b_kept}, failures {}",
-        a.takes, a.failures, b.takes, b.failures
-    ))
+        "{name} takes {}, kept {}, failures {}",
+        network.takes,
+        network.kept.len(),
+        network.failures
+    ));
 }
 
 /// Opens an emitter over two networks, of which A takes one frame and B four. If an allocation fails,
@@ -63,19 +67,25 @@ fn open_in_memory(alloc: Global) -> Result<InMemory, Trouble> {
     }
 }
 
-/// Sends two messages, and prints how many frames each network accepted, and how often it failed. Returns whether
-/// one of them failed.
+/// Prints how many frames a network accepted, and how often it failed.
+fn tell(out: &mut Out<'_>, name: &str, network: &MemNetwork) {
+    let (handed, failures) = (network.handed().len(), network.failures());
+    out.line(format_args!("{name}: handed {handed}, failures {failures}"));
+}
+
+/// The same of both networks. Returns whether one of them failed.
+fn tell_both(out: &mut Out<'_>, a: &MemNetwork, b: &MemNetwork) -> bool {
+    tell(out, "A", a);
+    tell(out, "B", b);
+    a.failures() != 0 || b.failures() != 0
+}
+
+/// Sends two messages. Returns whether a network failed.
 fn send_two(out: &mut Out<'_>, opened: InMemory) -> bool {
     let (mut tx, mut ports, messages) = opened;
     send_two_told(out, &mut tx, &mut ports, messages);
     let (a, b) = tx.into_networks();
-    let (a_failures, b_failures) = (a.failures(), b.failures());
-    let (a_handed, b_handed) = (a.handed().len(), b.handed().len());
-    out.line(format_args!(
-        "A: handed {a_handed}, failures {a_failures}\n\
-        B: handed {b_handed}, failures {b_failures}"
-    ));
-    a_failures != 0 || b_failures != 0
+    tell_both(out, &a, &b)
 }
 
 /// Sends two messages, a second time if an allocation of a network fails.

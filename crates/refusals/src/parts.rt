@@ -92,11 +92,9 @@ fn tell_mux(out: &mut Out<'_>, mux: &Mux<Shelf, Shelf>) {
     let (a, b) = (told(standing.a), told(standing.b));
     let on_a = told(mux.stands_for(Networks::OnlyA));
     let on_b = told(mux.stands_for(Networks::OnlyB));
+    out.line(format_args!("A stands: {a} {on_a}, B stands: {b} {on_b}"));
     let (kept, failures) = (mux.network_a().kept.len(), mux.network_b().failures);
-    out.line(format_args!(
-        "A stands: {a} {on_a}, B stands: {b} {on_b}\n\
-        A keeps {kept}, B has failed {failures}"
-    ));
+    out.line(format_args!("A keeps {kept}, B has failed {failures}"));
 }
 
 /// Sends a frame to two networks, of which B accepts none.

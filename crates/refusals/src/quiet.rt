@@ -169,7 +169,7 @@ fn drain<R: Wait>(rt: &R, out: &mut Out<'_>, draining: &mut Draining<Shelf, Shel
 pub fn tell_fields(out: &mut Out<'_>, frame: &[u8]) {
     let (vl, sub, number) = (vl_of(frame), sub_of(frame), sn_of(frame));
     let (ident, offset, more) = (ident_of(frame), offset_of(frame), more_of(frame));
-    let VlId(vl) = vl.unwrap_or(VlId(0));
+    let vl = vl.map_or(0, |id| id.0);
     let (sub, number) = (sub.unwrap_or(255), number.unwrap_or(255));
     let (ident, offset) = (ident.unwrap_or(65_535), offset.unwrap_or(65_535));
     let more = if more == Some(true) { "more" } else { "last" };

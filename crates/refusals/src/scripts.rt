@@ -32,7 +32,7 @@ fn tell_line(out: &mut Out<'_>, answer: &Result<Line, LineFault>) {
 
 /// Reads each line, a second time if an allocation fails.
 pub fn read(alloc: Global, out: &mut Out<'_>) -> Ended {
-    for &line in &LINES {
+    for line in LINES {
         let mut answer = read_line(alloc, line.as_bytes());
         if matches!(answer, Err(LineFault::Memory)) {
             out.line("refused Memory");

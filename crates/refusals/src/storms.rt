@@ -22,6 +22,10 @@ const MESSAGES: u32 = 100;
 
 const TURNS: u64 = 1_000;
 
+fn plan(alloc: Global) -> Result<Config, Trouble> {
+    read_config(alloc, PLAN.as_bytes()).map_err(|_| Trouble::Unprepared)
+}
+
 /// Prints the totals of a storm over these links.
 fn tell(out: &mut Out<'_>, links: &[LinkPlan], report: &StormReport) {
     if report.links.len() != links.len() {
@@ -54,8 +58,7 @@ fn throw_once<R: Threads + Wait + Sync>(
 
 /// Runs a storm, a second time if an allocation fails.
 pub fn throw<R: Threads + Wait + Sync>(rt: &R, alloc: Global, out: &mut Out<'_>) -> Ended {
-    let first = read_config(alloc, PLAN.as_bytes())?;
-    let second = read_config(alloc, PLAN.as_bytes())?;
+    let (first, second) = (plan(alloc)?, plan(alloc)?);
     let links = first.links().to_vec(alloc)?;
     if throw_once(rt, alloc, out, first, links.as_slice()) {
         throw_once(rt, alloc, out, second, links.as_slice());

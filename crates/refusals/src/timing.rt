@@ -5,32 +5,10 @@ mod polls;
 mod queue;
 
 use crate::trouble::*;
+use afdx_plan::Config;
 use plan_report::read_plan;
-use polls::Timed;
 use std::rt::Clock;
 use std::thread::Threads;
-
-/// A part that is timed; of `Bytes` the frames are printed instead.
-#[derive(Clone, Copy)]
-enum Part {
-    Bytes,
-    Frames,
-    Queue,
-    Threads,
-    Polls(Timed),
-}
-
-/// The words that name parts.
-const PARTS: [(&str, Part); 8] = [
-    ("bytes", Part::Bytes),
-    ("frames", Part::Frames),
-    ("queue", Part::Queue),
-    ("threads", Part::Threads),
-    ("send", Part::Polls(Timed::Sends)),
-    ("due", Part::Polls(Timed::Polls)),
-    ("poll", Part::Polls(Timed::InTurn)),
-    ("idle", Part::Polls(Timed::Idle)),
-];
 
 /// What is timed: how many messages, each of `size` bytes, or sent by `size` threads.
 #[derive(Clone, Copy)]
@@ -41,7 +19,7 @@ pub struct Load {
 
 /// A reading of the clock, in nanoseconds.
 pub fn now(clock: &impl Clock) -> Result<u64, Trouble> {
-    let time = clock.monotonic()?;
+    let time = clock.monotonic().map_err(|_| Trouble::Unprepared)?;
     let seconds = time.as_secs().wrapping_mul(1_000_000_000);
     Ok(seconds.wrapping_add(u64::from(time.subsec_nanos())))
 }
@@ -62,14 +40,20 @@ pub fn load_of(size: Option<String>, units: Option<String>) -> Option<Load> {
     Some(Load { size, units })
 }
 
-/// The part that a word names.
-fn part_of(word: &str) -> Result<Part, Trouble> {
-    for &(name, part) in &PARTS {
-        if name == word {
-            return Ok(part);
-        }
+/// The nanoseconds that a part takes.
+fn time<T: Threads>(
+    rt: &HostRuntime,
+    threads: &T,
+    config: Config,
+    part: &str,
+    load: Load,
+) -> Result<u64, Trouble> {
+    match part {
+        "frames" => frames::time(rt, &config, load),
+        "queue" => queue::time_one(rt, load),
+        "threads" => queue::time_threads(rt, threads, load),
+        _ => polls::time(rt, config, part, load),
     }
-    Err(Trouble::NoCase)
 }
 
 /// Reads a plan from standard input, and prints the nanoseconds that a part takes with a load, or at `bytes`
@@ -78,19 +62,14 @@ pub fn run<T: Threads>(
     rt: &HostRuntime,
     threads: &T,
     out: &mut Out<'_>,
-    word: &str,
+    part: &str,
     load: Load,
 ) -> Ended {
-    let part = part_of(word)?;
-    let config = read_plan(rt.alloc(), rt.stdin());
-    let config = config.ok().ok_or(Trouble::Unprepared)?;
-    let nanos = match part {
-        Part::Bytes => return frames::tell(rt.alloc(), out, &config, load.size),
-        Part::Frames => frames::time(rt, &config, load),
-        Part::Queue => queue::time_one(rt, load),
-        Part::Threads => queue::time_threads(rt, threads, load),
-        Part::Polls(timed) => polls::time(rt, config, timed, load),
-    };
-    out.line(nanos?);
+    let config = read_plan(rt.alloc(), rt.stdin()).map_err(|_| Trouble::Unprepared)?;
+    if part == "bytes" {
+        return frames::tell(rt.alloc(), out, &config, load.size);
+    }
+    let nanos = time(rt, threads, config, part, load)?;
+    out.line(nanos);
     Ok(())
 }

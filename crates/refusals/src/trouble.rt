@@ -1,24 +1,30 @@
 //! Why a case ends early, and its output.
-use afdx_plan::ConfigFault;
 pub use std::alloc::Global;
 use std::alloc::{AllocError, AllocFailed};
 use std::fmt::Display;
 use std::io::{self, Printer, Write};
+use thiserror::Error;
 
 /// Why a case ends before its answer.
-#[derive(Clone, Copy)]
+#[derive(Clone, Copy, Debug, PartialEq, Eq, Error)]
 pub enum Trouble {
     /// An allocation failed before the call under test.
+    #[error("no memory before the call")]
     Unprepared,
     /// An allocation of `open_tx` failed.
+    #[error("refused OpenFault")]
     NotOpened,
     /// A call failed a second time, with ample memory.
+    #[error("refused twice")]
     Twice,
     /// Something that a case has made is missing.
+    #[error("missing")]
     Missing,
     /// Standard output can't be written.
+    #[error("write failed")]
     Output,
     /// No case has that word.
+    #[error("no such case")]
     NoCase,
 }
 
@@ -26,28 +32,13 @@ pub enum Trouble {
 pub type Ended = Result<(), Trouble>;
 
 impl Trouble {
-    /// What the program says of it, and its exit status.
-    pub fn told(self) -> (&'static str, u8) {
+    /// The exit status of the program.
+    pub fn status(self) -> u8 {
         match self {
-            Trouble::Unprepared => ("no memory before the call", 4),
-            Trouble::NotOpened => ("refused OpenFault", 4),
-            Trouble::Twice => ("refused twice", 1),
-            Trouble::Missing => ("missing", 1),
-            Trouble::Output => ("write failed", 1),
-            Trouble::NoCase => ("no such case", 2),
+            Trouble::Unprepared | Trouble::NotOpened => 4,
+            Trouble::NoCase => 2,
+            Trouble::Twice | Trouble::Missing | Trouble::Output => 1,
         }
-    }
-}
-
-impl From<ConfigFault> for Trouble {
-    fn from(_fault: ConfigFault) -> Trouble {
-        Trouble::Unprepared
-    }
-}
-
-impl From<io::Error> for Trouble {
-    fn from(_error: io::Error) -> Trouble {
-        Trouble::Unprepared
     }
 }
 

@@ -12,15 +12,6 @@ use std::sync::atomic::AtomicBool;
 /// How many messages the queues of a plan hold whose sends or polls are timed alone.
 const BATCH: u32 = 256;
 
-/// What is timed: sends or polls in batches, a send and a poll in turn, or polls at which no link is due.
-#[derive(Clone, Copy)]
-pub enum Timed {
-    Sends,
-    Polls,
-    InTurn,
-    Idle,
-}
-
 /// An emitter with its ports, the room of each queue, and the time of the last poll in microseconds.
 #[derive(Drop)]
 struct Bench {
@@ -38,10 +29,7 @@ fn outbox(alloc: Global) -> Result<Outbox, Trouble>
 }
 
 fn open(alloc: Global, config: Config) -> Result<Bench, Trouble> {
-    let room = match config.links().first() {
-        Some(link) => link.capacity,
-        None => 0,
-    };
+    let room = config.links().first().map_or(0, |link| link.capacity);
     let (a, b) = (outbox(alloc)?, outbox(alloc)?);
     let Some((tx, ports, _monitor)) = open_tx(alloc, config, a, b).ok() else {
         return Err(Trouble::NotOpened);
@@ -125,25 +113,26 @@ fn none_due(rt: &HostRuntime, bench: &mut Bench, units: u32, bytes: &[u8]) -> Re
     Ok(now(rt)?.wrapping_sub(begun))
 }
 
-/// The nanoseconds of sends or polls, with messages of these bytes.
-fn time_some(
+/// The nanoseconds of a part, with messages of these bytes.
+fn time_part(
     rt: &HostRuntime,
     bench: &mut Bench,
-    timed: Timed,
+    part: &str,
     units: u32,
     bytes: &[u8],
 ) -> Result<u64, Trouble> {
-    match timed {
-        Timed::Sends => Ok(in_batches(rt, bench, units, bytes)?.0),
-        Timed::Polls => Ok(in_batches(rt, bench, units, bytes)?.1),
-        Timed::InTurn => in_turn(rt, bench, units, bytes),
-        Timed::Idle => none_due(rt, bench, units, bytes),
+    match part {
+        "send" => Ok(in_batches(rt, bench, units, bytes)?.0),
+        "due" => Ok(in_batches(rt, bench, units, bytes)?.1),
+        "poll" => in_turn(rt, bench, units, bytes),
+        "idle" => none_due(rt, bench, units, bytes),
+        _ => Err(Trouble::NoCase),
     }
 }
 
-/// The same over an end system of a configuration.
-pub fn time(rt: &HostRuntime, config: Config, timed: Timed, load: Load) -> Result<u64, Trouble> {
+/// The nanoseconds of a part over an end system of a configuration.
+pub fn time(rt: &HostRuntime, config: Config, part: &str, load: Load) -> Result<u64, Trouble> {
     let message = message(rt.alloc(), load.size)?;
     let mut bench = open(rt.alloc(), config)?;
-    time_some(rt, &mut bench, timed, load.units, message.as_slice())
+    time_part(rt, &mut bench, part, load.units, message.as_slice())
 }
