@@ -1,14 +1,10 @@
 //! The files that the words name.
-use plan_report::{Failure, Halting};
-use std::alloc::Global;
+use plan_report::Failure;
 use std::fs::{self, File, Metadata};
-use std::io::{self, BufWriter, Write};
+use std::io;
 use std::os::fd::AsRawFd;
 use std::os::unix::fs::MetadataExt;
 use tx_script::RunFault;
-
-/// The size in bytes of the buffer of a report or a transcript.
-pub const BUFFER: usize = 8_192;
 
 /// Takes the number of a closed standard stream, so that no other file gets it. A folder can be neither
 /// read nor written, so the stream still fails. `None` if all three streams are open.
@@ -23,35 +19,18 @@ pub fn stand_in(rt: &HostRuntime) -> Option<File> {
 
 /// Opens a file that a word names.
 pub fn open(rt: &HostRuntime, path: &str) -> Result<File, Failure> {
-    match File::open(rt, path) {
-        Ok(file) => Ok(file),
-        Err(error) => Err(failed(&error, RunFault::Read)),
-    }
+    File::open(rt, path).map_err(|error| failed(&error, RunFault::Read))
 }
 
 /// Makes a file that a word names, or empties it. If it is the configuration or the script, under any name,
 /// returns Write and leaves the file unchanged.
 pub fn create(rt: &HostRuntime, path: &str, config: &File, script: &File) -> Result<File, Failure> {
     match is_either(rt, path, config, script) {
-        Ok(false) => match File::create(rt, path) {
-            Ok(file) => Ok(file),
-            Err(error) => Err(failed(&error, RunFault::Write)),
-        },
-        Ok(true) => Err(Failure::Run(RunFault::Write)),
-        Err(error) => Err(failed(&error, RunFault::Write)),
+        Ok(false) => {}
+        Ok(true) => return Err(Failure::Run(RunFault::Write)),
+        Err(error) => return Err(failed(&error, RunFault::Write)),
     }
-}
-
-/// Buffers `size` bytes before a writer, whose first failure is its last call.
-pub fn buffered<W: Write + Drop>(
-    alloc: Global,
-    size: usize,
-    writer: W,
-) -> Result<BufWriter<Halting<W>>, Failure> {
-    match BufWriter::with_capacity(alloc, size, Halting::new(writer)) {
-        Ok(buffer) => Ok(buffer),
-        Err(_) => Err(Failure::Run(RunFault::Memory)),
-    }
+    File::create(rt, path).map_err(|error| failed(&error, RunFault::Write))
 }
 
 /// The failure that reports an error of a file.

@@ -2,7 +2,6 @@
 //! transcripts, reports on configurations, and throws storms of messages at an end system.
 #![tactic(auto)]
 
-ghost use Rattle.std.specs.Prelude.{◌≤◌};
 ghost use Rattle.bench_words.specs.Words.{IsInRange};
 
 mod files;
@@ -11,27 +10,24 @@ mod report;
 use afdx_plan::{Config, demo_config};
 use bench_words::{Words, read_words, tell_words};
 use capture::write_capture;
-use files::{BUFFER, buffered, create, open, stand_in};
-use plan_report::{End, Failure, check, read_plan, status_of, tell_faults};
+use files::{create, open, stand_in};
+use plan_report::{End, Failure, Halting, check, read_plan, status_of, tell_faults};
 use report::report;
 use std::alloc::Global;
 use std::fs::File;
-use std::io::{self, IsTerminal, Write};
+use std::io::{self, BufWriter, IsTerminal, Write};
 use std::process::ExitCode;
 use std::sync::Wait;
 use std::thread::Threads;
 use storm::{OpenGate, Progress, bench_storm};
-use tx_script::{Played, RunFault, Summary, play_script, run_script};
+use tx_script::{Played, RunFault, play_script, run_script};
 
 // The size of a capture's write buffer in bytes.
 const CAPTURE_BUFFER: usize = 65_536;
 
-/// The end of a command that runs a script.
-fn end_of(ran: Result<Summary, RunFault>) -> Result<End, Failure> {
-    match ran {
-        Ok(summary) => Ok(End::Ran(summary)),
-        Err(fault) => Err(Failure::Run(fault)),
-    }
+/// The failure of a run whose output can't be written.
+fn unwritten(_error: io::Error) -> Failure {
+    Failure::Run(RunFault::Write)
 }
 
 /// Runs a script, and then writes the frames of both networks to a file. The file stays empty if the
@@ -43,16 +39,14 @@ fn run_captured<W: Write>(
     capture: File,
     writer: &mut W,
 ) -> Result<End, Failure> {
-    let mut output = buffered(alloc, CAPTURE_BUFFER, capture)?;
+    let file = BufWriter::with_capacity(alloc, CAPTURE_BUFFER, Halting::new(capture));
+    let mut output = file.map_err(|_| Failure::Run(RunFault::Memory))?;
     match play_script(alloc, config, script, writer) {
         Played::Whole { ended, a, b } => {
-            if writer.flush().is_err()
-                || write_capture(&mut output, &a, &b).is_err()
-                || output.flush().is_err()
-            {
-                return Err(Failure::Run(RunFault::Write));
-            }
-            end_of(ended)
+            writer.flush().map_err(unwritten)?;
+            write_capture(&mut output, &a, &b).map_err(unwritten)?;
+            output.flush().map_err(unwritten)?;
+            ended.map(End::Ran).map_err(Failure::Run)
         }
         Played::Broken(fault) => Err(Failure::Run(fault)),
     }
@@ -64,7 +58,7 @@ fn run_files<W: Write>(
     rt: &HostRuntime,
     config: &str,
     script: &str,
-    capture: &Option<String>,
+    capture: Option<String>,
     writer: &mut W,
 ) -> Result<End, Failure> {
     let alloc = rt.alloc();
@@ -76,25 +70,10 @@ fn run_files<W: Write>(
             let file = create(rt, path.as_str(), &text, &script)?;
             run_captured(alloc, config, script, file, writer)
         }
-        None => end_of(run_script(alloc, config, script, writer)),
-    }
-}
-
-/// Runs a script from standard input over the demonstration configuration.
-fn run_demo<W: Write>(rt: &HostRuntime, writer: &mut W) -> Result<End, Failure> {
-    let alloc = rt.alloc();
-    match demo_config(alloc) {
-        Ok(config) => end_of(run_script(alloc, config, rt.stdin(), writer)),
-        Err(fault) => Err(Failure::Config(fault)),
-    }
-}
-
-/// Writes the report on the plan of a configuration, by the path of its file.
-fn check_file<W: Write>(rt: &HostRuntime, config: &str, writer: &mut W) -> Result<End, Failure> {
-    let text = open(rt, config)?;
-    match check(rt.alloc(), text, writer) {
-        Ok(()) => Ok(End::Told),
-        Err(failure) => Err(failure),
+        None => {
+            let ran = run_script(alloc, config, script, writer);
+            ran.map(End::Ran).map_err(Failure::Run)
+        }
     }
 }
 
@@ -104,34 +83,6 @@ fn progress_of(rt: &HostRuntime, messages: u32) -> Option<Progress<'_, HostRunti
         Progress::begin(rt, messages).ok()
     } else {
         None
-    }
-}
-
-/// Runs a storm over a configuration, by the path of its file.
-fn storm_file<W: Write, T: Threads + Wait + Sync>(
-    rt: &HostRuntime,
-    threads: &T,
-    config: &str,
-    messages: u32,
-    turns: u64,
-    writer: &mut W,
-) -> Result<End, Failure>
-    requires messages { (1 ≤ messages) × (messages ≤ 65535) }
-    requires turns { (1 ≤ turns) × (turns ≤ 1000000000) }
-{
-    let alloc = rt.alloc();
-    let text = open(rt, config)?;
-    let ended = match progress_of(rt, messages) {
-        Some(gate) => {
-            let ended = bench_storm(threads, alloc, text, writer, messages, turns, &gate);
-            gate.end();
-            ended
-        }
-        None => bench_storm(threads, alloc, text, writer, messages, turns, &OpenGate),
-    };
-    match ended {
-        Ok(()) => Ok(End::Told),
-        Err(failure) => Err(failure),
     }
 }
 
@@ -145,28 +96,44 @@ fn obey<W: Write, T: Threads + Wait + Sync>(
 ) -> Result<End, Failure>
     requires { IsInRange words }
 {
+    let alloc = rt.alloc();
     match words {
-        Words::Script => run_demo(rt, writer),
+        Words::Script => {
+            let config = demo_config(alloc).map_err(Failure::Config)?;
+            let ran = run_script(alloc, config, rt.stdin(), writer);
+            ran.map(End::Ran).map_err(Failure::Run)
+        }
         Words::Run {
             config,
             script,
             capture,
-        } => run_files(rt, config.as_str(), script.as_str(), &capture, writer),
-        Words::Check { config } => check_file(rt, config.as_str(), writer),
-        Words::Explain { config } => {
-            let text = open(rt, config.as_str())?;
-            tell_faults(rt.alloc(), text, writer)
+        } => run_files(rt, config.as_str(), script.as_str(), capture, writer),
+        Words::Check { config } => {
+            check(alloc, open(rt, config.as_str())?, writer)?;
+            Ok(End::Told)
         }
+        Words::Explain { config } => tell_faults(alloc, open(rt, config.as_str())?, writer),
         Words::Report {
             config,
             lateness,
             html,
-        } => report(rt, config.as_str(), lateness, &html, writer),
+        } => report(rt, config.as_str(), lateness, html, writer),
         Words::Storm {
             config,
             messages,
             turns,
-        } => storm_file(rt, threads, config.as_str(), messages, turns, writer),
+        } => {
+            let text = open(rt, config.as_str())?;
+            match progress_of(rt, messages) {
+                Some(gate) => {
+                    let ended = bench_storm(threads, alloc, text, writer, messages, turns, &gate);
+                    gate.end();
+                    ended?;
+                }
+                None => bench_storm(threads, alloc, text, writer, messages, turns, &OpenGate)?,
+            }
+            Ok(End::Told)
+        }
     }
 }
 
@@ -178,7 +145,8 @@ fn run<T: Threads + Wait + Sync>(
 ) -> Result<End, Failure>
     requires { IsInRange words }
 {
-    let mut writer = buffered(rt.alloc(), BUFFER, io::writer(rt))?;
+    let writer = BufWriter::new(rt.alloc(), Halting::new(io::writer(rt)));
+    let mut writer = writer.map_err(|_| Failure::Run(RunFault::Memory))?;
     let end = obey(rt, threads, words, &mut writer);
     match writer.flush() {
         Ok(()) => end,

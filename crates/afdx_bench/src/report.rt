@@ -1,11 +1,12 @@
 //! The command `report`.
 ghost use Rattle.std.specs.Prelude.{◌≤◌};
 
-use crate::files::{BUFFER, buffered, create, open};
+use crate::files::{create, open};
 use plan_analysis::{Analysis, LATENESS_LIMIT, analyze, write_analysis, write_page};
-use plan_report::{End, Failure, read_plan};
+use plan_report::{End, Failure, Halting, read_plan};
+use std::alloc::Global;
 use std::fs::File;
-use std::io::Write;
+use std::io::{self, BufWriter, Write};
 use tx_script::RunFault;
 
 /// Writes the loads, the jitter and the longest waits of a configuration, by the path of its file, if polls come at
@@ -14,7 +15,7 @@ pub fn report<W: Write>(
     rt: &HostRuntime,
     config: &str,
     lateness: u64,
-    html: &Option<String>,
+    html: Option<String>,
     writer: &mut W,
 ) -> Result<End, Failure>
     requires { lateness ≤ LATENESS_LIMIT }
@@ -22,29 +23,24 @@ pub fn report<W: Write>(
     let alloc = rt.alloc();
     let text = open(rt, config)?;
     let plan = read_plan(alloc, &text)?;
-    let Ok(analysis) = analyze(alloc, &plan, lateness) else {
-        return Err(Failure::Run(RunFault::Memory));
-    };
+    let analysis = analyze(alloc, &plan, lateness).map_err(|_| Failure::Run(RunFault::Memory))?;
     if let Some(path) = html {
-        save_page(rt, path.as_str(), &text, &analysis)?;
+        let page = create(rt, path.as_str(), &text, &text)?;
+        save_page(alloc, page, &analysis)?;
     }
-    match write_analysis(writer, &analysis) {
-        Ok(()) => Ok(End::Told),
-        Err(_) => Err(Failure::Run(RunFault::Write)),
-    }
+    write_analysis(writer, &analysis).map_err(unwritten)?;
+    Ok(End::Told)
 }
 
-/// Writes the page of an analysis to a file other than the configuration, by its path.
-fn save_page(
-    rt: &HostRuntime,
-    path: &str,
-    config: &File,
-    analysis: &Analysis,
-) -> Result<(), Failure> {
-    let page = create(rt, path, config, config)?;
-    let mut output = buffered(rt.alloc(), BUFFER, page)?;
-    if write_page(&mut output, analysis).is_err() || output.flush().is_err() {
-        return Err(Failure::Run(RunFault::Write));
-    }
-    Ok(())
+/// Writes the page of an analysis to a file.
+fn save_page(alloc: Global, page: File, analysis: &Analysis) -> Result<(), Failure> {
+    let file = BufWriter::new(alloc, Halting::new(page));
+    let mut output = file.map_err(|_| Failure::Run(RunFault::Memory))?;
+    write_page(&mut output, analysis).map_err(unwritten)?;
+    output.flush().map_err(unwritten)
+}
+
+/// The failure of a report that can't be written.
+fn unwritten(_error: io::Error) -> Failure {
+    Failure::Run(RunFault::Write)
 }
