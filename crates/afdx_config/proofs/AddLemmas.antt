@@ -1,13 +1,9 @@
 -- Findings added one after the other.
-use Rattle.afdx_config.proofs.Names.{◌≡◌, ℕ, ◌+◌, ◌<◌, List, [], ◌∷◌, ◌++◌, length, get_or, drop, refl, ap, sym}
-use Rattle.afdx_config.proofs.Names.{◌∙◌, map, filter, append_assoc, option_map_or}
+use Rattle.afdx_config.proofs.Names.{◌≡◌, ℕ, ◌+◌, ◌<◌, List, [], ◌∷◌, ◌++◌, length, get_or, drop, refl, ap, sym, ◌∙◌, map, filter, append_assoc, option_map_or}
 use Rattle.afdx_config.proofs.Names.{drop_more, flat_map, flat_map-map, Members, table_view, string_bytes, codes}
-use Rattle.afdx_config.proofs.Names.{keys_of, String, Global, LinkPlan, PortPlan, Place, Link, Port, Top}
-use Rattle.afdx_config.proofs.Names.{EndSystem, Field, Finding, has, key_finding, each_row}
-use Rattle.afdx_config.proofs.Names.{ConfigFault, findings_of, finding_of, field_of}
-use Rattle.afdx_config.proofs.Names.{IsDocument, Document, data_of, document_fields, end_fields, link_fields}
-use Rattle.afdx_config.proofs.Names.{port_fields, fields_in, field_fault, key_fault, is_version_2, link_of}
-use Rattle.afdx_config.proofs.Names.{port_of, rows_at, map-map, BTreeMap, Value}
+use Rattle.afdx_config.proofs.Names.{keys_of, String, Global, LinkPlan, PortPlan, Place, Link, Port, Top, EndSystem, Field, Finding, has, key_finding, each_row}
+use Rattle.afdx_config.proofs.Names.{ConfigFault, findings_of, finding_of, field_of, IsDocument, Document, data_of, document_fields, end_fields, link_fields}
+use Rattle.afdx_config.proofs.Names.{port_fields, fields_in, field_fault, key_fault, is_version_2, link_of, port_of, rows_at, map-map, BTreeMap, Value}
 use Rattle.afdx_config.specs.declared.format.Field.{Field as Key}
 use Rattle.afdx_config.specs.declared.findings.Finding.{Finding as Written}
 use Rattle.afdx_config.specs.Findings.{plan_findings, table_findings, value_findings}

@@ -3,8 +3,7 @@ use Rattle.afdx_config.proofs.Names.{◌≡◌, ◌≢◌, ℕ, ◌+◌, ◌<◌
 use Rattle.afdx_config.proofs.Names.{◌&&◌, cond, Option, Some, None, refl, ap, sym, subst, ◌∙◌, arith, lit≤, ◌==◌}
 use Rattle.afdx_config.proofs.Names.{eq-eqb, and_parts, eqb-true, list_any, flat_map, find, take, get_or, inl, inr}
 use Rattle.afdx_config.proofs.Names.{cases_lt, AllByRecursion, same_Some, Result, Ok, Err, IfOk, IfErr, Members}
-use Rattle.afdx_config.proofs.Names.{fault_number, plan_shows, plan_faults, ConfigFault, Toml, Memory, MissingKey, UnknownKey}
-use Rattle.afdx_config.proofs.Names.{WrongKind, OutOfRange, BadBag, nat_lt, ltb-true}
+use Rattle.afdx_config.proofs.Names.{fault_number, plan_shows, plan_faults, ConfigFault, Toml, Memory, MissingKey, UnknownKey, WrongKind, OutOfRange, BadBag, nat_lt, ltb-true}
 use Rattle.afdx_config.proofs.Names.{Plan, plan_of, shows, Reads, HasFault, IsLeastFault, IsPlanOf, Finding}
 use Rattle.afdx_config.proofs.Names.{findings_of, value_findings, shown_faults, first_fault, has, FirstIsAnswered}
 use Rattle.afdx_config.proofs.ShownLemmas.{of_shown, no_toml, no_memory, is_value, values_in}

@@ -11,8 +11,7 @@ use Rattle.afdx_config.proofs.Names.{is_misfit, link_number, has_same_sub, is_la
 use Rattle.afdx_config.proofs.Names.{count_findings, findings_of, shown_faults, findings, row_has, rows_have, plan_has}
 use Rattle.afdx_config.proofs.Names.{value_has, key_has, has_place, PlacesHaveFaults, Field, document_fields}
 use Rattle.afdx_config.proofs.Names.{end_fields, link_fields, port_fields, fields_in, plan_of, field_fault, key_fault}
-use Rattle.afdx_config.proofs.Names.{is_fault, is_key_of, is_version_2, rows_at, section_at, members_at, fields_at}
-use Rattle.afdx_config.proofs.Names.{fault_number}
+use Rattle.afdx_config.proofs.Names.{is_fault, is_key_of, is_version_2, rows_at, section_at, members_at, fields_at, fault_number}
 use Rattle.afdx_config.specs.Findings.{port_finding, plan_findings, table_findings, value_findings}
 
 -- a property of both lists is one of their concatenation

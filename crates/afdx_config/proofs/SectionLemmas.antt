@@ -1,10 +1,8 @@
 -- The tables and keys of a document, in the code and in the specification.
 use Rattle.afdx_config.proofs.Names.{◌≡◌, ℕ, Bool, ◌||◌, is_none, List, [], ◌∷◌, String, Global, string_bytes}
 use Rattle.afdx_config.proofs.Names.{refl, ap, ◌-◌, false, map, length, take, Option, Some, None, option_map, Bor}
-use Rattle.afdx_config.proofs.Names.{BTreeMap, cons_option, filter_map, list_any, as_table, view, items_view}
-use Rattle.afdx_config.proofs.Names.{members_view, member_keys, tables_among, has_other_item}
-use Rattle.afdx_config.proofs.Names.{take-map, length-map, option_map_or, fields_in, field_of, keys_of, Value}
-use Rattle.afdx_config.proofs.Names.{find, arith, cond, is_some, nat_tests, not, ◌∙◌}
+use Rattle.afdx_config.proofs.Names.{BTreeMap, cons_option, filter_map, list_any, as_table, view, items_view, members_view, member_keys, tables_among, has_other_item}
+use Rattle.afdx_config.proofs.Names.{take-map, length-map, option_map_or, fields_in, field_of, keys_of, Value, find, arith, cond, is_some, nat_tests, not, ◌∙◌}
 use Rattle.std.proofs.lemmas.List.Sums.{sum_by-cons}
 use Rattle.std.specs.List.{count_by}
 use Rattle.std.specs.Prelude.{nat_eq}

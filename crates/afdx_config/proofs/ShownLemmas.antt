@@ -4,16 +4,14 @@ use Rattle.afdx_config.proofs.Names.{not, Option, Some, None, refl, ap, sym, ◌
 use Rattle.afdx_config.proofs.Names.{◌==◌, and_parts, nat_tests, or-false, and-true, and-false, and-or_distrib_left, nat_lt, list_any-append, position}
 use Rattle.afdx_config.proofs.Names.{position_from, list_any, flat_map, then_some, position_from-zero, AllByRecursion}
 use Rattle.afdx_config.proofs.Names.{Data, Members, get_member, fault_number, has_pair, has_same_vl, has_same_port}
-use Rattle.afdx_config.proofs.Names.{has_same_flow, shares_unicast, names_no_link, names_no_sub, is_too_long, is_crowded}
-use Rattle.afdx_config.proofs.Names.{parts_show, ConfigFault, Toml, Memory, MissingKey}
+use Rattle.afdx_config.proofs.Names.{has_same_flow, shares_unicast, names_no_link, names_no_sub, is_too_long, is_crowded, parts_show, ConfigFault, Toml, Memory, MissingKey}
 use Rattle.afdx_config.proofs.Names.{UnknownKey, DuplicateVl, DuplicatePort, NoSuchVl, NoSuchSub, SamplingTooLong}
 use Rattle.afdx_config.proofs.Names.{SameFlow, SharedUnicast, Limit, LinkPlan, PortPlan, Place, Top, Link, Port, Field}
 use Rattle.afdx_config.proofs.Names.{plan_of, shows, Finding, found, has, one_if, key_finding, member_keys, each_row}
 use Rattle.afdx_config.proofs.Names.{plan_key, pair_finding, links_clash, link_finding, ports_clash, is_misfit}
 use Rattle.afdx_config.proofs.Names.{link_number, has_same_sub, is_last_crowded, count_is_wrong, count_findings}
 use Rattle.afdx_config.proofs.Names.{findings_of, shown_faults, value_findings, values_show, field_fault}
-use Rattle.afdx_config.proofs.Names.{key_fault, is_key_of, fault_in, content_fault, fault_under, Content, IfSome}
-use Rattle.afdx_config.proofs.Names.{FaultsAreFound}
+use Rattle.afdx_config.proofs.Names.{key_fault, is_key_of, fault_in, content_fault, fault_under, Content, IfSome, FaultsAreFound}
 use Rattle.afdx_config.specs.Findings.{port_finding, plan_findings, table_findings}
 use Rattle.afdx_config.proofs.PlaceLemmas.{r_append, r_each, values_have}
 

@@ -1,6 +1,5 @@
 -- Texts of values.
-use Rattle.afdx_config.proofs.Names.{◌≡◌, ℕ, ◌≤◌, List, [], ◌∷◌, length, refl, sym}
-use Rattle.afdx_config.proofs.Names.{Some, codes, ◌++◌, decimal, arith, append-nil, Vec, Global, le-ltb, take_all, flat_map}
+use Rattle.afdx_config.proofs.Names.{◌≡◌, ℕ, ◌≤◌, List, [], ◌∷◌, length, refl, sym, Some, codes, ◌++◌, decimal, arith, append-nil, Vec, Global, le-ltb, take_all, flat_map}
 use Rattle.afdx_config.proofs.Names.{items_view, view, Value, Array, view-Array, escaped}
 use Rattle.afdx_config.specs.Told.{cut_text, items_count, value_text}
 

@@ -10,8 +10,7 @@ pub use Rattle.afdx_frame.specs.Frame.{datagram_len, fragment_word, frame_of, in
 pub use Rattle.afdx_frame.specs.Header.{IsFrameOf, link_in, number_in, sub_in}
 pub use Rattle.afdx_frame.specs.Profile.{HasAddresses, HasLinkHeader, HasZeroPadding, fragment_field, total_length, word_at}
 pub use Rattle.afdx_frame.specs.ReadBack.{IsPiece, Says}
-pub use Rattle.afdx_frame.specs.Reassembly.{AnyOrder, Buffer, Fragment, NotBefore, bytes_from, bytes_to, covers, empty, fragment_of, fragments_of, joined, put}
-pub use Rattle.afdx_frame.specs.Reassembly.{put_all}
+pub use Rattle.afdx_frame.specs.Reassembly.{AnyOrder, Buffer, Fragment, NotBefore, bytes_from, bytes_to, covers, empty, fragment_of, fragments_of, joined, put, put_all}
 pub use Rattle.afdx_frame.specs.UdpCheck.{ChangedWordsFail, ChecksumsPass, IsWordChanged, ReassembledPass}
 pub use Rattle.afdx_frame.specs.declared.net.Net.{Net}
 pub use Rattle.afdx_frame.specs.declared.net.Net.TheVariants.{A, B}
@@ -30,7 +29,6 @@ pub use Rattle.std.proofs.lemmas.Bool.Decides.{nat_tests}
 pub use Rattle.std.proofs.lemmas.List.{drop-drop, drop_at, get_or-drop, get_or-map, get_or-replicate, get_or-set_other, get_or-set_same, get_or-take}
 pub use Rattle.std.proofs.lemmas.List.{get_or_append_left, get_or_push, length-drop, length-map, length-set, length-take, length-take-le, map-append}
 pub use Rattle.std.proofs.lemmas.List.{set-get_or, set-set, set_past, take-replicate, take-set-le, take_at}
-pub use Rattle.std.proofs.lemmas.List.Elements.{All-contains, All-contains_itself, All-from_recursion, All-head, All-map, All-tail, All-weaker, Contains-get_or}
-pub use Rattle.std.proofs.lemmas.List.Elements.{recursion_from_All}
+pub use Rattle.std.proofs.lemmas.List.Elements.{All-contains, All-contains_itself, All-from_recursion, All-head, All-map, All-tail, All-weaker, Contains-get_or, recursion_from_All}
 pub use Rattle.std.specs.List.{AllByRecursion, list_any}
 pub use Rattle.std.specs.Prelude.{All, Contains, IfSome, if◌then◌else◌}

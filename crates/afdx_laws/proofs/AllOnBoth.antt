@@ -1,8 +1,7 @@
 -- If all links are on both networks, nothing is cut, and each link's own stream is in the longer list.
 use Rattle.afdx_laws.proofs.Names.{◌≡◌, ℕ, ◌≤◌, ◌<◌, ◌&&◌, inl, inr, true, nat_eq, List, [], ◌∷◌, length, map, take, refl, ap, ◌∙◌, subst, arith, All}
 use Rattle.afdx_laws.proofs.Names.{nat_tests, cases_lt, length-map, length-take, take_all, link_plan_at, is_both, LinkPlan, Net, A, B, link_in, twin_twice}
-use Rattle.afdx_laws.proofs.Names.{Entry, entry, side, link_stream, IsKnown, AreKnown, is_on_both, on_both, AreTwins, own_stream, id_at, IsOnBoth, AllOnBoth}
-use Rattle.afdx_laws.proofs.Names.{map-map}
+use Rattle.afdx_laws.proofs.Names.{Entry, entry, side, link_stream, IsKnown, AreKnown, is_on_both, on_both, AreTwins, own_stream, id_at, IsOnBoth, AllOnBoth, map-map}
 use Rattle.std.proofs.lemmas.List.Folds.{list_any_at}
 use Rattle.afdx_legal.specs.Own.{longer}
 use Rattle.afdx_laws.proofs.ListLemmas.{cons_same, map_same}

@@ -12,8 +12,7 @@ use Rattle.afdx_legal.specs.Legal.{Accepted}
 use Rattle.afdx_frame.specs.declared.net.Net.TheVariants.{A, B}
 use Rattle.afdx_laws.specs.Receiver.{Tolerance, IsFitFor, begin, received}
 use Rattle.afdx_laws.specs.Loss.{AreClose, next_alone, frames_at}
-use Rattle.afdx_laws.specs.Delivery.{with_buffer, kept_in, of_sub, sent_from, HasByte, fragment_in, AreHanded}
-use Rattle.afdx_laws.specs.Delivery.{AreCarriedOf, delivered, AreGiven}
+use Rattle.afdx_laws.specs.Delivery.{with_buffer, kept_in, of_sub, sent_from, HasByte, fragment_in, AreHanded, AreCarriedOf, delivered, AreGiven}
 use Rattle.afdx_laws.specs.Plans.{id_at, frames_of, longer_of, IsHandedOver}
 use Rattle.afdx_laws.specs.Rows.{BothFail}
 use Rattle.afdx_laws.specs.WorkedDelivery.{front_frame, back_frame, four_arrivals, plain_receiver}

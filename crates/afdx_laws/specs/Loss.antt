@@ -1,6 +1,5 @@
 -- Losses: one network may lose, repeat and reorder frames, as long as the other carries them all.
-use Rattle.std.specs.Prelude.{◌≡◌, ℕ, ◌+◌, ◌-◌, ◌≤◌, ◌<◌, max, Bool, true, false, cond, Some, List, [], ◌∷◌, length}
-use Rattle.std.specs.Prelude.{map, take, slice_index_or}
+use Rattle.std.specs.Prelude.{◌≡◌, ℕ, ◌+◌, ◌-◌, ◌≤◌, ◌<◌, max, Bool, true, false, cond, Some, List, [], ◌∷◌, length, map, take, slice_index_or}
 use Rattle.afdx_plan.specs.Numbers.{sequence_number}
 use Rattle.afdx_frame.specs.declared.net.Net.{Net}
 use Rattle.afdx_frame.specs.declared.net.Net.TheVariants.{A, B}

@@ -1,6 +1,5 @@
 -- How far two neighbouring fragments of a message lie apart if the sub-VLs of their link take turns.
-use Rattle.std.specs.Prelude.{◌≡◌, ◌≢◌, ℕ, ◌+◌, ◌*◌, ◌≤◌, ◌<◌, max, true, Some, List, [], ◌∷◌, ◌++◌, length, All, false}
-use Rattle.std.specs.Prelude.{Bool, ◌&&◌, None, nat_eq, map}
+use Rattle.std.specs.Prelude.{◌≡◌, ◌≢◌, ℕ, ◌+◌, ◌*◌, ◌≤◌, ◌<◌, max, true, Some, List, [], ◌∷◌, ◌++◌, length, All, false, Bool, ◌&&◌, None, nat_eq, map}
 use Rattle.afdx_plan.specs.Config.{Plan, IsPlan, link_plan_at}
 use Rattle.afdx_plan.specs.Plan.{bag_micros}
 use Rattle.afdx_plan.specs.declared.link_plan.LinkPlan.{LinkPlan}

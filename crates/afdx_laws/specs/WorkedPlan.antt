@@ -25,8 +25,7 @@ use Rattle.afdx_laws.specs.Policer.{Passage, AllPass, IsOnItsWay, by_bytes, by_f
 use Rattle.afdx_laws.specs.Receiver.{Tolerance, IsFitFor, begin, received, carried, most_carried}
 use Rattle.afdx_laws.specs.Loss.{AreClose}
 use Rattle.afdx_laws.specs.Delivery.{messages_in, AreFirst, AreCarriedOf}
-use Rattle.afdx_laws.specs.Plans.{frames_of, longer_of, rule_at, all_from, IsHandedOver, AreOwnLists, IsOnBoth}
-use Rattle.afdx_laws.specs.Plans.{AreTwinsWhole}
+use Rattle.afdx_laws.specs.Plans.{frames_of, longer_of, rule_at, all_from, IsHandedOver, AreOwnLists, IsOnBoth, AreTwinsWhole}
 use Rattle.afdx_laws.specs.Rows.{BothFail, NeedsEach}
 use Rattle.afdx_laws.specs.WorkedDelivery.{plain_receiver, closed_receiver, back_frame, first_lost, messages_despite}
 

@@ -9,22 +9,17 @@
 //! Each law comes with worked cases. `worked` computes one case. `needed`, or the name of a premise, shows that the
 //! premises hold there, and gives cases in which one of them fails, and the conclusion with it.
 ghost use Rattle.afdx_legal.specs.WorkedTurns.{TurnsAreTold};
-ghost use Rattle.afdx_laws.specs.Buffers.{OneBuffer, HandedNeedOne, LegalNeedOne, LegalNeedOneDespite, HoldsTheSecond};
-ghost use Rattle.afdx_laws.specs.Buffers.{NeedsInTurn, HoldsAFrame, FirstIsGiven, NeedsOrder};
+ghost use Rattle.afdx_laws.specs.Buffers.{OneBuffer, HandedNeedOne, LegalNeedOne, LegalNeedOneDespite, HoldsTheSecond, NeedsInTurn, HoldsAFrame, FirstIsGiven, NeedsOrder};
 ghost use Rattle.afdx_laws.specs.Counted.{CountsRise, CountsTwo};
 ghost use Rattle.afdx_laws.specs.Delivery.{InOrder, DespiteLoss, MessagesArrive, HandedArrive, HandedDespiteLoss};
 ghost use Rattle.afdx_laws.specs.Loss.{FirstComes, LossMasked, LossNotMasked, MaskedFromFirst, NumbersClash};
 ghost use Rattle.afdx_laws.specs.Receiver.{ExactlyOnce};
-ghost use Rattle.afdx_laws.specs.NextFragment.{NextInARound, NextInPlan, NextInTime, NextPolledInTime, LieTwoGapsApart};
-ghost use Rattle.afdx_laws.specs.NextFragment.{PollsInTime, NeedsInTime};
+ghost use Rattle.afdx_laws.specs.NextFragment.{NextInARound, NextInPlan, NextInTime, NextPolledInTime, LieTwoGapsApart, PollsInTime, NeedsInTime};
 ghost use Rattle.afdx_laws.specs.Plans.{OneNetworkArrives, LegalArrive, LegalDespiteLoss, OwnListsArrive, AllOnBoth};
 ghost use Rattle.afdx_laws.specs.Skew.{SkewIsFit, SkewIsNear, BearsUnder254, ComesInTime};
-ghost use Rattle.afdx_laws.specs.WorkedDelivery.{OneMessageArrives, NeedsHanding, AcceptsEachOnce, NeedsNumbers};
-ghost use Rattle.afdx_laws.specs.WorkedDelivery.{NeedsBeginnings, NeedsALag, NeedsAStream, ClashesPast254};
-ghost use Rattle.afdx_laws.specs.WorkedDelivery.{MasksOneLoss, NeedsTheFirst, BeginsOnBoth, ComesDespiteLoss};
-ghost use Rattle.afdx_laws.specs.WorkedDelivery.{NeedsAWholeNetwork, HandedDespiteOneLoss, NeedsOneWhole};
-ghost use Rattle.afdx_laws.specs.WorkedPlan.{AreTwinsOfOne, ComesFromOne, OneIsLegal, NeedsLegal, LegalDespiteOneLoss};
-ghost use Rattle.afdx_laws.specs.WorkedPlan.{NeedsClose, OneIsWhole, NeedsAll};
+ghost use Rattle.afdx_laws.specs.WorkedDelivery.{OneMessageArrives, NeedsHanding, AcceptsEachOnce, NeedsNumbers, NeedsBeginnings, NeedsALag, NeedsAStream, ClashesPast254};
+ghost use Rattle.afdx_laws.specs.WorkedDelivery.{MasksOneLoss, NeedsTheFirst, BeginsOnBoth, ComesDespiteLoss, NeedsAWholeNetwork, HandedDespiteOneLoss, NeedsOneWhole};
+ghost use Rattle.afdx_laws.specs.WorkedPlan.{AreTwinsOfOne, ComesFromOne, OneIsLegal, NeedsLegal, LegalDespiteOneLoss, NeedsClose, OneIsWhole, NeedsAll};
 
 /// A receiver accepts each frame of a link exactly once and in order, as far as one of the networks carried them, from
 /// any interleaving of the two networks, as long as neither lags the other by more than 255 - window frames.

@@ -25,11 +25,9 @@ pub use Rattle.afdx_tx.specs.DrainEnds.{AreApartBy, AreDrained, DrainEnds, Drain
 pub use Rattle.afdx_tx.specs.Emitter.{AreApart, AreCarried, AreFreshLinks, AreKept, AreLinks, AreLinksOf, AreOpenedLinks, AreOpenedSubs, AreReceiving}
 pub use Rattle.afdx_tx.specs.Emitter.{AreServedBy, AreWhole, HaveOwnItems, IsOpenedLink, IsOpenedSub, IsSamePlan, IsSound, Tx, held_queue, link_queues}
 pub use Rattle.afdx_tx.specs.Emitter.{plan_of_link, plans, ports_of_sub, queues_in, taken_in, total_in}
-pub use Rattle.afdx_tx.specs.Gathering.{AreFull, GathersLinks, GathersPorts, HasOwnPart, IsGatheredLink, IsGatheredTx, IsTakenBack, OnlyTakeBack, OnlyTakesBack}
-pub use Rattle.afdx_tx.specs.Gathering.{held_for}
+pub use Rattle.afdx_tx.specs.Gathering.{AreFull, GathersLinks, GathersPorts, HasOwnPart, IsGatheredLink, IsGatheredTx, IsTakenBack, OnlyTakeBack, OnlyTakesBack, held_for}
 pub use Rattle.afdx_tx.specs.NextDue.{IsFirstDue, NoneDueBefore, OneDueAt, earlier}
-pub use Rattle.afdx_tx.specs.Ports.{AreOpenedWith, BelongsTo, HasEveryPlace, HasOwnMessages, HasPlace, IsFreshPort, IsFreshSender, PortView, index_of, queue_at}
-pub use Rattle.afdx_tx.specs.Ports.{queue_for}
+pub use Rattle.afdx_tx.specs.Ports.{AreOpenedWith, BelongsTo, HasEveryPlace, HasOwnMessages, HasPlace, IsFreshPort, IsFreshSender, PortView, index_of, queue_at, queue_for}
 pub use Rattle.afdx_tx.specs.Publishing.{Publishes, PublishesCounts, Reaches}
 pub use Rattle.afdx_tx.specs.Report.{IsTold, release_of, turn_release}
 pub use Rattle.afdx_tx.specs.Run.{IsRun, IsTurn, IsTurnAt}

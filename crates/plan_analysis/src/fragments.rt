@@ -1,8 +1,7 @@
 //! The number of fragments of a message, and its longest wait.
 ghost use Rattle.std.specs.Prelude.{◌≡◌, ◌+◌, ◌*◌, ◌≤◌};
 ghost use Rattle.afdx_plan.specs.Plan.{IsLink, IsPort};
-ghost use Rattle.plan_analysis.specs.Wait.{port_pieces as pieces_of_port, most_pieces as most_pieces_of};
-ghost use Rattle.plan_analysis.specs.Wait.{pieces_on as pieces_of_sub};
+ghost use Rattle.plan_analysis.specs.Wait.{port_pieces as pieces_of_port, most_pieces as most_pieces_of, pieces_on as pieces_of_sub};
 ghost use Rattle.plan_analysis.specs.Wait.{message_wait as wait_of_message, sustained as sustained_by};
 ghost use Rattle.std.specs.Prelude.{All};
 

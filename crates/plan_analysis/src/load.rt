@@ -1,8 +1,7 @@
 //! The load on the wire.
 ghost use Rattle.std.specs.Prelude.{◌≡◌, ◌+◌, ◌*◌, ◌≤◌, All, length};
 ghost use Rattle.afdx_plan.specs.Plan.{IsLink};
-ghost use Rattle.plan_analysis.specs.Load.{window_bits as bits_of_window, line_bits, bit_rate as rate_of_bits};
-ghost use Rattle.plan_analysis.specs.Load.{share as share_of_bits, is_over as is_over_line, carries as is_on};
+ghost use Rattle.plan_analysis.specs.Load.{window_bits as bits_of_window, line_bits, bit_rate as rate_of_bits, share as share_of_bits, is_over as is_over_line, carries as is_on};
 
 use crate::network_row::NetworkName;
 use afdx_plan::{LinkPlan, Networks};

@@ -1,11 +1,8 @@
 //! The text of an analysis.
 ghost use Rattle.std.specs.Prelude.{◌≡◌, OnOk, flat_map};
 ghost use Rattle.std.specs.Io.KnownBytes.{Appends};
-ghost use Rattle.plan_analysis.specs.Text.{head_line, links_head, link_line, jitter_line};
-ghost use Rattle.plan_analysis.specs.Text.{network_line, ports_head, port_line};
-ghost use Rattle.plan_analysis.specs.Text.{links_table, networks_table, ports_table, text_of};
-ghost use Rattle.plan_analysis.specs.Text.{networks_cell as cell_of_networks, network_name as name_of_network};
-ghost use Rattle.plan_analysis.specs.Text.{exceeded_cell as cell_of_exceeded};
+ghost use Rattle.plan_analysis.specs.Text.{head_line, links_head, link_line, jitter_line, network_line, ports_head, port_line, links_table, networks_table, ports_table, text_of};
+ghost use Rattle.plan_analysis.specs.Text.{networks_cell as cell_of_networks, network_name as name_of_network, exceeded_cell as cell_of_exceeded};
 
 use crate::analysis::Analysis;
 use crate::limits::JITTER_LIMIT;

@@ -1,10 +1,8 @@
 //! The report of `check` on a plan.
 ghost use Rattle.std.specs.Prelude.{◌≡◌, OnOk, flat_map};
 ghost use Rattle.std.specs.Io.KnownBytes.{Appends};
-ghost use Rattle.plan_report.specs.Report.{kind_name as name_of_kind, checksum_text as text_of_checksum};
-ghost use Rattle.plan_report.specs.Report.{networks_text as text_of_networks};
-ghost use Rattle.plan_report.specs.Report.{end_system_line, jitter_line, report_of, link_line};
-ghost use Rattle.plan_report.specs.Report.{way_text, flow_text, port_line};
+ghost use Rattle.plan_report.specs.Report.{kind_name as name_of_kind, checksum_text as text_of_checksum, networks_text as text_of_networks};
+ghost use Rattle.plan_report.specs.Report.{end_system_line, jitter_line, report_of, link_line, way_text, flow_text, port_line};
 
 use afdx_plan::{Config, Kind, LinkPlan, Networks, PortPlan, UdpSum, jitter_ns};
 use std::fmt;

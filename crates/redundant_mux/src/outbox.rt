@@ -65,8 +65,7 @@ fn make_slots(alloc: Global) -> Result<Vec<Kept>, AllocError>
 
 impl Outbox {
     ghost use Rattle.std.specs.Prelude.{◌≡◌, ◌↔◌, [], length, IsSome, IfSome, IfOk};
-    ghost use Rattle.redundant_mux.specs.Outbox.{IsAmongLast, entry_at};
-    ghost use Rattle.redundant_mux.specs.Outbox.{kept_entry};
+    ghost use Rattle.redundant_mux.specs.Outbox.{IsAmongLast, entry_at, kept_entry};
 
     /// An outbox without frames. It fails each `hand` while `fails` is set. No later call
     /// allocates.

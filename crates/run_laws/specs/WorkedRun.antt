@@ -24,8 +24,7 @@ use Rattle.vl_shaper.specs.Pace.{IsLater}
 use Rattle.afdx_legal.specs.Streams.{latest, IsPrefixOf}
 use Rattle.plan_analysis.specs.Wait.{worst_wait}
 use Rattle.run_laws.specs.Runs.{AreRuns, ComeWithin, latest_of, ComesBy}
-use Rattle.run_laws.specs.MessageInRun.{AreTimely, fragments_of, seen_of, IsAccepted, HasPlace, AreFinding}
-use Rattle.run_laws.specs.MessageInRun.{AreReleasedBy}
+use Rattle.run_laws.specs.MessageInRun.{AreTimely, fragments_of, seen_of, IsAccepted, HasPlace, AreFinding, AreReleasedBy}
 
 -- The demonstration configuration with frames of up to 64 bytes: a message of two fragments was accepted, and its first
 -- frame transmitted at time 0. Two polls follow, a gap apart.

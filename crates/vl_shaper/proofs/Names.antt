@@ -8,7 +8,6 @@ pub use Rattle.std.proofs.lemmas.Nat.{div-add-mod', mod-mul-add, mod_below, mul-
 pub use Rattle.vl_shaper.specs.Choices.{AreChosen, Choice, IsChosen, IsPassedOver, OneEach, next_turn}
 pub use Rattle.vl_shaper.specs.Latency.{BoundIsMet, HasUntil, InTime, IsBy, IsPaced, QueuedMessage, Release, choices_of, turns_of}
 pub use Rattle.vl_shaper.specs.Pace.{IsLater, is_due, turn_of}
-pub use Rattle.vl_shaper.specs.WorkedChoices.{ChoosesOneEach, LeavesOneBehind, ReleasesTooLate, WaitsBehindOne, WaitsFourChoices, busy_choice, busy_release}
-pub use Rattle.vl_shaper.specs.WorkedChoices.{lone_choice}
+pub use Rattle.vl_shaper.specs.WorkedChoices.{ChoosesOneEach, LeavesOneBehind, ReleasesTooLate, WaitsBehindOne, WaitsFourChoices, busy_choice, busy_release, lone_choice}
 pub use Rattle.vl_shaper.specs.declared.shaper.Stamp.{Stamp}
 pub use native.Mathlib.Nat.{lt_of_mul-lt-mul_left, mul-suc, suc-mul}

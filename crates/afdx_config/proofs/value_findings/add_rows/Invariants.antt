@@ -1,5 +1,4 @@
-use Rattle.afdx_config.proofs.Names.{◌≡◌, ◌+◌, ◌++◌, drop, map, table_view, field_of, each_row, table_findings}
-use Rattle.afdx_config.proofs.Names.{finding_of, row_like}
+use Rattle.afdx_config.proofs.Names.{◌≡◌, ◌+◌, ◌++◌, drop, map, table_view, field_of, each_row, table_findings, finding_of, row_like}
 use Rattle.afdx_config.proofs.value_findings.add_rows.Given as goal
 
 abbrev pub invariant-loop-i : goal.invariant-loop-i
