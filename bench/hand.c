@@ -1,30 +1,7 @@
 #include "hand.h"
+#include "queue.h"
 
-#include <stdatomic.h>
-#include <stdbool.h>
-#include <stdlib.h>
 #include <string.h>
-
-/* A message in a queue. */
-struct item {
-    uint8_t *bytes;
-    size_t length;
-    unsigned port;
-};
-
-/* A bounded queue by compare-and-swap, as crossbeam's ArrayQueue: a slot's stamp is its turn's number when it is free to
-   be written, and one more when it is written. */
-struct slot {
-    _Atomic uint64_t stamp;
-    struct item item;
-};
-
-struct queue {
-    _Alignas(128) _Atomic uint64_t head;
-    _Alignas(128) _Atomic uint64_t tail;
-    _Alignas(128) struct slot *slots;
-    uint64_t capacity, lap;
-};
 
 struct link {
     uint16_t id;
@@ -37,17 +14,34 @@ struct link {
     struct item cut;
     size_t total, sent;
     uint16_t place;
+#ifdef DUTIES
+    bool lost;
+    uint64_t due, frames, bytes, messages, latest;
+#endif
 };
 
 struct port {
     uint16_t source, destination, link;
     uint8_t partition;
     size_t max;
+    struct sender sender;
+};
+
+/* A network: the frames of the last poll, or with DUTIES the last frames of all, in turn. */
+struct kept {
+    uint64_t at;
+    size_t length;
+    uint8_t frame[HAND_FRAME];
 };
 
 struct out {
-    size_t count, lengths[HAND_LINKS];
-    uint8_t frames[HAND_LINKS][HAND_FRAME];
+    uint64_t begun, count;
+#ifdef DUTIES
+    uint64_t failures;
+    bool stands;
+    _Atomic bool fails;
+#endif
+    struct kept kept[HAND_LINKS];
 };
 
 struct hand {
@@ -56,51 +50,11 @@ struct hand {
     struct link link[HAND_LINKS];
     struct port port[HAND_PORTS];
     struct out out[2];
+#ifdef DUTIES
+    uint64_t now;
+    uint8_t frame[HAND_FRAME];
+#endif
 };
-
-static bool push(struct queue *queue, struct item item) {
-    uint64_t tail = atomic_load_explicit(&queue->tail, memory_order_relaxed);
-    for (;;) {
-        uint64_t index = tail & (queue->lap - 1), next = index + 1 < queue->capacity ? tail + 1 : (tail & ~(queue->lap - 1)) + queue->lap;
-        struct slot *slot = &queue->slots[index];
-        uint64_t stamp = atomic_load_explicit(&slot->stamp, memory_order_acquire);
-        if (stamp == tail) {
-            if (atomic_compare_exchange_weak_explicit(&queue->tail, &tail, next, memory_order_seq_cst, memory_order_relaxed)) {
-                slot->item = item;
-                atomic_store_explicit(&slot->stamp, tail + 1, memory_order_release);
-                return true;
-            }
-        } else if (stamp + queue->lap == tail + 1) {
-            atomic_thread_fence(memory_order_seq_cst);
-            if (atomic_load_explicit(&queue->head, memory_order_relaxed) + queue->lap == tail) return false;
-            tail = atomic_load_explicit(&queue->tail, memory_order_relaxed);
-        } else {
-            tail = atomic_load_explicit(&queue->tail, memory_order_relaxed);
-        }
-    }
-}
-
-static bool pop(struct queue *queue, struct item *item) {
-    uint64_t head = atomic_load_explicit(&queue->head, memory_order_relaxed);
-    for (;;) {
-        uint64_t index = head & (queue->lap - 1), next = index + 1 < queue->capacity ? head + 1 : (head & ~(queue->lap - 1)) + queue->lap;
-        struct slot *slot = &queue->slots[index];
-        uint64_t stamp = atomic_load_explicit(&slot->stamp, memory_order_acquire);
-        if (stamp == head + 1) {
-            if (atomic_compare_exchange_weak_explicit(&queue->head, &head, next, memory_order_seq_cst, memory_order_relaxed)) {
-                *item = slot->item;
-                atomic_store_explicit(&slot->stamp, head + queue->lap, memory_order_release);
-                return true;
-            }
-        } else if (stamp == head) {
-            atomic_thread_fence(memory_order_seq_cst);
-            if (atomic_load_explicit(&queue->tail, memory_order_relaxed) == head) return false;
-            head = atomic_load_explicit(&queue->head, memory_order_relaxed);
-        } else {
-            head = atomic_load_explicit(&queue->head, memory_order_relaxed);
-        }
-    }
-}
 
 struct hand *hand_open(uint16_t end_system, unsigned links, unsigned lmax, unsigned capacity, unsigned ports, size_t max) {
     struct hand *it = aligned_alloc(128, (sizeof *it + 127) / 128 * 128);
@@ -114,13 +68,14 @@ struct hand *hand_open(uint16_t end_system, unsigned links, unsigned lmax, unsig
         link->id = (uint16_t)(k + 1);
         link->room = lmax - 39;
         link->gap = 1000;
-        link->queue.capacity = capacity;
-        for (link->queue.lap = 1; link->queue.lap <= capacity; link->queue.lap *= 2) {}
-        link->queue.slots = calloc(capacity, sizeof *link->queue.slots);
-        for (unsigned s = 0; link->queue.slots && s < capacity; s++) atomic_init(&link->queue.slots[s].stamp, s);
+        open_queue(&link->queue, capacity);
     }
     for (unsigned k = 0; k < ports; k++)
-        it->port[k] = (struct port){.source = (uint16_t)(1000 + k), .destination = 2000, .link = (uint16_t)(k % links), .partition = 1, .max = max};
+        it->port[k] = (struct port){.source = (uint16_t)(1000 + k), .destination = 2000, .link = (uint16_t)(k % links), .partition = 1, .max = max,
+            .sender = {.most = (uint64_t)1 << 40}};
+#ifdef DUTIES
+    it->out[0].stands = it->out[1].stands = true;
+#endif
     return it;
 }
 
@@ -129,7 +84,7 @@ void hand_free(struct hand *it) {
         struct item item;
         while (pop(&it->link[k].queue, &item)) free(item.bytes);
         free(it->link[k].cut.bytes);
-        free(it->link[k].queue.slots);
+        free_queue(&it->link[k].queue);
     }
     free(it);
 }
@@ -141,7 +96,7 @@ int hand_send(struct hand *it, unsigned port, const uint8_t *message, size_t len
     uint8_t *bytes = malloc(length);
     if (!bytes) return HAND_FULL;
     memcpy(bytes, message, length);
-    if (push(&it->link[from->link].queue, (struct item){bytes, length, port})) return HAND_OK;
+    if (push(&it->link[from->link].queue, &from->sender, (struct item){bytes, length, port})) return HAND_OK;
     free(bytes);
     return HAND_FULL;
 }
@@ -196,17 +151,8 @@ static size_t write_frame(const struct hand *it, struct link *link, uint8_t *fra
     return end + 1;
 }
 
-static void serve(struct hand *it, struct link *link, uint64_t now) {
-    if (!link->cut.bytes) {
-        if (!pop(&link->queue, &link->cut)) return;
-        link->total = 8 + link->cut.length;
-        link->sent = 0;
-    }
-    struct out *a = &it->out[0], *b = &it->out[1];
-    size_t length = write_frame(it, link, a->frames[a->count]);
-    memcpy(b->frames[b->count], a->frames[a->count], length);
-    b->frames[b->count][11] = 0x40;
-    a->lengths[a->count++] = b->lengths[b->count++] = length;
+/* Ends the turn of a link that sent a frame. */
+static void end_turn(struct link *link, uint64_t now) {
     link->number = link->number == 255 ? 1 : (uint8_t)(link->number + 1);
     link->last = now;
     link->served = true;
@@ -217,6 +163,74 @@ static void serve(struct hand *it, struct link *link, uint64_t now) {
     }
 }
 
+/* Whether a message of the link is being sent, after a look into its queue if none was. */
+static bool has_message(struct link *link) {
+    if (link->cut.bytes) return true;
+    if (!pop(&link->queue, &link->cut)) return false;
+    link->total = 8 + link->cut.length;
+    link->sent = 0;
+    return true;
+}
+
+#ifdef DUTIES
+/* Gives a network a frame that is only lent, unless it failed before or fails now. */
+static void give(struct out *out, uint64_t now, const uint8_t *frame, size_t length) {
+    if (!out->stands) return;
+    if (atomic_load(&out->fails) || out->count == UINT64_MAX) {
+        out->failures++;
+        out->stands = false;
+        return;
+    }
+    struct kept *kept = &out->kept[out->count++ % HAND_LINKS];
+    kept->at = now;
+    memcpy(kept->frame, frame, length);
+    kept->length = length;
+}
+
+static uint64_t plus(uint64_t count, uint64_t more) {
+    return count > UINT64_MAX - more ? UINT64_MAX : count + more;
+}
+
+static void serve(struct hand *it, struct link *link, uint64_t now) {
+    if (!has_message(link)) return;
+    uint8_t *frame = it->frame;
+    size_t length = write_frame(it, link, frame);
+    give(&it->out[0], now, frame, length);
+    frame[11] = 0x40;
+    give(&it->out[1], now, frame, length);
+    frame[11] = 0x20;
+    link->due = plus(now, link->gap);
+    if (it->out[0].stands || it->out[1].stands) {
+        link->frames = plus(link->frames, 1);
+        link->bytes = plus(link->bytes, length);
+        link->messages = plus(link->messages, frame[20] < 0x20);
+        link->latest = now;
+    } else {
+        link->lost = true;
+    }
+    end_turn(link, now);
+}
+
+void hand_poll(struct hand *it, uint64_t now) {
+    if (now < it->now || !(it->out[0].stands || it->out[1].stands)) return;
+    it->now = now;
+    it->out[0].begun = it->out[0].count;
+    it->out[1].begun = it->out[1].count;
+    for (unsigned k = 0; k < it->links; k++) {
+        struct link *link = &it->link[k];
+        if (now >= link->due && (it->out[0].stands || it->out[1].stands)) serve(it, link, now);
+    }
+}
+#else
+static void serve(struct hand *it, struct link *link, uint64_t now) {
+    if (!has_message(link)) return;
+    struct kept *a = &it->out[0].kept[it->out[0].count++], *b = &it->out[1].kept[it->out[1].count++];
+    a->length = b->length = write_frame(it, link, a->frame);
+    memcpy(b->frame, a->frame, a->length);
+    b->frame[11] = 0x40;
+    end_turn(link, now);
+}
+
 void hand_poll(struct hand *it, uint64_t now) {
     it->out[0].count = it->out[1].count = 0;
     for (unsigned k = 0; k < it->links; k++) {
@@ -224,14 +238,16 @@ void hand_poll(struct hand *it, uint64_t now) {
         if (!link->served || now - link->last >= link->gap) serve(it, link, now);
     }
 }
+#endif
 
 size_t hand_frames(const struct hand *it, unsigned network) {
-    return it->out[network].count;
+    return it->out[network].count - it->out[network].begun;
 }
 
 const uint8_t *hand_frame(const struct hand *it, unsigned network, size_t k, size_t *length) {
-    *length = it->out[network].lengths[k];
-    return it->out[network].frames[k];
+    const struct kept *kept = &it->out[network].kept[(it->out[network].begun + k) % HAND_LINKS];
+    *length = kept->length;
+    return kept->frame;
 }
 
 /* A network that reads a byte of each frame, at each place in turn, and keeps no frame. */
@@ -271,7 +287,7 @@ uint64_t hand_cut(struct hand *it, uint8_t *const *messages, unsigned count, siz
 void hand_pass(struct hand *it, unsigned times) {
     struct item item = {NULL, 1, 0};
     for (unsigned k = 0; k < times; k++)
-        if (!push(&it->link[0].queue, item) || !pop(&it->link[0].queue, &item)) abort();
+        if (!push(&it->link[0].queue, &it->port[0].sender, item) || !pop(&it->link[0].queue, &item)) abort();
 }
 
 size_t hand_take(struct hand *it) {

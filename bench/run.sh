@@ -2,16 +2,22 @@
 # Compares the proved library with a transmitter written by hand in C, and with lwIP, and prints one table (bench.c).
 #
 #     bash bench/run.sh [ROUNDS | --few]
+#     bash bench/run.sh --duties [ROUNDS]
 #     bash bench/run.sh --against OLD.a [ROUNDS]
 #
 # It proves and builds the library and the program of crates/refusals where they are missing, as in a fresh clone. With
 # --few, as in the test command, it measures each work once, which shows that the bench works and that all make the same
-# frames; its last line counts. With --against it compares the library with an older one, in turn.
+# frames; its last line counts. With --duties the transmitter in C has the library's duties too (hand.h): what is left is
+# the cost of how the library does them. With --against it compares the library with an older one, in turn.
 set -eu
 old=
+flags=()
 if [ "${1-}" = --against ]; then
     old=$(realpath "$2")
     shift 2
+elif [ "${1-}" = --duties ]; then
+    flags=(-DDUTIES)
+    shift
 fi
 cd "$(dirname "$0")"
 kit=$(dirname "$(rt doc)")
@@ -28,7 +34,7 @@ fi
 
 # Builds the driver over a library.
 build() {
-    ${CC:-cc} -O3 -std=gnu11 -Wall -Wextra -Werror -Wpedantic -Wconversion -I../crates/afdx bench.c hand.c "$1" \
+    ${CC:-cc} -O3 -std=gnu11 -Wall -Wextra -Werror -Wpedantic -Wconversion "${flags[@]}" -I../crates/afdx bench.c hand.c "$1" \
         "$kit/c/liblibc_c.a" "${lwip[@]}" -lpthread -o "$2"
 }
 

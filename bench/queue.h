@@ -1,0 +1,157 @@
+/* The bounded queues of the transmitter by hand (hand.c), to which any number of threads may send and from which one takes. */
+#ifndef QUEUE_H
+#define QUEUE_H
+
+#include <stdatomic.h>
+#include <stdbool.h>
+#include <stddef.h>
+#include <stdint.h>
+#include <stdlib.h>
+
+/* A message in a queue. */
+struct item {
+    uint8_t *bytes;
+    size_t length;
+    unsigned port;
+};
+
+/* What a sender of a queue knows with DUTIES: how often it may ask for a slot and has asked, how many of its messages were
+   accepted, and its last place and slot. */
+struct sender {
+    uint64_t most, asked, accepted, place, slot;
+};
+
+#ifdef DUTIES
+/* A bounded queue as the library's, in which nothing is accepted after a close, and a sender that stops holds back its own
+   queue alone. `room` is over NO_ROOM by the number of free slots, the upper bit of `tail` says that the queue is closed,
+   and ready[k] is one more than the place that is ready in slot k. */
+#define NO_ROOM ((uint64_t)1 << 32)
+
+struct queue {
+    _Atomic uint64_t room, tail, *ready;
+    struct item *slots;
+    uint64_t capacity, taken, slot;
+};
+
+static void open_queue(struct queue *queue, unsigned capacity) {
+    *queue = (struct queue){.capacity = capacity};
+    queue->slots = calloc(capacity, sizeof *queue->slots);
+    queue->ready = calloc(capacity, sizeof *queue->ready);
+    atomic_init(&queue->room, NO_ROOM + capacity);
+}
+
+static void free_queue(struct queue *queue) {
+    free(queue->slots);
+    free((void *)queue->ready);
+}
+
+static bool push(struct queue *queue, struct sender *sender, struct item item) {
+    if (atomic_load(&queue->tail) >> 63 || sender->asked == sender->most) return false;
+    sender->asked++;
+    if (atomic_fetch_sub(&queue->room, 1) <= NO_ROOM) {
+        atomic_fetch_add(&queue->room, 1);
+        return false;
+    }
+    uint64_t place = atomic_fetch_add(&queue->tail, 1);
+    if (place >> 63) {
+        atomic_fetch_add(&queue->room, 1);
+        return false;
+    }
+    uint64_t ahead = place - sender->place, slot = sender->slot + ahead;
+    if (ahead >= queue->capacity) {
+        slot = place % queue->capacity;
+    } else if (slot >= queue->capacity) {
+        slot -= queue->capacity;
+    }
+    if (queue->slots[slot].bytes) abort();
+    queue->slots[slot] = item;
+    atomic_store(&queue->ready[slot], place + 1);
+    sender->place = place;
+    sender->slot = slot;
+    sender->accepted++;
+    return true;
+}
+
+static bool pop(struct queue *queue, struct item *item) {
+    if (atomic_load(&queue->ready[queue->slot]) != queue->taken + 1) return false;
+    *item = queue->slots[queue->slot];
+    queue->slots[queue->slot] = (struct item){NULL, 0, 0};
+    atomic_fetch_add(&queue->room, 1);
+    queue->taken++;
+    queue->slot = queue->slot + 1 < queue->capacity ? queue->slot + 1 : 0;
+    return true;
+}
+#else
+/* A bounded queue by compare-and-swap, as crossbeam's ArrayQueue: a slot's stamp is its turn's number when it is free to
+   be written, and one more when it is written. */
+struct slot {
+    _Atomic uint64_t stamp;
+    struct item item;
+};
+
+struct queue {
+    _Alignas(128) _Atomic uint64_t head;
+    _Alignas(128) _Atomic uint64_t tail;
+    _Alignas(128) struct slot *slots;
+    uint64_t capacity, lap;
+};
+
+static void open_queue(struct queue *queue, unsigned capacity) {
+    queue->capacity = capacity;
+    for (queue->lap = 1; queue->lap <= capacity; queue->lap *= 2) {}
+    queue->slots = calloc(capacity, sizeof *queue->slots);
+    for (unsigned s = 0; queue->slots && s < capacity; s++) atomic_init(&queue->slots[s].stamp, s);
+}
+
+static void free_queue(struct queue *queue) {
+    free(queue->slots);
+}
+
+static bool push(struct queue *queue, struct sender *sender, struct item item) {
+    (void)sender;
+    uint64_t tail = atomic_load_explicit(&queue->tail, memory_order_relaxed);
+    for (;;) {
+        uint64_t index = tail & (queue->lap - 1), next = index + 1 < queue->capacity ? tail + 1 : (tail & ~(queue->lap - 1)) + queue->lap;
+        struct slot *slot = &queue->slots[index];
+        uint64_t stamp = atomic_load_explicit(&slot->stamp, memory_order_acquire);
+        if (stamp == tail) {
+            if (atomic_compare_exchange_weak_explicit(&queue->tail, &tail, next, memory_order_seq_cst, memory_order_relaxed)) {
+                slot->item = item;
+                atomic_store_explicit(&slot->stamp, tail + 1, memory_order_release);
+                return true;
+            }
+        } else if (stamp + queue->lap == tail + 1) {
+            atomic_thread_fence(memory_order_seq_cst);
+            if (atomic_load_explicit(&queue->head, memory_order_relaxed) + queue->lap == tail) return false;
+            tail = atomic_load_explicit(&queue->tail, memory_order_relaxed);
+        } else {
+            tail = atomic_load_explicit(&queue->tail, memory_order_relaxed);
+        }
+    }
+}
+
+static bool pop(struct queue *queue, struct item *item) {
+    uint64_t head = atomic_load_explicit(&queue->head, memory_order_relaxed);
+    for (;;) {
+        uint64_t index = head & (queue->lap - 1), next = index + 1 < queue->capacity ? head + 1 : (head & ~(queue->lap - 1)) + queue->lap;
+        struct slot *slot = &queue->slots[index];
+        uint64_t stamp = atomic_load_explicit(&slot->stamp, memory_order_acquire);
+        if (stamp == head + 1) {
+            if (atomic_compare_exchange_weak_explicit(&queue->head, &head, next, memory_order_seq_cst, memory_order_relaxed)) {
+                *item = slot->item;
+                atomic_store_explicit(&slot->stamp, head + queue->lap, memory_order_release);
+                return true;
+            }
+        } else if (stamp == head) {
+            atomic_thread_fence(memory_order_seq_cst);
+            if (atomic_load_explicit(&queue->tail, memory_order_relaxed) == head) return false;
+            head = atomic_load_explicit(&queue->head, memory_order_relaxed);
+        } else {
+            head = atomic_load_explicit(&queue->head, memory_order_relaxed);
+        }
+    }
+}
+
+#endif
+
+#endif
