@@ -6,8 +6,8 @@
 #     bash bench/run.sh --against OLD.a [ROUNDS]
 #
 # It proves and builds the library and the program of crates/refusals where they are missing, as in a fresh clone. With
-# --few, as in the test command, it measures each work once, which shows that the bench works and that all make the same
-# frames; its last line counts. With --duties the transmitter in C has the library's duties too (hand.h): what is left is
+# --few, as in the test command, it measures each work once, with and without --duties, which shows that the bench works
+# and that all make the same frames; its last line counts. With --duties the transmitter in C has the library's duties too (hand.h): what is left is
 # the cost of how the library does them. With --against it compares the library with an older one, in turn.
 set -eu
 old=
@@ -44,7 +44,10 @@ if [ -n "$old" ]; then
     "$room/bench" "${1-11}" "" "$room/old"
 elif [ "${1-}" = --few ]; then
     "$room/bench" 1 "$parts"
-    echo "1 passed, 0 failed"
+    flags=(-DDUTIES)
+    build "$library" "$room/duties"
+    "$room/duties" 1 "$parts"
+    echo "2 passed, 0 failed"
 else
     "$room/bench" "${1-11}" "$parts"
 fi
