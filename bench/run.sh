@@ -7,8 +7,9 @@
 #
 # It proves and builds the library and the program of crates/refusals where they are missing, as in a fresh clone. With
 # --few, as in the test command, it measures each work once, with and without --duties, which shows that the bench works
-# and that all make the same frames; its last line counts. With --duties the transmitter in C has the library's duties too (hand.h): what is left is
-# the cost of how the library does them. With --against it compares the library with an older one, in turn.
+# and that all make the same frames; its last line counts. With --duties the transmitter in C has the library's duties
+# too (hand.h): what is left is the cost of how the library does them. With --against it compares the library with an
+# older one, in turn.
 set -eu
 old=
 flags=()
