@@ -2,8 +2,8 @@
 ghost use Rattle.std.specs.Prelude.{◌≤◌};
 
 use crate::files::{create, open};
-use plan_analysis::{Analysis, LATENESS_LIMIT, analyze, write_analysis, write_page};
-use plan_report::{End, Failure, Halting, read_plan};
+use plan_analysis::{Analysis, LATENESS_LIMIT, analyze};
+use plan_report::{End, Failure, Halting, read_plan, write_analysis, write_page};
 use std::alloc::Global;
 use std::fs::File;
 use std::io::{self, BufWriter, Write};

@@ -1,4 +1,3 @@
 pub mod Load
 pub mod Wait
 pub mod Analysis
-pub mod Text

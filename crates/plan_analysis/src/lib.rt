@@ -3,22 +3,16 @@
 #![tactic(auto)]
 
 mod analysis;
-mod bars;
 mod fragments;
 mod limits;
 mod link_row;
 mod load;
 mod network_row;
-mod numbers;
-mod page;
 mod port_row;
-mod style;
-mod text;
 
 pub use analysis::{Analysis, analyze};
 pub use limits::{JITTER_LIMIT, LATENESS_LIMIT};
 pub use link_row::LinkRow;
+pub use load::carries;
 pub use network_row::{NetworkName, NetworkRow};
-pub use page::write_page;
 pub use port_row::PortRow;
-pub use text::write_analysis;

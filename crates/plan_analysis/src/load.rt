@@ -24,7 +24,7 @@ pub(crate) fn window_bits(link: &LinkPlan) -> u64
 }
 
 /// Whether a network carries a link.
-pub(crate) fn carries(network: NetworkName, networks: Networks) -> bool
+pub fn carries(network: NetworkName, networks: Networks) -> bool
     ensures { result ≡ is_on network networks }
 {
     match network {

@@ -1,3 +1,4 @@
+pub mod AnalysisText
 pub mod Halting
 pub mod Reading
 pub mod Report

@@ -11,6 +11,7 @@ use Rattle.afdx_plan.specs.declared.link_plan.LinkPlan.{LinkPlan}
 use Rattle.afdx_plan.specs.declared.networks.Networks.{Networks}
 use Rattle.afdx_plan.specs.declared.networks.Networks.TheVariants.{Both, OnlyA, OnlyB}
 use Rattle.afdx_plan.specs.declared.port_plan.PortPlan.{PortPlan}
+use Rattle.plan_analysis.specs.declared.limits.TheConstants.{JITTER_LIMIT}
 
 -- the line of the end system
 unfoldable pub end_system_line : ℕ → List ℕ
@@ -68,8 +69,8 @@ port_line port = way_text port ++ flow_text port ++ codes ", " ++ destination_te
 
 -- the jitter in nanoseconds, its limit, and whether it is exceeded
 unfoldable pub jitter_line : ℕ → List ℕ
-jitter_line jitter = codes "jitter " ++ decimal jitter ++ codes " ns, limit " ++ decimal 500000
-    ++ (if nat_lt 500000 jitter then codes ", exceeded" ++ 10 ∷ [] else 10 ∷ [])
+jitter_line jitter = codes "jitter " ++ decimal jitter ++ codes " ns, limit " ++ decimal JITTER_LIMIT
+    ++ (if nat_lt JITTER_LIMIT jitter then codes ", exceeded" ++ 10 ∷ [] else 10 ∷ [])
 
 -- the whole report
 unfoldable pub report_of : Plan → List ℕ

@@ -5,12 +5,10 @@ ghost use Rattle.plan_report.specs.Report.{kind_name as name_of_kind, checksum_t
 ghost use Rattle.plan_report.specs.Report.{end_system_line, jitter_line, report_of, link_line, way_text, flow_text, port_line};
 
 use afdx_plan::{Config, Kind, LinkPlan, Networks, PortPlan, UdpSum, jitter_ns};
+use plan_analysis::JITTER_LIMIT;
 use std::fmt;
 use std::io::{self, Write};
 use std::net::Ipv4Addr;
-
-/// The jitter limit, in nanoseconds. The report marks a greater jitter as exceeded.
-const JITTER_LIMIT: u64 = 500_000;
 
 /// Writes the report on a plan: a line each for the end system, every link and every port, in the
 /// order of the configuration, and a last one for the jitter.

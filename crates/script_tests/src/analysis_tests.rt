@@ -2,8 +2,8 @@
 ghost use Rattle.std.specs.Prelude.{◌≤◌};
 
 use crate::helpers::*;
-use plan_analysis::{LATENESS_LIMIT, analyze, write_analysis, write_page};
-use plan_report::read_plan;
+use plan_analysis::{LATENESS_LIMIT, analyze};
+use plan_report::{read_plan, write_analysis, write_page};
 
 // The demonstration: 11 fragments may come before the six of a message.
 const ANALYSIS: &str = "end system 1, polls up to 0 us late

@@ -7,11 +7,11 @@ pub(crate) struct Load(pub(crate) u64);
 
 impl fmt::Display for Load {
     ghost use Rattle.std.specs.Prelude.{Some};
-    ghost use Rattle.plan_analysis.specs.Text.{thousandths};
+    ghost use Rattle.plan_report.specs.AnalysisText.{thousandths};
 
     ghost output = { λ load. Some (thousandths 11 load.0) };
 
-    #[tactic(auto, unfolding(crate::specs::Text::thousandths))]
+    #[tactic(auto, unfolding(crate::specs::AnalysisText::thousandths))]
     fn fmt<W: fmt::Write>(&self, f: &mut fmt::Formatter<W>) -> fmt::Result {
         let whole = self.0 / 1_000;
         let rest = self.0 % 1_000;
@@ -25,11 +25,11 @@ pub(crate) struct Share(pub(crate) u64);
 
 impl fmt::Display for Share {
     ghost use Rattle.std.specs.Prelude.{Some};
-    ghost use Rattle.plan_analysis.specs.Text.{hundredths};
+    ghost use Rattle.plan_report.specs.AnalysisText.{hundredths};
 
     ghost output = { λ share. Some (hundredths 6 share.0) };
 
-    #[tactic(auto, unfolding(crate::specs::Text::hundredths))]
+    #[tactic(auto, unfolding(crate::specs::AnalysisText::hundredths))]
     fn fmt<W: fmt::Write>(&self, f: &mut fmt::Formatter<W>) -> fmt::Result {
         let whole = self.0 / 100;
         let rest = self.0 % 100;
@@ -43,11 +43,11 @@ pub(crate) struct Rate(pub(crate) u64);
 
 impl fmt::Display for Rate {
     ghost use Rattle.std.specs.Prelude.{Some};
-    ghost use Rattle.plan_analysis.specs.Text.{thousandths};
+    ghost use Rattle.plan_report.specs.AnalysisText.{thousandths};
 
     ghost output = { λ rate. Some (thousandths 9 rate.0) };
 
-    #[tactic(auto, unfolding(crate::specs::Text::thousandths))]
+    #[tactic(auto, unfolding(crate::specs::AnalysisText::thousandths))]
     fn fmt<W: fmt::Write>(&self, f: &mut fmt::Formatter<W>) -> fmt::Result {
         let whole = self.0 / 1_000;
         let rest = self.0 % 1_000;

@@ -1,8 +1,8 @@
 use Rattle.std.proofs.Common.{take}
 use Rattle.std.specs.Io.KnownBytes.{Appends}
 use Rattle.std.specs.List.{flat_map}
-use Rattle.plan_analysis.specs.Text.{port_line}
-use Rattle.plan_analysis.proofs.text.write_ports.Given as goal
+use Rattle.plan_report.specs.AnalysisText.{port_line}
+use Rattle.plan_report.proofs.analysis_text.write_ports.Given as goal
 
 abbrev pub invariant-loop-port : goal.invariant-loop-port
 invariant-loop-port g l = Appends (g.W.Write.contents l.initial.writer) (g.W.Write.contents l.writer) (flat_map port_line (take l.port-index l.ports))

@@ -1,14 +1,9 @@
 //! The page of an analysis: one self-contained HTML file.
-use crate::analysis::Analysis;
+use crate::analysis_text::{network_name, networks_cell};
 use crate::bars::{Bar, Mark, Parts, TRACK};
-use crate::limits::JITTER_LIMIT;
-use crate::link_row::LinkRow;
-use crate::load::carries;
-use crate::network_row::NetworkRow;
 use crate::numbers::{Load, Rate, Share};
-use crate::port_row::PortRow;
 use crate::style::STYLE;
-use crate::text::{network_name, networks_cell};
+use plan_analysis::{Analysis, JITTER_LIMIT, LinkRow, NetworkRow, PortRow, carries};
 use std::fmt;
 use std::io::{self, Write};
 

@@ -1,21 +1,17 @@
 //! The text of an analysis.
 ghost use Rattle.std.specs.Prelude.{◌≡◌, OnOk, flat_map};
 ghost use Rattle.std.specs.Io.KnownBytes.{Appends};
-ghost use Rattle.plan_analysis.specs.Text.{head_line, links_head, link_line, jitter_line, network_line, ports_head, port_line, links_table, networks_table, ports_table, text_of};
-ghost use Rattle.plan_analysis.specs.Text.{networks_cell as cell_of_networks, network_name as name_of_network, exceeded_cell as cell_of_exceeded};
+ghost use Rattle.plan_report.specs.AnalysisText.{head_line, links_head, link_line, jitter_line, network_line, ports_head, port_line, links_table, networks_table, ports_table, text_of};
+ghost use Rattle.plan_report.specs.AnalysisText.{networks_cell as cell_of_networks, network_name as name_of_network, exceeded_cell as cell_of_exceeded};
 
-use crate::analysis::Analysis;
-use crate::limits::JITTER_LIMIT;
-use crate::link_row::LinkRow;
-use crate::network_row::{NetworkName, NetworkRow};
 use crate::numbers::{Load, Rate, Share};
-use crate::port_row::PortRow;
 use afdx_plan::Networks;
+use plan_analysis::{Analysis, JITTER_LIMIT, LinkRow, NetworkName, NetworkRow, PortRow};
 use std::io::{self, Write};
 
 /// Writes an analysis as text: one table each for links, networks and ports. Each row is a line of
 /// words, so a script can split it.
-#[tactic(auto, unfolding(crate::specs::Text::text_of))]
+#[tactic(auto, unfolding(crate::specs::AnalysisText::text_of))]
 pub fn write_analysis<W: Write>(writer: &mut W, analysis: &Analysis) -> io::Result<()>
     ensures { OnOk result (Appends (W.contents writer.old) (W.contents writer.new)
         (text_of analysis.now)) }
@@ -26,7 +22,7 @@ pub fn write_analysis<W: Write>(writer: &mut W, analysis: &Analysis) -> io::Resu
     write_ports_table(writer, analysis.ports.as_slice())
 }
 
-#[tactic(auto, unfolding(crate::specs::Text::links_table))]
+#[tactic(auto, unfolding(crate::specs::AnalysisText::links_table))]
 fn write_links_table<W: Write>(writer: &mut W, links: &[LinkRow], jitter: u64) -> io::Result<()>
     ensures { OnOk result (Appends (W.contents writer.old) (W.contents writer.new)
         (links_table links.now jitter)) }
@@ -36,7 +32,7 @@ fn write_links_table<W: Write>(writer: &mut W, links: &[LinkRow], jitter: u64) -
     write_jitter(writer, jitter)
 }
 
-#[tactic(auto, unfolding(crate::specs::Text::networks_table, crate::specs::Text::networks_head))]
+#[tactic(auto, unfolding(crate::specs::AnalysisText::networks_table, crate::specs::AnalysisText::networks_head))]
 fn write_networks_table<W: Write>(writer: &mut W, a: &NetworkRow, b: &NetworkRow) -> io::Result<()>
     ensures { OnOk result (Appends (W.contents writer.old) (W.contents writer.new)
         (networks_table a.now b.now)) }
@@ -46,7 +42,7 @@ fn write_networks_table<W: Write>(writer: &mut W, a: &NetworkRow, b: &NetworkRow
     write_network(writer, b)
 }
 
-#[tactic(auto, unfolding(crate::specs::Text::ports_table))]
+#[tactic(auto, unfolding(crate::specs::AnalysisText::ports_table))]
 fn write_ports_table<W: Write>(writer: &mut W, ports: &[PortRow]) -> io::Result<()>
     ensures { OnOk result (Appends (W.contents writer.old) (W.contents writer.new)
         (ports_table ports.now)) }
@@ -55,7 +51,7 @@ fn write_ports_table<W: Write>(writer: &mut W, ports: &[PortRow]) -> io::Result<
     write_ports(writer, ports)
 }
 
-#[tactic(auto, unfolding(crate::specs::Text::head_line))]
+#[tactic(auto, unfolding(crate::specs::AnalysisText::head_line))]
 fn write_head<W: Write>(writer: &mut W, end_system: u16, lateness: u64) -> io::Result<()>
     ensures { OnOk result (Appends (W.contents writer.old) (W.contents writer.new)
         (head_line end_system lateness)) }
@@ -66,7 +62,7 @@ fn write_head<W: Write>(writer: &mut W, end_system: u16, lateness: u64) -> io::R
     )
 }
 
-#[tactic(auto, unfolding(crate::specs::Text::links_head))]
+#[tactic(auto, unfolding(crate::specs::AnalysisText::links_head))]
 fn write_links_head<W: Write>(writer: &mut W) -> io::Result<()>
     ensures { OnOk result (Appends (W.contents writer.old) (W.contents writer.new)
         links_head) }
@@ -84,7 +80,7 @@ fn write_links<W: Write>(writer: &mut W, links: &[LinkRow]) -> io::Result<()>
     Ok(())
 }
 
-#[tactic(auto, unfolding(crate::specs::Text::link_line, crate::specs::Text::link_cells))]
+#[tactic(auto, unfolding(crate::specs::AnalysisText::link_line, crate::specs::AnalysisText::link_cells))]
 fn write_link<W: Write>(writer: &mut W, row: &LinkRow) -> io::Result<()>
     ensures { OnOk result (Appends (W.contents writer.old) (W.contents writer.new)
         (link_line row.now)) }
@@ -113,7 +109,7 @@ pub(crate) fn networks_cell(networks: Networks) -> &'static str
     }
 }
 
-#[tactic(auto, unfolding(crate::specs::Text::jitter_line))]
+#[tactic(auto, unfolding(crate::specs::AnalysisText::jitter_line))]
 fn write_jitter<W: Write>(writer: &mut W, jitter: u64) -> io::Result<()>
     ensures { OnOk result (Appends (W.contents writer.old) (W.contents writer.new)
         (jitter_line jitter)) }
@@ -126,7 +122,7 @@ fn write_jitter<W: Write>(writer: &mut W, jitter: u64) -> io::Result<()>
     writeln!(writer, "jitter {jitter} ns of {JITTER_LIMIT}{exceeded}")
 }
 
-#[tactic(auto, unfolding(crate::specs::Text::network_line))]
+#[tactic(auto, unfolding(crate::specs::AnalysisText::network_line))]
 fn write_network<W: Write>(writer: &mut W, row: &NetworkRow) -> io::Result<()>
     ensures { OnOk result (Appends (W.contents writer.old) (W.contents writer.new)
         (network_line row.now)) }
@@ -153,7 +149,7 @@ fn exceeded_cell(exceeded: bool) -> &'static str
     if exceeded { "       yes" } else { "        no" }
 }
 
-#[tactic(auto, unfolding(crate::specs::Text::ports_head))]
+#[tactic(auto, unfolding(crate::specs::AnalysisText::ports_head))]
 fn write_ports_head<W: Write>(writer: &mut W) -> io::Result<()>
     ensures { OnOk result (Appends (W.contents writer.old) (W.contents writer.new)
         ports_head) }
@@ -171,7 +167,7 @@ fn write_ports<W: Write>(writer: &mut W, ports: &[PortRow]) -> io::Result<()>
     Ok(())
 }
 
-#[tactic(auto, unfolding(crate::specs::Text::port_line, crate::specs::Text::port_cells))]
+#[tactic(auto, unfolding(crate::specs::AnalysisText::port_line, crate::specs::AnalysisText::port_cells))]
 fn write_port<W: Write>(writer: &mut W, row: &PortRow) -> io::Result<()>
     ensures { OnOk result (Appends (W.contents writer.old) (W.contents writer.new)
         (port_line row.now)) }
