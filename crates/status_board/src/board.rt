@@ -2,6 +2,8 @@
 ghost use Rattle.std.specs.Prelude.{◌≡◌, ◌<◌, length, slice_set};
 ghost use Rattle.status_board.specs.History.{NoFieldFalls, value_of, StartsWith};
 ghost use Rattle.status_board.specs.Views.{published, last_of, with_entry, IsReading};
+ghost use Rattle.status_board.specs.Rule.{hearing};
+ghost use Rattle.crossbeam_utils.specs.Seq.{cell_view, IsSamePass};
 
 use crate::counts::Counts;
 use crate::monitor::Reader;
@@ -63,6 +65,18 @@ impl Model for Writer {
         × ((cell_view w.pass).writes ≡ true) × ((cell_view w.pass).reads ≡ false) };
 }
 
+// One end of a cell hears what the other knows of the history.
+fn tell(cell: &Cell, teller: &mut Knowing, hearer: &mut Knowing)
+    requires teller { teller.old.table_id ≡ cell.now.table.shared.table_id }
+    requires hearer { hearer.old.table_id ≡ cell.now.table.shared.table_id }
+    ensures teller { IsSamePass teller.old teller.new × (cell_view teller.new ≡ cell_view teller.old) }
+    ensures hearer { IsSamePass hearer.old hearer.new
+        × (cell_view hearer.new ≡ hearing (cell_view hearer.old) (cell_view teller.old)) }
+{
+    let told = cell.split_pass::<Tells>(teller);
+    cell.join_pass::<Tells>(hearer, told);
+}
+
 impl Writer {
     /// Adds an entry to the history.
     #[inline(always)]
@@ -82,8 +96,7 @@ impl Writer {
         ensures reader { reader.new ≡ reader.old }
         ensures begins { StartsWith self.old.history reader.old.history }
     {
-        let told = self.cell.split_pass::<Tells>(&mut reader.pass);
-        self.cell.join_pass::<Tells>(&mut self.pass, told);
+        tell(&self.cell, &mut reader.pass, &mut self.pass);
         self.cell.load_as::<Compares, R>(rt, &mut self.pass);
     }
 
@@ -94,8 +107,7 @@ impl Writer {
         ensures reading { IsReading reader.old result reader.new }
         ensures whole { reader.new.history ≡ self.old.history }
     {
-        let told = self.cell.split_pass::<Tells>(&mut self.pass);
-        self.cell.join_pass::<Tells>(&mut reader.pass, told);
+        tell(&self.cell, &mut self.pass, &mut reader.pass);
         let found = self.cell.load_as::<Loads, R>(rt, &mut reader.pass);
         self.compare(rt, reader);
         found

@@ -1,28 +1,20 @@
 use Rattle.std.proofs.Common.{rules, List, ap, ◌∙◌, subst}
 use Rattle.crossbeam_utils.specs.Seq.{cell_view}
 use Rattle.status_board.specs.declared.counts.Counts.{Counts}
-use Rattle.status_board.specs.declared.rule.Stamped.{Stamped}
 use Rattle.status_board.specs.declared.rule.View.{View}
 use Rattle.status_board.specs.History.{StartsWith}
 use Rattle.status_board.specs.Rule.{counts_of}
 use Rattle.status_board.proofs.Histories.{counts_start}
-use Rattle.status_board.proofs.Steps.{tells, hears, compares}
+use Rattle.status_board.proofs.Steps.{compares}
 use Rattle.status_board.proofs.board.Writer.compare.Goals as goal
 
-pub split_pass-told-requires : goal.split_pass-told-requires
-split_pass-told-requires g c = (search rules, (search rules, (search rules, tells _ _)))
-
-pub join_pass-requires : goal.join_pass-requires
-join_pass-requires g c = (search rules, (search rules, ((search rules, search rules, search rules), hears _ _ _ _)))
-
 pub load_as-requires : goal.load_as-requires
-load_as-requires g c = (search rules, (search rules, (search rules, compares _ _ (ap (λ v. v.writes) c.join_pass.ensures.1 ∙ c.self.invariant.1))))
+load_as-requires g c = (search rules, (search rules, (search rules, compares _ _ (ap (λ v. v.writes) c.tell.ensures.hearer.1 ∙ c.self.invariant.1))))
 
 pub returns-clause-begins : goal.returns-clause-begins
 returns-clause-begins g c =
     let mine = (cell_view c.self.inside.pass).history in
-    let known = subst (λ (v : View). StartsWith v.history v.heard) c.join_pass.ensures.1 c.load_as.ensures.rule.begins in
-    let told = subst (λ (l : List Stamped). StartsWith mine l) (ap (λ v. v.history) c.split_pass-told.ensures.given.1) known in
-    let counts = counts_start _ _ told in
+    let known = subst (λ (v : View). StartsWith v.history v.heard) c.tell.ensures.hearer.1 c.load_as.ensures.rule.begins in
+    let counts = counts_start _ _ known in
     subst (λ (l : List Counts). StartsWith l c.args.reader.now.history) (ap (λ p. p.history) c.self.view_is)
     (subst (λ (l : List Counts). StartsWith (counts_of mine) l) (ap (λ p. p.history) c.reader.view_is) counts)
