@@ -1,7 +1,7 @@
 #!/usr/bin/env python3
 """Tests `afdx_bench report`: its text against numbers that are computed here from the plan, its page against its text,
-number by number, its waits against runs of the end system, and its ends when an allocation or a write fails. The last line
-is 'N passed, M failed'.
+number by number, its waits against runs of the end system, and its ends when an allocation or a write fails. And what
+`afdx_bench check` prints of the same plans. `fixed.py` has plans with fixed texts. The last line is 'N passed, M failed'.
 
     python3 examples/report/test_report.py [PLANS]
 
@@ -22,9 +22,11 @@ HERE = os.path.dirname(os.path.abspath(__file__))
 ROOT = os.path.dirname(os.path.dirname(HERE))
 PROGRAM = f"{ROOT}/crates/afdx_bench/out/afdx_bench"
 sys.dont_write_bytecode = True
-sys.path.insert(0, f"{ROOT}/tools")
+sys.path[:0] = [f"{ROOT}/tools", HERE]
+import fixed  # noqa: E402
 import refusals  # noqa: E402
 import refusals_wanted  # noqa: E402
+from trying import DEMO  # noqa: E402
 
 Plan = dict
 Tables = dict[str, list[list[str]]]
@@ -35,7 +37,7 @@ def up(value: Fraction) -> int:
     return -(-value.numerator // value.denominator)
 
 
-def fixed(value: int, digits: int) -> str:
+def decimal(value: int, digits: int) -> str:
     """A number of parts as a decimal with `digits` digits after the point."""
     return f"{value // 10**digits}.{value % 10**digits:0{digits}}"
 
@@ -57,20 +59,40 @@ def wanted(plan: Plan, lateness: int) -> Tables:
     for link in plan["vl"]:
         bits, name = load[link["id"]], {"both": "A+B", "a": "A", "b": "B"}[link.get("networks", "both")]
         tables["links"].append(
-            [*(str(link[key]) for key in ("id", "bag_ms", "lmax", "sub_vls")), name, fixed(up(bits), 3), fixed(up(bits / 10_000), 2)]
+            [*(str(link[key]) for key in ("id", "bag_ms", "lmax", "sub_vls")), name, decimal(up(bits), 3), decimal(up(bits / 10_000), 2)]
             + [str(80 * (link["lmax"] + 20))]
         )
     for name, kinds in carried.items():
         bits = sum((load[link["id"]] for link in plan["vl"] if link.get("networks", "both") in kinds), Fraction())
-        tables["networks"].append([name, fixed(up(bits), 3), fixed(up(bits / 10_000), 2), "yes" if bits > 10**8 else "no"])
+        tables["networks"].append([name, decimal(up(bits), 3), decimal(up(bits / 10_000), 2), "yes" if bits > 10**8 else "no"])
     for port in plan["port"]:
         link = links[port["vl"]]
         own = pieces(link, port["max"])
         most = max(pieces(link, other["max"]) for other in plan["port"] if (other["vl"], other["sub"]) == (port["vl"], port["sub"]))
         wait = link["sub_vls"] * (link["capacity"] * most - 1 + own) * (1000 * link["bag_ms"] + lateness)
-        often = fixed(10**6 // (link["bag_ms"] * own), 3)
+        often = decimal(10**6 // (link["bag_ms"] * own), 3)
         tables["ports"].append([*(str(port[key]) for key in ("id", "vl", "sub")), str(own), str(wait), often])
     return tables
+
+
+def jitter_of(plan: Plan) -> int:
+    """The jitter of a plan, in nanoseconds."""
+    return 40_000 + sum(80 * (link["lmax"] + 20) for link in plan["vl"])
+
+
+def check_of(plan: Plan) -> str:
+    """What `check` prints of a plan."""
+    lines = [f"end system {plan['end_system']['id']}"]
+    for link in plan["vl"]:
+        on = {"both": "", "a": ", network A", "b": ", network B"}[link.get("networks", "both")]
+        size = f"bag {link['bag_ms']} ms, lmax {link['lmax']}, sub-VLs {link['sub_vls']}, capacity {link['capacity']}"
+        lines.append(f"link {link['id']}: {size}{on}")
+    for port in plan["port"]:
+        way = f"link {port['vl']} sub {port['sub']}, partition {port['partition']}, {port['kind']}"
+        flow = f"{port['source']} to {port['destination']}, max {port['max']}, {port.get('dest_ip', 'multicast')}"
+        lines.append(f"port {port['id']}: {way}, {flow}" + ", checksum udp" * (port.get("checksum") == "udp"))
+    jitter = jitter_of(plan)
+    return "\n".join([*lines, f"jitter {jitter} ns, limit 500000" + ", exceeded" * (jitter > 500_000), ""])
 
 
 class Page(html.parser.HTMLParser):
@@ -107,11 +129,31 @@ class Page(html.parser.HTMLParser):
             self.named[self.name] = data
 
 
-def report(text: str, *words: str) -> subprocess.CompletedProcess[str]:
-    """Runs a report of a configuration's text, in a folder of its own. `page.html` is the page."""
+def ran(command: str, text: str, *words: str) -> subprocess.CompletedProcess[str]:
+    """Runs a command on a configuration's text."""
     with open("plan.toml", "w", encoding="utf-8") as file:
         file.write(text)
-    return subprocess.run([PROGRAM, "report", "plan.toml", *words], capture_output=True, text=True, check=False, timeout=60)
+    return subprocess.run([PROGRAM, command, "plan.toml", *words], capture_output=True, text=True, check=False, timeout=60)
+
+
+def report(text: str, *words: str) -> subprocess.CompletedProcess[str]:
+    """Runs a report of a configuration's text. `page.html` is the page."""
+    return ran("report", text, *words)
+
+
+def text_faults(command: str, text: str, wanted: str, *words: str) -> Iterator[str]:
+    """What is wrong with what a command prints of a configuration's text."""
+    done = ran(command, text, *words)
+    if (done.returncode, done.stdout, done.stderr) != (0, wanted, ""):
+        yield f"{done} for\n{wanted}"
+
+
+def fixed_faults() -> Iterator[str]:
+    """What is wrong with the plans of `fixed.py`."""
+    for text, wanted in fixed.checks():
+        yield from text_faults("check", text, wanted)
+    for (text, lateness), wanted in fixed.ANALYSES.items():
+        yield from text_faults("report", text, wanted, "--lateness", str(lateness))
 
 
 def tables_of(text: str) -> Tables:
@@ -128,21 +170,25 @@ def tables_of(text: str) -> Tables:
 
 
 def faults_of(text: str, lateness: int) -> Iterator[str]:
-    """What is wrong with the report of a configuration's text, and with its page."""
+    """What is wrong with the report of a configuration's text, with its page, and with what `check` prints."""
     plan = tomllib.loads(text)
-    ran = report(text, "--lateness", str(lateness), "--html", "page.html")
-    if ran.returncode:
-        yield f"status {ran.returncode}: {ran.stderr}"
+    yield from text_faults("check", text, check_of(plan))
+    done = report(text, "--lateness", str(lateness), "--html", "page.html")
+    if done.returncode:
+        yield f"status {done.returncode}: {done.stderr}"
         return
-    jitter = 40_000 + sum(80 * (link["lmax"] + 20) for link in plan["vl"])
+    jitter = jitter_of(plan)
     line = f"jitter {jitter} ns of 500000" + (", exceeded" if jitter > 500_000 else "")
-    if line not in ran.stdout.splitlines():
+    if line not in done.stdout.splitlines():
         yield f"no line {line}"
-    if ran.stdout.splitlines()[0] != f"end system {plan['end_system']['id']}, polls up to {lateness} us late":
-        yield f"first line {ran.stdout.splitlines()[0]}"
+    if done.stdout.splitlines()[0] != f"end system {plan['end_system']['id']}, polls up to {lateness} us late":
+        yield f"first line {done.stdout.splitlines()[0]}"
     with open("page.html", encoding="utf-8") as file:
-        page = Page(file.read())
-    told, shown = tables_of(ran.stdout), {name: [row for row in rows if row] for name, rows in page.tables.items()}
+        whole = file.read()
+    if not (whole.startswith("<!DOCTYPE html>") and whole.endswith("</html>\n")):
+        yield f"the page is {whole[:40]} .. {whole[-40:]}"
+    page = Page(whole)
+    told, shown = tables_of(done.stdout), {name: [row for row in rows if row] for name, rows in page.tables.items()}
     for name, rows in wanted(plan, lateness).items():
         yield from (f"text, {name}: {is_} for {to_be}" for is_, to_be in zip(told.get(name, []), rows, strict=False) if is_ != to_be)
         if told.get(name) != rows or shown.get(name) != rows:
@@ -221,6 +267,7 @@ def wait_faults(seed: int) -> Iterator[str]:
     rng = random.Random(seed)
     text, ports, port = random_plan(rng)
     lateness = rng.choice((0, 0, 1, 250, 999))
+    yield from text_faults("check", text, check_of(tomllib.loads(text)))
     printed, last = worst_wait(text, ports, port, lateness, rng)
     busy = {other["sub"] for other in ports}
     every = len(busy) == tomllib.loads(text)["vl"][0]["sub_vls"]
@@ -245,23 +292,24 @@ def refusal_faults(text: str, *more: str) -> Iterator[str]:
 def main() -> int:
     """Runs all tests."""
     plans = int(sys.argv[1]) if sys.argv[1:] else 500
-    demo = open(f"{ROOT}/examples/c/demo.toml", encoding="utf-8").read()
     four = [port_of(10 + i, 1, sub, size) for i, (sub, size) in enumerate(((0, 10), (0, 1000), (1, 200), (2, 8192), (3, 1), (3, 5000)))]
     link = {"id": 1, "bag_ms": 2, "lmax": 200, "sub_vls": 4, "capacity": 3}
     lone = {"id": 2, "bag_ms": 128, "lmax": 65, "sub_vls": 1, "capacity": 1, "networks": "b"}
     full = [{"id": k, "bag_ms": 1, "lmax": 1518, "sub_vls": 1, "capacity": 1, "networks": "a"} for k in range(9)]
     tries = {
-        "the demonstration": lambda: faults_of(demo, 0),
+        "plans with fixed texts": fixed_faults,
+        "the demonstration": lambda: faults_of(DEMO, 0),
+        "a page of unequal ports": lambda: faults_of(fixed.UNEQUAL, 250),
         "four sub-VLs of unequal ports, and a link on one network": lambda: faults_of(
             configuration([link, lone], [*four, port_of(30, 2, 0, 41)]), 250
         ),
         "a network that is exceeded": lambda: faults_of(configuration(full, [port_of(k, k, 0, 8192) for k in range(9)]), 0),
         "the greatest plan": lambda: faults_of(greatest(), 1_000_000),
         "a page in the place of its configuration": lambda: (
-            [] if report(demo, "--html", "plan.toml").returncode == 4 and open("plan.toml", encoding="utf-8").read() == demo else ["it is made"]
+            [] if report(DEMO, "--html", "plan.toml").returncode == 4 and open("plan.toml", encoding="utf-8").read() == DEMO else ["it is made"]
         ),
-        "refused memory and writes": lambda: refusal_faults(demo),
-        "refused memory and writes, with a page": lambda: refusal_faults(demo, "--html", "page.html"),
+        "refused memory and writes": lambda: refusal_faults(DEMO),
+        "refused memory and writes, with a page": lambda: refusal_faults(DEMO, "--html", "page.html"),
         f"{plans} waits": lambda: (fault for seed in range(plans) for fault in wait_faults(seed)),
     }
     failed = 0
