@@ -1,22 +1,13 @@
-//! Tests of scripts: their lines, whole runs, and their transcripts. Every short script runs against a model
-//! made of bounded lists. And tests of the program's other parts: its words, the reports on a plan, failures
-//! and exit statuses.
+//! Tests of the program's libraries: lines and transcripts of scripts, captures, readers and writers that fail,
+//! words, failures and exit statuses. What a whole command prints of a text is tried in `examples/`.
 #![tactic(auto)]
 
-#[cfg(test)]
-mod analysis_tests;
-#[cfg(test)]
-mod every_script_tests;
 #[cfg(test)]
 mod helpers;
 #[cfg(test)]
 mod line_tests;
 #[cfg(test)]
-mod plan_tests;
-#[cfg(test)]
 mod report_tests;
-#[cfg(test)]
-mod run_tests;
 #[cfg(test)]
 mod stream_tests;
 #[cfg(test)]

@@ -41,8 +41,8 @@ pub const FAULTS: [(LineFault, u8, &str); 6] = [
     (LineFault::Memory, 6, "Memory"),
 ];
 
-/// Lines that have each of the first four faults, with commas between them.
-pub const LINES: [(LineFault, &str); 4] = [
+// Lines that have each of the first four faults, with commas between them.
+const LINES: [(LineFault, &str); 4] = [
     (
         LineFault::Word,
         "sand 10 01,send,send 10,send x,at,Send 10 01,sendd 10 01,close,close 1,close x,closed 1 0,\
@@ -80,7 +80,7 @@ fn a_line_has_its_fault(rt: HostRuntime) {
 #[test]
 fn a_line_of_20_001_bytes_is_long(rt: HostRuntime) {
     let mut line = vec![in rt.alloc(); b' '; 20_001].expect(&rt, "memory");
-    for first in *b" #x" {
+    for &first in b" #x" {
         line[0] = first;
         assert_fault(&rt, &line, LineFault::Long);
     }
@@ -121,15 +121,18 @@ fn lines_lose_their_ends(rt: HostRuntime) {
     assert_lines(&rt, text, &lines, Ok(Next::End));
 }
 
+// Asserts what a reader has that gives 20,000 blanks and then this end.
+fn assert_blanks(rt: &impl Host, blanks: &str, end: &str, lines: &[&str], next: Next) {
+    let text = joined(rt, &[blanks, end]);
+    assert_lines(rt, text.as_bytes(), lines, Ok(next));
+}
+
 #[test]
 fn a_line_ends_within_20_000_bytes(rt: HostRuntime) {
     let blanks = repeated(&rt, " ", 20_000);
-    let blanks = blanks.as_str();
-    let text = joined(&rt, &[blanks, "\r\n"]);
-    assert_lines(&rt, text.as_bytes(), &[blanks], Ok(Next::End));
-    for end in ["\r\n", "\n", ""] {
-        let longer = joined(&rt, &[blanks, " ", end]);
-        assert_lines(&rt, longer.as_bytes(), &[], Ok(Next::Long));
+    assert_blanks(&rt, &blanks, "\r\n", &[&blanks], Next::End);
+    for &end in &[" \r\n", " \n", " "] {
+        assert_blanks(&rt, &blanks, end, &[], Next::Long);
     }
 }
 

@@ -1,6 +1,5 @@
 //! Tests of what a run writes, and of captures.
 use crate::helpers::*;
-use crate::run_tests::FIRST_LINES;
 use capture::write_capture;
 use redundant_mux::Network;
 use tx_script::{FrameLog, Outcome, Refusal, RunFault, Summary, write_note, write_streams};
@@ -40,24 +39,38 @@ const FRAME: [u8; 60] = *b"\x03\x00\x00\x00\x00\x01\x02\x00\x00\x00\x01\x20\x08\
     \x03\xe8\x07\xd0\x00\x09\x00\x00\x01\
     \x00\x00\x00\x00\x00\x00\x00\x00\x00\x00\x00\x00\x00\x00\x00\x00\x00";
 
+// The lines of this frame, of a frame of one byte at the last time, and of its twin.
+const LINES: &str = "\
+    A 0 03000000000102000000012008004500001d000000000111cdee0a000101e0e0000103e807d\
+    000090000010000000000000000000000000000000000\n\
+    A 18446744073709551615 ab\n\
+    B 0 03000000000102000000014008004500001d000000000111cdee0a000101e0e0000103e807d\
+    000090000010000000000000000000000000000000000\n";
+
+// A network that accepted one frame.
+fn log_of(rt: &impl Host, at: u64, frame: &[u8]) -> FrameLog {
+    assert!(rt; frame.len() <= 1_514);
+    let mut log = FrameLog::new(rt.alloc());
+    log.hand(at, frame).expect(rt, "memory");
+    log
+}
+
 #[test]
 fn the_frames_of_a_come_before_those_of_b(rt: HostRuntime) {
-    let (mut for_a, mut for_b) = (FrameLog::new(rt.alloc()), FrameLog::new(rt.alloc()));
-    for_a.hand(0, &FRAME).expect(&rt, "memory");
-    for_a.hand(u64::MAX, &[0xab]).expect(&rt, "memory");
     let mut twin = FRAME;
     twin[11] = 0x40;
-    for_b.hand(0, &twin).expect(&rt, "memory");
+    let (mut a, b) = (FrameLog::new(rt.alloc()), log_of(&rt, 0, &twin));
+    a.hand(0, &FRAME).expect(&rt, "memory");
+    a.hand(u64::MAX, &[0xab]).expect(&rt, "memory");
     let mut text = Vec::new(rt.alloc());
-    let told = (write_streams(&mut text, &for_a, &for_b), text.as_slice());
-    let wanted = replaced(&rt, FIRST_LINES, "B", "A 18446744073709551615 ab\nB");
-    assert_same(&rt, told, (Ok(()), wanted.as_bytes()), "the lines");
+    let told = write_streams(&mut text, &a, &b);
+    let written = (told, text.as_slice());
+    assert_same(&rt, written, (Ok(()), LINES.as_bytes()), "the lines");
 }
 
 #[test]
 fn a_full_writer_is_a_failure_to_write(rt: HostRuntime) {
-    let (none, mut one) = (FrameLog::new(rt.alloc()), FrameLog::new(rt.alloc()));
-    one.hand(0, &FRAME).expect(&rt, "memory");
+    let (none, one) = (FrameLog::new(rt.alloc()), log_of(&rt, 0, &FRAME));
     let mut room = [0u8; 60];
     let mut text = room.as_mut_slice();
     let frames = write_streams(&mut text, &none, &one);
@@ -154,14 +167,12 @@ fn assert_capture(rt: &impl Host, a: &FrameLog, b: &FrameLog, wanted: &[&[u8]]) 
 
 #[test]
 fn the_earlier_frame_comes_first(rt: HostRuntime) {
-    let (mut a, mut b) = (FrameLog::new(rt.alloc()), FrameLog::new(rt.alloc()));
-    assert_capture(&rt, &a, &b, &[&HEADER]);
-    a.hand(0x1_0000_0002, &ON_A).expect(&rt, "memory");
-    b.hand(3, &ON_B).expect(&rt, "memory");
+    let (none, a) = (FrameLog::new(rt.alloc()), log_of(&rt, 0x1_0000_0002, &ON_A));
+    assert_capture(&rt, &none, &none, &[&HEADER]);
     let parts: [&[u8]; 7] = [
         &HEADER, &FRONT_B, &ON_B, &BEHIND_B, &FRONT_A, &ON_A, &BEHIND_A,
     ];
-    assert_capture(&rt, &a, &b, &parts);
+    assert_capture(&rt, &a, &log_of(&rt, 3, &ON_B), &parts);
 }
 
 #[test]

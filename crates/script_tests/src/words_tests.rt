@@ -150,6 +150,7 @@ fn a_failure_has_its_text(rt: HostRuntime) {
     }
     for &(fault, number, name) in &FAULTS {
         let wanted = InlineText::<64>::of(format_args!("script line 7: {number} {name}"));
-        assert_text(&rt, Failure::Run(at_line(7, fault)), wanted.as_str());
+        let in_line = RunFault::Line { line: 7, fault };
+        assert_text(&rt, Failure::Run(in_line), wanted.as_str());
     }
 }
