@@ -29,7 +29,23 @@ use afdx_handle::{
 };
 use std::alloc::Global;
 
-// The answer of `$answer` over the end system in a handle. The box is taken out meanwhile.
+// The answer of `$answer` over what a handle holds, of the kind that the method `$kind` looks for. The box is
+// taken out meanwhile.
+macro_rules! look_in {
+    ($handle:expr, $kind:ident, $held:ident => $answer:expr) => {{
+        let Some(home) = $handle.take() else {
+            return NOT_HELD;
+        };
+        let answer = match home.$kind() {
+            Ok($held) => $answer,
+            Err(number) => number,
+        };
+        $handle.put(home);
+        answer
+    }};
+}
+
+// The same over the end system in a handle, which may be changed.
 macro_rules! with_end {
     ($handle:expr, $held:ident => $answer:expr) => {{
         let Some(mut home) = $handle.take() else {
@@ -41,28 +57,6 @@ macro_rules! with_end {
                 None => NOT_HELD,
             },
             Home::Port(_) => WRONG_HANDLE,
-            Home::Nothing => NOT_HELD,
-        };
-        $handle.put(home);
-        answer
-    }};
-}
-
-// The answer of `$answer` over the port in a handle. The box is taken out meanwhile.
-macro_rules! with_port {
-    ($handle:expr, $held:ident => $answer:expr) => {{
-        let Some(mut home) = $handle.take() else {
-            return NOT_HELD;
-        };
-        let answer = match &mut *home {
-            Home::Port(own) => {
-                let $held = &mut own.port;
-                $answer
-            }
-            Home::EndSystem(inside) => match **inside {
-                Some(_) => WRONG_HANDLE,
-                None => NOT_HELD,
-            },
             Home::Nothing => NOT_HELD,
         };
         $handle.put(home);
@@ -163,7 +157,7 @@ pub extern "C" fn afdx_ports(it: &mut Handle, ids: &mut [u16], count: &mut usize
     ensures unwritten { result ≢ DONE → ids.new ≡ ids.old }
     ensures uncounted { 32 ≤ result → result ≢ SMALL_BUFFER → count.new ≡ count.old }
 {
-    with_end!(it, end_system => end_system.port_ids(ids, count))
+    look_in!(it, end_system, end => end.port_ids(ids, count))
 }
 
 /// Writes the identifiers of the links, in the order of the configuration, and their number.
@@ -182,7 +176,7 @@ pub extern "C" fn afdx_links(it: &mut Handle, ids: &mut [u16], count: &mut usize
     ensures unwritten { result ≢ DONE → ids.new ≡ ids.old }
     ensures uncounted { 32 ≤ result → result ≢ SMALL_BUFFER → count.new ≡ count.old }
 {
-    with_end!(it, end_system => end_system.link_ids(ids, count))
+    look_in!(it, end_system, end => end.link_ids(ids, count))
 }
 
 /// Copies a message in, at the end of the queue of the port's sub-VL.
@@ -198,7 +192,19 @@ pub extern "C" fn afdx_send(alloc: Global, port: &mut Handle, message: &[u8]) ->
     ensures unsent { result ≡ MEMORY → HoldsSame port.old.kept.home port.new.kept.home }
     ensures misused { 32 ≤ result → HoldsSame port.old.kept.home port.new.kept.home }
 {
-    with_port!(port, own => send(alloc, own, message))
+    let Some(mut home) = port.take() else {
+        return NOT_HELD;
+    };
+    let answer = match &mut *home {
+        Home::Port(own) => send(alloc, &mut own.port, message),
+        Home::EndSystem(inside) => match **inside {
+            Some(_) => WRONG_HANDLE,
+            None => NOT_HELD,
+        },
+        Home::Nothing => NOT_HELD,
+    };
+    port.put(home);
+    answer
 }
 
 /// Writes the number of a port's accepted messages.
@@ -212,7 +218,7 @@ pub extern "C" fn afdx_accepted(port: &mut Handle, count: &mut u64) -> u8
     ensures same { HoldsSame port.old.kept.home port.new.kept.home }
     ensures unwritten { result ≢ DONE → count.new ≡ count.old }
 {
-    with_port!(port, own => {
+    look_in!(port, port, own => {
         *count = own.accepted();
         DONE
     })
@@ -248,8 +254,8 @@ pub extern "C" fn afdx_next_due(it: &mut Handle, at: &mut u64) -> u8
     ensures same { HoldsSame it.old.kept.home it.new.kept.home }
     ensures unwritten { result ≢ DONE → at.new ≡ at.old }
 {
-    with_end!(it, end_system => {
-        *at = end_system.next_due();
+    look_in!(it, end_system, end => {
+        *at = end.next_due();
         DONE
     })
 }
@@ -267,9 +273,9 @@ pub extern "C" fn afdx_frames(it: &mut Handle, network: u8, count: &mut usize) -
     ensures same { HoldsSame it.old.kept.home it.new.kept.home }
     ensures unwritten { result ≢ DONE → count.new ≡ count.old }
 {
-    with_end!(it, end_system => match net_of(network) {
+    look_in!(it, end_system, end => match net_of(network) {
         Some(net) => {
-            *count = end_system.frames(net);
+            *count = end.frames(net);
             DONE
         }
         None => NO_NETWORK,
@@ -305,8 +311,8 @@ pub extern "C" fn afdx_frame(
     ensures same { HoldsSame it.old.kept.home it.new.kept.home }
     ensures unwritten { result ≢ DONE → (buffer.new ≡ buffer.old) × (size.new ≡ size.old) }
 {
-    with_end!(it, end_system => match net_of(network) {
-        Some(net) => end_system.frame(net, k, buffer, size),
+    look_in!(it, end_system, end => match net_of(network) {
+        Some(net) => end.frame(net, k, buffer, size),
         None => NO_NETWORK,
     })
 }
@@ -343,8 +349,8 @@ pub extern "C" fn afdx_all_frames(
     ensures unwritten { result ≢ DONE → (buffer.new ≡ buffer.old) × (lengths.new ≡ lengths.old) }
     ensures uncounted { 32 ≤ result → result ≢ SMALL_BUFFER → count.new ≡ count.old }
 {
-    with_end!(it, end_system => match net_of(network) {
-        Some(net) => end_system.all_frames(net, buffer, lengths, count),
+    look_in!(it, end_system, end => match net_of(network) {
+        Some(net) => end.all_frames(net, buffer, lengths, count),
         None => NO_NETWORK,
     })
 }
@@ -359,9 +365,9 @@ pub extern "C" fn afdx_fail(it: &mut Handle, network: u8) -> u8
         (IsSome (end_of it.old.kept.home) × IsNone (net_of network)) }
     ensures same { HoldsSame it.old.kept.home it.new.kept.home }
 {
-    with_end!(it, end_system => match net_of(network) {
+    look_in!(it, end_system, end => match net_of(network) {
         Some(net) => {
-            end_system.fail(net);
+            end.fail(net);
             DONE
         }
         None => NO_NETWORK,
@@ -399,7 +405,7 @@ pub extern "C" fn afdx_link_counts(it: &mut Handle, vl: u16, counts: &mut LinkCo
     ensures same { HoldsSame it.old.kept.home it.new.kept.home }
     ensures unwritten { result ≢ DONE → counts.new ≡ counts.old }
 {
-    with_end!(it, end_system => match end_system.counts(vl) {
+    look_in!(it, end_system, end => match end.counts(vl) {
         Ok(sent) => {
             *counts = LinkCounts {
                 frames: sent.frames,
@@ -427,7 +433,7 @@ pub extern "C" fn afdx_is_done(it: &mut Handle, done: &mut u8) -> u8
     ensures same { HoldsSame it.old.kept.home it.new.kept.home }
     ensures unwritten { result ≢ DONE → done.new ≡ done.old }
 {
-    with_end!(it, end_system => end_system.is_done(done))
+    look_in!(it, end_system, end => end.is_done(done))
 }
 
 /// Frees an end system.
@@ -439,7 +445,7 @@ pub extern "C" fn afdx_free(it: &mut Handle) -> u8
     ensures freed { result ≡ DONE → IsNone it.new.kept.home }
     ensures refused { result ≢ DONE → HoldsSame it.old.kept.home it.new.kept.home }
 {
-    let answer = with_end!(it, _end_system => DONE);
+    let answer = look_in!(it, end_system, _end => DONE);
     if answer == DONE {
         drop(it.take());
     }
@@ -455,7 +461,7 @@ pub extern "C" fn afdx_free_port(port: &mut Handle) -> u8
     ensures freed { result ≡ DONE → IsNone port.new.kept.home }
     ensures refused { result ≢ DONE → HoldsSame port.old.kept.home port.new.kept.home }
 {
-    let answer = with_port!(port, _own => DONE);
+    let answer = look_in!(port, port, _own => DONE);
     if answer == DONE {
         drop(port.take());
     }
