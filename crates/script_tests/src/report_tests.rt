@@ -35,27 +35,24 @@ fn assert_check(rt: &impl Host, text: impl Read + Drop, wanted: Checked, lines: 
     assert_same(rt, report.as_slice(), lines.as_bytes(), "the report");
 }
 
+const UNREAD: Checked = Err(Failure::Run(RunFault::Read));
+
+const NO_MEMORY: Checked = Err(Failure::Run(RunFault::Memory));
+
+// How a reader fails, and what `check` returns and writes then.
+const READS: [(ErrorKind, Checked, &str); 3] = [
+    (ErrorKind::InvalidData, UNREAD, ""),
+    (ErrorKind::OutOfMemory, NO_MEMORY, ""),
+    (ErrorKind::Interrupted, Ok(()), REPORT),
+];
+
 #[test]
 fn a_text_is_read_whole_or_not_at_all(rt: HostRuntime) {
-    let rows = [
-        (
-            ErrorKind::InvalidData,
-            Err(Failure::Run(RunFault::Read)),
-            "",
-        ),
-        (
-            ErrorKind::OutOfMemory,
-            Err(Failure::Run(RunFault::Memory)),
-            "",
-        ),
-        (ErrorKind::Interrupted, Ok(()), REPORT),
-    ];
-    for &(kind, wanted, report) in &rows {
+    for &(kind, wanted, report) in &READS {
         let reader = reader_of(DEMO.as_bytes(), DEMO.len(), Some(kind), 3);
         assert_check(&rt, reader, wanted, report);
     }
-    let failed = Err(Failure::Run(RunFault::Read));
-    assert_check(&rt, io::repeat(b'\n'), failed, "");
+    assert_check(&rt, io::repeat(b'\n'), UNREAD, "");
 }
 
 #[test]
@@ -109,19 +106,16 @@ fn an_interruption_is_no_failure(rt: HostRuntime) {
     }
 }
 
-// Asserts that a writer takes one text, none of the next, and fails from then on.
-fn assert_halts(rt: &impl Host, mut writer: impl Write + Drop) {
-    for &(text, written) in &[("one", Some(3)), ("two", Some(0)), ("three", None)] {
-        assert_same(rt, writer.write(text.as_bytes()).ok(), written, text);
-    }
-    let are_refused = (writer.flush().is_err(), writer.write_all(b"four").is_err());
-    assert_same(rt, are_refused, (true, true), "a flush and four");
-}
-
 #[test]
 fn each_later_call_fails(rt: HostRuntime) {
     let mut lapsing = Lapsing::new(&rt, 2, None);
-    assert_halts(&rt, Halting::new(&mut lapsing));
+    let mut writer = Halting::new(&mut lapsing);
+    for &(text, written) in &[("one", Some(3)), ("two", Some(0)), ("three", None)] {
+        assert_same(&rt, writer.write(text.as_bytes()).ok(), written, text);
+    }
+    let are_refused = (writer.flush().is_err(), writer.write_all(b"four").is_err());
+    assert_same(&rt, are_refused, (true, true), "a flush and four");
+    drop(writer);
     let written = (lapsing.writes, lapsing.text.as_slice());
     assert_same(&rt, written, (2, b"one".as_slice()), "writes and text");
 }
