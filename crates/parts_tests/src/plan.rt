@@ -1,42 +1,32 @@
 //! Tests of plans.
 use crate::config_read::only;
+use crate::frame::demo_port;
 use crate::testing::*;
-use afdx_plan::{Bag, ConfigFault, Kind, Lmax, PortId, VlId, demo_config, jitter_ns, laws};
+use afdx_plan::{Bag, ConfigFault, Lmax, PortId, VlId, demo_config, jitter_ns, laws};
 
 #[test]
 fn the_demonstration_is_one_link_and_one_port_which_are_found_by_their_identifiers(
     rt: HostRuntime,
 ) {
     let config = demo_config(rt.alloc()).expect(&rt, "memory");
-    let whole = (
-        config.end_system(),
-        config.links().len(),
-        jitter_ns(&config),
-    );
-    assert_same(&rt, whole, (1, 1, 163_040));
-    let port = only(&rt, config.ports());
-    let told = (
-        port.id,
-        port.vl,
-        port.kind,
-        port.source,
-        port.destination,
-        port.max,
-    );
-    let wanted = (PortId(10), VlId(1), Kind::Queuing, 1000, 2000, 8192);
-    assert_same(&rt, told, wanted);
-    let links = (config.link_index(VlId(1)), config.link_index(VlId(2)));
-    let ports = (config.port_index(PortId(10)), config.port_index(PortId(1)));
-    assert_same(&rt, (links, ports), ((Some(0), None), (Some(0), None)));
+    assert_same(&rt, (config.end_system(), jitter_ns(&config)), (1, 163_040));
+    let (_link, port) = only(&rt, &config);
+    assert_same(&rt, *port, demo_port());
+    let of_links = [config.link_index(VlId(1)), config.link_index(VlId(2))];
+    assert_same(&rt, of_links, [Some(0), None]);
+    let of_ports = [config.port_index(PortId(10)), config.port_index(PortId(1))];
+    assert_same(&rt, of_ports, [Some(0), None]);
     laws::flows_apart(&config);
 }
 
+// A gap in milliseconds and in microseconds; the greatest frame of a link, and its room.
 #[test]
 fn gaps_are_1_to_128_milliseconds_and_rooms_25_to_1479_bytes(rt: HostRuntime) {
-    for &(bag, ms, micros) in &[(Bag::Ms1, 1, 1_000), (Bag::Ms128, 128, 128_000)] {
+    for &(bag, ms, micros, lmax, bytes, room) in &[
+        (Bag::Ms1, 1, 1_000, Lmax::new(64), 64, 25),
+        (Bag::Ms128, 128, 128_000, Lmax::new(1518), 1518, 1479),
+    ] {
         assert_same(&rt, (bag.ms(), bag.micros()), (ms, micros));
-    }
-    for &(lmax, bytes, room) in &[(Lmax::new(64), 64, 25), (Lmax::new(1518), 1518, 1479)] {
         assert_same(&rt, (lmax.bytes(), lmax.room()), (bytes, room));
     }
 }
