@@ -1,23 +1,11 @@
 //! Tests of the UDP checksum, against a receiver that reassembles a message and sums all its words at once.
-ghost use Rattle.std.specs.Prelude.{◌≡◌, ◌≤◌, length};
-ghost use Rattle.afdx_plan.specs.Plan.{IsPort, SendsOver};
+ghost use Rattle.std.specs.Prelude.{◌≤◌, length};
+ghost use Rattle.afdx_plan.specs.Plan.{SendsOver};
 
-use crate::frame::{FIRST_FRAME, demo_port, link};
+use crate::frame::{FIRST_FRAME, link, port_with};
 use crate::testing::*;
 use afdx_frame::{Cut, Frame, Net};
-use afdx_plan::{LinkPlan, Lmax, PortPlan, UdpSum};
-
-/// The demonstration port, with checksums.
-fn summing_port() -> PortPlan
-    ensures port { IsPort result }
-    ensures vl { result.vl ≡ record { 0 = 1 } }
-    ensures sub { result.sub ≡ 0 }
-{
-    PortPlan {
-        checksum: UdpSum::Generated,
-        ..demo_port()
-    }
-}
+use afdx_plan::{LinkPlan, Lmax, UdpSum};
 
 /// The sum of the 16-bit words of bytes; an odd last byte is the high half of its word.
 fn words_of(bytes: &[u8]) -> u32 {
@@ -61,18 +49,28 @@ fn put_together(rt: &impl Abort, datagram: &mut Vec<u8>, cut: &mut Cut, link: &L
     }
 }
 
-/// The datagram that a receiver has of a message of a port, over frames of at most `lmax` bytes.
-fn receive(rt: &impl Host, port: &PortPlan, lmax: Lmax, message: &[u8]) -> Vec<u8>
-    requires port { IsPort port.now }
-    requires vl { port.now.vl ≡ record { 0 = 1 } }
-    requires sub { port.now.sub ≡ 0 }
+/// The checksum field of the datagram that a receiver has of a message of the demonstration port, over frames of at
+/// most `lmax` bytes, and its sum. Asserts the rest of the datagram.
+fn receive(rt: &impl Host, checksum: UdpSum, lmax: Lmax, message: &[u8]) -> ([u8; 2], u32)
     requires some { 1 ≤ length message.now }
     requires most { length message.now ≤ 8192 }
 {
-    let mut cut = Cut::new(message.to_vec(rt.alloc()).expect(rt, "memory"), 0, port);
+    let bytes = message.to_vec(rt.alloc()).expect(rt, "memory");
+    let mut cut = Cut::new(bytes, 0, &port_with(0, checksum));
     let mut datagram = Vec::new(rt.alloc());
     put_together(rt, &mut datagram, &mut cut, &link(lmax, 1));
-    datagram
+    drop(cut);
+    let sum = sum_of(&datagram);
+    let len = (8 + message.len() as u16).to_be_bytes();
+    match datagram.as_slice() {
+        [a, b, c, d, e, f, high, low, rest @ ..] => {
+            let ports_and_len = [0x03, 0xe8, 0x07, 0xd0, len[0], len[1]];
+            assert_same(rt, [*a, *b, *c, *d, *e, *f], ports_and_len);
+            assert_same(rt, rest, message);
+            ([*high, *low], sum)
+        }
+        _ => panic!(rt; "a UDP header"),
+    }
 }
 
 /// Asserts that a message passes a receiver's check if its port has checksums, which are never 0, and is otherwise
@@ -81,39 +79,23 @@ fn assert_checked(rt: &impl Host, lmax: Lmax, message: &[u8])
     requires some { 1 ≤ length message.now }
     requires most { length message.now ≤ 8192 }
 {
-    let without = receive(rt, &demo_port(), lmax, message);
-    let with = receive(rt, &summing_port(), lmax, message);
-    let none = Some([0u8, 0].as_slice());
-    assert_same(rt, without.get(6..8), none);
-    assert_same(rt, without.get(8..), Some(message));
-    let (front, rest) = (without.get(..6), without.get(8..));
-    assert_same(rt, (with.get(..6), with.get(8..)), (front, rest));
-    assert_same(rt, (with.get(6..8) == none, sum_of(&with)), (false, 0));
+    let (none, _sum) = receive(rt, UdpSum::Omitted, lmax, message);
+    let (field, sum) = receive(rt, UdpSum::Generated, lmax, message);
+    assert_same(rt, (none, field == [0, 0], sum), ([0, 0], false, 0));
 }
 
-/// Asserts the same of a message of `len` bytes, over the shortest and the longest frames.
-fn assert_len(rt: &impl Host, len: u16)
-    requires some { 1 ≤ len }
-    requires most { len ≤ 8192 }
-{
-    let mut message = vec![in rt.alloc(); 0xa5u8; len as usize].expect(rt, "memory");
+#[test]
+fn messages_of_1_to_1474_bytes_pass(rt: HostRuntime) {
+    let mut message = vec![in rt.alloc(); 0u8; 1474].expect(&rt, "memory");
     let mut next = 0xa5u8;
     for byte in message.iter_mut() {
         *byte = next;
         next = next.wrapping_mul(37).wrapping_add(91);
     }
-    assert_checked(rt, Lmax::new(64), &message);
-    assert_checked(rt, Lmax::new(1518), &message);
-}
-
-#[test]
-fn messages_of_1_to_40_bytes_and_at_the_edge_of_a_frame_pass(rt: HostRuntime) {
-    for len in 1..=40 {
-        assert_len(&rt, len);
-    }
     // a frame of 1,518 bytes carries 1,471 bytes of a message, and 1,464 if more follow
-    for len in 1463..=1474 {
-        assert_len(&rt, len);
+    for len in 1..=1474usize {
+        assert_checked(&rt, Lmax::new(64), &message[..len]);
+        assert_checked(&rt, Lmax::new(1518), &message[..len]);
     }
 }
 
@@ -128,8 +110,8 @@ fn each_message_of_two_bytes_passes(rt: HostRuntime) {
 
 #[test]
 fn a_computed_zero_is_sent_as_65_535(rt: HostRuntime) {
-    for &(message, field) in &[([0x08, 0x40], [0xff, 0xff]), ([0x08, 0x41], [0xff, 0xfe])] {
-        let datagram = receive(&rt, &summing_port(), Lmax::new(1518), &message);
-        assert_same(&rt, datagram.get(6..8), Some(field.as_slice()));
+    for &(last, wanted) in &[(0x40u8, [0xffu8, 0xff]), (0x41, [0xff, 0xfe])] {
+        let (field, _sum) = receive(&rt, UdpSum::Generated, Lmax::new(1518), &[0x08, last]);
+        assert_same(&rt, field, wanted);
     }
 }

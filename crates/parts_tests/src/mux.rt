@@ -3,7 +3,7 @@ ghost use Rattle.std.specs.Prelude.{◌≡◌};
 ghost use Rattle.afdx_frame.specs.Twin.{twin_of};
 ghost use Rattle.afdx_frame.specs.declared.net.Net.TheVariants.{A as ForA};
 
-use crate::frame::{FIRST_FRAME, first_frame_for_b};
+use crate::frame::{FIRST_FRAME, FIRST_FRAME_FOR_B};
 use crate::testing::*;
 use afdx_frame::Frame;
 use afdx_plan::Networks::{self, Both, OnlyA, OnlyB};
@@ -30,13 +30,13 @@ fn frame_for_a() -> Frame
     frame
 }
 
-// The times at which a network accepted a frame, and how often it failed.
-type Held = (&'static [u64], u64);
-
-fn assert_holds(rt: &impl Abort, network: &MemNetwork, frame: &[u8], (times, failures): Held) {
-    assert_same(rt, network.handed().len(), times.len());
-    for (entry, at) in network.handed().iter().zip(times) {
-        assert_same(rt, (entry.at, entry.frame.as_slice()), (*at, frame));
+// Asserts the times at which a network accepted a frame, and how often it failed.
+fn assert_holds(rt: &impl Abort, network: &MemNetwork, frame: &[u8], times: &[u64], failures: u64) {
+    let handed = network.handed();
+    assert!(rt; handed.len() == times.len());
+    for place in 0..times.len() {
+        assert_same(rt, handed[place].at, times[place]);
+        assert_same(rt, handed[place].frame.as_slice(), frame);
     }
     assert_same(rt, network.failures(), failures);
 }
@@ -44,8 +44,8 @@ fn assert_holds(rt: &impl Abort, network: &MemNetwork, frame: &[u8], (times, fai
 // The time of a hand, its networks, and its answer.
 type Hand = (u64, Networks, Result<Standing, BothDown>);
 
-fn assert_hand(rt: &impl Abort, mux: &mut Mux<MemNetwork, MemNetwork>, hand: Hand) {
-    let (at, networks, wanted) = hand;
+fn assert_hand(rt: &impl Abort, mux: &mut Mux<MemNetwork, MemNetwork>, hand: &Hand) {
+    let (at, networks, wanted) = *hand;
     assert_same(rt, mux.hand(at, &frame_for_a(), networks), wanted);
     let standing = wanted.unwrap_or(NEITHER);
     assert_same(rt, mux.standing(), standing);
@@ -54,73 +54,86 @@ fn assert_hand(rt: &impl Abort, mux: &mut Mux<MemNetwork, MemNetwork>, hand: Han
     assert_same(rt, mux.stands_for(Both), standing.a || standing.b);
 }
 
-// Hands the frame to two networks that fail at these hands, counted from 1. Asserts each answer, and what the
-// networks hold then. The frames differ in byte 11 alone.
-fn assert_hands(rt: &impl Host, fails: (u64, u64), hands: &[Hand], on_a: Held, on_b: Held) {
-    let a = MemNetwork::failing_at(rt.alloc(), fails.0);
-    let b = MemNetwork::failing_at(rt.alloc(), fails.1);
-    let mut mux = Mux::new(a, b);
-    for &hand in hands {
-        assert_hand(rt, &mut mux, hand);
-    }
-    let for_b = first_frame_for_b();
-    assert_holds(rt, mux.network_a(), &FIRST_FRAME, on_a);
-    assert_holds(rt, mux.network_b(), &for_b, on_b);
-    let (a, b) = mux.into_networks();
-    assert_holds(rt, &a, &FIRST_FRAME, on_a);
-    assert_holds(rt, &b, &for_b, on_b);
-}
+const A_FAILS: &[Hand] = &[
+    (0, Both, Ok(BOTH)),
+    (1, Both, Ok(ONLY_B)),
+    (2, Both, Ok(ONLY_B)),
+];
 
+const BOTH_FAIL: &[Hand] = &[
+    (0, Both, Ok(ONLY_A)),
+    (1, Both, Ok(NEITHER)),
+    (2, Both, Err(BothDown)),
+];
+
+const FOR_ONE: &[Hand] = &[
+    (0, OnlyA, Ok(BOTH)),
+    (1, OnlyB, Ok(BOTH)),
+    (2, OnlyA, Ok(ONLY_B)),
+    (3, OnlyA, Ok(ONLY_B)),
+];
+
+const AT_7: Hand = (7, Both, Ok(BOTH));
+
+const AT_8: Hand = (8, Both, Ok(ONLY_A));
+
+const AT_9: Hand = (9, Both, Ok(NEITHER));
+
+const AT_10: Hand = (10, Both, Err(BothDown));
+
+// The hands, counted from 1, at which the networks A and B fail; hands; and the times at which each network accepted
+// the frame, and how often it failed then.
+const RUNS: [(u64, u64, &[Hand], &[u64], u64, &[u64], u64); 8] = [
+    (2, NEVER, A_FAILS, &[0], 1, &[0, 1, 2], 0),
+    (2, 1, BOTH_FAIL, &[0], 1, &[], 1),
+    // a frame for one network goes to it alone, and nowhere if it is down
+    (2, NEVER, FOR_ONE, &[0], 1, &[1], 0),
+    // each network shows what it took so far until both are down
+    (NEVER, NEVER, &[AT_7], &[7], 0, &[7], 0),
+    (3, 2, &[], &[], 0, &[], 0),
+    (3, 2, &[AT_7], &[7], 0, &[7], 0),
+    (3, 2, &[AT_7, AT_8], &[7, 8], 0, &[7], 1),
+    (3, 2, &[AT_7, AT_8, AT_9, AT_10], &[7, 8], 1, &[7], 1),
+];
+
+// The frames differ in byte 11 alone.
 #[test]
 fn a_network_that_failed_gets_no_later_frame_and_both_are_an_error(rt: HostRuntime) {
-    let hands = [
-        (0, Both, Ok(BOTH)),
-        (1, Both, Ok(ONLY_B)),
-        (2, Both, Ok(ONLY_B)),
-    ];
-    assert_hands(&rt, (2, NEVER), &hands, (&[0], 1), (&[0, 1, 2], 0));
-    let hands = [
-        (0, Both, Ok(ONLY_A)),
-        (1, Both, Ok(NEITHER)),
-        (2, Both, Err(BothDown)),
-    ];
-    assert_hands(&rt, (2, 1), &hands, (&[0], 1), (&[], 1));
+    for &(a_fails, b_fails, hands, on_a, a_failures, on_b, b_failures) in &RUNS {
+        let a = MemNetwork::failing_at(rt.alloc(), a_fails);
+        let b = MemNetwork::failing_at(rt.alloc(), b_fails);
+        let mut mux = Mux::new(a, b);
+        for hand in hands {
+            assert_hand(&rt, &mut mux, hand);
+        }
+        assert_holds(&rt, mux.network_a(), &FIRST_FRAME, on_a, a_failures);
+        assert_holds(&rt, mux.network_b(), &FIRST_FRAME_FOR_B, on_b, b_failures);
+        let (a, b) = mux.into_networks();
+        assert_holds(&rt, &a, &FIRST_FRAME, on_a, a_failures);
+        assert_holds(&rt, &b, &FIRST_FRAME_FOR_B, on_b, b_failures);
+    }
 }
 
-#[test]
-fn a_frame_for_one_network_goes_to_it_alone_and_nowhere_if_it_is_down(rt: HostRuntime) {
-    let hands = [
-        (0, OnlyA, Ok(BOTH)),
-        (1, OnlyB, Ok(BOTH)),
-        (2, OnlyA, Ok(ONLY_B)),
-        (3, OnlyA, Ok(ONLY_B)),
-    ];
-    assert_hands(&rt, (2, NEVER), &hands, (&[0], 1), (&[1], 0));
-}
-
-#[test]
-fn each_network_shows_what_it_took_so_far_until_both_are_down(rt: HostRuntime) {
-    let hands = [
-        (7, Both, Ok(BOTH)),
-        (8, Both, Ok(ONLY_A)),
-        (9, Both, Ok(NEITHER)),
-        (10, Both, Err(BothDown)),
-    ];
-    assert_hands(&rt, (NEVER, NEVER), &hands[..1], (&[7], 0), (&[7], 0));
-    assert_hands(&rt, (3, 2), &[], (&[], 0), (&[], 0));
-    assert_hands(&rt, (3, 2), &hands[..1], (&[7], 0), (&[7], 0));
-    assert_hands(&rt, (3, 2), &hands[..2], (&[7, 8], 0), (&[7], 1));
-    assert_hands(&rt, (3, 2), &hands, (&[7, 8], 1), (&[7], 1));
-}
+// Hands of a time and bytes, their answers, and what the network holds then: how many frames, how many failures, and
+// the last frame.
+const HANDS: [(u64, &[u8], Result<(), HandFault>, usize, u64, u64, &[u8]); 3] = [
+    (10, &[1, 2], Ok(()), 1, 0, 10, &[1, 2]),
+    (20, &[3], Err(HandFault), 1, 1, 10, &[1, 2]),
+    (30, &[], Ok(()), 2, 1, 30, &[]),
+];
 
 #[test]
 fn a_network_takes_frames_before_and_after_the_hand_that_is_to_fail(rt: HostRuntime) {
     let mut network = MemNetwork::failing_at(rt.alloc(), 2);
-    assert_same(&rt, network.hand(10, &[1, 2]), Ok(()));
-    assert_same(&rt, network.hand(20, &[3]), Err(HandFault));
-    assert_holds(&rt, &network, &[1, 2], (&[10], 1));
-    assert_same(&rt, network.hand(30, &[]), Ok(()));
-    let last = network.handed().get(1).expect(&rt, "a second frame");
-    assert_same(&rt, (last.at, last.frame.len()), (30, 0));
-    assert_same(&rt, (network.handed().len(), network.failures()), (2, 1));
+    for &(at, bytes, wanted, frames, failures, last, last_bytes) in &HANDS {
+        assert!(rt; bytes.len() <= 2 && network.failures() <= 1);
+        assert_same(&rt, network.hand(at, bytes), wanted);
+        assert_same(
+            &rt,
+            (network.handed().len(), network.failures()),
+            (frames, failures),
+        );
+        let entry = network.handed().last().expect(&rt, "a frame");
+        assert_same(&rt, (entry.at, entry.frame.as_slice()), (last, last_bytes));
+    }
 }
