@@ -4,79 +4,93 @@ use crate::queue_testing::*;
 use crate::testing::*;
 use subvl_queue::{Why, make};
 
-#[test]
-fn a_queue_of_two_takes_two_messages_and_gives_them_in_order(rt: HostRuntime) {
-    const STEPS: &[Step] = &[
-        Accepted(0, 0),
-        Takes(None),
-        Sends(0, [1, 10], None),
-        Sends(0, [2, 20], None),
-        Sends(0, [3, 30], Some(Why::Full)),
-        Takes(Some([0, 1, 10])),
-        Sends(0, [4, 40], None),
-        Takes(Some([0, 2, 20])),
-        Takes(Some([0, 4, 40])),
-        Takes(None),
-        Accepted(0, 3),
-    ];
-    let _ends = play_one(&rt, 2, 10, STEPS);
-}
+const OF_TWO: &[Step] = &[
+    Accepted(0, 0),
+    Takes(None),
+    Sends(0, [1, 10], None),
+    Sends(0, [2, 20], None),
+    Sends(0, [3, 30], Some(Why::Full)),
+    Takes(Some([0, 1, 10])),
+    Sends(0, [4, 40], None),
+    Takes(Some([0, 2, 20])),
+    Takes(Some([0, 4, 40])),
+    Takes(None),
+    Accepted(0, 3),
+];
+
+const THREE_TURNS: &[Step] = &[
+    Sends(0, [0, 1], None),
+    Sends(0, [0, 2], None),
+    Takes(Some([0, 0, 1])),
+    Takes(Some([0, 0, 2])),
+    Takes(None),
+    Accepted(0, 2),
+    Sends(0, [1, 1], None),
+    Sends(0, [1, 2], None),
+    Takes(Some([0, 1, 1])),
+    Takes(Some([0, 1, 2])),
+    Takes(None),
+    Accepted(0, 4),
+    Sends(0, [2, 1], None),
+    Sends(0, [2, 2], None),
+    Takes(Some([0, 2, 1])),
+    Takes(Some([0, 2, 2])),
+    Takes(None),
+    Accepted(0, 6),
+    Sends(0, [3, 1], None),
+    Sends(0, [3, 2], None),
+    Takes(Some([0, 3, 1])),
+    Takes(Some([0, 3, 2])),
+    Takes(None),
+    Accepted(0, 8),
+];
+
+const TWO_SENDERS: &[Step] = &[
+    Sends(0, [7, 0], None),
+    Sends(1, [9, 0], None),
+    Sends(0, [7, 1], None),
+    Sends(1, [9, 1], None),
+    Sends(0, [7, 2], None),
+    Sends(1, [9, 2], None),
+    Takes(Some([0, 7, 0])),
+    Takes(Some([1, 9, 0])),
+    Takes(Some([0, 7, 1])),
+    Takes(Some([1, 9, 1])),
+    Takes(Some([0, 7, 2])),
+    Takes(Some([1, 9, 2])),
+    Takes(None),
+];
+
+const SOME_LEFT: &[Step] = &[
+    Sends(0, [5, 1], None),
+    Sends(1, [6, 1], None),
+    Sends(0, [5, 2], None),
+    Takes(Some([0, 5, 1])),
+];
+
+const TWO_CALLS: &[Step] = &[
+    Sends(0, [1, 0], None),
+    Sends(0, [2, 0], Some(Why::Full)),
+    Sends(0, [3, 0], Some(Why::Exhausted)),
+    Takes(Some([0, 1, 0])),
+    Sends(0, [4, 0], Some(Why::Exhausted)),
+    Accepted(0, 1),
+];
+
+const RUNS: [Run; 5] = [
+    (2, 1, 10, OF_TWO, &[]),
+    // a ring of three places gives each message of three turns
+    (3, 1, 10, THREE_TURNS, &[]),
+    // each sender's messages keep their order
+    (8, 2, 10, TWO_SENDERS, &[]),
+    (8, 2, 10, SOME_LEFT, &[[1, 6, 1], [0, 5, 2]]),
+    // two calls of one place are ok and full, and then exhausted
+    (1, 1, 2, TWO_CALLS, &[]),
+];
 
 #[test]
-fn a_ring_of_three_places_gives_each_message_of_three_turns(rt: HostRuntime) {
-    let mut ends = open(&rt, 3, 1, 10);
-    for number in 0..4u8 {
-        let steps = [
-            Sends(0, [number, 1], None),
-            Sends(0, [number, 2], None),
-            Takes(Some([0, number, 1])),
-            Takes(Some([0, number, 2])),
-            Takes(None),
-            Accepted(0, 2 * (u64::from(number) + 1)),
-        ];
-        ends.play(&rt, &steps);
-    }
-}
-
-#[test]
-fn each_senders_messages_keep_their_order(rt: HostRuntime) {
-    let mut ends = open(&rt, 8, 2, 10);
-    for number in 0..3u8 {
-        let steps = [Sends(0, [7, number], None), Sends(1, [9, number], None)];
-        ends.play(&rt, &steps);
-    }
-    for number in 0..3u8 {
-        let steps = [Takes(Some([0, 7, number])), Takes(Some([1, 9, number]))];
-        ends.play(&rt, &steps);
-    }
-    ends.play(&rt, &[Takes(None)]);
-}
-
-#[test]
-fn gathering_needs_every_sender_in_any_order(rt: HostRuntime) {
-    let mut ends = open(&rt, 8, 2, 10);
-    const STEPS: &[Step] = &[
-        Sends(0, [5, 1], None),
-        Sends(1, [6, 1], None),
-        Sends(0, [5, 2], None),
-        Takes(Some([0, 5, 1])),
-    ];
-    ends.play(&rt, STEPS);
-    assert_left(&rt, ends.gather(&rt), &[[1, 6, 1], [0, 5, 2]]);
-}
-
-#[test]
-fn two_calls_of_one_place_are_ok_and_full_and_then_exhausted(rt: HostRuntime) {
-    const STEPS: &[Step] = &[
-        Sends(0, [1, 0], None),
-        Sends(0, [2, 0], Some(Why::Full)),
-        Sends(0, [3, 0], Some(Why::Exhausted)),
-        Takes(Some([0, 1, 0])),
-        Sends(0, [4, 0], Some(Why::Exhausted)),
-        Accepted(0, 1),
-    ];
-    let ends = play_one(&rt, 1, 2, STEPS);
-    assert_left(&rt, ends.gather(&rt), &[]);
+fn messages_are_taken_in_order_and_gathering_needs_every_sender_in_any_order(rt: HostRuntime) {
+    play_all(&rt, &RUNS);
 }
 
 #[test]
@@ -92,7 +106,8 @@ fn a_sender_goes_on_without_its_receiver_until_there_is_no_room(rt: HostRuntime)
 
 #[test]
 fn a_receiver_goes_on_without_its_senders(rt: HostRuntime) {
-    let mut ends = play_one(&rt, 2, 4, &[Sends(0, [1, 0], None)]);
+    let mut ends = open(&rt, 2, 1, 4);
+    ends.play(&rt, &[Sends(0, [1, 0], None)]);
     ends.senders.clear();
     ends.play(&rt, &[Takes(Some([0, 1, 0])), Takes(None)]);
 }
@@ -114,7 +129,7 @@ const REFUSALS: [(Why, u8, &str); 3] = [
 #[test]
 fn each_refusal_has_its_number_and_its_name(rt: HostRuntime) {
     for &(why, number, name) in &REFUSALS {
-        assert_same(&rt, (name, why as u8), (name, number));
+        assert_same_at(&rt, why as u8, number, name);
         assert_text(&rt, why, name);
     }
 }

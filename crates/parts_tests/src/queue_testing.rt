@@ -3,6 +3,7 @@ ghost use Rattle.std.specs.Prelude.{◌≡◌, length, IfOk, IfErr};
 
 use crate::testing::*;
 use std::marker::Model;
+use std::thread;
 use subvl_queue::{Gathered, Item, Receiver, Refused, Sender, Why, make};
 
 /// What a test does with the ends of a queue, and what it expects.
@@ -22,7 +23,7 @@ pub enum Step {
 pub fn message(alloc: Global, bytes: [u8; 2]) -> Result<Vec<u8>, AllocError>
     ensures { IfOk result (λ v. length v.items ≡ 2) }
 {
-    Ok(vec![in alloc; bytes[0], bytes[1]]?)
+    bytes.to_vec(alloc)
 }
 
 /// Sends a message of two bytes.
@@ -36,9 +37,13 @@ pub fn send(sender: &mut Sender, bytes: Vec<u8>) -> Result<(), Refused>
 
 /// Why a message was refused, if it was. Asserts that it was returned then.
 pub fn why_refused(rt: &impl Abort, answer: &Result<(), Refused>, bytes: [u8; 2]) -> Option<Why> {
-    let refused = answer.as_ref().err()?;
-    assert_same(rt, refused.bytes.as_slice(), bytes.as_slice());
-    Some(refused.why)
+    match answer {
+        Ok(()) => None,
+        Err(refused) => {
+            assert_same(rt, refused.bytes.as_slice(), bytes.as_slice());
+            Some(refused.why)
+        }
+    }
 }
 
 /// Sends a message of two bytes. Why it was refused, if it was.
@@ -55,6 +60,22 @@ pub fn take(receiver: &mut Receiver) -> Option<Item>
     ensures { receiver.new.queue ≡ receiver.old.queue }
 {
     receiver.take()
+}
+
+/// How often a receiver polls, and how often a sender sends a message again after Full.
+pub const TURNS: u64 = 100_000_000;
+
+/// Polls until there is a message, which another thread sends.
+pub fn await_item(receiver: &mut Receiver) -> Option<Item>
+    ensures { receiver.new.queue ≡ receiver.old.queue }
+{
+    for _turn in 0..TURNS {
+        if let Some(item) = take(receiver) {
+            return Some(item);
+        }
+        thread::yield_now();
+    }
+    None
 }
 
 /// Closes the queue. The total.
@@ -160,8 +181,8 @@ impl Ends {
         match receiver.gather(senders) {
             Ok(_) => panic!(rt; "a sender is missing"),
             Err((receiver, others)) => {
-                for (index, sender) in (1usize..).zip(&others) {
-                    assert_same(rt, sender.index(), index);
+                for place in 0..others.len() {
+                    assert_same(rt, others[place].index(), place + 1);
                 }
                 let mut senders = others;
                 senders.push(first).expect(rt, "memory");
@@ -174,18 +195,20 @@ impl Ends {
 /// Takes what is left, and asserts that it is these messages.
 pub fn assert_left(rt: &impl Abort, gathered: Gathered, wanted: &[[u8; 3]]) {
     let mut left = gathered;
-    for message in wanted {
-        assert_same(rt, left.is_drained(), false);
-        assert_same(rt, shown(&left.take()), Some(*message));
+    for place in 0..wanted.len() + 2 {
+        assert_same(rt, left.is_drained(), place >= wanted.len());
+        assert_same(rt, shown(&left.take()), wanted.get(place).copied());
     }
-    assert_same(rt, left.is_drained(), true);
-    assert_same(rt, shown(&left.take()), None);
-    assert_same(rt, shown(&left.take()), None);
 }
 
-/// Opens a queue of one sender, and takes the steps.
-pub fn play_one(rt: &impl Host, capacity: usize, calls: u64, steps: &[Step]) -> Ends {
-    let mut ends = open(rt, capacity, 1, calls);
-    ends.play(rt, steps);
-    ends
+/// The capacity of a queue, the number of its senders, how often each may call, steps, and what is left then.
+pub type Run = (usize, usize, u64, &'static [Step], &'static [[u8; 3]]);
+
+/// Opens each queue, takes the steps, and gathers what is left.
+pub fn play_all(rt: &impl Host, runs: &[Run]) {
+    for &(capacity, senders, calls, steps, left) in runs {
+        let mut ends = open(rt, capacity, senders, calls);
+        ends.play(rt, steps);
+        assert_left(rt, ends.gather(rt), left);
+    }
 }

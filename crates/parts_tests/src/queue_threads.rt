@@ -15,9 +15,6 @@ const MESSAGES: u8 = 100;
 // How often each sender may call.
 const CALLS: u64 = 1 << 40;
 
-// How often a message is sent again after Full, and how often the receiver polls.
-const TURNS: u64 = 100_000_000;
-
 // The sender that is returned, if one is, is of the queue of the one that was given.
 #[derive(Drop)]
 struct ComesBack {
@@ -96,42 +93,36 @@ fn join_all<R: Threads + Host>(rt: &R, receiver: &Receiver, workers: Vec<Worker>
     senders
 }
 
+// Asserts that an item is the next of its sender: the numbers of each rise from 0 by one.
+fn assert_next(rt: &impl Abort, next: &mut [u8], item: Item) {
+    let number = next.get_mut(usize::from(item.port)).expect(rt, "its port");
+    assert!(rt; *number < MESSAGES);
+    let wanted = [item.port, *number];
+    assert_same(rt, item.bytes.as_slice(), wanted.as_slice());
+    *number += 1;
+}
+
 // Takes `count` messages while the senders run.
-fn take_some(rt: &impl Abort, receiver: &mut Receiver, into: &mut Vec<Item>, count: usize)
+fn take_some(rt: &impl Abort, receiver: &mut Receiver, next: &mut [u8], count: u64)
     ensures { receiver.new.queue ≡ receiver.old.queue }
 {
-    for _turn in 0..TURNS {
-        if into.len() >= count {
-            return;
-        }
-        match take(receiver) {
-            Some(item) => into.push(item).expect(rt, "memory"),
-            None => thread::yield_now(),
-        }
+    for _turn in 0..count {
+        let item = await_item(receiver).expect(rt, "a message");
+        assert_next(rt, next, item);
     }
 }
 
-// Gathers the senders, and takes what is left.
-fn take_rest(rt: &impl Abort, receiver: Receiver, senders: Vec<Sender>, into: &mut Vec<Item>)
+// Gathers the senders, and takes what is left. How many messages.
+fn take_rest(rt: &impl Abort, receiver: Receiver, senders: Vec<Sender>, next: &mut [u8]) -> u64
     requires { AreOf receiver.queue senders.items }
 {
+    let mut count = 0u64;
     let mut gathered = receiver.gather(senders).ok().expect(rt, "each sender");
     while let Some(item) = gathered.take() {
-        into.push(item).expect(rt, "memory");
+        assert_next(rt, next, item);
+        count = count.saturating_add(1);
     }
-}
-
-// Asserts that each sender's numbers rise from 0 by one.
-fn check_items(rt: &impl Host, items: &[Item], ports: usize) {
-    let mut next = vec![in rt.alloc(); 0u8; ports].expect(rt, "memory");
-    for item in items {
-        let place = usize::from(item.port);
-        let number = next.get_mut(place).expect(rt, "its port");
-        assert!(rt; *number < MESSAGES);
-        let wanted = [item.port, *number];
-        assert_same(rt, item.bytes.as_slice(), wanted.as_slice());
-        *number += 1;
-    }
+    count
 }
 
 // How many messages the senders say that were accepted.
@@ -145,22 +136,20 @@ fn accepted_by(senders: &[Sender]) -> u64 {
 
 // A queue, a thread for each sender, and `taken` messages taken while they run; then the queue may be closed. All
 // messages that were accepted arrive, each sender's in its order. How many.
-fn run<R: Threads + Host>(rt: &R, ends: Ends, taken: usize, is_closed: bool) -> u64 {
+fn run<R: Threads + Host>(rt: &R, ends: Ends, taken: u64, is_closed: bool) -> u64 {
     let Ends {
         mut receiver,
         senders,
     } = ends;
-    let ports = senders.len();
+    let mut next = vec![in rt.alloc(); 0u8; senders.len()].expect(rt, "memory");
     let workers = start_all(rt, &receiver, senders);
-    let mut items = Vec::new(rt.alloc());
-    take_some(rt, &mut receiver, &mut items, taken);
+    take_some(rt, &mut receiver, &mut next, taken);
     let total = close_if(&mut receiver, is_closed);
     let senders = join_all(rt, &receiver, workers);
     let accepted = accepted_by(&senders);
     assert_same(rt, total.unwrap_or(accepted), accepted);
-    take_rest(rt, receiver, senders, &mut items);
-    assert_same(rt, items.len() as u64, accepted);
-    check_items(rt, &items, ports);
+    let rest = take_rest(rt, receiver, senders, &mut next);
+    assert_same(rt, taken.saturating_add(rest), accepted);
     accepted
 }
 
@@ -175,17 +164,20 @@ fn close_if(receiver: &mut Receiver, is_closed: bool) -> Option<u64>
     }
 }
 
-#[test]
-fn a_close_while_threads_send_returns_what_they_sent(rt: HostRuntime) {
-    let total = run(&rt, open(&rt, 4, 16, CALLS), 200, true);
-    assert!(rt; total >= 200 && total <= 204);
-}
+// The capacity of a queue, its senders, how many messages are taken while they run, whether the queue is closed then,
+// and the least and the greatest number of messages that are accepted.
+const RUNS: [(usize, usize, u64, bool, u64, u64); 3] = [
+    (4, 16, 200, true, 200, 204),
+    // all messages of each sender are accepted: none is sent more than once
+    (1, 16, 1_599, false, 1_600, 1_600),
+    (256, 64, 6_144, false, 6_400, 6_400),
+];
 
-// All messages of each sender are accepted: none is sent more than once.
 #[test]
-fn threads_send_through_one_place_and_through_256(rt: HostRuntime) {
-    let of_one = open(&rt, 1, 16, CALLS);
-    assert_same(&rt, run(&rt, of_one, 1_599, false), 1_600);
-    let of_256 = open(&rt, 256, 64, CALLS);
-    assert_same(&rt, run(&rt, of_256, 6_144, false), 6_400);
+fn threads_send_through_one_place_and_through_256_until_a_close(rt: HostRuntime) {
+    for &(capacity, senders, taken, is_closed, least, most) in &RUNS {
+        let ends = open(&rt, capacity, senders, CALLS);
+        let total = run(&rt, ends, taken, is_closed);
+        assert!(rt; least <= total && total <= most);
+    }
 }
