@@ -1,6 +1,6 @@
 //! Tests of a status board, on one thread and read in a thread of its own.
 ghost use Rattle.std.specs.Prelude.{◌≡◌, ◌*◌, ◌<◌, ◌≤◌, length};
-ghost use Rattle.status_board.specs.History.{zeros};
+ghost use Rattle.status_board.specs.History.{NoFieldFalls, zeros};
 ghost use Rattle.status_board.specs.Views.{last_of, links_of};
 
 use crate::testing::*;
@@ -52,24 +52,39 @@ fn assert_read<R: Wait + Abort>(rt: &R, monitor: &mut Monitor, link: usize, want
     assert_same(rt, monitor.read(rt, link), wanted);
 }
 
+// Publishes an entry, and asserts that it is read as often as one reads.
+fn assert_published<R: Wait + Abort>(
+    rt: &R,
+    board: &mut Board,
+    monitor: &mut Monitor,
+    link: usize,
+    entry: Counts,
+)
+    requires published { link < length board.old }
+    requires rising { NoFieldFalls (last_of board.old link) entry }
+    requires read { link < links_of monitor.old }
+    ensures published { last_of board.new link ≡ entry }
+    ensures links { length board.new ≡ length board.old }
+    ensures read { links_of monitor.new ≡ links_of monitor.old }
+{
+    board.publish(rt, link, entry);
+    assert_read(rt, monitor, link, entry);
+    assert_read(rt, monitor, link, entry);
+}
+
 #[test]
 fn a_link_reads_zeros_and_then_the_last_entry_as_often_as_one_reads(rt: HostRuntime) {
     let (mut board, mut monitor) = open_board(rt.alloc(), 1).expect(&rt, "memory");
     assert_read(&rt, &mut monitor, 0, Counts::ZERO);
-    board.publish(&rt, 0, entry_after(1));
-    assert_read(&rt, &mut monitor, 0, entry_after(1));
-    board.publish(&rt, 0, LATER);
-    assert_read(&rt, &mut monitor, 0, LATER);
-    assert_read(&rt, &mut monitor, 0, LATER);
-    board.publish(&rt, 0, LATER);
-    assert_read(&rt, &mut monitor, 0, LATER);
-    board.publish(&rt, 0, GREATEST);
-    assert_read(&rt, &mut monitor, 0, GREATEST);
+    assert_published(&rt, &mut board, &mut monitor, 0, entry_after(1));
+    assert_published(&rt, &mut board, &mut monitor, 0, LATER);
+    assert_published(&rt, &mut board, &mut monitor, 0, LATER);
+    assert_published(&rt, &mut board, &mut monitor, 0, GREATEST);
 }
 
 #[test]
 fn each_link_of_a_board_of_none_to_64_has_its_own_counts(rt: HostRuntime) {
-    let (_board, _monitor) = open_board(rt.alloc(), 0).expect(&rt, "memory");
+    assert!(rt; open_board(rt.alloc(), 0).is_ok());
     let (mut board, mut monitor) = open_board(rt.alloc(), 64).expect(&rt, "memory");
     board.publish(&rt, 0, entry_after(1));
     board.publish(&rt, 63, LATER);
@@ -91,18 +106,17 @@ fn what_was_seen_begins_what_was_published(rt: HostRuntime) {
     assert_same(&rt, monitor.read(&rt, 0), Counts::ZERO);
 }
 
-// Reads until the last entry is found. Whether each reading was whole, and none older than the one before.
-fn watch<R: Wait>(rt: &R, mut monitor: Monitor) -> bool
+// Reads until the last entry is found. Asserts that each reading is whole, and none older than the one before.
+fn watch<R: Wait + Abort>(rt: &R, mut monitor: Monitor)
     requires { 0 < links_of monitor }
 {
     let mut frames = 0;
     for _ in rt.forever() {
         let found = monitor.read(rt, 0);
-        if found.frames < frames || found.frames > ENTRIES || found != entry_after(found.frames) {
-            return false;
-        }
+        assert!(rt; frames <= found.frames && found.frames <= ENTRIES);
+        assert_same(rt, found, entry_after(found.frames));
         if found.frames == ENTRIES {
-            return true;
+            return;
         }
         frames = found.frames;
         thread::yield_now();
@@ -124,5 +138,5 @@ fn a_watcher_reads_whole_entries_while_they_are_published(rt: HostRuntime) {
     let (mut board, monitor) = open_board(rt.alloc(), 1).expect(&rt, "memory");
     let watcher = thread::spawn(&rt, move || watch(&rt, monitor)).expect(&rt, "a thread");
     publish_all(&rt, &mut board);
-    assert_same(&rt, watcher.join(&rt), true);
+    watcher.join(&rt);
 }

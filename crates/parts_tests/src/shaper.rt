@@ -1,5 +1,5 @@
 //! Tests of the regulation of a link.
-ghost use Rattle.std.specs.Prelude.{◌≡◌, true};
+ghost use Rattle.std.specs.Prelude.{◌≡◌, Some, true};
 
 use crate::testing::*;
 use afdx_plan::Bag;
@@ -12,15 +12,23 @@ fn assert_due(rt: &impl Abort, is_due: bool)
     assert!(rt; is_due);
 }
 
+// Asserts whether a link that released at `last` is due at these times, none of which is before it.
+fn assert_times(rt: &impl Abort, shaper: &Shaper, last: u64, times: &[(u64, bool)])
+    requires { shaper.now.last ≡ Some (record { at = last; sub = 0 }) }
+{
+    for &(at, is_due) in times {
+        assert!(rt; last <= at);
+        assert_same_at(rt, shaper.due(at), is_due, at);
+    }
+}
+
 #[test]
 fn a_link_is_due_again_one_gap_after_its_release_and_not_before(rt: HostRuntime) {
     let mut shaper = Shaper::new(Bag::Ms2, 1);
     assert_due(&rt, shaper.due(0));
     shaper.stamp(0, 0);
-    assert_same(&rt, shaper.due(0), false);
-    assert_same(&rt, shaper.due(1_999), false);
-    assert_due(&rt, shaper.due(2_000));
-    assert_due(&rt, shaper.due(u64::MAX));
+    let times = [(0, false), (1_999, false), (2_000, true), (u64::MAX, true)];
+    assert_times(&rt, &shaper, 0, &times);
 }
 
 #[test]
@@ -29,9 +37,8 @@ fn a_link_that_is_served_late_does_not_catch_up(rt: HostRuntime) {
     shaper.stamp(0, 0);
     assert_due(&rt, shaper.due(7_000));
     shaper.stamp(7_000, 0);
-    assert_same(&rt, shaper.due(8_000), false);
-    assert_same(&rt, shaper.due(10_999), false);
-    assert_due(&rt, shaper.due(11_000));
+    let times = [(8_000, false), (10_999, false), (11_000, true)];
+    assert_times(&rt, &shaper, 7_000, &times);
 }
 
 #[test]
@@ -39,7 +46,7 @@ fn a_link_that_released_at_the_last_time_is_not_due_again(rt: HostRuntime) {
     let mut shaper = Shaper::new(Bag::Ms1, 1);
     assert_due(&rt, shaper.due(u64::MAX));
     shaper.stamp(u64::MAX, 0);
-    assert_same(&rt, shaper.due(u64::MAX), false);
+    assert_times(&rt, &shaper, u64::MAX, &[(u64::MAX, false)]);
 }
 
 #[test]
