@@ -64,23 +64,27 @@ fn empty_shelf() -> Shelf
 /// Asserts that a shelf keeps the first two frames and failed once.
 fn assert_full(rt: &impl Abort, shelf: &Shelf) {
     assert_same(rt, shelf.kept.len(), 2);
-    for (place, kept) in (0..2u8).zip(shelf.kept.iter()) {
-        assert_same(rt, kept.at, GAP * u64::from(place));
+    let mut place = 0;
+    for kept in shelf.kept.iter() {
+        assert_same(rt, kept.at, GAP.saturating_mul(u64::from(place)));
         assert_same(rt, kept.frame.last().copied(), Some(place));
+        place = place.saturating_add(1);
     }
     assert_same(rt, shelf.failures, 1);
 }
 
 #[test]
 fn a_network_without_memory_fails_where_it_is_full_and_the_other_goes_on(rt: HostRuntime) {
-    let other = MemNetwork::new(rt.alloc());
-    let opened = open_tx(rt.alloc(), config_of(&rt, SIX), empty_shelf(), other).ok();
-    let (mut tx, mut ports, _monitor) = opened.expect(&rt, "memory");
-    for port in ports.iter_mut() {
-        for byte in 0..6u8 {
-            assert_same(&rt, send(&rt, port, &[byte]), None);
-        }
+    let alloc = rt.alloc();
+    let config = config_of(&rt, text_of(&rt, SIX));
+    let opened = open_tx(alloc, config, empty_shelf(), MemNetwork::new(alloc)).ok();
+    let (mut tx, mut ports, monitor) = opened.expect(&rt, "memory");
+    let mut port = ports.pop().expect(&rt, "a port");
+    drop((ports, monitor));
+    for byte in 0..6u8 {
+        send(&rt, &mut port, &[byte], None);
     }
+    drop(port);
     for number in 0..6u8 {
         let now = GAP * u64::from(number);
         assert!(rt; tx.now() <= now);

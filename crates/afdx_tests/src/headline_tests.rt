@@ -26,12 +26,14 @@ fn open_demo(rt: &impl Host) -> (Sending, TxPort)
     ensures plan { result.0.plan ≡ demo_plan }
     ensures port { IsUnused result.0 result.1 }
 {
-    let config = demo_config(rt.alloc()).expect(rt, "memory");
-    let (a, b) = (MemNetwork::new(rt.alloc()), MemNetwork::new(rt.alloc()));
-    let Ok((tx, mut ports, _monitor)) = open_tx(rt.alloc(), config, a, b) else {
+    let alloc = rt.alloc();
+    let config = demo_config(alloc).expect(rt, "memory");
+    let (a, b) = (MemNetwork::new(alloc), MemNetwork::new(alloc));
+    let Ok((tx, mut ports, monitor)) = open_tx(alloc, config, a, b) else {
         panic!(rt; "no memory");
     };
     let port = ports.pop().expect(rt, "a port");
+    drop((ports, monitor));
     (tx, port)
 }
 
@@ -139,16 +141,19 @@ fn hand_whole(rt: &impl Host) -> (MemNetwork, MemNetwork)
 // Asserts that a network took two frames, of the two messages in their order.
 fn check_two(rt: &impl Abort, network: &MemNetwork) {
     assert_same(rt, network.handed().len(), 2);
-    for (byte, entry) in (1u8..).zip(network.handed()) {
+    let mut byte = 1u8;
+    for entry in network.handed() {
         assert_same(rt, entry.frame.get(42).copied(), Some(byte));
+        byte = byte.saturating_add(1);
     }
 }
 
 #[test]
 fn a_port_sends_from_its_thread_and_its_own_list_is_handed_over(rt: HostRuntime) {
-    let (a, b) = hand_whole(&rt);
-    check_two(&rt, &a);
-    check_two(&rt, &b);
+    let networks = hand_whole(&rt);
+    check_two(&rt, &networks.0);
+    check_two(&rt, &networks.1);
+    drop(networks);
 }
 
 // Closes the sub-VL while its port may send, polls, and starts draining. The total of the close is how many
@@ -158,18 +163,19 @@ fn close_poll_and_gather(rt: &impl Host, mut tx: Sending, mut port: TxPort) -> (
     ensures { HasAccepted result.1 1 0 result.0 }
 {
     let total = tx.close(VlId(1), 0).expect(rt, "the sub-VL is there");
-    assert_same(rt, send(rt, &mut port, &[3]), Some(Refusal::Closed));
+    send(rt, &mut port, &[3], Some(Refusal::Closed));
     poll_meanwhile(rt, &mut tx);
-    assert_same(rt, send(rt, &mut port, &[3]), Some(Refusal::Closed));
+    send(rt, &mut port, &[3], Some(Refusal::Closed));
     (total, gather_one(rt, tx, port))
 }
 
 #[test]
 fn what_a_close_told_is_what_is_known_in_the_end(rt: HostRuntime) {
     let (tx, mut port) = open_demo(&rt);
-    assert_same(&rt, send(&rt, &mut port, &[1]), None);
-    assert_same(&rt, send(&rt, &mut port, &[2]), None);
+    send(&rt, &mut port, &[1], None);
+    send(&rt, &mut port, &[2], None);
     let (total, draining) = close_poll_and_gather(&rt, tx, port);
     assert_same(&rt, total, 2);
     assert_same(&rt, draining.is_done(), true);
+    drop(draining);
 }

@@ -5,17 +5,19 @@ use afdx_tx::{Report, open_tx};
 use redundant_mux::MemNetwork;
 
 /// Asserts that a network took one frame, with the message in it.
-fn assert_hello(rt: &impl Abort, network: &MemNetwork) {
+fn assert_hello(rt: &impl Abort, network: MemNetwork) {
     let handed = network.handed();
     assert_same(rt, handed.len(), 1);
     for entry in handed {
         assert_same(rt, entry.frame.get(42..47), Some(b"hello".as_slice()));
     }
+    drop(network);
 }
 
 // Asserts that one frame was released, and that each network took it.
-fn assert_sent(rt: &impl Abort, report: &Report, a: &MemNetwork, b: &MemNetwork) {
+fn assert_sent(rt: &impl Abort, report: Report, a: MemNetwork, b: MemNetwork) {
     assert_same(rt, report.released.len(), 1);
+    drop(report);
     assert_hello(rt, a);
     assert_hello(rt, b);
 }
@@ -30,11 +32,11 @@ fn one_message_from_its_port_to_both_networks(rt: HostRuntime) -> Result<(), Fai
         let message = b"hello".as_slice().to_vec(alloc).expect(&rt, "memory");
         assert!(rt; port.send(message).is_ok());
     }
-    assert_same(&rt, emitter.now(), 0);
     let report = emitter.poll(0).expect(&rt, "a network that is up");
     emitter.publish(&rt);
     assert_eq!(rt; monitor.read(&rt, 0).frames, 1);
     let (a, b) = emitter.into_networks();
-    assert_sent(&rt, &report, &a, &b);
+    assert_sent(&rt, report, a, b);
+    drop((ports, monitor));
     Ok(())
 }

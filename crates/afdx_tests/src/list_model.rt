@@ -15,31 +15,40 @@ pub(crate) struct Seen {
     pub(crate) has_more: bool,
 }
 
-/// A network as a list. The hand with this number, counted from 1, fails, and from then on it is down.
+/// A network as a list, which carries all links but those on the other alone. The hand with this number, counted
+/// from 1, fails, and from then on it is down.
 #[derive(Drop)]
 pub(crate) struct ListNetwork {
     pub(crate) taken: Vec<Seen>,
     pub(crate) stands: bool,
-    hands: u8,
-    fails_at: u8,
+    other: Networks,
+    hands: u64,
+    fails_at: u64,
 }
 
 impl ListNetwork {
-    fn new(alloc: Global, fails_at: u8) -> ListNetwork {
+    fn new(alloc: Global, other: Networks, fails_at: u64) -> ListNetwork {
         ListNetwork {
             taken: Vec::new(alloc),
             stands: true,
+            other,
             hands: 0,
             fails_at,
         }
     }
 
-    // Takes a frame, unless the network is down or fails at it. Returns whether it did.
-    fn takes(&mut self, rt: &impl Host, frame: Seen) -> bool {
-        if self.stands {
-            self.hands = self.hands.saturating_add(1);
-            self.stands = self.hands != self.fails_at;
+    // Whether it is up, and carries a link on these networks.
+    fn carries(&self, networks: Networks) -> bool {
+        self.stands && networks != self.other
+    }
+
+    // Takes a frame of a link on these networks, if it carries the link and doesn't fail. Returns whether it did.
+    fn takes(&mut self, rt: &impl Abort, networks: Networks, frame: Seen) -> bool {
+        if !self.carries(networks) {
+            return false;
         }
+        self.hands = self.hands.saturating_add(1);
+        self.stands = self.hands != self.fails_at;
         if self.stands {
             self.taken.push(frame).expect(rt, "memory");
         }
@@ -48,48 +57,34 @@ impl ListNetwork {
 
     // The counts of the frames of a link that it took.
     fn counts(&self, vl: u16) -> Counts {
-        let (mut frames, mut bytes, mut messages, mut last) = (0u64, 0u64, 0u64, 0);
+        let mut counts = Counts::ZERO;
         for seen in &self.taken {
             if seen.vl == vl {
-                frames = frames.saturating_add(1);
-                bytes = bytes.saturating_add(seen.length);
-                messages = messages.saturating_add(u64::from(!seen.has_more));
-                last = seen.at;
+                counts.frames = counts.frames.saturating_add(1);
+                counts.bytes = counts.bytes.saturating_add(seen.length);
+                let ended = u64::from(!seen.has_more);
+                counts.messages = counts.messages.saturating_add(ended);
+                counts.last = seen.at;
             }
         }
-        Counts {
-            frames,
-            bytes,
-            messages,
-            last,
-        }
+        counts
     }
 }
 
-/// A link as a list: the networks that carry it, its messages, first those in one frame and then those in two,
-/// the number of its next frame and when that is due, and whether a frame was lost.
+/// A link: its identifier, the networks that carry it, and how many messages it has, first those in one frame and
+/// then those in two.
+pub(crate) type Row = (u16, Networks, u8, u8);
+
+/// A link as a list: its row, the number of its next frame and when that is due, and whether a frame was lost.
 #[derive(Clone, Copy)]
 pub(crate) struct ListLink {
     pub(crate) vl: u16,
-    pub(crate) networks: Networks,
-    pub(crate) short: u8,
-    pub(crate) long: u8,
+    networks: Networks,
+    short: u8,
+    long: u8,
     number: u8,
     due: Option<u64>,
     is_lost: bool,
-}
-
-/// A link with `short` messages in one frame, and `long` messages in two.
-pub(crate) fn link(vl: u16, networks: Networks, short: u8, long: u8) -> ListLink {
-    ListLink {
-        vl,
-        networks,
-        short,
-        long,
-        number: 0,
-        due: Some(0),
-        is_lost: false,
-    }
 }
 
 impl ListLink {
@@ -117,23 +112,25 @@ impl ListLink {
     // Sends the next frame, if a network that carries the link is up. Returns what is released.
     fn turn(
         &mut self,
-        rt: &impl Host,
+        rt: &impl Abort,
         a: &mut ListNetwork,
         b: &mut ListNetwork,
         at: u64,
     ) -> Option<Frame> {
-        let for_a = self.networks != Networks::OnlyB;
-        let for_b = self.networks != Networks::OnlyA;
-        if !(for_a && a.stands || for_b && b.stands) {
+        if !a.carries(self.networks) && !b.carries(self.networks) {
             return None;
         }
         let frame = self.next(at)?;
-        let on_a = for_a && a.takes(rt, frame);
-        let on_b = for_b && b.takes(rt, frame);
+        let on_a = a.takes(rt, self.networks, frame);
+        let on_b = b.takes(rt, self.networks, frame);
         self.number = self.number.saturating_add(1);
         self.due = at.checked_add(GAP);
-        self.is_lost = self.is_lost || !on_a && !on_b;
-        (on_a || on_b).then_some((self.vl, 0, frame.number))
+        if on_a || on_b {
+            Some((self.vl, 0, frame.number))
+        } else {
+            self.is_lost = true;
+            None
+        }
     }
 }
 
@@ -148,11 +145,25 @@ pub(crate) struct ListSystem {
 
 impl ListSystem {
     /// These links over networks that fail at these hands.
-    pub(crate) fn new(alloc: Global, links: Vec<ListLink>, fails: (u8, u8)) -> ListSystem {
+    pub(crate) fn new(rt: &impl Host, rows: &[Row], fails: (u64, u64)) -> ListSystem {
+        let alloc = rt.alloc();
+        let mut links = Vec::new(alloc);
+        for &(vl, networks, short, long) in rows {
+            let link = ListLink {
+                vl,
+                networks,
+                short,
+                long,
+                number: 0,
+                due: Some(0),
+                is_lost: false,
+            };
+            links.push(link).expect(rt, "memory");
+        }
         ListSystem {
             links,
-            a: ListNetwork::new(alloc, fails.0),
-            b: ListNetwork::new(alloc, fails.1),
+            a: ListNetwork::new(alloc, Networks::OnlyB, fails.0),
+            b: ListNetwork::new(alloc, Networks::OnlyA, fails.1),
             now: 0,
         }
     }
@@ -184,8 +195,11 @@ impl ListSystem {
 
     /// Whether some network took each frame of each message.
     pub(crate) fn is_done(&self) -> bool {
-        self.links
-            .iter()
-            .all(|link| link.is_sent() && !link.is_lost)
+        for link in &self.links {
+            if link.is_lost || !link.is_sent() {
+                return false;
+            }
+        }
+        true
     }
 }

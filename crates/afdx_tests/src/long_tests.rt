@@ -36,7 +36,7 @@ struct Gauge {
 }
 
 /// What a network has seen: how many frames it took, the next sequence number and the next identification,
-/// and a digest of the time and the bytes of each frame but for its interface identifier.
+/// and a digest of the time and the bytes of each frame, with 0 as its interface identifier.
 #[derive(Clone, Copy, Debug, PartialEq, Eq)]
 struct Seen {
     frames: u64,
@@ -54,11 +54,16 @@ fn digest_bytes(digest: u64, bytes: &[u8]) -> u64 {
     sum
 }
 
-/// Adds the time and the bytes of a frame, without its interface identifier, to a digest.
-fn digest_frame(digest: u64, at: u64, frame: &[u8]) -> u64 {
-    let moment = digest_bytes(digest, at.to_be_bytes().as_slice());
-    let front = digest_bytes(moment, frame.get(..INTERFACE).unwrap_or(&[]));
-    digest_bytes(front, frame.get(INTERFACE + 1..).unwrap_or(&[]))
+// What a gauge checks: the time of a frame, and its interface identifier, identification, place in the run
+// and sequence number.
+type Handed = (u64, u8, u16, u64, u8);
+
+// Writes these fields into a frame.
+fn write_fields(frame: &mut [u8; FRAME], (_at, interface, identification, place, number): Handed) {
+    frame[INTERFACE] = interface;
+    frame[18..20].copy_from_slice(identification.to_be_bytes().as_slice());
+    frame[42..50].copy_from_slice(place.to_be_bytes().as_slice());
+    frame[FRAME - 1] = number;
 }
 
 impl Gauge {
@@ -67,29 +72,41 @@ impl Gauge {
         ensures empty { entries_of result.trail.logged ≡ [] }
         ensures new { result.failures ≡ 0 }
     {
-        let seen = Seen {
-            frames: 0,
-            number: 0,
-            identification: 0,
-            digest: BASIS,
-        };
         Gauge {
             interface,
             due: 0,
-            seen,
+            seen: Seen {
+                frames: 0,
+                number: 0,
+                identification: 0,
+                digest: BASIS,
+            },
             failures: 0,
             trail: Trail::new(),
         }
     }
 
-    // Whether a frame is the next one.
-    fn is_next(&self, at: u64, frame: &[u8]) -> bool {
-        frame.len() == FRAME
-            && frame.get(INTERFACE) == Some(&self.interface)
-            && frame.get(18..20) == Some(self.seen.identification.to_be_bytes().as_slice())
-            && frame.get(42..50) == Some(self.seen.frames.to_be_bytes().as_slice())
-            && frame.get(FRAME - 1) == Some(&self.seen.number)
-            && self.due <= at
+    // Returns the bytes of a frame, with 0 as its interface identifier, if the fields of the next one change nothing.
+    fn next(&self, at: u64, frame: &[u8]) -> Option<[u8; FRAME]> {
+        if frame.len() != FRAME || at < self.due {
+            return None;
+        }
+        let mut bytes = [0u8; FRAME];
+        bytes.copy_from_slice(frame);
+        let seen = &self.seen;
+        let fields = (
+            at,
+            self.interface,
+            seen.identification,
+            seen.frames,
+            seen.number,
+        );
+        write_fields(&mut bytes, fields);
+        if bytes.as_slice() != frame {
+            return None;
+        }
+        bytes[INTERFACE] = 0;
+        Some(bytes)
     }
 }
 
@@ -99,17 +116,18 @@ impl Network for Gauge {
     ghost failures = { λ g. g.failures };
 
     fn hand(&mut self, at: u64, frame: &[u8]) -> Result<(), HandFault> {
-        if !self.is_next(at, frame) {
+        let Some(bytes) = self.next(at, frame) else {
             self.failures += 1;
             return Err(HandFault);
-        }
+        };
+        let moment = digest_bytes(self.seen.digest, at.to_be_bytes().as_slice());
         self.due = at.saturating_add(GAP);
         // 0 is the first sequence number alone
         self.seen = Seen {
             frames: self.seen.frames.saturating_add(1),
             number: self.seen.number.checked_add(1).unwrap_or(1),
             identification: self.seen.identification.wrapping_add(4),
-            digest: digest_frame(self.seen.digest, at, frame),
+            digest: digest_bytes(moment, bytes.as_slice()),
         };
         // The contract ignores this value, so any `Networks` will do.
         self.trail = Trail::with(&self.trail, &Networks::Both, &at, frame);
@@ -117,52 +135,35 @@ impl Network for Gauge {
     }
 }
 
-// What a gauge checks: the time of a frame, and its interface identifier, identification, place in the run
-// and sequence number.
-type Handed = (u64, u8, u16, u64, u8);
-
 // A frame with these fields, which is zero elsewhere.
-fn frame_of((_at, interface, identification, place, number): Handed) -> [u8; FRAME] {
+fn frame_of(fields: Handed) -> [u8; FRAME] {
     let mut frame = [0u8; FRAME];
-    frame[11] = interface;
-    frame[18..20].copy_from_slice(identification.to_be_bytes().as_slice());
-    frame[42..50].copy_from_slice(place.to_be_bytes().as_slice());
-    frame[59] = number;
+    write_fields(&mut frame, fields);
     frame
 }
 
-// Hands a frame to a gauge that has failed less than a hundred times. Returns whether it took the frame.
-fn takes(gauge: &mut Gauge, handed: Handed) -> bool {
-    gauge.failures < 100 && gauge.hand(handed.0, frame_of(handed).as_slice()).is_ok()
-}
-
-// The first three frames of a run.
-const FIRST: Handed = (0, 0x20, 0, 0, 0);
-
-const SECOND: Handed = (GAP, 0x20, 4, 1, 1);
-
-const THIRD: Handed = (2 * GAP, 0x20, 8, 2, 2);
-
-// Frames that aren't the second one.
-const WRONG: [Handed; 7] = [
-    FIRST,
-    THIRD,
-    (GAP - 1, 0x20, 4, 1, 1),
-    (GAP, 0x40, 4, 1, 1),
-    (GAP, 0x20, 5, 1, 1),
-    (GAP, 0x20, 4, 2, 1),
-    (GAP, 0x20, 4, 1, 2),
+// The first three frames of a run, which a gauge takes, and before the second one frames that aren't.
+const RUN: [(Handed, bool); 10] = [
+    ((0, 0x20, 0, 0, 0), true),
+    ((0, 0x20, 0, 0, 0), false),
+    ((2 * GAP, 0x20, 8, 2, 2), false),
+    ((GAP - 1, 0x20, 4, 1, 1), false),
+    ((GAP, 0x40, 4, 1, 1), false),
+    ((GAP, 0x20, 5, 1, 1), false),
+    ((GAP, 0x20, 4, 2, 1), false),
+    ((GAP, 0x20, 4, 1, 2), false),
+    ((GAP, 0x20, 4, 1, 1), true),
+    ((2 * GAP, 0x20, 8, 2, 2), true),
 ];
 
 #[test]
 fn a_gauge_takes_the_next_frame_alone(rt: HostRuntime) {
     let mut gauge = Gauge::new(0x20);
-    assert_same(&rt, takes(&mut gauge, FIRST), true);
-    for &wrong in &WRONG {
-        assert_same(&rt, takes(&mut gauge, wrong), false);
+    for (handed, is_next) in &RUN {
+        let frame = frame_of(*handed);
+        let taken = gauge.failures < 100 && gauge.hand(handed.0, frame.as_slice()).is_ok();
+        assert_same(&rt, taken, *is_next);
     }
-    assert_same(&rt, takes(&mut gauge, SECOND), true);
-    assert_same(&rt, takes(&mut gauge, THIRD), true);
     assert_same(&rt, gauge.seen.frames, 3);
     assert_same(&rt, gauge.failures, 7);
 }
@@ -192,7 +193,7 @@ type Tx = Emitter<Gauge, Gauge>;
 
 // Sends the message at a place of the run, polls a gap after the poll before, which releases it, and publishes.
 fn send_one(rt: &impl Host, tx: &mut Tx, port: &mut TxPort, place: u64) {
-    assert_same(rt, send(rt, port, place.to_be_bytes().as_slice()), None);
+    send(rt, port, place.to_be_bytes().as_slice(), None);
     let now = GAP.saturating_mul(place);
     assert!(rt; tx.now() <= now);
     assert_report(rt, tx.poll(now), &[(1, 0, number_at(place))], BOTH);
@@ -222,18 +223,22 @@ fn assert_counts(rt: &impl Host, monitor: &mut Monitor)
 
 #[test]
 fn a_million_messages_keep_number_gap_and_twin(rt: HostRuntime) {
-    let config = demo_config(rt.alloc()).expect(&rt, "memory");
-    assert!(rt; !config.links().is_empty());
+    let alloc = rt.alloc();
+    let config = demo_config(alloc).expect(&rt, "memory");
     let (a, b) = (Gauge::new(0x20), Gauge::new(0x40));
-    let opened = open_tx(rt.alloc(), config, a, b).ok();
+    let opened = open_tx(alloc, config, a, b).ok();
     let (mut tx, mut ports, mut monitor) = opened.expect(&rt, "memory");
     let mut port = ports.pop().expect(&rt, "a port");
+    drop(ports);
     for place in 0..MESSAGES {
         send_one(&rt, &mut tx, &mut port, place);
     }
-    assert_counts(&rt, &mut monitor);
-    let (a, b) = tx.into_networks();
-    assert_seen(&rt, a.seen);
-    assert_same(&rt, a.seen, b.seen);
     assert_same(&rt, port.accepted(), MESSAGES);
+    drop(port);
+    assert_counts(&rt, &mut monitor);
+    drop(monitor);
+    let networks = tx.into_networks();
+    assert_seen(&rt, networks.0.seen);
+    assert_same(&rt, networks.0.seen, networks.1.seen);
+    drop(networks);
 }

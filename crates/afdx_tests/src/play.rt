@@ -2,15 +2,16 @@
 use crate::rig::*;
 use crate::testing::*;
 use afdx_plan::VlId;
-use afdx_tx::{NoSuchSub, PollFault, Refusal, Report};
-use redundant_mux::Standing;
+use afdx_tx::{NoSuchSub, PollFault, Refusal, Release, Report};
+use arrayvec::ArrayVec;
+use redundant_mux::{MemNetwork, Standing};
 use status_board::Counts;
 
 /// A frame that a poll releases: its link, its sub-VL and its sequence number.
 pub(crate) type Frame = (u16, u8, u8);
 
-/// The counts of a link: frames, bytes, messages, and the time of the last frame in microseconds.
-pub(crate) type Counted = (u64, u64, u64, u64);
+/// A link and its counts: frames, bytes, messages, and the time of the last frame in microseconds.
+pub(crate) type Counted = (u16, u64, u64, u64, u64);
 
 /// What a test does, and what it expects.
 #[derive(Clone, Copy)]
@@ -29,10 +30,11 @@ pub(crate) enum Step<'a> {
     FindsBothDown(u64),
     /// The last poll that found a network up was at this time.
     IsAt(u64),
-    /// These are the counts of a link.
-    Counts(u16, Option<Counted>),
-    /// The counts are published, and the monitor reads these each time, in the order of the configuration.
-    Reads(&'a [Counted]),
+    /// These are the counts of each link, in the order of the configuration. They are published, and the monitor
+    /// reads them each time.
+    Counts(&'a [Counted]),
+    /// There is no such link, so it has no counts.
+    Lacks(u16),
     /// The number of frames that each network holds, of polls 1 ms apart, and how often it failed.
     Holds((u8, u64), (u8, u64)),
     /// Whether each accepted message was sent.
@@ -47,23 +49,28 @@ pub(crate) fn assert_report(
     standing: Standing,
 ) {
     let report = answer.expect(rt, "some network is up");
-    assert_same(rt, report.released.len(), frames.len());
-    for (release, frame) in report.released.iter().zip(frames) {
-        assert_same(rt, (release.vl.0, release.sub, release.number), *frame);
+    let released: &ArrayVec<Release, 64> = &report.released;
+    let released: &[Release] = released.as_slice();
+    assert!(rt; released.len() == frames.len());
+    for place in 0..frames.len() {
+        let release = released[place];
+        let vl: VlId = release.vl;
+        assert_same(rt, (vl.0, release.sub, release.number), frames[place]);
     }
     assert_same(rt, report.standing, standing);
 }
 
-// Asserts that the monitor reads these counts each time.
-fn assert_read<S: System>(rt: &impl Host, system: &mut S, counts: &[Counted]) {
-    for (place, wanted) in counts.iter().enumerate() {
-        let (first, again) = system.read(rt, place);
-        assert_same(rt, (counted(first), counted(again)), (*wanted, *wanted));
+// Asserts that these are the counts of each link.
+fn assert_each<S: System>(rt: &impl Host, system: &mut S, links: &[Counted]) {
+    for (place, &(vl, frames, bytes, messages, last)) in links.iter().enumerate() {
+        let counts = Counts {
+            frames,
+            bytes,
+            messages,
+            last,
+        };
+        assert_counts(rt, system, (place, vl), counts);
     }
-}
-
-fn counted(counts: Counts) -> Counted {
-    (counts.frames, counts.bytes, counts.messages, counts.last)
 }
 
 // Takes a step that may be before or in the drain.
@@ -78,8 +85,8 @@ fn common<S: System>(rt: &impl Host, system: &mut S, step: Step) {
             assert_same(rt, answer.err(), Some(PollFault::BothDown));
         }
         Step::IsAt(now) => assert_same(rt, system.now(), now),
-        Step::Counts(vl, counts) => assert_same(rt, system.counts(vl).map(counted), counts),
-        Step::Reads(counts) => assert_read(rt, system, counts),
+        Step::Counts(links) => assert_each(rt, system, links),
+        Step::Lacks(vl) => assert_same(rt, system.counts(vl), None),
         Step::Holds(on_a, on_b) => {
             let (a, b) = system.networks();
             assert_holds(rt, a, on_a);
@@ -92,11 +99,13 @@ fn common<S: System>(rt: &impl Host, system: &mut S, step: Step) {
 // Takes a step before the drain.
 fn act(rt: &impl Host, rig: &mut Rig, step: Step) {
     match step {
-        Step::Sends(place, bytes) => assert_same(rt, rig.send(rt, place, bytes), None),
-        Step::Refused(place, bytes, why) => {
-            assert_same(rt, rig.send(rt, place, bytes), Some(why));
+        Step::Sends(place, bytes) => rig.send(rt, place, bytes, None),
+        Step::Refused(place, bytes, why) => rig.send(rt, place, bytes, Some(why)),
+        Step::Accepted(place, id, count) => {
+            assert!(rt; place < rig.ports.len());
+            let port = &rig.ports[place];
+            assert_same(rt, (port.id().0, port.accepted()), (id, count));
         }
-        Step::Accepted(place, id, count) => assert_same(rt, rig.told(rt, place), (id, count)),
         Step::Closes(vl, sub, answer) => assert_same(rt, rig.tx.close(VlId(vl), sub), answer),
         _ => common(rt, rig, step),
     }
@@ -109,39 +118,28 @@ pub(crate) fn act_all(rt: &impl Host, rig: &mut Rig, steps: &[Step]) {
     }
 }
 
-// Takes a step in the drain.
-fn act_in_rest(rt: &impl Host, rest: &mut Rest, step: Step) {
-    match step {
-        Step::IsDone(is_done) => assert_same(rt, rest.draining.is_done(), is_done),
-        _ => common(rt, rest, step),
-    }
-}
+/// A plan, the hands, counted from 1, at which its networks fail, steps, and then steps in the drain.
+pub(crate) type Play<'a> = (Plan<'a>, (u64, u64), &'a [Step<'a>], &'a [Step<'a>]);
 
-/// Opens a plan over networks that fail at these hands, counted from 1. Takes steps, and then steps in the
-/// drain. Returns what is left then.
-pub(crate) fn play(
-    rt: &impl Host,
-    plan: Plan,
-    fails: (u64, u64),
-    steps: &[Step],
-    in_rest: &[Step],
-) -> Rest {
+/// Opens a plan and takes steps. Returns the networks after the drain.
+pub(crate) fn play(rt: &impl Host, play: &Play) -> (MemNetwork, MemNetwork) {
+    let (plan, fails, steps, in_rest) = *play;
     let mut rig = open(rt, plan, fails);
     act_all(rt, &mut rig, steps);
     let mut rest = rig.gather(rt);
     for step in in_rest {
-        act_in_rest(rt, &mut rest, *step);
+        match *step {
+            Step::IsDone(is_done) => assert_same(rt, rest.draining.is_done(), is_done),
+            step => common(rt, &mut rest, step),
+        }
     }
-    rest
+    drop(rest.monitor);
+    rest.draining.into_networks()
 }
 
-/// Plays the same, and lets go of what is left.
-pub(crate) fn play_all(
-    rt: &impl Host,
-    plan: Plan,
-    fails: (u64, u64),
-    steps: &[Step],
-    in_rest: &[Step],
-) {
-    drop(play(rt, plan, fails, steps, in_rest));
+/// Plays all, and lets go of their networks.
+pub(crate) fn play_all(rt: &impl Host, plays: &[Play]) {
+    for one in plays {
+        drop(play(rt, one));
+    }
 }

@@ -7,7 +7,7 @@ ghost use Rattle.status_board.specs.Views.{links_of};
 use crate::sending_tests::Worker;
 use crate::testing::*;
 use afdx_plan::VlId;
-use afdx_tx::{Draining, Emitter, PollFault, Refusal, Report, TxPort, open_tx};
+use afdx_tx::{Draining, Emitter, PollFault, Refusal, Report, SendFault, TxPort, open_tx};
 use redundant_mux::MemNetwork;
 use status_board::{Counts, Monitor};
 use std::marker::Model;
@@ -127,49 +127,65 @@ impl System for Rest {
     }
 }
 
+/// Polls a gap after the last poll.
+pub(crate) fn poll_next<S: System>(rt: &impl Host, system: &mut S) -> Report {
+    let now = system.now().saturating_add(GAP);
+    system.poll(rt, now).expect(rt, "some network is up")
+}
+
 /// Opens a plan over networks that fail at these hands, counted from 1.
 pub(crate) fn open(rt: &impl Host, plan: Plan, fails: (u64, u64)) -> Rig {
-    let a = MemNetwork::failing_at(rt.alloc(), fails.0);
-    let b = MemNetwork::failing_at(rt.alloc(), fails.1);
-    let workers = Vec::new(rt.alloc());
-    match open_tx(rt.alloc(), config_of(rt, plan), a, b) {
+    open_text(rt, text_of(rt, plan), fails)
+}
+
+/// The same of the text of a plan.
+pub(crate) fn open_text(rt: &impl Host, text: String, fails: (u64, u64)) -> Rig {
+    let (alloc, config) = (rt.alloc(), config_of(rt, text));
+    let a = MemNetwork::failing_at(alloc, fails.0);
+    let b = MemNetwork::failing_at(alloc, fails.1);
+    match open_tx(alloc, config, a, b) {
         Ok((tx, ports, monitor)) => Rig {
             tx,
             ports,
-            workers,
+            workers: Vec::new(alloc),
             monitor,
         },
         Err(_) => panic!(rt; "no memory"),
     }
 }
 
-/// Sends a message. Returns why it was refused, if it was, and asserts that the message is returned then. The
-/// port stays one of its emitter.
-pub(crate) fn send(rt: &impl Host, port: &mut TxPort, bytes: &[u8]) -> Option<Refusal>
+/// Sends a message. Asserts why it is refused, if it is, and that it is returned then. The port stays one of its
+/// emitter.
+pub(crate) fn send(rt: &impl Host, port: &mut TxPort, bytes: &[u8], wanted: Option<Refusal>)
     ensures { (tx : Tx) → IsPortOfTx tx port.old → IsPortOfTx tx port.new }
 {
     let message = bytes.to_vec(rt.alloc()).expect(rt, "memory");
     match port.send(message) {
-        Ok(()) => None,
-        Err(fault) => {
-            assert_same(rt, fault.bytes.as_slice(), bytes);
-            Some(fault.why)
+        Ok(()) => assert_same(rt, None, wanted),
+        Err(SendFault { why, bytes: back }) => {
+            let back: Vec<u8> = back;
+            assert_same(rt, back.as_slice(), bytes);
+            assert_same(rt, Some(why), wanted);
         }
     }
 }
 
-impl Rig {
-    /// The port at a place sends a message. Returns why it was refused, if it was.
-    pub(crate) fn send(&mut self, rt: &impl Host, place: usize, bytes: &[u8]) -> Option<Refusal> {
-        assert!(rt; place < self.ports.len());
-        send(rt, &mut self.ports[place], bytes)
-    }
+/// Asserts that an end system shows these counts of a link, and that the monitor then reads them each time.
+pub(crate) fn assert_counts(
+    rt: &impl Host,
+    system: &mut impl System,
+    (place, vl): (usize, u16),
+    counts: Counts,
+) {
+    assert_same(rt, system.counts(vl), Some(counts));
+    assert_same(rt, system.read(rt, place), (counts, counts));
+}
 
-    /// The identifier of the port at a place, and how many of its messages were accepted.
-    pub(crate) fn told(&self, rt: &impl Host, place: usize) -> (u16, u64) {
-        assert!(rt; place < self.ports.len());
-        let port = &self.ports[place];
-        (port.id().0, port.accepted())
+impl Rig {
+    /// The port at a place sends a message. Asserts why it is refused, if it is.
+    pub(crate) fn send(&mut self, rt: &impl Host, at: usize, bytes: &[u8], why: Option<Refusal>) {
+        assert!(rt; at < self.ports.len());
+        send(rt, &mut self.ports[at], bytes, why);
     }
 
     /// Takes the first port out.
@@ -179,7 +195,7 @@ impl Rig {
     }
 
     // Moves the last port to the front.
-    fn take_ports(&mut self, rt: &impl Host) {
+    fn take_ports(&mut self, rt: &impl Abort) {
         assert!(rt; !self.ports.is_empty());
         self.ports.rotate_right(1);
     }
@@ -187,20 +203,14 @@ impl Rig {
     /// Calls `gather` without ports, which is refused, and then with all of them, the last one moved to the front.
     pub(crate) fn gather(mut self, rt: &impl Host) -> Rest {
         self.take_ports(rt);
-        let Rig {
-            tx,
-            ports,
-            workers: _,
-            monitor,
-        } = self;
-        let tx = match tx.gather(Vec::new(rt.alloc())) {
-            Ok(_) => panic!(rt; "gathered without ports"),
-            Err((back, none)) => {
-                assert_same(rt, none.len(), 0);
-                back
-            }
+        drop(self.workers);
+        let Err((tx, none)) = self.tx.gather(Vec::new(rt.alloc())) else {
+            panic!(rt; "gathered without ports");
         };
-        match tx.gather(ports) {
+        assert_same(rt, none.len(), 0);
+        drop(none);
+        let monitor = self.monitor;
+        match tx.gather(self.ports) {
             Ok(draining) => Rest { draining, monitor },
             Err(_) => panic!(rt; "each port is there"),
         }

@@ -1,5 +1,4 @@
 //! Tests of ports that send from threads of their own, also while their sub-VLs are closed.
-ghost use Rattle.std.specs.Prelude.{IfSome};
 ghost use Rattle.afdx_tx.specs.Emitter.{Tx};
 ghost use Rattle.afdx_tx.specs.Ports.{IsPortOfTx};
 
@@ -18,58 +17,52 @@ const PORTS: u8 = 4;
 // How often a message is sent again after Full, and how often the emitter is polled meanwhile.
 const TURNS: u64 = 100_000_000;
 
-// The port that a thread returns, if any, is of the same emitter as the given one.
+// The port that a thread returns is of the same emitter as the given one.
 #[derive(Drop)]
 pub(crate) struct ComesBack {
     of: Snapshot<TxPort>,
 }
 
-impl Promise<Option<TxPort>> for ComesBack {
-    ghost use Rattle.std.specs.Prelude.{IfSome};
+impl Promise<TxPort> for ComesBack {
     ghost use Rattle.afdx_tx.specs.Emitter.{Tx};
     ghost use Rattle.afdx_tx.specs.Ports.{IsPortOfTx};
 
-    ghost kept_by = { λ p r. IfSome r
-        (λ port. (tx : Tx) → IsPortOfTx tx p.of.value → IsPortOfTx tx port) };
+    ghost kept_by = { λ p port. (tx : Tx) → IsPortOfTx tx p.of.value → IsPortOfTx tx port };
 }
 
-pub(crate) type Worker = PromisedHandle<Option<TxPort>, ComesBack>;
+pub(crate) type Worker = PromisedHandle<TxPort, ComesBack>;
 
-// Sends a message, and again after Full. Returns whether it was accepted.
-fn send_one(port: &mut TxPort, bytes: Vec<u8>) -> bool
+// Sends a message, and again after Full.
+fn send_one(port: &mut TxPort, bytes: Vec<u8>)
     ensures { (tx : Tx) → IsPortOfTx tx port.old → IsPortOfTx tx port.new }
 {
     let mut next = bytes;
     for _turn in 0..TURNS {
         match port.send(next) {
-            Ok(()) => return true,
-            Err(
-                SendFault {
-                    why: Refusal::Full,
-                    bytes,
-                },
-            ) => {
+            Ok(()) => return,
+            Err(SendFault { why, bytes }) => {
                 next = bytes;
-                thread::yield_now();
+                if why != Refusal::Full {
+                    break;
+                }
             }
-            Err(_) => return false,
         }
+        thread::yield_now();
     }
-    false
+    drop(next);
 }
 
-// Sends the port's identifier with each number below `messages`, from 0 on, until one isn't accepted.
-fn send_all(alloc: Global, mut port: TxPort, messages: u8) -> Option<TxPort>
-    ensures { IfSome result (λ back. (tx : Tx) → IsPortOfTx tx port → IsPortOfTx tx back) }
+// Sends the port's identifier, which is below 256, with each number below `messages`, from 0 on.
+fn send_all(alloc: Global, mut port: TxPort, messages: u8) -> TxPort
+    ensures { (tx : Tx) → IsPortOfTx tx port → IsPortOfTx tx result }
 {
-    let name = u8::try_from(port.id().0).ok()?;
+    let [_, name] = port.id().0.to_be_bytes();
     for number in 0..messages {
-        let bytes = vec![in alloc; name, number].ok()?;
-        if !send_one(&mut port, bytes) {
-            return Some(port);
+        if let Ok(bytes) = vec![in alloc; name, number] {
+            send_one(&mut port, bytes);
         }
     }
-    Some(port)
+    port
 }
 
 impl Rig {
@@ -89,8 +82,7 @@ impl Rig {
     // The port of the last thread comes back.
     fn join(&mut self, rt: &impl Host) {
         let worker = self.workers.pop().expect(rt, "a thread");
-        let port = worker.join(rt).expect(rt, "its port");
-        self.ports.push(port).expect(rt, "memory");
+        self.ports.push(worker.join(rt)).expect(rt, "memory");
     }
 }
 
@@ -121,15 +113,11 @@ fn join_all(rt: &impl Host, rig: &mut Rig) {
 fn poll_some(rt: &impl Host, rig: &mut Rig, count: usize) {
     let mut left = count;
     for _turn in 0..TURNS {
+        left = left.saturating_sub(poll_next(rt, rig).released.len());
         if left == 0 {
-            return;
+            break;
         }
-        let now = rig.now().saturating_add(GAP);
-        let report = rig.poll(rt, now).expect(rt, "both networks stand");
-        match report.released.len() {
-            0 => thread::yield_now(),
-            released => left = left.saturating_sub(released),
-        }
+        thread::yield_now();
     }
 }
 
@@ -139,44 +127,35 @@ fn drain(rt: &impl Host, rig: Rig, count: u16) -> Rest {
     let mut rest = rig.gather(rt);
     for _turn in 0..count {
         if !rest.draining.is_done() {
-            let now = rest.now().saturating_add(GAP);
-            rest.poll(rt, now).expect(rt, "both networks stand");
+            drop(poll_next(rt, &mut rest));
         }
     }
     assert_same(rt, rest.draining.is_done(), true);
     rest
 }
 
-// Asserts that a frame has the next message of its port, whose number is below `messages`. The frame's
-// partition names the port.
-fn check_message(rt: &impl Abort, frame: &[u8], next: &mut [u8; PORTS as usize], messages: u8) {
-    let port = frame.get(29).copied().expect(rt, "a partition");
-    let place = usize::from(port)
-        .checked_sub(1)
-        .expect(rt, "no partition 0");
-    let number = next.get_mut(place).expect(rt, "a port's partition");
-    let message = [port, *number];
-    assert_same(rt, frame.get(42..44), Some(message.as_slice()));
-    assert_same(rt, *number < messages, true);
-    *number = number.saturating_add(1);
-}
+// The number of the next message of each port, by its identifier. There is no port 0.
+type Numbers = [u8; 5];
 
 // Asserts that a network took `many` frames: each port's messages in its order, with numbers below `messages`,
-// and that each frame has the least length and the number of its place. Returns how many of each port it took.
-fn check_frames(
-    rt: &impl Abort,
-    network: &MemNetwork,
-    many: usize,
-    messages: u8,
-) -> [u8; PORTS as usize] {
+// and that each frame has the least length, the number of its place, and its port's name as its partition. Returns
+// how many of each port it took.
+fn check_frames(rt: &impl Abort, network: &MemNetwork, many: usize, messages: u8) -> Numbers {
     assert_same(rt, network.handed().len(), many);
-    let mut next = [0u8; PORTS as usize];
-    for (place, entry) in network.handed().iter().enumerate() {
+    let mut next = [0; 5];
+    let mut place = 0;
+    for entry in network.handed() {
         let frame = entry.frame.as_slice();
-        assert_same(rt, frame.len(), 60);
-        assert_same(rt, frame.last().copied(), Some(number_at(place as u64)));
-        check_message(rt, frame, &mut next, messages);
+        assert!(rt; frame.len() == 60);
+        assert_same(rt, frame[59], number_at(place));
+        let port = frame[29];
+        let number = next.get_mut(usize::from(port)).expect(rt, "a port");
+        assert_same(rt, &frame[42..44], [port, *number].as_slice());
+        assert_same(rt, *number < messages, true);
+        *number = number.saturating_add(1);
+        place = place.saturating_add(1);
     }
+    assert_same(rt, next[0], 0);
     next
 }
 
@@ -197,7 +176,7 @@ fn send_from_threads(rt: &impl Host, capacity: u16, messages: u8) {
     let told = (counts.frames, counts.bytes, counts.messages);
     assert_same(rt, told, (sent, sent.saturating_mul(60), sent));
     let (a, b) = rest.networks();
-    let each = [messages; PORTS as usize];
+    let each = [0, messages, messages, messages, messages];
     assert_same(rt, check_frames(rt, a, many, messages), each);
     assert_same(rt, check_frames(rt, b, many, messages), each);
     drop(rest);
@@ -213,15 +192,15 @@ fn four_threads_send_through_queues_with_room_for_two(rt: HostRuntime) {
     send_from_threads(&rt, 2, 20);
 }
 
-// How many messages the ports of a sub-VL report as accepted.
-fn accepted_on(ports: &[TxPort], sub: u16) -> u64 {
+// Asserts how many messages the ports of a sub-VL report as accepted.
+fn assert_accepted(rt: &impl Abort, ports: &[TxPort], sub: u16, total: u64) {
     let mut sum = 0u64;
     for port in ports {
         if port.id().0.saturating_sub(1) / 2 == sub {
             sum = sum.saturating_add(port.accepted());
         }
     }
-    sum
+    assert_same(rt, sum, total);
 }
 
 // Closes sub-VL 0, polls on, and closes sub-VL 1, while the ports send. Returns their totals.
@@ -240,8 +219,8 @@ fn a_close_while_ports_send_tells_what_is_sent_in_the_end(rt: HostRuntime) {
     let mut rig = open_and_start(&rt, 2, 100);
     let [first, second] = close_both(&rt, &mut rig);
     join_all(&rt, &mut rig);
-    assert_same(&rt, accepted_on(&rig.ports, 0), first);
-    assert_same(&rt, accepted_on(&rig.ports, 1), second);
+    assert_accepted(&rt, rig.ports.as_slice(), 0, first);
+    assert_accepted(&rt, rig.ports.as_slice(), 1, second);
     let total = first.saturating_add(second);
     assert_same(&rt, 60 <= total && total <= 64, true);
     assert_same(&rt, rig.tx.close(VlId(1), 0), Ok(first));

@@ -1,7 +1,7 @@
 //! What the tests of this crate share.
 use afdx_config::read_config;
 use afdx_plan::Config;
-use redundant_mux::{Handed, MemNetwork, Standing};
+use redundant_mux::{MemNetwork, Standing};
 pub(crate) use std::alloc::Global;
 use std::fmt::{Debug, Display, InlineText};
 pub(crate) use std::process::Abort;
@@ -50,7 +50,7 @@ pub(crate) const TWO_SUB_VLS: Plan = (
 );
 
 /// Appends the table of a link to the text of a plan.
-fn push_link(rt: &impl Host, text: &mut String, link: &LinkRow) {
+pub(crate) fn push_link(rt: &impl Host, text: &mut String, link: &LinkRow) {
     let (id, networks, lmax, sub_vls, capacity) = *link;
     let table = writeln!(
         text,
@@ -61,7 +61,7 @@ fn push_link(rt: &impl Host, text: &mut String, link: &LinkRow) {
 }
 
 /// Appends the table of a port.
-fn push_port(rt: &impl Host, text: &mut String, port: &PortRow) {
+pub(crate) fn push_port(rt: &impl Host, text: &mut String, port: &PortRow) {
     let (id, vl, sub, partition, max) = *port;
     let table = writeln!(
         text,
@@ -71,8 +71,8 @@ fn push_port(rt: &impl Host, text: &mut String, port: &PortRow) {
     table.expect(rt, "memory");
 }
 
-/// The configuration of a plan, which is read from its text.
-pub(crate) fn config_of(rt: &impl Host, (links, ports): Plan) -> Config {
+/// The text of a plan.
+pub(crate) fn text_of(rt: &impl Host, (links, ports): Plan) -> String {
     let front = "version = 2\n[end_system]\nid = 1\n";
     let mut text = front.to_string(rt.alloc()).expect(rt, "memory");
     for link in links {
@@ -81,7 +81,14 @@ pub(crate) fn config_of(rt: &impl Host, (links, ports): Plan) -> Config {
     for port in ports {
         push_port(rt, &mut text, port);
     }
-    read_config(rt.alloc(), text.as_bytes()).expect(rt, "a valid plan")
+    text
+}
+
+/// The configuration of a plan's text.
+pub(crate) fn config_of(rt: &impl Host, text: String) -> Config {
+    let config = read_config(rt.alloc(), text.as_bytes()).expect(rt, "a valid plan");
+    drop(text);
+    config
 }
 
 /// Asserts that two values are the same.
@@ -94,18 +101,16 @@ pub(crate) fn assert_text(rt: &impl Abort, told: impl Display + Drop, wanted: &s
     assert_same(rt, InlineText::<16>::of(told).as_str(), wanted);
 }
 
-/// Asserts that a frame is of the poll at this place, of polls a gap apart, and has the place as its number.
-pub(crate) fn assert_entry(rt: &impl Abort, entry: &Handed, place: u8) {
-    assert_same(rt, entry.at, GAP * u64::from(place));
-    assert_same(rt, entry.frame.last().copied(), Some(place));
-}
-
-/// Asserts that a network holds the frames of the first `many` polls, and how often it failed.
+/// Asserts that a network holds the frames of the first `many` polls, a gap apart, each with its place as its
+/// number, and how often it failed.
 pub(crate) fn assert_holds(rt: &impl Abort, network: &MemNetwork, (many, failures): (u8, u64)) {
     let handed = network.handed();
     assert_same(rt, handed.len(), usize::from(many));
-    for (place, entry) in (0..many).zip(handed) {
-        assert_entry(rt, entry, place);
+    let mut place = 0;
+    for entry in handed {
+        assert_same(rt, entry.at, GAP.saturating_mul(u64::from(place)));
+        assert_same(rt, entry.frame.last().copied(), Some(place));
+        place = place.saturating_add(1);
     }
     assert_same(rt, network.failures(), failures);
 }

@@ -5,7 +5,7 @@ ghost use Rattle.afdx_legal.specs.Turns.{TakeTurns};
 use crate::rig::*;
 use crate::testing::*;
 use afdx_frame::{ident_of, sn_of, sub_of};
-use redundant_mux::{Handed, MemNetwork};
+use redundant_mux::MemNetwork;
 
 // A link of four sub-VLs with a port on each. A piece has at most 25 bytes.
 const FOUR: Plan = (
@@ -20,10 +20,10 @@ const FOUR: Plan = (
 
 // The first port sends 60 bytes, in three pieces, and each other port two messages of one byte.
 fn send_all(rt: &impl Host, rig: &mut Rig) {
-    assert_same(rt, rig.send(rt, 0, &[0xaa; 60]), None);
+    rig.send(rt, 0, &[0xaa; 60], None);
     for place in 1..rig.ports.len() {
-        assert_same(rt, rig.send(rt, place, &[1]), None);
-        assert_same(rt, rig.send(rt, place, &[2]), None);
+        rig.send(rt, place, &[1], None);
+        rig.send(rt, place, &[2], None);
     }
 }
 
@@ -42,30 +42,23 @@ fn poll_on(rt: &impl Host, tx: &mut Sending, polls: u8)
 fn hand_in_turn(rt: &impl Host, rig: Rig, polls: u8) -> (MemNetwork, MemNetwork)
     ensures { TakeTurns rig.plan result.0.handed result.1.handed }
 {
-    let Rig {
-        mut tx,
-        ports: _ports,
-        workers: _,
-        monitor: _monitor,
-    } = rig;
+    drop((rig.ports, rig.workers, rig.monitor));
+    let mut tx = rig.tx;
     poll_on(rt, &mut tx, polls);
     tx.into_networks()
 }
 
-// Asserts that a frame has this place and identification. The identifications of sub-VL s are s modulo 4.
-fn assert_frame(rt: &impl Abort, entry: &Handed, place: u8, ident: u16) {
-    let frame = entry.frame.as_slice();
-    assert_same(rt, entry.at, GAP * u64::from(place));
-    assert_same(rt, sub_of(frame), Some((ident % 4) as u8));
-    assert_same(rt, ident_of(frame), Some(ident));
-    assert_same(rt, sn_of(frame), Some(place));
-}
-
-// Asserts that a network took frames with these identifications, a gap apart.
+// Asserts that a network took frames with these identifications, a gap apart. Those of sub-VL s are s modulo 4.
 fn assert_row(rt: &impl Abort, network: &MemNetwork, row: &[u16]) {
     assert_same(rt, network.handed().len(), row.len());
-    for (place, (entry, ident)) in (0u8..).zip(network.handed().iter().zip(row)) {
-        assert_frame(rt, entry, place, *ident);
+    let mut place = 0;
+    for (entry, ident) in network.handed().iter().zip(row) {
+        let frame = entry.frame.as_slice();
+        assert_same(rt, entry.at, GAP.saturating_mul(u64::from(place)));
+        assert_same(rt, sub_of(frame), Some((*ident % 4) as u8));
+        assert_same(rt, ident_of(frame), Some(*ident));
+        assert_same(rt, sn_of(frame), Some(place));
+        place = place.saturating_add(1);
     }
 }
 
@@ -73,9 +66,10 @@ fn assert_row(rt: &impl Abort, network: &MemNetwork, row: &[u16]) {
 fn assert_turns(rt: &impl Host, plan: Plan, polls: u8, row: &[u16]) {
     let mut rig = open(rt, plan, NEVER);
     send_all(rt, &mut rig);
-    let (a, b) = hand_in_turn(rt, rig, polls);
-    assert_row(rt, &a, row);
-    assert_row(rt, &b, row);
+    let networks = hand_in_turn(rt, rig, polls);
+    assert_row(rt, &networks.0, row);
+    assert_row(rt, &networks.1, row);
+    drop(networks);
 }
 
 #[test]

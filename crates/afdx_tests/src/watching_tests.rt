@@ -20,10 +20,10 @@ fn poll_and_publish(rt: &impl Host, tx: &mut Sending, count: usize) {
 const MESSAGES: u64 = 10_000;
 
 // Whether the counts are of one entry: each frame of 60 bytes has a message of its own, a gap after the one before.
-fn is_whole(found: &Counts) -> bool {
-    found.messages == found.frames
-        && found.frames.checked_mul(60) == Some(found.bytes)
-        && found.frames.checked_mul(GAP) == Some(found.last)
+fn is_whole(found: Counts) -> bool {
+    let frames = found.frames;
+    frames <= MESSAGES
+        && (found.bytes, found.messages, found.last) == (60 * frames, frames, GAP * frames)
 }
 
 // Reads until all frames are counted. Returns whether each reading was whole, and none older than the one before.
@@ -33,7 +33,7 @@ fn watch<R: Wait>(rt: &R, mut monitor: Monitor) -> bool
     let mut frames = 0;
     for _ in rt.forever() {
         let found = monitor.read(rt, 0);
-        if !is_whole(&found) || found.frames < frames {
+        if !is_whole(found) || found.frames < frames {
             return false;
         }
         if found.frames == MESSAGES {
@@ -47,21 +47,18 @@ fn watch<R: Wait>(rt: &R, mut monitor: Monitor) -> bool
 
 #[test]
 fn a_watcher_reads_whole_counts_while_the_emitter_polls_and_publishes(rt: HostRuntime) {
-    let Rig {
-        mut tx,
-        mut ports,
-        workers: _,
-        monitor,
-    } = open(&rt, DEMO, NEVER);
+    let mut rig = open(&rt, DEMO, NEVER);
+    let mut port = rig.take_first(&rt);
+    drop((rig.ports, rig.workers));
+    let (mut tx, monitor) = (rig.tx, rig.monitor);
     assert!(rt; !tx.config().links().is_empty());
     let watcher = thread::spawn(&rt, move || watch(&rt, monitor)).expect(&rt, "a thread");
     for _message in 0..MESSAGES {
-        for port in ports.iter_mut() {
-            assert_same(&rt, send(&rt, port, &[7]), None);
-        }
+        send(&rt, &mut port, &[7], None);
         poll_and_publish(&rt, &mut tx, 1);
     }
     assert_same(&rt, watcher.join(&rt), true);
+    drop((tx, port));
 }
 
 // The place of the last link of the greatest plan.
@@ -75,13 +72,14 @@ const FRAMES: u64 = 16 * 342;
 
 // Opens 64 links, of which the first and the last have a port each.
 fn open_greatest(rt: &impl Host) -> Rig {
-    let mut links: Vec<LinkRow> = Vec::new(rt.alloc());
+    let mut text = text_of(rt, (&[], &[]));
     for vl in 0..64 {
-        let row = (vl, "both", 64, 1, LONG_MESSAGES);
-        links.push(row).expect(rt, "memory");
+        push_link(rt, &mut text, &(vl, "both", 64, 1, LONG_MESSAGES));
     }
-    let ports = [(0, 0, 0, 1, 8_192), (63, 63, 0, 1, 8_192)];
-    open(rt, (links.as_slice(), &ports), NEVER)
+    for &vl in &[0, 63] {
+        push_port(rt, &mut text, &(vl, vl, 0, 1, 8_192));
+    }
+    open_text(rt, text, NEVER)
 }
 
 // Reads the last link and then the first one, which has as many frames at each poll, until all frames of
@@ -106,20 +104,16 @@ fn watch_two<R: Wait>(rt: &R, mut monitor: Monitor) -> bool
 fn the_first_link_is_never_read_behind_the_last(rt: HostRuntime) {
     let mut rig = open_greatest(&rt);
     for _message in 0..LONG_MESSAGES {
-        for place in 0..2 {
-            assert_same(&rt, rig.send(&rt, place, &[7; 8_192]), None);
-        }
+        rig.send(&rt, 0, &[7; 8_192], None);
+        rig.send(&rt, 1, &[7; 8_192], None);
     }
-    let Rig {
-        mut tx,
-        ports: _,
-        workers: _,
-        monitor,
-    } = rig;
+    drop((rig.ports, rig.workers));
+    let (mut tx, monitor) = (rig.tx, rig.monitor);
     assert!(rt; LAST < tx.config().links().len());
     let watcher = thread::spawn(&rt, move || watch_two(&rt, monitor)).expect(&rt, "a thread");
     for _poll in 0..FRAMES {
         poll_and_publish(&rt, &mut tx, 2);
     }
     assert_same(&rt, watcher.join(&rt), true);
+    drop(tx);
 }

@@ -1,4 +1,4 @@
-use Rattle.std.proofs.Common.{rules, ◌≡◌, ◌∙◌, Option, [], ◌∷◌, ◌++◌, All, IfSome, ap, sym, subst}
+use Rattle.std.proofs.Common.{rules, ◌≡◌, ◌∙◌, [], ◌∷◌, ◌++◌, All, IfSome, ap, sym, subst}
 use Rattle.std.specs.Prelude.{is_ok, if◌then◌else◌}
 use Rattle.std.specs.declared.thread.PromisedHandle.{PromisedHandle}
 use Rattle.std.proofs.lemmas.List.Elements.{All-pop, All-push}
@@ -9,7 +9,7 @@ use Rattle.afdx_tests.proofs.rig.Rig.start.Goals as goal
 pub invariant_of-self : goal.invariant_of-self
 invariant_of-self g c =
     let P = IsPortOfTx c.self.inside.tx in
-    let W : PromisedHandle (Option PortView) ComesBack → Type 0 = λ w. P w.promise.of.value in
+    let W : PromisedHandle PortView ComesBack → Type 0 = λ w. P w.promise.of.value in
     let workers = c.self.inside.workers.items in
     let worker = c.expect.result in
     let left = All-pop P c.self.inside.ports.items c.pop.new.self.items c.pop.result c.pop.ensures.items c.self.invariant.0 in
