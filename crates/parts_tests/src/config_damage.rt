@@ -63,7 +63,7 @@ fn assert_greatest(rt: &impl Host, text: &[u8], max: usize) {
 
 // The greatest messages of the prefixes that are plans, by how many bytes they lack. The last line may lack its
 // end.
-const GREATEST: [usize; 5] = [8192, 8192, 819, 81, 8];
+static GREATEST: [usize; 5] = [8192, 8192, 819, 81, 8];
 
 #[test]
 fn a_prefix_of_the_text_is_read_only_within_its_last_number(rt: HostRuntime) {
@@ -89,11 +89,11 @@ const NO_TOML: &str =
 // A byte, and the number of the fault, or 0, that the demonstration's text has with this byte in place of
 // each of its bytes in turn: of its head and its link, and then of its port. They were found by Python's
 // `tomllib` and the rules of `docs/guide/configuration.md`. Where the byte stood there already, it is 0.
-const BYTES: [u8; 16] = [
+static BYTES: [u8; 16] = [
     0x00, 0x7f, 0x80, 0xff, b'\n', b' ', b'"', b'#', b'-', b'.', b'0', b'9', b'=', b'[', b']', b'a',
 ];
 
-const FAULTS: [&str; 16] = [
+static FAULTS: [&str; 16] = [
     NO_TOML,
     NO_TOML,
     NO_TOML,

@@ -66,7 +66,7 @@ fn assert_demo(rt: &impl Host, text: &str) {
 }
 
 // Changes of the demonstration's text that leave its plan: none, versions, blanks, line ends and comments.
-const SAME_PLAN: [(&str, &str); 8] = [
+static SAME_PLAN: [(&str, &str); 8] = [
     ("", ""),
     ("[end_system]", "version = 1\n[end_system]"),
     ("[end_system]", "version = 2\n[end_system]"),
@@ -138,7 +138,7 @@ const NO_NUMBERS: &str = "1518.0|1.518e3|inf|true|1979-05-27|[1518]";
 
 // The parts of a text, a piece of it, what takes the place of that piece, with `|` between several, and the number of
 // the fault of each text then, or 0.
-const CHANGES: [(&[&str], &str, &str, u8); 73] = [
+static CHANGES: [(&[&str], &str, &str, u8); 73] = [
     (DEMO, " = 8192", " =", 1),
     (DEMO, "id = 1\n", "id = 99999999999999999999\n", 1),
     (DEMO, "lmax = 1518\n", "", 2),
@@ -239,7 +239,7 @@ fn a_text_with_one_change_has_its_fault(rt: HostRuntime) {
 }
 
 // The parts of a text, the value of a key, and what its link and its port have then.
-const NAMED: [(&[&str], &str, Networks, UdpSum, Option<[u8; 4]>); 7] = [
+static NAMED: [(&[&str], &str, Networks, UdpSum, Option<[u8; 4]>); 7] = [
     (VERSIONS, "2", Both, Omitted, None),
     (CHECKSUMS, "'none'", Both, Omitted, None),
     (CHECKSUMS, "'udp'", Both, Generated, None),
@@ -261,7 +261,7 @@ fn a_link_has_the_networks_and_a_port_the_checksum_and_address_of_its_table(rt: 
 }
 
 // Two changes, of the link and of the port, each with a fault, and the lesser number of the two.
-const PAIRS: [(&str, &str, &str, &str, u8); 8] = [
+static PAIRS: [(&str, &str, &str, &str, u8); 8] = [
     ("lmax = 1518", "lmax = 63", "\nmax", "\nspeed = 1\nmax", 3),
     ("lmax", "speed = 1\nlmax", "max = 8192", "max = 0", 3),
     ("lmax = 1518", "lmax = '1518'", "max = 8192", "", 2),
@@ -272,7 +272,7 @@ const PAIRS: [(&str, &str, &str, &str, u8); 8] = [
     ("lmax = 1518", "lmax = true", "max = 8192", "max =", 1),
 ];
 
-const ORDERS: [[&str; 3]; 2] = [[HEAD, LINK, PORT], [PORT, LINK, HEAD]];
+static ORDERS: [[&str; 3]; 2] = [[HEAD, LINK, PORT], [PORT, LINK, HEAD]];
 
 #[test]
 fn the_fault_of_the_least_number_is_returned_in_either_order(rt: HostRuntime) {
@@ -325,7 +325,7 @@ fn a_plan_has_64_links_and_a_sub_vl_64_ports_at_most(rt: HostRuntime) {
     }
 }
 
-const SUBS: [&str; 4] = ["sub = 0", "sub = 1", "sub = 2", "sub = 3"];
+static SUBS: [&str; 4] = ["sub = 0", "sub = 1", "sub = 2", "sub = 3"];
 
 #[test]
 fn a_plan_has_256_ports_at_most(rt: HostRuntime) {

@@ -83,7 +83,7 @@ const AT_10: Hand = (10, Both, Err(BothDown));
 
 // The hands, counted from 1, at which the networks A and B fail; hands; and the times at which each network accepted
 // the frame, and how often it failed then.
-const RUNS: [(u64, u64, &[Hand], &[u64], u64, &[u64], u64); 8] = [
+static RUNS: [(u64, u64, &[Hand], &[u64], u64, &[u64], u64); 8] = [
     (2, NEVER, A_FAILS, &[0], 1, &[0, 1, 2], 0),
     (2, 1, BOTH_FAIL, &[0], 1, &[], 1),
     // a frame for one network goes to it alone, and nowhere if it is down
@@ -116,7 +116,7 @@ fn a_network_that_failed_gets_no_later_frame_and_both_are_an_error(rt: HostRunti
 
 // Hands of a time and bytes, their answers, and what the network holds then: how many frames, how many failures, and
 // the last frame.
-const HANDS: [(u64, &[u8], Result<(), HandFault>, usize, u64, u64, &[u8]); 3] = [
+static HANDS: [(u64, &[u8], Result<(), HandFault>, usize, u64, u64, &[u8]); 3] = [
     (10, &[1, 2], Ok(()), 1, 0, 10, &[1, 2]),
     (20, &[3], Err(HandFault), 1, 1, 10, &[1, 2]),
     (30, &[], Ok(()), 2, 1, 30, &[]),

@@ -32,7 +32,7 @@ fn gaps_are_1_to_128_milliseconds_and_rooms_25_to_1479_bytes(rt: HostRuntime) {
 }
 
 // Each fault of a text, its number and its name.
-const FAULTS: [(ConfigFault, u8, &str); 15] = [
+static FAULTS: [(ConfigFault, u8, &str); 15] = [
     (ConfigFault::Toml, 1, "Toml"),
     (ConfigFault::MissingKey, 2, "MissingKey"),
     (ConfigFault::UnknownKey, 3, "UnknownKey"),

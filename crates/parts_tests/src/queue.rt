@@ -77,7 +77,7 @@ const TWO_CALLS: &[Step] = &[
     Accepted(0, 1),
 ];
 
-const RUNS: [Run; 5] = [
+static RUNS: [Run; 5] = [
     (2, 1, 10, OF_TWO, &[]),
     // a ring of three places gives each message of three turns
     (3, 1, 10, THREE_TURNS, &[]),
@@ -120,7 +120,7 @@ fn a_queue_without_senders_is_gathered_at_once(rt: HostRuntime) {
 }
 
 // Why a queue refuses a message, its number and its name.
-const REFUSALS: [(Why, u8, &str); 3] = [
+static REFUSALS: [(Why, u8, &str); 3] = [
     (Why::Closed, 1, "Closed"),
     (Why::Exhausted, 2, "Exhausted"),
     (Why::Full, 3, "Full"),

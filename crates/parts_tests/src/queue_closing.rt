@@ -36,7 +36,7 @@ const ONE_LEFT: &[Step] = &[
     Sends(0, [3, 0], Some(Why::Closed)),
 ];
 
-const RUNS: [Run; 4] = [
+static RUNS: [Run; 4] = [
     (4, 1, 8, CLOSED_TWICE, &[]),
     // closed comes before exhausted and full
     (1, 1, 2, NO_CALL_LEFT, &[[0, 1, 0]]),
@@ -81,7 +81,7 @@ const TAKEN_IN_A_PAUSE: &[Paused] = &[
 ];
 
 // The capacity of a queue whose sender may call twice, its messages, and steps of the receiver after them.
-const PAUSES: [(usize, &[Paused], &[Step]); 2] = [
+static PAUSES: [(usize, &[Paused], &[Step]); 2] = [
     (
         2,
         CLOSED_IN_A_PAUSE,
@@ -121,7 +121,7 @@ fn send_held(alloc: Global, mut sender: Sender, mut here: Sender, mut go: Receiv
     }
 }
 
-const OTHER: [Run; 1] = [(2, 1, 8, ONE_MESSAGE, &[])];
+static OTHER: [Run; 1] = [(2, 1, 8, ONE_MESSAGE, &[])];
 
 const ONE_MESSAGE: &[Step] = &[Sends(0, [2, 0], None), Takes(Some([0, 2, 0]))];
 

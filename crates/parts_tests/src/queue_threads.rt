@@ -166,7 +166,7 @@ fn close_if(receiver: &mut Receiver, is_closed: bool) -> Option<u64>
 
 // The capacity of a queue, its senders, how many messages are taken while they run, whether the queue is closed then,
 // and the least and the greatest number of messages that are accepted.
-const RUNS: [(usize, usize, u64, bool, u64, u64); 3] = [
+static RUNS: [(usize, usize, u64, bool, u64, u64); 3] = [
     (4, 16, 200, true, 200, 204),
     // all messages of each sender are accepted: none is sent more than once
     (1, 16, 1_599, false, 1_600, 1_600),
