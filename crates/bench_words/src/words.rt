@@ -72,10 +72,10 @@ pub fn read_words<R: Env + AllocGlobal>(rt: &R) -> Result<Words, Error>
 fn refuse(alloc: Global, text: &str) -> Result<Words, Error>
     ensures { IsErr result }
 {
-    match command(alloc)?.error(ErrorKind::InvalidValue, text) {
-        Ok(error) => Err(error),
-        Err(error) => Err(Error::from(error)),
-    }
+    let mut program = command(alloc)?;
+    let refusal = program.error(ErrorKind::InvalidValue, text);
+    drop(program);
+    Err(refusal?)
 }
 
 /// Fails for a number that isn't decimal digits alone.
@@ -117,10 +117,11 @@ fn words_of(alloc: Global, name: &str, matches: &ArgMatches<'_>) -> Result<Words
 fn storm_words(alloc: Global, matches: &ArgMatches<'_>, config: String) -> Result<Words, Error>
     ensures { IfOk result IsInRange }
 {
-    match (messages_of(matches), turns_of(matches)) {
+    let messages = count_of(matches, "messages", MESSAGES_LIMIT as u64);
+    match (messages, count_of(matches, "turns", TURNS_LIMIT)) {
         (Some(messages), Some(turns)) => Ok(Words::Storm {
             config,
-            messages,
+            messages: messages as u32,
             turns,
         }),
         // clap has checked the ranges, but it accepts a plus sign.
@@ -128,19 +129,11 @@ fn storm_words(alloc: Global, matches: &ArgMatches<'_>, config: String) -> Resul
     }
 }
 
-/// How many messages each port is to send.
-fn messages_of(matches: &ArgMatches<'_>) -> Option<u32>
-    ensures { IfSome result (λ messages. (1 ≤ messages) × (messages ≤ MESSAGES_LIMIT)) }
+/// The number of a flag, from 1 to `most`.
+fn count_of(matches: &ArgMatches<'_>, id: &str, most: u64) -> Option<u64>
+    ensures { IfSome result (λ n. (1 ≤ n) × (n ≤ most)) }
 {
-    let messages = count(matches.get_str("messages")?, MESSAGES_LIMIT as u64)?;
-    Some(messages as u32)
-}
-
-/// How often each thread may try.
-fn turns_of(matches: &ArgMatches<'_>) -> Option<u64>
-    ensures { IfSome result (λ turns. (1 ≤ turns) × (turns ≤ TURNS_LIMIT)) }
-{
-    count(matches.get_str("turns")?, TURNS_LIMIT)
+    count(matches.get_str(id)?, most)
 }
 
 /// The number that a word writes in decimal digits alone, if it lies from 1 to `most`.
