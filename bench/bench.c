@@ -155,7 +155,7 @@ static const char *parts;
 
 static FILE *started(const char *part, size_t size, unsigned units) {
     static char command[sizeof text + 1024];
-    int end = snprintf(command, sizeof command, "'%s' time %s %zu %u <<'END'\n%sEND\n", parts, part, size, units, text);
+    int end = snprintf(command, sizeof command, "'%s' %s %zu %u <<'END'\n%sEND\n", parts, part, size, units, text);
     want(end > 0 && (size_t)end < sizeof command, "a long command");
     return popen(command, "r");
 }

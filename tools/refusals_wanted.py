@@ -53,29 +53,36 @@ PARTS = [part.partition("\n") for part in text_of("crates/refusals/stdout").spli
 STORED = {name: text for name, _, text in PARTS}
 # Memory was refused to what a case makes before its call.
 BEFORE = ("before the call", lambda ran: ran.ended(4, "", "no memory before the call\n"))
+# And to the opening of an emitter.
+NOT_OPENED = ("refused by open_tx", lambda ran: ran.ended(4, "", "refused OpenFault\n"))
 
 
-def call(name, note, again=False):
-    """A case whose call is refused by a fault that is noted, after any of its lines, and then made again, from there on or
-    from the start."""
+def call(name):
+    """A case whose call is refused, after any of its lines, and which is then run again."""
     begins = beginnings(STORED[name])[:-1]
-    rest = [STORED[name] if again else STORED[name][len(begin) :] for begin in begins]
-    outputs = {"answered": [STORED[name]], "refused": [begin + note + end for begin, end in zip(begins, rest)]}
+    outputs = {"answered": [STORED[name]], "refused": [begin + "refused\n" + STORED[name] for begin in begins]}
     return Case(name, [name], outputs, ["refused"], [BEFORE])
 
 
+def shown(case):
+    """The case, in which each refusal shows: what follows its call requests no memory."""
+    plain = case.way
+    case.way = lambda ran: None if ran.is_refused and plain(ran) == "answered" else plain(ran)
+    return case
+
+
 def opening():
-    note = "refused OpenFault, plan same\nA takes 1, kept 0, failures 0\nB takes 4, kept 0, failures 0\n"
+    note = f"refused OpenFault\n{REPORT}A takes 1, has 0, failures 0\nB takes 4, has 0, failures 0\n"
     outputs = {"answered": [STORED["open_tx"]], "refused": [note + STORED["open_tx"]]}
     return Case("open_tx", ["open_tx"], outputs, ["refused"], [BEFORE])
 
 
 def handed(a, b):
     """What is printed of two polls in which these hands of A and B fail, counted from 1."""
-    text = "send: Ok\nsend: Ok\n"
+    text = "send: Ok(())\n" * 2
     for hand in (1, 2):
-        up = ["stands" if hand < first else "down" for first in (a, b)]
-        ends = f"released {int('stands' in up)}, A {up[0]}, B {up[1]}"
+        up = [str(hand < first).lower() for first in (a, b)]
+        ends = f"released {int('true' in up)}, Standing {{ a: {up[0]}, b: {up[1]} }}"
         text += f"poll {1000 * (hand - 1)}: {'BothDown' if a < hand and b < hand else ends}\n"
     return text + "".join(f"{net}: handed {min(k - 1, 2)}, failures {int(k <= 2)}\n" for net, k in (("A", a), ("B", b)))
 
@@ -90,20 +97,21 @@ def hands(many):
         "B went down": [first + text for first in b_down],
     }
     if many == 1:
-        return Case("hand", ["hand"], outputs, ["A went down", "B went down"], [BEFORE])
+        return Case("hand", ["hand"], outputs, ["A went down", "B went down"], [BEFORE, NOT_OPENED])
     both_down = [handed(a, b) + text for a in (1, 2) for b in (1, 2)]
     each = [first + second for first in a_down + b_down for second in a_down + b_down]
     outputs.update({"both went down": both_down, "one of each emitter went down": each})
-    return Case("hand", ["hand"], outputs, ["both went down"], [BEFORE], many=many)
+    return Case("hand", ["hand"], outputs, ["both went down"], [BEFORE, NOT_OPENED], many=many)
 
 
 def storm(many):
     """A storm, and another one if the first was refused or had a network that failed."""
-    text, note = STORED["storm"], "refused Memory\n"
+    text, note = STORED["storm"], "refused\n"
     if many == 0:
-        return Case("storm", ["storm"], {"answered": [text], "refused": [note + note]}, ["refused"], [BEFORE], many=0)
+        again = ("refused", lambda ran: ran.ended(4, note, "no memory before the call\n"))
+        return Case("storm", ["storm"], {"answered": [text]}, ["refused"], [BEFORE, again], many=0)
     differs = text.replace("networks equal", "networks differ")
-    outputs = {"answered": [text], "refused": [note + text], "a network went down": [differs + text]}
+    outputs = {"answered": [text], "refused": [note + text], "a network went down": [differs + note + text]}
     return Case("storm", ["storm"], outputs, ["refused", "a network went down"], [BEFORE])
 
 
@@ -117,18 +125,20 @@ def quiet(name, early):
 
 
 CASES = [
-    call("read_config", "refused Memory\n"),
-    call("demo_config", "refused Memory\n"),
-    call("make", "refused AllocError\n"),
+    call("read_config"),
+    call("demo_config"),
+    shown(call("make")),
     opening(),
-    call("open_board", "refused AllocError\n"),
-    call("read_line", "refused Memory\n"),
-    call("run_script", "refused Memory\n", again=True),
+    shown(call("open_board")),
+    call("read_line"),
+    call("run_script"),
     hands(1),
     hands(2),
     storm(1),
     storm(0),
-    quiet("quiet", [("refused by open_tx", lambda ran: ran.ended(4, "", "refused OpenFault\n"))]),
+    quiet("quiet", [NOT_OPENED]),
+    quiet("give_up", [NOT_OPENED]),
+    quiet("queue", []),
     quiet("parts", []),
 ]
 

@@ -15,49 +15,26 @@ const FIRST: Counts = Counts {
     last: 0,
 };
 
-/// Prints a reading.
-pub fn tell_counts(out: &mut Out<'_>, counts: Counts) {
-    let (frames, bytes) = (counts.frames, counts.bytes);
-    let (messages, last) = (counts.messages, counts.last);
-    out.line(format_args!("frames {frames}, bytes {bytes}, messages {messages}, last {last}"));
-}
-
-/// Compares both ends of a new board of one link.
-pub fn compare_ends<R: Wait>(rt: &R, board: &mut Board, monitor: &mut Monitor)
-    requires board { length board.old ≡ 1 }
-    requires monitor { links_of monitor.old ≡ 1 }
-    requires new { AreNew board.old monitor.old }
-    ensures board { board.new ≡ board.old }
-    ensures monitor { monitor.new ≡ monitor.old }
-{
-    seen_begins(rt, board, monitor, 0);
-}
-
-/// Reads before the first entry and after it, and prints both readings.
-pub fn publish_told<R: Wait>(rt: &R, out: &mut Out<'_>, mut board: Board, mut monitor: Monitor)
+/// Compares both ends of a new board, reads before the first entry and after it, and prints both readings.
+fn publish_told<R: Wait>(rt: &R, out: &mut Out<'_>, mut board: Board, mut monitor: Monitor)
     requires board { length board ≡ 1 }
     requires monitor { links_of monitor ≡ 1 }
     requires new { AreNew board monitor }
 {
+    seen_begins(rt, &mut board, &mut monitor, 0);
     let before = monitor.read(rt, 0);
     board.publish(rt, 0, FIRST);
     let after = monitor.read(rt, 0);
-    tell_counts(out, before);
-    tell_counts(out, after)
+    out.line(format_args!("{before:?}\n{after:?}"))
 }
 
-/// Opens a board of one link, a second time if an allocation fails.
+/// Opens a board of one link. What is printed after that allocates nothing.
 pub fn open<R: Wait>(rt: &R, alloc: Global, out: &mut Out<'_>) -> Ended {
-    if let Ok((board, monitor)) = open_board(alloc, 1) {
-        publish_told(rt, out, board, monitor);
-        return Ok(());
-    }
-    out.line("refused AllocError");
     match open_board(alloc, 1) {
         Ok((board, monitor)) => {
             publish_told(rt, out, board, monitor);
             Ok(())
         }
-        Err(_) => Err(Trouble::Twice),
+        Err(_) => Err(Trouble::Refused),
     }
 }

@@ -1,7 +1,10 @@
 //! Reads and makes configurations.
+ghost use Rattle.std.specs.Prelude.{IfOk};
+ghost use Rattle.afdx_plan.specs.Plan.{IsPort, SendsOver};
+
 use crate::trouble::*;
 use afdx_config::read_config;
-use afdx_plan::{Config, ConfigFault, demo_config};
+use afdx_plan::{Config, ConfigFault, LinkPlan, PortPlan, demo_config};
 use plan_report::write_report;
 
 /// The text of the demonstration configuration.
@@ -22,47 +25,51 @@ const SHARED: &str = "[end_system]\nid = 1\n\
 /// A text that ends after an equals sign.
 const CUT: &str = "[end_system]\nid = 1\n[[vl]]\nid = 1\nbag_ms = 1\nlmax =";
 
-/// Prints the plan or the fault.
-fn tell(out: &mut Out<'_>, answer: &Result<Config, ConfigFault>) {
-    match answer {
-        Ok(config) => {
-            let is_printed = write_report(out.writer(), config).is_ok();
-            out.note(is_printed);
-        }
-        Err(fault) => out.line(format_args!("{} {fault}", fault.number())),
-    }
+/// Prints a plan.
+pub fn tell_plan(out: &mut Out<'_>, config: &Config) {
+    let is_printed = write_report(&mut out.writer, config).is_ok();
+    out.note(is_printed)
 }
 
-/// Reads a text, a second time if an allocation fails.
-fn read_text(alloc: Global, out: &mut Out<'_>, text: &str) {
-    let mut answer = read_config(alloc, text.as_bytes());
-    if matches!(answer, Err(ConfigFault::Memory)) {
-        out.line("refused Memory");
-        answer = read_config(alloc, text.as_bytes());
+/// Prints the plan or the fault, unless an allocation failed.
+fn tell(out: &mut Out<'_>, answer: Result<Config, ConfigFault>) -> Ended {
+    match answer {
+        Ok(config) => tell_plan(out, &config),
+        Err(ConfigFault::Memory) => return Err(Trouble::Refused),
+        Err(fault) => out.line(format_args!("{} {fault}", fault.number())),
     }
-    tell(out, &answer)
+    Ok(())
 }
 
 /// Reads a plan, a text with a late fault, and one that is no TOML.
 pub fn read(alloc: Global, out: &mut Out<'_>) -> Ended {
-    read_text(alloc, out, DEMO);
-    read_text(alloc, out, SHARED);
-    read_text(alloc, out, CUT);
+    for &text in &[DEMO, SHARED, CUT] {
+        tell(out, read_config(alloc, text.as_bytes()))?;
+    }
     Ok(())
 }
 
-/// Makes the demonstration configuration, a second time if an allocation fails.
+/// Makes the demonstration configuration.
 pub fn demo(alloc: Global, out: &mut Out<'_>) -> Ended {
-    let mut answer = demo_config(alloc);
-    if matches!(answer, Err(ConfigFault::Memory)) {
-        out.line("refused Memory");
-        answer = demo_config(alloc);
-    }
-    tell(out, &answer);
-    Ok(())
+    tell(out, demo_config(alloc))
 }
 
 /// The demonstration configuration, made before the call under test.
 pub fn prepared(alloc: Global) -> Result<Config, Trouble> {
-    demo_config(alloc).map_err(|_| Trouble::Unprepared)
+    Ok(demo_config(alloc)?)
+}
+
+/// The first port of a configuration and the first link, if the port sends over it.
+pub fn first_flow(config: &Config) -> Result<(PortPlan, LinkPlan), Trouble>
+    ensures port { IfOk result (λ flow. IsPort flow.0) }
+    ensures over { IfOk result (λ flow. SendsOver flow.0 flow.1) }
+{
+    if config.ports().is_empty() || config.links().is_empty() {
+        return Err(Trouble::Missing);
+    }
+    let (port, link) = (config.ports()[0], config.links()[0]);
+    if link.id != port.vl || port.sub >= link.sub_vls {
+        return Err(Trouble::Missing);
+    }
+    Ok((port, link))
 }

@@ -1,10 +1,10 @@
-//! Calls of the library whose allocations fail: a case for each word. A call that fails prints its fault
-//! and is made a second time. Without a word all cases run. The word `time` times parts of the library
-//! instead.
+//! Calls of the library whose allocations fail: a case for each word. A case whose call fails is run a second
+//! time. Without a word all cases run. Three words name a part of the library that is timed, and its load.
 #![tactic(auto)]
 
 mod boards;
 mod configs;
+mod letters;
 mod opening;
 mod parts;
 mod polls;
@@ -22,7 +22,7 @@ use std::thread::Threads;
 use trouble::*;
 
 /// The words that name cases, in the order in which all run.
-const CASES: [&str; 11] = [
+const CASES: [&str; 13] = [
     "read_config",
     "demo_config",
     "make",
@@ -33,11 +33,13 @@ const CASES: [&str; 11] = [
     "hand",
     "storm",
     "quiet",
+    "give_up",
+    "queue",
     "parts",
 ];
 
 /// Runs the case that a word names.
-fn run_case<R: Threads + Wait + Sync>(
+fn run_once<R: Threads + Wait + Sync>(
     rt: &R,
     alloc: Global,
     out: &mut Out<'_>,
@@ -54,44 +56,64 @@ fn run_case<R: Threads + Wait + Sync>(
         "hand" => opening::hand(alloc, out),
         "storm" => storms::throw(rt, alloc, out),
         "quiet" => quiet::send(rt, alloc, out),
-        "parts" => parts::call(rt, alloc, out),
+        "give_up" => quiet::give_up(alloc, out),
+        "queue" => parts::queue(alloc, out),
+        "parts" => parts::call(alloc, out),
         _ => Err(Trouble::NoCase),
+    }
+}
+
+/// Runs the case that a word names, and again if an allocation of its call fails.
+fn run_case<R: Threads + Wait + Sync>(
+    rt: &R,
+    alloc: Global,
+    out: &mut Out<'_>,
+    word: &str,
+) -> Ended {
+    match run_once(rt, alloc, out, word) {
+        Err(Trouble::Refused) => {
+            out.line("refused");
+            run_once(rt, alloc, out, word)
+        }
+        ended => ended,
     }
 }
 
 /// Runs all cases, each after a line that names it.
 fn run_all<R: Threads + Wait + Sync>(rt: &R, alloc: Global, out: &mut Out<'_>) -> Ended {
-    for word in CASES.iter() {
+    for &word in &CASES {
         out.line(format_args!("== {word}"));
         run_case(rt, alloc, out, word)?;
     }
     Ok(())
 }
 
-/// Runs the case that the first word of the command line names, or all. After `time` the word names a part
-/// to be timed, and the two words after it are its load.
+/// Runs all cases, the case that a word names, or times the part that the first of three words names, with the
+/// load of the others.
 fn run<T: Threads + Wait + Sync>(rt: &HostRuntime, threads: &T) -> Ended {
+    let alloc = rt.alloc();
+    let words: Vec<String> = std::env::args(rt)?.collect(alloc)?;
     let mut out = Out::new(rt);
-    let mut words = std::env::args(rt).map_err(|_| Trouble::Unprepared)?;
-    let _program = words.next();
-    match words.next() {
-        Some(word) if word.as_str() == "time" => {
-            let part = words.next().ok_or(Trouble::NoCase)?;
-            let load = timing::load_of(words.next(), words.next()).ok_or(Trouble::NoCase)?;
-            timing::run(rt, threads, &mut out, part.as_str(), load)?
+    let ended = match words.as_slice() {
+        [_program] => run_all(threads, alloc, &mut out),
+        [_program, word] => run_case(threads, alloc, &mut out, word.as_str()),
+        [_program, part, size, units] => {
+            let words = [part.as_str(), size.as_str(), units.as_str()];
+            timing::run(rt, threads, &mut out, words)
         }
-        Some(word) => run_case(threads, rt.alloc(), &mut out, word.as_str())?,
-        None => run_all(threads, rt.alloc(), &mut out)?,
-    }
-    out.end()
+        _ => Err(Trouble::NoCase),
+    };
+    drop(words);
+    out.end(ended)
 }
 
 fn main(rt: HostRuntime) -> ExitCode {
     match run(&rt, &rt) {
         Ok(()) => ExitCode::SUCCESS,
         Err(trouble) => {
-            let _told = eprintln!(rt; "{trouble}");
-            ExitCode::from(trouble.status())
+            let (text, status) = trouble.told();
+            let _told = eprintln!(rt; "{text}");
+            ExitCode::from(status)
         }
     }
 }

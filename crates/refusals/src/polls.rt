@@ -3,73 +3,61 @@ ghost use Rattle.std.specs.Prelude.{◌≡◌, OnOk};
 ghost use Rattle.afdx_tx.specs.Emitter.{Tx};
 ghost use Rattle.afdx_tx.specs.Ports.{PortView, IsPortOfTx};
 
+use crate::letters::{Letter, Two};
 use crate::trouble::*;
 use afdx_tx::{Emitter, PollFault, Report, TxPort};
 use redundant_mux::Network;
 
-fn state(stands: bool) -> &'static str {
-    if stands { "stands" } else { "down" }
-}
-
-/// Prints what a poll released, and which networks are up after it.
+/// Prints how many frames a poll released, and which networks are up after it.
 pub fn tell_report(out: &mut Out<'_>, now: u64, answer: Result<Report, PollFault>) {
     match answer {
         Ok(report) => {
-            let released = report.released.len();
-            let (a, b) = (state(report.standing.a), state(report.standing.b));
-            out.line(format_args!("poll {now}: released {released}, A {a}, B {b}"));
+            let (released, standing) = (report.released.len(), report.standing);
+            drop(report);
+            out.line(format_args!("poll {now}: released {released}, {standing:?}"))
         }
         Err(fault) => out.line(format_args!("poll {now}: {fault}")),
     }
 }
 
-/// Polls at a time that isn't before the last one, and prints the answer.
-pub fn poll_told<A: Network + Drop, B: Network + Drop>(
-    out: &mut Out<'_>,
-    tx: &mut Emitter<A, B>,
-    now: u64,
-)
+/// Polls at a time, or at that of the last poll if that is later, and prints the answer.
+pub fn poll_told<N: Network + Drop>(out: &mut Out<'_>, tx: &mut Emitter<N, N>, now: u64)
     ensures { (port : PortView) → IsPortOfTx tx.old port → IsPortOfTx tx.new port }
 {
-    if now < tx.now() {
-        out.line("missing");
-        return;
-    }
+    let now = now.max(tx.now());
     let answer = tx.poll(now);
     tell_report(out, now, answer)
 }
 
 /// Sends a message, and prints the answer.
-pub fn send_told(out: &mut Out<'_>, port: &mut TxPort, message: Vec<u8>)
+pub fn send_told(out: &mut Out<'_>, port: &mut TxPort, message: Letter)
     ensures { (tx : Tx) → IsPortOfTx tx port.old → IsPortOfTx tx port.new }
 {
-    match port.send(message) {
-        Ok(()) => out.line("send: Ok"),
-        Err(fault) => out.line(format_args!("send: {}", fault.why)),
-    }
+    let Letter { bytes } = message;
+    let answer = port.send(bytes);
+    out.line(format_args!("send: {answer:?}"))
 }
 
-/// Two messages.
-pub type Two = (Vec<u8>, Vec<u8>);
-
-/// Sends two messages by the last port, and polls twice.
-pub fn send_two_told<A: Network + Drop, B: Network + Drop>(
+/// Sends two messages by the last port, polls twice, and takes the networks back.
+pub fn send_two<N: Network + Drop>(
     out: &mut Out<'_>,
-    tx: &mut Emitter<A, B>,
-    ports: &mut [TxPort],
+    mut tx: Emitter<N, N>,
+    mut ports: Vec<TxPort>,
     messages: Two,
-) {
-    let Some(port) = ports.last_mut() else {
-        out.line("missing");
-        return;
-    };
-    send_told(out, port, messages.0);
-    send_told(out, port, messages.1);
-    poll_told(out, tx, 0);
-    poll_told(out, tx, 1_000)
-}
-
-/// A message of one byte.
-pub fn message(alloc: Global, byte: u8) -> Result<Vec<u8>, Trouble> {
-    Ok(vec![in alloc; byte]?)
+) -> (N, N) {
+    let Two { first, second } = messages;
+    match ports.last_mut() {
+        Some(port) => {
+            send_told(out, port, first);
+            send_told(out, port, second)
+        }
+        None => {
+            drop(first);
+            drop(second);
+            out.line("missing")
+        }
+    }
+    poll_told(out, &mut tx, 0);
+    poll_told(out, &mut tx, 1_000);
+    tx.into_networks()
 }

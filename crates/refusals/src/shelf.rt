@@ -2,6 +2,7 @@
 ghost use Rattle.std.specs.Prelude.{◌≡◌, [], map};
 ghost use Rattle.redundant_mux.specs.Entry.{entry};
 
+use crate::trouble::*;
 use afdx_frame::Frame;
 use arrayvec::ArrayVec;
 use redundant_mux::{HandFault, Network};
@@ -61,4 +62,14 @@ pub fn empty_shelf(takes: usize) -> Shelf
         failures: 0,
         takes,
     }
+}
+
+/// Prints of two networks how many frames each accepts, how many it has, and how often it failed.
+pub fn tell_shelves(out: &mut Out<'_>, a: &Shelf, b: &Shelf) {
+    let (a_has, b_has) = (a.kept.len(), b.kept.len());
+    out.line(format_args!(
+        "A takes {}, has {a_has}, failures {}\n\
+        B takes {}, has {b_has}, failures {}",
+        a.takes, a.failures, b.takes, b.failures
+    ))
 }

@@ -1,7 +1,7 @@
 //! Runs a storm of messages.
 use crate::trouble::*;
 use afdx_config::read_config;
-use afdx_plan::{Config, LinkPlan};
+use afdx_plan::LinkPlan;
 use std::sync::Wait;
 use std::thread::Threads;
 use storm::{OpenGate, StormFault, StormReport, storm, write_totals};
@@ -22,46 +22,36 @@ const MESSAGES: u32 = 100;
 
 const TURNS: u64 = 1_000;
 
-fn plan(alloc: Global) -> Result<Config, Trouble> {
-    read_config(alloc, PLAN.as_bytes()).map_err(|_| Trouble::Unprepared)
-}
-
-/// Prints the totals of a storm over these links.
-fn tell(out: &mut Out<'_>, links: &[LinkPlan], report: &StormReport) {
+/// Prints the totals of a storm over these links. It was refused if an allocation of a network failed.
+fn tell(out: &mut Out<'_>, links: &[LinkPlan], report: &StormReport) -> Ended {
     if report.links.len() != links.len() {
-        out.line("missing");
-        return;
+        return Err(Trouble::Missing);
     }
-    let is_printed = write_totals(out.writer(), links, report).is_ok();
+    let is_printed = write_totals(&mut out.writer, links, report).is_ok();
     out.note(is_printed);
+    if report.equal {
+        Ok(())
+    } else {
+        Err(Trouble::Refused)
+    }
 }
 
-/// Runs a storm over a configuration. Returns whether an allocation failed, of a call or of a network.
-fn throw_once<R: Threads + Wait + Sync>(
-    rt: &R,
-    alloc: Global,
-    out: &mut Out<'_>,
-    config: Config,
-    links: &[LinkPlan],
-) -> bool {
-    match storm(rt, alloc, config, MESSAGES, TURNS, &OpenGate) {
+/// Runs a storm.
+pub fn throw<R: Threads + Wait + Sync>(rt: &R, alloc: Global, out: &mut Out<'_>) -> Ended {
+    let config = read_config(alloc, PLAN.as_bytes())?;
+    let links = config.links().to_vec(alloc)?;
+    let ended = match storm(rt, alloc, config, MESSAGES, TURNS, &OpenGate) {
         Ok(report) => {
-            tell(out, links, &report);
-            !report.equal
+            let ended = tell(out, links.as_slice(), &report);
+            drop(report);
+            ended
         }
+        Err(StormFault::Memory) => Err(Trouble::Refused),
         Err(fault) => {
             out.line(format_args!("refused {fault}"));
-            fault == StormFault::Memory
+            Ok(())
         }
-    }
-}
-
-/// Runs a storm, a second time if an allocation fails.
-pub fn throw<R: Threads + Wait + Sync>(rt: &R, alloc: Global, out: &mut Out<'_>) -> Ended {
-    let (first, second) = (plan(alloc)?, plan(alloc)?);
-    let links = first.links().to_vec(alloc)?;
-    if throw_once(rt, alloc, out, first, links.as_slice()) {
-        throw_once(rt, alloc, out, second, links.as_slice());
-    }
-    Ok(())
+    };
+    drop(links);
+    ended
 }

@@ -4,6 +4,7 @@ mod frames;
 mod polls;
 mod queue;
 
+use crate::letters::Letter;
 use crate::trouble::*;
 use afdx_plan::Config;
 use plan_report::read_plan;
@@ -17,59 +18,102 @@ pub struct Load {
     pub units: u32,
 }
 
-/// A reading of the clock, in nanoseconds.
-pub fn now(clock: &impl Clock) -> Result<u64, Trouble> {
-    let time = clock.monotonic().map_err(|_| Trouble::Unprepared)?;
-    let seconds = time.as_secs().wrapping_mul(1_000_000_000);
-    Ok(seconds.wrapping_add(u64::from(time.subsec_nanos())))
+/// Adds up the nanoseconds from each start to its stop.
+#[derive(Clone, Copy)]
+pub struct Watch<'a> {
+    rt: &'a HostRuntime,
+    begun: u64,
+    nanos: u64,
+    failed: bool,
+}
+
+impl<'a> Watch<'a> {
+    pub fn new(rt: &'a HostRuntime) -> Watch<'a> {
+        Watch {
+            rt,
+            begun: 0,
+            nanos: 0,
+            failed: false,
+        }
+    }
+
+    /// A reading of the clock, in nanoseconds.
+    fn now(&mut self) -> u64 {
+        match self.rt.monotonic() {
+            Ok(time) => {
+                let seconds = time.as_secs().wrapping_mul(1_000_000_000);
+                seconds.wrapping_add(u64::from(time.subsec_nanos()))
+            }
+            Err(_) => {
+                self.failed = true;
+                0
+            }
+        }
+    }
+
+    pub fn start(&mut self) {
+        self.begun = self.now();
+    }
+
+    pub fn stop(&mut self) {
+        let now = self.now();
+        self.nanos = self.nanos.wrapping_add(now.wrapping_sub(self.begun));
+    }
+
+    /// Prints the sum if what was timed ended so and the clock could be read.
+    pub fn tell(&self, out: &mut Out<'_>, ended: Ended) -> Ended {
+        if self.failed {
+            return Err(Trouble::Missing);
+        }
+        if ended.is_ok() {
+            out.line(self.nanos);
+        }
+        ended
+    }
 }
 
 /// A message whose byte `i` is 7 i + 3 modulo 256.
-pub fn message(alloc: Global, size: usize) -> Result<Vec<u8>, Trouble> {
+pub fn message(alloc: Global, size: usize) -> Result<Letter, Trouble> {
     let mut bytes = Vec::with_capacity(alloc, size)?;
     for i in 0..size {
         bytes.push(((7 * (i % 256) + 3) % 256) as u8)?;
     }
-    Ok(bytes)
+    if bytes.is_empty() || bytes.len() > 8_192 {
+        return Err(Trouble::NoCase);
+    }
+    Ok(Letter { bytes })
 }
 
 /// The load that two words give.
-pub fn load_of(size: Option<String>, units: Option<String>) -> Option<Load> {
-    let size = size?.as_str().parse::<usize>().ok()?;
-    let units = units?.as_str().parse::<u32>().ok()?;
-    Some(Load { size, units })
+fn load_of(size: &str, units: &str) -> Result<Load, Trouble> {
+    let size = size.parse::<u32>()? as usize;
+    let units = units.parse::<u32>()?;
+    Ok(Load { size, units })
 }
 
-/// The nanoseconds that a part takes.
-fn time<T: Threads>(
-    rt: &HostRuntime,
-    threads: &T,
-    config: Config,
-    part: &str,
-    load: Load,
-) -> Result<u64, Trouble> {
-    match part {
-        "frames" => frames::time(rt, &config, load),
-        "queue" => queue::time_one(rt, load),
-        "threads" => queue::time_threads(rt, threads, load),
-        _ => polls::time(rt, config, part, load),
-    }
+/// The plan that standard input gives.
+fn plan(rt: &HostRuntime) -> Result<Config, Trouble> {
+    read_plan(rt.alloc(), rt.stdin())
+        .ok()
+        .ok_or(Trouble::Unprepared)
 }
 
-/// Reads a plan from standard input, and prints the nanoseconds that a part takes with a load, or at `bytes`
+/// Prints the nanoseconds that the part which the first word names takes with the load of the others, or at `bytes`
 /// the frames of a message.
 pub fn run<T: Threads>(
     rt: &HostRuntime,
     threads: &T,
     out: &mut Out<'_>,
-    part: &str,
-    load: Load,
+    words: [&str; 3],
 ) -> Ended {
-    let config = read_plan(rt.alloc(), rt.stdin()).map_err(|_| Trouble::Unprepared)?;
-    if part == "bytes" {
-        return frames::tell(rt.alloc(), out, &config, load.size);
-    }
-    let nanos = time(rt, threads, config, part, load)?;
-    out.line(nanos);
-    Ok(())
+    let load = load_of(words[1], words[2])?;
+    let mut watch = Watch::new(rt);
+    let ended = match words[0] {
+        "bytes" => return frames::tell(rt, out, load.size),
+        "frames" => frames::time(rt, &mut watch, load),
+        "queue" => queue::time_one(rt.alloc(), &mut watch, load),
+        "threads" => queue::time_threads(threads, rt.alloc(), &mut watch, load),
+        part => polls::time(rt, &mut watch, part, load),
+    };
+    watch.tell(out, ended)
 }

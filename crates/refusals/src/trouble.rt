@@ -1,30 +1,27 @@
 //! Why a case ends early, and its output.
+use afdx_plan::ConfigFault;
+use afdx_tx::OpenFault;
+use redundant_mux::Network;
 pub use std::alloc::Global;
 use std::alloc::{AllocError, AllocFailed};
 use std::fmt::Display;
 use std::io::{self, Printer, Write};
-use thiserror::Error;
+use std::num::ParseIntError;
 
 /// Why a case ends before its answer.
-#[derive(Clone, Copy, Debug, PartialEq, Eq, Error)]
+#[derive(Clone, Copy)]
 pub enum Trouble {
     /// An allocation failed before the call under test.
-    #[error("no memory before the call")]
     Unprepared,
     /// An allocation of `open_tx` failed.
-    #[error("refused OpenFault")]
     NotOpened,
-    /// A call failed a second time, with ample memory.
-    #[error("refused twice")]
-    Twice,
+    /// An allocation of the call under test failed.
+    Refused,
     /// Something that a case has made is missing.
-    #[error("missing")]
     Missing,
     /// Standard output can't be written.
-    #[error("write failed")]
     Output,
     /// No case has that word.
-    #[error("no such case")]
     NoCase,
 }
 
@@ -32,12 +29,15 @@ pub enum Trouble {
 pub type Ended = Result<(), Trouble>;
 
 impl Trouble {
-    /// The exit status of the program.
-    pub fn status(self) -> u8 {
+    /// What the program prints of it on standard error, and its exit status.
+    pub fn told(self) -> (&'static str, u8) {
         match self {
-            Trouble::Unprepared | Trouble::NotOpened => 4,
-            Trouble::NoCase => 2,
-            Trouble::Twice | Trouble::Missing | Trouble::Output => 1,
+            Trouble::Unprepared => ("no memory before the call", 4),
+            Trouble::NotOpened => ("refused OpenFault", 4),
+            Trouble::Refused => ("refused twice", 1),
+            Trouble::Missing => ("missing", 1),
+            Trouble::Output => ("write failed", 1),
+            Trouble::NoCase => ("no such case", 2),
         }
     }
 }
@@ -54,10 +54,35 @@ impl<T: Drop> From<AllocFailed<T>> for Trouble {
     }
 }
 
+impl From<io::Error> for Trouble {
+    fn from(_error: io::Error) -> Trouble {
+        Trouble::Unprepared
+    }
+}
+
+impl From<ParseIntError> for Trouble {
+    fn from(_error: ParseIntError) -> Trouble {
+        Trouble::NoCase
+    }
+}
+
+impl From<ConfigFault> for Trouble {
+    fn from(_fault: ConfigFault) -> Trouble {
+        Trouble::Unprepared
+    }
+}
+
+impl<N: Network + Drop> From<OpenFault<N, N>> for Trouble {
+    fn from(_fault: OpenFault<N, N>) -> Trouble {
+        Trouble::NotOpened
+    }
+}
+
 /// The output of all cases. It prints nothing after a line that could not be printed.
 #[derive(Drop)]
 pub struct Out<'a> {
-    writer: Printer<'a, HostRuntime>,
+    /// For a call that prints by itself; `note` takes its answer.
+    pub writer: Printer<'a, HostRuntime>,
     failed: bool,
 }
 
@@ -75,22 +100,17 @@ impl<'a> Out<'a> {
         }
     }
 
-    /// The writer, for a call that prints by itself and says whether it could.
-    pub fn writer(&mut self) -> &mut Printer<'a, HostRuntime> {
-        &mut self.writer
-    }
-
-    /// Records whether that call could print.
+    /// Records whether a call could print.
     pub fn note(&mut self, is_printed: bool) {
         self.failed = self.failed || !is_printed;
     }
 
-    /// Whether each line was printed.
-    pub fn end(&self) -> Ended {
-        if self.failed {
+    /// How a run ends if its cases ended so.
+    pub fn end(&self, ended: Ended) -> Ended {
+        if self.failed && ended.is_ok() {
             Err(Trouble::Output)
         } else {
-            Ok(())
+            ended
         }
     }
 }

@@ -1,12 +1,14 @@
 //! Times the cutting of messages into frames for two networks.
-ghost use Rattle.std.specs.Prelude.{◌≡◌, ◌<◌, []};
-ghost use Rattle.afdx_plan.specs.Plan.{SendsOver};
+ghost use Rattle.std.specs.Prelude.{◌≡◌, ◌<◌, [], IfOk};
+ghost use Rattle.afdx_plan.specs.Plan.{IsPort, SendsOver};
 ghost use Rattle.redundant_mux.specs.Logged.{entries_of};
 
-use super::{Load, message, now};
+use super::{Load, Watch, message, plan};
+use crate::configs::first_flow;
+use crate::letters::Letter;
 use crate::trouble::*;
 use afdx_frame::{Cut, FrameBuffer, Net};
-use afdx_plan::{Config, LinkPlan, Networks};
+use afdx_plan::{LinkPlan, Networks, PortPlan};
 use redundant_mux::{HandFault, Mux, Network, Trail};
 use script_text::{FrameLog, write_streams};
 
@@ -77,31 +79,36 @@ fn send_cut<N: Network + Drop>(
     }
 }
 
-/// Cuts messages of the first port of a configuration, and sends the frames to both networks.
+/// Cuts messages of a port over a link, and sends the frames to both networks.
 fn send_all<N: Network + Drop>(
     mux: &mut Mux<N, N>,
     frame: &mut FrameBuffer,
-    config: &Config,
-    messages: Vec<Vec<u8>>,
-) -> Ended {
-    if config.ports().is_empty() || config.links().is_empty() {
-        return Err(Trouble::Missing);
-    }
-    let (port, link) = (config.ports()[0], config.links()[0]);
-    if link.id != port.vl || port.sub >= link.sub_vls {
-        return Err(Trouble::Missing);
-    }
+    port: &PortPlan,
+    link: &LinkPlan,
+    messages: Vec<Letter>,
+)
+    requires port { IsPort port.now }
+    requires over { SendsOver port.now link.now }
+{
     for message in messages {
-        if message.is_empty() || message.len() > 8_192 {
-            return Err(Trouble::Missing);
-        }
-        let mut cut = Cut::new(message, 0, &port);
-        send_cut(mux, frame, &link, &mut cut);
+        let Letter { bytes } = message;
+        let mut cut = Cut::new(bytes, 0, port);
+        send_cut(mux, frame, link, &mut cut);
     }
-    Ok(())
 }
 
-fn make_messages(alloc: Global, count: u32, size: usize) -> Result<Vec<Vec<u8>>, Trouble> {
+/// The first port and link of the plan that standard input gives.
+fn flow(rt: &HostRuntime) -> Result<(PortPlan, LinkPlan), Trouble>
+    ensures port { IfOk result (λ flow. IsPort flow.0) }
+    ensures over { IfOk result (λ flow. SendsOver flow.0 flow.1) }
+{
+    let config = plan(rt)?;
+    let flow = first_flow(&config);
+    drop(config);
+    flow
+}
+
+fn make_messages(alloc: Global, count: u32, size: usize) -> Result<Vec<Letter>, Trouble> {
     let mut messages = Vec::new(alloc);
     for _ in 0..count {
         messages.push(message(alloc, size)?)?;
@@ -109,33 +116,39 @@ fn make_messages(alloc: Global, count: u32, size: usize) -> Result<Vec<Vec<u8>>,
     Ok(messages)
 }
 
-/// The nanoseconds of cutting messages of a size into the frames for both networks.
-pub fn time(rt: &HostRuntime, config: &Config, load: Load) -> Result<u64, Trouble> {
+/// Times the cutting of messages of a size into the frames for both networks.
+pub fn time(rt: &HostRuntime, watch: &mut Watch<'_>, load: Load) -> Ended {
+    let (port, link) = flow(rt)?;
     let mut mux = Mux::new(Touch::new(), Touch::new());
     let mut frame = FrameBuffer::new();
-    let mut nanos = 0u64;
     let batch = batch(load.size);
     for _ in 0..load.units / batch {
         let messages = make_messages(rt.alloc(), batch, load.size)?;
-        let begun = now(rt)?;
-        send_all(&mut mux, &mut frame, config, messages)?;
-        nanos = nanos.wrapping_add(now(rt)?.wrapping_sub(begun));
+        watch.start();
+        send_all(&mut mux, &mut frame, &port, &link, messages);
+        watch.stop();
     }
     let (a, b) = mux.into_networks();
     // What was read is used, so that no compiler leaves out the writes.
-    if a.sum == 0 || b.sum == 0 {
-        return Err(Trouble::Missing);
+    let is_read = a.sum != 0 && b.sum != 0;
+    drop(a);
+    drop(b);
+    if is_read {
+        Ok(())
+    } else {
+        Err(Trouble::Missing)
     }
-    Ok(nanos)
 }
 
 /// Prints the frames of a message of a size.
-pub fn tell(alloc: Global, out: &mut Out<'_>, config: &Config, size: usize) -> Ended {
-    let mut mux = Mux::new(FrameLog::new(alloc), FrameLog::new(alloc));
+pub fn tell(rt: &HostRuntime, out: &mut Out<'_>, size: usize) -> Ended {
+    let alloc = rt.alloc();
+    let (port, link) = flow(rt)?;
     let messages = make_messages(alloc, 1, size)?;
-    send_all(&mut mux, &mut FrameBuffer::new(), config, messages)?;
+    let mut mux = Mux::new(FrameLog::new(alloc), FrameLog::new(alloc));
+    send_all(&mut mux, &mut FrameBuffer::new(), &port, &link, messages);
     let (a, b) = mux.into_networks();
-    let is_printed = write_streams(out.writer(), &a, &b).is_ok();
+    let is_printed = write_streams(&mut out.writer, &a, &b).is_ok();
     out.note(is_printed);
     Ok(())
 }

@@ -1,9 +1,9 @@
 //! Times sends and polls of an end system, over networks that keep the frames of a poll.
 ghost use Rattle.std.specs.Prelude.{◌≡◌, [], IfOk};
 
-use super::{Load, message, now};
+use super::{Load, Watch, message, plan};
+use crate::letters::Letter;
 use crate::trouble::*;
-use afdx_plan::Config;
 use afdx_tx::{Emitter, TxPort, open_tx};
 use redundant_mux::Outbox;
 use std::sync::Arc;
@@ -12,11 +12,13 @@ use std::sync::atomic::AtomicBool;
 /// How many messages the queues of a plan hold whose sends or polls are timed alone.
 const BATCH: u32 = 256;
 
-/// An emitter with its ports, the room of each queue, and the time of the last poll in microseconds.
+/// An emitter with its ports, the message that each sends, the room of each queue, and the time of the last poll
+/// in microseconds.
 #[derive(Drop)]
 struct Bench {
     tx: Emitter<Outbox, Outbox>,
     ports: Vec<TxPort>,
+    message: Letter,
     room: usize,
     at: u64,
 }
@@ -28,15 +30,22 @@ fn outbox(alloc: Global) -> Result<Outbox, Trouble>
     Ok(Outbox::new(alloc, fails)?)
 }
 
-fn open(alloc: Global, config: Config) -> Result<Bench, Trouble> {
-    let room = config.links().first().map_or(0, |link| link.capacity);
-    let (a, b) = (outbox(alloc)?, outbox(alloc)?);
-    let Some((tx, ports, _monitor)) = open_tx(alloc, config, a, b).ok() else {
-        return Err(Trouble::NotOpened);
+fn open(rt: &HostRuntime, size: usize) -> Result<Bench, Trouble> {
+    let alloc = rt.alloc();
+    let message = message(alloc, size)?;
+    let a = outbox(alloc)?;
+    let b = outbox(alloc)?;
+    let config = plan(rt)?;
+    let room = match config.links().first() {
+        Some(link) => link.capacity,
+        None => 0,
     };
+    let (tx, ports, monitor) = open_tx(alloc, config, a, b)?;
+    drop(monitor);
     Ok(Bench {
         tx,
         ports,
+        message,
         room,
         at: 0,
     })
@@ -44,9 +53,10 @@ fn open(alloc: Global, config: Config) -> Result<Bench, Trouble> {
 
 impl Bench {
     /// Sends a message through each port.
-    fn send_each(&mut self, alloc: Global, message: &[u8]) -> Ended {
+    fn send_each(&mut self, alloc: Global) -> Ended {
         for port in self.ports.iter_mut() {
-            if port.send(message.to_vec(alloc)?).is_err() {
+            let message = self.message.bytes.as_slice().to_vec(alloc)?;
+            if port.send(message).is_err() {
                 return Err(Trouble::Missing);
             }
         }
@@ -68,71 +78,64 @@ impl Bench {
     }
 }
 
-/// Fills the queues and polls until they are empty, again and again. The nanoseconds of the sends and those
-/// of the polls.
+/// Fills the queues and polls until they are empty, again and again. Times the sends and the polls.
 fn in_batches(
-    rt: &HostRuntime,
+    alloc: Global,
+    sends: &mut Watch<'_>,
+    polls: &mut Watch<'_>,
     bench: &mut Bench,
     units: u32,
-    bytes: &[u8],
-) -> Result<(u64, u64), Trouble> {
-    let (mut sends, mut polls) = (0u64, 0u64);
+) -> Ended {
     for _ in 0..units / BATCH {
-        let begun = now(rt)?;
+        sends.start();
         for _ in 0..bench.room {
-            bench.send_each(rt.alloc(), bytes)?;
+            bench.send_each(alloc)?;
         }
-        let sent = now(rt)?;
+        sends.stop();
+        polls.start();
         for _ in 0..bench.room {
             bench.poll_due()?;
         }
-        sends = sends.wrapping_add(sent.wrapping_sub(begun));
-        polls = polls.wrapping_add(now(rt)?.wrapping_sub(sent));
+        polls.stop();
     }
-    Ok((sends, polls))
+    Ok(())
 }
 
-/// The nanoseconds of sending messages and polling for each.
-fn in_turn(rt: &HostRuntime, bench: &mut Bench, units: u32, bytes: &[u8]) -> Result<u64, Trouble> {
-    let begun = now(rt)?;
+/// Times sending messages and polling for each.
+fn in_turn(alloc: Global, watch: &mut Watch<'_>, bench: &mut Bench, units: u32) -> Ended {
+    watch.start();
     for _ in 0..units {
-        bench.send_each(rt.alloc(), bytes)?;
+        bench.send_each(alloc)?;
         bench.poll_due()?;
     }
-    Ok(now(rt)?.wrapping_sub(begun))
+    watch.stop();
+    Ok(())
 }
 
-/// The nanoseconds of polls at which no link is due.
-fn none_due(rt: &HostRuntime, bench: &mut Bench, units: u32, bytes: &[u8]) -> Result<u64, Trouble> {
-    bench.send_each(rt.alloc(), bytes)?;
+/// Times polls at which no link is due.
+fn none_due(alloc: Global, watch: &mut Watch<'_>, bench: &mut Bench, units: u32) -> Ended {
+    bench.send_each(alloc)?;
     bench.poll_due()?;
-    let begun = now(rt)?;
+    watch.start();
     for _ in 0..units {
         bench.poll()?;
     }
-    Ok(now(rt)?.wrapping_sub(begun))
+    watch.stop();
+    Ok(())
 }
 
-/// The nanoseconds of a part, with messages of these bytes.
-fn time_part(
-    rt: &HostRuntime,
-    bench: &mut Bench,
-    part: &str,
-    units: u32,
-    bytes: &[u8],
-) -> Result<u64, Trouble> {
-    match part {
-        "send" => Ok(in_batches(rt, bench, units, bytes)?.0),
-        "due" => Ok(in_batches(rt, bench, units, bytes)?.1),
-        "poll" => in_turn(rt, bench, units, bytes),
-        "idle" => none_due(rt, bench, units, bytes),
+/// Times a part over an end system of the plan that standard input gives.
+pub fn time(rt: &HostRuntime, watch: &mut Watch<'_>, part: &str, load: Load) -> Ended {
+    let alloc = rt.alloc();
+    let mut other = Watch::new(rt);
+    let mut bench = open(rt, load.size)?;
+    let ended = match part {
+        "send" => in_batches(alloc, watch, &mut other, &mut bench, load.units),
+        "due" => in_batches(alloc, &mut other, watch, &mut bench, load.units),
+        "poll" => in_turn(alloc, watch, &mut bench, load.units),
+        "idle" => none_due(alloc, watch, &mut bench, load.units),
         _ => Err(Trouble::NoCase),
-    }
-}
-
-/// The nanoseconds of a part over an end system of a configuration.
-pub fn time(rt: &HostRuntime, config: Config, part: &str, load: Load) -> Result<u64, Trouble> {
-    let message = message(rt.alloc(), load.size)?;
-    let mut bench = open(rt.alloc(), config)?;
-    time_part(rt, &mut bench, part, load.units, message.as_slice())
+    };
+    drop(bench);
+    ended
 }

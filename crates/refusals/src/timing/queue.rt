@@ -1,7 +1,6 @@
 //! Times a queue alone.
-ghost use Rattle.std.specs.Prelude.{◌≤◌, length};
-
-use super::{Load, now};
+use super::{Load, Watch};
+use crate::letters::{Letter, make_letter};
 use crate::trouble::*;
 use std::thread::{self, Threads};
 use subvl_queue::{Receiver, Sender, make};
@@ -14,20 +13,6 @@ const CALLS: u64 = 1 << 40;
 
 /// How often a message is sent again after Full, and how often the receiver polls.
 const TURNS: u64 = 100_000_000;
-
-/// A message that the queue may take.
-#[derive(Drop)]
-struct Letter {
-    bytes: Vec<u8>,
-    ghost some: { 1 ≤ length bytes.items },
-    ghost most: { length bytes.items ≤ 8192 },
-}
-
-fn make_letter(alloc: Global) -> Result<Letter, Trouble> {
-    Ok(Letter {
-        bytes: vec![in alloc; 7u8]?,
-    })
-}
 
 /// Sends a message, or returns it.
 fn send(sender: &mut Sender, letter: Letter) -> Result<(), Letter> {
@@ -47,18 +32,23 @@ fn pass(sender: &mut Sender, receiver: &mut Receiver, letter: Letter) -> Option<
     Some(Letter { bytes: item.bytes })
 }
 
-/// The nanoseconds of sending and taking one message again and again, on one thread.
-pub fn time_one(rt: &HostRuntime, load: Load) -> Result<u64, Trouble> {
-    let (mut receiver, mut senders) = make(rt.alloc(), ROOM, 1, CALLS)?;
-    let Some(mut sender) = senders.pop() else {
-        return Err(Trouble::Missing);
-    };
-    let mut held = make_letter(rt.alloc())?;
-    let begun = now(rt)?;
-    for _ in 0..load.units {
-        held = pass(&mut sender, &mut receiver, held).ok_or(Trouble::Missing)?;
+/// Sends a message and takes it out again, `times` times.
+fn pass_on(sender: &mut Sender, receiver: &mut Receiver, letter: Letter, times: u32) -> Ended {
+    let mut held = letter;
+    for _ in 0..times {
+        held = pass(sender, receiver, held).ok_or(Trouble::Missing)?;
     }
-    Ok(now(rt)?.wrapping_sub(begun))
+    Ok(())
+}
+
+/// Times sending and taking one message again and again, on one thread.
+pub fn time_one(alloc: Global, watch: &mut Watch<'_>, load: Load) -> Ended {
+    let letter = make_letter(alloc, 7)?;
+    let (mut receiver, mut senders) = make(alloc, ROOM, 1, CALLS)?;
+    watch.start();
+    let ended = pass_on(&mut senders[0], &mut receiver, letter, load.units);
+    watch.stop();
+    ended
 }
 
 /// Sends a message, and again after Full. Returns whether it was accepted.
@@ -77,10 +67,11 @@ fn send_on(sender: &mut Sender, letter: Letter) -> bool {
 /// Sends messages. Returns whether all were accepted.
 fn send_all(alloc: Global, mut sender: Sender, count: u32) -> bool {
     for _ in 0..count {
-        let Ok(letter) = make_letter(alloc) else {
-            return false;
+        let is_sent = match make_letter(alloc, 7) {
+            Ok(letter) => send_on(&mut sender, letter),
+            Err(_) => false,
         };
-        if !send_on(&mut sender, letter) {
+        if !is_sent {
             return false;
         }
     }
@@ -102,26 +93,35 @@ fn take_all(receiver: &mut Receiver, count: u32) -> bool {
     false
 }
 
-/// The nanoseconds of messages from `size` senders, each in a thread of its own, to one receiver.
-pub fn time_threads<T: Threads>(rt: &HostRuntime, threads: &T, load: Load) -> Result<u64, Trouble> {
+/// Times messages from `size` senders, each in a thread of its own, to one receiver.
+pub fn time_threads<T: Threads>(
+    threads: &T,
+    alloc: Global,
+    watch: &mut Watch<'_>,
+    load: Load,
+) -> Ended {
     if load.size == 0 || load.size > 64 {
         return Err(Trouble::NoCase);
     }
-    let alloc = rt.alloc();
     let each = load.units / load.size as u32;
     let (mut receiver, senders) = make(alloc, ROOM, load.size, CALLS)?;
-    let begun = now(rt)?;
+    watch.start();
     let mut workers = Vec::new(alloc);
+    let mut is_whole = true;
     for sender in senders {
-        let Ok(worker) = thread::spawn(threads, move || send_all(alloc, sender, each)) else {
-            return Err(Trouble::Unprepared);
+        is_whole = match thread::spawn(threads, move || send_all(alloc, sender, each)) {
+            Ok(worker) => workers.push(worker).is_ok() && is_whole,
+            Err(_) => false,
         };
-        workers.push(worker)?;
     }
-    let mut is_whole = take_all(&mut receiver, each * load.size as u32);
+    is_whole = is_whole && take_all(&mut receiver, each * load.size as u32);
     for worker in workers {
         is_whole = worker.join(threads) && is_whole;
     }
-    let nanos = now(rt)?.wrapping_sub(begun);
-    is_whole.then_some(nanos).ok_or(Trouble::Missing)
+    watch.stop();
+    if is_whole {
+        Ok(())
+    } else {
+        Err(Trouble::Missing)
+    }
 }
