@@ -1,22 +1,14 @@
 """What runs of the built programs may come to when requests for memory are refused: each way to end, by its name."""
-from trying import HELP, ONE_FRAME, REPORT, SCRIPT, WRONG, text_of, totals
+import sys
 
-# A script of a hundred messages of one byte, each of which is polled for.
-MANY = 100
-LONG = "".join(f"send 10 {place:02x}\nat {1000 * place}\n" for place in range(MANY))
+from trying import DEMO, HELP, ONE_FRAME, REPORT, ROOT, SCRIPT, WRONG, text_of, totals
 
+sys.path.append(f"{ROOT}/examples/run")
+import model
 
-def frame_line(net, place):
-    """The line of the message at a place of the script of a hundred messages."""
-    begin, ends = f"4500001d{4 * place:04x}00000111", "0a000101e0e00001"
-    # (the checksum of RFC 791)
-    words = sum(int((begin + ends)[at : at + 4], 16) for at in range(0, 36, 4))
-    header = f"{begin}{0xFFFF - (words % 0xFFFF or 0xFFFF):04x}{ends}"
-    mac = f"0300000000010200000001{'20' if net == 'A' else '40'}0800"
-    return f"{net} {1000 * place} {mac}{header}03e807d000090000{place:02x}{'00' * 16}{place:02x}\n"
-
-
-LONG_FRAMES = "".join(frame_line(net, place) for net in "AB" for place in range(MANY))
+# A script of a hundred messages of one byte, each of which is polled for, and what is printed of it.
+LONG = "".join(f"send 10 {place:02x}\nat {1000 * place}\n" for place in range(100))
+LONG_FRAMES = model.run(DEMO, LONG.encode())[1]
 
 
 def beginnings(text):
@@ -150,10 +142,8 @@ def command(words, text, given=b"", others=None, many=1, status=0, err=""):
     return Case(" ".join(["afdx_bench", *words]), words, outputs, ["out of memory"], [early], given, many, status, err)
 
 
-RUN = ["run", "plan.toml", "script.txt"]
-LONG_RUN = ["run", "plan.toml", "long.txt"]
-CAPTURED = [*RUN, "--capture", "frames.pcapng"]
-CHECK = ["check", "plan.toml"]
+RUN, LONG_RUN = ["run", "plan.toml", "script.txt"], ["run", "plan.toml", "long.txt"]
+CAPTURED, CHECK = [*RUN, "--capture", "frames.pcapng"], ["check", "plan.toml"]
 STORM = ["storm", "plan.toml", "--messages", "2", "--turns", "1000"]
 
 
