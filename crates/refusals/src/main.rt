@@ -92,18 +92,20 @@ fn run_all<R: Threads + Wait + Sync>(rt: &R, alloc: Global, out: &mut Out<'_>) -
 /// load of the others.
 fn run<T: Threads + Wait + Sync>(rt: &HostRuntime, threads: &T) -> Ended {
     let alloc = rt.alloc();
-    let words: Vec<String> = std::env::args(rt)?.collect(alloc)?;
+    let mut words = std::env::args(rt)?;
+    let _program = words.next();
     let mut out = Out::new(rt);
-    let ended = match words.as_slice() {
-        [_program] => run_all(threads, alloc, &mut out),
-        [_program, word] => run_case(threads, alloc, &mut out, word.as_str()),
-        [_program, part, size, units] => {
-            let words = [part.as_str(), size.as_str(), units.as_str()];
-            timing::run(rt, threads, &mut out, words)
-        }
-        _ => Err(Trouble::NoCase),
+    let ended = match words.next() {
+        None => run_all(threads, alloc, &mut out),
+        Some(word) => match (words.next(), words.next()) {
+            (None, _) => run_case(threads, alloc, &mut out, word.as_str()),
+            (Some(size), Some(units)) => {
+                let words = [word.as_str(), size.as_str(), units.as_str()];
+                timing::run(rt, threads, &mut out, words)
+            }
+            _ => Err(Trouble::NoCase),
+        },
     };
-    drop(words);
     out.end(ended)
 }
 
