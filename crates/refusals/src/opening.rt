@@ -14,8 +14,9 @@ type Opened<N> = (Emitter<N, N>, Vec<TxPort>, Monitor);
 /// Opens an emitter over two networks, of which A takes one frame and B four. If an allocation fails,
 /// prints what is returned and opens that.
 fn open_told(alloc: Global, out: &mut Out<'_>) -> Result<Opened<Shelf>, Trouble> {
+    let (a, b) = (empty_shelf(alloc, 1)?, empty_shelf(alloc, 4)?);
     let config = prepared(alloc)?;
-    match open_tx(alloc, config, empty_shelf(1), empty_shelf(4)) {
+    match open_tx(alloc, config, a, b) {
         Ok(opened) => Ok(opened),
         Err(back) => {
             let OpenFault { config, a, b } = back;

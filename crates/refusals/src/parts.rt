@@ -9,7 +9,7 @@ use crate::letters::{Letter, Two, make_letter, make_long, make_two};
 use crate::opening::tell_both;
 use crate::queues::{gather_told, send_told, take_told};
 use crate::quiet::tell_fields;
-use crate::shelf::{empty_shelf, tell_shelves};
+use crate::shelf::{Shelf, empty_shelf, tell_shelves};
 use crate::trouble::*;
 use afdx_frame::{Cut, Frame, FrameBuffer, Net, twin};
 use afdx_plan::laws::flows_apart;
@@ -106,8 +106,7 @@ fn frame_for_a() -> Frame
 }
 
 /// Sends a frame to two networks, of which B accepts none, and prints which are up, by each call that says so.
-fn use_mux(out: &mut Out<'_>) {
-    let mut mux = Mux::new(empty_shelf(4), empty_shelf(0));
+fn use_mux(out: &mut Out<'_>, mut mux: Mux<Shelf, Shelf>) {
     let frame = frame_for_a();
     let answer = mux.hand(7, &frame, Networks::Both);
     let standing = mux.standing();
@@ -158,9 +157,10 @@ fn use_plan(out: &mut Out<'_>, config: &Config) {
 pub fn call(alloc: Global, out: &mut Out<'_>) -> Ended {
     let config = prepared(alloc)?;
     let long = make_long(alloc)?;
+    let mux = Mux::new(empty_shelf(alloc, 4)?, empty_shelf(alloc, 0)?);
     out.line("made");
     use_shaper(out);
-    use_mux(out);
+    use_mux(out, mux);
     use_memory(alloc, out);
     use_plan(out, &config);
     let ended = use_cut(out, &config, long);

@@ -33,11 +33,12 @@ fn open(alloc: Global) -> Result<Opened, Trouble>
     ensures port { IfOk result (λ opened. IsPortOfTx opened.tx opened.port) }
     ensures monitor { IfOk result (λ opened. 0 < links_of opened.monitor) }
 {
+    let (a, b) = (empty_shelf(alloc, 4)?, empty_shelf(alloc, 4)?);
     let config = prepared(alloc)?;
     if config.links().is_empty() {
         return Err(Trouble::Missing);
     }
-    let (tx, mut others, monitor) = open_tx(alloc, config, empty_shelf(4), empty_shelf(4))?;
+    let (tx, mut others, monitor) = open_tx(alloc, config, a, b)?;
     match others.pop() {
         Some(port) => Ok(Opened {
             tx,

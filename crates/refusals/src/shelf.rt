@@ -1,15 +1,11 @@
-//! A network that allocates nothing.
-ghost use Rattle.std.specs.Prelude.{◌≡◌, [], map};
+//! A network that allocates nothing once it is made.
+ghost use Rattle.std.specs.Prelude.{◌≡◌, [], map, IfOk};
 ghost use Rattle.redundant_mux.specs.Entry.{entry};
 
 use crate::trouble::*;
 use afdx_frame::Frame;
-use arrayvec::ArrayVec;
 use redundant_mux::{HandFault, Network};
-use std::default::Default;
-
-/// How many frames a shelf can hold.
-pub const PLACES: usize = 4;
+use std::alloc::AllocError;
 
 /// A frame, and its time in microseconds.
 #[derive(Drop)]
@@ -18,19 +14,10 @@ pub struct Kept {
     pub frame: Frame,
 }
 
-impl Default for Kept {
-    fn default() -> Kept {
-        Kept {
-            at: 0,
-            frame: Frame::new(),
-        }
-    }
-}
-
-/// A network that has room for four frames in itself, and accepts `takes` of them.
+/// A network that accepts `takes` frames, and has room for them.
 #[derive(Drop)]
 pub struct Shelf {
-    pub kept: ArrayVec<Kept, PLACES>,
+    pub kept: Vec<Kept>,
     pub failures: u64,
     pub takes: usize,
 }
@@ -42,26 +29,27 @@ impl Network for Shelf {
 
     fn hand(&mut self, at: u64, frame: &[u8]) -> Result<(), HandFault> {
         let mut copy = Frame::new();
-        let has_room = !self.kept.is_full() && self.kept.len() < self.takes;
-        if !has_room || copy.try_extend_from_slice(frame).is_err() {
-            self.failures += 1;
-            return Err(HandFault);
+        let has_room = self.kept.len() < self.takes;
+        if has_room && copy.try_extend_from_slice(frame).is_ok() {
+            if self.kept.push(Kept { at, frame: copy }).is_ok() {
+                return Ok(());
+            }
         }
-        self.kept.push(Kept { at, frame: copy });
-        Ok(())
+        self.failures += 1;
+        Err(HandFault)
     }
 }
 
-/// An empty shelf.
-pub fn empty_shelf(takes: usize) -> Shelf
-    ensures empty { map (λ k. entry k.at k.frame.items) result.kept.items ≡ [] }
-    ensures new { result.failures ≡ 0 }
+/// A shelf without frames.
+pub fn empty_shelf(alloc: Global, takes: usize) -> Result<Shelf, AllocError>
+    ensures empty { IfOk result (λ shelf. map (λ k. entry k.at k.frame.items) shelf.kept.items ≡ []) }
+    ensures new { IfOk result (λ shelf. shelf.failures ≡ 0) }
 {
-    Shelf {
-        kept: ArrayVec::new(),
+    Ok(Shelf {
+        kept: Vec::with_capacity(alloc, takes)?,
         failures: 0,
         takes,
-    }
+    })
 }
 
 /// Prints of two networks how many frames each accepts, how many it has, and how often it failed.
