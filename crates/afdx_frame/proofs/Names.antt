@@ -2,7 +2,7 @@
 unfoldable pub use Rattle.afdx_frame.specs.Checksum.{checksum, udp_checksum}
 pub use Rattle.afdx_frame.specs.Checksum.{OneUdpChecksum, word_sum}
 unfoldable pub use Rattle.afdx_frame.specs.Cutting.{cutting, pieces_left}
-pub use Rattle.afdx_frame.specs.Cutting.{Cutting, IsCutting, SameMessage, TakesFirst, cut_by, piece_at, pieces_from}
+pub use Rattle.afdx_frame.specs.Cutting.{Cutting, IsCutting, SameMessage, TakesFirst, cut_by, piece_at, pieces_from, uncut}
 unfoldable pub use Rattle.afdx_frame.specs.Fragments.{fragments_at}
 pub use Rattle.afdx_frame.specs.Fragments.{Sent, blanked, fragments_from, fragments_left}
 unfoldable pub use Rattle.afdx_frame.specs.Frame.{addresses, datagram, header_front, internet_header, link_header, udp_header, udp_sum, unnumbered}
@@ -11,6 +11,8 @@ pub use Rattle.afdx_frame.specs.Header.{IsFrameOf, link_in, number_in, sub_in}
 pub use Rattle.afdx_frame.specs.Profile.{HasAddresses, HasLinkHeader, HasZeroPadding, fragment_field, total_length, word_at}
 pub use Rattle.afdx_frame.specs.ReadBack.{IsPiece, Says}
 pub use Rattle.afdx_frame.specs.Reassembly.{AnyOrder, Buffer, Fragment, NotBefore, bytes_from, bytes_to, covers, empty, fragment_of, fragments_of, joined, put, put_all}
+unfoldable pub use Rattle.afdx_frame.specs.Template.{unfilled}
+pub use Rattle.afdx_frame.specs.Template.{udp_ports}
 pub use Rattle.afdx_frame.specs.UdpCheck.{ChangedWordsFail, ChecksumsPass, IsWordChanged, ReassembledPass}
 pub use Rattle.afdx_frame.specs.declared.net.Net.{Net}
 pub use Rattle.afdx_frame.specs.declared.net.Net.TheVariants.{A, B}

@@ -1,5 +1,5 @@
 -- The worked cases of the laws, by computation.
-use Rattle.afdx_frame.proofs.Names.{◌≡◌, ℕ, zero, suc, ◌+◌, ◌≤◌, ◌<◌, [], ◌∷◌, slice_index, refl, arith, List, get_or, ap, inr, checksum, udp_checksum, IsCutting, cutting, piece_at, pieces_left, A, addresses, header_front, internet_header, link_header, udp_header, datagram, unnumbered, udp_sum, fragments_at, IsPiece, Contains, AllByRecursion, All-contains, All-from_recursion, Fragment, IsWordChanged}
+use Rattle.afdx_frame.proofs.Names.{◌≡◌, ℕ, [], ◌∷◌, slice_index, refl, arith, List, inr, checksum, udp_checksum, IsCutting, cutting, piece_at, pieces_left, A, addresses, header_front, internet_header, link_header, udp_header, datagram, unnumbered, udp_sum, fragments_at, IsPiece, Contains, AllByRecursion, All-contains, All-from_recursion, Fragment, IsWordChanged}
 use Rattle.afdx_frame.specs.Worked.{ChecksOneHeader, CutsInTwo, KeepsTwoPieces, long_sent, TurnsOneFrame, SaysItsFields, GrowsByOne, CutsBoth, TurnsThreeFragments, first_bytes, middle_bytes, last_bytes, foreign_bytes, four_came, three_came, ThreePieces, MissesTheMiddle, ChecksThreeDatagrams, first_datagram, damaged_datagram}
 use Rattle.afdx_frame.proofs.PiecesAre.{pieces_are}
 use Rattle.afdx_plan.specs.Demo.{demo_port}

@@ -2,6 +2,7 @@ pub mod Roles
 pub mod Buffered
 pub mod Checksum
 pub mod Frame
+pub mod Template
 pub mod Cutting
 pub mod Twin
 pub mod Profile

@@ -35,9 +35,12 @@ fn put_front(out: &mut [u8; GREATEST_FRAME], frame: &[u8])
     requires { length frame.now ≤ GREATEST_FRAME }
     ensures { take (length frame.now) out.new ≡ frame.now }
 {
-    if frame.len() == SHORTEST_FRAME {
-        // A copy of a fixed length is no call.
-        put(out, 0, &frame[..SHORTEST_FRAME]);
+    // A copy of a fixed length is no call.
+    if let (Some(front), Some(short)) = (
+        out.first_chunk_mut::<SHORTEST_FRAME>(),
+        frame.as_array::<SHORTEST_FRAME>(),
+    ) {
+        *front = *short;
     } else {
         put(out, 0, frame);
     }

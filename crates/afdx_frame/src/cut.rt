@@ -7,11 +7,12 @@ ghost use Rattle.afdx_frame.specs.Roles.{greatest_message, greatest_datagram};
 ghost use Rattle.afdx_frame.specs.Header.{IsFrameOf};
 ghost use Rattle.afdx_frame.specs.Fragments.{blanked, fragments_at, fragments_left};
 ghost use Rattle.afdx_frame.specs.declared.net.Net.{Net as Network};
-ghost use Rattle.afdx_frame.specs.Cutting.{Cutting, IsCut, cutting, pieces_from, pieces_left, piece_at, SameMessage, TakesFirst, written};
+ghost use Rattle.afdx_frame.specs.Cutting.{Cutting, IsCut, cutting, pieces_from, pieces_left, piece_at, SameMessage, TakesFirst, uncut, written};
 
 use crate::buffer::FrameBuffer;
 use crate::net::{Frame, Net};
 use crate::piece::Piece;
+use crate::template::Template;
 use crate::write::write_frame;
 use afdx_plan::{LinkPlan, PortPlan};
 use std::marker::Model;
@@ -22,7 +23,7 @@ use std::marker::Model;
 pub struct Cut {
     bytes: Vec<u8>,
     place: u64,
-    port: PortPlan,
+    template: Template,
     start: usize,
     // The length of the datagram.
     end: usize,
@@ -35,14 +36,14 @@ impl Model for Cut {
     ghost Value = { Cutting };
 
     ghost view = { λ c. record {
-      port = c.port;
+      port = c.template;
       place = c.place;
       bytes = c.bytes.items;
       capacity = vec_capacity c.bytes;
       start = c.start;
     } };
 
-    ghost invariant = { λ c. IsCut c.port c.bytes.items c.start × (c.end ≡ 8 + length c.bytes.items) };
+    ghost invariant = { λ c. IsCut c.bytes.items c.start × (c.end ≡ 8 + length c.bytes.items) };
 }
 
 /// The next piece, if there is one. If the rest doesn't fit into the room, the piece is the
@@ -91,14 +92,37 @@ impl Cut {
             ≡ fragments_at end_system room net place
             (record { port = port.now; bytes = bytes.items }) }
     {
+        Cut::from_template(bytes, place, &Template::new(port))
+    }
+
+    /// As `new`, for the port of a template.
+    pub fn from_template(bytes: Vec<u8>, place: u64, template: &Template) -> Cut
+        requires some { 1 ≤ vec_len bytes }
+        requires most { vec_len bytes ≤ greatest_message }
+        ensures { result ≡ uncut template.now place bytes.items (vec_capacity bytes) }
+    {
         let end = 8 + bytes.len();
         Cut {
             bytes,
             place,
-            port: *port,
+            template: *template,
             start: 0,
             end,
         }
+    }
+
+    /// Begins to cut another message, as `from_template`, in place of this one.
+    #[inline(always)]
+    pub fn restart(&mut self, bytes: Vec<u8>, place: u64, template: &Template)
+        requires some { 1 ≤ vec_len bytes }
+        requires most { vec_len bytes ≤ greatest_message }
+        ensures { self.new ≡ uncut template.now place bytes.items (vec_capacity bytes) }
+    {
+        self.end = 8 + bytes.len();
+        self.bytes = bytes;
+        self.place = place;
+        self.template = *template;
+        self.start = 0;
     }
 
     /// Whether all pieces were given.
@@ -176,7 +200,7 @@ impl Cut {
         write_frame(
             out,
             end_system,
-            &self.port,
+            &self.template,
             &self.bytes,
             self.place,
             piece,

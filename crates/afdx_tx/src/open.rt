@@ -1,7 +1,7 @@
 //! Opening an emitter.
-ghost use Rattle.std.specs.Prelude.{◌≡◌, ◌<◌, ◌&&◌, [], length, nat_eq, IfOk, IfErr};
+ghost use Rattle.std.specs.Prelude.{◌≡◌, ◌<◌, ◌&&◌, [], length, nat_eq, All, IfOk, IfErr};
 ghost use Rattle.afdx_plan.specs.Config.{IsPlan};
-ghost use Rattle.afdx_plan.specs.Plan.{IsLink};
+ghost use Rattle.afdx_plan.specs.Plan.{IsLink, IsPort};
 ghost use Rattle.afdx_tx.specs.Emitter.{IsOpenedSub, IsOpenedLink, AreOpenedLinks, AreFreshLinks, IsFreshTx, ports_of_sub, queues_in};
 ghost use Rattle.afdx_tx.specs.Ports.{ArePortsOf, AreFreshPorts, AreOpenedWith};
 ghost use Rattle.status_board.specs.Views.{links_of, AreNew};
@@ -11,6 +11,7 @@ use crate::fault::OpenFault;
 use crate::port::TxPort;
 use crate::routing::{link_of, port_at};
 use crate::transmitter::Transmitter;
+use afdx_frame::Template;
 use afdx_plan::{Config, LinkPlan, PortPlan};
 use redundant_mux::Network;
 use status_board::{Board, Monitor, open_board};
@@ -28,15 +29,16 @@ fn is_port_of(port: &PortPlan, of: &SubVl) -> bool
     port.vl == of.link.id && port.sub == of.sub
 }
 
-/// The ports of a sub-VL, in the order of the configuration.
-fn ports_of(alloc: Global, ports: &[PortPlan], of: &SubVl) -> Result<Vec<PortPlan>, AllocError>
+/// What the frames of each port of a sub-VL have in common, in the order of the configuration.
+fn templates_of(alloc: Global, ports: &[PortPlan], of: &SubVl) -> Result<Vec<Template>, AllocError>
+    requires { All IsPort ports.now }
     ensures { IfOk result
         (λ own. own.items ≡ ports_of_sub ports.now of.now.link.id.0 of.now.sub) }
 {
     let mut own = Vec::new(alloc);
     for port in ports {
         if is_port_of(port, of) {
-            own.push(*port)?;
+            own.push(Template::new(port))?;
         }
     }
     Ok(own)
@@ -49,7 +51,7 @@ fn open_sub(alloc: Global, config: &Config, of: SubVl) -> Result<Sub, AllocError
     ensures { IfOk result
         (λ sub. IsOpenedSub of (ports_of_sub config.now.ports of.link.id.0 of.sub) 0 sub) }
 {
-    let ports = ports_of(alloc, config.ports(), &of)?;
+    let ports = templates_of(alloc, config.ports(), &of)?;
     let receiver = open_queue(alloc, of.link.capacity)?;
     Ok(Sub::new(of, ports, receiver))
 }

@@ -4,7 +4,8 @@ ghost use Rattle.afdx_plan.specs.Plan.{IsPort, SendsOver};
 
 use crate::testing::*;
 use afdx_frame::{
-    Cut, Frame, FrameBuffer, Net, ident_of, more_of, offset_of, sn_of, sub_of, twin, vl_of,
+    Cut, Frame, FrameBuffer, Net, Template, ident_of, more_of, offset_of, sn_of, sub_of, twin,
+    vl_of,
 };
 use afdx_plan::{Bag, Kind, LinkPlan, Lmax, Networks, PortId, PortPlan, UdpSum, VlId};
 
@@ -79,7 +80,8 @@ fn only_frame(rt: &impl Host, port: &PortPlan, net: Net) -> Frame
     requires vl { port.now.vl ≡ record { 0 = 1 } }
     requires sub { port.now.sub ≡ 0 }
 {
-    let mut cut = Cut::new([1u8].to_vec(rt.alloc()).expect(rt, "memory"), 0, port);
+    let bytes = [1u8].to_vec(rt.alloc()).expect(rt, "memory");
+    let mut cut = Cut::from_template(bytes, 0, &Template::new(port));
     let mut frame = FrameBuffer::new();
     let was_done = cut.is_done();
     let was_left = cut.write_next(&link(Lmax::new(1518), 1), 1, 0, net, &mut frame);

@@ -79,9 +79,7 @@ fn hand_to<N: Network + Drop>(
     }
 }
 
-/// As `hand_to`, with B's twin of a frame for A. The twin is made in the frame's own bytes, which are then as
-/// they were.
-#[tactic(auto, using(afdx_frame::proofs::Twins::twin_twice))]
+/// As `hand_to`, with B's twin of a frame for A, which is the same afterwards.
 #[inline(always)]
 fn hand_twin<N: Network + Drop>(
     network: &mut N,
@@ -98,10 +96,8 @@ fn hand_twin<N: Network + Drop>(
     ensures unfailed { stands.new ≡ true → N.failures network.new ≡ 0 }
     ensures same { frame.new.items ≡ frame.old.items }
 {
-    if named && *stands {
-        frame.turn(Net::B);
-        hand_to(network, stands, true, at, frame.as_slice());
-        frame.turn(Net::A);
+    if named && *stands && network.hand_twin(at, frame).is_err() {
+        *stands = false;
     }
 }
 

@@ -1,9 +1,12 @@
 //! A network that keeps the last frames that it accepted.
-ghost use Rattle.std.specs.Prelude.{◌≡◌, length, IfOk};
+ghost use Rattle.std.specs.Prelude.{◌≡◌, ◌+◌, ◌≤◌, ◌^◌, ◌<◌, [], ◌∷◌, ◌++◌, if◌then◌else◌, length, IfOk, OnOk, OnErr};
+ghost use Rattle.afdx_frame.specs.Twin.{twin_of};
+ghost use Rattle.afdx_frame.specs.declared.net.Net.TheVariants.{B as ForB};
+ghost use Rattle.redundant_mux.specs.Entry.{entry};
 
 use crate::network::{HandFault, Network};
 use crate::trail::Trail;
-use afdx_frame::FrameBuffer;
+use afdx_frame::{FrameBuffer, GREATEST_FRAME, Net};
 use afdx_plan::Networks;
 use std::alloc::{AllocError, Global};
 use std::boxed::BoxedSlice;
@@ -98,6 +101,35 @@ impl Outbox {
         }
         Some(&self.slots[(number % ROOM as u64) as usize])
     }
+
+    /// Keeps a frame, or its twin for network B, in the slot of the frame accepted 64 frames before.
+    /// Fails while the flag is set, and after 2^64 - 1 frames. The twin is made in the slot: to make it in the
+    /// frame would have its copy wait for that write.
+    #[inline(always)]
+    fn keep(&mut self, at: u64, frame: &[u8], is_twin: bool) -> Result<(), HandFault>
+        requires short { length frame.now ≤ GREATEST_FRAME }
+        requires few { self.old.failures + 1 < 2 ^ 64 }
+        ensures ok { OnOk result (self.new.handed ≡ self.old.handed
+            ++ entry at (if is_twin then twin_of ForB frame.now else frame.now) ∷ []) }
+        ensures ok_failures { OnOk result (self.new.failures ≡ self.old.failures) }
+        ensures err { OnErr result (self.new.handed ≡ self.old.handed) }
+        ensures err_failures { OnErr result (self.new.failures ≡ self.old.failures + 1) }
+    {
+        if self.fails.load(Ordering::SeqCst) || self.count == u64::MAX {
+            self.failures += 1;
+            return Err(HandFault);
+        }
+        let slot = &mut self.slots[(self.count % ROOM as u64) as usize];
+        slot.at = at;
+        slot.frame.fill(frame);
+        if is_twin {
+            slot.frame.turn(Net::B);
+        }
+        self.count += 1;
+        // Contracts read the entries alone, so any `Networks` will do.
+        self.trail = Trail::with(&self.trail, &Networks::Both, &at, slot.frame.as_slice());
+        Ok(())
+    }
 }
 
 impl Network for Outbox {
@@ -109,17 +141,13 @@ impl Network for Outbox {
 
     /// Overwrites the frame accepted 64 frames before. Fails while the flag is set, and after 2^64
     /// - 1 frames.
+    #[inline(always)]
     fn hand(&mut self, at: u64, frame: &[u8]) -> Result<(), HandFault> {
-        if self.fails.load(Ordering::SeqCst) || self.count == u64::MAX {
-            self.failures += 1;
-            return Err(HandFault);
-        }
-        let slot = &mut self.slots[(self.count % ROOM as u64) as usize];
-        slot.at = at;
-        slot.frame.fill(frame);
-        self.count += 1;
-        // Contracts read the entries alone, so any `Networks` will do.
-        self.trail = Trail::with(&self.trail, &Networks::Both, &at, frame);
-        Ok(())
+        self.keep(at, frame, false)
+    }
+
+    #[inline(always)]
+    fn hand_twin(&mut self, at: u64, frame: &mut FrameBuffer) -> Result<(), HandFault> {
+        self.keep(at, frame.as_slice(), true)
     }
 }

@@ -1,15 +1,16 @@
 //! A sub-VL: its queue, and the message being sent.
-ghost use Rattle.std.specs.Prelude.{◌≡◌, ◌≢◌, ◌≤◌, [], ◌∷◌, length, All, Some, IfOk, IfErr};
+ghost use Rattle.std.specs.Prelude.{◌≡◌, ◌≢◌, ◌≤◌, [], ◌∷◌, length, All, Some, IfOk, IfErr, vec_len, vec_capacity};
 ghost use Rattle.afdx_plan.specs.Plan.{IsLink};
 ghost use Rattle.afdx_frame.specs.declared.net.Net.TheVariants.{A as ForA};
+ghost use Rattle.afdx_frame.specs.Cutting.{uncut};
 ghost use Rattle.afdx_frame.specs.Fragments.{blanked};
 ghost use Rattle.afdx_frame.specs.Header.{IsFrameOf};
+ghost use Rattle.afdx_frame.specs.Roles.{greatest_message};
 ghost use Rattle.vl_link.specs.Links.{left_of, TellsCutting};
 
 use crate::queue::Queue;
 use crate::sub_vl::SubVl;
-use afdx_frame::{Cut, FrameBuffer, Net};
-use afdx_plan::PortPlan;
+use afdx_frame::{Cut, FrameBuffer, Net, Template};
 use std::alloc::AllocError;
 use std::boxed::BoxedSlice;
 use std::marker::Model;
@@ -21,7 +22,7 @@ use subvl_queue::{Item, Receiver, Sender};
 pub struct Sub {
     of: SubVl,
     // In the order of the configuration. A message's port is an index into them.
-    ports: BoxedSlice<PortPlan>,
+    ports: BoxedSlice<Template>,
     sending: Option<Cut>,
     queue: Queue,
     // The place of the next message, modulo 16,384.
@@ -56,9 +57,9 @@ impl Sub {
     ghost use Rattle.vl_link.specs.LinkSenders.{LacksSender, SubMakesSender, SubTakesBack};
     ghost use Rattle.vl_link.specs.Closing.{ClosesSub};
 
-    /// A sub-VL of these ports, over a queue with no more senders than ports, which has taken
+    /// A sub-VL of the ports of these templates, over a queue with no more senders than ports, which has taken
     /// nothing.
-    pub fn new(of: SubVl, ports: Vec<PortPlan>, receiver: Receiver) -> Sub
+    pub fn new(of: SubVl, ports: Vec<Template>, receiver: Receiver) -> Sub
         requires link { IsLink of.link }
         requires ports { All (IsPortOf of) ports.items }
         requires count { receiver.ports ≤ length ports.items }
@@ -92,7 +93,7 @@ impl Sub {
             Some(item) => {
                 let Item { port, bytes } = item;
                 let sender = &self.ports[usize::from(port)];
-                self.sending = Some(Cut::new(bytes, u64::from(self.place), sender));
+                start(&mut self.sending, bytes, u64::from(self.place), sender);
                 self.place = (self.place + 1) % 16384;
                 true
             }
@@ -172,6 +173,30 @@ impl Sub {
         };
         self.queue = Queue::Gathered(receiver.into_gathered());
     }
+}
+
+/// Begins to send a message of the port of a template, in place of one that was sent.
+#[inline(always)]
+fn start(sending: &mut Option<Cut>, bytes: Vec<u8>, place: u64, port: &Template)
+    requires some { 1 ≤ vec_len bytes }
+    requires most { vec_len bytes ≤ greatest_message }
+    ensures { sending.new ≡ Some (uncut port.now place bytes.items (vec_capacity bytes)) }
+{
+    match sending {
+        Some(cut) => cut.restart(bytes, place, port),
+        None => start_first(sending, bytes, place, port),
+    }
+}
+
+/// As `start`, for the first message. Not inlined, so that others need no room for a new cut.
+#[cold]
+#[inline(never)]
+fn start_first(sending: &mut Option<Cut>, bytes: Vec<u8>, place: u64, port: &Template)
+    requires some { 1 ≤ vec_len bytes }
+    requires most { vec_len bytes ≤ greatest_message }
+    ensures { sending.new ≡ Some (uncut port.now place bytes.items (vec_capacity bytes)) }
+{
+    *sending = Some(Cut::from_template(bytes, place, port));
 }
 
 /// Whether a message is being sent.

@@ -109,6 +109,10 @@ impl Shaper {
         ensures apart { (j : ℕ) → j < self.now.sub_vls →
             turn_of self.now.sub_vls self.now.last j ≡ result → j ≡ k }
     {
+        if self.sub_vls == 1 {
+            // The only one, before it is known which was served last.
+            return k;
+        }
         match self.last {
             None => k,
             Some(last) => {

@@ -1,14 +1,14 @@
 //! Times the cutting of messages into frames for two networks.
 ghost use Rattle.std.specs.Prelude.{◌≡◌, ◌<◌, [], IfOk};
-ghost use Rattle.afdx_plan.specs.Plan.{IsPort, SendsOver};
+ghost use Rattle.afdx_plan.specs.Plan.{SendsOver};
 ghost use Rattle.redundant_mux.specs.Logged.{entries_of};
 
 use super::{Load, Watch, message, plan};
 use crate::configs::first_flow;
 use crate::letters::Letter;
 use crate::trouble::*;
-use afdx_frame::{Cut, FrameBuffer, Net};
-use afdx_plan::{LinkPlan, Networks, PortPlan};
+use afdx_frame::{Cut, FrameBuffer, Net, Template};
+use afdx_plan::{LinkPlan, Networks};
 use redundant_mux::{HandFault, Mux, Network, Trail};
 use script_text::{FrameLog, write_streams};
 
@@ -79,33 +79,36 @@ fn send_cut<N: Network + Drop>(
     }
 }
 
-/// Cuts messages of a port over a link, and sends the frames to both networks.
+/// Cuts messages of a port over a link, and sends the frames to both networks. The list keeps its block, whose freeing
+/// would be timed too.
 fn send_all<N: Network + Drop>(
     mux: &mut Mux<N, N>,
     frame: &mut FrameBuffer,
-    port: &PortPlan,
+    port: &Template,
     link: &LinkPlan,
-    messages: Vec<Letter>,
+    messages: &mut Vec<Letter>,
 )
-    requires port { IsPort port.now }
-    requires over { SendsOver port.now link.now }
+    requires { SendsOver port.now link.now }
 {
-    for message in messages {
+    for _ in 0..messages.len() {
+        let Some(message) = messages.pop() else {
+            return;
+        };
         let Letter { bytes } = message;
-        let mut cut = Cut::new(bytes, 0, port);
+        let mut cut = Cut::from_template(bytes, 0, port);
         send_cut(mux, frame, link, &mut cut);
     }
 }
 
-/// The first port and link of the plan that standard input gives.
-fn flow(rt: &HostRuntime) -> Result<(PortPlan, LinkPlan), Trouble>
-    ensures port { IfOk result (λ flow. IsPort flow.0) }
-    ensures over { IfOk result (λ flow. SendsOver flow.0 flow.1) }
+/// The first port and link of the plan that standard input gives. The port is in a block of its own, as those of a
+/// sub-VL are.
+fn flow(rt: &HostRuntime) -> Result<(Box<Template>, LinkPlan), Trouble>
+    ensures { IfOk result (λ flow. SendsOver flow.0.value flow.1) }
 {
     let config = plan(rt)?;
-    let flow = first_flow(&config);
+    let (port, link) = first_flow(&config)?;
     drop(config);
-    flow
+    Ok((Box::new(rt.alloc(), Template::new(&port))?, link))
 }
 
 fn make_messages(alloc: Global, count: u32, size: usize) -> Result<Vec<Letter>, Trouble> {
@@ -123,9 +126,9 @@ pub fn time(rt: &HostRuntime, watch: &mut Watch<'_>, load: Load) -> Ended {
     let mut frame = FrameBuffer::new();
     let batch = batch(load.size);
     for _ in 0..load.units / batch {
-        let messages = make_messages(rt.alloc(), batch, load.size)?;
+        let mut messages = make_messages(rt.alloc(), batch, load.size)?;
         watch.start();
-        send_all(&mut mux, &mut frame, &port, &link, messages);
+        send_all(&mut mux, &mut frame, &port, &link, &mut messages);
         watch.stop();
     }
     let (a, b) = mux.into_networks();
@@ -144,9 +147,15 @@ pub fn time(rt: &HostRuntime, watch: &mut Watch<'_>, load: Load) -> Ended {
 pub fn tell(rt: &HostRuntime, out: &mut Out<'_>, size: usize) -> Ended {
     let alloc = rt.alloc();
     let (port, link) = flow(rt)?;
-    let messages = make_messages(alloc, 1, size)?;
+    let mut messages = make_messages(alloc, 1, size)?;
     let mut mux = Mux::new(FrameLog::new(alloc), FrameLog::new(alloc));
-    send_all(&mut mux, &mut FrameBuffer::new(), &port, &link, messages);
+    send_all(
+        &mut mux,
+        &mut FrameBuffer::new(),
+        &port,
+        &link,
+        &mut messages,
+    );
     let (a, b) = mux.into_networks();
     let is_printed = write_streams(&mut out.writer, &a, &b).is_ok();
     out.note(is_printed);

@@ -1,13 +1,14 @@
-use Rattle.afdx_frame.proofs.Names.{◌≡◌, length, refl, arith, unnumbered}
-use Rattle.afdx_frame.proofs.Says.{length-destination}
+use Rattle.afdx_frame.proofs.Names.{refl, subst, unnumbered}
+use Rattle.afdx_plan.specs.Plan.{IsPort}
+use Rattle.afdx_frame.proofs.Filled.{headers_there, ports_follow}
 use Rattle.afdx_frame.proofs.write.write_frame.Goals as goal
 
-pub returns : goal.returns
+pub put_piece-requires-clause-ports : goal.put_piece-requires-clause-ports
+put_piece-requires-clause-ports c =
+    ports_follow _ _ _ _ _ _ (subst IsPort c.template.view_is c.template.invariant.port_is) _ _ c.put_headers.ensures
+
+pub returns-clause-frame : goal.returns-clause-frame
 unfolding unnumbered
-returns c =
-    let port = c.args.port.now in
-    let thirty : length c.headers-front.result ≡ 30 = omega arith in
-    let first = rw thirty at c.put.ensures in
-    let four = length-destination port.vl.0 port.unicast c.requires.port.unicast in
-    let both = rw (c.destination.ensures, four, first, c.headers-front.ensures, c.identification-identification.ensures) at c.put-2.ensures in
-    rw (c.put_end.ensures, c.saturating_sub-padding.ensures, c.put_piece.ensures, both) refl
+returns-clause-frame c =
+    let headers = headers_there _ _ _ _ _ _ (subst IsPort c.template.view_is c.template.invariant.port_is) _ _ c.put_headers.ensures in
+    rw (c.put_end.ensures, c.saturating_sub-padding.ensures, c.put_piece.ensures, headers, c.identification-identification.ensures, c.template.view_is) refl

@@ -7,7 +7,7 @@ use Rattle.afdx_frame.proofs.cut.Cut.write_next.Goals as goal
 pub returns-in_default-clause-frame : goal.returns-in_default-clause-frame
 returns-in_default-clause-frame c =
     let cut : Cutting = record {
-      port = c.self.inside.port;
+      port = c.self.inside.template;
       place = c.self.inside.place;
       bytes = c.self.inside.bytes.items;
       capacity = vec_capacity c.self.inside.bytes;
@@ -19,7 +19,7 @@ pub returns-clause-frame : goal.returns-clause-frame
 returns-clause-frame c =
     let room = room_of c.args.link.now.lmax in
     let cut : Cutting = record {
-      port = c.self.inside.port;
+      port = c.self.inside.template;
       place = c.self.inside.place;
       bytes = c.self.inside.bytes.items;
       capacity = vec_capacity c.self.inside.bytes;
@@ -28,7 +28,7 @@ returns-clause-frame c =
     let first : c.in-Some.piece ≡ piece_at room (8 + length cut.bytes) cut.start =
     rw (← c.room-room.ensures.value, ← c.self.invariant.1) c.in-Some.ensures.1 in
     rw (← c.self.view_is) (rw (left_first room cut (omega arith) (omega (arith, c.in-Some.ensures.0)))
-    (rw (c.write_frame.ensures, c.deref.ensures.value, first) refl, rw first refl))
+    (rw (c.write_frame.ensures.frame, c.deref.ensures.value, first) refl, rw first refl))
 
 pub returns-in_default-clause-fragments : goal.returns-in_default-clause-fragments
 returns-in_default-clause-fragments c =
@@ -42,8 +42,8 @@ returns-clause-fragments c =
 pub returns-clause-header : goal.returns-clause-header
 returns-clause-header c =
     let within : c.in-Some.piece.start + c.in-Some.piece.len ≤ 8 + length c.deref.result.now = search (rules, arith) in
-    let says : IsFrameOf c.self.inside.port.vl.0 c.self.inside.port.sub c.args.number c.args.net c.write_frame.new.out.items =
-    rw c.write_frame.ensures
-    (header_says c.args.end_system c.self.inside.port c.deref.result.now c.self.inside.place c.in-Some.piece
-    c.args.net c.args.number c.self.invariant.0.port within) in
+    let says : IsFrameOf c.self.inside.template.vl.0 c.self.inside.template.sub c.args.number c.args.net c.write_frame.new.out.items =
+    rw c.write_frame.ensures.frame
+    (header_says c.args.end_system c.self.inside.template c.deref.result.now c.self.inside.place c.in-Some.piece
+    c.args.net c.args.number c.write_frame.ensures.port within) in
     λ _. subst (λ (cut : Cutting). IsFrameOf cut.port.vl.0 cut.port.sub c.args.number c.args.net c.write_frame.new.out.items) c.self.view_is says

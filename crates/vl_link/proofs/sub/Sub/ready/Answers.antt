@@ -1,25 +1,23 @@
-use Rattle.vl_link.proofs.Names.{ℕ, ◌≡◌, ◌∙◌, ◌%◌, ◌<◌, ap, sym, subst, refl, inr, arith, [], Bool, false, Option, List, length, get_or_read, room_of, Cutting, A, fragments_again, SubVl, taken_of, TellsCutting, left_of, message_fragments, sent_of, IsPortOf, IsCutOf, seen_of}
+use Rattle.vl_link.proofs.Names.{ℕ, ◌≡◌, ◌∙◌, ◌%◌, ◌<◌, ap, sym, subst, refl, inr, arith, [], Bool, false, Option, List, length, get_or_read, room_of, Cutting, A, fragments_again, SubVl, taken_of, TellsCutting, left_of, message_fragments, sent_of, IsPortOf, seen_of}
 use Rattle.afdx_plan.specs.Config.{port_plan_at}
+use Rattle.afdx_frame.proofs.FragmentLemmas.{cut_whole}
 use Rattle.vl_link.proofs.FragmentsLeft.{fragments_some}
 use Rattle.vl_link.proofs.QueueLooks.{item_of_more, same_nothing, same_ports, taken_nothing, kept_as, kept_finds}
 use Rattle.vl_link.proofs.sub.Sub.ready.Goals as goal
 
 -- The message's port is one of the sub-VL's.
-has_port : (c : goal.After-self-in-Some-1) → c.from.result < length c.self.inside.ports.items.items
+has_port : (c : goal.After-self-1) → c.from.result < length c.self.inside.ports.items.items
 has_port c =
     let place = c.from.ensures ∙ ap (λ (i : ℕ × List ℕ). i.0) c.item.view_is in
     let port = c.in-Some.ensures.item.port in let count = c.self.invariant.count in omega arith
 
--- The cut is of this sub-VL.
-own : (c : goal.After-self-in-Some-1) → IsCutOf c.self.inside.of c.new.result
-own c =
-    let port = subst (IsPortOf c.self.inside.of) (sym c.index-sender.ensures)
-    (c.self.invariant.senders c.from.result c.index-sender.result.now (has_port c)) in
-    let same = c.new.ensures.message.0 in
-    record { over = rw same port.over; of_sub = rw same port.of_sub }
+-- The message is sent from a port of this sub-VL.
+own : (c : goal.After-self-1) → IsPortOf c.self.inside.of c.index-sender.result.now
+own c = subst (IsPortOf c.self.inside.of) (sym c.index-sender.ensures)
+    (c.self.invariant.senders c.from.result c.index-sender.result.now (has_port c))
 
 -- The cut message is the found one.
-cut_is : (c : goal.After-self-in-Some-1)
+cut_is : (c : goal.After-self-1)
     → record { port = c.index-sender.result.now; bytes = c.item.inside.bytes.items } ≡ sent_of c.self.inside.ports.items.items c.in-Some.item
 cut_is c =
     let place = c.from.ensures ∙ ap (λ (i : ℕ × List ℕ). i.0) c.item.view_is in
@@ -38,7 +36,8 @@ is_whole of sending cutting idle tells = rw idle at tells
 pub returns-in-Some : goal.returns-in-Some
 returns-in-Some c =
     let of = c.self.inside.of in
-    let left = c.new.ensures.fragments of.end_system (room_of of.link.lmax) A
+    let left = ap (left_of of) c.start.ensures
+    ∙ cut_whole of.end_system (room_of of.link.lmax) A _ _ (record { port = c.index-sender.result.now; bytes = c.item.inside.bytes.items })
     ∙ ap (λ (place : ℕ). message_fragments c.self.inside.of place
     (record { port = c.index-sender.result.now; bytes = c.item.inside.bytes.items })) (c.from-in-Some.ensures ∙ c.self.invariant.place)
     ∙ ap (message_fragments c.self.inside.of (length (taken_of (seen_of c.self.inside.queue)) % 16384)) (cut_is c)
@@ -62,7 +61,9 @@ invariant_of-self c =
     kept_as _ _ _ _ _ _ c.self.invariant (same_ports _ _ (same_nothing _ _ none)) (taken_nothing _ _ none)
 
 pub invariant_of-self-in-Some : goal.invariant_of-self-in-Some
-invariant_of-self-in-Some c = kept_finds _ _ _ _ _ _ _ _ c.self.invariant c.in-Some.ensures.some (own c)
+invariant_of-self-in-Some c =
+    rw c.start.ensures (kept_finds _ _ _ _ _ _ _ _ c.self.invariant c.in-Some.ensures.some
+    (record { over = (own c).over; of_sub = (own c).of_sub }))
 
 pub returns-in-None : goal.returns-in-None
 returns-in-None c =

@@ -1,5 +1,5 @@
 use Rattle.afdx_tx.proofs.Names.{◌≡◌, take, ports_of_sub}
-use Rattle.afdx_tx.proofs.open.ports_of.Given as goal
+use Rattle.afdx_tx.proofs.open.templates_of.Given as goal
 
 abbrev pub invariant-loop-port : goal.invariant-loop-port
 invariant-loop-port l = l.own.items ≡ ports_of_sub (take l.port-index l.ports) l.of.link.id.0 l.of.sub

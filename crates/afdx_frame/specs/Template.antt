@@ -1,0 +1,30 @@
+-- The headers of a port's frames, made once for all of them.
+use Rattle.std.specs.Prelude.{◌≡◌, ℕ, ◌≤◌, List, ◌++◌, replicate}
+use Rattle.afdx_plan.specs.Plan.{IsPort}
+use Rattle.afdx_plan.specs.declared.port_plan.PortPlan.{PortPlan}
+use Rattle.afdx_plan.specs.Address.{two_bytes}
+use Rattle.afdx_frame.specs.declared.net.Net.TheVariants.{A}
+use Rattle.afdx_frame.specs.Checksum.{word_sum}
+use Rattle.afdx_frame.specs.Frame.{addresses, link_header}
+
+-- the UDP ports of a port (RFC 768)
+abbrev pub udp_ports : PortPlan → List ℕ
+udp_ports port = two_bytes port.source ++ two_bytes port.destination
+
+-- The headers of a port's frames for network A, up to the UDP ports. Zero are the fields that a frame fills in: the end
+-- system's identifier, the total length, the identification, flags and offset, and the header checksum.
+unfoldable pub unfilled : PortPlan → List ℕ
+unfilled port = link_header port.vl.0 0 A
+    ++ two_bytes 17664
+    ++ replicate 6 0
+    ++ two_bytes 273
+    ++ replicate 2 0
+    ++ addresses 0 port
+    ++ udp_ports port
+
+-- the invariant of a template
+pub record IsTemplate (port : PortPlan) (headers : List ℕ) (sum : ℕ) : Type 0 where
+  pub port_is : IsPort port
+  pub headers_are : headers ≡ unfilled port
+  pub sum_is : sum ≡ word_sum (addresses 0 port)
+  pub most : sum ≤ 400000
