@@ -291,19 +291,11 @@ static void check_explain(void) {
                      "or inline table\n");
 }
 
-/* The room of a list of `many` elements that has grown one by one. */
-static size_t room(size_t many) {
-    size_t room = many == 0 ? 0 : 4;
-    while (room < many) room *= 2;
-    return room;
-}
-
 /* The bytes that an end system holds from afdx_open to afdx_free: docs/guide/c.md has this formula. */
 static size_t formula(size_t links, size_t sub_vls, size_t capacity, size_t each) {
     size_t ports = links * sub_vls * each;
-    size_t of_sub_vl = 312 + 48 * capacity + 32 * room(each);
-    return 198592 + 280 * links + 24 * (links < 4 ? 4 : links) + 96 * ports + 32 * (ports < 4 ? 4 : ports)
-        + links * sub_vls * of_sub_vl;
+    return 198592 + 280 * links + 24 * (links < 4 ? 4 : links) + 176 * ports + 32 * (ports < 4 ? 4 : ports)
+        + links * sub_vls * (360 + 48 * capacity);
 }
 
 static void check_memory(void) {

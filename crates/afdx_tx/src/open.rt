@@ -35,7 +35,8 @@ fn templates_of(alloc: Global, ports: &[PortPlan], of: &SubVl) -> Result<Vec<Tem
     ensures { IfOk result
         (λ own. own.items ≡ ports_of_sub ports.now of.now.link.id.0 of.now.sub) }
 {
-    let mut own = Vec::new(alloc);
+    let count = ports.iter().filter(|port| is_port_of(port, of)).count();
+    let mut own = Vec::with_capacity(alloc, count)?;
     for port in ports {
         if is_port_of(port, of) {
             own.push(Template::new(port))?;
