@@ -26,6 +26,8 @@ mod rig;
 #[cfg(test)]
 mod sending_tests;
 #[cfg(test)]
+mod size_tests;
+#[cfg(test)]
 mod testing;
 #[cfg(test)]
 mod turn_tests;

@@ -60,13 +60,18 @@ pub(crate) fn push_link(rt: &impl Host, text: &mut String, link: &LinkRow) {
     table.expect(rt, "memory");
 }
 
-/// Appends the table of a port.
+/// Appends the table of a port, which sends from the UDP port 1,000 and its sub-VL.
 pub(crate) fn push_port(rt: &impl Host, text: &mut String, port: &PortRow) {
+    push_port_from(rt, text, port, 1_000 + u16::from(port.2));
+}
+
+/// The same, from this UDP port.
+pub(crate) fn push_port_from(rt: &impl Host, text: &mut String, port: &PortRow, source: u16) {
     let (id, vl, sub, partition, max) = *port;
     let table = writeln!(
         text,
         "[[port]]\nid = {id}\nvl = {vl}\nsub = {sub}\nmax = {max}\n\
-        partition = {partition}\nsource = 100{sub}\nkind = 'queuing'\ndestination = 2000"
+        partition = {partition}\nsource = {source}\nkind = 'queuing'\ndestination = 2000"
     );
     table.expect(rt, "memory");
 }

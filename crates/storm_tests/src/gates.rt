@@ -44,7 +44,8 @@ pub enum Until {
     Entered(u64),
     /// The first call of each worker waits until the main thread has polled this often.
     Polled(u64),
-    /// The first call of each worker waits until the watcher has read each of two links this often.
+    /// The first call of each worker waits until the watcher has read each of two links this often. The watcher
+    /// waits after each reading until the main thread has polled.
     Read(u64),
     /// The main thread waits after a poll until a message was accepted, and a worker before its call of
     /// this number until a frame was released. So at least one frame isn't left for the drain.
@@ -67,8 +68,9 @@ pub struct Holding {
     /// How often the watcher read each of two links.
     pub first: Count,
     pub second: Count,
-    /// How often a worker that is followed was before or after a call, and how often at the wrong time.
+    /// How often a worker that is followed was before or after a call.
     pub calls: Count,
+    /// How often it was at the wrong time, or the watcher waited for a poll in vain.
     pub wrong: Count,
 }
 
@@ -142,5 +144,11 @@ impl Gate for Holding {
     fn watched(&self, link: usize) {
         let readings = if link == 0 { &self.first } else { &self.second };
         readings.add(1);
+        if let Until::Read(_least) = self.until {
+            // (a watcher that was once left without a poll doesn't wait again)
+            if self.wrong.get() == 0 && !self.polls.reaches(1) {
+                self.wrong.add(1);
+            }
+        }
     }
 }

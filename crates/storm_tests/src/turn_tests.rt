@@ -61,12 +61,14 @@ fn each_link_has_its_own_counts(rt: HostRuntime) {
     assert_report(&rt, ended, (30, 30, 30, true), &links);
 }
 
-// The workers are held until the watcher has read both links as often as it has to.
+// The workers are held until the watcher has read both links as often as it has to, and the watcher until the
+// emitter was polled.
 #[test]
-fn a_watcher_reads_each_link_while_the_workers_are_held(rt: HostRuntime) {
+fn a_watcher_reads_each_link_while_the_emitter_is_polled(rt: HostRuntime) {
     let gate = Holding::until(Until::Read(50));
     let ended = storm_of(&rt, TWO_LINKS, (50, 100_000_000), &gate);
     let links = [(50, 3_000, 50), (100, 6_000, 100)];
     assert_report(&rt, ended, (150, 150, 150, true), &links);
     assert_same(&rt, (gate.first.get(), gate.second.get()), (50, 50));
+    assert_same(&rt, gate.wrong.get(), 0);
 }
