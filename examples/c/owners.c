@@ -314,9 +314,12 @@ static void check_memory(void) {
         CHECK(most == wanted || most < 60 * strlen(text));
         CHECK(afdx_port_of(&it, 0, &port) == AFDX_OK && bytes == wanted + 112);
         CHECK(afdx_send(&port, message, sizeof message) == AFDX_OK && bytes == wanted + 112 + sizeof message);
-        /* no allocation from here on */
+        /* no allocation from here on; the message's block is freed with the sixth fragment, its last */
         size_t asked = requests;
-        for (uint64_t now = 0; now < 10000; now += 1000) CHECK(afdx_poll(&it, now, &standing) == AFDX_OK);
+        for (uint64_t now = 0; now < 10000; now += 1000) {
+            CHECK(afdx_poll(&it, now, &standing) == AFDX_OK);
+            CHECK(bytes == wanted + 112 + (now < 5000 ? sizeof message : 0));
+        }
         CHECK(afdx_frame(&it, AFDX_A, 0, frame, sizeof frame, &length) == AFDX_NO_FRAME);
         CHECK(afdx_give_back(&it, &port) == AFDX_OK && afdx_gather(&it) == AFDX_OK && requests == asked);
         CHECK(afdx_free(&it) == AFDX_OK && blocks == 0 && bytes == 0);

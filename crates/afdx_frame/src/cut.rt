@@ -7,7 +7,7 @@ ghost use Rattle.afdx_frame.specs.Roles.{greatest_message, greatest_datagram};
 ghost use Rattle.afdx_frame.specs.Header.{IsFrameOf};
 ghost use Rattle.afdx_frame.specs.Fragments.{blanked, fragments_at, fragments_left};
 ghost use Rattle.afdx_frame.specs.declared.net.Net.{Net as Network};
-ghost use Rattle.afdx_frame.specs.Cutting.{Cutting, IsCut, cutting, pieces_from, pieces_left, piece_at, SameMessage, TakesFirst, uncut, written};
+ghost use Rattle.afdx_frame.specs.Cutting.{Cutting, IsCut, cutting, pieces_from, pieces_left, piece_at, SameMessage, TakesFirst, released, uncut, written};
 
 use crate::buffer::FrameBuffer;
 use crate::net::{Frame, Net};
@@ -130,6 +130,19 @@ impl Cut {
         ensures { (room : ℕ) → IsTrue result ↔ (pieces_left room self.now ≡ []) }
     {
         self.start == self.end
+    }
+
+    /// Frees the message's memory, once all pieces were given. None is left afterwards.
+    #[inline(always)]
+    pub fn release(&mut self)
+        requires done { (room : ℕ) → pieces_left room self.old ≡ [] }
+        ensures free { self.new ≡ released self.old }
+        ensures none { (room : ℕ) → pieces_left room self.new ≡ [] }
+    {
+        let alloc = *self.bytes.allocator();
+        self.bytes = Vec::new(alloc);
+        self.start = 8;
+        self.end = 8;
     }
 
     /// Returns the frame of the next piece, with this sequence number, for this network. Returns

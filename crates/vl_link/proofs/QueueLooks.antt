@@ -106,3 +106,14 @@ kept_finds of ports sending cut old new place message h finds own = record {
   place = let place = h.place in rw (taken_finds old message new finds)
       (omega (arith, length-append (taken_of old) (message ∷ [])));
 }
+
+-- Another message is being sent.
+pub kept_cut : (of : SubVl) (ports : List PortPlan) (sending : Option Cutting) (cut : Cutting) (seen : Seen) (place : ℕ)
+    → IsSub of ports sending seen place → IsCutOf of cut → IsSub of ports (Some cut) seen place
+kept_cut of ports sending cut seen place h own = record {
+  link = h.link;
+  senders = h.senders;
+  count = h.count;
+  sending_is = own;
+  place = h.place;
+}

@@ -1,11 +1,12 @@
 -- The invariant of a sub-VL.
-use Rattle.std.specs.Prelude.{ℕ, ◌≡◌, ◌≤◌, ◌%◌, List, length, All, Option, IfSome}
+use Rattle.std.specs.Prelude.{ℕ, ◌≡◌, ◌≤◌, ◌%◌, List, [], length, All, Option, Some, IfSome}
 use Rattle.afdx_plan.specs.Plan.{IsLink, IsPort, SendsOver}
 use Rattle.afdx_plan.specs.declared.port_plan.PortPlan.{PortPlan}
 use Rattle.afdx_frame.specs.Cutting.{Cutting}
 use Rattle.vl_link.specs.declared.sub_vl.SubVl.{SubVl}
 use Rattle.vl_link.specs.declared.queue.Queue.{Queue}
 use Rattle.vl_link.specs.declared.queue.Queue.TheVariants.{Receiving, Gathered, Empty}
+use Rattle.vl_link.specs.Links.{left_of}
 use Rattle.vl_link.specs.Seen.{Seen, receiving, gathered, nothing_seen, taken_of, ports_of}
 
 -- the receiver, or all ends; a queue that was moved out counts as one without ports
@@ -20,10 +21,11 @@ pub record IsPortOf (owner : SubVl) (sender : PortPlan) : Type 0 where
   pub over : SendsOver sender owner.link
   pub of_sub : sender.sub ≡ owner.sub
 
--- the message being sent is of this sub-VL
+-- The message being sent is of this sub-VL. With its last fragment its memory was freed.
 pub record IsCutOf (owner : SubVl) (cut : Cutting) : Type 0 where
   pub over : SendsOver cut.port owner.link
   pub of_sub : cut.port.sub ≡ owner.sub
+  pub free : left_of owner (Some cut) ≡ [] → cut.capacity ≡ 0
 
 -- The ports are of this sub-VL, and the queue has no more senders than ports. The place of the next
 -- message is the number of messages taken modulo 16,384.

@@ -122,6 +122,9 @@ impl Sub {
                 if !cut.write_next(&of.link, of.end_system, number, Net::A, out) {
                     unreachable!()
                 }
+                if cut.is_done() {
+                    cut.release();
+                }
             }
         }
     }

@@ -63,7 +63,12 @@ invariant_of-self c =
 pub invariant_of-self-in-Some : goal.invariant_of-self-in-Some
 invariant_of-self-in-Some c =
     rw c.start.ensures (kept_finds _ _ _ _ _ _ _ _ c.self.invariant c.in-Some.ensures.some
-    (record { over = (own c).over; of_sub = (own c).of_sub }))
+    (record {
+      over = (own c).over;
+      of_sub = (own c).of_sub;
+      free = λ none. absurd (fragments_some c.self.inside.of _ (record { port = c.index-sender.result.now; bytes = c.item.inside.bytes.items })
+          (sym (cut_whole c.self.inside.of.end_system (room_of c.self.inside.of.link.lmax) A _ _ _) ∙ none));
+    }))
 
 pub returns-in-None : goal.returns-in-None
 returns-in-None c =
