@@ -3,7 +3,7 @@ use Rattle.std.specs.Prelude.{ℕ, ◌≡◌, ◌-◌, ◌^◌, ◌≤◌, List,
 use Rattle.redundant_mux.specs.declared.mux.Standing.{Standing}
 use Rattle.redundant_mux.specs.Lines.{BothEndure, IsMirrored, log}
 use Rattle.afdx_legal.specs.Legal.{Accepted, IsLegal}
-use Rattle.afdx_legal.specs.Allowed.{AreAllowed}
+use Rattle.afdx_legal.specs.Allowed.{AreAllowed, AreQueued}
 use Rattle.afdx_legal.specs.Turns.{TakeTurns}
 use Rattle.afdx_legal.specs.Own.{AreOwnStreams}
 use Rattle.vl_link.specs.Links.{LinkState}
@@ -57,13 +57,18 @@ abbrev pub KeepsMessages : Bool → (old new : Tx) → Type 0
 KeepsMessages false old new = KeepsQueues old new
 KeepsMessages true old new = accepted_in new.links ≡ accepted_in old.links
 
+-- the messages are of ports of their sub-VL, which may send them once the ports are gathered
+abbrev pub AreOfPorts : Bool → Tx → Type 0
+AreOfPorts false tx = AreQueued tx.plan (taken_in tx.links)
+AreOfPorts true tx = AreAllowed tx.plan (accepted_in tx.links)
+
 -- A poll at `now`: its report, the turns of the links, and that the transmitted frames are legal and take turns.
 pub record PollsTx (gathered : Bool) (now : ℕ) (old : Tx) (report : Report) (new : Tx) : Type 0 where
   pub told : Polls now old report new
   pub run : Runs gathered now old new
   pub legal : IsLegal new.plan (known_in gathered new.links) new.lines.a new.lines.b
   pub turns : TakeTurns new.plan new.lines.a new.lines.b
-  pub allowed : AreAllowed new.plan (known_in gathered new.links)
+  pub allowed : AreOfPorts gathered new
   pub mirrored : IsMirrored new.lines
   pub streams : AreOwnStreams new.plan (log new.lines) new.lines.a new.lines.b
   pub endure : BothEndure old.lines new.lines

@@ -5,7 +5,7 @@ use Rattle.afdx_laws.proofs.Names.{All-contains, map-map, LinkPlan, Net, A, B, b
 use Rattle.afdx_laws.proofs.Names.{side, names, those_with, link_stream, sub_stream, told, entry_number, IsNumbered, IsKnown, AreKnown, AreTwins, Accepted}
 use Rattle.afdx_laws.proofs.Names.{is_on_both, on_both, IsLegal, IsLegalOn, known_all, with_append, with_map, numbered_map, IsLong, IsOfNet, IsHanded}
 use Rattle.afdx_laws.proofs.Names.{AreHanded, frames_of, id_at, piece_room, IsHandedOver, LegalArrive, LegalDespiteLoss, cases_lt, eqb-true, Plan, IsPlan}
-use Rattle.afdx_laws.proofs.Names.{link_plan_at, is_both, Networks, Both, OnlyA, OnlyB, IsLink, IsPort, IsSent, IsLinkOf, IsAllowed}
+use Rattle.afdx_laws.proofs.Names.{link_plan_at, is_both, Networks, Both, OnlyA, OnlyB, IsLink, IsPort, IsSent, IsLinkOf, IsQueued}
 use Rattle.afdx_legal.proofs.OnBoth.{on_both_is}
 use Rattle.afdx_laws.proofs.HandedOver.{own_twins, twin_twin, handed_arrive_holds, handed_despite_loss_holds}
 
@@ -139,7 +139,7 @@ room_is plan k valid inside =
     let lmax = (link_is plan k valid inside).lmax in
     record { numbered = valid.end_system; least = omega arith; greatest = omega arith }
 
-pub sent_is : (plan : Plan) (k sub : ℕ) (sent : Sent) → IsPlan plan → IsAllowed plan k sub sent → IsSent sub sent
+pub sent_is : (plan : Plan) (k sub : ℕ) (sent : Sent) → IsPlan plan → IsQueued plan k sub sent → IsSent sub sent
 sent_is plan k sub sent valid allowed =
     let port : IsPort sent.port = All-contains IsPort plan.ports sent.port valid.each_port allowed.port in
     record { port = port; its = allowed.its; some = allowed.some; most = allowed.most }
@@ -165,7 +165,7 @@ pub are_handed : (plan : Plan) (accepted : Accepted) (a b : List Entry) (k sub :
     (frames_of (id_at plan k) a) (frames_of (id_at plan k) b)
 are_handed plan accepted a b k sub h = record {
   link = room_is plan k h.valid h.inside;
-  sent = All-weaker (IsAllowed plan k sub) (IsSent sub) (λ sent is. sent_is plan k sub sent h.valid is)
+  sent = All-weaker (IsQueued plan k sub) (IsSent sub) (λ sent is. sent_is plan k sub sent h.valid is)
       (accepted k sub) h.allowed;
   on_a = handed_is plan accepted A a k sub h.legal.on_a h.inside h.index;
   on_b = handed_is plan accepted B b k sub h.legal.on_b h.inside h.index;

@@ -3,7 +3,7 @@ use Rattle.afdx_laws.proofs.Names.{ℕ, suc, ◌+◌, ◌-◌, ◌≤◌, inl, i
 use Rattle.afdx_laws.proofs.Names.{◌∙◌, All, filter, cases_Bool, eqb-true, eq-eqb, false≢true, length-append, length-take, All-cons, All-nil, All-append}
 use Rattle.afdx_laws.proofs.Names.{All-filter, All-from_recursion, All-head, All-map, All-tail, All-weaker, filter_passes, Plan, IsPlan, link_plan_at, IsPort}
 use Rattle.afdx_laws.proofs.Names.{bag_micros, room_of, Net, Piece, cutting, pieces_from, Sent, fragments_from, blanked, unnumbered, link_in, sub_in, IsPiece}
-use Rattle.afdx_laws.proofs.Names.{length-frame, Entry, link_stream, told_of, Accepted, IsKnown, AreKnown, IsLegalOn, IsAllowed, known_all, IsLong, IsSent}
+use Rattle.afdx_laws.proofs.Names.{length-frame, Entry, link_stream, told_of, Accepted, IsKnown, AreKnown, IsLegalOn, IsQueued, known_all, IsLong, IsSent}
 use Rattle.afdx_laws.proofs.Names.{IsUpTo, id_at, LegalPasses, fragments_at}
 use Rattle.afdx_laws.proofs.ListLemmas.{all_front}
 use Rattle.afdx_laws.proofs.Reading.{cutting_lies, from_start}
@@ -77,13 +77,13 @@ of_passed P f test (x ∷ xs) all = elim (cases_Bool (test x)) [
 
 short_told : (plan : Plan) (accepted : Accepted) (net : Net) (handed : List Entry) (k sub : ℕ) → IsPlan plan
     → IsLegalOn plan accepted net handed → k < length plan.links → sub < (link_plan_at plan.links k).sub_vls
-    → All (IsAllowed plan k sub) (accepted k sub) → All (IsShort (link_plan_at plan.links k).lmax) (told_of (id_at plan k) sub handed)
+    → All (IsQueued plan k sub) (accepted k sub) → All (IsShort (link_plan_at plan.links k).lmax) (told_of (id_at plan k) sub handed)
 short_told plan accepted net handed k sub valid legal inside index allowed =
     let lmax = (link_is plan k valid inside).lmax in
     let first = legal.prefixes k sub inside index in
     all_front (IsShort (link_plan_at plan.links k).lmax) (told_of (id_at plan k) sub handed) first.0 _ first.1
     (short_messages (accepted k sub) plan.end_system (link_plan_at plan.links k).lmax sub 0 net lmax.0 lmax.1
-    (All-weaker (IsAllowed plan k sub) (IsSent sub) (λ sent is. sent_is plan k sub sent valid is) (accepted k sub) allowed))
+    (All-weaker (IsQueued plan k sub) (IsSent sub) (λ sent is. sent_is plan k sub sent valid is) (accepted k sub) allowed))
 
 pub legal_passes_holds : LegalPasses
 legal_passes_holds plan accepted net handed valid legal k inside allowed charge jitter around passages way =

@@ -46,7 +46,7 @@ pub use Rattle.afdx_frame.specs.declared.piece.Piece.{Piece}
 pub use Rattle.redundant_mux.specs.Entry.{Entry, entry}
 pub use Rattle.redundant_mux.specs.Logged.{names, side}
 pub use Rattle.afdx_legal.proofs.StreamLemmas.{known_all, numbered_at, numbered_map, with_append, with_map}
-pub use Rattle.afdx_legal.specs.Allowed.{IsAllowed, messages_of}
+pub use Rattle.afdx_legal.specs.Allowed.{IsAllowed, IsQueued, messages_of}
 pub use Rattle.afdx_legal.specs.Legal.{Accepted, AreKnown, AreTwins, IsKnown, IsLegal, IsLegalOn, is_on_both, on_both}
 pub use Rattle.afdx_legal.specs.Own.{own_stream}
 pub use Rattle.afdx_legal.specs.Streams.{IsNumbered, IsPrefixOf, IsSpaced, entry_number, link_stream, stamp_of, sub_stream, those_with, told, told_of}

@@ -1,7 +1,7 @@
 -- All that was accepted was transmitted, and arrives.
-use Rattle.afdx_laws.proofs.Names.{◌≡◌, ℕ, ◌≤◌, List, length, map, ap, ◌∙◌, arith, take_all, length-map, Plan, link_plan_at, Net, A, Sent, fragments, sub_in}
+use Rattle.afdx_laws.proofs.Names.{◌≡◌, ℕ, ◌≤◌, List, length, map, ap, ◌∙◌, arith, All-weaker, take_all, length-map, Plan, link_plan_at, Net, A, Sent, fragments, sub_in}
 use Rattle.afdx_laws.proofs.Names.{twin_of, twin_sub, Entry, those_with, link_stream, Accepted, own_stream, with_map, most_carried, longer, id_at, piece_room}
-use Rattle.afdx_laws.proofs.Names.{frames_of, longer_of, OwnListsArrive}
+use Rattle.afdx_laws.proofs.Names.{frames_of, longer_of, IsAllowed, IsQueued, OwnListsArrive}
 use Rattle.afdx_legal.specs.Own.{longer as longer_stream}
 use Rattle.afdx_legal.specs.Done.{IsReleased}
 use Rattle.afdx_laws.proofs.LegalLinks.{told_is, frames_side, legal_arrive_holds}
@@ -39,7 +39,13 @@ pub own_lists_arrive_holds : OwnListsArrive
 own_lists_arrive_holds plan own a b valid handed k sub inside index lag tolerance arrivals fit carry whole =
     let sent : List Sent = handed.accepted k sub in
     let first = legal_arrive_holds plan handed.accepted a b k sub lag tolerance arrivals
-    (record { valid = valid; legal = handed.legal; inside = inside; index = index; allowed = handed.allowed k sub inside index })
+    (record {
+      valid = valid;
+      legal = handed.legal;
+      inside = inside;
+      index = index;
+      allowed = All-weaker (IsAllowed plan k sub) (IsQueued plan k sub) (λ m is. is.queued) sent (handed.allowed k sub inside index);
+    })
     fit carry in
     let all = all_handed plan handed.accepted handed.log a b k sub (handed.streams k inside)
     (handed.done k inside sub index) in

@@ -1,7 +1,7 @@
 -- The worked transmissions of a plan, by computation: of one message, also complete and on one network, and of two.
 use Rattle.afdx_laws.proofs.Names.{◌≡◌, ℕ, true, [], ◌∷◌, refl, sym, ◌∙◌, arith, ◌≤◌, Bool, false, nat_eq, List, length, map, ap, ◌<◌, false≢true}
 use Rattle.afdx_laws.proofs.Names.{All-from_recursion, All-contains, if◌then◌else◌, All, Contains, AllZip, port_plan_at, IsPlan, HasLink, IsLink, Networks}
-use Rattle.afdx_laws.proofs.Names.{Both, OnlyA, demo_valid, Net, A, B, Sent, names, link_stream, Accepted, IsKnown, IsLegalOn, IsLegal, IsAllowed, messages_of}
+use Rattle.afdx_laws.proofs.Names.{Both, OnlyA, demo_valid, Net, A, B, Sent, names, link_stream, Accepted, IsKnown, IsLegalOn, IsLegal, IsAllowed, IsQueued, messages_of}
 use Rattle.afdx_laws.proofs.Names.{by_frames, IsOnItsWay, AreCarriedOf, frames_of, IsOn, IsOnBoth, IsHandedOver, plain_receiver, checksum, cutting}
 use Rattle.afdx_laws.proofs.Names.{fragments_at, addresses, header_front, internet_header, link_header, udp_header, datagram, unnumbered}
 use Rattle.afdx_plan.specs.Demo.{demo_plan, demo_port, demo_link}
@@ -31,8 +31,8 @@ legal_on carriers net named = record {
   spaced = below_one _ (tt, tt);
 }
 
-byte_allowed : (carriers : Networks) (byte : ℕ) → IsAllowed (demo_on carriers) 0 0 (record { port = demo_port; bytes = byte ∷ [] })
-byte_allowed carriers byte = record { port = (0, omega arith, refl); over = refl; its = refl; some = omega arith; most = omega arith }
+byte_queued : (carriers : Networks) (byte : ℕ) → IsQueued (demo_on carriers) 0 0 (record { port = demo_port; bytes = byte ∷ [] })
+byte_queued carriers byte = record { port = (0, omega arith, refl); over = refl; its = refl; some = omega arith; most = omega arith }
 
 one_handed : IsHandedOver demo_plan one_byte_accepted (one_entry A) (one_entry B) 0 0
 unfolding checksum addresses header_front internet_header link_header udp_header datagram unnumbered
@@ -45,7 +45,7 @@ one_handed = record {
   };
   inside = omega arith;
   index = omega arith;
-  allowed = All-from_recursion (IsAllowed demo_plan 0 0) (one_byte_accepted 0 0) (byte_allowed Both 1, tt);
+  allowed = All-from_recursion (IsQueued demo_plan 0 0) (one_byte_accepted 0 0) (byte_queued Both 1, tt);
 }
 
 pub one_is_legal : OneIsLegal
@@ -74,7 +74,8 @@ one_is_whole = record {
   handed = record {
     accepted = one_byte_accepted;
     legal = one_handed.legal;
-    allowed = below_both _ _ refl one_handed.allowed;
+    allowed = below_both _ _ refl (All-from_recursion (IsAllowed demo_plan 0 0) (one_byte_accepted 0 0)
+        (record { queued = byte_queued Both 1; most = omega arith }, tt));
     are_own = below_one _ refl;
     log = one_entry A;
     streams = below_one _ refl;
@@ -173,7 +174,7 @@ comes_from_one = record {
     };
     inside = omega arith;
     index = omega arith;
-    allowed = All-from_recursion (IsAllowed (demo_on OnlyA) 0 0) (one_byte_accepted 0 0) (byte_allowed OnlyA 1, tt);
+    allowed = All-from_recursion (IsQueued (demo_on OnlyA) 0 0) (one_byte_accepted 0 0) (byte_queued OnlyA 1, tt);
   };
   alone = refl;
   fit = omega arith;
@@ -212,13 +213,13 @@ pair_legal_on net = record {
     carries A none = absurd (false≢true (sym none))
     carries B none = absurd (false≢true (sym none))
 
-two_allowed : All (IsAllowed demo_plan 0 0) (two_accepted 0 0)
-two_allowed = All-from_recursion (IsAllowed demo_plan 0 0) (two_accepted 0 0) (byte_allowed Both 1, (byte_allowed Both 2, tt))
+two_allowed : All (IsQueued demo_plan 0 0) (two_accepted 0 0)
+two_allowed = All-from_recursion (IsQueued demo_plan 0 0) (two_accepted 0 0) (byte_queued Both 1, (byte_queued Both 2, tt))
 
-swapped_allowed : All (IsAllowed demo_plan 0 0) (swapped_accepted 0 0)
-swapped_allowed = All-from_recursion (IsAllowed demo_plan 0 0) (swapped_accepted 0 0) (byte_allowed Both 2, (byte_allowed Both 1, tt))
+swapped_allowed : All (IsQueued demo_plan 0 0) (swapped_accepted 0 0)
+swapped_allowed = All-from_recursion (IsQueued demo_plan 0 0) (swapped_accepted 0 0) (byte_queued Both 2, (byte_queued Both 1, tt))
 
-handed_pair : (accepted : Accepted) → All (IsAllowed demo_plan 0 0) (accepted 0 0)
+handed_pair : (accepted : Accepted) → All (IsQueued demo_plan 0 0) (accepted 0 0)
     → IsLegal demo_plan accepted (two_entries A) (two_entries B) → PairHanded accepted
 handed_pair accepted allowed legal =
     record { valid = demo_valid; legal = legal; inside = omega arith; index = omega arith; allowed = allowed }

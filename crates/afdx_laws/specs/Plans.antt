@@ -15,7 +15,7 @@ use Rattle.redundant_mux.specs.Entry.{Entry}
 use Rattle.redundant_mux.specs.Logged.{only, side}
 use Rattle.afdx_legal.specs.Streams.{link_stream, IsPrefixOf}
 use Rattle.afdx_legal.specs.Legal.{Accepted, IsLegalOn, IsLegal, on_both, AreTwins}
-use Rattle.afdx_legal.specs.Allowed.{IsAllowed, messages_of}
+use Rattle.afdx_legal.specs.Allowed.{IsQueued, messages_of}
 use Rattle.afdx_legal.specs.Done.{IsHandedWhole}
 use Rattle.afdx_legal.specs.Own.{longer as longer_stream, own_stream}
 use Rattle.afdx_laws.specs.Policer.{Charge, Rule, Passage, AllPass, IsOnItsWay, rule_around}
@@ -44,7 +44,7 @@ pub record IsHandedOver (plan : Plan) (accepted : Accepted) (a b : List Entry) (
   pub legal : IsLegal plan accepted a b
   pub inside : k < length plan.links
   pub index : sub < (link_plan_at plan.links k).sub_vls
-  pub allowed : All (IsAllowed plan k sub) (accepted k sub)
+  pub allowed : All (IsQueued plan k sub) (accepted k sub)
 
 -- Each network carries some beginning of a link's frames that were transmitted legally, near to the other. Then the
 -- receiver's messages of each sub-VL are the first of its accepted messages, in order and each once, and all whose
@@ -78,7 +78,7 @@ rule_at plan k around most =
 abbrev pub LegalPasses : Type 0
 LegalPasses = (plan : Plan) (accepted : Accepted) (net : Net) (handed : List Entry)
     → IsPlan plan → IsLegalOn plan accepted net handed → (k : ℕ) → k < length plan.links
-    → ((sub : ℕ) → sub < (link_plan_at plan.links k).sub_vls → All (IsAllowed plan k sub) (accepted k sub))
+    → ((sub : ℕ) → sub < (link_plan_at plan.links k).sub_vls → All (IsQueued plan k sub) (accepted k sub))
     → (charge : Charge) (jitter around : ℕ) (passages : List Passage)
     → AllZip (IsOnItsWay around jitter) (link_stream (id_at plan k) handed) passages
     → AllPass charge (rule_at plan k around jitter) passages

@@ -17,7 +17,7 @@ use Rattle.redundant_mux.specs.Entry.{Entry, entry}
 use Rattle.redundant_mux.specs.Logged.{only}
 use Rattle.afdx_legal.specs.Streams.{link_stream, IsPrefixOf}
 use Rattle.afdx_legal.specs.Legal.{Accepted, IsLegalOn, IsLegal, on_both}
-use Rattle.afdx_legal.specs.Allowed.{IsAllowed}
+use Rattle.afdx_legal.specs.Allowed.{IsQueued}
 use Rattle.afdx_legal.specs.Done.{IsHandedWhole}
 use Rattle.afdx_legal.specs.Own.{own_stream}
 use Rattle.afdx_legal.specs.WorkedMessage.{one_byte, one_byte_accepted, one_frame, one_entry_at}
@@ -149,7 +149,7 @@ PairHanded accepted = IsHandedOver demo_plan accepted (two_entries A) (two_entri
 
 -- Accepted in the other order, they may be sent, but are not transmitted legally.
 pub record AreSwapped : Type 0 where
-  pub allowed : All (IsAllowed demo_plan 0 0) (swapped_accepted 0 0)
+  pub allowed : All (IsQueued demo_plan 0 0) (swapped_accepted 0 0)
   pub legal : IsLegal demo_plan swapped_accepted (two_entries A) (two_entries B) → ⊥
 
 -- what arrives: both frames of network A, or only the second
@@ -201,7 +201,7 @@ PairPasses passages = AllPass by_frames (rule_at demo_plan 0 0 0) passages
 pub record PassesAGapApart : Type 0 where
   pub valid : IsPlan demo_plan
   pub legal : IsLegalOn demo_plan two_accepted A (pair_at 1000 A)
-  pub allowed : All (IsAllowed demo_plan 0 0) (two_accepted 0 0)
+  pub allowed : All (IsQueued demo_plan 0 0) (two_accepted 0 0)
   pub way : AllZip (IsOnItsWay 0 0) (link_stream 1 (pair_at 1000 A)) (pair_passes 0 1000 1000)
   pub passes : PairPasses (pair_passes 0 1000 1000)
   pub early_way : AllZip (IsOnItsWay 0 0) (link_stream 1 (pair_at 999 A)) (pair_passes 0 999 999)

@@ -7,13 +7,23 @@ use Rattle.afdx_frame.specs.Fragments.{Sent}
 use Rattle.afdx_frame.specs.Roles.{greatest_message}
 use Rattle.afdx_legal.specs.Legal.{Accepted}
 
--- a message of a port of the plan, on sub-VL `sub` of link `k`
-pub record IsAllowed (plan : Plan) (k sub : ℕ) (sent : Sent) : Type 0 where
+-- A message of a port of the plan, on sub-VL `sub` of link `k`, of a length that any queue takes. A poll knows this of
+-- the messages that it takes while the ports may still send.
+pub record IsQueued (plan : Plan) (k sub : ℕ) (sent : Sent) : Type 0 where
   pub port : Contains plan.ports sent.port
   pub over : sent.port.vl.0 ≡ (link_plan_at plan.links k).id.0
   pub its : sent.port.sub ≡ sub
   pub some : 1 ≤ length sent.bytes
   pub most : length sent.bytes ≤ greatest_message
+
+abbrev pub AreQueued : Plan → Accepted → Type 0
+AreQueued plan accepted = (k s : ℕ) → k < length plan.links → s < (link_plan_at plan.links k).sub_vls
+    → All (IsQueued plan k s) (accepted k s)
+
+-- the same, no longer than its port may send
+pub record IsAllowed (plan : Plan) (k sub : ℕ) (sent : Sent) : Type 0 where
+  pub queued : IsQueued plan k sub sent
+  pub most : length sent.bytes ≤ sent.port.max
 
 abbrev pub AreAllowed : Plan → Accepted → Type 0
 AreAllowed plan accepted = (k s : ℕ) → k < length plan.links → s < (link_plan_at plan.links k).sub_vls

@@ -1,5 +1,6 @@
 -- A sound emitter's frames conform, for the accepted messages too.
-use Rattle.afdx_tx.proofs.Names.{Tx, IsSound, Conforms, ℕ, ◌≡◌, ◌<◌, List, ◌++◌, length, arith, refl, ap, ◌∙◌, sym, ⊎_elim, Result, Ok, Err, OnOk, append_assoc, get_or_past, cases_lt, Plan, link_plan_at, room_of, Net, A, B, Entry, Seen, receiving, gathered, IsKnownWhole, IsSameQueue, known_of, told_of, IsLegalOn, IsLegal, Held, LinkState, held_at, link_at, nothing_held, no_link, IsSameSub, IsSamePlan, taken_in, AreGathered, accepted_by, accepted_in}
+use Rattle.afdx_tx.proofs.Names.{Accepted, Tx, IsSound, Conforms, ℕ, ◌≡◌, ◌<◌, List, ◌++◌, length, arith, refl, ap, ◌∙◌, sym, subst, ⊎_elim, Result, Ok, Err, OnOk, append_assoc, get_or_past, cases_lt, Plan, link_plan_at, room_of, Net, A, B, Entry, Seen, receiving, gathered, IsKnownWhole, IsSameQueue, known_of, told_of, IsLegalOn, IsLegal, Held, LinkState, held_at, link_at, nothing_held, no_link, IsSameSub, IsSamePlan, taken_in, AreGathered, accepted_by, accepted_in}
+use Rattle.afdx_legal.specs.Allowed.{AreAllowed}
 use Rattle.afdx_tx.proofs.PortMessages.{taken_allowed, accepted_allowed}
 use Rattle.afdx_tx.proofs.SoundEmitter.{sound_legal, sound_streams, sound_turns}
 use Rattle.afdx_tx.proofs.OwedFragments.{owed_split, untaken}
@@ -34,6 +35,25 @@ each_same old new p g k s = ⊎_elim
 -- The accepted lists are the same.
 pub accepted_same : (old new : List LinkState) → IsSamePlan old new → AreGathered old → accepted_in new ≡ accepted_in old
 accepted_same old new p g = λ i. λ k s. each_same old new p g k s i
+
+-- The same queue is known whole.
+same_whole : (old new : Seen) → IsKnownWhole old → IsSameQueue old new → IsKnownWhole new
+same_whole (receiving r) new g e = absurd g
+same_whole (gathered q) (gathered h) g e = tt
+same_whole (gathered q) (receiving s) g e = absurd e
+
+-- a drain's queues are known whole, and its ports may send the accepted messages
+abbrev pub IsDraining : Plan → List LinkState → Type 0
+IsDraining plan links = AreGathered links × AreAllowed plan (accepted_in links)
+
+-- After a poll a drain is still one.
+pub still_drains : (plan after : Plan) (old new : List LinkState) → after ≡ plan → IsSamePlan old new → IsDraining plan old
+    → IsDraining after new
+still_drains plan after old new same links is = (
+  λ k s lt slt. same_whole _ _ (gathered_past old k s is.0) ((links.each k (omega (arith, links.count))).subs s).queue,
+  subst (λ (p : Plan). AreAllowed p (accepted_in new)) (sym same)
+      (subst (λ (accepted : Accepted). AreAllowed plan accepted) (sym (accepted_same old new links is.0)) is.1),
+)
 
 -- A network's frames are legal for the accepted messages.
 legal_on : (plan : Plan) (links : List LinkState) (net : Net) (handed : List Entry)

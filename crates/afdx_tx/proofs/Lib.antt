@@ -11,6 +11,7 @@ pub mod NextDue
 pub mod NothingLeft
 pub mod OpenedPorts
 pub mod OwedFragments
+pub mod OwnLengths
 pub mod OwnStreams
 pub mod PollTurns
 pub mod PortLink

@@ -2,14 +2,14 @@
 use Rattle.afdx_tx.proofs.Names.{ℕ, suc, ◌≡◌, ◌≢◌, ◌<◌, List, [], ◌∷◌, Bool, true, ◌≤◌, cond, nat_eq, filter, ◌+◌, ◌++◌, drop, drop-cons, length, take, get_or, arith, refl, ap, ◌∙◌, sym, subst, ⊎_elim, All, Contains, ◌==◌, AllPairs, cases_eq, cases_lt, eq-eqb, ne_eqb, get_or_at, get_or_default, take-append-drop, All-head, All-tail, All-map, All-contains_itself, filter-append, VlId, PortPlan, Plan, IsPlan, link_plan_at, port_plan_at, SendsOver, IsItem, AreItems, part_of, Seen, taken_of, known_of, LinkState, held_at, link_at, sent_of, sent_by, items_taken, Tx, AreLinksOf, HaveOwnItems, taken_in, ports_of_sub, accepted_in, link_place, index_of, held_for}
 use Rattle.std.proofs.lemmas.List.Kept.{AllPairs-filter}
 use Rattle.afdx_plan.specs.declared.identifiers.PortId.{PortId}
-use Rattle.afdx_legal.specs.Allowed.{IsAllowed, AreAllowed, messages_of, port_messages}
+use Rattle.afdx_legal.specs.Allowed.{IsQueued, AreQueued, messages_of, port_messages}
 use Rattle.afdx_tx.proofs.SoundEmitter.{plan_is, count_is}
 use Rattle.afdx_tx.proofs.PortLink.{link_within, of_sub, on_own, on_sub_vl, seats_more, seats_within}
 
 -- The message of an item of a sub-VL's queue is one that its port may send.
 item_allowed : (config : Plan) (k s : ℕ) (item : ℕ × List ℕ)
     → IsItem (length (ports_of_sub config.ports (link_plan_at config.links k).id.0 s)) item
-    → IsAllowed config k s (sent_of (ports_of_sub config.ports (link_plan_at config.links k).id.0 s) item)
+    → IsQueued config k s (sent_of (ports_of_sub config.ports (link_plan_at config.links k).id.0 s) item)
 item_allowed config k s item is =
     let own = of_sub (Contains config.ports) config.ports (link_plan_at config.links k).id.0 s (All-contains_itself config.ports)
     item.0 (port_plan_at [] 0) is.port in
@@ -24,10 +24,10 @@ item_allowed config k s item is =
 -- The same of a list of items.
 items_allowed : (config : Plan) (k s : ℕ) (ports : List PortPlan) (items : List (ℕ × List ℕ))
     → ports ≡ ports_of_sub config.ports (link_plan_at config.links k).id.0 s → AreItems (length ports) items
-    → All (IsAllowed config k s) (sent_by ports items)
+    → All (IsQueued config k s) (sent_by ports items)
 items_allowed config k s ports items are own =
     let mine = ports_of_sub config.ports (link_plan_at config.links k).id.0 s in
-    rw are (All-map (IsAllowed config k s) (sent_of mine) items
+    rw are (All-map (IsQueued config k s) (sent_of mine) items
     (λ j d lt. item_allowed config k s (get_or items j d) ((rw are at own) j d lt)))
 
 module _ (config : Plan) (links : List LinkState) (of : AreLinksOf config links) where
@@ -60,7 +60,7 @@ module _ (config : Plan) (links : List LinkState) (of : AreLinksOf config links)
   own_allowed : (read : Seen → List (ℕ × List ℕ))
       → ((k s : ℕ) → k < length links → s < length (link_at links k).subs
       → AreItems (length (held_at (link_at links k).subs s).ports) (read (held_at (link_at links k).subs s).seen))
-      → AreAllowed config (λ k s. sent_by (held_at (link_at links k).subs s).ports
+      → AreQueued config (λ k s. sent_by (held_at (link_at links k).subs s).ports
       (read (held_at (link_at links k).subs s).seen))
   own_allowed read items k s klt slt =
       let lt : k < length links = omega (arith, count_is config links of) in
@@ -69,11 +69,11 @@ module _ (config : Plan) (links : List LinkState) (of : AreLinksOf config links)
       (items k s lt sub)
 
   -- Each accepted message is of a port of its sub-VL.
-  pub accepted_allowed : HaveOwnItems links → AreAllowed config (accepted_in links)
+  pub accepted_allowed : HaveOwnItems links → AreQueued config (accepted_in links)
   accepted_allowed items = own_allowed known_of items
 
   -- Each message taken is of a port of its sub-VL.
-  pub taken_allowed : HaveOwnItems links → AreAllowed config (taken_in links)
+  pub taken_allowed : HaveOwnItems links → AreQueued config (taken_in links)
   taken_allowed items = own_allowed taken_of (λ k s lt slt. items_taken _ (held_at (link_at links k).subs s).seen
       (items k s lt slt))
 

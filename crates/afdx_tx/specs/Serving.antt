@@ -3,7 +3,7 @@ use Rattle.std.specs.Prelude.{ℕ, ◌≡◌, ◌<◌, ◌≤◌, List, Bool, tr
 use Rattle.std.specs.List.{AllWithin, HoldsAt}
 use Rattle.afdx_frame.specs.declared.net.Net.TheVariants.{A}
 use Rattle.redundant_mux.specs.Lines.{Lines, BothEndure, IsMirrored, log}
-use Rattle.afdx_legal.specs.Allowed.{AreAllowed}
+use Rattle.afdx_legal.specs.Allowed.{AreQueued}
 use Rattle.afdx_legal.specs.Legal.{AreKnown, IsLegal}
 use Rattle.afdx_legal.specs.Own.{AreOwnStreams}
 use Rattle.afdx_legal.specs.Turns.{TakeTurns}
@@ -22,8 +22,8 @@ pub record Conforms (tx : Tx) : Type 0 where
   pub legal : IsLegal tx.plan (taken_in tx.links) tx.lines.a tx.lines.b
   pub legal_accepted : IsLegal tx.plan (accepted_in tx.links) tx.lines.a tx.lines.b
   pub turns : TakeTurns tx.plan tx.lines.a tx.lines.b
-  pub taken : AreAllowed tx.plan (taken_in tx.links)
-  pub accepted : AreAllowed tx.plan (accepted_in tx.links)
+  pub taken : AreQueued tx.plan (taken_in tx.links)
+  pub accepted : AreQueued tx.plan (accepted_in tx.links)
   pub tied : AreTied tx.links (log tx.lines)
   pub mirrored : IsMirrored tx.lines
   pub streams : AreOwnStreams tx.plan (log tx.lines) tx.lines.a tx.lines.b

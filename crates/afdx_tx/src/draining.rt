@@ -17,13 +17,15 @@ pub struct Draining<A: Network + Drop, B: Network + Drop> {
 
 impl<A: Network + Drop, B: Network + Drop> Model for Draining<A, B> {
     ghost use Rattle.afdx_tx.specs.Emitter.{Tx};
-    ghost use Rattle.afdx_tx.specs.Drain.{AreGathered};
+    ghost use Rattle.afdx_legal.specs.Allowed.{AreAllowed};
+    ghost use Rattle.afdx_tx.specs.Drain.{AreGathered, accepted_in};
 
     ghost Value = { Tx };
 
     ghost view = { λ d. d.inner };
 
-    ghost invariant = { λ d. AreGathered d.inner.links };
+    ghost invariant = { λ d. AreGathered d.inner.links
+        × AreAllowed d.inner.plan (accepted_in d.inner.links) };
 }
 
 impl<A: Network + Drop, B: Network + Drop> Draining<A, B> {

@@ -32,7 +32,7 @@ impl<A: Network + Drop, B: Network + Drop> Emitter<A, B> {
     ghost use Rattle.std.specs.Prelude.{◌≡◌, ℕ, ◌≤◌, ◌↔◌, false, length, IsErr, OnErr, OnOk, IfOk, IfErr};
     ghost use Rattle.redundant_mux.specs.Lines.{BothEndure, is_alive, log, IsMirrored};
     ghost use Rattle.afdx_legal.specs.Legal.{IsLegal};
-    ghost use Rattle.afdx_legal.specs.Allowed.{AreAllowed};
+    ghost use Rattle.afdx_legal.specs.Allowed.{AreAllowed, AreQueued};
     ghost use Rattle.afdx_legal.specs.Turns.{TakeTurns};
     ghost use Rattle.afdx_tx.specs.Drain.{accepted_in};
     ghost use Rattle.afdx_tx.specs.Run.{IsRun};
@@ -105,7 +105,7 @@ impl<A: Network + Drop, B: Network + Drop> Emitter<A, B> {
         ensures b_failures { B.failures result.1 ≡ self.lines.b_failures }
         ensures legal { IsLegal self.plan (taken_in self.links) self.lines.a self.lines.b }
         ensures turns { TakeTurns self.plan self.lines.a self.lines.b }
-        ensures allowed { AreAllowed self.plan (taken_in self.links) }
+        ensures allowed { AreQueued self.plan (taken_in self.links) }
     {
         let Emitter { inner } = self;
         inner.into_networks()
@@ -123,7 +123,7 @@ impl<A: Network + Drop, B: Network + Drop> Emitter<A, B> {
         ensures unchanged { OnErr result (self.new ≡ self.old) }
         ensures legal { IsLegal self.new.plan (taken_in self.new.links) self.new.lines.a self.new.lines.b }
         ensures turns { TakeTurns self.new.plan self.new.lines.a self.new.lines.b }
-        ensures allowed { AreAllowed self.new.plan (taken_in self.new.links) }
+        ensures allowed { AreQueued self.new.plan (taken_in self.new.links) }
         ensures tied { AreTied self.new.links (log self.new.lines) }
         ensures plan { self.new.plan ≡ self.old.plan }
         ensures board { self.new.board ≡ self.old.board }
@@ -148,7 +148,7 @@ impl<A: Network + Drop, B: Network + Drop> Emitter<A, B> {
         ensures unchanged { OnErr result (self.new ≡ self.old) }
         ensures legal { IsLegal self.new.plan (taken_in self.new.links) self.new.lines.a self.new.lines.b }
         ensures turns { TakeTurns self.new.plan self.new.lines.a self.new.lines.b }
-        ensures allowed { AreAllowed self.new.plan (taken_in self.new.links) }
+        ensures allowed { AreQueued self.new.plan (taken_in self.new.links) }
         ensures tied { AreTied self.new.links (log self.new.lines) }
         ensures plan { self.new.plan ≡ self.old.plan }
         ensures board { self.new.board ≡ self.old.board }

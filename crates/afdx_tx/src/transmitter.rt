@@ -175,6 +175,7 @@ impl<A: Network + Drop, B: Network + Drop> Transmitter<A, B> {
     ghost use Rattle.afdx_tx.specs.Serving.{Conforms};
     ghost use Rattle.afdx_tx.specs.Publishing.{Publishes, ShowsCounts};
     ghost use Rattle.afdx_tx.specs.NextDue.{TellsNextDue};
+    ghost use Rattle.afdx_legal.specs.Allowed.{AreAllowed};
     ghost use Rattle.afdx_tx.specs.Drain.{AreGathered, accepted_in};
     ghost use Rattle.afdx_tx.specs.Ports.{AreOpenedWith, HasEveryPlace};
     ghost use Rattle.afdx_tx.specs.Gathering.{IsGatheredTx};
@@ -333,6 +334,7 @@ impl<A: Network + Drop, B: Network + Drop> Transmitter<A, B> {
         requires every { HasEveryPlace (length self.old.plan.ports) ports.items }
         ensures gathered { IsGatheredTx self.old ports.items self.new }
         ensures all { AreGathered self.new.links }
+        ensures allowed { AreAllowed self.new.plan (accepted_in self.new.links) }
         ensures conforms { Conforms self.new }
     {
         gather_links(&self.config, &mut self.links, ports);

@@ -1,5 +1,5 @@
 -- An emitter stays ready.
-use Rattle.run_laws.proofs.Names.{ℕ, ◌≡◌, ◌<◌, List, [], length, arith, ap, ◌∙◌, sym, subst, All, All-nil, Plan, PortPlan, Pace, Held, LinkState, held_at, link_at, sent_by, taken_by, IsSameLink, turns_each, IsAllowed, AreAllowed, Tx, taken_in, IsOpenedSub, IsFreshTx, IsRun, IsTurnAt, IsPlanned, IsReadyFor, IsReady, KeptReady}
+use Rattle.run_laws.proofs.Names.{ℕ, ◌≡◌, ◌<◌, List, [], length, arith, ap, ◌∙◌, sym, subst, All, All-nil, Plan, PortPlan, Pace, Held, LinkState, held_at, link_at, sent_by, taken_by, IsSameLink, turns_each, IsQueued, AreQueued, Tx, taken_in, IsOpenedSub, IsFreshTx, IsRun, IsTurnAt, IsPlanned, IsReadyFor, IsReady, KeptReady}
 use Rattle.vl_link.specs.declared.sub_vl.SubVl.{SubVl}
 use Rattle.vl_link.specs.Seen.{Seen, taken_of}
 use Rattle.afdx_tx.specs.Closing.{ClosesTx}
@@ -19,8 +19,8 @@ opened config tx f = by_own config tx f.plan (record {
       let link = f.links.each k lt in
       record { plan_is = link.plan; gap = ap (λ (p : Pace). p.gap) link.pace; sub_vls = ap (λ (p : Pace). p.sub_vls) link.pace };
   allowed = λ k s lt slt.
-      subst (All (IsAllowed config k s)) (sym (opened_taken _ _ _ _ ((f.links.each k lt).subs.each s slt)))
-      (All-nil (IsAllowed config k s));
+      subst (All (IsQueued config k s)) (sym (opened_taken _ _ _ _ ((f.links.each k lt).subs.each s slt)))
+      (All-nil (IsQueued config k s));
 })
 
 planned_on : (plan : Plan) (old new : List LinkState) (k : ℕ) → IsSameLink (link_at old k) (link_at new k)
@@ -32,11 +32,11 @@ planned_on plan old new k same own = record {
 }
 
 polled : (now : ℕ) (old new : Tx) → IsReady old → new.plan ≡ old.plan
-    → IsRun now old.links new.links old.lines new.lines → AreAllowed new.plan (taken_in new.links) → IsReady new
+    → IsRun now old.links new.links old.lines new.lines → AreQueued new.plan (taken_in new.links) → IsReady new
 polled now old new ready plan run allowed = by_own old.plan new plan (record {
   count = run.count ∙ ready.count;
   links = λ k lt. planned_on old.plan old.links new.links k (same k (omega (arith, lt, ready.count))) (ready.links k lt);
-  allowed = subst (λ (p : Plan). AreAllowed p (taken_in new.links)) plan allowed;
+  allowed = subst (λ (p : Plan). AreQueued p (taken_in new.links)) plan allowed;
 })
   where
     same : (k : ℕ) → k < length old.links → IsSameLink (link_at old.links k) (link_at new.links k)
@@ -61,7 +61,7 @@ closed old new vl sub total ready c =
             sub_vls = ap (λ (l : LinkState). l.pace.sub_vls) (links.same k) ∙ own.sub_vls;
           };
       allowed = λ k s lt slt.
-          subst (All (IsAllowed old.plan k s))
+          subst (All (IsQueued old.plan k s))
           (sym (closed_taken (held_at (link_at old.links k).subs s) (held_at (link_at new.links k).subs s) (links.each k s)))
           (ready.allowed k s lt slt);
     })

@@ -7,4 +7,3 @@ pub mod WorkedRuns
 pub mod Timely
 pub mod Pieces
 pub mod MessageRun
-pub mod Gathered

@@ -1,6 +1,6 @@
 -- The law of a message in a run of polls.
 use Rattle.run_laws.proofs.Names.{ℕ, suc, ◌≡◌, ◌⊎◌, ◌+◌, ◌-◌, ◌*◌, ◌<◌, ◌≤◌, List, [], ◌∷◌, ◌++◌, Bool, nat_lt, length, map, take, drop, get_or, arith, refl, ap, ◌∙◌, sym, subst, None, inl, inr, ⊎_elim, All, suc-mul, mul-le, cases_lt, lt-ltb, le-ltb, append_assoc, length-append, take-append-drop, length-drop, All-head, All-contains, All-drop, Plan, IsPlan, HasLink, link_plan_at, IsLink, bag_micros, link_place, room_of, LinkPlan, A, Sent, fragments_at, fragments_from, Entry, Lines, Passes, held_at, link_at, no_link_plan, latest, IsPrefixOf, Accepted, IsAllowed, IsDrained, stream_at, cons_parts, cons_same, all_front, pieces_of, port_pieces, most_pieces, queued_before, message_wait, worst_wait, AreTimely, fragments_of, seen_of, HasPlace, FindsIt, MessageInRun}
-use Rattle.afdx_tx.proofs.PortLink.{link_within}
+use Rattle.afdx_tx.proofs.OwnLengths.{own_link}
 use Rattle.run_laws.proofs.PollStep.{StandsAt, StepsAt, emitter_step, drain_step, emitter_endures, drain_endures}
 use Rattle.run_laws.proofs.Ran.{some_gap, at_of, seen_both, seen_append, adds_seen, timely_rise, splits, AreSteps, have_run, all_back}
 use Rattle.run_laws.proofs.Timely.{timely_released}
@@ -66,34 +66,33 @@ module _ (plan : Plan) (k s : ℕ) (valid : IsPlan plan) (inside : k < length pl
   abbrev Few : Sent → Type 0
   Few m = pieces_of (room_of (link_plan_at plan.links k).lmax) (length m.bytes) ≤ most_of
 
-  own_few : (m : Sent) → IsAllowed plan k s m → length m.bytes ≤ m.port.max
+  own_few : (m : Sent) → IsAllowed plan k s m
       → pieces_of (room_of (link_plan_at plan.links k).lmax) (length m.bytes) ≤ port_pieces (link_plan_at plan.links k) m.port
-  own_few m of fits = pieces_mono _ (length m.bytes) m.port.max (wide_room plan k valid inside) fits
+  own_few m of = pieces_mono _ (length m.bytes) m.port.max (wide_room plan k valid inside) of.most
 
   port_few : (m : Sent) → IsAllowed plan k s m → port_pieces (link_plan_at plan.links k) m.port ≤ most_of
   port_few m of =
-      subst (λ (t : ℕ). port_pieces (link_plan_at plan.links k) m.port ≤ most_pieces (link_plan_at plan.links k) t plan.ports) of.its
-      (port_most (link_plan_at plan.links k) plan.ports m.port of.port of.over)
+      subst (λ (t : ℕ). port_pieces (link_plan_at plan.links k) m.port ≤ most_pieces (link_plan_at plan.links k) t plan.ports) of.queued.its
+      (port_most (link_plan_at plan.links k) plan.ports m.port of.queued.port of.queued.over)
 
-  all_few : (messages : List Sent) → All (IsAllowed plan k s) messages → All (λ (m : Sent). length m.bytes ≤ m.port.max) messages
-      → All Few messages
-  all_few messages of fits i d lt =
-      let own = own_few (get_or messages i d) (of i d lt) (fits i d lt) in
+  all_few : (messages : List Sent) → All (IsAllowed plan k s) messages → All Few messages
+  all_few messages of i d lt =
+      let own = own_few (get_or messages i d) (of i d lt) in
       let port = port_few (get_or messages i d) (of i d lt) in
       omega arith
 
   -- How many fragments up to the message's last can be missing if its queue had room for it.
   missing : (earlier : List Sent) (sent : Sent) (stream : List Entry) → All Few earlier
-      → IsAllowed plan k s sent → length sent.bytes ≤ sent.port.max → HasPlace plan k s earlier stream
+      → IsAllowed plan k s sent → HasPlace plan k s earlier stream
       → length (fragments_of plan k (earlier ++ sent ∷ [])) - length (seen_of s stream)
       ≤ queued_before (link_plan_at plan.links k) most_of + port_pieces (link_plan_at plan.links k) sent.port
-  missing earlier sent stream few of fits place =
+  missing earlier sent stream few of place =
       let link : LinkPlan = link_plan_at plan.links k in
       let room : ℕ = room_of link.lmax in
       let wide = wide_room plan k valid inside in
       let is_link : IsLink link = valid.each_link k no_link_plan inside in
       let some = is_link.capacity.0 in
-      let own = own_few sent of fits in
+      let own = own_few sent of in
       let port = port_few sent of in
       let frags = λ (messages : List Sent). length (fragments_of plan k messages) in
       let whole = ap length (fragments_both plan.end_system room A 0 earlier (sent ∷ [])) in
@@ -121,16 +120,6 @@ module _ (plan : Plan) (k s : ℕ) (valid : IsPlan plan) (inside : k < length pl
             omega arith
       ]
 
--- the link of a message's port is the one that it was accepted over
-pub own_link : (plan : Plan) (k s : ℕ) (sent : Sent) → IsPlan plan → k < length plan.links → IsAllowed plan k s sent
-    → link_place plan sent.port ≡ k
-own_link plan k s sent valid inside of =
-    let has : HasLink plan.links sent.port = All-contains (HasLink plan.links) plan.ports sent.port valid.linked of.port in
-    let there = link_within plan sent.port valid has in
-    let id : (link_plan_at plan.links (link_place plan sent.port)).id ≡ (link_plan_at plan.links k).id =
-    there.1.id ∙ (λ i. record { 0 = of.over i }) in
-    valid.links_apart (link_place plan sent.port) k there.0 inside id
-
 own_wait : (plan : Plan) (k s late : ℕ) (sent : Sent) → link_place plan sent.port ≡ k → sent.port.sub ≡ s
     → worst_wait late plan sent.port ≡ message_wait late (link_plan_at plan.links k)
     (most_pieces (link_plan_at plan.links k) s plan.ports) (port_pieces (link_plan_at plan.links k) sent.port)
@@ -148,15 +137,11 @@ message_in_run_holds plan accepted moments lines after k s late start earlier se
     let many : ℕ = length (fragments_of plan k (earlier ++ sent ∷ [])) in
     let end : ℕ = start + worst_wait late plan sent.port in
     let of_all : All (IsAllowed plan k s) (earlier ++ sent ∷ later) = rw is.are at (is.allowed k s is.link is.sub) in
-    let fit_all : All (λ (m : Sent). length m.bytes ≤ m.port.max) (earlier ++ sent ∷ later) = rw is.are at is.sizes in
     let of : IsAllowed plan k s sent = All-head (IsAllowed plan k s) sent later (all_back (IsAllowed plan k s) earlier (sent ∷ later) of_all) in
-    let fits : length sent.bytes ≤ sent.port.max =
-    All-head (λ (m : Sent). length m.bytes ≤ m.port.max) sent later (all_back (λ (m : Sent). length m.bytes ≤ m.port.max) earlier (sent ∷ later) fit_all) in
     let few : All (Few plan k s valid inside) earlier =
-    all_few plan k s valid inside earlier (all_front (IsAllowed plan k s) earlier (sent ∷ later) _ refl of_all)
-    (all_front (λ (m : Sent). length m.bytes ≤ m.port.max) earlier (sent ∷ later) _ refl fit_all) in
-    let gone = missing plan k s valid inside earlier sent S few of fits place in
-    let wait = own_wait plan k s late sent (own_link plan k s sent valid inside of) of.its in
+    all_few plan k s valid inside earlier (all_front (IsAllowed plan k s) earlier (sent ∷ later) _ refl of_all) in
+    let gone = missing plan k s valid inside earlier sent S few of place in
+    let wait = own_wait plan k s late sent (own_link plan k s sent valid inside of.queued) of.queued.its in
     let ahead : fragments_of plan k (earlier ++ sent ∷ [])
     ++ fragments_from plan.end_system (room_of link.lmax) A (0 + length (earlier ++ sent ∷ [])) later
     ≡ fragments_of plan k (accepted k s) = sym (fragments_both plan.end_system (room_of link.lmax) A 0 (earlier ++ sent ∷ []) later)

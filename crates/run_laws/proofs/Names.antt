@@ -30,7 +30,7 @@ unfoldable pub use Rattle.redundant_mux.specs.Lines.{log}
 pub use Rattle.vl_shaper.specs.Pace.{IsLater, Pace, is_due, turn_of}
 pub use Rattle.vl_shaper.specs.Polls.{ArePolled, AreServed, HasAtPolls, IsServed, Poll, is_of, latest_poll, released_by}
 pub use Rattle.afdx_legal.proofs.LongerStream.{latest_push}
-pub use Rattle.afdx_legal.specs.Allowed.{AreAllowed, IsAllowed, messages_of}
+pub use Rattle.afdx_legal.specs.Allowed.{AreAllowed, AreQueued, IsAllowed, IsQueued}
 pub use Rattle.afdx_legal.specs.Legal.{Accepted}
 pub use Rattle.afdx_legal.specs.Streams.{IsPrefixOf, latest, link_stream, stamp_of, sub_stream, told}
 pub use Rattle.vl_link.proofs.TurnLaws.{turn_endures, turns_each, turns_endure, turns_seen}
@@ -47,5 +47,5 @@ pub use Rattle.plan_analysis.specs.Wait.{message_wait, most_pieces, pieces_of, p
 pub use Rattle.afdx_laws.proofs.ListLemmas.{all_front, below_both, below_one, cons_parts, cons_same}
 pub use Rattle.afdx_laws.proofs.NextFragment.{few_in, next_polled_in_time, wait_at}
 pub use Rattle.afdx_laws.specs.NextFragment.{link_wait}
-pub use Rattle.run_laws.specs.MessageInRun.{ApartAreTimely, AreFinding, AreTimely, ComesIn, FindsIt, FitsItsPort, GatheredFit, HasPlace, IsAccepted, MessageInRun, fragments_of, seen_of}
+pub use Rattle.run_laws.specs.MessageInRun.{ApartAreTimely, AreFinding, AreTimely, ComesIn, FindsIt, HasPlace, IsAccepted, MessageInRun, fragments_of, seen_of}
 pub use Rattle.run_laws.specs.Runs.{ArePolls, AreRuns, ComeWithin, ComesBy, DrainPolls, EmitterPolls, IsPlanned, IsReady, IsReadyFor, KeptReady, NextInRun, latest_of}

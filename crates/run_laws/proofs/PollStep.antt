@@ -1,5 +1,5 @@
 -- What a turn of a link, and a poll of all links, does to the stream of one of them.
-use Rattle.run_laws.proofs.Names.{ℕ, zero, suc, ◌≡◌, ◌≢◌, ◌+◌, ◌<◌, List, [], ◌∷◌, ◌++◌, Bool, true, false, ◌&&◌, ◌||◌, nat_eq, arith, refl, ap, ◌∙◌, sym, subst, Option, Some, None, inl, inr, ⊎_elim, ◌≤◌, length, nat_tests, both_ways, cases_eq, and_from, and_parts, eq-eqb, LinkPlan, sub_in, Entry, entry, Lines, stands_for, log, BothEndure, Pace, is_due, turn_of, IsServed, Served, Nothing, Released, Lost, TurnView, Turn, AreTurns, pace_of, Held, LinkState, held_at, link_at, taken_by, held_view, Passes, none_begun, begun_by, latest, link_stream, sub_stream, told, All, append-nil, All-weaker, Plan, IsPlan, link_plan_at, bag_micros, room_of, A, Sent, stood_before, turn_endures, turns_endure, turns_seen, Accepted, IsAllowed, AreAllowed, Tx, taken_in, IsTurnAt, DrainsAt, IsDrained, accepted_view, stream_at, IsReadyFor, EmitterPolls}
+use Rattle.run_laws.proofs.Names.{ℕ, zero, suc, ◌≡◌, ◌≢◌, ◌+◌, ◌<◌, List, [], ◌∷◌, ◌++◌, Bool, true, false, ◌&&◌, ◌||◌, nat_eq, arith, refl, ap, ◌∙◌, sym, subst, Option, Some, None, inl, inr, ⊎_elim, ◌≤◌, length, nat_tests, both_ways, cases_eq, and_from, and_parts, eq-eqb, LinkPlan, sub_in, Entry, entry, Lines, stands_for, log, BothEndure, Pace, is_due, turn_of, IsServed, Served, Nothing, Released, Lost, TurnView, Turn, AreTurns, pace_of, Held, LinkState, held_at, link_at, taken_by, held_view, Passes, none_begun, begun_by, latest, link_stream, sub_stream, told, All, append-nil, All-weaker, Plan, IsPlan, link_plan_at, bag_micros, room_of, A, Sent, stood_before, turn_endures, turns_endure, turns_seen, Accepted, IsQueued, AreQueued, Tx, taken_in, IsTurnAt, DrainsAt, IsDrained, accepted_view, stream_at, IsReadyFor, EmitterPolls}
 use borrow.Author.Count.{below_more}
 use Rattle.std.proofs.Math.Bool.{or-true}
 use Rattle.redundant_mux.proofs.MirroredLines.{log_same}
@@ -169,8 +169,8 @@ module _ (now : ℕ) (plan : Plan) (k x : ℕ) (b : Bool) (S : List Entry) (P : 
       (cases_eq i k)
 
 -- messages that ports may send have room in the offset
-short : (plan : Plan) (k s : ℕ) (messages : List Sent) → All (IsAllowed plan k s) messages → All IsShort messages
-short plan k s messages allowed = All-weaker (IsAllowed plan k s) IsShort (λ sent is. is.most) messages allowed
+short : (plan : Plan) (k s : ℕ) (messages : List Sent) → All (IsQueued plan k s) messages → All IsShort messages
+short plan k s messages allowed = All-weaker (IsQueued plan k s) IsShort (λ sent is. is.most) messages allowed
 
 -- a sub-VL of an emitter's link that has nothing has no message begun
 passed : (link : LinkState) (new : Held) (log : List Entry) (s : ℕ) → IsLinkTied link log → s < link.plan.sub_vls
@@ -236,7 +236,7 @@ emitter_lacks now plan k x lines after inside p mid mid_after did at t stands s 
 
 -- nor of a drain
 pub drain_lacks : (now : ℕ) (plan : Plan) (accepted : Accepted) (k x : ℕ) (S : List Entry) → k < length plan.links
-    → AreAllowed plan accepted → LacksNone plan k x (begun_by none_begun S x) S (DrainsAt now plan accepted) (drain_view plan accepted k)
+    → AreQueued plan accepted → LacksNone plan k x (begun_by none_begun S x) S (DrainsAt now plan accepted) (drain_view plan accepted k)
 drain_lacks now plan accepted k x S inside allowed lines after did at t stands s lt released is =
     rw (← is, ← at) (not_begun plan.end_system (room_of (link_plan_at plan.links k).lmax) A (stream_at plan k lines) s
     (accepted k s) (short plan k s (accepted k s) (allowed k s inside lt)) released)

@@ -1,5 +1,5 @@
 -- The worked runs, by computation.
-use Rattle.run_laws.proofs.Names.{◌≡◌, ℕ, ◌+◌, ◌<◌, ◌≤◌, ◌⊎◌, List, [], ◌∷◌, ◌++◌, length, Bool, true, false, ◌&&◌, refl, ap, sym, ◌∙◌, arith, inl, inr, Some, false≢true, length-append, All-from_recursion, A, cutting, fragments_at, blanked, Sent, addresses, header_front, internet_header, link_header, udp_header, datagram, unnumbered, Entry, entry, Lines, Endures, BothEndure, log, stands_for, LinkPlan, may_release, is_due, turn_of, IsAllowed, AreAllowed, Served, Nothing, Released, Lost, Drains, pace_in, stream_at, link_wait, EmitterPolls, DrainPolls, AreRuns, ComesBy, cons_parts, below_one, below_both, slice_index, link_in, sub_in, number_in, interface_byte, suc, None, ⊎_elim, All, length-map, All-head, All-tail, IsPlan, IsLink, IsPort, IsLater, AreTimely, latest, IsPrefixOf, sub_stream, IsAccepted, HasPlace, AreFinding, fragments_of, seen_of, few_in}
+use Rattle.run_laws.proofs.Names.{◌≡◌, ℕ, ◌+◌, ◌<◌, ◌≤◌, ◌⊎◌, List, [], ◌∷◌, ◌++◌, length, Bool, true, false, ◌&&◌, refl, ap, sym, ◌∙◌, arith, inl, inr, Some, false≢true, length-append, All-from_recursion, A, cutting, fragments_at, blanked, Sent, addresses, header_front, internet_header, link_header, udp_header, datagram, unnumbered, Entry, entry, Lines, Endures, BothEndure, log, stands_for, LinkPlan, may_release, is_due, turn_of, IsAllowed, IsQueued, AreAllowed, AreQueued, Served, Nothing, Released, Lost, Drains, pace_in, stream_at, link_wait, EmitterPolls, DrainPolls, AreRuns, ComesBy, cons_parts, below_one, below_both, slice_index, link_in, sub_in, number_in, interface_byte, suc, None, ⊎_elim, All, length-map, All-head, All-tail, IsPlan, IsLink, IsPort, IsLater, AreTimely, latest, IsPrefixOf, sub_stream, IsAccepted, HasPlace, AreFinding, fragments_of, seen_of, few_in}
 use Rattle.afdx_legal.specs.Done.{Owes}
 use Rattle.afdx_plan.specs.declared.networks.Networks.TheVariants.{Both}
 use Rattle.redundant_mux.specs.Logged.{logged_for}
@@ -12,8 +12,8 @@ use Rattle.run_laws.specs.WorkedRun.{both_at, lost_line, NeedsARun, small_link, 
 use Rattle.run_laws.proofs.NextRun.{next_in_run_holds}
 use Rattle.run_laws.proofs.MessageRun.{message_in_run_holds}
 
-each_allowed : AreAllowed small_plan message_accepted
-each_allowed = below_both _ _ refl (All-from_recursion (IsAllowed small_plan 0 0) (message_accepted 0 0)
+each_queued : AreQueued small_plan message_accepted
+each_queued = below_both _ _ refl (All-from_recursion (IsQueued small_plan 0 0) (message_accepted 0 0)
     (record { port = (0, omega arith, refl); over = refl; its = refl; some = omega arith; most = omega arith }, tt))
 
 pub takes : (old new : List Entry) → Endures true true old new 0 0
@@ -76,7 +76,7 @@ lost_turn = (
 
 a_poll : (now : ℕ) (lines after : Lines) (did : Served) → Drains now 1 small_link (message_accepted 0) lines after did
     → EmitterPolls small_plan now lines after ⊎ DrainPolls small_plan now lines after
-a_poll now lines after did turn = inr (record { accepted = message_accepted; allowed = each_allowed; run = (after, did, turn, refl) })
+a_poll now lines after did turn = inr (record { accepted = message_accepted; allowed = each_queued; run = (after, did, turn, refl) })
 
 two_polls : AreRuns small_plan (1000 ∷ 2000 ∷ []) front_line both_lines
 unfolding log checksum addresses header_front internet_header link_header udp_header datagram unnumbered cutting fragments_at
@@ -160,7 +160,10 @@ tight_valid = valid tight_plan (omega arith) (All-from_recursion IsLink (tight_l
     (All-from_recursion IsPort (tight_port ∷ []) (omega arith)) refl
 
 may_send : IsAllowed tight_plan 0 0 tight_sent
-may_send = record { port = (0, omega arith, refl); over = refl; its = refl; some = omega arith; most = omega arith }
+may_send = record {
+  queued = record { port = (0, omega arith, refl); over = refl; its = refl; some = omega arith; most = omega arith };
+  most = omega arith;
+}
 
 both_allowed : AreAllowed tight_plan tight_accepted
 both_allowed = below_both _ _ refl (All-from_recursion (IsAllowed tight_plan 0 0) (tight_accepted 0 0) (may_send, (may_send, tt)))
@@ -171,7 +174,6 @@ accepted_is = record {
   sub = omega arith;
   are = refl;
   allowed = both_allowed;
-  sizes = All-from_recursion (λ (m : Sent). length m.bytes ≤ m.port.max) (tight_accepted 0 0) (omega arith, (omega arith, tt));
 }
 
 has_place : HasPlace tight_plan 0 0 (tight_sent ∷ []) (stream_at tight_plan 0 (tight_lines one_shown))

@@ -12,12 +12,9 @@ use Rattle.afdx_legal.specs.Streams.{sub_stream, told, latest, IsPrefixOf}
 use Rattle.afdx_legal.specs.Legal.{Accepted}
 use Rattle.afdx_legal.specs.Allowed.{AreAllowed}
 use Rattle.vl_link.specs.Links.{Passes, held_at, link_at}
-use Rattle.afdx_tx.specs.Drain.{IsDrained, accepted_in}
+use Rattle.afdx_tx.specs.Drain.{IsDrained}
 use Rattle.afdx_tx.specs.DrainEnds.{stream_at}
 use Rattle.plan_analysis.specs.Wait.{worst_wait}
-use Rattle.afdx_tx.specs.Emitter.{Tx}
-use Rattle.afdx_tx.specs.Gathering.{IsGatheredTx}
-use Rattle.afdx_tx.specs.Ports.{PortView, AreOpenedWith}
 use Rattle.run_laws.specs.Runs.{ArePolls, EmitterPolls, ComeWithin, latest_of}
 
 -- one of these times lies between `low` and `high`
@@ -38,16 +35,6 @@ abbrev pub ApartAreTimely : Type 0
 ApartAreTimely = (gap late end before : ℕ) (moments : List ℕ) → 1 ≤ gap → ComeWithin (late + 1) before moments
     → end ≤ latest_of before moments → AreTimely gap late end before moments
 
-abbrev pub FitsItsPort : Sent → Type 0
-FitsItsPort m = length m.bytes ≤ m.port.max
-
--- After an emitter has gathered its ports, each accepted message is no longer than its port may send.
-abbrev pub GatheredFit : Type 0
-GatheredFit = (old new : Tx) (ports : List PortView) → IsPlan new.plan → AreOpenedWith old ports
-    → IsGatheredTx old ports new → AreAllowed new.plan (accepted_in new.links)
-    → (k s : ℕ) → k < length new.plan.links → s < (link_plan_at new.plan.links k).sub_vls
-    → All FitsItsPort (accepted_in new.links k s)
-
 -- the fragments of the first messages of a sub-VL of link `k`
 abbrev pub fragments_of : Plan → ℕ → List Sent → List (List ℕ)
 fragments_of plan k messages = fragments plan.end_system (room_of (link_plan_at plan.links k).lmax) A messages
@@ -63,7 +50,6 @@ pub record IsAccepted (plan : Plan) (accepted : Accepted) (k s : ℕ)
   pub sub : s < (link_plan_at plan.links k).sub_vls
   pub are : accepted k s ≡ earlier ++ sent ∷ later
   pub allowed : AreAllowed plan accepted
-  pub sizes : All FitsItsPort (accepted k s)
 
 -- The queue had room for the message: each earlier message that precedes it by at least the capacity is begun.
 abbrev pub HasPlace : Plan → (k s : ℕ) → List Sent → List Entry → Type 0

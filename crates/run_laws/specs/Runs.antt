@@ -4,7 +4,7 @@ use Rattle.afdx_plan.specs.Config.{Plan, link_plan_at, IsPlan}
 use Rattle.afdx_plan.specs.Plan.{bag_micros}
 use Rattle.redundant_mux.specs.Lines.{Lines, stands_for}
 use Rattle.afdx_legal.specs.Legal.{Accepted}
-use Rattle.afdx_legal.specs.Allowed.{AreAllowed}
+use Rattle.afdx_legal.specs.Allowed.{AreQueued}
 use Rattle.vl_link.specs.Links.{LinkState, link_at}
 use Rattle.afdx_tx.specs.Emitter.{Tx, taken_in, IsFreshTx}
 use Rattle.afdx_tx.specs.Run.{IsRun}
@@ -27,7 +27,7 @@ pub record IsPlanned (plan : Plan) (links : List LinkState) (k : ℕ) : Type 0 w
 pub record IsReadyFor (plan : Plan) (tx : Tx) : Type 0 where
   pub count : length tx.links ≡ length plan.links
   pub links : (k : ℕ) → k < length plan.links → IsPlanned plan tx.links k
-  pub allowed : AreAllowed plan (taken_in tx.links)
+  pub allowed : AreQueued plan (taken_in tx.links)
 
 abbrev pub IsReady : Tx → Type 0
 IsReady tx = IsReadyFor tx.plan tx
@@ -36,7 +36,7 @@ IsReady tx = IsReadyFor tx.plan tx
 pub record KeptReady : Type 0 where
   pub opened : (config : Plan) (tx : Tx) → IsFreshTx config tx → IsReady tx
   pub polled : (now : ℕ) (old new : Tx) → IsReady old → new.plan ≡ old.plan
-      → IsRun now old.links new.links old.lines new.lines → AreAllowed new.plan (taken_in new.links) → IsReady new
+      → IsRun now old.links new.links old.lines new.lines → AreQueued new.plan (taken_in new.links) → IsReady new
   pub closed : (old new : Tx) (vl sub total : ℕ) → IsReady old → ClosesTx old vl sub total new → IsReady new
   pub published : (old new : Tx) → IsReady old → Publishes old new → IsReady new
 
@@ -53,7 +53,7 @@ pub record EmitterPolls (plan : Plan) (now : ℕ) (lines after : Lines) : Type 0
 -- a poll of a drain of a plan
 pub record DrainPolls (plan : Plan) (now : ℕ) (lines after : Lines) : Type 0 where
   pub accepted : Accepted
-  pub allowed : AreAllowed plan accepted
+  pub allowed : AreQueued plan accepted
   pub run : IsDrained now plan accepted lines after
 
 -- polls at these times, each of this kind; between them nothing is transmitted

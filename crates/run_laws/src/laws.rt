@@ -1,5 +1,5 @@
 //! Laws over runs of polls. The functions are empty: each contract is a law.
-ghost use Rattle.run_laws.specs.MessageInRun.{GatheredFit, MessageInRun, ApartAreTimely};
+ghost use Rattle.run_laws.specs.MessageInRun.{MessageInRun, ApartAreTimely};
 ghost use Rattle.run_laws.specs.Runs.{NextInRun, KeptReady};
 ghost use Rattle.run_laws.specs.WorkedRun.{ComesInRun, NeedsARun, MeetsTheWait, NeedsItsPremises};
 
@@ -26,7 +26,7 @@ pub fn next_in_run()
 ///
 /// The wait starts at any time not before the last release, for example at the last poll before the message was
 /// accepted. The message is one of the accepted list of its sub-VL (`IsAccepted`), which `gather` ties to the ports'
-/// own lists (`allowed`, `sizes`). Premises:
+/// own lists (`gathered`, `allowed`). Premises:
 ///
 /// - After the start and after each poll, a poll comes between one BAG and one BAG and the lateness later, until the
 ///   wait is over (`AreTimely`). Polls at most the lateness and a microsecond apart meet this (`apart`). So do polls at
@@ -42,9 +42,6 @@ pub fn message_in_run()
 
     // polls at most the lateness and a microsecond apart
     ensures apart { ApartAreTimely }
-
-    // after `gather`, no accepted message is longer than its port may send
-    ensures sizes { GatheredFit }
 
     // a message that takes exactly its wait
     ensures worked { MeetsTheWait }

@@ -76,7 +76,8 @@ pub counted : (plan : Plan) (k sub : ℕ) (sents : List Sent) → IsPlan plan �
     → accepted_among plan (each_port plan sents) (link_plan_at plan.links k).id.0 sub (length plan.ports) ≡ length sents
 counted plan k sub [] valid all = among_none plan (link_plan_at plan.links k).id.0 sub (length plan.ports)
 counted plan k sub (sent ∷ more) valid all =
-    let first : IsAllowed plan k sub sent = all 0 sent (omega arith) in
+    let of : IsAllowed plan k sub sent = all 0 sent (omega arith) in
+    let first = of.queued in
     let at : ℕ = first.port.0 in
     let port : port_plan_at plan.ports at ≡ sent.port =
     get_or_default plan.ports at (port_plan_at [] 0) sent.port first.port.1 ∙ first.port.2 in

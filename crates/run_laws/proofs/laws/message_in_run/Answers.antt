@@ -1,4 +1,3 @@
-use Rattle.run_laws.proofs.Gathered.{gathered_fit}
 use Rattle.run_laws.proofs.MessageRun.{message_in_run_holds}
 use Rattle.run_laws.proofs.Timely.{apart_timely}
 use Rattle.run_laws.proofs.WorkedRuns.{meets_the_wait, needs_its_premises}
@@ -8,7 +7,6 @@ pub returns : goal.returns
 returns c = record {
   wait = message_in_run_holds;
   apart = apart_timely;
-  sizes = gathered_fit;
   worked = meets_the_wait;
   needed = needs_its_premises;
 }

@@ -1,6 +1,8 @@
 use Rattle.afdx_tx.proofs.Names.{refl, ◌≡◌, ◌∙◌, with_items, with_items_is, IsSound, GathersPorts}
 use Rattle.afdx_tx.proofs.Conforming.{sound_conforms}
 use Rattle.afdx_tx.proofs.GatheredPorts.{gathers_sound, gathers_reaches, gathers_tx, all_gathered}
+use Rattle.afdx_tx.proofs.OwnLengths.{gathered_allowed}
+use Rattle.afdx_tx.proofs.PortMessages.{accepted_allowed}
 use Rattle.afdx_tx.proofs.transmitter.Transmitter.gather.Given
 use Rattle.afdx_tx.proofs.transmitter.Transmitter.gather.Goals as goal
 
@@ -31,6 +33,11 @@ returns-clause-gathered g c =
 pub returns-clause-all : goal.returns-clause-all
 returns-clause-all g c =
     rw (links_are g c) (all_gathered c.gather_links.ensures.mid c.gather_links.new.links c.gather_links.ensures.gathers)
+
+pub returns-clause-allowed : goal.returns-clause-allowed
+returns-clause-allowed g c =
+    let holds = sound g c in
+    gathered_allowed _ _ _ holds.valid c.requires.opened (returns-clause-gathered g c) (accepted_allowed _ _ holds.of_plan holds.items)
 
 pub returns-clause-conforms : goal.returns-clause-conforms
 returns-clause-conforms g c = sound_conforms _ (sound g c)

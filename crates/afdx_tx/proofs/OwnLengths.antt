@@ -1,8 +1,20 @@
--- What gathering says of the lengths of the accepted messages.
-use Rattle.run_laws.proofs.Names.{ℕ, ◌≡◌, ◌<◌, List, [], ◌∷◌, Bool, true, false, length, get_or, nat_eq, if◌then◌else◌, refl, ap, ◌∙◌, sym, subst, All, eq-eqb, both_ways, get_or_default, All-cons, All-nil, All-head, All-tail, All-contains, Plan, port_plan_at, link_place, PortPlan, Sent, IsAllowed, messages_of, accepted_in, Tx, FitsItsPort, GatheredFit}
-use Rattle.afdx_tx.specs.Gathering.{IsGatheredTx}
-use Rattle.afdx_tx.specs.Ports.{PortView, MaySend, IsPortOfTx, AreOpenedWith}
-use Rattle.run_laws.proofs.MessageRun.{own_link}
+-- No accepted message is longer than its port may send.
+use Rattle.afdx_tx.proofs.Names.{ℕ, ◌≡◌, ◌<◌, ◌≤◌, List, [], ◌∷◌, Bool, true, false, length, get_or, nat_eq, refl, ap, ◌∙◌, sym, subst, All, eq-eqb, both_ways, get_or_default, All-nil, All-head, All-tail, All-contains, Plan, IsPlan, HasLink, link_plan_at, port_plan_at, link_place, PortPlan, Sent, accepted_in, Tx, IsGatheredTx, PortView, AreOpenedWith}
+use Rattle.std.specs.Prelude.{if◌then◌else◌}
+use Rattle.std.proofs.lemmas.List.Elements.{All-cons}
+use Rattle.afdx_legal.specs.Allowed.{IsQueued, AreQueued, AreAllowed, messages_of}
+use Rattle.afdx_tx.specs.Ports.{MaySend, IsPortOfTx}
+use Rattle.afdx_tx.proofs.PortLink.{link_within}
+
+-- the link of a message's port is the one that it was accepted over
+pub own_link : (plan : Plan) (k s : ℕ) (sent : Sent) → IsPlan plan → k < length plan.links → IsQueued plan k s sent
+    → link_place plan sent.port ≡ k
+own_link plan k s sent valid inside of =
+    let has : HasLink plan.links sent.port = All-contains (HasLink plan.links) plan.ports sent.port valid.linked of.port in
+    let there = link_within plan sent.port valid has in
+    let id : (link_plan_at plan.links (link_place plan sent.port)).id ≡ (link_plan_at plan.links k).id =
+    there.1.id ∙ (λ i. record { 0 = of.over i }) in
+    valid.links_apart (link_place plan sent.port) k there.0 inside id
 
 -- what holds of a port's messages in a list holds of each message of the port there
 of_port : (port : PortPlan) (P : List ℕ → Type 0) (xs : List Sent) → All P (messages_of port xs)
@@ -22,7 +34,7 @@ of_port port P (m ∷ more) all = by_test (of_port port P more) (nat_eq m.port.i
 
 -- the messages of the port at a place
 own_fit : (old new : Tx) (ports : List PortView) (place : ℕ) → AreOpenedWith old ports → IsGatheredTx old ports new
-    → place < length new.plan.ports → All (λ (m : Sent). m.port ≡ port_plan_at new.plan.ports place → FitsItsPort m)
+    → place < length new.plan.ports → All (λ (m : Sent). m.port ≡ port_plan_at new.plan.ports place → length m.bytes ≤ m.port.max)
     (accepted_in new.links (link_place new.plan (port_plan_at new.plan.ports place)) (port_plan_at new.plan.ports place).sub)
 own_fit old new ports place opened g lt i d below own_port =
     let port : PortPlan = port_plan_at new.plan.ports place in
@@ -36,13 +48,18 @@ own_fit old new ports place opened g lt i d below own_port =
     (accepted_in new.links (link_place new.plan port) port.sub) (rw own.accepted may) i d below own_port).most in
     rw own_port most
 
-pub gathered_fit : GatheredFit
-gathered_fit old new ports valid opened g allowed k s inside below i d lt =
+-- After gathering, the ports may send the accepted messages.
+pub gathered_allowed : (old new : Tx) (ports : List PortView) → IsPlan new.plan → AreOpenedWith old ports
+    → IsGatheredTx old ports new → AreQueued new.plan (accepted_in new.links) → AreAllowed new.plan (accepted_in new.links)
+gathered_allowed old new ports valid opened g queued k s inside below i d lt =
     let m : Sent = get_or (accepted_in new.links k s) i d in
-    let of : IsAllowed new.plan k s m = allowed k s inside below i d lt in
+    let of : IsQueued new.plan k s m = queued k s inside below i d lt in
     let at : get_or new.plan.ports of.port.0 m.port ≡ m.port = of.port.2 in
     let same : port_plan_at new.plan.ports of.port.0 ≡ m.port = get_or_default new.plan.ports of.port.0 _ m.port of.port.1 ∙ at in
     let link : link_place new.plan (port_plan_at new.plan.ports of.port.0) ≡ k =
     ap (link_place new.plan) same ∙ own_link new.plan k s m valid inside of in
     let sub : (port_plan_at new.plan.ports of.port.0).sub ≡ s = ap (λ (p : PortPlan). p.sub) same ∙ of.its in
-    (rw (link, sub) at (own_fit old new ports of.port.0 opened g of.port.1)) i d lt (sym same)
+    record {
+      queued = of;
+      most = (rw (link, sub) at (own_fit old new ports of.port.0 opened g of.port.1)) i d lt (sym same);
+    }
