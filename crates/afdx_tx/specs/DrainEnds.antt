@@ -15,7 +15,7 @@ use Rattle.vl_shaper.specs.Pace.{IsLater}
 use Rattle.afdx_legal.specs.Streams.{link_stream, sub_stream, told, latest}
 use Rattle.afdx_legal.specs.Legal.{Accepted}
 use Rattle.afdx_legal.specs.Done.{IsAllDone}
-use Rattle.afdx_legal.specs.WorkedMessage.{one_byte_accepted, one_frame, one_entry_at}
+use Rattle.afdx_legal.specs.WorkedMessage.{one_byte, one_byte_accepted, one_frame, one_entry_at}
 use Rattle.afdx_tx.specs.Drain.{IsDrained}
 
 -- the number of fragments of the accepted messages of a link's first sub-VLs that its stream lacks
@@ -62,10 +62,13 @@ DrainEnds = (plan : Plan) (accepted : Accepted) (moments : List ℕ) (lines afte
 abbrev pub no_lines : Lines
 no_lines = lines_of [] [] 0 0 true true []
 
--- both networks accepted the frame
+-- both networks accepted the frame, at `now`
+abbrev pub one_line_at : ℕ → Lines
+one_line_at now = lines_of (one_entry_at now A) (one_entry_at now B) 0 0 true true
+    (logged_for Both (entry now (one_frame A)) ∷ [])
+
 abbrev pub one_line : Lines
-one_line = lines_of (one_entry_at 1000 A) (one_entry_at 1000 B) 0 0 true true
-    (logged_for Both (entry 1000 (one_frame A)) ∷ [])
+one_line = one_line_at 1000
 
 -- the times of the polls
 abbrev pub two_moments : List ℕ
@@ -82,3 +85,38 @@ pub record DrainsOne : Type 0 where
   pub owed : (k : ℕ) → k < length demo_plan.links
       → owed_at demo_plan one_byte_accepted k no_lines < length two_moments
   pub done : IsAllDone demo_plan one_byte_accepted (log one_line)
+
+-- Two such messages were accepted, of which one was transmitted at `at`.
+abbrev pub two_accepted : Accepted
+two_accepted k sub = one_byte ∷ one_byte ∷ []
+
+-- The start isn't before the release, the greatest gap is at most `gap`, and the polls are more than the frames owed.
+abbrev pub StartsAfter : ℕ → ℕ → Type 0
+StartsAfter at start = (k : ℕ) → k < length demo_plan.links → IsLater (latest None (stream_at demo_plan k (one_line_at at))) start
+
+abbrev pub IsGap : ℕ → Type 0
+IsGap gap = (k : ℕ) → k < length demo_plan.links → bag_micros (link_plan_at demo_plan.links k).bag ≤ gap
+
+abbrev pub AreEnough : ℕ → List ℕ → Type 0
+AreEnough at moments = (k : ℕ) → k < length demo_plan.links
+    → owed_at demo_plan two_accepted k (one_line_at at) < length moments
+
+-- These polls transmit nothing more, and leave a message.
+pub record LeavesOne (at : ℕ) (moments : List ℕ) : Type 0 where
+  pub drained : AreDrained demo_plan two_accepted moments (one_line_at at) (one_line_at at)
+  pub stand : (k : ℕ) → k < length demo_plan.links → stands_for (link_plan_at demo_plan.links k).networks (one_line_at at) ≡ true
+  pub left : IsAllDone demo_plan two_accepted (log (one_line_at at)) → ⊥
+
+-- Each of these premises is needed: one of them fails alone, and the message is left.
+pub record NeedsItsPolls : Type 0 where
+  -- no poll, where a frame is owed
+  pub none : LeavesOne 1000 [] × StartsAfter 1000 1000 × IsGap 1000 × AreApartBy 1000 1000 [] × (AreEnough 1000 [] → ⊥)
+  -- polls that follow too soon
+  pub close : LeavesOne 1000 (1500 ∷ 1600 ∷ []) × StartsAfter 1000 1000 × IsGap 1000
+      × (AreApartBy 1000 1000 (1500 ∷ 1600 ∷ []) → ⊥) × AreEnough 1000 (1500 ∷ 1600 ∷ [])
+  -- a gap that is less than that of the link
+  pub short : LeavesOne 1000 (1500 ∷ 1600 ∷ []) × StartsAfter 1000 1000 × (IsGap 100 → ⊥)
+      × AreApartBy 100 1000 (1500 ∷ 1600 ∷ []) × AreEnough 1000 (1500 ∷ 1600 ∷ [])
+  -- a release after the polls
+  pub early : LeavesOne 5000 (1000 ∷ 2000 ∷ []) × (StartsAfter 5000 0 → ⊥) × IsGap 1000
+      × AreApartBy 1000 0 (1000 ∷ 2000 ∷ []) × AreEnough 5000 (1000 ∷ 2000 ∷ [])

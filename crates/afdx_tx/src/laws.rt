@@ -1,5 +1,5 @@
 //! Laws of the definitions. These functions do nothing: the contract is the law.
-ghost use Rattle.afdx_tx.specs.DrainEnds.{DrainEnds, DrainsOne};
+ghost use Rattle.afdx_tx.specs.DrainEnds.{DrainEnds, DrainsOne, NeedsItsPolls};
 
 /// A drain ends. Polls that are apart by the greatest gap of the plan, the first of them that long
 /// after each release, transmit all that is left, if they are more than the frames that each link
@@ -12,4 +12,7 @@ pub fn drain_ends()
 
     // one message, which the first of two polls transmits
     ensures worked { DrainsOne }
+
+    // no poll where a frame is owed; polls too soon; a gap under the link's; a release after the start
+    ensures needed { NeedsItsPolls }
 {}
