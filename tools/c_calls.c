@@ -207,6 +207,9 @@ static void check_send(void) {
     CHECK(send_bytes(&all.ports[0], 8193) == AFDX_TOO_LONG && send_bytes(&all.ports[1], 41) == AFDX_TOO_LONG);
     CHECK(send_bytes(&all.ports[0], 1) == 0 && send_bytes(&all.ports[0], 8192) == 0);
     CHECK(send_bytes(&all.ports[0], 1) == AFDX_FULL && accepted(&all.ports[0]) == 2);
+    refused_in = 0;
+    CHECK(send_bytes(&all.ports[0], 1) == AFDX_MEMORY);
+    refused_in = -1;
     closes(9, 0, AFDX_NO_SUB, 7);
     closes(1, 1, AFDX_NO_SUB, 7);
     closes(2, 2, AFDX_NO_SUB, 7);
@@ -369,6 +372,7 @@ static void check_memory(void) {
     refused_in = 1;
     CHECK(afdx_port_of(&all.it, 10, &all.ports[0]) == 0);
     refused_in = 0;
+    CHECK(send_bytes(&all.ports[0], 0) == AFDX_EMPTY && send_bytes(&all.ports[0], 8193) == AFDX_TOO_LONG);
     CHECK(send_bytes(&all.ports[0], 100) == AFDX_MEMORY);
     refused_in = -1;
     CHECK(accepted(&all.ports[0]) == 0);

@@ -149,8 +149,9 @@ uint8_t afdx_links(afdx_end_system *it, uint16_t *ids, size_t room, size_t *coun
 
 /* Copies a message in, at the end of the queue of the port's sub-VL. Called by the thread that has the port. Never
    waits, unless malloc does: the copy comes from malloc, and a later afdx_poll frees it, so either may meet a lock
-   of the allocator. Refused: AFDX_NOT_HELD, AFDX_WRONG_HANDLE; AFDX_MEMORY; AFDX_EMPTY, AFDX_TOO_LONG, AFDX_CLOSED,
-   AFDX_EXHAUSTED (the port has used its 2^40 slot requests), AFDX_FULL: try again after a poll. */
+   of the allocator. Refused: AFDX_NOT_HELD, AFDX_WRONG_HANDLE; AFDX_EMPTY, AFDX_TOO_LONG, by the length alone, before
+   anything is allocated or copied; AFDX_MEMORY, also of a queue that is closed or full; AFDX_CLOSED, AFDX_EXHAUSTED
+   (the port has used its 2^40 slot requests), AFDX_FULL: try again after a poll. */
 uint8_t afdx_send(afdx_port *port, const uint8_t *message, size_t length);
 
 /* Writes the number of a port's accepted messages. Called by the thread that has the port. Refused: AFDX_NOT_HELD,

@@ -6,7 +6,7 @@ ghost use Rattle.afdx_plan.specs.declared.fault.ConfigFault.{ConfigFault};
 ghost use Rattle.afdx_plan.specs.declared.fault.ConfigFault.TheVariants.{Memory};
 ghost use Rattle.afdx_plan.specs.PlanFaults.{fault_number};
 ghost use Rattle.afdx_tx.specs.declared.fault.Refusal.{Refusal};
-ghost use Rattle.afdx_tx.specs.Ports.{PortView, IsPortOfTx, Accepts, Refuses, LacksPlace};
+ghost use Rattle.afdx_tx.specs.Ports.{PortView, IsPortOfTx, MaySend, Accepts, Refuses, LacksPlace};
 ghost use Rattle.afdx_tx.specs.Closing.{LacksSub};
 ghost use Rattle.afdx_tx.specs.Naming.{LacksLink};
 ghost use Rattle.afdx_handle.specs.Numbers.{AreCountsOf, IsOneOf, net_of, refusal_number, standing_bits};
@@ -190,6 +190,8 @@ pub extern "C" fn afdx_send(alloc: Global, port: &mut Handle, message: &[u8]) ->
     ensures refused { (why : Refusal) → result ≡ refusal_number why
         → PortDoes port.old.kept.home port.new.kept.home (λ old new. Refuses old (length message.now) why new) }
     ensures unsent { result ≡ MEMORY → HoldsSame port.old.kept.home port.new.kept.home }
+    ensures fits { result ≡ MEMORY → IsSomeAnd (port_of port.old.kept.home) (λ own.
+        MaySend own.plan (length message.now)) }
     ensures misused { 32 ≤ result → HoldsSame port.old.kept.home port.new.kept.home }
 {
     let Some(mut home) = port.take() else {

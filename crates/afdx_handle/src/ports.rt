@@ -1,7 +1,7 @@
 //! The ports of an end system: sending a message, and taking ports out, giving them back and
 //! gathering them.
 ghost use Rattle.std.specs.Prelude.{◌≡◌, ◌≢◌, ◌≤◌, ◌<◌, ◌⊎◌, ◌↔◌, ◌++◌, [], ◌∷◌, Option, Some, None, true, false, length, position, IfOk, IfErr, OnOk, OnErr, IsSome, IsSomeAnd, MatchBool};
-ghost use Rattle.afdx_tx.specs.Ports.{PortView, Accepts, Refuses, IsPortOfTx, LacksPlace};
+ghost use Rattle.afdx_tx.specs.Ports.{PortView, MaySend, Accepts, Refuses, IsPortOfTx, LacksPlace};
 ghost use Rattle.afdx_tx.specs.declared.fault.Refusal.{Refusal};
 ghost use Rattle.afdx_handle.specs.EndSystem.{EndView, has_id, TakesPort, GivesBack, GathersEnd};
 ghost use Rattle.afdx_handle.specs.Held.{end_of, port_of, HoldsNothing, HoldsOne, HoldsSame, EndDoes};
@@ -31,15 +31,19 @@ fn copy_of(alloc: Global, message: &[u8]) -> Result<Vec<u8>, AllocError>
     Ok(copy)
 }
 
-/// Copies a message in. Returns the number of the refusal, or `MEMORY` if the copy can't be
-/// allocated; then the port is unchanged.
+/// Copies a message in, if the port may send one of its length. Returns the number of the refusal, or
+/// `MEMORY` if the copy can't be allocated; then the port is unchanged.
 pub fn send(alloc: Global, port: &mut TxPort, message: &[u8]) -> u8
     ensures answers { (result ≤ 5) ⊎ (result ≡ MEMORY) }
     ensures accepted { result ≡ DONE → Accepts port.old message.now port.new }
     ensures refused { (why : Refusal) → result ≡ refusal_number why
         → Refuses port.old (length message.now) why port.new }
     ensures memory { result ≡ MEMORY → port.new ≡ port.old }
+    ensures fits { result ≡ MEMORY → MaySend port.old.plan (length message.now) }
 {
+    if let Some(why) = port.length_refusal(message.len()) {
+        return refusal_number(why);
+    }
     let Ok(copy) = copy_of(alloc, message) else {
         return MEMORY;
     };

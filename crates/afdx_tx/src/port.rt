@@ -1,25 +1,11 @@
 //! A port, for a thread of its own.
 ghost use Rattle.std.specs.Prelude.{◌≡◌, length};
 ghost use Rattle.afdx_tx.specs.Ports.{refusal_of};
-ghost use Rattle.afdx_tx.specs.Sending.{length_refusal};
 
 use crate::fault::{Refusal, SendFault};
 use afdx_plan::{PortId, PortPlan};
 use std::marker::Model;
 use subvl_queue::{Refused, Sender, Why};
-
-/// The reason that a port refuses a message by its length, whatever its queue holds.
-fn length_refusal(port: &PortPlan, size: usize) -> Option<Refusal>
-    ensures { result ≡ length_refusal port.now size }
-{
-    if size == 0 {
-        return Some(Refusal::Empty);
-    }
-    if size > port.max {
-        return Some(Refusal::TooLong);
-    }
-    None
-}
 
 /// A port of an emitter, which may be moved to another thread. Contracts see its place in the
 /// configuration, its entry there, and its sender with the port's accepted messages.
@@ -50,6 +36,7 @@ impl TxPort {
     ghost use Rattle.std.specs.Prelude.{◌≡◌, ◌<◌, [], length, IfOk, IfErr};
     ghost use Rattle.afdx_plan.specs.Plan.{IsPort};
     ghost use Rattle.afdx_tx.specs.Ports.{PortView, MaySend, HasOwnMessages, Accepts, Refuses};
+    ghost use Rattle.afdx_tx.specs.Sending.{length_refusal};
 
     // The port at a place of a configuration, with a sender of its sub-VL's queue.
     pub(crate) fn new(plan: PortPlan, place: usize, sender: Sender) -> TxPort
@@ -81,6 +68,21 @@ impl TxPort {
         ensures messages { HasOwnMessages self.now }
     {
         self.sender.accepted()
+    }
+
+    /// The reason that it refuses a message of this size in bytes, whatever its queue holds: `Empty`
+    /// or `TooLong`.
+    #[inline(always)]
+    pub fn length_refusal(&self, size: usize) -> Option<Refusal>
+        ensures { result ≡ length_refusal self.now.plan size }
+    {
+        if size == 0 {
+            return Some(Refusal::Empty);
+        }
+        if size > self.plan.max {
+            return Some(Refusal::TooLong);
+        }
+        None
     }
 
     // Its place in the configuration.
@@ -133,7 +135,7 @@ impl TxPort {
         ensures refused { IfErr result
             (λ fault. Refuses self.old (length bytes.items) fault.why self.new) }
     {
-        if let Some(why) = length_refusal(&self.plan, bytes.len()) {
+        if let Some(why) = self.length_refusal(bytes.len()) {
             return Err(SendFault { why, bytes });
         }
         match self.sender.send_with(bytes, pause) {
