@@ -17,7 +17,7 @@ ghost use Rattle.afdx_handle.specs.Explaining.{IsExplainedIn};
 ghost use Rattle.afdx_handle.specs.Polling.{IsNextDue};
 ghost use Rattle.afdx_handle.specs.Listing.{with_front, port_ids, link_ids, all_made, bytes_of, lengths_of};
 ghost use Rattle.std.specs.List.{concat};
-ghost use Rattle.afdx_handle.specs.Held.{end_of, port_of, HoldsNothing, HoldsOne, HoldsSame, EndDoes, PortDoes};
+ghost use Rattle.afdx_handle.specs.Held.{end_of, port_of, port_block, HoldsNothing, HoldsOne, HoldsSame, EndDoes, PortDoes};
 
 use afdx_handle::answer::{
     BOTH_DOWN, DONE, GATHERED, HELD, MEMORY, NO_FRAME, NO_LINK, NO_NETWORK, NO_PORT, NO_SUB,
@@ -69,6 +69,7 @@ macro_rules! with_end {
 pub extern "C" fn afdx_open(alloc: Global, out: &mut Opening, text: &[u8]) -> u8
     ensures held { (result ≡ HELD) ↔ IsSome out.old.handle.kept.home }
     ensures opened { result ≡ DONE → IsSomeAnd (end_of out.new.handle.kept.home) (IsOpened text.now) }
+    ensures marked { result ≡ DONE → IsSomeAnd (end_of out.new.handle.kept.home) (λ end. out.new.mark ≡ end.block) }
     ensures fault { result ≢ DONE → result ≢ HELD → (fault : ConfigFault) × (result ≡ fault_number fault)
         × (fault ≢ Memory → IsLeastFault text.now fault) }
     ensures refused { result ≢ DONE → (out.new.handle.kept.home ≡ out.old.handle.kept.home)
@@ -122,6 +123,8 @@ pub extern "C" fn afdx_port_of(alloc: Global, it: &mut Marked, id: u16, out: &mu
         (end.gathered ≡ false) × (position (has_id id) end.ports ≡ None))) }
     ensures taken { result ≡ DONE → IsSomeAnd (port_of out.new.handle.kept.home) (λ port.
         EndDoes it.old.handle.kept.home it.new.handle.kept.home (λ old new. TakesPort old id port new)) }
+    ensures block { result ≡ DONE → IsSomeAnd (end_of it.old.handle.kept.home) (λ end.
+        port_block out.new.handle.kept.home ≡ Some end.block) }
     ensures marked { result ≡ DONE → out.new.mark ≡ it.old.mark }
     ensures same { it.new.mark ≡ it.old.mark }
     ensures refused { result ≢ DONE → HoldsSame it.old.handle.kept.home it.new.handle.kept.home }
@@ -474,7 +477,7 @@ pub extern "C" fn afdx_free_port(port: &mut Handle) -> u8
 #[unsafe(no_mangle)]
 pub extern "C" fn afdx_give_back(it: &mut Marked, port: &mut Marked) -> u8
     // Two handles with the same mark are of the same end system: a mark is the address of a block
-    // that the end system and each of its ports own.
+    // that the end system and each of its ports own, as `afdx_open` and `afdx_port_of` ensure.
     requires own { (end : EndView) → (own : PortView) → end_of it.old.handle.kept.home ≡ Some end
         → port_of port.old.handle.kept.home ≡ Some own → it.old.mark ≡ port.old.mark
         → end.gathered ≡ false → IsPortOfTx end.tx own }

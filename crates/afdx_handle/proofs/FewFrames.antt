@@ -112,7 +112,7 @@ still_own false now old new report ports polls own sending =
 pub poll_keeps : (old : EndView) (new : Tx) (a b now : ℕ) (report : Report) → IsEndSystem old
     → PollsTx old.gathered now old.tx report new → length report.released.items ≤ 64
     → a ≡ length old.tx.lines.a → b ≡ length old.tx.lines.b
-    → IsEndSystem (end_view old.gathered new old.ports old.room a b)
+    → IsEndSystem (end_view old.gathered new old.ports old.room a b old.block)
 poll_keeps old new a b now report kept polls few a_is b_is =
     let was = old.tx.lines in
     let told = polls.told.released in

@@ -7,6 +7,7 @@ use Rattle.redundant_mux.specs.Lines.{log, IsMirrored}
 use Rattle.afdx_legal.specs.Done.{IsAllDone}
 use Rattle.afdx_plan.specs.Config.{Plan}
 use Rattle.afdx_config.specs.Faults.{IsPlanOf}
+use denote.RawPtr.{Ptr}
 use Rattle.afdx_tx.specs.Emitter.{Tx, IsFreshTx}
 use Rattle.afdx_tx.specs.Drain.{accepted_in}
 use Rattle.afdx_tx.specs.Ports.{PortView, IsPortOfTx, AreOpenedWith, AreFreshPorts}
@@ -17,7 +18,8 @@ use Rattle.afdx_handle.specs.Numbers.{line_of}
 use Rattle.afdx_handle.specs.Polling.{PollsTx}
 
 -- An end system: whether its ports are gathered, its emitter, the ports in it and the capacity of
--- their list, and the number of frames that each network had accepted before the last poll.
+-- their list, the number of frames that each network had accepted before the last poll, and the address
+-- of the block that it and each of its ports that is out own.
 pub record EndView : Type 0 where
   pub gathered : Bool
   pub tx : Tx
@@ -25,16 +27,18 @@ pub record EndView : Type 0 where
   pub room : ℕ
   pub a_before : ℕ
   pub b_before : ℕ
+  pub block : Ptr
 
 -- an end system of these
-abbrev pub end_view : Bool → Tx → List PortView → ℕ → ℕ → ℕ → EndView
-end_view gathered tx ports room a_before b_before = record {
+abbrev pub end_view : Bool → Tx → List PortView → ℕ → ℕ → ℕ → Ptr → EndView
+end_view gathered tx ports room a_before b_before block = record {
   gathered = gathered;
   tx = tx;
   ports = ports;
   room = room;
   a_before = a_before;
   b_before = b_before;
+  block = block;
 }
 
 -- the number of frames that a network had accepted before the last poll
@@ -70,6 +74,7 @@ pub record PollsEnd (now : ℕ) (old new : EndView) : Type 0 where
   pub room : new.room ≡ old.room
   pub a_before : new.a_before ≡ length old.tx.lines.a
   pub b_before : new.b_before ≡ length old.tx.lines.b
+  pub block : new.block ≡ old.block
 
 -- an end system one of whose sub-VLs is closed with this total; all else is unchanged
 pub record ClosesEnd (old : EndView) (vl sub total : ℕ) (new : EndView) : Type 0 where
@@ -82,6 +87,7 @@ pub record GathersEnd (old new : EndView) : Type 0 where
   pub tx : IsGatheredTx old.tx old.ports new.tx
   pub a_before : new.a_before ≡ old.a_before
   pub b_before : new.b_before ≡ old.b_before
+  pub block : new.block ≡ old.block
 
 -- the port has this identifier
 abbrev pub has_id : ℕ → PortView → Bool
@@ -94,16 +100,18 @@ pub record TakesPort (old : EndView) (id : ℕ) (port : PortView) (new : EndView
   pub same : new ≡ record old { ports = new.ports }
   pub own : old.gathered ≡ false → IsPortOfTx old.tx port
 
--- the port is put back into the end system
+-- the port is put back into the end system, whose list has the same room
 pub record GivesBack (old : EndView) (port : PortView) (new : EndView) : Type 0 where
-  pub same : new ≡ record old { ports = old.ports ++ port ∷ []; room = new.room }
+  pub same : new ≡ record old { ports = old.ports ++ port ∷ [] }
 
--- An end system of this text: nothing was accepted, polled or transmitted, and all its ports are in it.
+-- An end system of this text: nothing was accepted, polled or transmitted, and all its ports are in it,
+-- in a list with room for all of them.
 pub record IsOpened (text : List ℕ) (it : EndView) : Type 0 where
   pub plan : Plan
   pub of : IsPlanOf text plan
   pub fresh : IsFreshTx plan it.tx
   pub ports : AreFreshPorts it.tx it.ports
+  pub room : length it.tx.plan.ports ≤ it.room
   pub sending : it.gathered ≡ false
   pub a_before : it.a_before ≡ 0
   pub b_before : it.b_before ≡ 0

@@ -1,6 +1,7 @@
 -- The content of a handle, by kind.
 use Rattle.std.specs.Prelude.{◌≡◌, ◌⊎◌, Option, Some, None, IsNone, IsSome, IsSomeAnd}
 use Rattle.afdx_tx.specs.Ports.{PortView}
+use denote.RawPtr.{Ptr}
 use Rattle.afdx_handle.specs.EndSystem.{EndView}
 use Rattle.afdx_handle.specs.declared.home.Home.{Home}
 use Rattle.afdx_handle.specs.declared.home.Home.TheVariants as is
@@ -19,6 +20,13 @@ port_of (Some (is.EndSystem it)) = None
 port_of (Some (is.Port own)) = Some own.port
 port_of (Some is.Nothing) = None
 
+-- the address of the block of the end system that its port was taken from, if it holds a port
+abbrev pub port_block : Option Home → Option Ptr
+port_block None = None
+port_block (Some (is.EndSystem it)) = None
+port_block (Some (is.Port own)) = Some own.block
+port_block (Some is.Nothing) = None
+
 -- it holds neither
 abbrev pub HoldsNothing : Option Home → Type 0
 HoldsNothing held = IsNone (end_of held) × IsNone (port_of held)
@@ -27,14 +35,15 @@ HoldsNothing held = IsNone (end_of held) × IsNone (port_of held)
 abbrev pub HoldsOne : Option Home → Type 0
 HoldsOne held = IsSome (end_of held) ⊎ IsSome (port_of held)
 
--- both hold the same end system, the same port, or neither
+-- both hold the same end system, the same port of the same end system, or neither
 abbrev pub HoldsSame : Option Home → Option Home → Type 0
-HoldsSame old new = (end_of new ≡ end_of old) × (port_of new ≡ port_of old)
+HoldsSame old new = (end_of new ≡ end_of old) × (port_of new ≡ port_of old) × (port_block new ≡ port_block old)
 
 -- the relation between the end system before and afterwards
 abbrev pub EndDoes : Option Home → Option Home → (EndView → EndView → Type 0) → Type 0
 EndDoes old new Does = IsSomeAnd (end_of old) (λ before. IsSomeAnd (end_of new) (Does before))
 
--- the relation between the port before and afterwards
+-- the relation between the port before and afterwards, which is of the same end system
 abbrev pub PortDoes : Option Home → Option Home → (PortView → PortView → Type 0) → Type 0
-PortDoes old new Does = IsSomeAnd (port_of old) (λ before. IsSomeAnd (port_of new) (Does before))
+PortDoes old new Does =
+    IsSomeAnd (port_of old) (λ before. IsSomeAnd (port_of new) (Does before)) × (port_block new ≡ port_block old)

@@ -5,6 +5,7 @@ use crate::answer::{
     BOTH_DOWN, DONE, GATHERED, NO_FRAME, NO_LINK, NO_SUB, NOT_GATHERED, SMALL_BUFFER, TIME_BACK,
     standing_bits,
 };
+use crate::block::Block;
 use crate::listing::{put_at, write_link_ids, write_port_ids};
 use crate::stage::Stage;
 use afdx_frame::Net;
@@ -33,7 +34,7 @@ pub struct EndSystem {
     pub ports: Vec<TxPort>,
     pub a: Side,
     pub b: Side,
-    pub mark: Arc<u8, Global>,
+    pub block: Block,
 }
 
 impl Model for EndSystem {
@@ -43,9 +44,9 @@ impl Model for EndSystem {
 
     ghost Value = { EndView };
 
-    ghost view = { λ e. end_view (is_gathered e.stage) (tx_of e.stage) e.ports.items (vec_capacity e.ports) e.a.before e.b.before };
+    ghost view = { λ e. end_view (is_gathered e.stage) (tx_of e.stage) e.ports.items (vec_capacity e.ports) e.a.before e.b.before e.block };
 
-    ghost invariant = { λ e. IsEndSystem (end_view (is_gathered e.stage) (tx_of e.stage) e.ports.items (vec_capacity e.ports) e.a.before e.b.before) };
+    ghost invariant = { λ e. IsEndSystem (end_view (is_gathered e.stage) (tx_of e.stage) e.ports.items (vec_capacity e.ports) e.a.before e.b.before e.block) };
 }
 
 impl EndSystem {

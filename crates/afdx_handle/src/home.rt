@@ -1,15 +1,14 @@
 //! The content of a handle.
 use crate::answer::{NOT_HELD, WRONG_HANDLE};
+use crate::block::Block;
 use crate::end_system::EndSystem;
 use afdx_tx::TxPort;
-use std::alloc::Global;
-use std::sync::Arc;
 
 /// A port, and the block whose address is the mark of its end system.
 #[derive(Drop)]
 pub struct OwnPort {
     pub port: TxPort,
-    pub mark: Arc<u8, Global>,
+    pub block: Block,
 }
 
 /// The content of a handle: an end system, a port, or nothing while the content changes its kind.

@@ -3,6 +3,7 @@
 #![tactic(auto)]
 
 pub mod answer;
+mod block;
 mod end_system;
 mod explaining;
 mod handle;
@@ -14,6 +15,7 @@ mod seal;
 mod stage;
 
 pub use answer::LinkCounts;
+pub use block::Block;
 pub use end_system::{EndSystem, Side};
 pub use explaining::explain_into;
 pub use handle::{Handle, Marked, Opening};

@@ -4,6 +4,7 @@ ghost use Rattle.afdx_config.specs.Faults.{IsLeastFault};
 ghost use Rattle.afdx_handle.specs.EndSystem.{IsOpened};
 ghost use Rattle.afdx_handle.specs.Held.{end_of};
 
+use crate::block::Block;
 use crate::end_system::{EndSystem, Side};
 use crate::home::Home;
 use crate::stage::Stage;
@@ -45,7 +46,7 @@ fn open_end(alloc: Global, text: &[u8]) -> Result<EndSystem, ConfigFault>
     let Ok((emitter, ports, _monitor)) = open_tx(alloc, config, outbox_a, outbox_b) else {
         return Err(ConfigFault::Memory);
     };
-    let Ok(mark) = Arc::new(alloc, 0) else {
+    let Ok(block) = Block::new(alloc) else {
         return Err(ConfigFault::Memory);
     };
     let stage = Stage::Sending(emitter);
@@ -54,7 +55,7 @@ fn open_end(alloc: Global, text: &[u8]) -> Result<EndSystem, ConfigFault>
         ports,
         a,
         b,
-        mark,
+        block,
     })
 }
 
@@ -63,11 +64,13 @@ fn open_end(alloc: Global, text: &[u8]) -> Result<EndSystem, ConfigFault>
 pub fn open_home(alloc: Global, text: &[u8]) -> Result<(Box<Home>, *const u8), ConfigFault>
     ensures opened { IfOk result (λ made.
         IsSomeAnd (end_of (Some made.0.value)) (IsOpened text.now)) }
+    ensures marked { IfOk result (λ made.
+        IsSomeAnd (end_of (Some made.0.value)) (λ end. made.1 ≡ end.block)) }
     ensures fault { IfErr result (λ fault.
         fault ≢ ConfigFault.Memory → IsLeastFault text.now fault) }
 {
     let end_system = open_end(alloc, text)?;
-    let mark = Arc::as_ptr(&end_system.mark);
+    let mark = end_system.block.address();
     let Some(boxed) = Box::new(alloc, Some(end_system)).ok() else {
         return Err(ConfigFault::Memory);
     };

@@ -4,7 +4,7 @@ ghost use Rattle.std.specs.Prelude.{◌≡◌, ◌≢◌, ◌≤◌, ◌<◌, �
 ghost use Rattle.afdx_tx.specs.Ports.{PortView, MaySend, Accepts, Refuses, IsPortOfTx, LacksPlace};
 ghost use Rattle.afdx_tx.specs.declared.fault.Refusal.{Refusal};
 ghost use Rattle.afdx_handle.specs.EndSystem.{EndView, has_id, TakesPort, GivesBack, GathersEnd};
-ghost use Rattle.afdx_handle.specs.Held.{end_of, port_of, HoldsNothing, HoldsOne, HoldsSame, EndDoes};
+ghost use Rattle.afdx_handle.specs.Held.{end_of, port_of, port_block, HoldsNothing, HoldsOne, HoldsSame, EndDoes};
 ghost use Rattle.afdx_handle.specs.Numbers.{IsOneOf, refusal_number};
 
 use crate::answer::{
@@ -16,7 +16,6 @@ use crate::stage::Stage;
 use afdx_tx::TxPort;
 use std::alloc::{AllocError, Global};
 use std::mem;
-use std::sync::Arc;
 
 /// A copy of a message. A short one is copied byte by byte, which is quicker than a call.
 #[inline(always)]
@@ -90,10 +89,8 @@ fn give_back(it: &mut EndSystem, port: TxPort, own: bool) -> Result<(), (TxPort,
     if !own || it.ports.len() == it.ports.capacity() {
         return Err((port, NO_PORT));
     }
-    match it.ports.push(port) {
-        Ok(()) => Ok(()),
-        Err(_) => unreachable!(),
-    }
+    it.ports.push_reserved(port);
+    Ok(())
 }
 
 /// Starts draining. `GATHERED` if the ports were gathered before, `PORT_MISSING` if a port of the
@@ -111,7 +108,7 @@ fn gather(alloc: Global, it: EndSystem) -> (EndSystem, u8)
         ports,
         a,
         b,
-        mark,
+        block,
     } = it;
     match stage {
         Stage::Draining(draining) => {
@@ -121,7 +118,7 @@ fn gather(alloc: Global, it: EndSystem) -> (EndSystem, u8)
                 ports,
                 a,
                 b,
-                mark,
+                block,
             };
             (same, GATHERED)
         }
@@ -134,7 +131,7 @@ fn gather(alloc: Global, it: EndSystem) -> (EndSystem, u8)
                     ports,
                     a,
                     b,
-                    mark,
+                    block,
                 };
                 (gathered, DONE)
             }
@@ -145,7 +142,7 @@ fn gather(alloc: Global, it: EndSystem) -> (EndSystem, u8)
                     ports,
                     a,
                     b,
-                    mark,
+                    block,
                 };
                 (same, PORT_MISSING)
             }
@@ -174,6 +171,7 @@ pub fn take_port(alloc: Global, it: &mut EndSystem, id: u16) -> Result<Box<Home>
     ensures here { OnOk result (IsSome (position (has_id id) it.old.ports)) }
     ensures taken { IfOk result (λ home. IsSomeAnd (port_of (Some home.value)) (λ port.
         TakesPort it.old id port it.new)) }
+    ensures block { IfOk result (λ home. port_block (Some home.value) ≡ Some it.old.block) }
     ensures refused { OnErr result (it.new ≡ it.old) }
 {
     if let Stage::Draining(_) = &it.stage {
@@ -185,11 +183,11 @@ pub fn take_port(alloc: Global, it: &mut EndSystem, id: u16) -> Result<Box<Home>
     let Some(mut home) = Box::new(alloc, Home::Nothing).ok() else {
         return Err(MEMORY);
     };
-    let Ok(mark) = Arc::try_clone(&it.mark) else {
+    let Ok(block) = it.block.another_owner() else {
         return Err(MEMORY);
     };
     let port = take_at(it, id, at);
-    fill(&mut home, Home::Port(OwnPort { port, mark }));
+    fill(&mut home, Home::Port(OwnPort { port, block }));
     Ok(home)
 }
 
@@ -227,10 +225,10 @@ fn give_to(it: &mut EndSystem, theirs: &mut Home, own: bool) -> u8
         return NOT_HELD;
     }
     match mem::replace(theirs, Home::Nothing) {
-        Home::Port(OwnPort { port, mark }) => match give_back(it, port, own) {
+        Home::Port(OwnPort { port, block }) => match give_back(it, port, own) {
             Ok(()) => DONE,
             Err((port, number)) => {
-                fill(theirs, Home::Port(OwnPort { port, mark }));
+                fill(theirs, Home::Port(OwnPort { port, block }));
                 number
             }
         },

@@ -6,7 +6,7 @@ use Rattle.afdx_handle.proofs.ports.gather.Goals as goal
 pub returns-in-Ok-clause-missing : goal.returns-in-Ok-clause-missing
 returns-in-Ok-clause-missing c =
     let own = c.it.inside in
-    let is = ap (λ (stage : Stage). end_view (is_gathered stage) (tx_of stage) own.ports.items (vec_capacity own.ports) own.a.before own.b.before)
+    let is = ap (λ (stage : Stage). end_view (is_gathered stage) (tx_of stage) own.ports.items (vec_capacity own.ports) own.a.before own.b.before own.block)
     (sym c.in-Sending.is) ∙ c.it.view_is in (
       λ e. absurd (omega (arith, e)),
       λ lacks. absurd (gathered_whole c.args.it c.in-Ok.draining
@@ -16,7 +16,7 @@ returns-in-Ok-clause-missing c =
 pub returns-in-Err-clause-missing : goal.returns-in-Err-clause-missing
 returns-in-Err-clause-missing c =
     let own = c.it.inside in
-    let is = ap (λ (stage : Stage). end_view (is_gathered stage) (tx_of stage) own.ports.items (vec_capacity own.ports) own.a.before own.b.before)
+    let is = ap (λ (stage : Stage). end_view (is_gathered stage) (tx_of stage) own.ports.items (vec_capacity own.ports) own.a.before own.b.before own.block)
     (sym c.in-Sending.is) ∙ c.it.view_is in (
       λ e. (ap (λ (it : EndView). it.gathered) (sym is), subst (λ (it : EndView). LacksPlace (length it.tx.plan.ports) it.ports) is c.in-Err.ensures.missing),
       λ lacks. refl,

@@ -4,10 +4,10 @@ use Rattle.afdx_handle.proofs.end_system.EndSystem.close.Goals.{in-Ok, in-Err, J
 use Rattle.afdx_handle.proofs.end_system.EndSystem.close.Goals as goal
 
 -- The end system before the call, in its known stage.
-sends : (c : Joined-close) → end_view false c.in-Sending.emitter c.self.inside.ports.items (vec_capacity c.self.inside.ports) c.self.inside.a.before c.self.inside.b.before ≡ c.args.self.now
+sends : (c : Joined-close) → end_view false c.in-Sending.emitter c.self.inside.ports.items (vec_capacity c.self.inside.ports) c.self.inside.a.before c.self.inside.b.before c.self.inside.block ≡ c.args.self.now
 sends c =
     let own = c.self.inside in
-    ap (λ (stage : Stage). end_view (is_gathered stage) (tx_of stage) own.ports.items (vec_capacity own.ports) own.a.before own.b.before)
+    ap (λ (stage : Stage). end_view (is_gathered stage) (tx_of stage) own.ports.items (vec_capacity own.ports) own.a.before own.b.before own.block)
     (sym c.in-Sending.is) ∙ c.self.view_is
 
 pub returns-clause-no_sub : goal.returns-clause-no_sub
@@ -21,7 +21,7 @@ returns-clause-no_sub c =
 pub returns-clause-closed : goal.returns-clause-closed
 returns-clause-closed c =
     subst (λ (it : EndView). c.match-close.result ≡ 0 → ClosesEnd it c.args.vl c.args.sub c.match-close.total
-    (end_view false c.close.new.self c.self.inside.ports.items (vec_capacity c.self.inside.ports) c.self.inside.a.before c.self.inside.b.before)) (sends c)
+    (end_view false c.close.new.self c.self.inside.ports.items (vec_capacity c.self.inside.ports) c.self.inside.a.before c.self.inside.b.before c.self.inside.block)) (sends c)
     (elim c.match-close.branch [
       | in-Ok w ↦ search rules
       | in-Err w ↦ search rules

@@ -7,7 +7,7 @@ invariant_of-self-2 c =
     let own = c.self.inside in
     let a = c.count-a_before.result in
     let b = c.count-b_before.result in
-    subst (λ (gathered : Bool). IsEndSystem (end_view gathered (tx_of c.poll.new.self) own.ports.items (vec_capacity own.ports) a b))
+    subst (λ (gathered : Bool). IsEndSystem (end_view gathered (tx_of c.poll.new.self) own.ports.items (vec_capacity own.ports) a b own.block))
     (sym c.in-Ok.ensures.stage)
     (poll_keeps (the_view own) (tx_of c.poll.new.self) a b c.args.now c.in-Ok.ensures.polled.report c.self.invariant
     c.in-Ok.ensures.polled.polls c.in-Ok.ensures.polled.few
