@@ -1,10 +1,12 @@
 //! A network in memory.
 ghost use Rattle.std.specs.Prelude.{◌≡◌, ◌≢◌, ℕ, ◌+◌, ◌^◌, ◌<◌, ◌≤◌, List, [], ◌∷◌, ◌++◌, None, Some, true, false, length, OnOk, OnErr, IsErr, min, map, vec_len, vec_capacity};
+ghost use Rattle.afdx_frame.specs.Twin.{twin_of};
+ghost use Rattle.afdx_frame.specs.declared.net.Net.TheVariants.{A as ForA, B as ForB};
 ghost use Rattle.redundant_mux.specs.Entry.{entry};
 ghost use Rattle.redundant_mux.specs.Memory.{entries};
 
 use crate::network::{HandFault, Network};
-use afdx_frame::{Frame, GREATEST_FRAME};
+use afdx_frame::{Frame, FrameBuffer, GREATEST_FRAME, Net};
 use std::alloc::Global;
 use std::marker::Model;
 
@@ -45,7 +47,7 @@ impl Handed {
 }
 
 /// A network that keeps all frames in memory. Contracts see the frames, the capacity, the number of
-/// failures and of calls of `hand`, and the number of the call that fails.
+/// failures and of calls of `hand` and `hand_twin`, and the number of the call that fails.
 #[derive(Drop)]
 pub struct MemNetwork {
     handed: Vec<Handed>,
@@ -72,7 +74,7 @@ impl Model for MemNetwork {
 impl MemNetwork {
     ghost use Rattle.redundant_mux.specs.Memory.{entries, unused};
 
-    /// A network without frames. `hand` fails only if an allocation fails.
+    /// A network without frames. It fails only if an allocation fails.
     pub fn new(alloc: Global) -> MemNetwork
         ensures { result ≡ unused None }
     {
@@ -84,8 +86,8 @@ impl MemNetwork {
         }
     }
 
-    /// As `new`, but call `k` of `hand`, counted from 1, fails. Later calls succeed again:
-    /// abandoning a network is its caller's task.
+    /// As `new`, but call `k` of `hand` and `hand_twin`, counted from 1, fails. Later calls succeed
+    /// again: abandoning a network is its caller's task.
     pub fn failing_at(alloc: Global, k: u64) -> MemNetwork
         ensures { result ≡ unused (Some k) }
     {
@@ -101,7 +103,7 @@ impl MemNetwork {
         &self.handed
     }
 
-    /// The number of failed calls of `hand`.
+    /// The number of failed calls of `hand` and `hand_twin`.
     pub fn failures(&self) -> u64
         ensures { result ≡ self.now.failures }
     {
@@ -139,6 +141,31 @@ impl Network for MemNetwork {
             return Err(HandFault);
         }
         Ok(())
+    }
+
+    /// As `hand`, with the twin for network B of a frame for network A, which is the same afterwards.
+    #[tactic(auto, using(afdx_frame::proofs::Twins::twin_twice))]
+    fn hand_twin(&mut self, at: u64, frame: &mut FrameBuffer) -> Result<(), HandFault>
+        requires for_a { twin_of ForA frame.old.items ≡ frame.old.items }
+        requires few { self.old.failures + 1 < 2 ^ 64 }
+        ensures ok { OnOk result
+            (self.new.handed ≡ self.old.handed ++ entry at (twin_of ForB frame.old.items) ∷ []) }
+        ensures ok_failures { OnOk result (self.new.failures ≡ self.old.failures) }
+        ensures err { OnErr result (self.new.handed ≡ self.old.handed) }
+        ensures err_failures { OnErr result (self.new.failures ≡ self.old.failures + 1) }
+        ensures same { frame.new.items ≡ frame.old.items }
+
+        ensures fails { self.old.fails_at ≡ Some (self.old.asked + 1) → IsErr result }
+        ensures only { OnErr result (self.old.fails_at ≢ Some (self.old.asked + 1) →
+            self.old.capacity ≤ length self.old.handed) }
+        ensures capacity { self.old.capacity ≤ self.new.capacity }
+        ensures asked { self.new.asked ≡ min (self.old.asked + 1) u64.MAX }
+        ensures fails_at { self.new.fails_at ≡ self.old.fails_at }
+    {
+        frame.turn(Net::B);
+        let answer = self.hand(at, frame.as_slice());
+        frame.turn(Net::A);
+        answer
     }
 }
 
