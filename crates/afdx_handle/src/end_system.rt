@@ -11,18 +11,16 @@ use crate::stage::Stage;
 use afdx_frame::Net;
 use afdx_plan::VlId;
 use afdx_tx::TxPort;
+use redundant_mux::Failing;
 use status_board::Counts;
 use std::alloc::Global;
 use std::marker::Model;
 use std::sync::Arc;
-use std::sync::atomic::{AtomicBool, Ordering};
 
-/// The number of frames that a network had accepted before the last poll, and the flag that makes
-/// the network fail.
+/// The number of frames that a network had accepted before the last poll.
 #[derive(Drop)]
 pub struct Side {
     pub before: u64,
-    pub fails: Arc<AtomicBool, Global>,
 }
 
 /// An end system: its emitter, the ports in it, the sides of its networks, and the block whose
@@ -250,13 +248,11 @@ impl EndSystem {
         }
     }
 
-    /// Makes a network fail at its next frame.
-    pub fn fail(&self, net: Net) {
-        let side = match net {
-            Net::A => &self.a,
-            Net::B => &self.b,
-        };
-        side.fails.store(true, Ordering::SeqCst);
+    /// Makes a network fail at its next frame. The result shows which: the network of these frames.
+    pub fn fail(&self, net: Net) -> Failing<'_>
+        ensures { result.handed ≡ line_of net self.now.tx.lines }
+    {
+        self.stage.network(net).fail()
     }
 
     /// The counts of a link, by its identifier.

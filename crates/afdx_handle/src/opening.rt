@@ -1,5 +1,5 @@
 //! Opening an end system.
-ghost use Rattle.std.specs.Prelude.{◌≡◌, ◌≢◌, [], Some, IfOk, IfErr, IsSomeAnd};
+ghost use Rattle.std.specs.Prelude.{◌≡◌, ◌≢◌, Some, IfOk, IfErr, IsSomeAnd};
 ghost use Rattle.afdx_config.specs.Faults.{IsLeastFault};
 ghost use Rattle.afdx_handle.specs.EndSystem.{IsOpened};
 ghost use Rattle.afdx_handle.specs.Held.{end_of};
@@ -11,22 +11,7 @@ use crate::stage::Stage;
 use afdx_config::{ConfigFault, read_config};
 use afdx_tx::open_tx;
 use redundant_mux::Outbox;
-use std::alloc::{AllocError, Global};
-use std::sync::Arc;
-use std::sync::atomic::AtomicBool;
-
-/// A new outbox, and the flag that makes it fail.
-fn make_outbox(alloc: Global) -> Result<(Outbox, Side), AllocError>
-    ensures outbox { IfOk result (λ made. made.0 ≡ record { handed = []; failures = 0 }) }
-    ensures side { IfOk result (λ made. made.1.before ≡ 0) }
-{
-    let Ok(fails) = Arc::new(alloc, AtomicBool::new(false)) else {
-        return Err(AllocError);
-    };
-    let theirs = Arc::try_clone(&fails)?;
-    let outbox = Outbox::new(alloc, theirs)?;
-    Ok((outbox, Side { before: 0, fails }))
-}
+use std::alloc::Global;
 
 /// An end system of a configuration, with all its ports. Allocates all memory that polling, closing
 /// and gathering need. Fails with the fault of the least number, or with `Memory` if an allocation
@@ -37,10 +22,10 @@ fn open_end(alloc: Global, text: &[u8]) -> Result<EndSystem, ConfigFault>
         fault ≢ ConfigFault.Memory → IsLeastFault text.now fault) }
 {
     let config = read_config(alloc, text)?;
-    let Ok((outbox_a, a)) = make_outbox(alloc) else {
+    let Ok(outbox_a) = Outbox::new(alloc) else {
         return Err(ConfigFault::Memory);
     };
-    let Ok((outbox_b, b)) = make_outbox(alloc) else {
+    let Ok(outbox_b) = Outbox::new(alloc) else {
         return Err(ConfigFault::Memory);
     };
     let Ok((emitter, ports, _monitor)) = open_tx(alloc, config, outbox_a, outbox_b) else {
@@ -53,8 +38,8 @@ fn open_end(alloc: Global, text: &[u8]) -> Result<EndSystem, ConfigFault>
     Ok(EndSystem {
         stage,
         ports,
-        a,
-        b,
+        a: Side { before: 0 },
+        b: Side { before: 0 },
         block,
     })
 }

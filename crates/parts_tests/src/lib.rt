@@ -1,5 +1,5 @@
 //! Tests of the parts that a transmitter is made of, a module each: plans and their texts, frames, the
-//! regulation of a link, two networks, the status board and the ring that a queue is.
+//! regulation of a link, networks, the status board and the ring that a queue is.
 #![tactic(auto)]
 
 #[cfg(test)]
@@ -14,6 +14,8 @@ mod config_read;
 mod frame;
 #[cfg(test)]
 mod mux;
+#[cfg(test)]
+mod outbox;
 #[cfg(test)]
 mod plan;
 #[cfg(test)]

@@ -1,5 +1,5 @@
 -- The log of the frames for two networks, in order.
-use Rattle.std.specs.Prelude.{List, Bool, map, filter}
+use Rattle.std.specs.Prelude.{List, Bool, map, filter, nat_eq}
 use Rattle.afdx_plan.specs.declared.networks.Networks.{Networks}
 use Rattle.afdx_plan.specs.declared.networks.Networks.TheVariants.{OnlyA, OnlyB}
 use Rattle.afdx_plan.specs.Networks.{names_a, names_b}
@@ -19,6 +19,10 @@ logged_for networks e = record { networks = networks; entry = e }
 -- the entries of a log
 abbrev pub entries_of : List Logged → List Entry
 entries_of logged = map (λ (l : Logged). l.entry) logged
+
+-- what the reads of a flag found, from a log of them: the time of an entry is 1 if the flag was set, otherwise 0
+abbrev pub reads_of : List Logged → List Bool
+reads_of logged = map (λ (l : Logged). nat_eq l.entry.at 1) logged
 
 -- the network is among those named
 abbrev pub names : Net → Networks → Bool

@@ -1,12 +1,27 @@
 -- A network that keeps the last frames that it accepted.
-use Rattle.std.specs.Prelude.{ℕ, ◌≡◌, ◌+◌, ◌%◌, ◌<◌, ◌≤◌, List, [], length, get_or}
+use Rattle.std.specs.Prelude.{ℕ, ◌≡◌, ◌⊎◌, ◌↔◌, ◌+◌, ◌%◌, ◌^◌, ◌<◌, ◌≤◌, List, [], ◌∷◌, ◌++◌, Bool, true, length, get_or}
 use Rattle.redundant_mux.specs.Entry.{Entry, entry}
 use Rattle.redundant_mux.specs.declared.outbox.Kept.{Kept}
 
--- all frames that it accepted, and its number of failures
+-- all frames that it accepted, its number of failures, and what each call found when it read the flag
 pub record OutboxView : Type 0 where
   pub handed : List Entry
   pub failures : ℕ
+  pub reads : List Bool
+
+-- an outbox that had no call
+abbrev pub fresh_outbox : OutboxView
+fresh_outbox = record { handed = []; failures = 0; reads = [] }
+
+-- A call fails exactly if the flag is set or 2^64 - 1 frames were accepted.
+abbrev pub FailsBy : (is_set : Bool) → OutboxView → (fails : Type 0) → Type 0
+FailsBy is_set old fails = fails ↔ ((is_set ≡ true) ⊎ (2 ^ 64 ≤ length old.handed + 1))
+
+-- A call reads the flag once, and fails by what it found.
+pub record FailsByFlag (old new : OutboxView) (fails : Type 0) : Type 0 where
+  pub is_set : Bool
+  pub reads : new.reads ≡ old.reads ++ is_set ∷ []
+  pub by : FailsBy is_set old fails
 
 abbrev pub kept_entry : Kept → Entry
 kept_entry one = entry one.at one.frame.items

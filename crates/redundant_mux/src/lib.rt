@@ -2,6 +2,7 @@
 //! Has two networks: one keeps all frames in memory, the other the last 64.
 #![tactic(auto)]
 
+mod flag;
 mod memory;
 mod mux;
 mod network;
@@ -11,5 +12,5 @@ mod trail;
 pub use memory::{Handed, MemNetwork};
 pub use mux::{BothDown, Mux, Standing};
 pub use network::{HandFault, Network};
-pub use outbox::{Kept, Outbox, ROOM};
+pub use outbox::{Failing, Kept, Outbox, ROOM};
 pub use trail::Trail;

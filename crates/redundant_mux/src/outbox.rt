@@ -1,9 +1,10 @@
 //! A network that keeps the last frames that it accepted.
-ghost use Rattle.std.specs.Prelude.{◌≡◌, ◌+◌, ◌≤◌, ◌^◌, ◌<◌, [], ◌∷◌, ◌++◌, if◌then◌else◌, length, IfOk, OnOk, OnErr};
+ghost use Rattle.std.specs.Prelude.{◌≡◌, ◌+◌, ◌≤◌, ◌^◌, ◌<◌, [], ◌∷◌, ◌++◌, if◌then◌else◌, length, IfOk, OnOk, OnErr, IsErr};
 ghost use Rattle.afdx_frame.specs.Twin.{twin_of};
-ghost use Rattle.afdx_frame.specs.declared.net.Net.TheVariants.{B as ForB};
+ghost use Rattle.afdx_frame.specs.declared.net.Net.TheVariants.{A as ForA, B as ForB};
 ghost use Rattle.redundant_mux.specs.Entry.{entry};
 
+use crate::flag::Flag;
 use crate::network::{HandFault, Network};
 use crate::trail::Trail;
 use afdx_frame::{FrameBuffer, GREATEST_FRAME, Net};
@@ -11,8 +12,6 @@ use afdx_plan::Networks;
 use std::alloc::{AllocError, Global};
 use std::boxed::BoxedSlice;
 use std::marker::Model;
-use std::sync::Arc;
-use std::sync::atomic::{AtomicBool, Ordering};
 
 /// The number of frames that are kept: the most of one poll, one per virtual link.
 pub const ROOM: usize = 64;
@@ -24,15 +23,16 @@ pub struct Kept {
     pub frame: FrameBuffer,
 }
 
-/// A network that keeps the last 64 frames that it accepted, by their numbers, and fails each
-/// `hand` while its flag is set. Contracts see all frames that it accepted, and the failures.
+/// A network that keeps the last 64 frames that it accepted, by their numbers, and fails each call
+/// of `hand` and `hand_twin` after `fail`. Contracts see all frames that it accepted, the failures,
+/// and what each of those calls found when it read the flag that `fail` sets.
 #[derive(Drop)]
 pub struct Outbox {
     // Frame n is in slot n modulo 64.
     slots: BoxedSlice<Kept>,
     count: u64,
     failures: u64,
-    fails: Arc<AtomicBool, Global>,
+    flag: Flag,
     // All frames accepted so far, for proofs alone.
     trail: Trail,
 }
@@ -47,9 +47,24 @@ impl Model for Outbox {
     ghost view = { λ o. record {
       handed = entries_of o.trail.logged;
       failures = o.failures;
+      reads = o.flag;
     } };
 
     ghost invariant = { λ o. KeepsLast (boxed_slice_items o.slots) o.count (entries_of o.trail.logged) };
+}
+
+/// The outbox that `Outbox::fail` was called on. Nothing else makes one.
+#[derive(Drop)]
+pub struct Failing<'a> {
+    outbox: &'a Outbox,
+}
+
+impl<'a> Model for Failing<'a> {
+    ghost use Rattle.redundant_mux.specs.Outbox.{OutboxView};
+
+    ghost Value = { OutboxView };
+
+    ghost view = { λ f. f.outbox.now };
 }
 
 /// 64 empty slots.
@@ -68,18 +83,17 @@ fn make_slots(alloc: Global) -> Result<Vec<Kept>, AllocError>
 
 impl Outbox {
     ghost use Rattle.std.specs.Prelude.{◌≡◌, ◌↔◌, [], length, IsSome, IfSome, IfOk};
-    ghost use Rattle.redundant_mux.specs.Outbox.{IsAmongLast, entry_at, kept_entry};
+    ghost use Rattle.redundant_mux.specs.Outbox.{IsAmongLast, entry_at, kept_entry, fresh_outbox, FailsBy};
 
-    /// An outbox without frames. It fails each `hand` while `fails` is set. No later call
-    /// allocates.
-    pub fn new(alloc: Global, fails: Arc<AtomicBool, Global>) -> Result<Outbox, AllocError>
-        ensures { IfOk result (λ outbox. outbox ≡ record { handed = []; failures = 0 }) }
+    /// An outbox without frames. No later call allocates.
+    pub fn new(alloc: Global) -> Result<Outbox, AllocError>
+        ensures { IfOk result (λ outbox. outbox ≡ fresh_outbox) }
     {
         Ok(Outbox {
             slots: make_slots(alloc)?.into_boxed_slice(),
             count: 0,
             failures: 0,
-            fails,
+            flag: Flag::new(),
             trail: Trail::new(),
         })
     }
@@ -102,11 +116,19 @@ impl Outbox {
         Some(&self.slots[(number % ROOM as u64) as usize])
     }
 
+    /// Makes each later call of `hand` and `hand_twin` fail.
+    pub fn fail(&self) -> Failing<'_>
+        ensures { result ≡ self.now }
+    {
+        self.flag.set();
+        Failing { outbox: self }
+    }
+
     /// Keeps a frame, or its twin for network B, in the slot of the frame accepted 64 frames before.
-    /// Fails while the flag is set, and after 2^64 - 1 frames. The twin is made in the slot: to make it in the
+    /// Fails if the flag `is_set`, and after 2^64 - 1 frames. The twin is made in the slot: to make it in the
     /// frame would have its copy wait for that write.
     #[inline(always)]
-    fn keep(&mut self, at: u64, frame: &[u8], is_twin: bool) -> Result<(), HandFault>
+    fn keep(&mut self, is_set: bool, at: u64, frame: &[u8], is_twin: bool) -> Result<(), HandFault>
         requires short { length frame.now ≤ GREATEST_FRAME }
         requires few { self.old.failures + 1 < 2 ^ 64 }
         ensures ok { OnOk result (self.new.handed ≡ self.old.handed
@@ -114,8 +136,10 @@ impl Outbox {
         ensures ok_failures { OnOk result (self.new.failures ≡ self.old.failures) }
         ensures err { OnErr result (self.new.handed ≡ self.old.handed) }
         ensures err_failures { OnErr result (self.new.failures ≡ self.old.failures + 1) }
+        ensures fails { FailsBy is_set self.old (IsErr result) }
+        ensures reads { self.new.reads ≡ self.old.reads }
     {
-        if self.fails.load(Ordering::SeqCst) || self.count == u64::MAX {
+        if is_set || self.count == u64::MAX {
             self.failures += 1;
             return Err(HandFault);
         }
@@ -133,21 +157,44 @@ impl Outbox {
 }
 
 impl Network for Outbox {
-    ghost use Rattle.redundant_mux.specs.Outbox.{OutboxView};
+    ghost use Rattle.redundant_mux.specs.Outbox.{OutboxView, FailsByFlag};
 
     ghost handed = { λ o. o.handed };
 
     ghost failures = { λ o. o.failures };
 
-    /// Overwrites the frame accepted 64 frames before. Fails while the flag is set, and after 2^64
-    /// - 1 frames.
+    /// Overwrites the frame accepted 64 frames before. Reads the flag once. Fails exactly if it is
+    /// set, or if 2^64 - 1 frames were accepted.
     #[inline(always)]
-    fn hand(&mut self, at: u64, frame: &[u8]) -> Result<(), HandFault> {
-        self.keep(at, frame, false)
+    fn hand(&mut self, at: u64, frame: &[u8]) -> Result<(), HandFault>
+        requires short { length frame.now ≤ GREATEST_FRAME }
+        requires few { self.old.failures + 1 < 2 ^ 64 }
+        ensures ok { OnOk result (self.new.handed ≡ self.old.handed ++ entry at frame.now ∷ []) }
+        ensures ok_failures { OnOk result (self.new.failures ≡ self.old.failures) }
+        ensures err { OnErr result (self.new.handed ≡ self.old.handed) }
+        ensures err_failures { OnErr result (self.new.failures ≡ self.old.failures + 1) }
+
+        ensures fails { FailsByFlag self.old self.new (IsErr result) }
+    {
+        let is_set = self.flag.read();
+        self.keep(is_set, at, frame, false)
     }
 
+    /// As `hand`, with the twin for network B of a frame for network A.
     #[inline(always)]
-    fn hand_twin(&mut self, at: u64, frame: &mut FrameBuffer) -> Result<(), HandFault> {
-        self.keep(at, frame.as_slice(), true)
+    fn hand_twin(&mut self, at: u64, frame: &mut FrameBuffer) -> Result<(), HandFault>
+        requires for_a { twin_of ForA frame.old.items ≡ frame.old.items }
+        requires few { self.old.failures + 1 < 2 ^ 64 }
+        ensures ok { OnOk result
+            (self.new.handed ≡ self.old.handed ++ entry at (twin_of ForB frame.old.items) ∷ []) }
+        ensures ok_failures { OnOk result (self.new.failures ≡ self.old.failures) }
+        ensures err { OnErr result (self.new.handed ≡ self.old.handed) }
+        ensures err_failures { OnErr result (self.new.failures ≡ self.old.failures + 1) }
+        ensures same { frame.new.items ≡ frame.old.items }
+
+        ensures fails { FailsByFlag self.old self.new (IsErr result) }
+    {
+        let is_set = self.flag.read();
+        self.keep(is_set, at, frame.as_slice(), true)
     }
 }

@@ -1,13 +1,10 @@
 //! Times sends and polls of an end system, over networks that keep the frames of a poll.
-ghost use Rattle.std.specs.Prelude.{◌≡◌, [], IfOk};
 
 use super::{Load, Watch, message, plan};
 use crate::letters::Letter;
 use crate::trouble::*;
 use afdx_tx::{Emitter, TxPort, open_tx};
 use redundant_mux::Outbox;
-use std::sync::Arc;
-use std::sync::atomic::AtomicBool;
 
 /// How many messages the queues of a plan hold whose sends or polls are timed alone.
 const BATCH: u32 = 256;
@@ -23,18 +20,11 @@ struct Bench {
     at: u64,
 }
 
-fn outbox(alloc: Global) -> Result<Outbox, Trouble>
-    ensures { IfOk result (λ outbox. outbox ≡ record { handed = []; failures = 0 }) }
-{
-    let fails = Arc::new(alloc, AtomicBool::new(false))?;
-    Ok(Outbox::new(alloc, fails)?)
-}
-
 fn open(rt: &HostRuntime, size: usize) -> Result<Bench, Trouble> {
     let alloc = rt.alloc();
     let message = message(alloc, size)?;
-    let a = outbox(alloc)?;
-    let b = outbox(alloc)?;
+    let a = Outbox::new(alloc)?;
+    let b = Outbox::new(alloc)?;
     let config = plan(rt)?;
     let room = match config.links().first() {
         Some(link) => link.capacity,
