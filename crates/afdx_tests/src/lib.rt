@@ -16,6 +16,8 @@ mod long_tests;
 #[cfg(test)]
 mod model_tests;
 #[cfg(test)]
+mod order_tests;
+#[cfg(test)]
 mod pausing_tests;
 #[cfg(test)]
 mod play;

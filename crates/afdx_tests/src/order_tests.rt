@@ -1,0 +1,157 @@
+//! The order of the networks: at one time each frame goes to A, and then to B.
+ghost use Rattle.std.specs.Prelude.{◌≡◌, []};
+ghost use Rattle.redundant_mux.specs.Logged.{entries_of};
+
+use crate::rig::send;
+use crate::testing::*;
+use afdx_frame::vl_of;
+use afdx_plan::{Networks, VlId};
+use afdx_tx::{Draining, Emitter, TxPort, open_tx};
+use redundant_mux::{HandFault, Network, Trail};
+use std::marker::Model;
+use std::sync::Arc;
+use std::sync::atomic::{AtomicU64, Ordering};
+
+/// A frame that a network accepted: its place among those of both networks, its time in microseconds, and its link.
+type Taken = (u64, u64, Option<VlId>);
+
+/// A network that counts the frames of both networks, in a number that the two share.
+#[derive(Drop)]
+struct Counting {
+    places: Arc<AtomicU64, Global>,
+    taken: Vec<Taken>,
+    failures: u64,
+    trail: Trail,
+}
+
+impl Network for Counting {
+    ghost handed = { λ c. entries_of c.trail.logged };
+
+    ghost failures = { λ c. c.failures };
+
+    fn hand(&mut self, at: u64, frame: &[u8]) -> Result<(), HandFault> {
+        let place = self.places.fetch_add(1, Ordering::SeqCst);
+        if self.taken.push((place, at, vl_of(frame))).is_err() {
+            self.failures += 1;
+            return Err(HandFault);
+        }
+        // The contract ignores this value, so any `Networks` will do.
+        self.trail = Trail::with(&self.trail, &Networks::Both, &at, frame);
+        Ok(())
+    }
+}
+
+fn make_network(rt: &impl Host, places: &Arc<AtomicU64, Global>) -> Counting
+    ensures empty { entries_of result.trail.logged ≡ [] }
+    ensures new { result.failures ≡ 0 }
+{
+    Counting {
+        places: Arc::try_clone(places).expect(rt, "memory"),
+        taken: Vec::new(rt.alloc()),
+        failures: 0,
+        trail: Trail::new(),
+    }
+}
+
+// A link on both networks, one on A, one on both and one on B, with a port on each.
+const FOUR: Plan = (
+    &[
+        (1, "both", 1_518, 1, 4),
+        (2, "a", 1_518, 1, 4),
+        (3, "both", 1_518, 1, 4),
+        (4, "b", 1_518, 1, 4),
+    ],
+    &[
+        (10, 1, 0, 1, 8_192),
+        (20, 2, 0, 1, 8_192),
+        (30, 3, 0, 1, 8_192),
+        (40, 4, 0, 1, 8_192),
+    ],
+);
+
+// The places of the frames of one poll that A takes, and those that B takes, with their links.
+const FOR_A: [(u64, u16); 3] = [(0, 1), (2, 2), (3, 3)];
+
+const FOR_B: [(u64, u16); 3] = [(1, 1), (4, 3), (5, 4)];
+
+/// An emitter over two such networks, and its ports.
+#[derive(Drop)]
+struct Pair {
+    tx: Emitter<Counting, Counting>,
+    ports: Vec<TxPort>,
+}
+
+impl Model for Pair {
+    ghost use Rattle.afdx_tx.specs.Emitter.{Tx};
+    ghost use Rattle.afdx_tx.specs.Ports.{AreOpenedWith};
+
+    ghost Value = { Tx };
+
+    ghost view = { λ p. p.tx };
+
+    ghost invariant = { λ p. AreOpenedWith p.tx p.ports.items };
+}
+
+fn open(rt: &impl Host) -> Pair {
+    let (alloc, config) = (rt.alloc(), config_of(rt, text_of(rt, FOUR)));
+    let places = Arc::new(alloc, AtomicU64::new(0)).expect(rt, "memory");
+    let (a, b) = (make_network(rt, &places), make_network(rt, &places));
+    match open_tx(alloc, config, a, b) {
+        Ok((tx, ports, monitor)) => {
+            drop(monitor);
+            Pair { tx, ports }
+        }
+        Err(_) => panic!(rt; "no memory"),
+    }
+}
+
+impl Pair {
+    fn send(&mut self, rt: &impl Host, at: usize, bytes: &[u8]) {
+        assert!(rt; at < self.ports.len());
+        send(rt, &mut self.ports[at], bytes, None);
+    }
+
+    fn poll(&mut self, rt: &impl Host, now: u64) {
+        assert!(rt; self.tx.now() <= now);
+        assert!(rt; self.tx.poll(now).is_ok());
+    }
+
+    fn gather(self, rt: &impl Host) -> Draining<Counting, Counting> {
+        match self.tx.gather(self.ports) {
+            Ok(draining) => draining,
+            Err(_) => panic!(rt; "each port is there"),
+        }
+    }
+}
+
+// Asserts that a network took these frames in each of four polls.
+fn assert_row(rt: &impl Abort, network: &Counting, row: &[(u64, u16)]) {
+    let mut all = network.taken.iter();
+    for turn in 0..4u64 {
+        for &(place, vl) in row {
+            let wanted = (place.saturating_add(6 * turn), GAP * turn, Some(VlId(vl)));
+            assert_same(rt, all.next().copied(), Some(wanted));
+        }
+    }
+    assert!(rt; all.next().is_none());
+}
+
+// Two polls of the emitter, and two in the drain.
+#[test]
+fn at_one_time_each_frame_goes_to_a_and_then_to_b(rt: HostRuntime) {
+    let mut pair = open(&rt);
+    for at in 0..4 {
+        for byte in 0..4u8 {
+            pair.send(&rt, at, &[byte]);
+        }
+    }
+    pair.poll(&rt, 0);
+    pair.poll(&rt, GAP);
+    let mut draining = pair.gather(&rt);
+    for now in [2 * GAP, 3 * GAP] {
+        assert!(rt; draining.now() <= now);
+        assert!(rt; draining.poll(now).is_ok());
+    }
+    assert_row(&rt, draining.network_a(), &FOR_A);
+    assert_row(&rt, draining.network_b(), &FOR_B);
+}
