@@ -4,7 +4,7 @@ use crate::play::{Step, act_all};
 use crate::rig::*;
 use crate::testing::*;
 use afdx_tx::{Refusal, TxPort};
-use std::sync::Barrier;
+use std::sync::atomic::{AtomicU64, Ordering};
 use std::thread;
 
 // How many bytes a port sends, the steps in its pause, and why the message is refused, if it is.
@@ -81,15 +81,32 @@ fn a_port_pauses_only_where_it_accepts_and_its_message_goes_out_after_that(rt: H
     }
 }
 
-// Sends a message. In its pause, the port meets another thread at the gate, and then again before it goes on.
-// Returns whether the message was accepted.
-fn send_held(rt: &impl Host, port: &mut TxPort, gate: &Barrier) -> bool {
+// How often a thread loads the stage at most.
+const LOOKS: u64 = 100_000_000;
+
+// Waits until the stage is `least` or more, at most `LOOKS` loads long. Returns whether it is.
+fn reaches(stage: &AtomicU64, least: u64) -> bool {
+    for _look in 0..LOOKS {
+        if stage.load(Ordering::SeqCst) >= least {
+            return true;
+        }
+        thread::yield_now();
+    }
+    false
+}
+
+// Sends a message. In its pause, the port enters stage 1, and goes on in stage 2. Returns whether it went on and the
+// message was accepted.
+fn send_held(rt: &impl Host, port: &mut TxPort, stage: &AtomicU64) -> bool {
     let message = vec![in rt.alloc(); 1u8].expect(rt, "memory");
+    let mut may_go = false;
     let sent = port.send_with(message, || {
-        gate.wait(rt);
-        gate.wait(rt);
+        stage.store(1, Ordering::SeqCst);
+        may_go = reaches(stage, 2);
     });
-    sent.is_ok()
+    // (a pause that didn't run holds nobody up)
+    stage.store(3, Ordering::SeqCst);
+    sent.is_ok() && may_go
 }
 
 // The other sub-VL releases meanwhile, and the first once its port may go on.
@@ -103,17 +120,18 @@ fn a_port_held_in_its_pause_holds_back_its_own_sub_vl_alone(rt: HostRuntime) {
     const AFTER: &[Step] = &[Polls(1_000, &[(1, 0, 1)], BOTH)];
     let mut rig = open(&rt, TWO_SUB_VLS, NEVER);
     let mut port = rig.take_first(&rt);
-    let gate = Barrier::new(2);
-    let (is_sent, _) = thread::join(
+    let stage = AtomicU64::new(0);
+    let (is_sent, is_held) = thread::join(
         &rt,
-        || send_held(&rt, &mut port, &gate),
+        || send_held(&rt, &mut port, &stage),
         || {
-            gate.wait(&rt);
+            let is_held = reaches(&stage, 1);
             act_all(&rt, &mut rig, MEANWHILE);
-            gate.wait(&rt);
+            stage.store(2, Ordering::SeqCst);
+            is_held
         },
     );
-    assert_same(&rt, is_sent, true);
+    assert_same(&rt, (is_held, is_sent), (true, true));
     assert_same(&rt, port.accepted(), 1);
     act_all(&rt, &mut rig, AFTER);
     drop((rig, port));
