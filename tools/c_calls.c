@@ -128,6 +128,23 @@ static void check_open(void) {
     CHECK(afdx_free(&it) == 0 && !it.held);
 }
 
+/* An explanation has a line for each of 1,000 faults, and then the number of the others. */
+static void check_explain(void) {
+    enum { KEYS = 1002, ROOM = 80 * KEYS };
+    static char text[ROOM], wanted[ROOM];
+    static uint8_t told[ROOM];
+    size_t length = 0;
+    char *from = text, *to = wanted + sprintf(wanted, "%d faults\n", KEYS);
+    for (int k = 0; k < KEYS; k++) {
+        from += sprintf(from, "k%04d = 1\n", k);
+        if (k < 1000) to += sprintf(to, "3 UnknownKey: k%04d is 1: the keys are version end_system vl port\n", k);
+    }
+    memcpy(from, PLAN, sizeof PLAN);
+    to += sprintf(to, "and %d more\n", KEYS - 1000);
+    CHECK(afdx_explain((const uint8_t *)text, strlen(text), told, sizeof told, &length) == AFDX_OK);
+    CHECK(length == (size_t)(to - wanted) && memcmp(told, wanted, length) == 0);
+}
+
 /* A call on an end system, by its number below, with outputs that have to stay as they are. */
 enum { CALLS = 11 };
 
@@ -401,6 +418,7 @@ int main(void) {
         let_go(&all);
     }
     check_open();
+    check_explain();
     check_memory();
     printf("%u passed, %u failed\n", passed, failed);
     return failed != 0;

@@ -32,7 +32,7 @@ Usage: afdx_bench [COMMAND]
 Commands:
   run      Runs a script over a configuration and prints the frames of both networks
   check    Prints the plan and the jitter of a configuration; `explain` locates its faults
-  explain  Prints all faults of a configuration, each with its place and what is allowed there
+  explain  Prints the faults of a configuration, each with its place and what is allowed there
   report   Prints the loads, the jitter and the longest waits of a configuration
   storm    Has all ports of a configuration send at once, and prints what came of it
 

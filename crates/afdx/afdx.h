@@ -129,9 +129,10 @@ enum {
    handle is unchanged. */
 uint8_t afdx_open(afdx_end_system *out, const uint8_t *text, size_t length);
 
-/* Explains a refused configuration: all of its faults, each with its place, as `afdx_bench explain` prints them
-   (docs/guide/program.md), in lines that end in a line feed; "no faults" if there is none. Copies as much of the
-   explanation as fits into the buffer, without a terminating zero, and writes its length. Refused: AFDX_MEMORY, with
+/* Explains a refused configuration: its faults, each with its place, as `afdx_bench explain` prints them
+   (docs/guide/program.md), in lines that end in a line feed; "no faults" if there is none. The first line counts them
+   all; 1,000 have a line, and of more the last line is "and N more". Copies as much of the explanation as fits into
+   the buffer, without a terminating zero, and writes its length. Refused: AFDX_MEMORY, with
    nothing written; AFDX_SMALL_BUFFER: the explanation is longer than the buffer, and its front was written. So NULL
    and 0 give the length. */
 uint8_t afdx_explain(const uint8_t *text, size_t length, uint8_t *buffer, size_t size, size_t *written);

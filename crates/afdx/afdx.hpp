@@ -136,8 +136,8 @@ private:
 
 } // namespace detail
 
-/* Explains a refused configuration: all of its faults, each with its place, in lines; "no faults" if there is none.
-   Throws OutOfMemory. */
+/* Explains a refused configuration: its faults, each with its place, in lines as `afdx_explain` writes them; "no faults"
+   if there is none. Throws OutOfMemory. */
 inline std::string explain(const std::string &text) {
     const auto *bytes = reinterpret_cast<const std::uint8_t *>(text.data());
     std::size_t length = 0;

@@ -5,6 +5,7 @@
 // CONFIG is the demonstration configuration. Each failed check is printed; the last line is 'N passed, M failed'.
 #include <afdx.hpp>
 
+#include <algorithm>
 #include <cstdio>
 #include <fstream>
 #include <iterator>
@@ -64,6 +65,11 @@ static void try_opening(const std::string &demo) {
     CHECK(is_refused(ConfigFault::NoSuchSub, replaced(demo, "sub = 0", "sub = 1")));
     CHECK(afdx::explain(demo) == "no faults\n");
     CHECK(afdx::explain(replaced(demo, "1518", "63")) == "1 fault\n5 OutOfRange: vl 1 (id 1), lmax is 63: 64 to 1518\n");
+    std::string many;
+    for (int k = 0; k < 1002; k++) many += "k" + std::to_string(k) + " = 1\n";
+    const std::string told = afdx::explain(many + demo);
+    CHECK(told.rfind("1002 faults\n", 0) == 0 && std::count(told.begin(), told.end(), '\n') == 1002);
+    CHECK(told.size() > 11 && told.compare(told.size() - 11, 11, "and 2 more\n") == 0);
 }
 
 static void try_sending(const std::string &demo) {

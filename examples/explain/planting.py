@@ -2,7 +2,7 @@
 import random
 from collections.abc import Callable
 
-from wanted import ADDRESS, FIELDS, GAPS, ID, NAMES, OPTIONAL, Table, fields, kind_of, place, rows, subject
+from wanted import ADDRESS, FIELDS, GAPS, ID, IN_VERSION_2, NAMES, OPTIONAL, Table, fields, kind_of, place, rows, subject
 
 
 def written(value) -> str:
@@ -68,7 +68,8 @@ def plant(rng: random.Random, document: Table, fault: int, free: dict[str, list[
         name = "vl" if fault == 6 else rng.choice(("vl", "port"))
         (k,) = take(name)
         table, known = document[name][k], fields(document, name)
-        few = {2: [key for key in known if key not in OPTIONAL], 3: ["extra", "Id", "x" * 41, 'q"\u00e9', "checksums"], 6: ["bag_ms"]}
+        unknown = ["extra", "Id", "x" * 41, 'q"\u00e9', "checksums", *(key for key in IN_VERSION_2 if key not in known)]
+        few = {2: [key for key in known if key not in OPTIONAL], 3: unknown, 6: ["bag_ms"]}
         key = rng.choice(few.get(fault, [key for key in known if fault == 4 or key != "bag_ms"]))
         table[key] = rng.choice(bad_values(known[key], fault)) if fault > 3 else 7
         if fault == 2:

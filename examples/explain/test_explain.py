@@ -53,7 +53,9 @@ def faults_of(text: str | bytes, lines: Iterable[str] = (), whole: str | None = 
     answer = (2, f"configuration refused: {first}\n".encode()) if rest else (0, b"")
     faults += [f"told:\n{told}    wanted:\n{wanted}"] if told != wanted else []
     faults += [f"not told: {line}" for line in lines if not any(is_.startswith(line) for is_ in rest)]
-    faults += [f"the first line is {head}"] if head != f"{len(rest) or 'no'} fault{'s' * (len(rest) != 1)}" else []
+    more = re.fullmatch(r"and (\d+) more", rest[-1]) if len(rest) == 1001 else None
+    count = 1000 + int(more[1]) if more else len(rest)
+    faults += [f"the first line is {head}"] if head != f"{count or 'no'} fault{'s' * (count != 1)}" else []
     is_told = (checked.returncode, checked.stderr) == answer and bool(checked.stdout) != bool(rest)
     faults += [] if is_told else [f"check: {checked}, explain: {explained}"]
     is_ended = (explained.returncode, explained.stderr) == (answer[0], b"")
@@ -107,7 +109,7 @@ SMALL, HEADS = "{{id = {}, bag_ms = 1, lmax = 64, sub_vls = 1, capacity = 1}}, "
 AND_NEXT = "7 DuplicateVl: vl 2 (id 9) and vl 3 (id 9): the same id"
 LAST = THREE.rpartition("id = 22")[2]
 LINK_KEYS = "id bag_ms lmax sub_vls capacity networks"
-PORT_KEYS = "id vl sub partition kind source destination max dest_ip"
+PORT_KEYS, LATER = "id vl sub partition kind source destination max dest_ip", "only if version = 2"
 NO_ADDRESS, NO_LMAX = "5 OutOfRange: port 2 (id 21), dest_ip is ", "5 OutOfRange: vl 2 (id 8), lmax is 63: 64 to 1518"
 CHANGES = [
     ("id = 20\n", "", "2 MissingKey: port 1, id is missing: 0 to 65535"),
@@ -119,7 +121,9 @@ CHANGES = [
     ("{id = 1}", "{id = 1, ID = 1979-05-27}", "3 UnknownKey: end_system.ID is a datetime: the keys are id"),
     ("max = 153", "max = 153\na.c = 2", f"3 UnknownKey: port 1 (id 20), a is a table: the keys are {PORT_KEYS} checksum"),
     ("lmax = 64", "lmax = 64, lmx = 2.5", f"3 UnknownKey: vl 2 (id 8), lmx is a float: the keys are {LINK_KEYS}"),
-    ("version = 2\n", "", f'3 UnknownKey: port 1 (id 20), checksum is "udp": the keys are {PORT_KEYS}'),
+    ("version = 2\n", "", f'3 UnknownKey: port 1 (id 20), checksum is "udp": {LATER}'),
+    ("version = 2", "networks = 'a'", f'3 UnknownKey: networks is "a": the keys are {HEADS}', f'3 UnknownKey: port 1 (id 20), checksum is "udp": {LATER}'),
+    ("lmax = 64", "lmax = 64, checksum = 'udp'", f'3 UnknownKey: vl 2 (id 8), checksum is "udp": the keys are {LINK_KEYS}'),
     ("{id = 1}", "{id = '1'}", '4 WrongKind: end_system.id is "1": a whole number is wanted'),
     ("capacity = 4", "capacity = [1, 2]", "4 WrongKind: vl 1 (id 7), capacity is an array of 2: a whole number is wanted"),
     ('"sampling"', "1.5", "4 WrongKind: port 1 (id 20), kind is a float: a text is wanted"),
@@ -191,6 +195,15 @@ def numbers() -> Iterable[tuple]:
         yield text, [f"1 Toml: line {line}, column {column}: "]
 
 
+def crowds() -> Iterable[tuple]:
+    """Texts with as many unknown keys as lines are printed, with one more, and with many more."""
+    for count in (1000, 1001, 20_000):
+        lines = [f"3 UnknownKey: k{k} is {k}: the keys are {HEADS}" for k in range(10_000, 10_000 + count)]
+        more = [f"and {count - 1000} more"] if count > 1000 else []
+        text = "".join(f"k{k} = {k}\n" for k in range(10_000, 10_000 + count)) + THREE
+        yield text, (), "\n".join([f"{count} faults", *lines[:1000], *more, ""])
+
+
 def keys() -> Iterable[tuple]:
     """Texts in which one key of a table is missing, of another kind, out of its range, or at one of its ends."""
     rng = random.Random(2)
@@ -254,6 +267,7 @@ def main() -> int:
         os.chdir(folder)
         tries.show("the documented keys", documented())
         tries.show("each number", all_faults(numbers()))
+        tries.show("more faults than lines", all_faults(crowds()))
         tries.show("each key", all_faults(keys()))
         tries.show("each prefix", all_faults((demo[:size],) for size in range(len(demo) + 1)))
         tries.show(f"{count} texts with planted faults", all_faults(planted(seed) for seed in range(count)))

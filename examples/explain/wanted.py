@@ -18,6 +18,7 @@ FIELDS = {
     | {"dest_ip": ADDRESS, "checksum": ("none", "udp")},
 }
 OPTIONAL, IN_VERSION_2 = ("version", "networks", "dest_ip", "checksum"), ("networks", "checksum")
+MOST_LINES = 1000
 SAME = {12: "the same vl, partition, source, destination and dest_ip", 13: "the same partition and dest_ip, but another vl"}
 Table = dict
 Place = tuple[str, int]  # the name of a table, and its number in its array
@@ -115,7 +116,8 @@ def value_lines(document: Table, fault: int) -> Iterable[str]:
                 yield f"{subject(document, at, key)}: " + (f"{kind_of(content)} is wanted" if found == 4 else allowed(content))
         if fault == 3:
             others = sorted((key for key in table if key not in known), key=str.encode)
-            yield from (f"{subject(document, at, key)}: the keys are {' '.join(known)}" for key in others)
+            keys = f"the keys are {' '.join(known)}"
+            yield from (f"{subject(document, at, key)}: {'only if version = 2' if key in FIELDS[at[0]] else keys}" for key in others)
 
 
 def plan_lines(document: Table, fault: int) -> Iterable[str]:
@@ -161,4 +163,5 @@ def plan_lines(document: Table, fault: int) -> Iterable[str]:
 def explanation(document: Table) -> str:
     """The whole expected output for a document."""
     lines = [f"{f} {NAMES[f]}: {line}" for f in range(2, 15) for line in (value_lines if f < 7 else plan_lines)(document, f)]
-    return "\n".join([f"{len(lines) or 'no'} fault{'s' * (len(lines) != 1)}", *lines, ""])
+    more = [f"and {len(lines) - MOST_LINES} more"] if len(lines) > MOST_LINES else []
+    return "\n".join([f"{len(lines) or 'no'} fault{'s' * (len(lines) != 1)}", *lines[:MOST_LINES], *more, ""])

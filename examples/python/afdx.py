@@ -328,7 +328,7 @@ def _fits(value: int, bits: int) -> int:
 
 
 def explain(text: str | bytes) -> str:
-    """All faults of a configuration, each with its place, in lines; "no faults" if there is none. Raises `OutOfMemory`."""
+    """The faults of a configuration, in lines as `afdx_explain` writes them; "no faults" if there is none. Raises `OutOfMemory`."""
     data, length = text.encode() if isinstance(text, str) else text, c_size_t()
     answer = _lib.afdx_explain(data, len(data), None, 0, byref(length))
     told = ctypes.create_string_buffer(length.value)

@@ -104,6 +104,8 @@ def configurations() -> None:
     assert afdx.explain(DEMO) == "no faults\n"
     wanted = "1 fault\n5 OutOfRange: vl 1 (id 1), lmax is 63: 64 to 1518\n"
     assert afdx.explain(DEMO.replace("1518", "63")) == wanted
+    lines = afdx.explain("".join(f"k{k} = 1\n" for k in range(1002)) + DEMO).splitlines()
+    assert (len(lines), lines[0], lines[-1]) == (1002, "1002 faults", "and 2 more")
     with no_more_memory():
         raises(afdx.OutOfMemory, EndSystem, GREAT)
 

@@ -14,7 +14,7 @@ use Rattle.afdx_config.specs.declared.format.Content.TheVariants.{Whole, Gap, Ne
 use Rattle.afdx_config.specs.Entries.{whole_at}
 use Rattle.afdx_config.specs.Findings.{Finding, row_like}
 use Rattle.afdx_config.specs.Format.{Field, document_fields, end_fields, link_fields, port_fields, fields_in}
-use Rattle.afdx_config.specs.Tables.{rows_at, section_at, is_version_2}
+use Rattle.afdx_config.specs.Tables.{rows_at, section_at, is_key_of, is_version_2}
 
 -- the name of a fault
 abbrev pub fault_name : ConfigFault → List ℕ
@@ -106,6 +106,14 @@ unfoldable pub subject : Members → Place → List ℕ → List ℕ
 subject document place key = place_text document place ++ joint place ++ cut_text key ++ codes " is "
     ++ value_text (option_and_then (get_member key) (members_at document place))
 
+-- the keys, in version 2 of the format, of the table at a place
+abbrev pub latest_at : Place → List Field
+latest_at (Text line column) = []
+latest_at Top = document_fields
+latest_at EndSystem = end_fields
+latest_at (Link k) = link_fields
+latest_at (Port k) = port_fields
+
 -- the keys of the format of the table at a place
 abbrev pub fields_at : Members → Place → List Field
 fields_at document (Text line column) = []
@@ -159,9 +167,10 @@ unfoldable pub bound_text : Members → Option ℕ → List ℕ → List ℕ →
 bound_text document None bound key = bound
 bound_text document (Some k) bound key = bound ++ codes "; " ++ subject document (Link k) key
 
--- the values that are allowed at a finding
+-- the values that are allowed at a finding; a key that version 2 has is unknown in version 1 alone
 unfoldable pub allowed_text : ConfigFault → Members → Finding → List ℕ
-allowed_text UnknownKey document f = codes "the keys are" ++ key_names (fields_at document f.place)
+allowed_text UnknownKey document f = if is_key_of (latest_at f.place) f.key then codes "only if version = 2"
+    else codes "the keys are" ++ key_names (fields_at document f.place)
 allowed_text WrongKind document f = kind_at document f ++ codes " is wanted"
 allowed_text NoSuchVl document f = codes "no vl has this id"
 allowed_text NoSuchSub document f = bound_text document f.other (codes "below sub_vls of its vl") (codes "sub_vls")
@@ -207,9 +216,14 @@ count_line count =
     else if count == 1 then codes "1 fault" ++ 10 ∷ []
     else decimal count ++ codes " faults" ++ 10 ∷ []
 
--- all findings of a document
+-- the number of findings that have no line
+unfoldable pub rest_line : ℕ → List ℕ
+rest_line count = if count == 0 then [] else codes "and " ++ decimal count ++ codes " more" ++ 10 ∷ []
+
+-- the number of all findings of a document, the lines of the first 1,000, and the number of the others
 unfoldable pub explanation : Members → List Finding → List ℕ
-explanation document findings = count_line (length findings) ++ flat_map (finding_line document) findings
+explanation document findings = count_line (length findings)
+    ++ flat_map (finding_line document) (take 1000 findings) ++ rest_line (length findings - 1000)
 
 -- the explanation of a text that is not TOML: the place at which it stops being TOML, and the message of the
 -- TOML parser

@@ -24,7 +24,8 @@ use toml::de::Error;
 pub struct Explanation {
     /// Ordered by the number of the fault, then by the order of the tables in the text.
     pub findings: Vec<Finding>,
-    /// A line with the number of findings, and a line for each.
+    /// A line with the number of findings, a line for each of the first 1,000, and if there are more a line
+    /// with the number of the others.
     pub text: Vec<u8>,
 }
 

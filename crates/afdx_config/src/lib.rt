@@ -12,6 +12,7 @@ mod parts;
 mod plan_findings;
 mod read;
 mod rows;
+mod subjects;
 mod told;
 mod value_findings;
 mod values;

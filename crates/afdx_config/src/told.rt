@@ -1,26 +1,21 @@
 //! The text of findings.
-ghost use Rattle.std.specs.Prelude.{◌≡◌, ◌++◌, ◌∷◌, [], ◌-◌, ◌<◌, map, codes, option_map, option_and_then, slice_get, decimal, OnOk};
+ghost use Rattle.std.specs.Prelude.{◌≡◌, ◌++◌, map, codes, option_map, length, OnOk};
 ghost use Rattle.std.specs.List.{flat_map};
-ghost use Rattle.toml.specs.Data.{get_member};
-ghost use Rattle.toml.specs.View.{table_view, view};
 ghost use Rattle.afdx_config.specs.Seen.{finding_of, Tells};
-ghost use Rattle.afdx_config.specs.Told.{fault_name, is_plain, hex_digit, escaped, cut_text, value_text, members_at, id_text, id_at, place_text, joint, subject, fields_at, field_at, content_text, kind_text, key_names, limit_text, content_at, kind_at, bound_text, allowed_text, pair_text, same_text, is_of_pair, told, toml_text, finding_line, count_line, explanation};
+ghost use Rattle.afdx_config.specs.Tables.{is_key_of};
+ghost use Rattle.afdx_config.specs.Told.{fault_name, latest_at, fields_at, field_at, content_text, kind_text, key_names, limit_text, content_at, kind_at, bound_text, allowed_text, pair_text, same_text, is_of_pair, told, toml_text, finding_line, count_line, explanation};
 ghost use Rattle.afdx_config.specs.Views.{IsDocument, data_of, field_of};
 
 use crate::document::{Document, fields_in};
-use crate::entries::{value_at, whole_number};
-use crate::fields::row_named;
+use crate::fields::{key_fault, row_named};
 use crate::findings::{Finding, Place, row_like};
 use crate::format::{Content, DOCUMENT, END, Field, LINK, PORT};
+use crate::subjects::{Text, write_place, write_subject};
 use afdx_plan::ConfigFault;
 use std::io::{Result, Write};
-use toml::{Table, Value};
 
-/// The text of an explanation.
-type Text = Vec<u8>;
-
-/// The most bytes of a string that a finding prints.
-const TOLD_LIMIT: usize = 40;
+/// The most findings that have a line each.
+const LINES_LIMIT: usize = 1_000;
 
 /// The name of a fault.
 fn fault_name(fault: ConfigFault) -> &'static str
@@ -45,172 +40,17 @@ fn fault_name(fault: ConfigFault) -> &'static str
     }
 }
 
-/// A byte is printable ASCII, but neither a quote nor a backslash.
-fn is_plain(byte: u8) -> bool
-    ensures { result ≡ is_plain byte }
-{
-    32 <= byte && byte <= 126 && byte != 34 && byte != 92
-}
-
-fn hex_digit(digit: u8) -> u8
-    requires { digit < 16 }
-    ensures { result ≡ hex_digit digit }
-{
-    if digit < 10 { 48 + digit } else { 87 + digit }
-}
-
-#[tactic(auto, unfolding(crate::specs::Told::escaped))]
-fn write_escaped(out: &mut Text, byte: u8) -> Result<()>
-    ensures { OnOk result (Tells out.old out.new (escaped byte)) }
-{
-    if is_plain(byte) {
-        out.write_all(&[byte])
-    } else {
-        out.write_all(&[92, 120, hex_digit(byte / 16), hex_digit(byte % 16)])
-    }
-}
-
-fn write_bytes(out: &mut Text, bytes: &[u8]) -> Result<()>
-    ensures { OnOk result (Tells out.old out.new (flat_map escaped bytes.now)) }
-{
-    for byte in bytes {
-        write_escaped(out, *byte)?;
-    }
-    Ok(())
-}
-
-/// Writes a string, cut after `TOLD_LIMIT` bytes.
-#[tactic(auto, unfolding(crate::specs::Told::cut_text), using(crate::proofs::TellLemmas::cut_short))]
-fn write_cut(out: &mut Text, text: &[u8]) -> Result<()>
-    ensures { OnOk result (Tells out.old out.new (cut_text text.now)) }
-{
-    if text.len() > TOLD_LIMIT {
-        let (front, _rest) = text.split_at(TOLD_LIMIT);
-        write_bytes(out, front)?;
-        out.write_all(b"...")
-    } else {
-        write_bytes(out, text)
-    }
-}
-
-/// Writes what a value is: a string in quotes, a whole number, else the kind.
-#[tactic(auto, unfolding(crate::specs::Told::value_text))]
-fn write_value(out: &mut Text, value: Option<&Value>) -> Result<()>
-    ensures { OnOk result (Tells out.old out.new
-        (codes " is " ++ value_text (option_map (λ v. view v.now) value.entry))) }
-{
-    match value {
-        None => out.write_all(b" is missing"),
-        Some(value) => match value {
-            Value::String(text) => {
-                out.write_all(b" is \"")?;
-                write_cut(out, text.as_bytes())?;
-                out.write_all(b"\"")
-            }
-            Value::Integer(number) => write!(out, " is {number}"),
-            Value::Array(items) => {
-                let count = items.as_slice().len();
-                write!(out, " is an array of {count}")
-            }
-            _ => write!(out, " is a {}", value.type_str()),
-        },
-    }
-}
-
-/// Table `k` of an array, counted from 1.
-fn row_at<'a>(rows: &[&'a Table], k: usize) -> Option<&'a Table>
-    ensures { option_map (λ t. table_view t.now) result
-        ≡ slice_get (map (λ t. table_view t.now) rows.now) (k - 1) }
-{
-    rows.get(k.saturating_sub(1)).copied()
-}
-
-/// The table at a place.
-fn table_at<'a>(document: &Document<'a>, place: Place) -> Option<&'a Table>
-    requires { IsDocument document.now }
-    ensures { option_map (λ t. table_view t.now) result
-        ≡ members_at (data_of document.now) place }
+/// The keys, in version 2 of the format, of the table at a place.
+fn latest_at(place: Place) -> &'static [Field]
+    ensures { map field_of result.now ≡ latest_at place }
 {
     match place {
-        Place::Text(_, _) => None,
-        Place::Top => Some(document.top),
-        Place::EndSystem => document.end,
-        Place::Link(k) => row_at(document.links.as_slice(), k),
-        Place::Port(k) => row_at(document.ports.as_slice(), k),
+        Place::Text(_, _) => &[],
+        Place::Top => &DOCUMENT,
+        Place::EndSystem => &END,
+        Place::Link(_) => &LINK,
+        Place::Port(_) => &PORT,
     }
-}
-
-/// Writes the name and number of the table at a place, and its identifier if it is a whole number.
-#[tactic(auto, unfolding(crate::specs::Told::id_text))]
-fn write_row(
-    out: &mut Text,
-    document: &Document<'_>,
-    place: Place,
-    name: &str,
-    k: usize,
-) -> Result<()>
-    requires { IsDocument document.now }
-    ensures { OnOk result (Tells out.old out.new
-        (name.now ++ decimal k ++ id_text (id_at (data_of document.now) place))) }
-{
-    write!(out, "{name}{k}")?;
-    let Some(table) = table_at(document, place) else {
-        return Ok(());
-    };
-    match whole_number(table, "id") {
-        Some(id) => write!(out, " (id {id})"),
-        None => Ok(()),
-    }
-}
-
-#[tactic(auto, unfolding(crate::specs::Told::place_text, crate::specs::Told::stop_text))]
-fn write_place(out: &mut Text, document: &Document<'_>, place: Place) -> Result<()>
-    requires { IsDocument document.now }
-    ensures { OnOk result (Tells out.old out.new (place_text (data_of document.now) place)) }
-{
-    match place {
-        Place::Text(line, column) => write!(out, "line {line}, column {column}"),
-        Place::Top => Ok(()),
-        Place::EndSystem => out.write_all(b"end_system"),
-        Place::Link(k) => write_row(out, document, place, "vl ", k),
-        Place::Port(k) => write_row(out, document, place, "port ", k),
-    }
-}
-
-/// The separator between a place and a key.
-fn joint(place: Place) -> &'static str
-    ensures { result.now ≡ joint place }
-{
-    match place {
-        Place::Text(_, _) => ": ",
-        Place::Top => "",
-        Place::EndSystem => ".",
-        Place::Link(_) | Place::Port(_) => ", ",
-    }
-}
-
-/// The value under a key of the table at a place.
-fn value_under<'a>(document: &Document<'a>, place: Place, key: &str) -> Option<&'a Value>
-    requires { IsDocument document.now }
-    ensures { option_map (λ v. view v.now) result
-        ≡ option_and_then (get_member key.now) (members_at (data_of document.now) place) }
-{
-    match table_at(document, place) {
-        Some(table) => value_at(table, key),
-        None => None,
-    }
-}
-
-/// Writes a key of a place and its value.
-#[tactic(auto, unfolding(crate::specs::Told::subject))]
-fn write_subject(out: &mut Text, document: &Document<'_>, place: Place, key: &str) -> Result<()>
-    requires { IsDocument document.now }
-    ensures { OnOk result (Tells out.old out.new (subject (data_of document.now) place key.now)) }
-{
-    write_place(out, document, place)?;
-    out.write_all(joint(place).as_bytes())?;
-    write_cut(out, key.as_bytes())?;
-    write_value(out, value_under(document, place, key))
 }
 
 /// The keys of the format of the table at a place.
@@ -218,12 +58,16 @@ fn fields_at(document: &Document<'_>, place: Place) -> &'static [Field]
     ensures { map field_of result.now ≡ fields_at (data_of document.now) place }
 {
     match place {
-        Place::Text(_, _) => &[],
-        Place::Top => &DOCUMENT,
-        Place::EndSystem => &END,
-        Place::Link(_) => fields_in(document, &LINK),
-        Place::Port(_) => fields_in(document, &PORT),
+        Place::Link(_) | Place::Port(_) => fields_in(document, latest_at(place)),
+        _ => latest_at(place),
     }
+}
+
+/// The key of a finding is in version 2 of the format.
+fn is_latest(finding: &Finding) -> bool
+    ensures { result ≡ is_key_of (latest_at finding.now.place) (finding_of finding.now).key }
+{
+    key_fault(latest_at(finding.place), finding.key.as_str()).is_none()
 }
 
 /// The content of a finding's key.
@@ -334,7 +178,11 @@ fn write_allowed(
 {
     let text = match fault {
         ConfigFault::UnknownKey => {
-            return write_keys(out, "the keys are", fields_at(document, finding.place));
+            if is_latest(finding) {
+                "only if version = 2"
+            } else {
+                return write_keys(out, "the keys are", fields_at(document, finding.place));
+            }
         }
         ConfigFault::WrongKind => kind_at(document, finding),
         ConfigFault::NoSuchVl => "no vl has this id",
@@ -441,8 +289,19 @@ fn write_count(out: &mut Text, count: usize) -> Result<()>
     }
 }
 
-/// Writes the number of findings, and a line for each.
-#[tactic(auto, unfolding(crate::specs::Told::explanation))]
+/// Writes a line for each finding.
+fn write_lines(out: &mut Text, document: &Document<'_>, findings: &[Finding]) -> Result<()>
+    requires { IsDocument document.now }
+    ensures { OnOk result (Tells out.old out.new
+        (flat_map (finding_line (data_of document.now)) (map finding_of findings.now))) }
+{
+    for finding in findings {
+        write_finding(out, document, finding)?;
+    }
+    Ok(())
+}
+
+/// Writes the number of findings, a line for each of the first `LINES_LIMIT`, and the number of the others.
 pub(crate) fn write_explanation(
     out: &mut Text,
     document: &Document<'_>,
@@ -453,10 +312,14 @@ pub(crate) fn write_explanation(
         (explanation (data_of document.now) (map finding_of findings.now))) }
 {
     write_count(out, findings.len())?;
-    for finding in findings {
-        write_finding(out, document, finding)?;
+    if findings.len() > LINES_LIMIT {
+        let (shown, others) = findings.split_at(LINES_LIMIT);
+        write_lines(out, document, shown)?;
+        let count = others.len();
+        writeln!(out, "and {count} more")
+    } else {
+        write_lines(out, document, findings)
     }
-    Ok(())
 }
 
 /// Writes the place at which a text stops being TOML, and the message of the TOML parser.

@@ -185,7 +185,7 @@ fn command<'a>(alloc: Global) -> Result<Command<'a>, AllocError> {
     let about = "Prints the plan and the jitter of a configuration; `explain` locates its faults";
     let program = with(program, over_config(alloc, "check", about))?;
     let about =
-        "Prints all faults of a configuration, each with its place and what is allowed there";
+        "Prints the faults of a configuration, each with its place and what is allowed there";
     let program = with(program, over_config(alloc, "explain", about))?;
     let program = with(program, report_command(alloc))?;
     with(program, storm_command(alloc))

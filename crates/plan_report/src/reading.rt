@@ -51,8 +51,8 @@ pub fn check<R: Read + Drop, W: Write>(
     }
 }
 
-/// Reads a configuration and writes all of its faults, each with its place. Writes nothing if an
-/// allocation or the reader fails.
+/// Reads a configuration and writes the text of its explanation. Writes nothing if an allocation or the
+/// reader fails.
 pub fn tell_faults<R: Read + Drop, W: Write>(
     alloc: Global,
     reader: R,

@@ -1,5 +1,5 @@
 use Rattle.afdx_config.proofs.TellLemmas.{array_is}
-use Rattle.afdx_config.proofs.told.write_value.Goals as goal
+use Rattle.afdx_config.proofs.subjects.write_value.Goals as goal
 
 pub returns-in-Array : goal.returns-in-Array
 returns-in-Array c =

@@ -1,5 +1,5 @@
 use Rattle.afdx_config.proofs.Names.{take, map, flat_map, Tells, data_of, finding_of, finding_line}
-use Rattle.afdx_config.proofs.told.write_explanation.Given as goal
+use Rattle.afdx_config.proofs.told.write_lines.Given as goal
 
 abbrev pub invariant-loop-finding : goal.invariant-loop-finding
 invariant-loop-finding l = Tells l.initial.out l.out
