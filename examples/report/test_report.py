@@ -1,7 +1,8 @@
 #!/usr/bin/env python3
 """Tests `afdx_bench report`: its text against numbers that are computed here from the plan, its page against its text,
-number by number, its waits against runs of the end system, and its ends when an allocation or a write fails. And what
-`afdx_bench check` prints of the same plans. `fixed.py` has plans with fixed texts. The last line is 'N passed, M failed'.
+number by number, and its bars against its rows (`picture.py`), its waits against runs of the end system, and its ends when
+an allocation or a write fails. And what `afdx_bench check` prints of the same plans. `fixed.py` has plans with fixed texts.
+The last line is 'N passed, M failed'.
 
     python3 examples/report/test_report.py [PLANS]
 
@@ -24,6 +25,7 @@ PROGRAM = f"{ROOT}/crates/afdx_bench/out/afdx_bench"
 sys.dont_write_bytecode = True
 sys.path[:0] = [f"{ROOT}/tools", HERE]
 import fixed  # noqa: E402
+import picture  # noqa: E402
 import refusals  # noqa: E402
 import refusals_wanted  # noqa: E402
 from trying import DEMO  # noqa: E402
@@ -197,6 +199,7 @@ def faults_of(text: str, lateness: int) -> Iterator[str]:
     if page.named | named != page.named:
         yield f"the page names {page.named}"
     yield from (f"the page has {what}" for what in page.elsewhere)
+    yield from picture.faults_of(whole, wanted(plan, lateness), jitter)
 
 
 def configuration(links: list[Plan], ports: list[Plan]) -> str:
