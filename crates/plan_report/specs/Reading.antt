@@ -1,5 +1,5 @@
 -- Results of reading the text of a configuration.
-use Rattle.std.specs.Prelude.{◌≡◌, ◌≢◌, ℕ, List, [], ◌∷◌, Option, ⊤}
+use Rattle.std.specs.Prelude.{◌≡◌, ◌≢◌, ◌*◌, ◌^◌, ℕ, List, [], ◌∷◌, Option, ⊤}
 use Rattle.std.specs.Io.KnownBytes.{Appends}
 use Rattle.plan_report.specs.Report.{report_of}
 use Rattle.plan_report.specs.declared.status.End.{End}
@@ -12,6 +12,10 @@ use Rattle.afdx_plan.specs.declared.fault.ConfigFault.TheVariants.{Memory}
 use Rattle.afdx_config.specs.Explained.{Explains}
 use Rattle.afdx_config.specs.Findings.{Finding}
 use Rattle.script_text.specs.declared.run_fault.RunFault.TheVariants as Ran
+
+-- the most bytes of a text that is read: 16 MiB
+abbrev pub text_limit : ℕ
+text_limit = 16 * 2 ^ 20
 
 -- a text is refused with its fault of the least number; an allocation or a read may fail
 abbrev pub IsRefusal : List ℕ → Failure → Type 0

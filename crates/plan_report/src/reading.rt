@@ -1,7 +1,7 @@
 //! Reading of configurations, and the commands `check` and `explain`.
-ghost use Rattle.std.specs.Prelude.{◌≡◌, ◌≢◌, ◌≤◌, ◌⊎◌, map, IfOk, IfErr, IfSome, OnOk, vec_len};
+ghost use Rattle.std.specs.Prelude.{◌≡◌, ◌≢◌, ◌≤◌, ◌⊎◌, nat_le, map, IfOk, IfErr, IfSome, OnOk, vec_len};
 ghost use Rattle.std.specs.Io.KnownBytes.{Keeps};
-ghost use Rattle.plan_report.specs.Reading.{IsRefusal, Reports, TellsFaults, end_of};
+ghost use Rattle.plan_report.specs.Reading.{IsRefusal, Reports, TellsFaults, end_of, text_limit};
 ghost use Rattle.afdx_config.specs.Faults.{IsPlanOf};
 ghost use Rattle.afdx_config.specs.Seen.{finding_of};
 
@@ -88,11 +88,18 @@ fn end_of(told: &Explanation) -> End
     }
 }
 
+/// A text of this many bytes is accepted.
+fn is_accepted(size: usize) -> bool
+    ensures { result ≡ nat_le size text_limit }
+{
+    size as u64 <= TEXT_LIMIT
+}
+
 /// Reads the rest of a reader.
 fn read_text<R: Read + Drop>(alloc: Global, reader: R) -> Result<Vec<u8>, Failure>
     ensures whole { IfOk result (λ text. IfSome (R.remaining reader) (λ bytes.
         text.items ≡ bytes)) }
-    ensures limit { IfOk result (λ text. vec_len text ≤ TEXT_LIMIT) }
+    ensures limit { IfOk result (λ text. vec_len text ≤ text_limit) }
     ensures failed { IfErr result (λ failure.
         (failure ≡ Failure.Run RunFault.Read) ⊎ (failure ≡ Failure.Run RunFault.Memory)) }
 {
@@ -100,7 +107,7 @@ fn read_text<R: Read + Drop>(alloc: Global, reader: R) -> Result<Vec<u8>, Failur
     let mut reader = reader.take(TEXT_LIMIT + 1);
     match reader.read_to_end(&mut text) {
         Ok(_) => {
-            if text.len() as u64 <= TEXT_LIMIT {
+            if is_accepted(text.len()) {
                 Ok(text)
             } else {
                 Err(Failure::Run(RunFault::Read))
