@@ -4,8 +4,9 @@
     python3 tools/program.py
 
 It runs what `rt ci` has built, the program `afdx_bench` as each compiler makes it: each exit status with its text,
-which of two faults is reported, numbers that are none, closed standard streams, a storm whose standard error is a
-terminal, and captures, which `tools/pcapng.py` reads. The last line is 'N passed, M failed', and the exit status 0
+which of two faults is reported, words and numbers that are none, lines and plans of the greatest length, standard
+streams that are closed or full, a storm whose standard error is a terminal, and captures, which `tools/pcapng.py`
+reads. The last line is 'N passed, M failed', and the exit status 0
 exactly if nothing failed.
 """
 import os
@@ -20,7 +21,10 @@ import tty
 # (no compiled copy is left beside the scripts)
 sys.dont_write_bytecode = True
 import pcapng
-from trying import DEMO, HELP, ONE_FRAME, REPORT, SCRIPT, WRONG, Tries, built, started, text_of, totals
+from trying import DEMO, HELP, ONE_FRAME, REPORT, ROOT, SCRIPT, WRONG, Tries, built, started, text_of, totals
+
+sys.path.append(f"{ROOT}/examples/report")
+from fixed import ANALYSES
 
 # A second link, on network B alone, and a port of it.
 LINK, PORT = DEMO[DEMO.index("[[vl]]") : DEMO.index("[[port]]")], DEMO[DEMO.index("[[port]]") :]
@@ -33,6 +37,8 @@ LONG = "".join(
 # A line that is refused while running.
 FULL = "send 10 01\nsend 10 02\nsend 10 03\nat 0\n"
 FULL_NOTED = "line 3: refused Full\n" + ONE_FRAME
+# The most bytes of a plan, and of a line of a script.
+TEXT_LIMIT, LINE_LIMIT = 16 * 2**20, 20_000
 # Many ports with little room.
 PORTS = 64
 CROWD = DEMO.replace("capacity = 2", "capacity = 1").replace(
@@ -57,6 +63,9 @@ LATE = ["storm", "demo.toml", "--messages", "3", "--turns", "1"]
 CAPTURED = [*RUN, "--capture", "frames.pcapng"]
 VERSION = re.search('AFDX_VERSION "(.*)"', text_of("crates/afdx/afdx.h"))[1]
 BAD_BAG = "configuration refused: 6 BadBag\n"
+EXPLAIN, ANALYSE, ANALYSIS = ["explain", "demo.toml"], ["report", "demo.toml"], ANALYSES[DEMO, 0]
+EXPLAINED = "1 fault\n6 BadBag: vl 1 (id 1), bag_ms is 3: 1, 2, 4, 8, 16, 32, 64 or 128\n"
+NO_TEXT = WRONG.replace("unrecognized subcommand 'frob'", "a word is not UTF-8")
 
 # Words, and how a run of them ends: its status, standard output and standard error. Standard input is empty.
 ROWS = [
@@ -66,7 +75,13 @@ ROWS = [
     ([*STORM[:3], "002", "--turns", "01000"], 0, totals(2), ""),
     (["--help"], 0, HELP, ""),
     (["--version"], 0, f"afdx_bench {VERSION}\n", ""),
+    (EXPLAIN, 0, "no faults\n", ""),
+    (["explain", "wrong.toml"], 2, EXPLAINED, ""),
+    (ANALYSE, 0, ANALYSIS, ""),
+    ([*ANALYSE, "--html", "made.html"], 0, ANALYSIS, ""),
     (["frob"], 2, "", WRONG),
+    ([b"\xff"], 2, "", NO_TEXT),
+    ([*CHECK, b"\xff"], 2, "", NO_TEXT),
     (["check", "wrong.toml"], 2, "", BAD_BAG),
     (["storm", "wrong.toml", *STORM[2:]], 2, "", BAD_BAG),
     (["run", "demo.toml", "faulty.txt"], 2, ONE_FRAME, "script line 3: 2 Number\n"),
@@ -77,6 +92,9 @@ ROWS = [
     (["check", "."], 4, "", "read failed\n"),
     (["run", "demo.toml", "."], 4, "", "read failed\n"),
     (["storm", "none.toml", *STORM[2:]], 4, "", "read failed\n"),
+    (["explain", "none.toml"], 4, "", "read failed\n"),
+    (["explain", "."], 4, "", "read failed\n"),
+    (["report", "."], 4, "", "read failed\n"),
     (LATE, 5, "", "turns used up\n"),
     # the configuration is read before the script, and both are opened before a capture is made
     (["run", "wrong.toml", "none.txt", "--capture", "unmade"], 2, "", BAD_BAG),
@@ -84,6 +102,22 @@ ROWS = [
     (["run", "none.toml", "faulty.txt"], 4, "", "read failed\n"),
     (["run", "demo.toml", "none.txt", "--capture", "unmade"], 4, "", "read failed\n"),
     ([*RUN, "--capture", "nowhere/unmade"], 4, "", "write failed\n"),
+    (["report", "wrong.toml", "--html", "unmade"], 2, "", BAD_BAG),
+    (["report", "none.toml", "--html", "unmade"], 4, "", "read failed\n"),
+    ([*ANALYSE, "--html", "nowhere/unmade"], 4, "", "write failed\n"),
+]
+
+# Words that print something: the status, and what.
+PRINTED = [
+    (RUN, 0, ONE_FRAME),
+    (CAPTURED, 0, ONE_FRAME),
+    (CHECK, 0, REPORT),
+    (STORM, 0, totals(2)),
+    (EXPLAIN, 0, "no faults\n"),
+    (["explain", "wrong.toml"], 2, EXPLAINED),
+    (ANALYSE, 0, ANALYSIS),
+    (["--help"], 0, HELP),
+    (["--version"], 0, f"afdx_bench {VERSION}\n"),
 ]
 
 # What is no number of decimal digits alone, or lies outside of both ranges.
@@ -118,12 +152,18 @@ class Room:
 
     def start(self, *words, **how):
         how = how if {"stdin", "input"} & {*how} else {"stdin": subprocess.DEVNULL, **how}
-        return started(self.program, words, cwd=self.folder, capture_output=True, text=True, **how)
+        how = {"stdout": subprocess.PIPE, "stderr": subprocess.PIPE, **how}
+        return started(self.program, words, cwd=self.folder, text=True, **how)
 
     def ends(self, words, status, out, err, **how):
         """A run of these words has to end so."""
         ran = self.start(*words, **how)
-        self.want((ran.returncode, ran.stdout, ran.stderr) == (status, out, err), f"{how or ''} {ran}")
+        self.want((ran.returncode, ran.stdout or "", ran.stderr) == (status, out, err), f"{how or ''} {ran}")
+
+    def is_refused(self, *words):
+        """These words have to be refused."""
+        ran = self.start(*words)
+        self.want(ran.returncode == 2 and not ran.stdout and "--help" in ran.stderr, ran)
 
     def is_captured(self, name, transcript):
         """A reader has to take a capture, whose packets are the lines of a transcript."""
@@ -146,28 +186,60 @@ def standard_input(room):
     """Without words the script comes from standard input."""
     for given, *row in [(SCRIPT, 0, ONE_FRAME, ""), (FULL, 3, FULL_NOTED, ""), ("at x\n", 2, "", "script line 1: 2 Number\n")]:
         room.ends([], *row, input=given)
+    room.ends([b"\xff"], 2, "", NO_TEXT, input=SCRIPT)
     room.ends([], 4, "", "read failed\n", preexec_fn=lambda: os.close(0))
 
 
 def numbers(room):
-    """Numbers are decimal digits alone."""
+    """Numbers are decimal digits alone, and each command has its own words."""
     for it in NO_NUMBERS:
         for words in (["--messages", it, "--turns", "9"], ["--messages", "2", "--turns", it], [f"--messages={it}", "--turns", "9"]):
-            ran = room.start("storm", "demo.toml", *words)
-            room.want(ran.returncode == 2 and not ran.stdout and "--help" in ran.stderr, ran)
+            room.is_refused("storm", "demo.toml", *words)
+        if it.strip("0"):
+            room.is_refused(*ANALYSE, "--lateness", it)
+    for words in (["explain"], [*EXPLAIN, "demo.toml"], [*EXPLAIN, "--html", "made.html"], ["report"], [*ANALYSE, "demo.toml"]):
+        room.is_refused(*words)
 
 
 def closed_streams(room):
     """A standard stream that is closed fails, and no file of the run takes its place: a capture has its blocks alone."""
     for closed in CLOSED:
-        status = 4 if 1 in closed else 0
-        err = "" if 2 in closed or status == 0 else "write failed\n"
-        for words, out in ((RUN, ONE_FRAME), (CHECK, REPORT), (STORM, totals(2)), (CAPTURED, ONE_FRAME)):
-            room.ends(words, status, "" if status else out, err, preexec_fn=lambda: [os.close(it) for it in closed])
-        if status:
+        is_lost = 1 in closed
+        err = "write failed\n" if is_lost and 2 not in closed else ""
+        for words, status, out in PRINTED:
+            how = {"preexec_fn": lambda: [os.close(it) for it in closed]}
+            room.ends(words, 4 if is_lost else status, "" if is_lost else out, err, **how)
+        if is_lost:
             room.want(room.read("frames.pcapng") == b"", f"a capture without {closed}")
         else:
             room.is_captured("frames.pcapng", ONE_FRAME)
+
+
+def full_output(room):
+    """Standard output without room fails."""
+    with open("/dev/full", "w", encoding="utf-8") as full:
+        for words, _, _ in PRINTED:
+            room.ends(words, 4, "", "write failed\n", stdout=full)
+
+
+def long_lines(room):
+    """A line has at most its length, wherever it begins."""
+    for before in (0, 1000, LINE_LIMIT):
+        for size in (LINE_LIMIT - 1, LINE_LIMIT, LINE_LIMIT + 1):
+            line = "send 10".ljust(size - 2) + "01"
+            room.write("line.txt", f"#{' ' * (before - 2)}\n"[:before] + f"{line}\nat 0\n")
+            fault = (2, "", f"script line {2 if before else 1}: 5 Long\n")
+            room.ends(["run", "demo.toml", "line.txt"], *(fault if size > LINE_LIMIT else (0, ONE_FRAME, "")))
+
+
+def great_plans(room):
+    """A plan of 16 MiB is read, and one of a byte more is not."""
+    for more in (0, 1):
+        room.write("great.toml", "#" * (TEXT_LIMIT - len(DEMO) - 1 + more) + "\n" + DEMO)
+        for words, status, out in PRINTED:
+            if "demo.toml" in words:
+                words = [word.replace("demo.toml", "great.toml") for word in words]
+                room.ends(words, *((4, "", "read failed\n") if more else (status, out, "")))
 
 
 def captures(room):
@@ -185,6 +257,13 @@ def captures(room):
         room.ends(["run", config, script, "--capture", name], plain.returncode, plain.stdout, plain.stderr)
         room.want(plain.stdout, f"{script} prints nothing")
         room.is_captured(to, plain.stdout)
+    # frames at the greatest times of 32 and 64 bits
+    times = (0, 2**32 - 1, 2**32 + 1000, 2**64 - 1)
+    room.write("times.txt", "".join(f"send 10 01\nat {at}\n" for at in times))
+    ran = room.start("run", "demo.toml", "times.txt", "--capture", "times.pcapng")
+    told = [line.split()[:2] for line in ran.stdout.splitlines()]
+    room.want(told == [[name, str(at)] for name in "AB" for at in times], ran)
+    room.is_captured("times.pcapng", ran.stdout)
     packets = pcapng.Capture(room.read("long.pcapng")).packets
     room.want(len(packets) > 200 and any(packet.data[20] & 0x20 for packet in packets), "no fragments")
 
@@ -244,7 +323,7 @@ def progress(room):
     room.want(on_terminal(room, LATE) == (5, "", b"turns used up\n"), "a refused storm on a terminal")
 
 
-CASES = [rows, standard_input, numbers, closed_streams, captures, own_files, progress]
+CASES = [rows, standard_input, numbers, closed_streams, full_output, long_lines, great_plans, captures, own_files, progress]
 
 
 def tried(case, program):

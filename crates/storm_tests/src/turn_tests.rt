@@ -47,6 +47,23 @@ fn threads_try_as_often_as_they_may_and_no_more(rt: HostRuntime) {
     }
 }
 
+// The worker is held until the main thread has used up its polls, at 0, 128,000 and 256,000, so each frame is left for
+// the drain, which sends one at each of its polls.
+#[test]
+fn polls_are_128_000_microseconds_apart(rt: HostRuntime) {
+    let gate = Holding::until(Until::Polled(3));
+    let report = storm_of(&rt, ONE_PORT, (3, 3), &gate).expect(&rt, "a report");
+    let mut times = Vec::new(rt.alloc());
+    for entry in report.a.handed() {
+        times.push(entry.at).expect(&rt, "memory");
+    }
+    assert_same(
+        &rt,
+        times.as_slice(),
+        [384_000, 512_000, 640_000].as_slice(),
+    );
+}
+
 #[test]
 fn a_gate_is_asked_before_each_send_and_told_after_it(rt: HostRuntime) {
     let gate = Holding::until(Until::Followed);
