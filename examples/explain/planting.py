@@ -2,7 +2,7 @@
 import random
 from collections.abc import Callable
 
-from wanted import ADDRESS, FIELDS, GAPS, ID, IN_VERSION_2, NAMES, OPTIONAL, Table, fields, kind_of, place, rows, subject
+from wanted import ADDRESS, FIELDS, GAPS, ID, IN_VERSION_2, NAMES, OPTIONAL, Table, fields, kind_of, known, place, rows, subject
 
 
 def written(value) -> str:
@@ -55,8 +55,8 @@ def bad_values(content, fault: int) -> list:
     return [0, 3, -1, 129, 256] if content is GAPS else [*texts, ""]
 
 
-def plant(rng: random.Random, document: Table, fault: int, free: dict[str, list[int]]) -> Callable[[], str]:
-    """Plants a fault in tables that are free. Returns a function for the start of its line, once all are planted."""
+def plant(rng: random.Random, document: Table, fault: int, free: dict[str, list[int]]) -> list[Callable[[], str]]:
+    """Plants a fault in tables that are free. Returns functions for the starts of its lines, once all are planted."""
     def take(name: str, count: int = 1) -> list[int]:
         taken = sorted(rng.sample(free[name], count))
         free[name] = [k for k in free[name] if k not in taken]
@@ -67,25 +67,25 @@ def plant(rng: random.Random, document: Table, fault: int, free: dict[str, list[
     if fault < 7:
         name = "vl" if fault == 6 else rng.choice(("vl", "port"))
         (k,) = take(name)
-        table, known = document[name][k], fields(document, name)
-        unknown = ["extra", "Id", "x" * 41, 'q"\u00e9', "checksums", *(key for key in IN_VERSION_2 if key not in known)]
-        few = {2: [key for key in known if key not in OPTIONAL], 3: unknown, 6: ["bag_ms"]}
-        key = rng.choice(few.get(fault, [key for key in known if fault == 4 or key != "bag_ms"]))
-        table[key] = rng.choice(bad_values(known[key], fault)) if fault > 3 else 7
+        table, format_ = document[name][k], fields(document, name)
+        unknown = ["extra", "Id", "x" * 41, 'q"\u00e9', "checksums", *(key for key in IN_VERSION_2 if key not in format_)]
+        few = {2: [key for key in format_ if key not in OPTIONAL], 3: unknown, 6: ["bag_ms"]}
+        key = rng.choice(few.get(fault, [key for key in format_ if fault == 4 or key != "bag_ms"]))
+        table[key] = rng.choice(bad_values(format_[key], fault)) if fault > 3 else 7
         if fault == 2:
             del table[key]
-        return lambda: f"{head}{subject(document, (name, k + 1), key)}: "
+        return [lambda: f"{head}{subject(document, (name, k + 1), key)}: "]
     if fault in (7, 8, 12, 13):
         name = "vl" if fault == 7 else "port"
-        one, other = take(name, 2)
-        a, b = document[name][one], document[name][other]
+        # (two to four tables, and four are left for other faults)
+        first, *others = take(name, rng.randint(2, max(2, min(4, len(free[name]) - 4))))
+        a, tables = document[name][first], document[name]
         keys = {12: ["vl", "partition", "source", "destination"], 13: ["partition"]}.get(fault, ["id"])
-        b |= {key: a[key] for key in keys}
-        if fault > 11:
-            a["dest_ip"] = b["dest_ip"] = f"10.255.{one}.0"
-        if fault == 13:
-            b["vl"] = 100 + (a["vl"] - 99) % len(vl)
-        return lambda: f"{head}{place(document, (name, one + 1))} and {place(document, (name, other + 1))}: "
+        a |= {"dest_ip": f"10.255.{first}.0"} if fault > 11 else {}
+        for turn, other in enumerate(others):
+            tables[other] |= {key: a[key] for key in [*keys, *(["dest_ip"] if fault > 11 else [])]}
+            tables[other] |= {"vl": 100 + (a["vl"] - 99 + turn % (len(vl) - 1)) % len(vl)} if fault == 13 else {}
+        return [(lambda other=other: f"{head}{place(document, (name, other + 1))} and {place(document, (name, first + 1))}: ") for other in others]
     (link,), (k,) = take("vl"), take("port")
     port[k] |= {9: {"vl": 60_000 + k}, 10: {"vl": 100 + link, "sub": 3}, 11: {"vl": 100 + link, "kind": "sampling"}}.get(fault, {})
     if fault == 10:
@@ -96,7 +96,9 @@ def plant(rng: random.Random, document: Table, fault: int, free: dict[str, list[
         port += [port[k] | {"id": 3000 + n, "source": 3000 + n, "vl": 100 + link} for n in range(65)]
         k = len(port) - 1
     key = {9: "vl", 10: "sub", 11: "max", 14: "sub"}[fault]
-    return lambda: f"{head}{subject(document, ('port', k + 1), key)}: "
+    # (any link may be the one that is named, if the identifier of one is faulty)
+    is_told = (lambda: all("id" in known("vl", table) for table in vl)) if fault == 9 else lambda: True
+    return [lambda: f"{head}{subject(document, ('port', k + 1), key)}: " if is_told() else ""]
 
 
 def planted(seed: int) -> tuple[str, list[str]]:
@@ -106,4 +108,4 @@ def planted(seed: int) -> tuple[str, list[str]]:
     free = {name: list(range(len(document[name]))) for name in ("vl", "port")}
     # (the first one goes through all numbers)
     lines = [plant(rng, document, f, free) for f in (2 + seed % 13, *(rng.randint(2, 13) for _ in range(seed // 13 % 3)))]
-    return text_of(document, rng), [line() for line in lines]
+    return text_of(document, rng), [line() for told in lines for line in told]

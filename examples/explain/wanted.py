@@ -76,15 +76,9 @@ def rows(document: Table, name: str) -> list[Table]:
     return [item for item in value if isinstance(item, dict)] if isinstance(value, list) else []
 
 
-def number(table: Table, key: str) -> int:
-    """The value of a key if it is a positive number, else 0."""
-    value = table.get(key)
-    return value if type(value) is int and value > 0 else 0
-
-
 def fields(document: Table, name: str) -> Table:
     """The keys that a table may have."""
-    return {k: v for k, v in FIELDS[name].items() if number(document, "version") == 2 or k not in IN_VERSION_2}
+    return {k: v for k, v in FIELDS[name].items() if known("", document).get("version") == 2 or k not in IN_VERSION_2}
 
 
 def place(document: Table, at: Place) -> str:
@@ -120,44 +114,49 @@ def value_lines(document: Table, fault: int) -> Iterable[str]:
             yield from (f"{subject(document, at, key)}: {'only if version = 2' if key in FIELDS[at[0]] else keys}" for key in others)
 
 
+def known(name: str, table: Table) -> Table:
+    """The values of a table without fault; an optional one that is left out is empty."""
+    values = {key: table[key] for key, content in FIELDS[name].items() if key in table and not fault_of(content, table[key])}
+    return {key: "" for key in OPTIONAL if key not in table} | values
+
+
+def first_clash(fault: int, tables: list[Table], k: int) -> int | None:
+    """The index of the first table before the k-th that clashes with it."""
+    same = {12: ("vl", "partition", "source", "destination", "dest_ip"), 13: ("partition", "dest_ip")}.get(fault, ("id",))
+    last = tables[k]
+    for j, table in enumerate(tables[:k]):
+        both_known = all(key in table and key in last for key in (*same, *(("vl",) if fault == 13 else ())))
+        if both_known and all(table[key] == last[key] for key in same):
+            if fault != 13 or last["dest_ip"] and table["vl"] != last["vl"]:
+                return j
+    return None
+
+
 def plan_lines(document: Table, fault: int) -> Iterable[str]:
     """The lines of a fault from 7 to 14."""
-    links, ports = rows(document, "vl"), rows(document, "port")
-    addresses = [a if isinstance(a := p.get("dest_ip"), str) and ADDRESS.fullmatch(a) else None for p in ports]
-    flows = [(*(number(p, k) for k in ("vl", "partition", "source", "destination")), a) for p, a in zip(ports, addresses, strict=True)]
-    subs = [(number(p, "vl"), number(p, "sub")) for p in ports]
-    ids = [number(link, "id") for link in links]
-
-    def agree(one: int, other: int) -> bool:
-        a, b = flows[one], flows[other]
-        if fault == 8:
-            return number(ports[one], "id") == number(ports[other], "id")
-        return fault == 12 and a == b or fault == 13 and a[0] != b[0] and a[1] == b[1] and a[4] == b[4] and a[4] is not None
-
-    def pair(name: str, one: int, others: Iterable[int]) -> Iterable[str]:
-        for other in list(others)[:1]:
-            yield f"{place(document, (name, one + 1))} and {place(document, (name, other + 1))}: {SAME.get(fault, 'the same id')}"
-
-    for k in range(len(links) if fault == 7 else 0):
-        yield from pair("vl", k, (j for j in range(k + 1, len(links)) if ids[j] == ids[k]))
+    links, ports = [known("vl", t) for t in rows(document, "vl")], [known("port", t) for t in rows(document, "port")]
+    arrays = known("", document)
+    if fault in (7, 8, 12, 13):
+        name, tables = ("vl", links) if fault == 7 else ("port", ports)
+        for k in range(len(tables)):
+            if (j := first_clash(fault, tables, k)) is not None:
+                yield f"{place(document, (name, k + 1))} and {place(document, (name, j + 1))}: {SAME.get(fault, 'the same id')}"
     if fault == 14:
-        for name, count, most in (("vl", len(links), 64), ("port", len(ports), 256)):
-            if not 1 <= count <= most:
+        for name, tables, most in (("vl", links, 64), ("port", ports, 256)):
+            if name in arrays and not 1 <= len(tables) <= most:
                 yield f"{subject(document, ('', 0), name)}: 1 to {most} tables"
     for k, port in enumerate(ports):
-        if fault in (8, 12, 13):
-            yield from pair("port", k, (j for j in range(k + 1, len(ports)) if agree(k, j)))
-        at, vl = ("port", k + 1), number(port, "vl")
-        link = ids.index(vl) + 1 if vl in ids else 0
-        if fault == 9 and not link:
+        at, vl = ("port", k + 1), port.get("vl")
+        number_of, link = next(((n, t) for n, t in enumerate(links, 1) if vl is not None and t.get("id") == vl), (0, {}))
+        if fault == 9 and vl is not None and not number_of and "vl" in arrays and all("id" in t for t in links):
             yield f"{subject(document, at, 'vl')}: no vl has this id"
-        if fault == 10 and link and number(port, "sub") >= number(links[link - 1], "sub_vls"):
-            yield f"{subject(document, at, 'sub')}: below sub_vls of its vl; {subject(document, ('vl', link), 'sub_vls')}"
-        room = max(number(links[link - 1], "lmax") - 47, 0) if link else 0
-        if fault == 11 and link and port.get("kind") != "queuing" and number(port, "max") > room:
-            yield f"{subject(document, at, 'max')}: at most lmax - 47 of its vl; {subject(document, ('vl', link), 'lmax')}"
-        if fault == 14 and subs.count(subs[k]) > 64 and subs[k] not in subs[k + 1 :]:
-            yield f"{subject(document, at, 'sub')}: at most 64 ports of one sub-VL"
+        if fault == 10 and "sub" in port and "sub_vls" in link and port["sub"] >= link["sub_vls"]:
+            yield f"{subject(document, at, 'sub')}: below sub_vls of its vl; {subject(document, ('vl', number_of), 'sub_vls')}"
+        if fault == 11 and port.get("kind") == "sampling" and "max" in port and "lmax" in link and port["max"] > link["lmax"] - 47:
+            yield f"{subject(document, at, 'max')}: at most lmax - 47 of its vl; {subject(document, ('vl', number_of), 'lmax')}"
+        if fault == 14 and vl is not None and "sub" in port:
+            if sum(p.get("vl") == vl and p.get("sub") == port["sub"] for p in ports[:k]) >= 64:
+                yield f"{subject(document, at, 'sub')}: at most 64 ports of one sub-VL"
 
 
 def explanation(document: Table) -> str:

@@ -3,10 +3,11 @@ use Rattle.afdx_config.proofs.Names.{◌≡◌, ◌≢◌, ℕ, ◌+◌, ◌<◌
 use Rattle.afdx_config.proofs.Names.{◌&&◌, cond, Option, Some, None, refl, ap, sym, subst, ◌∙◌, arith, lit≤, ◌==◌}
 use Rattle.afdx_config.proofs.Names.{eq-eqb, and_parts, eqb-true, list_any, flat_map, find, take, get_or, inl, inr}
 use Rattle.afdx_config.proofs.Names.{cases_lt, AllByRecursion, same_Some, Result, Ok, Err, IfOk, IfErr, Members}
-use Rattle.afdx_config.proofs.Names.{fault_number, plan_shows, plan_faults, ConfigFault, Toml, Memory, MissingKey, UnknownKey, WrongKind, OutOfRange, BadBag, nat_lt, ltb-true}
+use Rattle.afdx_config.proofs.Names.{fault_number, plan_faults, Cells, cells_of, cells_show, values_show, not, nat_tests, ConfigFault, Toml, Memory, MissingKey, UnknownKey, WrongKind, OutOfRange, BadBag, nat_lt, ltb-true}
 use Rattle.afdx_config.proofs.Names.{Plan, plan_of, shows, Reads, HasFault, IsLeastFault, IsPlanOf, Finding}
 use Rattle.afdx_config.proofs.Names.{findings_of, value_findings, shown_faults, first_fault, has, FirstIsAnswered}
-use Rattle.afdx_config.proofs.ShownLemmas.{of_shown, no_toml, no_memory, is_value, values_in}
+use Rattle.afdx_config.specs.Findings.{plan_findings}
+use Rattle.afdx_config.proofs.ShownLemmas.{of_shown, no_toml, no_memory, is_value, values_in, values_shown, plan_shown}
 
 -- the number of a fault determines it
 fault_at : (f : ConfigFault) → get_or (Memory ∷ Toml ∷ shown_faults) (fault_number f) Memory ≡ f
@@ -125,12 +126,19 @@ five : (a b c d e : Bool) (m u w o g x : ConfigFault) (rest : Option ConfigFault
     (cond (e || false) (Some g) rest)))) ≡ Some x
 five a b c d e m u w o g x rest is = grind arith
 
+-- equal tests find the same
+find_same : {A : Type 0} (p q : A → Bool) (xs : List A) → ((x : A) → p x ≡ q x) → find p xs ≡ find q xs
+find_same p q [] same = refl
+find_same p q (x ∷ xs) same = rw (same x, find_same p q xs same) refl
+
 pub value_first : (doc : Members) (xs : List Finding) (e : ConfigFault) → xs ≡ value_findings doc
-    → Some e ≡ find (λ f. list_any (has f) xs) (take 5 shown_faults) → first_fault doc ≡ Some e
+    → Some e ≡ find (λ f. list_any (has f) xs) (take 5 shown_faults) → Some e ≡ first_fault doc
 value_first doc xs e are is =
-    let shown : ConfigFault → Bool = λ f. list_any (has f) (value_findings doc) in
-    five (shown MissingKey) (shown UnknownKey) (shown WrongKind) (shown OutOfRange) (shown BadBag)
-    MissingKey UnknownKey WrongKind OutOfRange BadBag e (find (λ f. shows f doc) plan_faults) (sym (rw are at is))
+    let shown : ConfigFault → Bool = λ f. values_show f doc in
+    let at : (f : ConfigFault) → list_any (has f) xs ≡ values_show f doc = λ f. rw are (values_shown f doc) in
+    sym (five (shown MissingKey) (shown UnknownKey) (shown WrongKind) (shown OutOfRange) (shown BadBag)
+    MissingKey UnknownKey WrongKind OutOfRange BadBag e (find (λ f. shows f doc) plan_faults)
+    (sym (is ∙ find_same (λ f. list_any (has f) xs) shown (take 5 shown_faults) at)))
 
 -- if no fault of values is found, there is no finding of values
 empty : (xs : List Finding) → AllByRecursion (λ x. is_value x.fault ≡ true) xs
@@ -153,17 +161,20 @@ pub no_value : (doc : Members) (xs : List Finding) → xs ≡ value_findings doc
     → None ≡ find (λ f. list_any (has f) xs) (take 5 shown_faults) → value_findings doc ≡ []
 no_value doc xs are is = empty (value_findings doc) (values_in doc) (sym (rw are at is))
 
--- without findings of values, the first fault is that of the plan
-plan_first : (doc : Members) (plan : Plan) (r : Option ConfigFault) → plan ≡ plan_of doc → value_findings doc ≡ []
-    → find (λ f. plan_shows f plan) plan_faults ≡ r → first_fault doc ≡ r
-plan_first doc plan r is none found = rw none (rw is at found)
+-- without findings of values, the first fault is that of links and ports
+pub rows_first : (doc : Members) (cells : Cells) (first : Option ConfigFault) → cells ≡ cells_of doc → value_findings doc ≡ []
+    → first ≡ find (λ f. cells_show f cells) plan_faults → first ≡ first_fault doc
+rows_first doc cells first are none is = is ∙ rw are (sym (find_same (λ f. shows f doc) (λ f. cells_show f (cells_of doc)) shown_faults
+    (λ f. ap (λ b. b || cells_show f (cells_of doc)) (sym (values_shown f doc) ∙ ap (list_any (has f)) none))))
 
-pub plan_ok : (doc : Members) (plan : Plan) (r : Result Plan ConfigFault) → plan ≡ plan_of doc → value_findings doc ≡ []
-    → IfOk r (λ c. find (λ f. plan_shows f plan) plan_faults ≡ None) → IfOk r (λ c. first_fault doc ≡ None)
-plan_ok doc plan (Ok c) is none fine = plan_first doc plan None is none fine
-plan_ok doc plan (Err e) is none fine = tt
-
-pub plan_err : (doc : Members) (plan : Plan) (r : Result Plan ConfigFault) → plan ≡ plan_of doc → value_findings doc ≡ []
-    → IfErr r (λ e. find (λ f. plan_shows f plan) plan_faults ≡ Some e) → IfErr r (λ e. e ≢ Memory → first_fault doc ≡ Some e)
-plan_err doc plan (Ok c) is none found = tt
-plan_err doc plan (Err e) is none found = λ other. plan_first doc plan (Some e) is none found
+-- there is a finding of a fault exactly if links and ports have it
+pub rows_show : (g : ConfigFault) (cells : Cells) (xs : List Finding) → xs ≡ plan_findings g cells → not (length xs == 0) ≡ cells_show g cells
+rows_show g cells [] is =
+    let none : false ≡ (fault_number g == fault_number g) && cells_show g cells = ap (list_any (has g)) is ∙ plan_shown g g cells in
+    none ∙ rw (eq-eqb (fault_number g) (fault_number g) refl) refl
+rows_show g cells (x ∷ xs) is =
+    let some : list_any (has x.fault) (x ∷ xs) ≡ (fault_number x.fault == fault_number g) && cells_show g cells =
+    ap (list_any (has x.fault)) is ∙ plan_shown x.fault g cells in
+    let both : true ≡ (fault_number x.fault == fault_number g) && cells_show g cells = rw (eq-eqb (fault_number x.fault) (fault_number x.fault) refl) at some in
+    let full : (length (x ∷ xs) == 0) ≡ false = grind (arith, nat_tests) in
+    rw full (sym (and_parts (fault_number x.fault == fault_number g) (cells_show g cells) (sym both)).1)

@@ -1,18 +1,18 @@
 -- The place of each finding has its fault.
-use Rattle.afdx_config.proofs.Names.{◌≡◌, ℕ, suc, ◌+◌, ◌-◌, ◌≤◌, List, [], ◌∷◌, ◌++◌, length, get_or, Bool}
+use Rattle.afdx_config.proofs.Names.{◌≡◌, ℕ, suc, ◌+◌, ◌-◌, ◌≤◌, List, [], ◌∷◌, ◌++◌, length, get_or, Bool, nat_lt}
 use Rattle.afdx_config.proofs.Names.{true, false, ◌||◌, ◌&&◌, not, cond, Option, Some, None, refl, ap, ◌∙◌, codes}
 use Rattle.afdx_config.proofs.Names.{arith, lit≤, bytes_eq, slice_get, position, list_any, flat_map, filter}
-use Rattle.afdx_config.proofs.Names.{AllByRecursion, option_map_or, or-true, and_parts, lt-ltb, All-from_recursion}
+use Rattle.afdx_config.proofs.Names.{AllByRecursion, option_map_or, or-true, All-from_recursion}
 use Rattle.afdx_config.proofs.Names.{position-Some, slice_get-get_or, bytes_eq-Decides, eq-eqb, then_some, Members}
-use Rattle.afdx_config.proofs.Names.{is_crowded, ConfigFault, UnknownKey, Limit, LinkPlan, PortPlan, Place, Top}
+use Rattle.afdx_config.proofs.Names.{ConfigFault, UnknownKey, DuplicateVl, DuplicatePort, NoSuchVl, NoSuchSub, SamplingTooLong, SameFlow, SharedUnicast, Limit, Place, Top}
 use Rattle.afdx_config.proofs.Names.{EndSystem, Link, Port, Finding, found, has, one_if, key_finding, each_row}
-use Rattle.afdx_config.proofs.Names.{member_keys, plan_key, pair_finding, links_clash, link_finding, ports_clash}
-use Rattle.afdx_config.proofs.Names.{is_misfit, link_number, has_same_sub, is_last_crowded, count_is_wrong}
-use Rattle.afdx_config.proofs.Names.{count_findings, findings_of, shown_faults, findings, row_has, rows_have, plan_has}
+use Rattle.afdx_config.proofs.Names.{member_keys, plan_key, pair_finding, pair_findings, ports_clash, same_link, same_port, same_flow, share_unicast}
+use Rattle.afdx_config.proofs.Names.{is_misfit, misfit_finding, misfit_findings, link_number, is_past_limit, crowd_finding, crowd_findings, is_wrong_count}
+use Rattle.afdx_config.proofs.Names.{Cells, cells_of, count_findings, findings_of, shown_faults, findings, row_has, rows_have, plan_has}
 use Rattle.afdx_config.proofs.Names.{value_has, key_has, has_place, PlacesHaveFaults, Field, document_fields}
-use Rattle.afdx_config.proofs.Names.{end_fields, link_fields, port_fields, fields_in, plan_of, field_fault, key_fault}
+use Rattle.afdx_config.proofs.Names.{end_fields, link_fields, port_fields, fields_in, field_fault, key_fault}
 use Rattle.afdx_config.proofs.Names.{is_fault, is_key_of, is_version_2, rows_at, section_at, members_at, fields_at, fault_number}
-use Rattle.afdx_config.specs.Findings.{port_finding, plan_findings, table_findings, value_findings}
+use Rattle.afdx_config.specs.Findings.{plan_findings, table_findings, value_findings}
 
 -- a property of both lists is one of their concatenation
 pub r_append : {A : Type 0} (P : A → Type 0) (xs ys : List A) → AllByRecursion P xs → AllByRecursion P ys → AllByRecursion P (xs ++ ys)
@@ -63,15 +63,20 @@ tail_first : {A : Type 0} (k : ℕ) (x : A) (rest all : List A) → Tail k (x �
 tail_first k x rest all tail = let index : k - 1 ≡ k - 1 + 0 = omega arith in ap (slice_get all) index ∙ tail 0
 
 -- a property of the findings of each row
-rows_have_it : {A : Type 0} (P : Finding → Type 0) (each : ℕ → A → List A → List Finding) (all : List A) (k : ℕ) (rest : List A)
-    → ((j : ℕ) (x : A) (xs : List A) → 1 ≤ j → Tail j (x ∷ xs) all → AllByRecursion P (each j x xs)) → 1 ≤ k → Tail k rest all
+rows_have_it : {A : Type 0} (P : Finding → Type 0) (each : ℕ → A → List Finding) (all : List A) (k : ℕ) (rest : List A)
+    → ((j : ℕ) (x : A) → 1 ≤ j → slice_get all (j - 1) ≡ Some x → AllByRecursion P (each j x)) → 1 ≤ k → Tail k rest all
     → AllByRecursion P (each_row each k rest)
 rows_have_it P each all k [] step some tail = tt
-rows_have_it P each all k (x ∷ xs) step some tail = r_append P (each k x xs) (each_row each (k + 1) xs) (step k x xs some tail)
+rows_have_it P each all k (x ∷ xs) step some tail = r_append P (each k x) (each_row each (k + 1) xs)
+    (step k x some (tail_first k x xs all tail))
     (rows_have_it P each all (k + 1) xs step (omega arith) (tail_next k x xs all some tail))
 
 tail_all : {A : Type 0} (all : List A) → Tail 1 all all
 tail_all all i = let index : 1 - 1 + i ≡ i = omega arith in ap (slice_get all) index
+
+all_rows : {A : Type 0} (P : Finding → Type 0) (each : ℕ → A → List Finding) (all : List A)
+    → ((j : ℕ) (x : A) → 1 ≤ j → slice_get all (j - 1) ≡ Some x → AllByRecursion P (each j x)) → AllByRecursion P (each_row each 1 all)
+all_rows P each all step = rows_have_it P each all 1 all step (lit≤ tt) (tail_all all)
 
 -- a place has this table and this format
 abbrev At : Members → Place → List Field → Members → Type 0
@@ -85,9 +90,8 @@ unfolding value_findings
 values_have P doc step =
     let rows : (like : ℕ → Place) (fields : List Field) (all : List Members)
     → ((k : ℕ) (m : Members) → slice_get all (k - 1) ≡ Some m → At doc (like k) fields m)
-    → AllByRecursion P (each_row (λ k m rest. table_findings (like k) fields m) 1 all) = λ like fields all at.
-    rows_have_it P (λ k m rest. table_findings (like k) fields m) all 1 all
-    (λ k m rest some tail. step (like k) fields m (at k m (tail_first k m rest all tail))) (lit≤ tt) (tail_all all) in
+    → AllByRecursion P (each_row (λ k m. table_findings (like k) fields m) 1 all) = λ like fields all at.
+    all_rows P (λ k m. table_findings (like k) fields m) all (λ k m some is. step (like k) fields m (at k m is)) in
     r_append P _ _ (r_append P _ _ (r_append P _ _ (step Top document_fields doc (refl, refl))
     (end (section_at (codes "end_system") doc) refl))
     (rows Link (fields_in (is_version_2 doc) link_fields) (rows_at (codes "vl") doc) (λ k m is. (is, refl))))
@@ -140,9 +144,9 @@ table_fine doc place fields members at = r_append (Fine doc) _ _
     (fields_fine doc place fields members fields at (λ q passes. passes))
     (keys_fine doc place fields members (member_keys members) at (λ q passes. passes))
 
--- the place of a finding of a plan has its fault
-abbrev Has : List LinkPlan → List PortPlan → Finding → Type 0
-Has links ports f = plan_has links ports f.fault f.place f.key f.other ≡ true
+-- the place of a finding of 7 to 14 has its fault
+abbrev Has : Cells → Finding → Type 0
+Has cells f = plan_has cells f.fault f.place f.key f.other ≡ true
 
 -- a row that passes
 row_passes : {A : Type 0} (test : A → Bool) (rows : List A) (k : ℕ) (x : A) → slice_get rows (k - 1) ≡ Some x → test x ≡ true
@@ -150,68 +154,62 @@ row_passes : {A : Type 0} (test : A → Bool) (rows : List A) (k : ℕ) (x : A) 
 row_passes test rows k x is passes = rw is passes
 
 -- two rows that are related
-pair_passes : {A : Type 0} (related : A → A → Bool) (all : List A) (k : ℕ) (x : A) (rest : List A) (d : ℕ) → 1 ≤ k
-    → Tail k (x ∷ rest) all → position (related x) rest ≡ Some d → rows_have related all k (Some (k + 1 + d)) ≡ true
-pair_passes related all k x rest d some tail is =
-    let passes = position-Some (related x) rest d x is in
-    let index : k + 1 + d - 1 ≡ k - 1 + suc d = omega arith in
-    let other : slice_get all (k + 1 + d - 1) ≡ Some (get_or rest d x) =
-    ap (slice_get all) index ∙ tail (suc d) ∙ slice_get-get_or rest d x passes.0 in
-    rw (
-      lt-ltb k (k + 1 + d) (omega arith),
-      row_passes (λ a. row_has (related a) all (k + 1 + d)) all k x (tail_first k x rest all tail)
-          (row_passes (related x) all (k + 1 + d) (get_or rest d x) other passes.1),
-    ) refl
-
-link_fine : (g : ConfigFault) (all : List LinkPlan) (ports : List PortPlan) (k : ℕ) (l : LinkPlan) (rest : List LinkPlan) → 1 ≤ k
-    → Tail k (l ∷ rest) all → AllByRecursion (Has all ports) (link_finding g k l rest)
-link_fine g all ports k l rest some tail = here (position (links_clash g l) rest) refl
+pair_fine : {A : Type 0} (cells : Cells) (g : ConfigFault) (at : ℕ → Place) (related : A → A → Bool) (all : List A)
+    → ((k j : ℕ) → rows_have related all k (Some j) ≡ true → plan_has cells g (at k) (plan_key g) (Some j) ≡ true)
+    → AllByRecursion (Has cells) (pair_findings g at related all)
+pair_fine {A = A} cells g at related all fine = all_rows (Has cells) (λ k x. pair_finding g at k (position (λ e. related e x) all)) all
+    (λ k x some is. here k x is (position (λ e. related e x) all) refl)
   where
-    here : (o : Option ℕ) → position (links_clash g l) rest ≡ o → AllByRecursion (Has all ports) (pair_finding g Link k o)
-    here None is = tt
-    here (Some d) is = (pair_passes (links_clash g) all k l rest d some tail is, tt)
+    here : (k : ℕ) (x : A) → slice_get all (k - 1) ≡ Some x → (o : Option ℕ) → position (λ e. related e x) all ≡ o
+        → AllByRecursion (Has cells) (pair_finding g at k o)
+    here k x there None is = tt
+    here k x there (Some i) is = r_one (Has cells) (nat_lt (i + 1) k) (found g (at k) (plan_key g) (Some (i + 1))) (λ early.
+        let passes = position-Some (λ e. related e x) all i x is in
+        let index : i + 1 - 1 ≡ i = omega arith in
+        let other : slice_get all (i + 1 - 1) ≡ Some (get_or all i x) =
+        ap (slice_get all) index ∙ slice_get-get_or all i x passes.0 in
+        fine k (i + 1) (rw (
+          early,
+          row_passes (λ a. row_has (λ e. related e a) all (i + 1)) all k x there
+              (row_passes (λ e. related e x) all (i + 1) (get_or all i x) other passes.1),
+        ) refl))
 
-crowd_alone : (g : ConfigFault) (all : List PortPlan) (p : PortPlan) (rest : List PortPlan) → is_last_crowded g all p rest ≡ true
-    → is_last_crowded g all p [] ≡ true
-crowd_alone Limit all p rest is = rw (and_parts (is_crowded all p) (not (list_any (has_same_sub p) rest)) is).0 refl
-crowd_alone _ all p rest is = cc
+misfit_fine : (g : ConfigFault) (cells : Cells) → AllByRecursion (Has cells) (misfit_findings g cells)
+misfit_fine g cells = all_rows (Has cells) (misfit_finding g cells) cells.ports (λ k p some is.
+    r_one (Has cells) (is_misfit g cells p) (found g (Port k) (plan_key g) (link_number cells.links p))
+    (λ bad. rw (row_passes (is_misfit g cells) cells.ports k p is bad)
+    (or-true (rows_have (ports_clash g) cells.ports k (link_number cells.links p)))))
 
-port_fine : (g : ConfigFault) (links : List LinkPlan) (all : List PortPlan) (k : ℕ) (p : PortPlan) (rest : List PortPlan) → 1 ≤ k
-    → Tail k (p ∷ rest) all → AllByRecursion (Has links all) (port_finding g links all k p rest)
-unfolding port_finding
-port_fine g links all k p rest some tail = r_append (Has links all) _ _ (r_append (Has links all) _ _
-    (here (position (ports_clash g p) rest) refl)
-    (r_one (Has links all) (is_misfit g links p) (found g (Port k) (plan_key g) (link_number links p))
-    (λ is. rw (row_passes (is_misfit g links) all k p (tail_first k p rest all tail) is)
-    (or-true (rows_have (ports_clash g) all k (link_number links p))))))
-    (r_one (Has links all) (is_last_crowded g all p rest) (found g (Port k) (plan_key g) None)
-    (λ is. rw (row_passes (λ q. is_last_crowded g all q []) all k p (tail_first k p rest all tail) (crowd_alone g all p rest is))
-    (or-true (row_has (is_misfit g links) all k))))
-  where
-    here : (o : Option ℕ) → position (ports_clash g p) rest ≡ o → AllByRecursion (Has links all) (pair_finding g Port k o)
-    here None is = tt
-    here (Some d) is = (rw (pair_passes (ports_clash g) all k p rest d some tail is) refl, tt)
+crowd_fine : (cells : Cells) → AllByRecursion (Has cells) (crowd_findings cells.ports)
+crowd_fine cells = all_rows (Has cells) (crowd_finding cells.ports) cells.ports (λ k p some is.
+    r_one (Has cells) (is_past_limit cells.ports k p) (found Limit (Port k) (plan_key Limit) None)
+    (λ past. rw (row_passes (is_past_limit cells.ports k) cells.ports k p is past)
+    (or-true (row_has (is_misfit Limit cells) cells.ports k))))
 
-counts_fine : (g : ConfigFault) (links : List LinkPlan) (ports : List PortPlan) → AllByRecursion (Has links ports) (count_findings g links ports)
-counts_fine g links ports = r_append (Has links ports)
-    (one_if (count_is_wrong g 64 (length links)) (found g Top (codes "vl") None))
-    (one_if (count_is_wrong g 256 (length ports)) (found g Top (codes "port") None))
-    (r_one (Has links ports) (count_is_wrong g 64 (length links)) (found g Top (codes "vl") None) (λ is. rw is refl))
-    (r_one (Has links ports) (count_is_wrong g 256 (length ports)) (found g Top (codes "port") None) (λ is. rw is refl))
+counts_fine : (cells : Cells) → AllByRecursion (Has cells) (count_findings cells)
+counts_fine cells = r_append (Has cells)
+    (one_if (is_wrong_count cells.has_links 64 (length cells.links)) (found Limit Top (codes "vl") None))
+    (one_if (is_wrong_count cells.has_ports 256 (length cells.ports)) (found Limit Top (codes "port") None))
+    (r_one (Has cells) (is_wrong_count cells.has_links 64 (length cells.links)) (found Limit Top (codes "vl") None) (λ is. rw is refl))
+    (r_one (Has cells) (is_wrong_count cells.has_ports 256 (length cells.ports)) (found Limit Top (codes "port") None) (λ is. rw is refl))
 
-plan_fine : (g : ConfigFault) (links : List LinkPlan) (ports : List PortPlan) → AllByRecursion (Has links ports) (plan_findings g links ports)
+plan_fine : (g : ConfigFault) (cells : Cells) → AllByRecursion (Has cells) (plan_findings g cells)
 unfolding plan_findings
-plan_fine g links ports = r_append (Has links ports) _ _ (r_append (Has links ports) _ _
-    (rows_have_it (Has links ports) (link_finding g) links 1 links (link_fine g links ports) (lit≤ tt) (tail_all links))
-    (counts_fine g links ports))
-    (rows_have_it (Has links ports) (port_finding g links ports) ports 1 ports (port_fine g links ports) (lit≤ tt) (tail_all ports))
+plan_fine DuplicateVl cells = pair_fine cells DuplicateVl Link same_link cells.links (λ k j is. is)
+plan_fine DuplicatePort cells = pair_fine cells DuplicatePort Port same_port cells.ports (λ k j is. rw is refl)
+plan_fine NoSuchVl cells = misfit_fine NoSuchVl cells
+plan_fine NoSuchSub cells = misfit_fine NoSuchSub cells
+plan_fine SamplingTooLong cells = misfit_fine SamplingTooLong cells
+plan_fine SameFlow cells = pair_fine cells SameFlow Port same_flow cells.ports (λ k j is. rw is refl)
+plan_fine SharedUnicast cells = pair_fine cells SharedUnicast Port share_unicast cells.ports (λ k j is. rw is refl)
+plan_fine Limit cells = r_append (Has cells) (count_findings cells) (crowd_findings cells.ports) (counts_fine cells) (crowd_fine cells)
+plan_fine g cells = tt
 
 of_fine : (doc : Members) (g : ConfigFault) → AllByRecursion (Fine doc) (findings_of g doc)
 of_fine doc g = r_append (Fine doc) _ _
     (r_filter (Fine doc) (has g) (value_findings doc) (values_have (Fine doc) doc (table_fine doc)))
-    (r_map (Has (plan_of doc).links (plan_of doc).ports) (Fine doc) (plan_findings g (plan_of doc).links (plan_of doc).ports)
-    (λ f is. rw is (or-true (value_has doc f || key_has doc f)))
-    (plan_fine g (plan_of doc).links (plan_of doc).ports))
+    (r_map (Has (cells_of doc)) (Fine doc) (plan_findings g (cells_of doc))
+    (λ f is. rw is (or-true (value_has doc f || key_has doc f))) (plan_fine g (cells_of doc)))
 
 pub places_have_faults : PlacesHaveFaults
 places_have_faults doc = All-from_recursion (λ f. has_place doc f ≡ true) (findings doc)

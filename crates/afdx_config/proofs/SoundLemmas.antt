@@ -40,7 +40,7 @@ both_sound true fields members is = recursion_from_All _ _ (All-take (λ field. 
 
 -- the tables of a list are sound
 all_sound : (is_2 : Bool) (like : ℕ → Place) (fields : List Field) (k : ℕ) (tables : List Found)
-    → each_row (λ k m rest. table_findings (like k) (fields_in is_2 fields) m) k (map (λ t. table_view t.now) tables) ≡ []
+    → each_row (λ k m. table_findings (like k) (fields_in is_2 fields) m) k (map (λ t. table_view t.now) tables) ≡ []
     → All (λ t. IsSoundTable (fields_in false fields) (table_view t.now)) tables
 all_sound is_2 like fields k [] is = All-nil (λ (t : Found). IsSoundTable (fields_in false fields) (table_view t.now))
 all_sound is_2 like fields k (x ∷ xs) is = let (one, rest) = none _ _ is in

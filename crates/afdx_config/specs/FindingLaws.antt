@@ -4,13 +4,15 @@ use Rattle.std.specs.List.{list_any}
 use Rattle.std.specs.Option.{option_map_or}
 use Rattle.toml.specs.Data.{Members}
 use Rattle.afdx_plan.specs.declared.fault.ConfigFault.{ConfigFault}
-use Rattle.afdx_plan.specs.declared.fault.ConfigFault.TheVariants.{UnknownKey}
-use Rattle.afdx_plan.specs.declared.link_plan.LinkPlan.{LinkPlan}
-use Rattle.afdx_plan.specs.declared.port_plan.PortPlan.{PortPlan}
+use Rattle.afdx_plan.specs.declared.fault.ConfigFault.TheVariants.{UnknownKey, DuplicateVl, DuplicatePort, SameFlow, SharedUnicast, Limit}
+use Rattle.afdx_config.specs.declared.rows.LinkRow.{LinkRow}
+use Rattle.afdx_config.specs.declared.rows.PortRow.{PortRow}
+use Rattle.afdx_config.specs.Cells.{Cells, cells_of}
+use Rattle.afdx_config.specs.CellFaults.{same_link, same_port, same_flow, share_unicast, is_wrong_count}
 use Rattle.afdx_config.specs.declared.findings.Place.{Place}
 use Rattle.afdx_config.specs.declared.findings.Place.TheVariants.{Top, Link, Port}
 use Rattle.afdx_config.specs.Faults.{shows, Reads, IsLeastFault, IsPlanOf}
-use Rattle.afdx_config.specs.Findings.{Finding, findings, has, links_clash, ports_clash, is_misfit, is_last_crowded, count_is_wrong}
+use Rattle.afdx_config.specs.Findings.{Finding, findings, has, is_misfit, is_past_limit}
 use Rattle.afdx_config.specs.Entries.{member_keys}
 use Rattle.afdx_config.specs.PlanOf.{plan_of}
 use Rattle.afdx_config.specs.Tables.{field_fault, is_fault, is_key_of}
@@ -47,26 +49,48 @@ key_has document f = table_has (λ members. (is_fault f.fault (Some UnknownKey) 
 abbrev pub row_has : {A : Type 0} → (A → Bool) → List A → ℕ → Bool
 row_has test rows k = option_map_or test (slice_get rows (k - 1)) false
 
--- row k and a later one are related
+-- row k and an earlier one are related
 abbrev pub rows_have : {A : Type 0} → (A → A → Bool) → List A → ℕ → Option ℕ → Bool
 rows_have related rows k None = false
-rows_have related rows k (Some j) = nat_lt k j && row_has (λ a. row_has (related a) rows j) rows k
+rows_have related rows k (Some j) = nat_lt j k && row_has (λ a. row_has (λ earlier. related earlier a) rows j) rows k
+
+-- two links have this fault together
+abbrev pub links_clash : ConfigFault → LinkRow → LinkRow → Bool
+links_clash DuplicateVl a b = same_link a b
+links_clash _ a b = false
+
+-- two ports have this fault together
+abbrev pub ports_clash : ConfigFault → PortRow → PortRow → Bool
+ports_clash DuplicatePort a b = same_port a b
+ports_clash SameFlow a b = same_flow a b
+ports_clash SharedUnicast a b = share_unicast a b
+ports_clash _ a b = false
+
+-- port k is past the 64th on its sub-VL
+abbrev pub crowd_has : ConfigFault → Cells → ℕ → Bool
+crowd_has Limit cells k = row_has (is_past_limit cells.ports k) cells.ports k
+crowd_has _ cells k = false
+
+-- the number of tables under a key is wrong
+abbrev pub count_has : ConfigFault → Cells → List ℕ → Bool
+count_has Limit cells key = (bytes_eq key (codes "vl") && is_wrong_count cells.has_links 64 (length cells.links))
+    || (bytes_eq key (codes "port") && is_wrong_count cells.has_ports 256 (length cells.ports))
+count_has _ cells key = false
 
 -- the link, the port or the count at the finding's place has the fault
-abbrev pub plan_has : List LinkPlan → List PortPlan → ConfigFault → Place → List ℕ → Option ℕ → Bool
-plan_has links ports fault (Link k) key other = rows_have (links_clash fault) links k other
-plan_has links ports fault (Port k) key other = rows_have (ports_clash fault) ports k other
-    || (row_has (is_misfit fault links) ports k || row_has (λ p. is_last_crowded fault ports p []) ports k)
-plan_has links ports fault Top key other = (bytes_eq key (codes "vl") && count_is_wrong fault 64 (length links))
-    || (bytes_eq key (codes "port") && count_is_wrong fault 256 (length ports))
-plan_has links ports fault _ key other = false
+abbrev pub plan_has : Cells → ConfigFault → Place → List ℕ → Option ℕ → Bool
+plan_has cells fault (Link k) key other = rows_have (links_clash fault) cells.links k other
+plan_has cells fault (Port k) key other = rows_have (ports_clash fault) cells.ports k other
+    || (row_has (is_misfit fault cells) cells.ports k || crowd_has fault cells k)
+plan_has cells fault Top key other = count_has fault cells key
+plan_has cells fault _ key other = false
 
 -- the table or value at a finding's place has its fault
 abbrev pub has_place : Members → Finding → Bool
 has_place document f = (value_has document f || key_has document f)
-    || plan_has (plan_of document).links (plan_of document).ports f.fault f.place f.key f.other
+    || plan_has (cells_of document) f.fault f.place f.key f.other
 
 -- the place of each finding has its fault: the key is missing, its value is of the wrong kind or out of range, or
--- the key is unknown; both tables of a fault of two exist, and the second one is the later
+-- the key is unknown; both tables of a fault of two exist, and the one that is named second is the earlier
 abbrev pub PlacesHaveFaults : Type 0
 PlacesHaveFaults = (document : Members) → All (λ f. has_place document f ≡ true) (findings document)

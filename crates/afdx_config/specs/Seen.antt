@@ -1,7 +1,9 @@
 -- The specification values of findings in the code.
 use Rattle.std.specs.Prelude.{◌≡◌, ◌++◌, ℕ, List, map, string_bytes}
 use Rattle.std.specs.Global.{Vec}
+use Rattle.afdx_config.specs.Cells.{Cells}
 use Rattle.afdx_config.specs.Findings.{Finding}
+use Rattle.afdx_config.specs.declared.rows.Rows.{Rows}
 use Rattle.afdx_config.specs.declared.findings.Finding.{Finding as Written}
 
 -- the finding
@@ -11,6 +13,15 @@ finding_of written = record {
   place = written.place;
   key = string_bytes written.key;
   other = written.other;
+}
+
+-- the links and ports
+abbrev pub cells_in : Rows → Cells
+cells_in rows = record {
+  links = rows.links.items;
+  ports = rows.ports.items;
+  has_links = rows.has_links;
+  has_ports = rows.has_ports;
 }
 
 -- these findings were added

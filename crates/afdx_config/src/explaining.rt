@@ -11,7 +11,7 @@ ghost use Rattle.afdx_config.specs.Views.{IsDocument, data_of};
 use crate::document::Document;
 use crate::findings::{Finding, Place, SHOWN_FAULTS, add};
 use crate::plan_findings::add_plan;
-use crate::rows::{link_rows, port_rows};
+use crate::rows::rows_of;
 use crate::told::{write_explanation, write_toml};
 use crate::value_findings::{add_those, value_findings};
 use afdx_plan::ConfigFault;
@@ -40,12 +40,11 @@ fn findings_in(
         ≡ flat_map (λ fault. findings_of fault (data_of document.now)) faults.now) }
 {
     let values = value_findings(alloc, document)?;
-    let links = link_rows(alloc, document.links.as_slice())?;
-    let ports = port_rows(alloc, document.ports.as_slice())?;
+    let rows = rows_of(alloc, document)?;
     let mut found = Vec::new(alloc);
     for fault in faults {
         add_those(&mut found, *fault, values.as_slice())?;
-        add_plan(&mut found, *fault, links.as_slice(), ports.as_slice())?;
+        add_plan(&mut found, *fault, &rows)?;
     }
     Ok(found)
 }

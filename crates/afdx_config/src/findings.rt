@@ -29,8 +29,8 @@ pub struct Finding {
     /// The key that is missing or unknown, or whose value has the fault. For `Toml`, the message of the
     /// TOML parser.
     pub key: String,
-    /// For a fault of two tables, the number of the second one. For a port that does not fit its link,
-    /// the number of the link.
+    /// For a fault of two tables, the number of the first one that the table clashes with, which is
+    /// earlier. For a port that does not fit its link, the number of the link.
     pub other: Option<usize>,
 }
 

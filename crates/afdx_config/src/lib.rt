@@ -1,17 +1,21 @@
 //! Configurations: plans of end systems as TOML texts.
 #![tactic(auto)]
 
+mod crowding;
 mod document;
 mod entries;
 mod explaining;
 mod fields;
 mod findings;
 mod format;
+mod keyed;
 pub mod laws;
+mod pairs;
 mod parts;
 mod plan_findings;
 mod read;
 mod rows;
+mod sharing;
 mod subjects;
 mod told;
 mod value_findings;

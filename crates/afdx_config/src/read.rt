@@ -1,18 +1,62 @@
 //! Reading a configuration.
-ghost use Rattle.std.specs.Prelude.{◌≡◌, ◌≢◌, Some, None, IfOk, IfErr};
+ghost use Rattle.std.specs.Prelude.{◌≡◌, ◌≢◌, Some, None, find, IfOk, IfErr};
 ghost use Rattle.afdx_plan.specs.declared.fault.ConfigFault.{ConfigFault};
 ghost use Rattle.afdx_config.specs.PlanOf.{plan_of};
 ghost use Rattle.afdx_config.specs.Faults.{IsPlanOf, IsLeastFault};
-ghost use Rattle.afdx_config.specs.Views.{IsDocument, data_of, first_fault};
+ghost use Rattle.afdx_config.specs.CellFaults.{cells_show};
+ghost use Rattle.afdx_config.specs.Seen.{cells_in};
+ghost use Rattle.afdx_config.specs.Views.{AreSound, IsDocument, data_of, first_fault};
 
 use crate::document::Document;
 use crate::findings::SHOWN_FAULTS;
 use crate::parts::parts_of;
+use crate::plan_findings::add_plan;
+use crate::rows::{Rows, rows_of};
 use crate::value_findings::{first_among, value_findings};
 use afdx_plan::{Config, ConfigFault};
-use std::alloc::Global;
+use std::alloc::{AllocError, Global};
 
-/// Converts a document.
+/// Links and ports have the fault.
+fn rows_have(alloc: Global, fault: ConfigFault, rows: &Rows) -> Result<bool, AllocError>
+    ensures { IfOk result (λ has. has ≡ cells_show fault (cells_in rows.now)) }
+{
+    let mut found = Vec::new(alloc);
+    add_plan(&mut found, fault, rows)?;
+    Ok(!found.as_slice().is_empty())
+}
+
+/// The first of these faults that links and ports have.
+fn first_in_rows(
+    alloc: Global,
+    faults: &[ConfigFault],
+    rows: &Rows,
+) -> Result<Option<ConfigFault>, AllocError>
+    ensures { IfOk result (λ first. first ≡ find (λ fault. cells_show fault (cells_in rows.now)) faults.now) }
+{
+    for fault in faults {
+        if rows_have(alloc, *fault, rows)? {
+            return Ok(Some(*fault));
+        }
+    }
+    Ok(None)
+}
+
+/// The fault of the least number in a document.
+fn fault_of(alloc: Global, document: &Document<'_>) -> Result<Option<ConfigFault>, AllocError>
+    requires { IsDocument document.now }
+    ensures first { IfOk result (λ first. first ≡ first_fault (data_of document.now)) }
+    ensures sound { IfOk result (λ first. first ≡ None → AreSound document.now) }
+{
+    let found = value_findings(alloc, document)?;
+    if let Some(fault) = first_among(found.as_slice(), &SHOWN_FAULTS[..5]) {
+        return Ok(Some(*fault));
+    }
+    let rows = rows_of(alloc, document)?;
+    first_in_rows(alloc, &SHOWN_FAULTS[5..], &rows)
+}
+
+/// Converts a document. The time of `Config::new` grows as the square of the number of tables; a document
+/// without faults has few.
 fn read_document(alloc: Global, document: &Document<'_>) -> Result<Config, ConfigFault>
     requires { IsDocument document.now }
     ensures fine { IfOk result (λ _. first_fault (data_of document.now) ≡ None) }
@@ -20,14 +64,18 @@ fn read_document(alloc: Global, document: &Document<'_>) -> Result<Config, Confi
     ensures fault { IfErr result (λ fault. fault ≢ ConfigFault.Memory →
         first_fault (data_of document.now) ≡ Some fault) }
 {
-    let Ok(found) = value_findings(alloc, document) else {
+    let Ok(first) = fault_of(alloc, document) else {
         return Err(ConfigFault::Memory);
     };
-    if let Some(fault) = first_among(found.as_slice(), &SHOWN_FAULTS[..5]) {
-        return Err(*fault);
+    if let Some(fault) = first {
+        return Err(fault);
     }
     match parts_of(alloc, document) {
-        Ok(parts) => Config::new(parts.end_system, parts.links, parts.ports),
+        Ok(parts) => match Config::new(parts.end_system, parts.links, parts.ports) {
+            Ok(config) => Ok(config),
+            // (a plan without faults is not refused, which is tested alone)
+            Err(_) => Err(ConfigFault::Memory),
+        },
         Err(_) => Err(ConfigFault::Memory),
     }
 }

@@ -1,124 +1,153 @@
-//! Links and ports from tables that may have faults.
-ghost use Rattle.std.specs.Prelude.{◌≡◌, map, IfOk};
+//! The values of links and ports that have no fault.
+ghost use Rattle.std.specs.Prelude.{◌≡◌, map, is_none, option_and_then, unwrap_or, IfOk};
 ghost use Rattle.toml.specs.View.{table_view};
-ghost use Rattle.afdx_config.specs.PlanOf.{link_of, port_of};
+ghost use Rattle.afdx_config.specs.Cells.{if_sound, sound_number, link_row, port_row, cells_of};
+ghost use Rattle.afdx_config.specs.Entries.{number_at};
+ghost use Rattle.afdx_config.specs.Seen.{cells_in};
+ghost use Rattle.afdx_config.specs.Tables.{field_fault};
+ghost use Rattle.afdx_config.specs.Views.{IsDocument, data_of, field_of};
 
-use crate::entries::{number_or_0, text, whole_number};
-use crate::values::{bag_of_ms, checksum_named, kind_named, networks_named, unicast_address};
-use afdx_plan::{Bag, Kind, Networks, UdpSum};
+use crate::document::Document;
+use crate::entries::{number_or_0, text};
+use crate::fields::field_fault;
+use crate::format::{
+    Content, Field, IDENTIFIER, LMAX, MESSAGE, PARTITION, Range, SUB_VL, SUB_VLS, UDP_PORT,
+};
+use crate::values::{kind_named, unicast_address};
+use afdx_plan::Kind;
 use std::alloc::{AllocError, Global};
-use std::marker::Model;
 use toml::Table;
 
-/// A link from its table. A value that is missing or of the wrong kind is 0 or the first variant.
-#[derive(Drop)]
+/// The values of a link that other tables depend on. A value with a fault is `None`.
+#[derive(Clone, Copy)]
 pub(crate) struct LinkRow {
-    pub id: u64,
-    pub bag: Bag,
-    pub lmax: u64,
-    pub sub_vls: u64,
-    pub capacity: u64,
-    pub networks: Networks,
+    pub id: Option<u64>,
+    pub lmax: Option<u64>,
+    pub sub_vls: Option<u64>,
 }
 
-impl Model for LinkRow {
-    ghost use Rattle.afdx_plan.specs.declared.link_plan.LinkPlan.{LinkPlan};
-
-    ghost Value = { LinkPlan };
-
-    ghost view = { λ r. record {
-      id = record { 0 = r.id };
-      bag = r.bag;
-      lmax = r.lmax;
-      sub_vls = r.sub_vls;
-      capacity = r.capacity;
-      networks = r.networks;
-    } };
-}
-
-/// A port from its table. A value that is missing or of the wrong kind is 0 or the first variant.
-#[derive(Drop)]
+/// The values of a port that depend on other tables. A value with a fault is `None`.
+#[derive(Clone, Copy)]
 pub(crate) struct PortRow {
-    pub id: u64,
-    pub vl: u64,
-    pub sub: u64,
-    pub partition: u64,
-    pub kind: Kind,
-    pub source: u64,
-    pub destination: u64,
-    pub max: u64,
-    pub unicast: Option<[u8; 4]>,
-    pub checksum: UdpSum,
+    pub id: Option<u64>,
+    pub vl: Option<u64>,
+    pub sub: Option<u64>,
+    pub partition: Option<u64>,
+    pub kind: Option<Kind>,
+    pub source: Option<u64>,
+    pub destination: Option<u64>,
+    pub max: Option<u64>,
+    pub unicast: Option<Option<[u8; 4]>>,
 }
 
-impl Model for PortRow {
-    ghost use Rattle.afdx_plan.specs.declared.port_plan.PortPlan.{PortPlan};
-
-    ghost Value = { PortPlan };
-
-    ghost view = { λ r. record {
-      id = record { 0 = r.id };
-      vl = record { 0 = r.vl };
-      sub = r.sub;
-      partition = r.partition;
-      kind = r.kind;
-      source = r.source;
-      destination = r.destination;
-      max = r.max;
-      unicast = r.unicast;
-      checksum = r.checksum;
-    } };
+/// The links and ports of a document, and whether the keys of their arrays have no fault.
+#[derive(Drop)]
+pub(crate) struct Rows {
+    pub links: Vec<LinkRow>,
+    pub ports: Vec<PortRow>,
+    pub has_links: bool,
+    pub has_ports: bool,
 }
 
-#[tactic(auto, unfolding(crate::specs::PlanOf::link_of))]
-fn link_row(table: &Table) -> LinkRow
-    ensures { result ≡ link_of (table_view table.now) }
+/// A key of a table has no fault.
+fn is_sound(table: &Table, field: &Field) -> bool
+    ensures { result ≡ is_none (field_fault (table_view table.now) (field_of field.now)) }
 {
-    let bag = whole_number(table, "bag_ms").and_then(bag_of_ms);
-    let networks = text(table, "networks").and_then(networks_named);
-    LinkRow {
-        id: number_or_0(table, "id"),
-        bag: bag.unwrap_or(Bag::Ms1),
-        lmax: number_or_0(table, "lmax"),
-        sub_vls: number_or_0(table, "sub_vls"),
-        capacity: number_or_0(table, "capacity"),
-        networks: networks.unwrap_or(Networks::Both),
+    field_fault(table, field).is_none()
+}
+
+/// The number under a key, if the key has no fault.
+fn sound_number(table: &Table, key: &'static str, range: Range) -> Option<u64>
+    ensures { result ≡ sound_number key.now range.0 range.1 (table_view table.now) }
+{
+    match field_fault(table, &Field(key, true, Content::Whole(range))) {
+        None => Some(number_or_0(table, key)),
+        Some(_) => None,
     }
 }
 
-#[tactic(auto, unfolding(crate::specs::PlanOf::port_of))]
-fn port_row(table: &Table) -> PortRow
-    ensures { result ≡ port_of (table_view table.now) }
+#[tactic(auto, unfolding(crate::specs::Cells::link_row))]
+fn link_row(table: &Table) -> LinkRow
+    ensures { result ≡ link_row (table_view table.now) }
 {
-    let kind = text(table, "kind").and_then(kind_named);
-    let unicast = text(table, "dest_ip").and_then(unicast_address);
-    let checksum = text(table, "checksum").and_then(checksum_named);
+    LinkRow {
+        id: sound_number(table, "id", IDENTIFIER),
+        lmax: sound_number(table, "lmax", LMAX),
+        sub_vls: sound_number(table, "sub_vls", SUB_VLS),
+    }
+}
+
+/// The kind of a port, if its key has no fault.
+#[tactic(auto, unfolding(crate::specs::Cells::port_row))]
+fn sound_kind(table: &Table) -> Option<Kind>
+    ensures { result ≡ (port_row (table_view table.now)).kind }
+{
+    match field_fault(table, &Field("kind", true, Content::PortKind)) {
+        None => {
+            let kind = text(table, "kind").and_then(kind_named);
+            Some(kind.unwrap_or(Kind::Sampling))
+        }
+        Some(_) => None,
+    }
+}
+
+/// The unicast address of a port, if its key has no fault.
+#[tactic(auto, unfolding(crate::specs::Cells::port_row))]
+fn sound_unicast(table: &Table) -> Option<Option<[u8; 4]>>
+    ensures { result ≡ (port_row (table_view table.now)).unicast }
+{
+    match field_fault(table, &Field("dest_ip", false, Content::Address)) {
+        None => Some(text(table, "dest_ip").and_then(unicast_address)),
+        Some(_) => None,
+    }
+}
+
+#[tactic(auto, unfolding(crate::specs::Cells::port_row))]
+fn port_row(table: &Table) -> PortRow
+    ensures { result ≡ port_row (table_view table.now) }
+{
     PortRow {
-        id: number_or_0(table, "id"),
-        vl: number_or_0(table, "vl"),
-        sub: number_or_0(table, "sub"),
-        partition: number_or_0(table, "partition"),
-        kind: kind.unwrap_or(Kind::Sampling),
-        source: number_or_0(table, "source"),
-        destination: number_or_0(table, "destination"),
-        max: number_or_0(table, "max"),
-        unicast,
-        checksum: checksum.unwrap_or(UdpSum::Omitted),
+        id: sound_number(table, "id", IDENTIFIER),
+        vl: sound_number(table, "vl", IDENTIFIER),
+        sub: sound_number(table, "sub", SUB_VL),
+        partition: sound_number(table, "partition", PARTITION),
+        kind: sound_kind(table),
+        source: sound_number(table, "source", UDP_PORT),
+        destination: sound_number(table, "destination", UDP_PORT),
+        max: sound_number(table, "max", MESSAGE),
+        unicast: sound_unicast(table),
     }
 }
 
 /// Converts tables to links.
-pub(crate) fn link_rows(alloc: Global, tables: &[&Table]) -> Result<Vec<LinkRow>, AllocError>
+fn link_rows(alloc: Global, tables: &[&Table]) -> Result<Vec<LinkRow>, AllocError>
     ensures { IfOk result (λ rows.
-        rows.items ≡ map (λ t. link_of (table_view t.now)) tables.now) }
+        rows.items ≡ map (λ t. link_row (table_view t.now)) tables.now) }
 {
     tables.iter().map(|table| link_row(table)).collect(alloc)
 }
 
 /// Converts tables to ports.
-pub(crate) fn port_rows(alloc: Global, tables: &[&Table]) -> Result<Vec<PortRow>, AllocError>
+fn port_rows(alloc: Global, tables: &[&Table]) -> Result<Vec<PortRow>, AllocError>
     ensures { IfOk result (λ rows.
-        rows.items ≡ map (λ t. port_of (table_view t.now)) tables.now) }
+        rows.items ≡ map (λ t. port_row (table_view t.now)) tables.now) }
 {
     tables.iter().map(|table| port_row(table)).collect(alloc)
+}
+
+/// Converts the tables of a document to links and ports.
+pub(crate) fn rows_of(alloc: Global, document: &Document<'_>) -> Result<Rows, AllocError>
+    requires { IsDocument document.now }
+    ensures { IfOk result (λ rows. cells_in rows ≡ cells_of (data_of document.now)) }
+{
+    let links = link_rows(alloc, document.links.as_slice())?;
+    let ports = port_rows(alloc, document.ports.as_slice())?;
+    let has_links = is_sound(document.top, &Field("vl", true, Content::Rows));
+    let has_ports = is_sound(document.top, &Field("port", true, Content::Rows));
+    Ok(Rows {
+        links,
+        ports,
+        has_links,
+        has_ports,
+    })
 }

@@ -58,7 +58,7 @@ fn add_table(found: &mut Found, place: Place, fields: &[Field], table: &Table) -
 fn add_rows(found: &mut Found, array: Place, fields: &[Field], tables: &[&Table]) -> Added
     ensures { OnOk result (Adds found.old found.new
         (each_row
-        (λ k t rest. table_findings (row_like array k) (map field_of fields.now) (table_view t.now))
+        (λ k t. table_findings (row_like array k) (map field_of fields.now) (table_view t.now))
         1 tables.now)) }
 {
     for (i, table) in tables.iter().enumerate() {

@@ -3,7 +3,7 @@ use Rattle.afdx_config.proofs.value_findings.add_rows.Given as goal
 
 abbrev pub invariant-loop-i : goal.invariant-loop-i
 invariant-loop-i l = map finding_of l.found.items
-    ++ each_row (λ k t rest. table_findings (row_like l.array k) (map field_of l.fields) (table_view t.now)) (l.i + 1)
+    ++ each_row (λ k t. table_findings (row_like l.array k) (map field_of l.fields) (table_view t.now)) (l.i + 1)
     (drop l.i l.tables)
     ≡ map finding_of l.initial.found.items
-    ++ each_row (λ k t rest. table_findings (row_like l.array k) (map field_of l.fields) (table_view t.now)) 1 l.tables
+    ++ each_row (λ k t. table_findings (row_like l.array k) (map field_of l.fields) (table_view t.now)) 1 l.tables

@@ -1,0 +1,147 @@
+-- Rows by their keys.
+use Rattle.afdx_config.proofs.Names.{◌≡◌, ℕ, ◌+◌, ◌-◌, ◌<◌, ◌≤◌, List, [], ◌∷◌, length, drop, get_or, cond, Bool, true, false, zero, suc, same_Some, Option, Some, None, refl, ap, sym, ◌∙◌, arith, drop_more, drop_all, map, map-map, nat_eq}
+use Rattle.afdx_config.proofs.Names.{position, position_from, position_from-zero, option_map_or, nat_cmp, nat_tests, Ordering, both, is_key, first_row, is_eq, bytes_eq, slice_cmp, is_eq-slice_cmp, find, find_at, position_or_len, cases_lt, ◌⊎◌, option_and_then, slice_get, Cells, PortRow, LinkRow, is_row_of, all_named, lacks_link, ◌&&◌, is_some, is_none, not, Bor, option_copied, inl, inr, lt-ltb, le-ltb, slice_get_past, IfSome, position-Some}
+use Rattle.afdx_config.proofs.SectionLemmas.{any_found}
+
+-- the first row from the one before i on
+pub first_from : {A : Type 0} (test : A → Bool) (rows : List A) (i : ℕ) (d x : A) → 0 < i → i ≤ length rows → get_or rows (i - 1) d ≡ x
+    → position_from test (i - 1) (drop (i - 1) rows) ≡ cond (test x) (Some (i - 1)) (position_from test i (drop i rows))
+first_from test rows i d x some within is =
+    let back : i - 1 + 1 ≡ i = omega arith in
+    let inside : i - 1 < length rows = omega arith in
+    let whole = drop_more rows (i - 1) d inside in
+    rw (whole, is, back) refl
+
+-- no row is left past the last one
+pub none_left : {A : Type 0} (test : A → Bool) (rows : List A) → position_from test (length rows) (drop (length rows) rows) ≡ None
+none_left test rows = rw (drop_all (length rows) rows (omega arith)) refl
+
+-- all rows were looked at
+pub all_left : {A : Type 0} (test : A → Bool) (rows : List A) (i : ℕ) (o : Option ℕ) → i ≤ 0 → o ≡ position_from test i (drop i rows)
+    → o ≡ position test rows
+all_left test rows i o at is = let zero : i ≡ 0 = omega arith in rw zero at is ∙ sym (position_from-zero test rows)
+
+-- equal tests find the same row
+from_same : {A : Type 0} (p q : A → Bool) (k : ℕ) (rows : List A) → ((x : A) → p x ≡ q x) → position_from p k rows ≡ position_from q k rows
+from_same p q k [] same = refl
+from_same p q k (x ∷ xs) same = rw (same x, from_same p q (k + 1) xs same) refl
+
+pub position_same : {A : Type 0} (p q : A → Bool) (rows : List A) → ((x : A) → p x ≡ q x) → position p rows ≡ position q rows
+position_same p q rows same = position_from-zero p rows ∙ from_same p q 0 rows same ∙ sym (position_from-zero q rows)
+
+from_map : {A B : Type 0} (p : B → Bool) (f : A → B) (k : ℕ) (rows : List A) → position_from p k (map f rows) ≡ position_from (λ x. p (f x)) k rows
+from_map p f k [] = refl
+from_map p f k (x ∷ xs) = rw (from_map p f (k + 1) xs) refl
+
+pub position_map : {A B : Type 0} (p : B → Bool) (f : A → B) (rows : List A) → position p (map f rows) ≡ position (λ x. p (f x)) rows
+position_map p f rows = position_from-zero p (map f rows) ∙ from_map p f 0 rows ∙ sym (position_from-zero (λ x. p (f x)) rows)
+
+from_none : {A : Type 0} (k : ℕ) (rows : List A) → position_from (λ x. false) k rows ≡ None
+from_none k [] = refl
+from_none k (x ∷ xs) = from_none (k + 1) xs
+
+pub position_none : {A : Type 0} (p : A → Bool) (rows : List A) → ((x : A) → p x ≡ false) → position p rows ≡ None
+position_none p rows fails = position_same p (λ x. false) rows fails ∙ position_from-zero (λ x. false) rows ∙ from_none 0 rows
+
+-- the first row that clashes is the first with the key
+pub row_is : {A K : Type 0} (cmp : K → K → Ordering) (key : A → Option K) (rows : List A) (test : A → Bool) (o : Option K)
+    → ((e : A) → test e ≡ option_map_or (λ k. is_key cmp k (key e)) o false) → first_row cmp (map key rows) o ≡ position test rows
+row_is cmp key rows test None same = sym (position_none test rows same)
+row_is cmp key rows test (Some k) same = position_map (is_key cmp k) key rows ∙ sym (position_same test (λ e. is_key cmp k (key e)) rows same)
+
+pub map_same : {A B : Type 0} (f g : A → B) (xs : List A) → ((x : A) → f x ≡ g x) → map f xs ≡ map g xs
+map_same f g [] same = refl
+map_same f g (x ∷ xs) same = rw (same x, map_same f g xs same) refl
+
+pub rows_keyed : {A K : Type 0} (cmp : K → K → Ordering) (key : A → Option K) (clash : A → A → Bool) (rows : List A)
+    → ((e r : A) → clash e r ≡ option_map_or (λ k. is_key cmp k (key e)) (key r) false)
+    → map (first_row cmp (map key rows)) (map key rows) ≡ map (λ r. position (λ e. clash e r) rows) rows
+rows_keyed cmp key clash rows same = map-map (first_row cmp (map key rows)) key rows
+    ∙ map_same (λ r. first_row cmp (map key rows) (key r)) (λ r. position (λ e. clash e r) rows) rows
+    (λ r. row_is cmp key rows (λ e. clash e r) (key r) (λ e. same e r))
+
+-- two numbers are the same exactly if the order says so
+pub tied : (a b : ℕ) → nat_eq a b ≡ is_eq (nat_cmp a b)
+tied a b = grind (arith, nat_tests)
+
+pub same_number : (a b : Option ℕ) → both nat_eq a b ≡ option_map_or (λ k. is_key nat_cmp k a) b false
+same_number None None = refl
+same_number None (Some b) = refl
+same_number (Some a) None = refl
+same_number (Some a) (Some b) = tied a b
+
+-- two unicast addresses are the same exactly if the order says so
+pub same_address : (a b : List ℕ) → bytes_eq a b ≡ is_eq (slice_cmp nat_cmp a b)
+same_address a b = sym (is_eq-slice_cmp a b)
+
+-- a stronger test finds no row where the weaker one finds none
+from_weaker : {A : Type 0} (p q : A → Bool) (k : ℕ) (rows : List A) → ((x : A) → p x ≡ false → q x ≡ false)
+    → position_from p k rows ≡ None → position_from q k rows ≡ None
+from_weaker p q k [] weaker is = refl
+from_weaker p q k (x ∷ xs) weaker is = here (p x) refl is (from_weaker p q (k + 1) xs weaker)
+  where
+    here : (b : Bool) → p x ≡ b → cond b (Some k) (position_from p (k + 1) xs) ≡ None
+        → (position_from p (k + 1) xs ≡ None → position_from q (k + 1) xs ≡ None)
+        → cond (q x) (Some k) (position_from q (k + 1) xs) ≡ None
+    here true at is more = cc
+    here false at is more = rw (weaker x at) (more is)
+
+pub position_weaker : {A : Type 0} (p q : A → Bool) (rows : List A) → ((x : A) → p x ≡ false → q x ≡ false) → position p rows ≡ None
+    → position q rows ≡ None
+position_weaker p q rows weaker is =
+    position_from-zero q rows ∙ from_weaker p q 0 rows weaker (sym (position_from-zero p rows) ∙ is)
+
+-- a stronger test finds the row that the weaker one finds, if that row passes it
+from_passed : {A : Type 0} (p q : A → Bool) (k i : ℕ) (d : A) (rows : List A) → ((x : A) → p x ≡ false → q x ≡ false)
+    → position_from p k rows ≡ Some (k + i) → q (get_or rows i d) ≡ true → position_from q k rows ≡ Some (k + i)
+from_passed p q k i d [] weaker is passed = cc
+from_passed p q k zero d (x ∷ xs) weaker is passed = rw passed (ap Some (omega arith))
+from_passed p q k (suc i) d (x ∷ xs) weaker is passed = here (p x) refl is (from_passed p q (k + 1) i d xs weaker)
+  where
+    next : k + 1 + i ≡ k + suc i
+    next = omega arith
+
+    here : (b : Bool) → p x ≡ b → cond b (Some k) (position_from p (k + 1) xs) ≡ Some (k + suc i)
+        → (position_from p (k + 1) xs ≡ Some (k + 1 + i) → q (get_or xs i d) ≡ true → position_from q (k + 1) xs ≡ Some (k + 1 + i))
+        → cond (q x) (Some k) (position_from q (k + 1) xs) ≡ Some (k + suc i)
+    here true at is more = let same : k ≡ k + suc i = same_Some k (k + suc i) is in absurd (omega arith)
+    here false at is more = rw (weaker x at) (more (is ∙ ap Some (sym next)) passed ∙ ap Some next)
+
+pub position_passed : {A : Type 0} (p q : A → Bool) (i : ℕ) (d : A) (rows : List A) → ((x : A) → p x ≡ false → q x ≡ false)
+    → position p rows ≡ Some i → q (get_or rows i d) ≡ true → position q rows ≡ Some i
+position_passed p q i d rows weaker is passed =
+    position_from-zero q rows ∙ from_passed p q 0 i d rows weaker (sym (position_from-zero p rows) ∙ is ∙ ap Some (omega arith)) passed
+    ∙ ap Some (omega arith)
+
+-- what a search finds is at the first index
+pub find_place : {A : Type 0} (p : A → Bool) (rows : List A) → find p rows ≡ option_and_then (slice_get rows) (position p rows)
+find_place p rows = find_at p rows ∙ here (cases_lt (position_or_len p rows) (length rows))
+  where
+    here : (position_or_len p rows < length rows) ⊎ (length rows ≤ position_or_len p rows)
+        → slice_get rows (position_or_len p rows) ≡ option_and_then (slice_get rows) (position p rows)
+    here (inl lt) = rw (lt-ltb (position_or_len p rows) (length rows) lt) refl
+    here (inr le) = rw (le-ltb (position_or_len p rows) (length rows) le, slice_get_past rows (position_or_len p rows) le) refl
+
+-- the link of a port, found by its identifier
+pub link_found : (links : List LinkRow) (by_id : ℕ → Option ℕ) (port : PortRow)
+    → ((q : ℕ) → by_id q ≡ position (is_key nat_cmp q) (map (λ (l : LinkRow). l.id) links))
+    → option_and_then by_id port.vl ≡ position (is_row_of port) links
+link_found links by_id port is = here port.vl ∙ row_is nat_cmp (λ (l : LinkRow). l.id) links (is_row_of port) port.vl (λ l. same_number l.id port.vl)
+  where
+    here : (o : Option ℕ) → option_and_then by_id o ≡ first_row nat_cmp (map (λ (l : LinkRow). l.id) links) o
+    here None = refl
+    here (Some q) = is q
+
+pub link_within : (links : List LinkRow) (port : PortRow) (o : Option ℕ) → o ≡ position (is_row_of port) links → IfSome o (λ l. l < length links)
+link_within links port None is = tt
+link_within links port (Some l) is = (position-Some (is_row_of port) links l (record { id = None; lmax = None; sub_vls = None }) (sym is)).0
+
+-- the test of a port without a link
+pub misfit_vl : (cells : Cells) (port : PortRow) (named : Bool) (link : Option (Bor LinkRow)) → named ≡ all_named cells
+    → option_copied link ≡ find (is_row_of port) cells.links → ((named && is_some port.vl) && is_none link) ≡ lacks_link cells port
+misfit_vl cells port named link at is = rw (at, any_found (is_row_of port) cells.links, ← is) (here link)
+  where
+    here : (o : Option (Bor LinkRow)) → ((all_named cells && is_some port.vl) && is_none o)
+        ≡ ((all_named cells && is_some port.vl) && not (is_some (option_copied o)))
+    here None = refl
+    here (Some l) = refl

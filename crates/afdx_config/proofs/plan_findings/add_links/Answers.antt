@@ -1,8 +1,0 @@
-use Rattle.afdx_config.proofs.Names.{length-drop, arith, take_all, ◌+◌, link_finding}
-use Rattle.afdx_config.proofs.AddLemmas.{row_more}
-use Rattle.afdx_config.proofs.plan_findings.add_links.Goals as goal
-
-pub loop-i-preserved : goal.loop-i-preserved
-loop-i-preserved c = row_more (link_finding c.args.fault) c.loop-i.i c.args.links.now _ _ _ _ _ _ c.loop-i-test.true
-    c.index-links-i.is (take_all _ _ (omega (arith, length-drop (c.loop-i.i + 1) c.args.links.now))) c.loop-i.invariant
-    c.in_ok-add_link.ensures
