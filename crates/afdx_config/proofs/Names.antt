@@ -47,7 +47,7 @@ pub use Rattle.afdx_plan.specs.declared.port_plan.PortPlan.{PortPlan}
 pub use Rattle.afdx_config.specs.Entries.{member_keys, number_at, tables_among}
 pub use Rattle.afdx_config.specs.Explained.{column_after}
 pub use Rattle.afdx_config.specs.Faults.{HasFault, IsLeastFault, IsPlanOf, Reads, shows, values_show}
-pub use Rattle.afdx_config.specs.FindingLaws.{FaultsAreFound, FirstIsAnswered, PlacesHaveFaults, count_has, crowd_has, has_place, key_has, links_clash, plan_has, ports_clash, row_has, rows_have, value_has}
+pub use Rattle.afdx_config.specs.FindingLaws.{FaultsAreFound, FirstIsAnswered, PlacesHaveFaults, RulesAgree, count_has, crowd_has, has_place, key_has, links_clash, plan_has, ports_clash, row_has, rows_have, value_has}
 pub use Rattle.afdx_config.specs.Cells.{Cells, cells_of, if_sound, sound_number}
 pub use Rattle.afdx_config.specs.CellFaults.{all_named, both, cells_show, is_long, is_packed, is_row_of, is_wrong_count, lacks_link, lacks_sub, on_sub_of}
 pub use Rattle.afdx_config.specs.CellFaults.{same_flow, same_link, same_port, share_unicast}

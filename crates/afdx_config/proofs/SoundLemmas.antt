@@ -1,7 +1,7 @@
 -- A document whose values have no fault has tables without faults.
 use Rattle.afdx_config.proofs.Names.{◌≡◌, ◌-◌, ◌+◌, codes, Bool, true, false, List, [], ◌∷◌, ◌++◌, map, length, Option}
 use Rattle.afdx_config.proofs.Names.{Some, None, ℕ, refl, ap, sym, ◌∙◌, same_Some, All-cons, All-nil, All-take}
-use Rattle.afdx_config.proofs.Names.{All-from_recursion, recursion_from_All, All, flat_map, option_map_or, ForSome}
+use Rattle.afdx_config.proofs.Names.{AllByRecursion, All-from_recursion, recursion_from_All, All, flat_map, option_map_or, ForSome}
 use Rattle.afdx_config.proofs.Names.{Members, table_view, ConfigFault, number_at, Field, end_fields, link_fields}
 use Rattle.afdx_config.proofs.Names.{port_fields, fields_in, link_of, port_of, plan_of, field_fault, is_version_2}
 use Rattle.afdx_config.proofs.Names.{IsDocument, AreSound, IsSoundTable, Document, data_of, map-map, LinkPlan, PortPlan}
@@ -10,7 +10,7 @@ use Rattle.afdx_config.specs.Findings.{table_findings, value_findings}
 use Rattle.afdx_config.proofs.SectionLemmas.{Found, option_maps}
 
 -- two lists are empty if their concatenation is
-none : {A : Type 0} (xs ys : List A) → xs ++ ys ≡ [] → (xs ≡ []) × (ys ≡ [])
+pub none : {A : Type 0} (xs ys : List A) → xs ++ ys ≡ [] → (xs ≡ []) × (ys ≡ [])
 none [] ys is = (refl, is)
 none (x ∷ xs) ys is = cc
 
@@ -27,7 +27,7 @@ fields_sound place (x ∷ xs) members is = let (one, rest) = none _ _ is in
     (no_fault place x.key (field_fault members x) one, fields_sound place xs members rest)
 
 -- a table without findings is sound
-table_sound : (place : Place) (fields : List Field) (members : Members) → table_findings place fields members ≡ [] → IsSoundTable fields members
+pub table_sound : (place : Place) (fields : List Field) (members : Members) → table_findings place fields members ≡ [] → IsSoundTable fields members
 unfolding table_findings
 table_sound place fields members is = fields_sound place fields members (none _ _ is).0
 
@@ -38,15 +38,18 @@ both_sound false fields members is = is
 both_sound true fields members is = recursion_from_All _ _ (All-take (λ field. field_fault members field ≡ None)
     (length fields - 1) fields (All-from_recursion (λ field. field_fault members field ≡ None) fields is))
 
--- the tables of a list are sound
-all_sound : (is_2 : Bool) (like : ℕ → Place) (fields : List Field) (k : ℕ) (tables : List Found)
-    → each_row (λ k m. table_findings (like k) (fields_in is_2 fields) m) k (map (λ t. table_view t.now) tables) ≡ []
-    → All (λ t. IsSoundTable (fields_in false fields) (table_view t.now)) tables
-all_sound is_2 like fields k [] is = All-nil (λ (t : Found). IsSoundTable (fields_in false fields) (table_view t.now))
-all_sound is_2 like fields k (x ∷ xs) is = let (one, rest) = none _ _ is in
-    All-cons (λ (t : Found). IsSoundTable (fields_in false fields) (table_view t.now)) x xs
-    (both_sound is_2 fields (table_view x.now) (table_sound (like k) (fields_in is_2 fields) (table_view x.now) one))
-    (all_sound is_2 like fields (k + 1) xs rest)
+-- the tables of an array are sound
+pub rows_sound : (is_2 : Bool) (like : ℕ → Place) (fields : List Field) (k : ℕ) (rows : List Members)
+    → each_row (λ k m. table_findings (like k) (fields_in is_2 fields) m) k rows ≡ [] → AllByRecursion (IsSoundTable (fields_in false fields)) rows
+rows_sound is_2 like fields k [] is = tt
+rows_sound is_2 like fields k (x ∷ xs) is = let (one, rest) = none _ _ is in
+    (both_sound is_2 fields x (table_sound (like k) (fields_in is_2 fields) x one), rows_sound is_2 like fields (k + 1) xs rest)
+
+-- what holds of the data of tables holds of the tables
+of_tables : (P : Members → Type 0) (tables : List Found) → AllByRecursion P (map (λ t. table_view t.now) tables)
+    → All (λ t. P (table_view t.now)) tables
+of_tables P [] all = All-nil (λ (t : Found). P (table_view t.now))
+of_tables P (x ∷ xs) all = All-cons (λ (t : Found). P (table_view t.now)) x xs all.0 (of_tables P xs all.1)
 
 -- the table of the end system is sound
 end_sound : (o : Option Found) → option_map_or (λ t. table_findings EndSystem end_fields (table_view t.now)) o [] ≡ []
@@ -65,8 +68,10 @@ sound s are is =
     record {
       end_sound = end_sound s.end (sym (option_maps (table_findings EndSystem end_fields) (λ (t : Found). table_view t.now) s.end [])
           ∙ rw (← are.end_is) at end);
-      links_sound = all_sound (is_version_2 (data_of s)) Link link_fields 1 s.links.items (rw are.links_are links);
-      ports_sound = all_sound (is_version_2 (data_of s)) Port port_fields 1 s.ports.items (rw are.ports_are ports);
+      links_sound = of_tables (IsSoundTable (fields_in false link_fields)) s.links.items
+          (rw are.links_are (rows_sound (is_version_2 (data_of s)) Link link_fields 1 _ links));
+      ports_sound = of_tables (IsSoundTable (fields_in false port_fields)) s.ports.items
+          (rw are.ports_are (rows_sound (is_version_2 (data_of s)) Port port_fields 1 _ ports));
     }
 
 -- the plan of the parts is that of the document

@@ -3,6 +3,7 @@ use Rattle.std.specs.Prelude.{◌≡◌, ◌∷◌, [], ◌-◌, ℕ, List, leng
 use Rattle.std.specs.List.{list_any}
 use Rattle.std.specs.Option.{option_map_or}
 use Rattle.toml.specs.Data.{Members}
+use Rattle.afdx_plan.specs.PlanFaults.{plan_shows}
 use Rattle.afdx_plan.specs.declared.fault.ConfigFault.{ConfigFault}
 use Rattle.afdx_plan.specs.declared.fault.ConfigFault.TheVariants.{UnknownKey, DuplicateVl, DuplicatePort, SameFlow, SharedUnicast, Limit}
 use Rattle.afdx_config.specs.declared.rows.LinkRow.{LinkRow}
@@ -11,7 +12,7 @@ use Rattle.afdx_config.specs.Cells.{Cells, cells_of}
 use Rattle.afdx_config.specs.CellFaults.{same_link, same_port, same_flow, share_unicast, is_wrong_count}
 use Rattle.afdx_config.specs.declared.findings.Place.{Place}
 use Rattle.afdx_config.specs.declared.findings.Place.TheVariants.{Top, Link, Port}
-use Rattle.afdx_config.specs.Faults.{shows, Reads, IsLeastFault, IsPlanOf}
+use Rattle.afdx_config.specs.Faults.{shows, values_show, Reads, IsLeastFault, IsPlanOf}
 use Rattle.afdx_config.specs.Findings.{Finding, findings, has, is_misfit, is_past_limit}
 use Rattle.afdx_config.specs.Entries.{member_keys}
 use Rattle.afdx_config.specs.PlanOf.{plan_of}
@@ -29,6 +30,11 @@ abbrev pub FirstIsAnswered : Type 0
 FirstIsAnswered = (text : List ℕ) (document : Members) → Reads text document
     → (findings document ≡ [] → IsPlanOf text (plan_of document))
     × ((first : Finding) (rest : List Finding) → findings document ≡ first ∷ rest → IsLeastFault text first.fault)
+
+-- if a document has no fault of 2 to 6, its faults are those of its plan
+abbrev pub RulesAgree : Type 0
+RulesAgree = (document : Members) → ((value : ConfigFault) → values_show value document ≡ false)
+    → (fault : ConfigFault) → shows fault document ≡ plan_shows fault (plan_of document)
 
 -- the table at a place exists and passes a test
 abbrev pub table_has : (Members → Bool) → Members → Place → Bool

@@ -1,5 +1,5 @@
 //! Laws of plans and their texts. Each function is empty; its contract is the law.
-ghost use Rattle.afdx_config.specs.FindingLaws.{FaultsAreFound, FirstIsAnswered, PlacesHaveFaults};
+ghost use Rattle.afdx_config.specs.FindingLaws.{FaultsAreFound, FirstIsAnswered, PlacesHaveFaults, RulesAgree};
 ghost use Rattle.afdx_config.specs.Values.{AddressesAreDotted};
 
 pub use afdx_plan::laws::{flows_apart, valid_plans_show_no_fault};
@@ -26,4 +26,10 @@ pub fn first_is_answered()
 #[tactic(auto, using(crate::proofs::PlaceLemmas::places_have_faults))]
 pub fn places_have_faults()
     ensures { PlacesHaveFaults }
+{}
+
+/// If no value of a document has a fault, the document has exactly the faults of its plan.
+#[tactic(auto, using(crate::proofs::RuleLemmas::rules_agree))]
+pub fn rules_agree()
+    ensures { RulesAgree }
 {}

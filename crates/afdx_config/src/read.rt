@@ -1,11 +1,12 @@
 //! Reading a configuration.
-ghost use Rattle.std.specs.Prelude.{◌≡◌, ◌≢◌, Some, None, find, IfOk, IfErr};
+ghost use Rattle.std.specs.Prelude.{◌≡◌, ◌≢◌, Some, None, [], find, IfOk, IfErr};
 ghost use Rattle.afdx_plan.specs.declared.fault.ConfigFault.{ConfigFault};
 ghost use Rattle.afdx_config.specs.PlanOf.{plan_of};
 ghost use Rattle.afdx_config.specs.Faults.{IsPlanOf, IsLeastFault};
 ghost use Rattle.afdx_config.specs.CellFaults.{cells_show};
+ghost use Rattle.afdx_config.specs.Findings.{value_findings};
 ghost use Rattle.afdx_config.specs.Seen.{cells_in};
-ghost use Rattle.afdx_config.specs.Views.{AreSound, IsDocument, data_of, first_fault};
+ghost use Rattle.afdx_config.specs.Views.{IsDocument, data_of, first_fault};
 
 use crate::document::Document;
 use crate::findings::SHOWN_FAULTS;
@@ -45,7 +46,7 @@ fn first_in_rows(
 fn fault_of(alloc: Global, document: &Document<'_>) -> Result<Option<ConfigFault>, AllocError>
     requires { IsDocument document.now }
     ensures first { IfOk result (λ first. first ≡ first_fault (data_of document.now)) }
-    ensures sound { IfOk result (λ first. first ≡ None → AreSound document.now) }
+    ensures values { IfOk result (λ first. first ≡ None → value_findings (data_of document.now) ≡ []) }
 {
     let found = value_findings(alloc, document)?;
     if let Some(fault) = first_among(found.as_slice(), &SHOWN_FAULTS[..5]) {
@@ -73,8 +74,7 @@ fn read_document(alloc: Global, document: &Document<'_>) -> Result<Config, Confi
     match parts_of(alloc, document) {
         Ok(parts) => match Config::new(parts.end_system, parts.links, parts.ports) {
             Ok(config) => Ok(config),
-            // (a plan without faults is not refused, which is tested alone)
-            Err(_) => Err(ConfigFault::Memory),
+            Err(_) => unreachable!(),
         },
         Err(_) => Err(ConfigFault::Memory),
     }

@@ -1,0 +1,124 @@
+-- A document whose values have no fault has the faults of its plan.
+use Rattle.std.proofs.Math.Path.{fun_ext}
+use Rattle.afdx_config.proofs.Names.{◌≡◌, List, [], ◌∷◌, ◌||◌, Bool, true, false, map, length, length-map, find, Some, None, refl, ap, sym, ◌∙◌}
+use Rattle.afdx_config.proofs.Names.{AllByRecursion, list_any, has_pair, Members, ConfigFault, LinkPlan, PortPlan, LinkRow, PortRow, Plan, Cells}
+use Rattle.afdx_config.proofs.Names.{cells_of, cells_show, plan_of, DuplicateVl, DuplicatePort, NoSuchVl, NoSuchSub, SamplingTooLong, SameFlow}
+use Rattle.afdx_config.proofs.Names.{SharedUnicast, Limit, same_link, same_port, same_flow, share_unicast, lacks_link, lacks_sub, is_long, is_packed}
+use Rattle.afdx_config.proofs.Names.{is_row_of, on_sub_of, Top, Link, Port, document_fields, link_fields, port_fields, fields_in, is_version_2}
+use Rattle.afdx_config.proofs.Names.{IsSoundTable, plan_shows, is_sampling, nat_lt, nat_le, option_map_or, ◌&&◌, is_none, has, Finding, eq-eqb}
+use Rattle.afdx_config.proofs.Names.{fault_number, plan_faults, first_fault, cond, ◌+◌, both, ◌-◌, RulesAgree, is_no_count}
+use Rattle.afdx_config.specs.Cells.{link_row, port_row}
+use Rattle.afdx_config.specs.PlanOf.{link_of, port_of}
+use Rattle.afdx_config.specs.Findings.{value_findings}
+use Rattle.afdx_config.proofs.SectionLemmas.{list_any_map, find_map, option_maps}
+use Rattle.std.proofs.lemmas.List.Folds.{fold-map}
+use Rattle.afdx_plan.specs.PlanFaults.{is_link_of, least_plan_fault}
+use Rattle.afdx_config.proofs.FirstLemmas.{rows_first}
+use Rattle.afdx_config.proofs.ShownLemmas.{values_shown}
+use Rattle.afdx_config.proofs.SoundLemmas.{none, table_sound, rows_sound}
+
+-- the values of a link and of a port that have no fault
+abbrev link_whole : LinkPlan → LinkRow
+link_whole link = record { id = Some link.id.0; lmax = Some link.lmax; sub_vls = Some link.sub_vls }
+
+abbrev port_whole : PortPlan → PortRow
+port_whole port = record {
+  id = Some port.id.0;
+  vl = Some port.vl.0;
+  sub = Some port.sub;
+  partition = Some port.partition;
+  kind = Some port.kind;
+  source = Some port.source;
+  destination = Some port.destination;
+  max = Some port.max;
+  unicast = Some port.unicast;
+}
+
+abbrev whole : Plan → Cells
+whole plan = record { links = map link_whole plan.links; ports = map port_whole plan.ports; has_links = true; has_ports = true }
+
+-- a table without faults has its values
+link_is : (m : Members) → IsSoundTable (fields_in false link_fields) m → link_row m ≡ link_whole (link_of m)
+unfolding link_row link_of
+link_is m (id, (_, (lmax, (subs, _)))) = rw (id, lmax, subs) refl
+
+port_is : (m : Members) → IsSoundTable (fields_in false port_fields) m → port_row m ≡ port_whole (port_of m)
+unfolding port_row port_of
+port_is m (id, (vl, (sub, (part, (kind, (source, (dest, (max, (ip, _))))))))) = rw (id, vl, sub, part, kind, source, dest, max, ip) refl
+
+rows_are : {R P : Type 0} (f : Members → R) (g : Members → P) (w : P → R) (Is : Members → Type 0) (rows : List Members)
+    → ((m : Members) → Is m → f m ≡ w (g m)) → AllByRecursion Is rows → map f rows ≡ map w (map g rows)
+rows_are f g w Is [] each all = refl
+rows_are f g w Is (x ∷ xs) each all = rw (each x all.0, rows_are f g w Is xs each all.1) refl
+
+cells_are : (doc : Members) → value_findings doc ≡ [] → cells_of doc ≡ whole (plan_of doc)
+unfolding value_findings
+cells_are doc is =
+    let (before_ports, ports) = none _ _ is in
+    let (before_links, links) = none _ _ before_ports in
+    let (_, (_, (has_links, (has_ports, _)))) = table_sound Top document_fields doc (none _ _ before_links).0 in
+    rw (
+      rows_are link_row link_of link_whole (IsSoundTable (fields_in false link_fields)) _ link_is
+          (rows_sound (is_version_2 doc) Link link_fields 1 _ links),
+      rows_are port_row port_of port_whole (IsSoundTable (fields_in false port_fields)) _ port_is
+          (rows_sound (is_version_2 doc) Port port_fields 1 _ ports),
+      has_links,
+      has_ports,
+    ) refl
+
+-- `has_pair` after `map`
+pair_map : {A B : Type 0} (r : B → B → Bool) (f : A → B) (xs : List A) → has_pair r (map f xs) ≡ has_pair (λ a b. r (f a) (f b)) xs
+pair_map r f [] = refl
+pair_map r f (x ∷ xs) = rw (list_any_map (r (f x)) f xs, pair_map r f xs) refl
+
+-- the search for a port's link
+at_link : (g : LinkRow → Bool) (p : PortPlan) (links : List LinkPlan)
+    → option_map_or g (find (is_row_of (port_whole p)) (map link_whole links)) false
+    ≡ option_map_or (λ l. g (link_whole l)) (find (is_link_of p) links) false
+at_link g p links = ap (λ o. option_map_or g o false) (find_map (is_row_of (port_whole p)) link_whole links)
+    ∙ option_maps g link_whole (find (is_link_of p) links) false
+
+named : (links : List LinkPlan) → list_any (λ (link : LinkRow). is_none link.id) (map link_whole links) ≡ false
+named [] = refl
+named (x ∷ xs) = named xs
+
+any_whole : (test : PortRow → Bool) (of_plan : PortPlan → Bool) (ports : List PortPlan) → ((p : PortPlan) → test (port_whole p) ≡ of_plan p)
+    → list_any test (map port_whole ports) ≡ list_any of_plan ports
+any_whole test of_plan ports same = list_any_map test port_whole ports ∙ ap (λ t. list_any t ports) (fun_ext same)
+
+-- values without faults have the faults of their plan
+whole_shows : (plan : Plan) (fault : ConfigFault) → cells_show fault (whole plan) ≡ plan_shows fault plan
+whole_shows plan DuplicateVl = pair_map same_link link_whole plan.links
+whole_shows plan DuplicatePort = pair_map same_port port_whole plan.ports
+whole_shows plan NoSuchVl = any_whole (lacks_link (whole plan)) _ plan.ports
+    (λ p. rw (named plan.links, list_any_map (is_row_of (port_whole p)) link_whole plan.links) refl)
+whole_shows plan NoSuchSub = any_whole (lacks_sub (whole plan)) _ plan.ports
+    (λ p. at_link (λ link. both nat_le link.sub_vls (Some p.sub)) p plan.links)
+whole_shows plan SamplingTooLong = any_whole (is_long (whole plan)) _ plan.ports
+    (λ p. ap (λ b. is_sampling p.kind && b)
+    (at_link (λ link. both (λ lmax most. nat_lt (lmax - 47) most) link.lmax (Some p.max)) p plan.links))
+whole_shows plan SameFlow = pair_map same_flow port_whole plan.ports
+whole_shows plan SharedUnicast = pair_map share_unicast port_whole plan.ports
+whole_shows plan Limit = rw (length-map plan.links link_whole, length-map plan.ports port_whole) (ap
+    (λ b. is_no_count 64 (length plan.links) || is_no_count 256 (length plan.ports) || b)
+    (any_whole (is_packed (map port_whole plan.ports)) _ plan.ports
+    (λ p. ap (nat_lt 64) (fold-map (λ n q. n + cond (on_sub_of (port_whole p) q) 1 0) port_whole 0 plan.ports))))
+whole_shows plan _ = refl
+
+-- a list in which no fault is found is empty
+empty : (xs : List Finding) → ((fault : ConfigFault) → list_any (has fault) xs ≡ false) → xs ≡ []
+empty [] lacks = refl
+empty (x ∷ xs) lacks = let none = lacks x.fault in let number = eq-eqb (fault_number x.fault) (fault_number x.fault) refl in cc
+
+pub rules_agree : RulesAgree
+rules_agree doc free fault =
+    ap (λ b. b || cells_show fault (cells_of doc)) (free fault)
+    ∙ ap (cells_show fault) (cells_are doc (empty (value_findings doc) (λ f. values_shown f doc ∙ free f)))
+    ∙ whole_shows (plan_of doc) fault
+
+-- the plan of a document without faults is not refused
+pub fine : (doc : Members) (plan : Plan) → value_findings doc ≡ [] → first_fault doc ≡ None → plan ≡ plan_of doc
+    → least_plan_fault plan.links plan.ports ≡ None
+fine doc plan free lacks is = rw is (ap (λ t. find t plan_faults)
+    (fun_ext (λ f. sym (ap (cells_show f) (cells_are doc free) ∙ whole_shows (plan_of doc) f)))
+    ∙ rows_first doc (cells_of doc) _ refl free refl ∙ lacks)
