@@ -5,7 +5,12 @@ use Rattle.afdx_plan.proofs.DemoPlan.{demo_valid}
 use Rattle.afdx_frame.specs.Checksum.{checksum}
 use Rattle.afdx_frame.specs.Cutting.{cutting}
 use Rattle.afdx_frame.specs.Frame.{addresses, header_front, internet_header, link_header, udp_header, datagram, unnumbered}
-use Rattle.afdx_tx.specs.DrainEnds.{one_line_at, two_accepted, StartsAfter, AreEnough, LeavesOne, NeedsItsPolls}
+use Rattle.std.specs.Prelude.{Bool, false}
+use Rattle.std.proofs.lemmas.Bool.{false≢true}
+use Rattle.redundant_mux.specs.Lines.{Lines}
+use Rattle.vl_link.specs.Turn.{may_release}
+use Rattle.afdx_tx.specs.Drain.{pace_in}
+use Rattle.afdx_tx.specs.DrainEnds.{line_of, failed_line, two_moments, one_line_at, two_accepted, StartsAfter, AreEnough, LeavesOne, NeedsItsPolls}
 use Rattle.afdx_legal.specs.WorkedMessage.{one_byte_accepted, one_frame}
 
 -- There is one link, and one sub-VL.
@@ -84,75 +89,88 @@ drains_one = record {
 }
 
 -- a message is left
-one_left : (at : ℕ) → IsAllDone demo_plan two_accepted (log (one_line_at at)) → ⊥
+one_left : (at failures : ℕ) (up : Bool) → IsAllDone demo_plan two_accepted (log (line_of at failures up)) → ⊥
 unfolding log checksum addresses header_front internet_header link_header udp_header datagram unnumbered cutting fragments_at
-one_left at done = let few : ◌≡◌ {A = ℕ} 2 1 = ap length (done 0 (omega arith) 0 (omega arith)) in absurd (omega arith)
+one_left at failures up done = let few : ◌≡◌ {A = ℕ} 2 1 = ap length (done 0 (omega arith) 0 (omega arith)) in absurd (omega arith)
 
 -- and its frame is owed
-still_owed : (at : ℕ) → owed_at demo_plan two_accepted 0 (one_line_at at) ≡ 1
+still_owed : (at failures : ℕ) (up : Bool) → owed_at demo_plan two_accepted 0 (line_of at failures up) ≡ 1
 unfolding log checksum addresses header_front internet_header link_header udp_header datagram unnumbered cutting fragments_at
-still_owed at = refl
+still_owed at failures up = refl
 
-leaves : (at : ℕ) (moments : List ℕ) → AreDrained demo_plan two_accepted moments (one_line_at at) (one_line_at at)
-    → LeavesOne at moments
-leaves at moments drained = record { drained = drained; stand = only_one _ refl; left = one_left at }
+enough : (at failures : ℕ) (up : Bool) (moments : List ℕ) → 1 < length moments → AreEnough (line_of at failures up) moments
+enough at failures up moments more = only_one _ (omega (arith, still_owed at failures up))
 
-enough : (at : ℕ) (moments : List ℕ) → 1 < length moments → AreEnough at moments
-enough at moments more = only_one _ (omega (arith, still_owed at))
-
-starts : (at start : ℕ) → at ≤ start → StartsAfter at start
+starts : (failures : ℕ) (up : Bool) → StartsAfter (line_of 1000 failures up) 1000
 unfolding log checksum addresses header_front internet_header link_header udp_header datagram unnumbered
-starts at start le = only_one _ le
+starts failures up = only_one _ (omega arith)
 
--- polls at times at which the link isn't due
-idle : AreDrained demo_plan two_accepted (1500 ∷ 1600 ∷ []) one_line one_line
-unfolding log checksum addresses header_front internet_header link_header udp_header datagram unnumbered
-idle = (
-  one_line,
-  (one_line, Nothing, (inl (refl, λ s. tt), refl), refl),
-  (one_line, (one_line, Nothing, (inl (refl, λ s. tt), refl), refl), refl),
+-- two polls at which the link may not release a frame
+idle : (first second : ℕ) (lines : Lines) → may_release first demo_link (pace_in demo_link (log lines)) lines ≡ false
+    → may_release second demo_link (pace_in demo_link (log lines)) lines ≡ false
+    → AreDrained demo_plan two_accepted (first ∷ second ∷ []) lines lines
+idle first second lines early still = (
+  lines,
+  (lines, Nothing, (inl (early, λ s. tt), refl), refl),
+  (lines, (lines, Nothing, (inl (still, λ s. tt), refl), refl), refl),
 )
 
-too_early : AreDrained demo_plan two_accepted (1000 ∷ 2000 ∷ []) (one_line_at 5000) (one_line_at 5000)
+too_soon : LeavesOne one_line (1500 ∷ 1600 ∷ [])
 unfolding log checksum addresses header_front internet_header link_header udp_header datagram unnumbered
-too_early = (
-  one_line_at 5000,
-  (one_line_at 5000, Nothing, (inl (refl, λ s. tt), refl), refl),
-  (one_line_at 5000, (one_line_at 5000, Nothing, (inl (refl, λ s. tt), refl), refl), refl),
-)
+too_soon = record { drained = idle 1500 1600 one_line refl refl; left = one_left 1000 0 true }
 
-not_before : StartsAfter 5000 0 → ⊥
+too_early : LeavesOne (one_line_at 5000) two_moments
+unfolding log checksum addresses header_front internet_header link_header udp_header datagram unnumbered
+too_early = record { drained = idle 1000 2000 (one_line_at 5000) refl refl; left = one_left 5000 0 true }
+
+failed : LeavesOne failed_line (2000 ∷ 3000 ∷ [])
+unfolding log checksum addresses header_front internet_header link_header udp_header datagram unnumbered
+failed = record { drained = idle 2000 3000 failed_line refl refl; left = one_left 1000 1 false }
+
+not_before : StartsAfter (one_line_at 5000) 0 → ⊥
 unfolding log checksum addresses header_front internet_header link_header udp_header datagram unnumbered
 not_before starts_after = let late : 5000 ≤ 0 = starts_after 0 (omega arith) in absurd (omega arith)
 
 pub needs_its_polls : NeedsItsPolls
 needs_its_polls = record {
   none = (
-    leaves 1000 [] refl,
-    starts 1000 1000 (omega arith),
+    record { drained = refl; left = one_left 1000 0 true },
+    starts 0 true,
     only_one _ (omega arith),
     tt,
+    only_one _ refl,
     λ few. let no = few 0 (omega arith) in absurd (omega arith),
   );
   close = (
-    leaves 1000 _ idle,
-    starts 1000 1000 (omega arith),
+    too_soon,
+    starts 0 true,
     only_one _ (omega arith),
     λ apart. let no = apart.0 in absurd (omega arith),
-    enough 1000 (1500 ∷ 1600 ∷ []) (omega arith),
+    only_one _ refl,
+    enough 1000 0 true (1500 ∷ 1600 ∷ []) (omega arith),
   );
   short = (
-    leaves 1000 _ idle,
-    starts 1000 1000 (omega arith),
+    too_soon,
+    starts 0 true,
     λ gap. let no = gap 0 (omega arith) in absurd (omega arith),
     (omega arith, (omega arith, tt)),
-    enough 1000 (1500 ∷ 1600 ∷ []) (omega arith),
+    only_one _ refl,
+    enough 1000 0 true (1500 ∷ 1600 ∷ []) (omega arith),
   );
   early = (
-    leaves 5000 _ too_early,
+    too_early,
     not_before,
     only_one _ (omega arith),
     (omega arith, (omega arith, tt)),
-    enough 5000 (1000 ∷ 2000 ∷ []) (omega arith),
+    only_one _ refl,
+    enough 5000 0 true two_moments (omega arith),
+  );
+  down = (
+    failed,
+    starts 1 false,
+    only_one _ (omega arith),
+    (omega arith, (omega arith, tt)),
+    λ up. false≢true (up 0 (omega arith)),
+    enough 1000 1 false (2000 ∷ 3000 ∷ []) (omega arith),
   );
 }

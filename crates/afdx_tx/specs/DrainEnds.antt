@@ -1,5 +1,5 @@
 -- The number of polls after which a drain ends, if a network that carries each link is up.
-use Rattle.std.specs.Prelude.{ℕ, zero, suc, ◌≡◌, ◌+◌, ◌-◌, ◌<◌, ◌≤◌, List, [], ◌∷◌, length, true, None}
+use Rattle.std.specs.Prelude.{Bool, false, ℕ, zero, suc, ◌≡◌, ◌+◌, ◌-◌, ◌<◌, ◌≤◌, List, [], ◌∷◌, length, true, None}
 use Rattle.afdx_plan.specs.Config.{Plan, IsPlan, link_plan_at}
 use Rattle.afdx_plan.specs.Demo.{demo_plan}
 use Rattle.afdx_plan.specs.Plan.{bag_micros}
@@ -62,10 +62,13 @@ DrainEnds = (plan : Plan) (accepted : Accepted) (moments : List ℕ) (lines afte
 abbrev pub no_lines : Lines
 no_lines = lines_of [] [] 0 0 true true []
 
--- both networks accepted the frame, at `now`
-abbrev pub one_line_at : ℕ → Lines
-one_line_at now = lines_of (one_entry_at now A) (one_entry_at now B) 0 0 true true
+-- both networks accepted the frame, at `now`; then each failed this often, and is up or not
+abbrev pub line_of : (now failures : ℕ) → Bool → Lines
+line_of now failures up = lines_of (one_entry_at now A) (one_entry_at now B) failures failures up up
     (logged_for Both (entry now (one_frame A)) ∷ [])
+
+abbrev pub one_line_at : ℕ → Lines
+one_line_at now = line_of now 0 true
 
 abbrev pub one_line : Lines
 one_line = one_line_at 1000
@@ -90,33 +93,42 @@ pub record DrainsOne : Type 0 where
 abbrev pub two_accepted : Accepted
 two_accepted k sub = one_byte ∷ one_byte ∷ []
 
--- The start isn't before the release, the greatest gap is at most `gap`, and the polls are more than the frames owed.
-abbrev pub StartsAfter : ℕ → ℕ → Type 0
-StartsAfter at start = (k : ℕ) → k < length demo_plan.links → IsLater (latest None (stream_at demo_plan k (one_line_at at))) start
+abbrev pub failed_line : Lines
+failed_line = line_of 1000 1 false
+
+-- The start isn't before the release, the greatest gap is at most `gap`, the networks are up, and the polls are more
+-- than the frames owed.
+abbrev pub StartsAfter : Lines → ℕ → Type 0
+StartsAfter lines start = (k : ℕ) → k < length demo_plan.links → IsLater (latest None (stream_at demo_plan k lines)) start
 
 abbrev pub IsGap : ℕ → Type 0
 IsGap gap = (k : ℕ) → k < length demo_plan.links → bag_micros (link_plan_at demo_plan.links k).bag ≤ gap
 
-abbrev pub AreEnough : ℕ → List ℕ → Type 0
-AreEnough at moments = (k : ℕ) → k < length demo_plan.links
-    → owed_at demo_plan two_accepted k (one_line_at at) < length moments
+abbrev pub AreUp : Lines → Type 0
+AreUp lines = (k : ℕ) → k < length demo_plan.links → stands_for (link_plan_at demo_plan.links k).networks lines ≡ true
+
+abbrev pub AreEnough : Lines → List ℕ → Type 0
+AreEnough lines moments = (k : ℕ) → k < length demo_plan.links → owed_at demo_plan two_accepted k lines < length moments
 
 -- These polls transmit nothing more, and leave a message.
-pub record LeavesOne (at : ℕ) (moments : List ℕ) : Type 0 where
-  pub drained : AreDrained demo_plan two_accepted moments (one_line_at at) (one_line_at at)
-  pub stand : (k : ℕ) → k < length demo_plan.links → stands_for (link_plan_at demo_plan.links k).networks (one_line_at at) ≡ true
-  pub left : IsAllDone demo_plan two_accepted (log (one_line_at at)) → ⊥
+pub record LeavesOne (lines : Lines) (moments : List ℕ) : Type 0 where
+  pub drained : AreDrained demo_plan two_accepted moments lines lines
+  pub left : IsAllDone demo_plan two_accepted (log lines) → ⊥
 
 -- Each of these premises is needed: one of them fails alone, and the message is left.
 pub record NeedsItsPolls : Type 0 where
   -- no poll, where a frame is owed
-  pub none : LeavesOne 1000 [] × StartsAfter 1000 1000 × IsGap 1000 × AreApartBy 1000 1000 [] × (AreEnough 1000 [] → ⊥)
+  pub none : LeavesOne one_line [] × StartsAfter one_line 1000 × IsGap 1000 × AreApartBy 1000 1000 [] × AreUp one_line
+      × (AreEnough one_line [] → ⊥)
   -- polls that follow too soon
-  pub close : LeavesOne 1000 (1500 ∷ 1600 ∷ []) × StartsAfter 1000 1000 × IsGap 1000
-      × (AreApartBy 1000 1000 (1500 ∷ 1600 ∷ []) → ⊥) × AreEnough 1000 (1500 ∷ 1600 ∷ [])
+  pub close : LeavesOne one_line (1500 ∷ 1600 ∷ []) × StartsAfter one_line 1000 × IsGap 1000
+      × (AreApartBy 1000 1000 (1500 ∷ 1600 ∷ []) → ⊥) × AreUp one_line × AreEnough one_line (1500 ∷ 1600 ∷ [])
   -- a gap that is less than that of the link
-  pub short : LeavesOne 1000 (1500 ∷ 1600 ∷ []) × StartsAfter 1000 1000 × (IsGap 100 → ⊥)
-      × AreApartBy 100 1000 (1500 ∷ 1600 ∷ []) × AreEnough 1000 (1500 ∷ 1600 ∷ [])
+  pub short : LeavesOne one_line (1500 ∷ 1600 ∷ []) × StartsAfter one_line 1000 × (IsGap 100 → ⊥)
+      × AreApartBy 100 1000 (1500 ∷ 1600 ∷ []) × AreUp one_line × AreEnough one_line (1500 ∷ 1600 ∷ [])
   -- a release after the polls
-  pub early : LeavesOne 5000 (1000 ∷ 2000 ∷ []) × (StartsAfter 5000 0 → ⊥) × IsGap 1000
-      × AreApartBy 1000 0 (1000 ∷ 2000 ∷ []) × AreEnough 5000 (1000 ∷ 2000 ∷ [])
+  pub early : LeavesOne (one_line_at 5000) two_moments × (StartsAfter (one_line_at 5000) 0 → ⊥) × IsGap 1000
+      × AreApartBy 1000 0 two_moments × AreUp (one_line_at 5000) × AreEnough (one_line_at 5000) two_moments
+  -- networks that failed
+  pub down : LeavesOne failed_line (2000 ∷ 3000 ∷ []) × StartsAfter failed_line 1000 × IsGap 1000
+      × AreApartBy 1000 1000 (2000 ∷ 3000 ∷ []) × (AreUp failed_line → ⊥) × AreEnough failed_line (2000 ∷ 3000 ∷ [])
