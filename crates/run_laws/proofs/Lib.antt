@@ -7,3 +7,4 @@ pub mod WorkedRuns
 pub mod Timely
 pub mod Pieces
 pub mod MessageRun
+pub mod EmitterRuns

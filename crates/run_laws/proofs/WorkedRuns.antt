@@ -1,5 +1,5 @@
 -- The worked runs, by computation.
-use Rattle.run_laws.proofs.Names.{◌≡◌, ℕ, ◌+◌, ◌<◌, ◌≤◌, ◌⊎◌, List, [], ◌∷◌, ◌++◌, length, Bool, true, false, ◌&&◌, refl, ap, sym, ◌∙◌, arith, inl, inr, Some, false≢true, length-append, All-from_recursion, A, cutting, fragments_at, blanked, Sent, addresses, header_front, internet_header, link_header, udp_header, datagram, unnumbered, Entry, entry, Lines, Endures, BothEndure, log, stands_for, LinkPlan, may_release, is_due, turn_of, IsAllowed, IsQueued, AreAllowed, AreQueued, Served, Nothing, Released, Lost, Drains, pace_in, stream_at, link_wait, EmitterPolls, DrainPolls, AreRuns, ComesBy, cons_parts, below_one, below_both, slice_index, link_in, sub_in, number_in, interface_byte, suc, None, ⊎_elim, All, length-map, All-head, All-tail, IsPlan, IsLink, IsPort, IsLater, AreTimely, latest, IsPrefixOf, sub_stream, IsAccepted, HasPlace, AreFinding, fragments_of, seen_of, few_in}
+use Rattle.run_laws.proofs.Names.{◌≡◌, ℕ, ◌+◌, ◌<◌, ◌≤◌, ◌⊎◌, List, [], ◌∷◌, ◌++◌, length, Bool, true, false, ◌&&◌, refl, ap, sym, ◌∙◌, arith, inl, inr, Some, false≢true, length-append, All-from_recursion, A, cutting, fragments_at, blanked, Sent, addresses, header_front, internet_header, link_header, udp_header, datagram, unnumbered, Entry, entry, Lines, Endures, BothEndure, log, stands_for, LinkPlan, may_release, is_due, turn_of, IsAllowed, IsQueued, AreAllowed, AreQueued, Served, Nothing, Released, Lost, Drains, pace_in, stream_at, link_wait, EmitterPolls, DrainPolls, AreRuns, ComesBy, cons_parts, below_one, below_both, slice_index, link_in, sub_in, number_in, interface_byte, suc, None, ⊎_elim, All, All-head, All-tail, IsPlan, IsLink, IsPort, IsLater, AreTimely, latest, IsPrefixOf, IsAccepted, HasPlace, AreFinding, fragments_of, seen_of}
 use Rattle.afdx_legal.specs.Done.{Owes}
 use Rattle.afdx_plan.specs.declared.networks.Networks.TheVariants.{Both}
 use Rattle.redundant_mux.specs.Logged.{logged_for}
@@ -8,7 +8,12 @@ use Rattle.afdx_laws.proofs.WorkedDemo.{demo_with_valid}
 use Rattle.afdx_plan.proofs.PlanLemmas.{valid}
 use Rattle.afdx_laws.specs.Rows.{Holds}
 use Rattle.afdx_frame.specs.Checksum.{checksum}
-use Rattle.run_laws.specs.WorkedRun.{both_at, lost_line, NeedsARun, small_link, small_plan, message_accepted, front_line, both_lines, front_entry, ComesInRun, tight_link, tight_port, tight_plan, tight_sent, tight_accepted, tight_frame, tight_lines, one_shown, two_shown, three_shown, four_shown, TightReleased, TightCase, MeetsTheWait, NeedsItsPremises}
+use Rattle.run_laws.specs.WorkedRun.{both_at, lost_line, NeedsARun, small_link, small_plan, message_accepted, front_line, both_lines, front_entry, ComesInRun, tight_link, tight_port, tight_plan, tight_sent, tight_accepted, tight_frame, lines_by, one_shown, two_shown, three_shown, four_shown, TightReleased, TightCase, MeetsTheWait, NeedsItsPremises}
+use Rattle.std.proofs.lemmas.List.{append_cancel_left}
+use Rattle.afdx_plan.specs.Config.{Plan}
+use Rattle.afdx_laws.proofs.ListLemmas.{nil_isnt_cons, cons_same}
+use Rattle.run_laws.proofs.Ran.{seen_both}
+use Rattle.run_laws.specs.MessageInRun.{AreReleasedBy}
 use Rattle.run_laws.proofs.NextRun.{next_in_run_holds}
 use Rattle.run_laws.proofs.MessageRun.{message_in_run_holds}
 
@@ -176,7 +181,7 @@ accepted_is = record {
   allowed = both_allowed;
 }
 
-has_place : HasPlace tight_plan 0 0 (tight_sent ∷ []) (stream_at tight_plan 0 (tight_lines one_shown))
+has_place : HasPlace tight_plan 0 0 (tight_sent ∷ []) (stream_at tight_plan 0 (lines_by one_shown))
 unfolding log checksum addresses header_front internet_header link_header udp_header datagram unnumbered
 has_place [] back is room = omega arith
 has_place (f ∷ front) [] is room = absurd (omega arith)
@@ -185,72 +190,79 @@ has_place (f ∷ front) (b ∷ back) is room =
     let size : length (tight_sent ∷ []) ≡ suc (length (front ++ b ∷ back)) = ap length is in
     absurd (omega arith)
 
-second_turn : Drains 1000 1 tight_link (tight_accepted 0) (tight_lines one_shown) (tight_lines two_shown) (Released 0 1)
+second_turn : Drains 1000 1 tight_link (tight_accepted 0) (lines_by one_shown) (lines_by two_shown) (Released 0 1)
 unfolding log checksum addresses header_front internet_header link_header udp_header datagram unnumbered cutting fragments_at
-second_turn = releases 1000 1 tight_link (tight_accepted 0) (tight_lines one_shown) (tight_lines two_shown) (tight_frame 0 24 1 A) refl refl (omega arith) refl
+second_turn = releases 1000 1 tight_link (tight_accepted 0) (lines_by one_shown) (lines_by two_shown) (tight_frame 0 24 1 A) refl refl (omega arith) refl
     (record { left = blanked (tight_frame 0 24 1 A) ∷ blanked (tight_frame 1 0 2 A) ∷ blanked (tight_frame 1 24 3 A) ∷ []; some = λ e. cc; ahead = refl })
     refl refl refl refl refl refl refl (record { a = takes _ _; b = takes _ _ })
 
-third_turn : Drains 2000 1 tight_link (tight_accepted 0) (tight_lines two_shown) (tight_lines three_shown) (Released 0 2)
+third_turn : Drains 2000 1 tight_link (tight_accepted 0) (lines_by two_shown) (lines_by three_shown) (Released 0 2)
 unfolding log checksum addresses header_front internet_header link_header udp_header datagram unnumbered cutting fragments_at
-third_turn = releases 2000 2 tight_link (tight_accepted 0) (tight_lines two_shown) (tight_lines three_shown) (tight_frame 1 0 2 A) refl refl (omega arith) refl
+third_turn = releases 2000 2 tight_link (tight_accepted 0) (lines_by two_shown) (lines_by three_shown) (tight_frame 1 0 2 A) refl refl (omega arith) refl
     (record { left = blanked (tight_frame 1 0 2 A) ∷ blanked (tight_frame 1 24 3 A) ∷ []; some = λ e. cc; ahead = refl })
     refl refl refl refl refl refl refl (record { a = takes _ _; b = takes _ _ })
 
 fourth_turn : (last : ℕ) → is_due 1000 (Some (record { at = 2000; sub = 0 })) last ≡ true
-    → Drains last 1 tight_link (tight_accepted 0) (tight_lines three_shown) (tight_lines (four_shown last)) (Released 0 3)
+    → Drains last 1 tight_link (tight_accepted 0) (lines_by three_shown) (lines_by (four_shown last)) (Released 0 3)
 unfolding log checksum addresses header_front internet_header link_header udp_header datagram unnumbered cutting fragments_at
-fourth_turn last due = releases last 3 tight_link (tight_accepted 0) (tight_lines three_shown) (tight_lines (four_shown last)) (tight_frame 1 24 3 A) (ap (λ (t : Bool). t && true) due) refl (omega arith) refl
+fourth_turn last due = releases last 3 tight_link (tight_accepted 0) (lines_by three_shown) (lines_by (four_shown last)) (tight_frame 1 24 3 A) (ap (λ (t : Bool). t && true) due) refl (omega arith) refl
     (record { left = blanked (tight_frame 1 24 3 A) ∷ []; some = λ e. cc; ahead = refl })
     refl refl refl refl refl refl refl (record { a = takes _ _; b = takes _ _ })
 
 run_to : (last : ℕ) → is_due 1000 (Some (record { at = 2000; sub = 0 })) last ≡ true
-    → AreFinding tight_plan tight_accepted 0 0 4 (1000 ∷ 2000 ∷ last ∷ []) (tight_lines one_shown) (tight_lines (four_shown last))
+    → AreFinding tight_plan tight_accepted 0 0 4 (1000 ∷ 2000 ∷ last ∷ []) (lines_by one_shown) (lines_by (four_shown last))
 run_to last due = (
-  tight_lines two_shown,
-  inr (tight_lines two_shown, Released 0 1, second_turn, refl),
+  lines_by two_shown,
+  inr (lines_by two_shown, Released 0 1, second_turn, refl),
   (
-    tight_lines three_shown,
-    inr (tight_lines three_shown, Released 0 2, third_turn, refl),
-    (tight_lines (four_shown last), inr (tight_lines (four_shown last), Released 0 3, fourth_turn last due, refl), refl),
+    lines_by three_shown,
+    inr (lines_by three_shown, Released 0 2, third_turn, refl),
+    (lines_by (four_shown last), inr (lines_by (four_shown last), Released 0 3, fourth_turn last due, refl), refl),
   ),
 )
 
--- what comes by a time leaves out the last, if that comes later
-leaves_last : (bound : ℕ) (rest soon more : List Entry) (last : Entry) → rest ++ last ∷ [] ≡ soon ++ more
-    → All (λ (e : Entry). e.at ≤ bound) soon → bound < last.at → length soon ≤ length rest
-leaves_last bound rest [] more last is by late = omega arith
-leaves_last bound [] (e ∷ soon) more last is by late =
+-- what comes by a time is a beginning of what comes before the later ones
+front_by : (bound : ℕ) (rest soon more late : List Entry) → rest ++ late ≡ soon ++ more
+    → All (λ (e : Entry). e.at ≤ bound) soon → All (λ (e : Entry). bound < e.at) late → IsPrefixOf soon rest
+front_by bound rest [] more late is by after = (rest, refl)
+front_by bound [] (e ∷ soon) more [] is by after = absurd (nil_isnt_cons is)
+front_by bound [] (e ∷ soon) more (l ∷ late) is by after =
     let first : e.at ≤ bound = All-head (λ (d : Entry). d.at ≤ bound) e soon by in
-    let same : last.at ≡ e.at = ap (λ (d : Entry). d.at) (cons_parts is).0 in
+    let second : bound < l.at = All-head (λ (d : Entry). bound < d.at) l late after in
+    let same : l.at ≡ e.at = ap (λ (d : Entry). d.at) (cons_parts is).0 in
     absurd (omega arith)
-leaves_last bound (r ∷ rest) (e ∷ soon) more last is by late =
-    let fewer = leaves_last bound rest soon more last (cons_parts is).1 (All-tail (λ (d : Entry). d.at ≤ bound) e soon by) late in
-    omega arith
+front_by bound (r ∷ rest) (e ∷ soon) more late is by after =
+    let front = front_by bound rest soon more late (cons_parts is).1 (All-tail (λ (d : Entry). d.at ≤ bound) e soon by) after in
+    (front.0, cons_same (sym (cons_parts is).0) front.1)
 
-few_seen : (x : ℕ) (es : List Entry) → length (seen_of x es) ≤ length es
-few_seen x es = omega (arith, length-map (sub_stream x es) (λ (e : Entry). blanked e.frame), few_in x es)
+-- messages of which too few fragments came by a time
+pub not_released : (plan : Plan) (k s bound : ℕ) (messages : List Sent) (before rest late stream : List Entry)
+    → stream ≡ before ++ (rest ++ late) → All (λ (e : Entry). bound < e.at) late
+    → length (seen_of s (before ++ rest)) < length (fragments_of plan k messages) → AreReleasedBy plan k s messages before stream bound → ⊥
+not_released plan k s bound messages before rest late stream is after few r =
+    let front = front_by bound rest r.soon r.more late (append_cancel_left before _ _ (sym is ∙ r.is)) r.by after in
+    let all = ap (λ (es : List Entry). length (seen_of s (before ++ es))) front.1 in
+    let whole = seen_both s before (r.soon ++ front.0) in
+    let part = seen_both s before r.soon in
+    let split = seen_both s r.soon front.0 in
+    let size = ap length r.whole.1 in
+    let parts = length-append (fragments_of plan k messages) r.whole.0 in
+    omega arith
 
 -- without the last frame the second message is incomplete
-not_by : (last bound : ℕ) → bound < last → TightReleased (tight_lines (four_shown last)) bound → ⊥
+not_by : (last bound : ℕ) → bound < last → TightReleased (lines_by (four_shown last)) bound → ⊥
 unfolding log checksum addresses header_front internet_header link_header udp_header datagram unnumbered cutting fragments_at
-not_by last bound late r =
-    let four : length (fragments_of tight_plan 0 (tight_sent ∷ tight_sent ∷ [])) ≡ 4 = refl in
-    let first : Entry = entry 0 (tight_frame 0 0 0 A) in
-    let rest : List Entry = entry 1000 (tight_frame 0 24 1 A) ∷ entry 2000 (tight_frame 1 0 2 A) ∷ [] in
-    let are : first ∷ (rest ++ entry last (tight_frame 1 24 3 A) ∷ []) ≡ first ∷ (r.soon ++ r.more) = r.is in
-    let fewer = leaves_last bound rest r.soon r.more (entry last (tight_frame 1 24 3 A)) (cons_parts are).1 r.by late in
-    let seen = few_seen 0 (first ∷ r.soon) in
-    let size = ap length r.whole.1 in
-    let parts = length-append (fragments_of tight_plan 0 (tight_sent ∷ tight_sent ∷ [])) r.whole.0 in
-    omega arith
+not_by last bound late = not_released tight_plan 0 0 bound (tight_sent ∷ tight_sent ∷ []) (entry 0 (tight_frame 0 0 0 A) ∷ [])
+    (entry 1000 (tight_frame 0 24 1 A) ∷ entry 2000 (tight_frame 1 0 2 A) ∷ []) (entry last (tight_frame 1 24 3 A) ∷ [])
+    (stream_at tight_plan 0 (lines_by (four_shown last))) refl
+    (All-from_recursion (λ (e : Entry). bound < e.at) (entry last (tight_frame 1 24 3 A) ∷ []) (late, tt)) (omega arith)
 
-begins_to : (last : ℕ) → IsPrefixOf (seen_of 0 (stream_at tight_plan 0 (tight_lines (four_shown last))))
+begins_to : (last : ℕ) → IsPrefixOf (seen_of 0 (stream_at tight_plan 0 (lines_by (four_shown last))))
     (fragments_of tight_plan 0 (tight_accepted 0 0))
 unfolding log checksum addresses header_front internet_header link_header udp_header datagram unnumbered cutting fragments_at
 begins_to last = ([], refl)
 
-start_is : IsLater (latest None (stream_at tight_plan 0 (tight_lines one_shown))) 0
+start_is : IsLater (latest None (stream_at tight_plan 0 (lines_by one_shown))) 0
 unfolding log checksum addresses header_front internet_header link_header udp_header datagram unnumbered
 start_is = omega arith
 
@@ -263,7 +275,7 @@ timely_is = (
 
 -- the case of a last poll at this time
 tight_case : (last : ℕ) (timely : Bool) → is_due 1000 (Some (record { at = 2000; sub = 0 })) last ≡ true
-    → Holds timely (AreTimely 1000 0 3000 0 (1000 ∷ 2000 ∷ last ∷ [])) → Holds timely (TightReleased (tight_lines (four_shown last)) 3000)
+    → Holds timely (AreTimely 1000 0 3000 0 (1000 ∷ 2000 ∷ last ∷ [])) → Holds timely (TightReleased (lines_by (four_shown last)) 3000)
     → TightCase last timely
 tight_case last timely due comes released = record {
   accepted = accepted_is;
@@ -282,7 +294,7 @@ meets_the_wait = record {
   valid = tight_valid;
   wait = refl;
   met = tight_case 3000 true refl timely_is (message_in_run_holds tight_plan tight_accepted (1000 ∷ 2000 ∷ 3000 ∷ [])
-      (tight_lines one_shown) (tight_lines (four_shown 3000)) 0 0 0 0 (tight_sent ∷ []) tight_sent [] tight_valid accepted_is start_is has_place (run_to 3000 refl) (begins_to 3000) refl timely_is);
+      (lines_by one_shown) (lines_by (four_shown 3000)) 0 0 0 0 (tight_sent ∷ []) tight_sent [] tight_valid accepted_is start_is has_place (run_to 3000 refl) (begins_to 3000) refl timely_is);
   sooner = not_by 3000 2999 (omega arith);
 }
 

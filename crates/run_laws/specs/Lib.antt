@@ -1,3 +1,4 @@
 pub mod Runs
 pub mod WorkedRun
 pub mod MessageInRun
+pub mod EmitterRun

@@ -39,16 +39,19 @@ small_plan = record demo_plan { links = small_link ∷ [] }
 abbrev pub message_accepted : Accepted
 message_accepted k sub = one_accepted
 
--- the first frame, transmitted on both networks
+-- these frames, transmitted on both networks at these times
+abbrev pub lines_by : List (ℕ × (Net → List ℕ)) → Lines
+lines_by frames = lines_of (map (λ (f : ℕ × (Net → List ℕ)). entry f.0 (f.1 A)) frames)
+    (map (λ (f : ℕ × (Net → List ℕ)). entry f.0 (f.1 B)) frames) 0 0 true true
+    (map (λ (f : ℕ × (Net → List ℕ)). logged_for Both (entry f.0 (f.1 A))) frames)
+
+-- the first frame
 abbrev pub front_line : Lines
-front_line = lines_of (entry 0 (front_frame A) ∷ []) (entry 0 (front_frame B) ∷ []) 0 0 true true
-    (logged_for Both (entry 0 (front_frame A)) ∷ [])
+front_line = lines_by ((0, front_frame) ∷ [])
 
 -- and then the second, transmitted at `now`
 abbrev pub both_at : ℕ → Lines
-both_at now = lines_of (entry 0 (front_frame A) ∷ entry now (back_frame A) ∷ [])
-    (entry 0 (front_frame B) ∷ entry now (back_frame B) ∷ []) 0 0 true true
-    (logged_for Both (entry 0 (front_frame A)) ∷ logged_for Both (entry now (back_frame A)) ∷ [])
+both_at now = lines_by ((0, front_frame) ∷ (now, back_frame) ∷ [])
 
 abbrev pub both_lines : Lines
 both_lines = both_at 1000
@@ -112,48 +115,36 @@ tight_accepted k sub = tight_sent ∷ tight_sent ∷ []
 abbrev pub tight_frame : (place start number : ℕ) → Net → List ℕ
 tight_frame place start number net = frame_of 1 tight_port bytes_41 place (piece_at 25 49 start) net number
 
--- a frame, with the time of its transmission
-pub data Shown : Type 0 where
-  shown : (at place start number : ℕ) → Shown
+abbrev pub one_shown : List (ℕ × (Net → List ℕ))
+one_shown = (0, tight_frame 0 0 0) ∷ []
 
-abbrev pub shown_on : Net → Shown → Entry
-shown_on net (shown at place start number) = entry at (tight_frame place start number net)
+abbrev pub two_shown : List (ℕ × (Net → List ℕ))
+two_shown = (0, tight_frame 0 0 0) ∷ (1000, tight_frame 0 24 1) ∷ []
 
--- these frames, transmitted on both networks
-abbrev pub tight_lines : List Shown → Lines
-tight_lines frames = lines_of (map (shown_on A) frames) (map (shown_on B) frames) 0 0 true true
-    (map (λ (f : Shown). logged_for Both (shown_on A f)) frames)
+abbrev pub three_shown : List (ℕ × (Net → List ℕ))
+three_shown = (0, tight_frame 0 0 0) ∷ (1000, tight_frame 0 24 1) ∷ (2000, tight_frame 1 0 2) ∷ []
 
-abbrev pub one_shown : List Shown
-one_shown = shown 0 0 0 0 ∷ []
-
-abbrev pub two_shown : List Shown
-two_shown = shown 0 0 0 0 ∷ shown 1000 0 24 1 ∷ []
-
-abbrev pub three_shown : List Shown
-three_shown = shown 0 0 0 0 ∷ shown 1000 0 24 1 ∷ shown 2000 1 0 2 ∷ []
-
-abbrev pub four_shown : ℕ → List Shown
-four_shown last = shown 0 0 0 0 ∷ shown 1000 0 24 1 ∷ shown 2000 1 0 2 ∷ shown last 1 24 3 ∷ []
+abbrev pub four_shown : ℕ → List (ℕ × (Net → List ℕ))
+four_shown last = (0, tight_frame 0 0 0) ∷ (1000, tight_frame 0 24 1) ∷ (2000, tight_frame 1 0 2) ∷ (last, tight_frame 1 24 3) ∷ []
 
 -- both messages are wholly released by the bound
 abbrev pub TightReleased : Lines → ℕ → Type 0
 TightReleased lines bound = AreReleasedBy tight_plan 0 0 (tight_sent ∷ tight_sent ∷ [])
-    (stream_at tight_plan 0 (tight_lines one_shown)) (stream_at tight_plan 0 lines) bound
+    (stream_at tight_plan 0 (lines_by one_shown)) (stream_at tight_plan 0 lines) bound
 
 -- The law for polls at 1,000, 2,000 and `last`, with no lateness. Each premise holds, except that the polls may not be
 -- timely; the message is wholly released within its wait if and only if they are.
 pub record TightCase (last : ℕ) (timely : Bool) : Type 0 where
   pub accepted : IsAccepted tight_plan tight_accepted 0 0 (tight_sent ∷ []) tight_sent []
-  pub start : IsLater (latest None (stream_at tight_plan 0 (tight_lines one_shown))) 0
-  pub place : HasPlace tight_plan 0 0 (tight_sent ∷ []) (stream_at tight_plan 0 (tight_lines one_shown))
-  pub finding : AreFinding tight_plan tight_accepted 0 0 4 (1000 ∷ 2000 ∷ last ∷ []) (tight_lines one_shown)
-      (tight_lines (four_shown last))
-  pub begins : IsPrefixOf (seen_of 0 (stream_at tight_plan 0 (tight_lines (four_shown last))))
+  pub start : IsLater (latest None (stream_at tight_plan 0 (lines_by one_shown))) 0
+  pub place : HasPlace tight_plan 0 0 (tight_sent ∷ []) (stream_at tight_plan 0 (lines_by one_shown))
+  pub finding : AreFinding tight_plan tight_accepted 0 0 4 (1000 ∷ 2000 ∷ last ∷ []) (lines_by one_shown)
+      (lines_by (four_shown last))
+  pub begins : IsPrefixOf (seen_of 0 (stream_at tight_plan 0 (lines_by (four_shown last))))
       (fragments_of tight_plan 0 (tight_accepted 0 0))
-  pub is_up : stands_for (link_plan_at tight_plan.links 0).networks (tight_lines (four_shown last)) ≡ true
+  pub is_up : stands_for (link_plan_at tight_plan.links 0).networks (lines_by (four_shown last)) ≡ true
   pub comes : Holds timely (AreTimely 1000 0 3000 0 (1000 ∷ 2000 ∷ last ∷ []))
-  pub released : Holds timely (TightReleased (tight_lines (four_shown last)) 3000)
+  pub released : Holds timely (TightReleased (lines_by (four_shown last)) 3000)
 
 -- The wait of the port is 3,000 microseconds: one gap for each of three fragments, the message's own two and one before
 -- them. The message takes exactly that.
@@ -161,7 +152,7 @@ pub record MeetsTheWait : Type 0 where
   pub valid : IsPlan tight_plan
   pub wait : worst_wait 0 tight_plan tight_port ≡ 3000
   pub met : TightCase 3000 true
-  pub sooner : TightReleased (tight_lines (four_shown 3000)) 2999 → ⊥
+  pub sooner : TightReleased (lines_by (four_shown 3000)) 2999 → ⊥
 
 -- If the last poll is a microsecond late, the message is not released within the wait. If nothing was transmitted
 -- before the polls, the queue would hold two messages, one more than its capacity.

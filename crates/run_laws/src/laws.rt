@@ -1,4 +1,5 @@
 //! Laws over runs of polls. The functions are empty: each contract is a law.
+ghost use Rattle.run_laws.specs.EmitterRun.{ComesInTurn, WaitsItsTurn};
 ghost use Rattle.run_laws.specs.MessageInRun.{MessageInRun, ApartAreTimely};
 ghost use Rattle.run_laws.specs.Runs.{NextInRun, KeptReady};
 ghost use Rattle.run_laws.specs.WorkedRun.{ComesInRun, NeedsARun, MeetsTheWait, NeedsItsPremises};
@@ -16,6 +17,9 @@ pub fn next_in_run()
 
     // two polls of a drain, of which the first releases the second fragment
     ensures worked { ComesInRun }
+
+    // polls of an emitter with three sub-VLs
+    ensures in_turn { ComesInTurn }
 
     // no poll; a late poll; networks that fail with the fragment
     ensures needed { NeedsARun }
@@ -45,6 +49,9 @@ pub fn message_in_run()
 
     // a message that takes exactly its wait
     ensures worked { MeetsTheWait }
+
+    // the same of an emitter with three sub-VLs, of which the others send too
+    ensures in_turn { WaitsItsTurn }
 
     // a late poll; a queue that exceeds its capacity
     ensures needed { NeedsItsPremises }

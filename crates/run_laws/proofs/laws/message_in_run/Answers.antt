@@ -1,3 +1,4 @@
+use Rattle.run_laws.proofs.EmitterRuns.{waits_its_turn}
 use Rattle.run_laws.proofs.MessageRun.{message_in_run_holds}
 use Rattle.run_laws.proofs.Timely.{apart_timely}
 use Rattle.run_laws.proofs.WorkedRuns.{meets_the_wait, needs_its_premises}
@@ -8,5 +9,6 @@ returns c = record {
   wait = message_in_run_holds;
   apart = apart_timely;
   worked = meets_the_wait;
+  in_turn = waits_its_turn;
   needed = needs_its_premises;
 }

@@ -1,0 +1,282 @@
+-- The worked run of polls of an emitter, by computation.
+use Rattle.run_laws.proofs.Names.{None, inr, ◌⊎◌, DrainPolls, IsDrained, subst, IsLater, link_plan_at, length-append, ◌≡◌, ◌≢◌, ℕ, zero, suc, ◌<◌, List, [], ◌∷◌, ◌++◌, length, refl, ap, sym, ◌∙◌, arith, inl, true, All, All-nil, All-cons, All-from_recursion, below_one, cases_eq, ⊎_elim, A, cutting, fragments_at, blanked, addresses, header_front, internet_header, link_header, udp_header, datagram, unnumbered, Entry, entry, Lines, BothEndure, log, stands_for, may_release, turn_of, pace_in, slice_index, link_in, sub_in, number_in, interface_byte, Held, Passes, held_at, IsQueued, IsAllowed, Released, stream_at, EmitterPolls, IsReady, FindsIt, ArePolls, IsPlan, IsLink, IsPort, taken_in, HasPlace, IsAccepted, AreTimely, fragments_of, seen_of}
+use Rattle.afdx_plan.proofs.PlanLemmas.{valid}
+use Rattle.afdx_plan.specs.declared.networks.Networks.TheVariants.{Both}
+use Rattle.afdx_frame.specs.Checksum.{checksum}
+use Rattle.redundant_mux.specs.Logged.{logged_for}
+use Rattle.std.specs.Prelude.{replicate}
+use Rattle.vl_link.specs.Kept.{IsTied}
+use Rattle.vl_link.specs.Links.{GivesFrame, IsSameSub, sent_by, message_fragments}
+use Rattle.vl_link.specs.Seen.{Seen, Finds, receiving, gathered, taken_of}
+use Rattle.vl_link.proofs.SubInStep.{moves_of, gave_same, same_sub_here, same_sub_on}
+use Rattle.afdx_legal.specs.Streams.{sub_stream, latest, IsPrefixOf}
+use Rattle.run_laws.specs.WorkedRun.{front_entry}
+use Rattle.run_laws.specs.EmitterRun.{three_link, short_port, three_plan, short_sent, long_sent, three_accepted, short_frame, end_frame, line_after, long_sub, short_sub, subs_of, tx_of, ComesInTurn, ThirdReleased, WaitsItsTurn}
+use Rattle.run_laws.proofs.WorkedRuns.{takes, not_released}
+use Rattle.run_laws.proofs.NextRun.{next_in_run_holds}
+use Rattle.run_laws.proofs.MessageRun.{message_in_run_holds}
+
+by_three : (P : ℕ → Type 0) → P 0 → P 1 → P 2 → (s : ℕ) → s < 3 → P s
+by_three P first second third zero lt = first
+by_three P first second third (suc zero) lt = second
+by_three P first second third (suc (suc zero)) lt = third
+by_three P first second third (suc (suc (suc s))) lt = absurd (omega arith)
+
+three_valid : IsPlan three_plan
+three_valid = valid three_plan (omega arith) (All-from_recursion IsLink three_plan.links (omega arith))
+    (All-from_recursion IsPort three_plan.ports (omega arith)) refl
+
+long_allowed : IsAllowed three_plan 0 0 long_sent
+long_allowed = record {
+  queued = record { port = (0, omega arith, refl); over = refl; its = refl; some = omega arith; most = omega arith };
+  most = omega arith;
+}
+
+first_allowed : IsAllowed three_plan 0 1 (short_sent 1)
+first_allowed = record {
+  queued = record { port = (1, omega arith, refl); over = refl; its = refl; some = omega arith; most = omega arith };
+  most = omega arith;
+}
+
+second_allowed : IsAllowed three_plan 0 2 (short_sent 2)
+second_allowed = record {
+  queued = record { port = (2, omega arith, refl); over = refl; its = refl; some = omega arith; most = omega arith };
+  most = omega arith;
+}
+
+queued : (sub many : ℕ) → IsQueued three_plan 0 sub (short_sent sub)
+    → All (IsQueued three_plan 0 sub) (sent_by (short_port sub ∷ []) (replicate many (0, 1 ∷ [])))
+queued sub zero q = All-nil (IsQueued three_plan 0 sub)
+queued sub (suc many) q = All-cons (IsQueued three_plan 0 sub) (short_sent sub) _ q (queued sub many q)
+
+ready : (moment : ℕ) (left : List (List ℕ)) (first second : ℕ) (lines : Lines) → IsReady (tx_of moment (subs_of left first second) lines)
+ready moment left first second lines = record {
+  count = refl;
+  links = below_one _ (record { plan_is = refl; gap = refl; sub_vls = refl });
+  allowed = λ k s lt. by_link k lt s;
+}
+  where
+    by_link : (k : ℕ) → k < 1 → (s : ℕ) → s < (link_plan_at three_plan.links k).sub_vls
+        → All (IsQueued three_plan k s) (taken_in (tx_of moment (subs_of left first second) lines).links k s)
+    by_link = below_one _ (by_three _ (All-from_recursion (IsQueued three_plan 0 0) (long_sent ∷ []) (long_allowed.queued, tt))
+        (queued 1 first first_allowed.queued) (queued 2 second second_allowed.queued))
+
+-- Whatever sub-VL 1 takes, its poll isn't one that finds nothing.
+finds : (before after : List (ℕ × List ℕ)) → Passes (short_sub 1 before) (short_sub 1 after) → ⊥
+finds before after p =
+    let looks = ap (λ (s : Seen). looks_of s) p.nothing in
+    let taken = ap (λ (s : Seen). length (taken_of s)) p.nothing in
+    omega arith
+  where
+    looks_of : Seen → ℕ
+    looks_of (receiving r) = r.looks
+    looks_of (gathered g) = 0
+
+-- A poll at which the first sub-VL in turn gives this frame, on both networks.
+gives : (now sub number : ℕ) (frame : List ℕ) (left new_left : List (List ℕ)) (first new_first second new_second : ℕ) (lines after : Lines)
+    → may_release now three_link (pace_in three_link (log lines)) lines ≡ true → number ≡ (pace_in three_link (log lines)).next
+    → sub ≡ turn_of 3 (pace_in three_link (log lines)).last 0
+    → GivesFrame (held_at (subs_of left first second) sub) frame (held_at (subs_of new_left new_first new_second) sub)
+    → ((s : ℕ) → s ≢ sub → held_at (subs_of new_left new_first new_second) s ≡ held_at (subs_of left first second) s)
+    → ((s : ℕ) → s < 3 → IsTied (held_at (subs_of left first second) s) (sub_stream s (stream_at three_plan 0 lines)))
+    → length frame ≡ 60 → link_in frame ≡ 1 → sub_in frame ≡ sub → number_in frame ≡ number → slice_index frame 11 ≡ interface_byte A → after.logged ≡ lines.logged ++ logged_for Both (entry now frame) ∷ []
+    → stands_for Both after ≡ true → BothEndure lines after → FindsIt three_plan 0 1 2 now lines after
+gives now sub number frame left new_left first new_first second new_second lines after may next is given others tied size own of carries interface enters stands endure = record {
+  poll = record {
+    old = tx_of now (subs_of left first second) lines;
+    new = tx_of now (subs_of new_left new_first new_second) after;
+    ready = ready now left first second lines;
+    of = refl;
+    before = refl;
+    afterwards = refl;
+    run = record {
+      count = refl;
+      turns = (
+        after,
+        Released sub number,
+        record {
+          same = record { end_system = refl; plan = refl; gap = refl; sub_vls = refl; count = refl; subs = same };
+          tied = λ up. tied;
+          serves = (
+            may,
+            next,
+            record {
+              frame = frame;
+              choice = record {
+                turn = 0;
+                within = omega arith;
+                is = is;
+                chosen = given;
+                before = λ k lt. absurd (omega arith);
+                others = λ s other. others s (λ e. other 0 (omega arith) (sym is ∙ sym e));
+              };
+              of = record { size = omega arith; link = own; of_sub = of; carries = carries; interface = interface };
+              enters = enters;
+              stands = stands;
+              endure = endure;
+            },
+          );
+        },
+        refl,
+      );
+    };
+  };
+  finds = λ passes. absurd (finds _ _ passes);
+}
+  where
+    same : (s : ℕ) → IsSameSub (held_at (subs_of left first second) s) (held_at (subs_of new_left new_first new_second) s)
+    same s = ⊎_elim
+        (λ (own : s ≡ sub). subst (λ (i : ℕ). IsSameSub (held_at (subs_of left first second) i) (held_at (subs_of new_left new_first new_second) i)) (sym own)
+        (same_sub_on _ given.mid _ (moves_of _ given.mid (inr (inl given.asked))) (gave_same frame given.mid _ given.gives)))
+        (λ (other : s ≢ sub). same_sub_here _ _ (others s other))
+        (cases_eq s sub)
+
+starts : (sub many after : ℕ) (frame : List ℕ)
+    → Finds (short_sub sub (replicate many (0, 1 ∷ []))).seen (0, 1 ∷ []) (short_sub sub (replicate after (0, 1 ∷ []))).seen
+    → blanked frame ∷ [] ≡ message_fragments (short_sub sub []).of (length (taken_of (short_sub sub (replicate many (0, 1 ∷ []))).seen)) (short_sent sub)
+    → GivesFrame (short_sub sub (replicate many (0, 1 ∷ []))) frame (short_sub sub (replicate after (0, 1 ∷ [])))
+starts sub many after frame found left = record {
+  mid = record (short_sub sub (replicate after (0, 1 ∷ []))) { left = blanked frame ∷ [] };
+  asked = inr (record {
+    message = (0, 1 ∷ []);
+    item = record { port = omega arith; message = record { some = omega arith; most = omega arith } };
+    whole = refl;
+    finds = found;
+    left = left;
+    some = λ e. cc;
+    of = refl;
+    ports = refl;
+  });
+  gives = record { next = refl; same = refl };
+}
+
+rest_0 : (a new b c : Held) (s : ℕ) → s ≢ 0 → held_at (new ∷ b ∷ c ∷ []) s ≡ held_at (a ∷ b ∷ c ∷ []) s
+rest_0 a new b c zero other = absurd (other refl)
+rest_0 a new b c (suc s) other = refl
+
+rest_1 : (a b new c : Held) (s : ℕ) → s ≢ 1 → held_at (a ∷ new ∷ c ∷ []) s ≡ held_at (a ∷ b ∷ c ∷ []) s
+rest_1 a b new c zero other = refl
+rest_1 a b new c (suc zero) other = absurd (other refl)
+rest_1 a b new c (suc (suc s)) other = refl
+
+rest_2 : (a b c new : Held) (s : ℕ) → s ≢ 2 → held_at (a ∷ b ∷ new ∷ []) s ≡ held_at (a ∷ b ∷ c ∷ []) s
+rest_2 a b c new zero other = refl
+rest_2 a b c new (suc zero) other = refl
+rest_2 a b c new (suc (suc zero)) other = absurd (other refl)
+rest_2 a b c new (suc (suc (suc s))) other = refl
+
+abbrev end_left : List (List ℕ)
+end_left = blanked (end_frame A) ∷ []
+
+first_poll : FindsIt three_plan 0 1 2 3000 (line_after 1) (line_after 2)
+unfolding log checksum addresses header_front internet_header link_header udp_header datagram unnumbered cutting fragments_at
+first_poll = gives 3000 1 1 (short_frame 1 0 1 A) end_left end_left 0 1 0 0 (line_after 1) (line_after 2) refl refl refl
+    (starts 1 0 1 (short_frame 1 0 1 A) refl refl) (rest_1 _ _ _ _) (by_three _ refl refl refl)
+    refl refl refl refl refl refl refl (record { a = takes _ _; b = takes _ _ })
+
+second_poll : FindsIt three_plan 0 1 2 6000 (line_after 2) (line_after 3)
+unfolding log checksum addresses header_front internet_header link_header udp_header datagram unnumbered cutting fragments_at
+second_poll = gives 6000 2 2 (short_frame 2 0 2 A) end_left end_left 1 1 0 1 (line_after 2) (line_after 3) refl refl refl
+    (starts 2 0 1 (short_frame 2 0 2 A) refl refl) (rest_2 _ _ _ _) (by_three _ refl refl refl)
+    refl refl refl refl refl refl refl (record { a = takes _ _; b = takes _ _ })
+
+third_poll : FindsIt three_plan 0 1 2 9000 (line_after 3) (line_after 4)
+unfolding log checksum addresses header_front internet_header link_header udp_header datagram unnumbered cutting fragments_at
+third_poll = gives 9000 0 3 (end_frame A) end_left [] 1 1 1 1 (line_after 3) (line_after 4) refl refl refl
+    (record { mid = long_sub end_left; asked = inl (record { some = λ e. cc; same = refl }); gives = record { next = refl; same = refl } })
+    (rest_0 _ _ _ _) (by_three _ refl refl refl)
+    refl refl refl refl refl refl refl (record { a = takes _ _; b = takes _ _ })
+
+fourth_poll : FindsIt three_plan 0 1 2 12000 (line_after 4) (line_after 5)
+unfolding log checksum addresses header_front internet_header link_header udp_header datagram unnumbered cutting fragments_at
+fourth_poll = gives 12000 1 4 (short_frame 1 1 4 A) [] [] 1 2 1 1 (line_after 4) (line_after 5) refl refl refl
+    (starts 1 1 2 (short_frame 1 1 4 A) refl refl) (rest_1 _ _ _ _) (by_three _ refl refl refl)
+    refl refl refl refl refl refl refl (record { a = takes _ _; b = takes _ _ })
+
+finding : ArePolls (FindsIt three_plan 0 1 2) (6000 ∷ 9000 ∷ 12000 ∷ []) (line_after 2) (line_after 5)
+finding = (line_after 3, second_poll, (line_after 4, third_poll, (line_after 5, fourth_poll, refl)))
+
+each_poll : {P Q : ℕ → (lines after : Lines) → Type 0} → ((now : ℕ) (lines after : Lines) → P now lines after → Q now lines after)
+    → (moments : List ℕ) (lines after : Lines) → ArePolls P moments lines after → ArePolls Q moments lines after
+each_poll f [] lines after p = p
+each_poll f (now ∷ moments) lines after p = (p.0, f now lines p.0 p.1, each_poll f moments p.0 after p.2)
+
+polls : ArePolls (EmitterPolls three_plan) (3000 ∷ 6000 ∷ 9000 ∷ 12000 ∷ []) (line_after 1) (line_after 5)
+polls = each_poll {P = FindsIt three_plan 0 1 2} (λ now lines after f. f.poll) (3000 ∷ 6000 ∷ 9000 ∷ 12000 ∷ []) (line_after 1) (line_after 5)
+    (line_after 2, first_poll, finding)
+
+pub comes_in_turn : ComesInTurn
+unfolding log checksum addresses header_front internet_header link_header udp_header datagram unnumbered
+comes_in_turn = record {
+  valid = three_valid;
+  ends = refl;
+  more = refl;
+  below = omega arith;
+  polls = polls;
+  is_up = refl;
+  within = omega arith;
+  wait = refl;
+  next = (next_in_run_holds three_plan (3000 ∷ 6000 ∷ 9000 ∷ 12000 ∷ []) (line_after 1) (line_after 5) 0 3000 [] front_entry
+      three_valid (omega arith) refl refl (omega arith)
+      (each_poll {P = EmitterPolls three_plan} {Q = λ now lines after. EmitterPolls three_plan now lines after ⊎ DrainPolls three_plan now lines after} (λ now lines after p. inl p) (3000 ∷ 6000 ∷ 9000 ∷ 12000 ∷ []) (line_after 1) (line_after 5) polls)
+      refl (omega arith) (omega arith)).0;
+}
+
+accepted_is : IsAccepted three_plan three_accepted 0 1 (short_sent 1 ∷ []) (short_sent 1) []
+accepted_is = record { link = omega arith; sub = omega arith; are = refl; allowed = λ k s lt. by_link k lt s }
+  where
+    by_link : (k : ℕ) → k < 1 → (s : ℕ) → s < (link_plan_at three_plan.links k).sub_vls → All (IsAllowed three_plan k s) (three_accepted k s)
+    by_link = below_one _ (by_three _ (All-from_recursion (IsAllowed three_plan 0 0) (three_accepted 0 0) (long_allowed, tt))
+        (All-from_recursion (IsAllowed three_plan 0 1) (three_accepted 0 1) (first_allowed, (first_allowed, tt)))
+        (All-from_recursion (IsAllowed three_plan 0 2) (three_accepted 0 2) (second_allowed, tt)))
+
+start_is : IsLater (latest None (stream_at three_plan 0 (line_after 2))) 3000
+unfolding log checksum addresses header_front internet_header link_header udp_header datagram unnumbered
+start_is = omega arith
+
+seen_one : length (seen_of 1 (stream_at three_plan 0 (line_after 2))) ≡ 1
+unfolding log checksum addresses header_front internet_header link_header udp_header datagram unnumbered
+seen_one = refl
+
+place_is : HasPlace three_plan 0 1 (short_sent 1 ∷ []) (stream_at three_plan 0 (line_after 2))
+place_is [] back is room = omega (arith, seen_one)
+place_is (f ∷ front) [] is room = absurd (omega arith)
+place_is (f ∷ front) (b ∷ back) is room =
+    let parts = length-append front (b ∷ back) in
+    let size : length (short_sent 1 ∷ []) ≡ suc (length (front ++ b ∷ back)) = ap length is in
+    absurd (omega arith)
+
+begins_is : IsPrefixOf (seen_of 1 (stream_at three_plan 0 (line_after 5))) (fragments_of three_plan 0 (three_accepted 0 1))
+unfolding log checksum addresses header_front internet_header link_header udp_header datagram unnumbered cutting fragments_at
+begins_is = ([], refl)
+
+timely_is : AreTimely 1000 2000 12000 3000 (6000 ∷ 9000 ∷ 12000 ∷ [])
+timely_is = (
+  omega arith,
+  λ near. inl (omega arith, omega arith),
+  (omega arith, λ near. inl (omega arith, omega arith), (omega arith, λ near. inl (omega arith, omega arith), omega arith)),
+)
+
+sooner_is : ThirdReleased 11999 → ⊥
+unfolding log checksum addresses header_front internet_header link_header udp_header datagram unnumbered cutting fragments_at
+sooner_is = not_released three_plan 0 1 11999 (three_accepted 0 1) (stream_at three_plan 0 (line_after 2))
+    (entry 6000 (short_frame 2 0 2 A) ∷ entry 9000 (end_frame A) ∷ []) (entry 12000 (short_frame 1 1 4 A) ∷ [])
+    (stream_at three_plan 0 (line_after 5)) refl (All-from_recursion (λ (e : Entry). 11999 < e.at) (entry 12000 (short_frame 1 1 4 A) ∷ []) (omega arith, tt)) (omega arith)
+
+pub waits_its_turn : WaitsItsTurn
+unfolding cutting fragments_at
+waits_its_turn = record {
+  wait = refl;
+  accepted = accepted_is;
+  start = start_is;
+  place = place_is;
+  finding = finding;
+  begins = begins_is;
+  is_up = refl;
+  timely = timely_is;
+  released = message_in_run_holds three_plan three_accepted (6000 ∷ 9000 ∷ 12000 ∷ []) (line_after 2) (line_after 5) 0 1 2000 3000
+      (short_sent 1 ∷ []) (short_sent 1) [] three_valid accepted_is start_is place_is
+      (each_poll {P = FindsIt three_plan 0 1 2} {Q = λ now lines after. FindsIt three_plan 0 1 2 now lines after ⊎ IsDrained now three_plan three_accepted lines after} (λ now lines after f. inl f) (6000 ∷ 9000 ∷ 12000 ∷ []) (line_after 2) (line_after 5) finding)
+      begins_is refl timely_is;
+  sooner = sooner_is;
+}
