@@ -1,5 +1,5 @@
 -- The worked run of polls of an emitter, by computation.
-use Rattle.run_laws.proofs.Names.{None, inr, ◌⊎◌, DrainPolls, IsDrained, subst, IsLater, link_plan_at, length-append, ◌≡◌, ◌≢◌, ℕ, zero, suc, ◌<◌, List, [], ◌∷◌, ◌++◌, length, refl, ap, sym, ◌∙◌, arith, inl, true, All, All-nil, All-cons, All-from_recursion, below_one, cases_eq, ⊎_elim, A, cutting, fragments_at, blanked, addresses, header_front, internet_header, link_header, udp_header, datagram, unnumbered, Entry, entry, Lines, BothEndure, log, stands_for, may_release, turn_of, pace_in, slice_index, link_in, sub_in, number_in, interface_byte, Held, Passes, held_at, IsQueued, IsAllowed, Released, stream_at, EmitterPolls, IsReady, FindsIt, ArePolls, IsPlan, IsLink, IsPort, taken_in, HasPlace, IsAccepted, AreTimely, fragments_of, seen_of}
+use Rattle.run_laws.proofs.Names.{None, inr, ◌⊎◌, DrainPolls, IsDrained, subst, IsLater, link_plan_at, ◌≡◌, ◌≢◌, ℕ, zero, suc, ◌<◌, List, [], ◌∷◌, ◌++◌, length, refl, ap, sym, ◌∙◌, arith, inl, true, All, All-nil, All-cons, All-from_recursion, below_one, cases_eq, ⊎_elim, A, cutting, fragments_at, blanked, addresses, header_front, internet_header, link_header, udp_header, datagram, unnumbered, Entry, entry, Lines, BothEndure, log, stands_for, may_release, turn_of, pace_in, slice_index, link_in, sub_in, number_in, interface_byte, Held, Passes, held_at, IsQueued, IsAllowed, Released, stream_at, EmitterPolls, IsReady, FindsIt, ArePolls, IsPlan, IsLink, IsPort, taken_in, HasPlace, IsAccepted, AreTimely, fragments_of, seen_of}
 use Rattle.afdx_plan.proofs.PlanLemmas.{valid}
 use Rattle.afdx_plan.specs.declared.networks.Networks.TheVariants.{Both}
 use Rattle.afdx_frame.specs.Checksum.{checksum}
@@ -12,7 +12,7 @@ use Rattle.vl_link.proofs.SubInStep.{moves_of, gave_same, same_sub_here, same_su
 use Rattle.afdx_legal.specs.Streams.{sub_stream, latest, IsPrefixOf}
 use Rattle.run_laws.specs.WorkedRun.{front_entry}
 use Rattle.run_laws.specs.EmitterRun.{three_link, short_port, three_plan, short_sent, long_sent, three_accepted, short_frame, end_frame, line_after, long_sub, short_sub, subs_of, tx_of, ComesInTurn, ThirdReleased, WaitsItsTurn}
-use Rattle.run_laws.proofs.WorkedRuns.{takes, not_released}
+use Rattle.run_laws.proofs.WorkedRuns.{has_room, takes, not_released}
 use Rattle.run_laws.proofs.NextRun.{next_in_run_holds}
 use Rattle.run_laws.proofs.MessageRun.{message_in_run_holds}
 
@@ -239,12 +239,7 @@ unfolding log checksum addresses header_front internet_header link_header udp_he
 seen_one = refl
 
 place_is : HasPlace three_plan 0 1 (short_sent 1 ∷ []) (stream_at three_plan 0 (line_after 2))
-place_is [] back is room = omega (arith, seen_one)
-place_is (f ∷ front) [] is room = absurd (omega arith)
-place_is (f ∷ front) (b ∷ back) is room =
-    let parts = length-append front (b ∷ back) in
-    let size : length (short_sent 1 ∷ []) ≡ suc (length (front ++ b ∷ back)) = ap length is in
-    absurd (omega arith)
+place_is = has_room three_plan 0 1 (short_sent 1 ∷ []) (stream_at three_plan 0 (line_after 2)) (omega arith) (λ full. omega (arith, seen_one))
 
 begins_is : IsPrefixOf (seen_of 1 (stream_at three_plan 0 (line_after 5))) (fragments_of three_plan 0 (three_accepted 0 1))
 unfolding log checksum addresses header_front internet_header link_header udp_header datagram unnumbered cutting fragments_at

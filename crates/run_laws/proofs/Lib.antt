@@ -8,3 +8,4 @@ pub mod Timely
 pub mod Pieces
 pub mod MessageRun
 pub mod EmitterRuns
+pub mod NeededRuns

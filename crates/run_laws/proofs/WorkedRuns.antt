@@ -1,16 +1,15 @@
 -- The worked runs, by computation.
-use Rattle.run_laws.proofs.Names.{◌≡◌, ℕ, ◌+◌, ◌<◌, ◌≤◌, ◌⊎◌, List, [], ◌∷◌, ◌++◌, length, Bool, true, false, ◌&&◌, refl, ap, sym, ◌∙◌, arith, inl, inr, Some, false≢true, length-append, All-from_recursion, A, cutting, fragments_at, blanked, Sent, addresses, header_front, internet_header, link_header, udp_header, datagram, unnumbered, Entry, entry, Lines, Endures, BothEndure, log, stands_for, LinkPlan, may_release, is_due, turn_of, IsAllowed, IsQueued, AreAllowed, AreQueued, Served, Nothing, Released, Lost, Drains, pace_in, stream_at, link_wait, EmitterPolls, DrainPolls, AreRuns, ComesBy, cons_parts, below_one, below_both, slice_index, link_in, sub_in, number_in, interface_byte, suc, None, ⊎_elim, All, All-head, All-tail, IsPlan, IsLink, IsPort, IsLater, AreTimely, latest, IsPrefixOf, IsAccepted, HasPlace, AreFinding, fragments_of, seen_of}
+use Rattle.run_laws.proofs.Names.{◌≡◌, ℕ, ◌+◌, ◌<◌, ◌≤◌, ◌⊎◌, List, [], ◌∷◌, ◌++◌, length, Bool, true, false, ◌&&◌, refl, ap, sym, ◌∙◌, arith, inl, inr, Some, false≢true, length-append, All-from_recursion, A, cutting, fragments_at, blanked, Sent, addresses, header_front, internet_header, link_header, udp_header, datagram, unnumbered, Entry, entry, Lines, Endures, BothEndure, log, stands_for, LinkPlan, may_release, is_due, turn_of, IsAllowed, IsQueued, AreAllowed, AreQueued, Served, Nothing, Released, Lost, Drains, pace_in, stream_at, link_wait, EmitterPolls, DrainPolls, AreRuns, ComesBy, cons_parts, below_one, below_both, slice_index, link_in, sub_in, number_in, interface_byte, suc, None, All, All-head, All-tail, IsPlan, IsLink, IsPort, IsLater, AreTimely, latest, IsPrefixOf, IsAccepted, HasPlace, AreFinding, fragments_of, seen_of}
 use Rattle.afdx_legal.specs.Done.{Owes}
 use Rattle.afdx_plan.specs.declared.networks.Networks.TheVariants.{Both}
 use Rattle.redundant_mux.specs.Logged.{logged_for}
 use Rattle.afdx_laws.specs.WorkedDelivery.{back_frame}
 use Rattle.afdx_laws.proofs.WorkedDemo.{demo_with_valid}
 use Rattle.afdx_plan.proofs.PlanLemmas.{valid}
-use Rattle.afdx_laws.specs.Rows.{Holds}
 use Rattle.afdx_frame.specs.Checksum.{checksum}
-use Rattle.run_laws.specs.WorkedRun.{both_at, lost_line, NeedsARun, small_link, small_plan, message_accepted, front_line, both_lines, front_entry, ComesInRun, tight_link, tight_port, tight_plan, tight_sent, tight_accepted, tight_frame, lines_by, one_shown, two_shown, three_shown, four_shown, TightReleased, TightCase, MeetsTheWait, NeedsItsPremises}
+use Rattle.run_laws.specs.WorkedRun.{both_at, lost_line, NeedsARun, small_link, small_plan, message_accepted, front_line, both_lines, front_entry, ComesInRun, tight_link, tight_port, tight_plan, tight_sent, tight_accepted, tight_frame, lines_by, one_shown, two_shown, three_shown, four_shown, TightReleased, MeetsTheWait}
 use Rattle.std.proofs.lemmas.List.{append_cancel_left}
-use Rattle.afdx_plan.specs.Config.{Plan}
+use Rattle.afdx_plan.specs.Config.{Plan, link_plan_at}
 use Rattle.afdx_laws.proofs.ListLemmas.{nil_isnt_cons, cons_same}
 use Rattle.run_laws.proofs.Ran.{seen_both}
 use Rattle.run_laws.specs.MessageInRun.{AreReleasedBy}
@@ -83,12 +82,17 @@ a_poll : (now : ℕ) (lines after : Lines) (did : Served) → Drains now 1 small
     → EmitterPolls small_plan now lines after ⊎ DrainPolls small_plan now lines after
 a_poll now lines after did turn = inr (record { accepted = message_accepted; allowed = each_queued; run = (after, did, turn, refl) })
 
+-- polls after the last fragment transmit nothing
+after_both : (now : ℕ) → is_due 1000 (Some (record { at = 1000; sub = 0 })) now ≡ true → Drains now 1 small_link (message_accepted 0) both_lines both_lines Nothing
+unfolding log checksum addresses header_front internet_header link_header udp_header datagram unnumbered cutting fragments_at
+after_both now due = (inr (ap (λ (t : Bool). t && true) due, record { each = below_one _ refl; others = λ s le. tt }), refl)
+
 two_polls : AreRuns small_plan (1000 ∷ 2000 ∷ []) front_line both_lines
 unfolding log checksum addresses header_front internet_header link_header udp_header datagram unnumbered cutting fragments_at
 two_polls = (
   both_lines,
   a_poll 1000 front_line both_lines (Released 0 1) (back_turn 1000 refl),
-  (both_lines, a_poll 2000 both_lines both_lines Nothing (inr (refl, record { each = below_one _ refl; others = λ s le. tt }), refl), refl),
+  (both_lines, a_poll 2000 both_lines both_lines Nothing (after_both 2000 refl), refl),
 )
 
 -- after it alone nothing comes
@@ -114,10 +118,13 @@ comes_when now bound stream is comes =
     front_entry comes.next (sym is ∙ comes.are.is) in
     grind arith
 
+small_valid : IsPlan small_plan
+small_valid = demo_with_valid Both 64 (omega arith) (omega arith)
+
 pub comes_in_run : ComesInRun
 unfolding log checksum addresses header_front internet_header link_header udp_header datagram unnumbered
 comes_in_run = record {
-  valid = demo_with_valid Both 64 (omega arith) (omega arith);
+  valid = small_valid;
   ends = refl;
   more = refl;
   below = omega arith;
@@ -127,7 +134,7 @@ comes_in_run = record {
     comes = omega arith;
     reaches = omega arith;
     next = (next_in_run_holds small_plan (1000 ∷ 2000 ∷ []) front_line both_lines 0 1000 [] front_entry
-        (demo_with_valid Both 64 (omega arith) (omega arith)) (omega arith) refl refl (omega arith) two_polls refl
+        small_valid (omega arith) refl refl (omega arith) two_polls refl
         (omega arith) (omega arith)).0;
   };
 }
@@ -139,6 +146,15 @@ needs_a_run = record {
     runs = refl;
     is_up = refl;
     comes = tt;
+    reaches = omega arith;
+    next = alone (0 + link_wait 1000 small_link) (stream_at small_plan 0 front_line) refl;
+  };
+  idle = record {
+    runs = λ runs. alone (0 + link_wait 1000 small_link) (stream_at small_plan 0 front_line) refl (next_in_run_holds small_plan
+        (1000 ∷ 2000 ∷ []) front_line front_line 0 1000 [] front_entry small_valid (omega arith) refl refl (omega arith) runs refl
+        (omega arith) (omega arith)).0;
+    is_up = refl;
+    comes = omega arith;
     reaches = omega arith;
     next = alone (0 + link_wait 1000 small_link) (stream_at small_plan 0 front_line) refl;
   };
@@ -157,6 +173,18 @@ needs_a_run = record {
     comes = omega arith;
     reaches = omega arith;
     next = alone (0 + link_wait 1000 small_link) (stream_at small_plan 0 lost_line) refl;
+  };
+  whole = record {
+    runs = (
+      both_lines,
+      a_poll 2000 both_lines both_lines Nothing (after_both 2000 refl),
+      (both_lines, a_poll 3000 both_lines both_lines Nothing (after_both 3000 refl), refl),
+    );
+    ends = refl;
+    is_up = refl;
+    comes = omega arith;
+    reaches = omega arith;
+    more = record { premise = λ more. false≢true more; conclusion = λ comes. false≢true comes.are.more };
   };
 }
 
@@ -181,13 +209,15 @@ accepted_is = record {
   allowed = both_allowed;
 }
 
-has_place : HasPlace tight_plan 0 0 (tight_sent ∷ []) (stream_at tight_plan 0 (lines_by one_shown))
-unfolding log checksum addresses header_front internet_header link_header udp_header datagram unnumbered
-has_place [] back is room = omega arith
-has_place (f ∷ front) [] is room = absurd (omega arith)
-has_place (f ∷ front) (b ∷ back) is room =
-    let parts = length-append front (b ∷ back) in
-    let size : length (tight_sent ∷ []) ≡ suc (length (front ++ b ∷ back)) = ap length is in
+-- no more messages precede it than the queue holds, and if as many, one was begun
+pub has_room : (plan : Plan) (k s : ℕ) (earlier : List Sent) (stream : List Entry) → length earlier ≤ (link_plan_at plan.links k).capacity
+    → ((link_plan_at plan.links k).capacity ≤ length earlier → 0 < length (seen_of s stream)) → HasPlace plan k s earlier stream
+has_room plan k s earlier stream few begun [] back is room =
+    let some = begun (omega (arith, ap length is)) in
+    omega arith
+has_room plan k s earlier stream few begun (f ∷ front) back is room =
+    let parts = length-append front back in
+    let size : length earlier ≡ suc (length (front ++ back)) = ap length is in
     absurd (omega arith)
 
 second_turn : Drains 1000 1 tight_link (tight_accepted 0) (lines_by one_shown) (lines_by two_shown) (Released 0 1)
@@ -202,22 +232,20 @@ third_turn = releases 2000 2 tight_link (tight_accepted 0) (lines_by two_shown) 
     (record { left = blanked (tight_frame 1 0 2 A) ∷ blanked (tight_frame 1 24 3 A) ∷ []; some = λ e. cc; ahead = refl })
     refl refl refl refl refl refl refl (record { a = takes _ _; b = takes _ _ })
 
-fourth_turn : (last : ℕ) → is_due 1000 (Some (record { at = 2000; sub = 0 })) last ≡ true
-    → Drains last 1 tight_link (tight_accepted 0) (lines_by three_shown) (lines_by (four_shown last)) (Released 0 3)
+fourth_turn : Drains 3000 1 tight_link (tight_accepted 0) (lines_by three_shown) (lines_by four_shown) (Released 0 3)
 unfolding log checksum addresses header_front internet_header link_header udp_header datagram unnumbered cutting fragments_at
-fourth_turn last due = releases last 3 tight_link (tight_accepted 0) (lines_by three_shown) (lines_by (four_shown last)) (tight_frame 1 24 3 A) (ap (λ (t : Bool). t && true) due) refl (omega arith) refl
+fourth_turn = releases 3000 3 tight_link (tight_accepted 0) (lines_by three_shown) (lines_by four_shown) (tight_frame 1 24 3 A) refl refl (omega arith) refl
     (record { left = blanked (tight_frame 1 24 3 A) ∷ []; some = λ e. cc; ahead = refl })
     refl refl refl refl refl refl refl (record { a = takes _ _; b = takes _ _ })
 
-run_to : (last : ℕ) → is_due 1000 (Some (record { at = 2000; sub = 0 })) last ≡ true
-    → AreFinding tight_plan tight_accepted 0 0 4 (1000 ∷ 2000 ∷ last ∷ []) (lines_by one_shown) (lines_by (four_shown last))
-run_to last due = (
+finding_is : AreFinding tight_plan tight_accepted 0 0 4 (1000 ∷ 2000 ∷ 3000 ∷ []) (lines_by one_shown) (lines_by four_shown)
+finding_is = (
   lines_by two_shown,
   inr (lines_by two_shown, Released 0 1, second_turn, refl),
   (
     lines_by three_shown,
     inr (lines_by three_shown, Released 0 2, third_turn, refl),
-    (lines_by (four_shown last), inr (lines_by (four_shown last), Released 0 3, fourth_turn last due, refl), refl),
+    (lines_by four_shown, inr (lines_by four_shown, Released 0 3, fourth_turn, refl), refl),
   ),
 )
 
@@ -249,22 +277,17 @@ not_released plan k s bound messages before rest late stream is after few r =
     let parts = length-append (fragments_of plan k messages) r.whole.0 in
     omega arith
 
--- without the last frame the second message is incomplete
-not_by : (last bound : ℕ) → bound < last → TightReleased (lines_by (four_shown last)) bound → ⊥
+begins_is : IsPrefixOf (seen_of 0 (stream_at tight_plan 0 (lines_by four_shown))) (fragments_of tight_plan 0 (tight_accepted 0 0))
 unfolding log checksum addresses header_front internet_header link_header udp_header datagram unnumbered cutting fragments_at
-not_by last bound late = not_released tight_plan 0 0 bound (tight_sent ∷ tight_sent ∷ []) (entry 0 (tight_frame 0 0 0 A) ∷ [])
-    (entry 1000 (tight_frame 0 24 1 A) ∷ entry 2000 (tight_frame 1 0 2 A) ∷ []) (entry last (tight_frame 1 24 3 A) ∷ [])
-    (stream_at tight_plan 0 (lines_by (four_shown last))) refl
-    (All-from_recursion (λ (e : Entry). bound < e.at) (entry last (tight_frame 1 24 3 A) ∷ []) (late, tt)) (omega arith)
-
-begins_to : (last : ℕ) → IsPrefixOf (seen_of 0 (stream_at tight_plan 0 (lines_by (four_shown last))))
-    (fragments_of tight_plan 0 (tight_accepted 0 0))
-unfolding log checksum addresses header_front internet_header link_header udp_header datagram unnumbered cutting fragments_at
-begins_to last = ([], refl)
+begins_is = ([], refl)
 
 start_is : IsLater (latest None (stream_at tight_plan 0 (lines_by one_shown))) 0
 unfolding log checksum addresses header_front internet_header link_header udp_header datagram unnumbered
 start_is = omega arith
+
+place_is : HasPlace tight_plan 0 0 (tight_sent ∷ []) (stream_at tight_plan 0 (lines_by one_shown))
+unfolding log checksum addresses header_front internet_header link_header udp_header datagram unnumbered
+place_is = has_room tight_plan 0 0 (tight_sent ∷ []) (stream_at tight_plan 0 (lines_by one_shown)) (omega arith) (λ full. omega arith)
 
 timely_is : AreTimely 1000 0 3000 0 (1000 ∷ 2000 ∷ 3000 ∷ [])
 timely_is = (
@@ -273,36 +296,27 @@ timely_is = (
   (omega arith, λ near. inl (omega arith, omega arith), (omega arith, λ near. inl (omega arith, omega arith), omega arith)),
 )
 
--- the case of a last poll at this time
-tight_case : (last : ℕ) (timely : Bool) → is_due 1000 (Some (record { at = 2000; sub = 0 })) last ≡ true
-    → Holds timely (AreTimely 1000 0 3000 0 (1000 ∷ 2000 ∷ last ∷ [])) → Holds timely (TightReleased (lines_by (four_shown last)) 3000)
-    → TightCase last timely
-tight_case last timely due comes released = record {
-  accepted = accepted_is;
-  start = start_is;
-  place = has_place;
-  finding = run_to last due;
-  begins = begins_to last;
-  is_up = refl;
-  comes = comes;
-  released = released;
-}
+-- without the last frame the second message is incomplete
+not_sooner : TightReleased 2999 → ⊥
+unfolding log checksum addresses header_front internet_header link_header udp_header datagram unnumbered cutting fragments_at
+not_sooner = not_released tight_plan 0 0 2999 (tight_sent ∷ tight_sent ∷ []) (entry 0 (tight_frame 0 0 0 A) ∷ [])
+    (entry 1000 (tight_frame 0 24 1 A) ∷ entry 2000 (tight_frame 1 0 2 A) ∷ []) (entry 3000 (tight_frame 1 24 3 A) ∷ [])
+    (stream_at tight_plan 0 (lines_by four_shown)) refl
+    (All-from_recursion (λ (e : Entry). 2999 < e.at) (entry 3000 (tight_frame 1 24 3 A) ∷ []) (omega arith, tt)) (omega arith)
 
 pub meets_the_wait : MeetsTheWait
 unfolding cutting fragments_at
 meets_the_wait = record {
   valid = tight_valid;
   wait = refl;
-  met = tight_case 3000 true refl timely_is (message_in_run_holds tight_plan tight_accepted (1000 ∷ 2000 ∷ 3000 ∷ [])
-      (lines_by one_shown) (lines_by (four_shown 3000)) 0 0 0 0 (tight_sent ∷ []) tight_sent [] tight_valid accepted_is start_is has_place (run_to 3000 refl) (begins_to 3000) refl timely_is);
-  sooner = not_by 3000 2999 (omega arith);
-}
-
-not_timely : AreTimely 1000 0 3000 0 (1000 ∷ 2000 ∷ 3001 ∷ []) → ⊥
-not_timely timely = ⊎_elim (λ here. absurd (omega arith)) (λ none. none) (timely.2.2.1 (omega arith))
-
-pub needs_its_premises : NeedsItsPremises
-needs_its_premises = record {
-  late = tight_case 3001 false refl not_timely (not_by 3001 3000 (omega arith));
-  crowded = λ place. let none = place [] (tight_sent ∷ []) refl (omega arith) in absurd (omega arith);
+  accepted = accepted_is;
+  start = start_is;
+  place = place_is;
+  finding = finding_is;
+  begins = begins_is;
+  is_up = refl;
+  comes = timely_is;
+  met = message_in_run_holds tight_plan tight_accepted (1000 ∷ 2000 ∷ 3000 ∷ []) (lines_by one_shown) (lines_by four_shown) 0 0 0 0
+      (tight_sent ∷ []) tight_sent [] tight_valid accepted_is start_is place_is finding_is begins_is refl timely_is;
+  sooner = not_sooner;
 }

@@ -1,5 +1,5 @@
 -- Worked runs, of polls of a drain.
-use Rattle.std.specs.Prelude.{Bool, true, false, ◌&&◌, ℕ, ◌≡◌, ◌+◌, ◌≤◌, ◌<◌, List, [], ◌∷◌, map, None}
+use Rattle.std.specs.Prelude.{◌++◌, replicate, Bool, true, false, ◌&&◌, ℕ, ◌≡◌, ◌+◌, ◌≤◌, ◌<◌, List, [], ◌∷◌, map, None}
 use Rattle.afdx_plan.specs.Config.{Plan, IsPlan, link_plan_at}
 use Rattle.afdx_plan.specs.Demo.{demo_plan, demo_link, demo_port}
 use Rattle.afdx_plan.specs.declared.link_plan.LinkPlan.{LinkPlan}
@@ -13,7 +13,7 @@ use Rattle.afdx_legal.specs.Legal.{Accepted}
 use Rattle.afdx_legal.specs.Turns.{more_in}
 use Rattle.afdx_tx.specs.DrainEnds.{stream_at}
 use Rattle.afdx_laws.specs.NextFragment.{link_wait}
-use Rattle.afdx_laws.specs.Rows.{Holds}
+use Rattle.afdx_laws.specs.Rows.{BothFail, Holds}
 use Rattle.afdx_laws.specs.WorkedDelivery.{one_accepted, front_frame, back_frame, bytes_41}
 use Rattle.afdx_plan.specs.declared.port_plan.PortPlan.{PortPlan}
 use Rattle.afdx_frame.specs.declared.net.Net.{Net}
@@ -23,7 +23,7 @@ use Rattle.afdx_frame.specs.Fragments.{Sent}
 use Rattle.vl_shaper.specs.Pace.{IsLater}
 use Rattle.afdx_legal.specs.Streams.{latest, IsPrefixOf}
 use Rattle.plan_analysis.specs.Wait.{worst_wait}
-use Rattle.run_laws.specs.Runs.{AreRuns, ComeWithin, latest_of, ComesBy}
+use Rattle.run_laws.specs.Runs.{AreRuns, EmitterPolls, ComeWithin, latest_of, ComesBy}
 use Rattle.run_laws.specs.MessageInRun.{AreTimely, fragments_of, seen_of, IsAccepted, HasPlace, AreFinding, AreReleasedBy}
 
 -- The demonstration configuration with frames of up to 64 bytes: a message of two fragments was accepted, and its first
@@ -68,14 +68,14 @@ front_entry = entry 0 (front_frame A)
 abbrev pub Comes : Lines → Type 0
 Comes lines = ComesBy (stream_at small_plan 0 lines) front_entry (0 + link_wait 1000 small_link)
 
--- The law for a run of polls at these times. Each premise with flag `true` holds, each other one fails. The second
--- fragment is released by the bound if and only if all hold.
-pub record RunCase (moments : List ℕ) (lines : Lines) (up come reach : Bool) : Type 0 where
-  pub runs : AreRuns small_plan moments front_line lines
+-- The law for polls at these times. Each premise with flag `true` holds, each other one fails. The second fragment is
+-- released by the bound if and only if all hold.
+pub record RunCase (moments : List ℕ) (lines : Lines) (run up come reach : Bool) : Type 0 where
+  pub runs : Holds run (AreRuns small_plan moments front_line lines)
   pub is_up : Holds up (stands_for (link_plan_at small_plan.links 0).networks lines ≡ true)
   pub comes : Holds come (ComeWithin 1000 0 moments)
   pub reaches : Holds reach (0 + link_wait 1000 small_link ≤ latest_of 0 moments)
-  pub next : Holds (up && come && reach) (Comes lines)
+  pub next : Holds (run && up && come && reach) (Comes lines)
 
 -- The run meets the premises, and the second fragment is released at 1,000.
 pub record ComesInRun : Type 0 where
@@ -83,14 +83,27 @@ pub record ComesInRun : Type 0 where
   pub ends : stream_at small_plan 0 front_line ≡ front_entry ∷ []
   pub more : more_in (front_frame A) ≡ true
   pub below : sub_in (front_frame A) < small_link.sub_vls
-  pub run : RunCase (1000 ∷ 2000 ∷ []) both_lines true true true
+  pub run : RunCase (1000 ∷ 2000 ∷ []) both_lines true true true true
 
--- Each premise is needed. Without a poll the second fragment is not released. A late poll releases it after the bound.
--- If both networks fail with its frame, it is lost.
+-- both frames were transmitted, and two polls follow
+pub record EndsWhole : Type 0 where
+  pub runs : AreRuns small_plan (2000 ∷ 3000 ∷ []) both_lines both_lines
+  pub ends : stream_at small_plan 0 both_lines ≡ (front_entry ∷ []) ++ entry 1000 (back_frame A) ∷ []
+  pub is_up : stands_for (link_plan_at small_plan.links 0).networks both_lines ≡ true
+  pub comes : ComeWithin 1000 1000 (2000 ∷ 3000 ∷ [])
+  pub reaches : 1000 + link_wait 1000 small_link ≤ latest_of 1000 (2000 ∷ 3000 ∷ [])
+  pub more : BothFail (more_in (back_frame A) ≡ true)
+      (ComesBy (stream_at small_plan 0 both_lines) (entry 1000 (back_frame A)) (1000 + link_wait 1000 small_link))
+
+-- Each of these premises is needed. Without a poll the second fragment is not released, nor if what follows is no run. A
+-- late poll releases it after the bound. If both networks fail with its frame, it is lost. After the last fragment none
+-- follows.
 pub record NeedsARun : Type 0 where
-  pub none : RunCase [] front_line true true false
-  pub late : RunCase (5000 ∷ []) (both_at 5000) true false true
-  pub lost : RunCase (1000 ∷ 2000 ∷ []) lost_line false true true
+  pub none : RunCase [] front_line true true true false
+  pub idle : RunCase (1000 ∷ 2000 ∷ []) front_line false true true true
+  pub late : RunCase (5000 ∷ []) (both_at 5000) true true false true
+  pub lost : RunCase (1000 ∷ 2000 ∷ []) lost_line true false true true
+  pub whole : EndsWhole
 
 -- A link of one sub-VL with a queue of one message, and a port that sends messages of up to 41 bytes, two frames each.
 -- The first frame of a message is transmitted at time 0, and then another message is accepted.
@@ -124,38 +137,85 @@ two_shown = (0, tight_frame 0 0 0) ∷ (1000, tight_frame 0 24 1) ∷ []
 abbrev pub three_shown : List (ℕ × (Net → List ℕ))
 three_shown = (0, tight_frame 0 0 0) ∷ (1000, tight_frame 0 24 1) ∷ (2000, tight_frame 1 0 2) ∷ []
 
-abbrev pub four_shown : ℕ → List (ℕ × (Net → List ℕ))
-four_shown last = (0, tight_frame 0 0 0) ∷ (1000, tight_frame 0 24 1) ∷ (2000, tight_frame 1 0 2) ∷ (last, tight_frame 1 24 3) ∷ []
+abbrev pub four_shown : List (ℕ × (Net → List ℕ))
+four_shown = (0, tight_frame 0 0 0) ∷ (1000, tight_frame 0 24 1) ∷ (2000, tight_frame 1 0 2) ∷ (3000, tight_frame 1 24 3) ∷ []
 
 -- both messages are wholly released by the bound
-abbrev pub TightReleased : Lines → ℕ → Type 0
-TightReleased lines bound = AreReleasedBy tight_plan 0 0 (tight_sent ∷ tight_sent ∷ [])
-    (stream_at tight_plan 0 (lines_by one_shown)) (stream_at tight_plan 0 lines) bound
+abbrev pub TightReleased : ℕ → Type 0
+TightReleased bound = AreReleasedBy tight_plan 0 0 (tight_sent ∷ tight_sent ∷ [])
+    (stream_at tight_plan 0 (lines_by one_shown)) (stream_at tight_plan 0 (lines_by four_shown)) bound
 
--- The law for polls at 1,000, 2,000 and `last`, with no lateness. Each premise holds, except that the polls may not be
--- timely; the message is wholly released within its wait if and only if they are.
-pub record TightCase (last : ℕ) (timely : Bool) : Type 0 where
-  pub accepted : IsAccepted tight_plan tight_accepted 0 0 (tight_sent ∷ []) tight_sent []
-  pub start : IsLater (latest None (stream_at tight_plan 0 (lines_by one_shown))) 0
-  pub place : HasPlace tight_plan 0 0 (tight_sent ∷ []) (stream_at tight_plan 0 (lines_by one_shown))
-  pub finding : AreFinding tight_plan tight_accepted 0 0 4 (1000 ∷ 2000 ∷ last ∷ []) (lines_by one_shown)
-      (lines_by (four_shown last))
-  pub begins : IsPrefixOf (seen_of 0 (stream_at tight_plan 0 (lines_by (four_shown last))))
-      (fragments_of tight_plan 0 (tight_accepted 0 0))
-  pub is_up : stands_for (link_plan_at tight_plan.links 0).networks (lines_by (four_shown last)) ≡ true
-  pub comes : Holds timely (AreTimely 1000 0 3000 0 (1000 ∷ 2000 ∷ last ∷ []))
-  pub released : Holds timely (TightReleased (lines_by (four_shown last)) 3000)
-
--- The wait of the port is 3,000 microseconds: one gap for each of three fragments, the message's own two and one before
--- them. The message takes exactly that.
+-- Polls follow at 1,000, 2,000 and 3,000, with no lateness. The wait of the port is 3,000 microseconds: one gap for each
+-- of three fragments, the message's own two and one before them. The message takes exactly that.
 pub record MeetsTheWait : Type 0 where
   pub valid : IsPlan tight_plan
   pub wait : worst_wait 0 tight_plan tight_port ≡ 3000
-  pub met : TightCase 3000 true
-  pub sooner : TightReleased (lines_by (four_shown 3000)) 2999 → ⊥
+  pub accepted : IsAccepted tight_plan tight_accepted 0 0 (tight_sent ∷ []) tight_sent []
+  pub start : IsLater (latest None (stream_at tight_plan 0 (lines_by one_shown))) 0
+  pub place : HasPlace tight_plan 0 0 (tight_sent ∷ []) (stream_at tight_plan 0 (lines_by one_shown))
+  pub finding : AreFinding tight_plan tight_accepted 0 0 4 (1000 ∷ 2000 ∷ 3000 ∷ []) (lines_by one_shown) (lines_by four_shown)
+  pub begins : IsPrefixOf (seen_of 0 (stream_at tight_plan 0 (lines_by four_shown))) (fragments_of tight_plan 0 (tight_accepted 0 0))
+  pub is_up : stands_for (link_plan_at tight_plan.links 0).networks (lines_by four_shown) ≡ true
+  pub comes : AreTimely 1000 0 3000 0 (1000 ∷ 2000 ∷ 3000 ∷ [])
+  pub met : TightReleased 3000
+  pub sooner : TightReleased 2999 → ⊥
 
--- If the last poll is a microsecond late, the message is not released within the wait. If nothing was transmitted
--- before the polls, the queue would hold two messages, one more than its capacity.
+-- The same link, with a port that sends messages of one byte: the wait is one gap.
+
+abbrev pub byte_port : PortPlan
+byte_port = record demo_port { max = 1 }
+
+abbrev pub byte_plan : Plan
+byte_plan = record demo_plan { links = tight_link ∷ []; ports = byte_port ∷ [] }
+
+abbrev pub byte_sent : Sent
+byte_sent = record { port = byte_port; bytes = 1 ∷ [] }
+
+-- the sub-VL accepted this many messages
+abbrev pub bytes_accepted : ℕ → Accepted
+bytes_accepted many k sub = replicate many byte_sent
+
+abbrev pub byte_frame : Net → List ℕ
+byte_frame net = frame_of 1 byte_port (1 ∷ []) 0 (piece_at 25 9 0) net 0
+
+abbrev pub no_line : Lines
+no_line = lines_by []
+
+-- the first message, transmitted at `now`
+abbrev pub byte_line : ℕ → Lines
+byte_line now = lines_by ((now, byte_frame) ∷ [])
+
+-- both networks failed before they accepted a frame
+abbrev pub failed_line : Lines
+failed_line = lines_of [] [] 1 1 false false []
+
+-- The law for the message after `earlier` others, where `many` were accepted, and a poll at `now` follows the start at
+-- time 0, with no lateness. Each premise with flag `true` holds, each other one fails, and so does the conclusion.
+pub record ByteCase (many earlier now : ℕ) (lines after : Lines) (accepts starts holds finds up timely : Bool) : Type 0 where
+  pub accepted : Holds accepts (IsAccepted byte_plan (bytes_accepted many) 0 0 (replicate earlier byte_sent) byte_sent [])
+  pub start : Holds starts (IsLater (latest None (stream_at byte_plan 0 lines)) 0)
+  pub place : Holds holds (HasPlace byte_plan 0 0 (replicate earlier byte_sent) (stream_at byte_plan 0 lines))
+  pub finding : Holds finds (AreFinding byte_plan (bytes_accepted many) 0 0 (earlier + 1) (now ∷ []) lines after)
+  pub begins : IsPrefixOf (seen_of 0 (stream_at byte_plan 0 after)) (fragments_of byte_plan 0 (bytes_accepted many 0 0))
+  pub is_up : Holds up (stands_for (link_plan_at byte_plan.links 0).networks after ≡ true)
+  pub comes : Holds timely (AreTimely 1000 0 1000 0 (now ∷ []))
+  pub missed : AreReleasedBy byte_plan 0 0 (replicate earlier byte_sent ++ byte_sent ∷ []) (stream_at byte_plan 0 lines)
+      (stream_at byte_plan 0 after) 1000 → ⊥
+
+-- Each of these premises is needed: one of them fails alone, and the message is not released within its wait.
 pub record NeedsItsPremises : Type 0 where
-  pub late : TightCase 3001 false
-  pub crowded : HasPlace tight_plan 0 0 (tight_sent ∷ []) [] → ⊥
+  pub valid : IsPlan byte_plan
+  pub wait : worst_wait 0 byte_plan byte_port ≡ 1000
+  -- it was not accepted
+  pub unaccepted : ByteCase 0 0 1000 no_line no_line false true true true true true
+  -- the wait starts before the last release
+  pub early : ByteCase 2 1 1000 (byte_line 5000) (byte_line 5000) true false true true true true
+  -- the queue holds two messages, one more than its capacity
+  pub crowded : ByteCase 2 1 1000 no_line (byte_line 1000) true true false true true true
+  -- a poll of the emitter does not find it
+  pub poll : EmitterPolls byte_plan 1000 no_line no_line
+  pub unfound : ByteCase 1 0 1000 no_line no_line true true true false true true
+  -- the networks are down
+  pub down : ByteCase 1 0 1000 failed_line failed_line true true true true false true
+  -- the poll is a microsecond late
+  pub late : ByteCase 1 0 1001 no_line (byte_line 1001) true true true true true false

@@ -21,7 +21,7 @@ pub fn next_in_run()
     // polls of an emitter with three sub-VLs
     ensures in_turn { ComesInTurn }
 
-    // no poll; a late poll; networks that fail with the fragment
+    // no poll; no run; a late poll; networks that fail with the fragment; a last fragment
     ensures needed { NeedsARun }
 {}
 
@@ -53,6 +53,7 @@ pub fn message_in_run()
     // the same of an emitter with three sub-VLs, of which the others send too
     ensures in_turn { WaitsItsTurn }
 
-    // a late poll; a queue that exceeds its capacity
+    // a message that isn't accepted; a start before the last release; a queue that exceeds its capacity; a poll that
+    // doesn't find the message; networks that are down; a late poll
     ensures needed { NeedsItsPremises }
 {}

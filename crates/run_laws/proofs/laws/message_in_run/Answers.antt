@@ -1,7 +1,8 @@
 use Rattle.run_laws.proofs.EmitterRuns.{waits_its_turn}
 use Rattle.run_laws.proofs.MessageRun.{message_in_run_holds}
 use Rattle.run_laws.proofs.Timely.{apart_timely}
-use Rattle.run_laws.proofs.WorkedRuns.{meets_the_wait, needs_its_premises}
+use Rattle.run_laws.proofs.WorkedRuns.{meets_the_wait}
+use Rattle.run_laws.proofs.NeededRuns.{needs_its_premises}
 use Rattle.run_laws.proofs.laws.message_in_run.Goals as goal
 
 pub returns : goal.returns
