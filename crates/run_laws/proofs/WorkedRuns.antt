@@ -7,7 +7,7 @@ use Rattle.afdx_laws.specs.WorkedDelivery.{back_frame}
 use Rattle.afdx_laws.proofs.WorkedDemo.{demo_with_valid}
 use Rattle.afdx_plan.proofs.PlanLemmas.{valid}
 use Rattle.afdx_frame.specs.Checksum.{checksum}
-use Rattle.run_laws.specs.WorkedRun.{both_at, lost_line, NeedsARun, small_link, small_plan, message_accepted, front_line, both_lines, front_entry, ComesInRun, tight_link, tight_port, tight_plan, tight_sent, tight_accepted, tight_frame, lines_by, one_shown, two_shown, three_shown, four_shown, TightReleased, MeetsTheWait}
+use Rattle.run_laws.specs.WorkedRun.{both_at, lost_line, NeedsARun, small_link, small_plan, message_accepted, front_line, both_lines, front_entry, ComesInRun, tight_link, tight_port, tight_plan, tight_sent, tight_accepted, tight_frame, tight_line, TightReleased, MeetsTheWait}
 use Rattle.std.proofs.lemmas.List.{append_cancel_left}
 use Rattle.afdx_plan.specs.Config.{Plan, link_plan_at}
 use Rattle.afdx_laws.proofs.ListLemmas.{nil_isnt_cons, cons_same}
@@ -220,32 +220,32 @@ has_room plan k s earlier stream few begun (f ∷ front) back is room =
     let size : length earlier ≡ suc (length (front ++ back)) = ap length is in
     absurd (omega arith)
 
-second_turn : Drains 1000 1 tight_link (tight_accepted 0) (lines_by one_shown) (lines_by two_shown) (Released 0 1)
+second_turn : Drains 1000 1 tight_link (tight_accepted 0) (tight_line 1) (tight_line 2) (Released 0 1)
 unfolding log checksum addresses header_front internet_header link_header udp_header datagram unnumbered cutting fragments_at
-second_turn = releases 1000 1 tight_link (tight_accepted 0) (lines_by one_shown) (lines_by two_shown) (tight_frame 0 24 1 A) refl refl (omega arith) refl
+second_turn = releases 1000 1 tight_link (tight_accepted 0) (tight_line 1) (tight_line 2) (tight_frame 0 24 1 A) refl refl (omega arith) refl
     (record { left = blanked (tight_frame 0 24 1 A) ∷ blanked (tight_frame 1 0 2 A) ∷ blanked (tight_frame 1 24 3 A) ∷ []; some = λ e. cc; ahead = refl })
     refl refl refl refl refl refl refl (record { a = takes _ _; b = takes _ _ })
 
-third_turn : Drains 2000 1 tight_link (tight_accepted 0) (lines_by two_shown) (lines_by three_shown) (Released 0 2)
+third_turn : Drains 2000 1 tight_link (tight_accepted 0) (tight_line 2) (tight_line 3) (Released 0 2)
 unfolding log checksum addresses header_front internet_header link_header udp_header datagram unnumbered cutting fragments_at
-third_turn = releases 2000 2 tight_link (tight_accepted 0) (lines_by two_shown) (lines_by three_shown) (tight_frame 1 0 2 A) refl refl (omega arith) refl
+third_turn = releases 2000 2 tight_link (tight_accepted 0) (tight_line 2) (tight_line 3) (tight_frame 1 0 2 A) refl refl (omega arith) refl
     (record { left = blanked (tight_frame 1 0 2 A) ∷ blanked (tight_frame 1 24 3 A) ∷ []; some = λ e. cc; ahead = refl })
     refl refl refl refl refl refl refl (record { a = takes _ _; b = takes _ _ })
 
-fourth_turn : Drains 3000 1 tight_link (tight_accepted 0) (lines_by three_shown) (lines_by four_shown) (Released 0 3)
+fourth_turn : Drains 3000 1 tight_link (tight_accepted 0) (tight_line 3) (tight_line 4) (Released 0 3)
 unfolding log checksum addresses header_front internet_header link_header udp_header datagram unnumbered cutting fragments_at
-fourth_turn = releases 3000 3 tight_link (tight_accepted 0) (lines_by three_shown) (lines_by four_shown) (tight_frame 1 24 3 A) refl refl (omega arith) refl
+fourth_turn = releases 3000 3 tight_link (tight_accepted 0) (tight_line 3) (tight_line 4) (tight_frame 1 24 3 A) refl refl (omega arith) refl
     (record { left = blanked (tight_frame 1 24 3 A) ∷ []; some = λ e. cc; ahead = refl })
     refl refl refl refl refl refl refl (record { a = takes _ _; b = takes _ _ })
 
-finding_is : AreFinding tight_plan tight_accepted 0 0 4 (1000 ∷ 2000 ∷ 3000 ∷ []) (lines_by one_shown) (lines_by four_shown)
+finding_is : AreFinding tight_plan tight_accepted 0 0 4 (1000 ∷ 2000 ∷ 3000 ∷ []) (tight_line 1) (tight_line 4)
 finding_is = (
-  lines_by two_shown,
-  inr (lines_by two_shown, Released 0 1, second_turn, refl),
+  tight_line 2,
+  inr (tight_line 2, Released 0 1, second_turn, refl),
   (
-    lines_by three_shown,
-    inr (lines_by three_shown, Released 0 2, third_turn, refl),
-    (lines_by four_shown, inr (lines_by four_shown, Released 0 3, fourth_turn, refl), refl),
+    tight_line 3,
+    inr (tight_line 3, Released 0 2, third_turn, refl),
+    (tight_line 4, inr (tight_line 4, Released 0 3, fourth_turn, refl), refl),
   ),
 )
 
@@ -277,17 +277,17 @@ not_released plan k s bound messages before rest late stream is after few r =
     let parts = length-append (fragments_of plan k messages) r.whole.0 in
     omega arith
 
-begins_is : IsPrefixOf (seen_of 0 (stream_at tight_plan 0 (lines_by four_shown))) (fragments_of tight_plan 0 (tight_accepted 0 0))
+begins_is : IsPrefixOf (seen_of 0 (stream_at tight_plan 0 (tight_line 4))) (fragments_of tight_plan 0 (tight_accepted 0 0))
 unfolding log checksum addresses header_front internet_header link_header udp_header datagram unnumbered cutting fragments_at
 begins_is = ([], refl)
 
-start_is : IsLater (latest None (stream_at tight_plan 0 (lines_by one_shown))) 0
+start_is : IsLater (latest None (stream_at tight_plan 0 (tight_line 1))) 0
 unfolding log checksum addresses header_front internet_header link_header udp_header datagram unnumbered
 start_is = omega arith
 
-place_is : HasPlace tight_plan 0 0 (tight_sent ∷ []) (stream_at tight_plan 0 (lines_by one_shown))
+place_is : HasPlace tight_plan 0 0 (tight_sent ∷ []) (stream_at tight_plan 0 (tight_line 1))
 unfolding log checksum addresses header_front internet_header link_header udp_header datagram unnumbered
-place_is = has_room tight_plan 0 0 (tight_sent ∷ []) (stream_at tight_plan 0 (lines_by one_shown)) (omega arith) (λ full. omega arith)
+place_is = has_room tight_plan 0 0 (tight_sent ∷ []) (stream_at tight_plan 0 (tight_line 1)) (omega arith) (λ full. omega arith)
 
 timely_is : AreTimely 1000 0 3000 0 (1000 ∷ 2000 ∷ 3000 ∷ [])
 timely_is = (
@@ -301,7 +301,7 @@ not_sooner : TightReleased 2999 → ⊥
 unfolding log checksum addresses header_front internet_header link_header udp_header datagram unnumbered cutting fragments_at
 not_sooner = not_released tight_plan 0 0 2999 (tight_sent ∷ tight_sent ∷ []) (entry 0 (tight_frame 0 0 0 A) ∷ [])
     (entry 1000 (tight_frame 0 24 1 A) ∷ entry 2000 (tight_frame 1 0 2 A) ∷ []) (entry 3000 (tight_frame 1 24 3 A) ∷ [])
-    (stream_at tight_plan 0 (lines_by four_shown)) refl
+    (stream_at tight_plan 0 (tight_line 4)) refl
     (All-from_recursion (λ (e : Entry). 2999 < e.at) (entry 3000 (tight_frame 1 24 3 A) ∷ []) (omega arith, tt)) (omega arith)
 
 pub meets_the_wait : MeetsTheWait
@@ -316,7 +316,7 @@ meets_the_wait = record {
   begins = begins_is;
   is_up = refl;
   comes = timely_is;
-  met = message_in_run_holds tight_plan tight_accepted (1000 ∷ 2000 ∷ 3000 ∷ []) (lines_by one_shown) (lines_by four_shown) 0 0 0 0
+  met = message_in_run_holds tight_plan tight_accepted (1000 ∷ 2000 ∷ 3000 ∷ []) (tight_line 1) (tight_line 4) 0 0 0 0
       (tight_sent ∷ []) tight_sent [] tight_valid accepted_is start_is place_is finding_is begins_is refl timely_is;
   sooner = not_sooner;
 }

@@ -1,5 +1,5 @@
 -- Worked runs, of polls of a drain.
-use Rattle.std.specs.Prelude.{◌++◌, replicate, Bool, true, false, ◌&&◌, ℕ, ◌≡◌, ◌+◌, ◌≤◌, ◌<◌, List, [], ◌∷◌, map, None}
+use Rattle.std.specs.Prelude.{take, length, ◌++◌, replicate, Bool, true, false, ◌&&◌, ℕ, ◌≡◌, ◌+◌, ◌≤◌, ◌<◌, List, [], ◌∷◌, map, None}
 use Rattle.afdx_plan.specs.Config.{Plan, IsPlan, link_plan_at}
 use Rattle.afdx_plan.specs.Demo.{demo_plan, demo_link, demo_port}
 use Rattle.afdx_plan.specs.declared.link_plan.LinkPlan.{LinkPlan}
@@ -128,22 +128,15 @@ tight_accepted k sub = tight_sent ∷ tight_sent ∷ []
 abbrev pub tight_frame : (place start number : ℕ) → Net → List ℕ
 tight_frame place start number net = frame_of 1 tight_port bytes_41 place (piece_at 25 49 start) net number
 
-abbrev pub one_shown : List (ℕ × (Net → List ℕ))
-one_shown = (0, tight_frame 0 0 0) ∷ []
-
-abbrev pub two_shown : List (ℕ × (Net → List ℕ))
-two_shown = (0, tight_frame 0 0 0) ∷ (1000, tight_frame 0 24 1) ∷ []
-
-abbrev pub three_shown : List (ℕ × (Net → List ℕ))
-three_shown = (0, tight_frame 0 0 0) ∷ (1000, tight_frame 0 24 1) ∷ (2000, tight_frame 1 0 2) ∷ []
-
-abbrev pub four_shown : List (ℕ × (Net → List ℕ))
-four_shown = (0, tight_frame 0 0 0) ∷ (1000, tight_frame 0 24 1) ∷ (2000, tight_frame 1 0 2) ∷ (3000, tight_frame 1 24 3) ∷ []
+-- the first of these frames, transmitted on both networks
+abbrev pub tight_line : ℕ → Lines
+tight_line many = lines_by (take many ((0, tight_frame 0 0 0) ∷ (1000, tight_frame 0 24 1) ∷ (2000, tight_frame 1 0 2)
+    ∷ (3000, tight_frame 1 24 3) ∷ []))
 
 -- both messages are wholly released by the bound
 abbrev pub TightReleased : ℕ → Type 0
 TightReleased bound = AreReleasedBy tight_plan 0 0 (tight_sent ∷ tight_sent ∷ [])
-    (stream_at tight_plan 0 (lines_by one_shown)) (stream_at tight_plan 0 (lines_by four_shown)) bound
+    (stream_at tight_plan 0 (tight_line 1)) (stream_at tight_plan 0 (tight_line 4)) bound
 
 -- Polls follow at 1,000, 2,000 and 3,000, with no lateness. The wait of the port is 3,000 microseconds: one gap for each
 -- of three fragments, the message's own two and one before them. The message takes exactly that.
@@ -151,11 +144,11 @@ pub record MeetsTheWait : Type 0 where
   pub valid : IsPlan tight_plan
   pub wait : worst_wait 0 tight_plan tight_port ≡ 3000
   pub accepted : IsAccepted tight_plan tight_accepted 0 0 (tight_sent ∷ []) tight_sent []
-  pub start : IsLater (latest None (stream_at tight_plan 0 (lines_by one_shown))) 0
-  pub place : HasPlace tight_plan 0 0 (tight_sent ∷ []) (stream_at tight_plan 0 (lines_by one_shown))
-  pub finding : AreFinding tight_plan tight_accepted 0 0 4 (1000 ∷ 2000 ∷ 3000 ∷ []) (lines_by one_shown) (lines_by four_shown)
-  pub begins : IsPrefixOf (seen_of 0 (stream_at tight_plan 0 (lines_by four_shown))) (fragments_of tight_plan 0 (tight_accepted 0 0))
-  pub is_up : stands_for (link_plan_at tight_plan.links 0).networks (lines_by four_shown) ≡ true
+  pub start : IsLater (latest None (stream_at tight_plan 0 (tight_line 1))) 0
+  pub place : HasPlace tight_plan 0 0 (tight_sent ∷ []) (stream_at tight_plan 0 (tight_line 1))
+  pub finding : AreFinding tight_plan tight_accepted 0 0 4 (1000 ∷ 2000 ∷ 3000 ∷ []) (tight_line 1) (tight_line 4)
+  pub begins : IsPrefixOf (seen_of 0 (stream_at tight_plan 0 (tight_line 4))) (fragments_of tight_plan 0 (tight_accepted 0 0))
+  pub is_up : stands_for (link_plan_at tight_plan.links 0).networks (tight_line 4) ≡ true
   pub comes : AreTimely 1000 0 3000 0 (1000 ∷ 2000 ∷ 3000 ∷ [])
   pub met : TightReleased 3000
   pub sooner : TightReleased 2999 → ⊥
@@ -195,7 +188,8 @@ pub record ByteCase (many earlier now : ℕ) (lines after : Lines) (accepts star
   pub accepted : Holds accepts (IsAccepted byte_plan (bytes_accepted many) 0 0 (replicate earlier byte_sent) byte_sent [])
   pub start : Holds starts (IsLater (latest None (stream_at byte_plan 0 lines)) 0)
   pub place : Holds holds (HasPlace byte_plan 0 0 (replicate earlier byte_sent) (stream_at byte_plan 0 lines))
-  pub finding : Holds finds (AreFinding byte_plan (bytes_accepted many) 0 0 (earlier + 1) (now ∷ []) lines after)
+  pub finding : Holds finds (AreFinding byte_plan (bytes_accepted many) 0 0
+      (length (fragments_of byte_plan 0 (replicate earlier byte_sent ++ byte_sent ∷ []))) (now ∷ []) lines after)
   pub begins : IsPrefixOf (seen_of 0 (stream_at byte_plan 0 after)) (fragments_of byte_plan 0 (bytes_accepted many 0 0))
   pub is_up : Holds up (stands_for (link_plan_at byte_plan.links 0).networks after ≡ true)
   pub comes : Holds timely (AreTimely 1000 0 1000 0 (now ∷ []))
