@@ -1,5 +1,5 @@
 -- The worked run of polls of an emitter, by computation.
-use Rattle.run_laws.proofs.Names.{None, inr, ◌⊎◌, DrainPolls, IsDrained, subst, IsLater, link_plan_at, ◌≡◌, ◌≢◌, ℕ, zero, suc, ◌<◌, List, [], ◌∷◌, ◌++◌, length, refl, ap, sym, ◌∙◌, arith, inl, true, All, All-nil, All-cons, All-from_recursion, below_one, cases_eq, ⊎_elim, A, cutting, fragments_at, blanked, addresses, header_front, internet_header, link_header, udp_header, datagram, unnumbered, Entry, entry, Lines, BothEndure, log, stands_for, may_release, turn_of, pace_in, slice_index, link_in, sub_in, number_in, interface_byte, Held, Passes, held_at, IsQueued, IsAllowed, Released, stream_at, EmitterPolls, IsReady, FindsIt, ArePolls, IsPlan, IsLink, IsPort, taken_in, HasPlace, IsAccepted, AreTimely, fragments_of, seen_of}
+use Rattle.run_laws.proofs.Names.{Contains, None, inr, ◌⊎◌, DrainPolls, IsDrained, subst, IsLater, link_plan_at, ◌≡◌, ◌≢◌, ℕ, zero, suc, ◌<◌, List, [], ◌∷◌, ◌++◌, length, refl, ap, sym, ◌∙◌, arith, inl, true, All, All-nil, All-cons, All-from_recursion, below_one, cases_eq, ⊎_elim, A, cutting, fragments_at, blanked, addresses, header_front, internet_header, link_header, udp_header, datagram, unnumbered, Entry, entry, Lines, BothEndure, log, stands_for, may_release, turn_of, pace_in, slice_index, link_in, sub_in, number_in, interface_byte, Held, Passes, held_at, IsQueued, IsAllowed, Released, stream_at, EmitterPolls, IsReady, FindsIt, ArePolls, IsPlan, IsLink, IsPort, taken_in, HasPlace, IsAccepted, AreTimely, fragments_of, seen_of}
 use Rattle.afdx_plan.proofs.PlanLemmas.{valid}
 use Rattle.afdx_plan.specs.declared.networks.Networks.TheVariants.{Both}
 use Rattle.afdx_frame.specs.Checksum.{checksum}
@@ -10,8 +10,8 @@ use Rattle.vl_link.specs.Links.{GivesFrame, IsSameSub, sent_by, message_fragment
 use Rattle.vl_link.specs.Seen.{Seen, Finds, receiving, gathered, taken_of}
 use Rattle.vl_link.proofs.SubInStep.{moves_of, gave_same, same_sub_here, same_sub_on}
 use Rattle.afdx_legal.specs.Streams.{sub_stream, latest, IsPrefixOf}
-use Rattle.run_laws.specs.WorkedRun.{front_entry}
-use Rattle.run_laws.specs.EmitterRun.{three_link, short_port, three_plan, short_sent, long_sent, three_accepted, short_frame, end_frame, line_after, long_sub, short_sub, subs_of, tx_of, ComesInTurn, ThirdReleased, WaitsItsTurn}
+use Rattle.run_laws.specs.WorkedRun.{short_port, short_sent, short_frame, front_entry}
+use Rattle.run_laws.specs.EmitterRun.{three_link, three_plan, long_sent, three_accepted, end_frame, line_after, long_sub, short_sub, subs_of, tx_of, ComesInTurn, ThirdReleased, WaitsItsTurn}
 use Rattle.run_laws.proofs.WorkedRuns.{has_room, takes, not_released}
 use Rattle.run_laws.proofs.NextRun.{next_in_run_holds}
 use Rattle.run_laws.proofs.MessageRun.{message_in_run_holds}
@@ -32,32 +32,32 @@ long_allowed = record {
   most = omega arith;
 }
 
-first_allowed : IsAllowed three_plan 0 1 (short_sent 1)
-first_allowed = record {
-  queued = record { port = (1, omega arith, refl); over = refl; its = refl; some = omega arith; most = omega arith };
+short_allowed : (sub : ℕ) → Contains three_plan.ports (short_port sub) → IsAllowed three_plan 0 sub (short_sent sub)
+short_allowed sub port = record {
+  queued = record { port = port; over = refl; its = refl; some = omega arith; most = omega arith };
   most = omega arith;
 }
 
+first_allowed : IsAllowed three_plan 0 1 (short_sent 1)
+first_allowed = short_allowed 1 (1, omega arith, refl)
+
 second_allowed : IsAllowed three_plan 0 2 (short_sent 2)
-second_allowed = record {
-  queued = record { port = (2, omega arith, refl); over = refl; its = refl; some = omega arith; most = omega arith };
-  most = omega arith;
-}
+second_allowed = short_allowed 2 (2, omega arith, refl)
 
 queued : (sub many : ℕ) → IsQueued three_plan 0 sub (short_sent sub)
     → All (IsQueued three_plan 0 sub) (sent_by (short_port sub ∷ []) (replicate many (0, 1 ∷ [])))
 queued sub zero q = All-nil (IsQueued three_plan 0 sub)
 queued sub (suc many) q = All-cons (IsQueued three_plan 0 sub) (short_sent sub) _ q (queued sub many q)
 
-ready : (moment : ℕ) (left : List (List ℕ)) (first second : ℕ) (lines : Lines) → IsReady (tx_of moment (subs_of left first second) lines)
-ready moment left first second lines = record {
+ready : (left : List (List ℕ)) (first second : ℕ) (lines : Lines) → IsReady (tx_of three_plan three_link (subs_of left first second) lines)
+ready left first second lines = record {
   count = refl;
   links = below_one _ (record { plan_is = refl; gap = refl; sub_vls = refl });
   allowed = λ k s lt. by_link k lt s;
 }
   where
     by_link : (k : ℕ) → k < 1 → (s : ℕ) → s < (link_plan_at three_plan.links k).sub_vls
-        → All (IsQueued three_plan k s) (taken_in (tx_of moment (subs_of left first second) lines).links k s)
+        → All (IsQueued three_plan k s) (taken_in (tx_of three_plan three_link (subs_of left first second) lines).links k s)
     by_link = below_one _ (by_three _ (All-from_recursion (IsQueued three_plan 0 0) (long_sent ∷ []) (long_allowed.queued, tt))
         (queued 1 first first_allowed.queued) (queued 2 second second_allowed.queued))
 
@@ -83,9 +83,9 @@ gives : (now sub number : ℕ) (frame : List ℕ) (left new_left : List (List �
     → stands_for Both after ≡ true → BothEndure lines after → FindsIt three_plan 0 1 2 now lines after
 gives now sub number frame left new_left first new_first second new_second lines after may next is given others tied size own of carries interface enters stands endure = record {
   poll = record {
-    old = tx_of now (subs_of left first second) lines;
-    new = tx_of now (subs_of new_left new_first new_second) after;
-    ready = ready now left first second lines;
+    old = tx_of three_plan three_link (subs_of left first second) lines;
+    new = tx_of three_plan three_link (subs_of new_left new_first new_second) after;
+    ready = ready left first second lines;
     of = refl;
     before = refl;
     afterwards = refl;
@@ -150,20 +150,13 @@ starts sub many after frame found left = record {
   gives = record { next = refl; same = refl };
 }
 
-rest_0 : (a new b c : Held) (s : ℕ) → s ≢ 0 → held_at (new ∷ b ∷ c ∷ []) s ≡ held_at (a ∷ b ∷ c ∷ []) s
-rest_0 a new b c zero other = absurd (other refl)
-rest_0 a new b c (suc s) other = refl
-
-rest_1 : (a b new c : Held) (s : ℕ) → s ≢ 1 → held_at (a ∷ new ∷ c ∷ []) s ≡ held_at (a ∷ b ∷ c ∷ []) s
-rest_1 a b new c zero other = refl
-rest_1 a b new c (suc zero) other = absurd (other refl)
-rest_1 a b new c (suc (suc s)) other = refl
-
-rest_2 : (a b c new : Held) (s : ℕ) → s ≢ 2 → held_at (a ∷ b ∷ new ∷ []) s ≡ held_at (a ∷ b ∷ c ∷ []) s
-rest_2 a b c new zero other = refl
-rest_2 a b c new (suc zero) other = refl
-rest_2 a b c new (suc (suc zero)) other = absurd (other refl)
-rest_2 a b c new (suc (suc (suc s))) other = refl
+-- a list of three that differs in one place
+rest_is : (a b c x y z : Held) (s i : ℕ) → (0 ≢ i → x ≡ a) → (1 ≢ i → y ≡ b) → (2 ≢ i → z ≡ c) → s ≢ i
+    → held_at (x ∷ y ∷ z ∷ []) s ≡ held_at (a ∷ b ∷ c ∷ []) s
+rest_is a b c x y z zero i first second third other = first other
+rest_is a b c x y z (suc zero) i first second third other = second other
+rest_is a b c x y z (suc (suc zero)) i first second third other = third other
+rest_is a b c x y z (suc (suc (suc s))) i first second third other = refl
 
 abbrev end_left : List (List ℕ)
 end_left = blanked (end_frame A) ∷ []
@@ -171,26 +164,26 @@ end_left = blanked (end_frame A) ∷ []
 first_poll : FindsIt three_plan 0 1 2 3000 (line_after 1) (line_after 2)
 unfolding log checksum addresses header_front internet_header link_header udp_header datagram unnumbered cutting fragments_at
 first_poll = gives 3000 1 1 (short_frame 1 0 1 A) end_left end_left 0 1 0 0 (line_after 1) (line_after 2) refl refl refl
-    (starts 1 0 1 (short_frame 1 0 1 A) refl refl) (rest_1 _ _ _ _) (by_three _ refl refl refl)
+    (starts 1 0 1 (short_frame 1 0 1 A) refl refl) (λ s. rest_is _ _ _ _ _ _ s 1 (λ e. refl) (λ e. absurd (e refl)) (λ e. refl)) (by_three _ refl refl refl)
     refl refl refl refl refl refl refl (record { a = takes _ _; b = takes _ _ })
 
 second_poll : FindsIt three_plan 0 1 2 6000 (line_after 2) (line_after 3)
 unfolding log checksum addresses header_front internet_header link_header udp_header datagram unnumbered cutting fragments_at
 second_poll = gives 6000 2 2 (short_frame 2 0 2 A) end_left end_left 1 1 0 1 (line_after 2) (line_after 3) refl refl refl
-    (starts 2 0 1 (short_frame 2 0 2 A) refl refl) (rest_2 _ _ _ _) (by_three _ refl refl refl)
+    (starts 2 0 1 (short_frame 2 0 2 A) refl refl) (λ s. rest_is _ _ _ _ _ _ s 2 (λ e. refl) (λ e. refl) (λ e. absurd (e refl))) (by_three _ refl refl refl)
     refl refl refl refl refl refl refl (record { a = takes _ _; b = takes _ _ })
 
 third_poll : FindsIt three_plan 0 1 2 9000 (line_after 3) (line_after 4)
 unfolding log checksum addresses header_front internet_header link_header udp_header datagram unnumbered cutting fragments_at
 third_poll = gives 9000 0 3 (end_frame A) end_left [] 1 1 1 1 (line_after 3) (line_after 4) refl refl refl
     (record { mid = long_sub end_left; asked = inl (record { some = λ e. cc; same = refl }); gives = record { next = refl; same = refl } })
-    (rest_0 _ _ _ _) (by_three _ refl refl refl)
+    (λ s. rest_is _ _ _ _ _ _ s 0 (λ e. absurd (e refl)) (λ e. refl) (λ e. refl)) (by_three _ refl refl refl)
     refl refl refl refl refl refl refl (record { a = takes _ _; b = takes _ _ })
 
 fourth_poll : FindsIt three_plan 0 1 2 12000 (line_after 4) (line_after 5)
 unfolding log checksum addresses header_front internet_header link_header udp_header datagram unnumbered cutting fragments_at
 fourth_poll = gives 12000 1 4 (short_frame 1 1 4 A) [] [] 1 2 1 1 (line_after 4) (line_after 5) refl refl refl
-    (starts 1 1 2 (short_frame 1 1 4 A) refl refl) (rest_1 _ _ _ _) (by_three _ refl refl refl)
+    (starts 1 1 2 (short_frame 1 1 4 A) refl refl) (λ s. rest_is _ _ _ _ _ _ s 1 (λ e. refl) (λ e. absurd (e refl)) (λ e. refl)) (by_three _ refl refl refl)
     refl refl refl refl refl refl refl (record { a = takes _ _; b = takes _ _ })
 
 finding : ArePolls (FindsIt three_plan 0 1 2) (6000 ∷ 9000 ∷ 12000 ∷ []) (line_after 2) (line_after 5)

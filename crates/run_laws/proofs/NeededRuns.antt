@@ -1,18 +1,15 @@
 -- The cases in which a premise of the law of a message in a run fails, by computation.
-use Rattle.run_laws.proofs.Names.{Served, sym, append-nil, drop, IsQueued, ◌≡◌, ℕ, zero, suc, ◌<◌, ◌≤◌, [], ◌∷◌, ◌++◌, length, refl, arith, inl, inr, false, All-nil, All-from_recursion, ⊎_elim, below_one, below_both, false≢true, A, cutting, fragments_at, addresses, header_front, internet_header, link_header, udp_header, datagram, unnumbered, Entry, entry, Lines, log, None, Nothing, Released, Drains, Held, Passes, held_at, IsAllowed, stream_at, EmitterPolls, AreTimely, AreFinding, IsAccepted, fragments_of, seen_of, IsPlan, IsLink, IsPort}
+use Rattle.run_laws.proofs.Names.{Served, sym, append-nil, drop, IsQueued, All, ◌≡◌, ℕ, zero, suc, ◌<◌, ◌≤◌, [], ◌∷◌, ◌++◌, length, refl, arith, inl, inr, All-nil, All-from_recursion, ⊎_elim, below_one, below_both, false≢true, A, cutting, fragments_at, addresses, header_front, internet_header, link_header, udp_header, datagram, unnumbered, Entry, entry, Lines, log, Nothing, Released, Drains, Held, Passes, held_at, IsAllowed, stream_at, EmitterPolls, AreTimely, AreFinding, IsAccepted, fragments_of, seen_of, IsPlan, IsLink, IsPort}
 use Rattle.std.specs.Prelude.{replicate}
 use Rattle.afdx_plan.proofs.PlanLemmas.{valid}
 use Rattle.afdx_frame.specs.Checksum.{checksum}
-use Rattle.status_board.specs.History.{zeros}
-use Rattle.status_board.specs.Views.{no_cell}
-use Rattle.subvl_queue.specs.Views.{ReceiverView, new_receiver, looked}
+use Rattle.subvl_queue.specs.Views.{ReceiverView, looked}
 use Rattle.vl_link.specs.Links.{IsSameSub}
-use Rattle.vl_link.specs.Seen.{receiving}
 use Rattle.vl_link.proofs.SubInStep.{moves_of, same_sub_here}
 use Rattle.afdx_laws.proofs.ListLemmas.{nil_isnt_cons}
-use Rattle.afdx_tx.specs.Emitter.{Tx}
 use Rattle.run_laws.specs.MessageInRun.{AreReleasedBy}
-use Rattle.run_laws.specs.WorkedRun.{tight_link, byte_port, byte_plan, byte_sent, bytes_accepted, byte_frame, no_line, byte_line, failed_line, NeedsItsPremises}
+use Rattle.run_laws.specs.EmitterRun.{fresh, sub_of, tx_of}
+use Rattle.run_laws.specs.WorkedRun.{tight_link, short_port, byte_plan, short_sent, bytes_accepted, short_frame, no_line, byte_line, failed_line, NeedsItsPremises}
 use Rattle.run_laws.proofs.WorkedRuns.{takes, releases, has_room, not_released}
 use Rattle.run_laws.proofs.MessageRun.{message_in_run_holds}
 
@@ -20,33 +17,28 @@ byte_valid : IsPlan byte_plan
 byte_valid = valid byte_plan (omega arith) (All-from_recursion IsLink byte_plan.links (omega arith))
     (All-from_recursion IsPort byte_plan.ports (omega arith)) refl
 
-may_send : IsAllowed byte_plan 0 0 byte_sent
+may_send : IsAllowed byte_plan 0 0 (short_sent 0)
 may_send = record {
   queued = record { port = (0, omega arith, refl); over = refl; its = refl; some = omega arith; most = omega arith };
   most = omega arith;
 }
 
-one_is : IsAccepted byte_plan (bytes_accepted 1) 0 0 [] byte_sent []
-one_is = record {
-  link = omega arith;
-  sub = omega arith;
-  are = refl;
-  allowed = below_both _ _ refl (All-from_recursion (IsAllowed byte_plan 0 0) (byte_sent ∷ []) (may_send, tt));
-}
+accepted_are : (earlier : ℕ) → bytes_accepted (suc earlier) 0 0 ≡ replicate earlier (short_sent 0) ++ short_sent 0 ∷ []
+    → All (IsAllowed byte_plan 0 0) (bytes_accepted (suc earlier) 0 0)
+    → IsAccepted byte_plan (bytes_accepted (suc earlier)) 0 0 (replicate earlier (short_sent 0)) (short_sent 0) []
+accepted_are earlier are all = record { link = omega arith; sub = omega arith; are = are; allowed = below_both _ _ refl all }
 
-two_are : IsAccepted byte_plan (bytes_accepted 2) 0 0 (byte_sent ∷ []) byte_sent []
-two_are = record {
-  link = omega arith;
-  sub = omega arith;
-  are = refl;
-  allowed = below_both _ _ refl (All-from_recursion (IsAllowed byte_plan 0 0) (byte_sent ∷ byte_sent ∷ []) (may_send, (may_send, tt)));
-}
+one_is : IsAccepted byte_plan (bytes_accepted 1) 0 0 [] (short_sent 0) []
+one_is = accepted_are 0 refl (All-from_recursion (IsAllowed byte_plan 0 0) (short_sent 0 ∷ []) (may_send, tt))
+
+two_are : IsAccepted byte_plan (bytes_accepted 2) 0 0 (short_sent 0 ∷ []) (short_sent 0) []
+two_are = accepted_are 1 refl (All-from_recursion (IsAllowed byte_plan 0 0) (short_sent 0 ∷ short_sent 0 ∷ []) (may_send, (may_send, tt)))
 
 -- a poll that transmits the first of one or two messages
 sends : (now more : ℕ) → Drains now 1 tight_link (bytes_accepted (suc more) 0) no_line (byte_line now) (Released 0 0)
 unfolding log checksum addresses header_front internet_header link_header udp_header datagram unnumbered cutting fragments_at
-sends now more = releases now 0 tight_link (bytes_accepted (suc more) 0) no_line (byte_line now) (byte_frame A) refl refl (omega arith) refl
-    (record { left = fragments_of byte_plan 0 (replicate (suc more) byte_sent); some = λ e. cc; ahead = refl })
+sends now more = releases now 0 tight_link (bytes_accepted (suc more) 0) no_line (byte_line now) (short_frame 0 0 0 A) refl refl (omega arith) refl
+    (record { left = fragments_of byte_plan 0 (replicate (suc more) (short_sent 0)); some = λ e. cc; ahead = refl })
     refl refl refl refl refl refl refl (record { a = takes _ _; b = takes _ _ })
 
 finds : (many before now : ℕ) (lines after : Lines) (did : Served) → Drains now 1 tight_link (bytes_accepted many 0) lines after did
@@ -56,33 +48,9 @@ finds many before now lines after did turn = (after, inr (after, did, turn, refl
 in_time : AreTimely 1000 0 1000 0 (1000 ∷ [])
 in_time = (omega arith, λ near. inl (omega arith, omega arith), omega arith)
 
--- the sub-VL, before its queue is polled and afterwards
-abbrev fresh : ReceiverView
-fresh = new_receiver no_cell 1 1
-
+-- the sub-VL, by its queue
 abbrev held : ReceiverView → Held
-held queue = record {
-  of = record { end_system = 1; link = tight_link; sub = 0 };
-  ports = byte_port ∷ [];
-  left = [];
-  seen = receiving queue;
-}
-
-abbrev tx : ReceiverView → Tx
-tx queue = record {
-  plan = byte_plan;
-  links = record {
-    end_system = 1;
-    plan = tight_link;
-    pace = record { gap = 1000; sub_vls = 1; last = None; next = 0 };
-    subs = held queue ∷ [];
-    lost = false;
-    counts = zeros;
-  } ∷ [];
-  lines = no_line;
-  moment = 0;
-  board = [];
-}
+held queue = sub_of tight_link 0 (short_port 0) [] queue
 
 passes : Passes (held fresh) (held (looked fresh))
 passes = record { whole = refl; nothing = refl; same = refl }
@@ -91,8 +59,8 @@ passes = record { whole = refl; nothing = refl; same = refl }
 a_poll : EmitterPolls byte_plan 1000 no_line no_line
 unfolding log
 a_poll = record {
-  old = tx fresh;
-  new = tx (looked fresh);
+  old = tx_of byte_plan tight_link (held fresh ∷ []) no_line;
+  new = tx_of byte_plan tight_link (held (looked fresh) ∷ []) no_line;
   ready = record {
     count = refl;
     links = below_one _ (record { plan_is = refl; gap = refl; sub_vls = refl });
@@ -126,9 +94,9 @@ a_poll = record {
 
 -- nothing is transmitted after these lines, and too little before
 misses : (earlier : ℕ) (lines : Lines)
-    → length (seen_of 0 (stream_at byte_plan 0 lines ++ [])) < length (fragments_of byte_plan 0 (replicate earlier byte_sent ++ byte_sent ∷ []))
-    → AreReleasedBy byte_plan 0 0 (replicate earlier byte_sent ++ byte_sent ∷ []) (stream_at byte_plan 0 lines) (stream_at byte_plan 0 lines) 1000 → ⊥
-misses earlier lines few = not_released byte_plan 0 0 1000 (replicate earlier byte_sent ++ byte_sent ∷ []) (stream_at byte_plan 0 lines) [] []
+    → length (seen_of 0 (stream_at byte_plan 0 lines ++ [])) < length (fragments_of byte_plan 0 (replicate earlier (short_sent 0) ++ short_sent 0 ∷ []))
+    → AreReleasedBy byte_plan 0 0 (replicate earlier (short_sent 0) ++ short_sent 0 ∷ []) (stream_at byte_plan 0 lines) (stream_at byte_plan 0 lines) 1000 → ⊥
+misses earlier lines few = not_released byte_plan 0 0 1000 (replicate earlier (short_sent 0) ++ short_sent 0 ∷ []) (stream_at byte_plan 0 lines) [] []
     (stream_at byte_plan 0 lines) (sym (append-nil _)) (All-nil (λ (e : Entry). 1000 < e.at)) few
 
 pub needs_its_premises : NeedsItsPremises
@@ -149,7 +117,7 @@ needs_its_premises = record {
   early = record {
     accepted = two_are;
     start = λ starts. absurd (omega arith);
-    place = has_room byte_plan 0 0 (byte_sent ∷ []) (stream_at byte_plan 0 (byte_line 5000)) (omega arith) (λ full. omega arith);
+    place = has_room byte_plan 0 0 (short_sent 0 ∷ []) (stream_at byte_plan 0 (byte_line 5000)) (omega arith) (λ full. omega arith);
     finding = finds 2 2 1000 (byte_line 5000) (byte_line 5000) Nothing (inl (refl, λ s. tt), refl);
     begins = (drop 1 (fragments_of byte_plan 0 (bytes_accepted 2 0 0)), refl);
     is_up = refl;
@@ -159,12 +127,12 @@ needs_its_premises = record {
   crowded = record {
     accepted = two_are;
     start = tt;
-    place = λ place. let none = place [] (byte_sent ∷ []) refl (omega arith) in absurd (omega arith);
+    place = λ place. let none = place [] (short_sent 0 ∷ []) refl (omega arith) in absurd (omega arith);
     finding = finds 2 2 1000 no_line (byte_line 1000) (Released 0 0) (sends 1000 1);
     begins = (drop 1 (fragments_of byte_plan 0 (bytes_accepted 2 0 0)), refl);
     is_up = refl;
     comes = in_time;
-    missed = not_released byte_plan 0 0 1000 (byte_sent ∷ byte_sent ∷ []) [] (entry 1000 (byte_frame A) ∷ []) []
+    missed = not_released byte_plan 0 0 1000 (short_sent 0 ∷ short_sent 0 ∷ []) [] (entry 1000 (short_frame 0 0 0 A) ∷ []) []
         (stream_at byte_plan 0 (byte_line 1000)) refl (All-nil (λ (e : Entry). 1000 < e.at)) (omega arith);
   };
   poll = a_poll;
@@ -173,7 +141,7 @@ needs_its_premises = record {
     start = tt;
     place = has_room byte_plan 0 0 [] [] (omega arith) (λ full. absurd (omega arith));
     finding = λ finding. misses 0 no_line (omega arith) (message_in_run_holds byte_plan (bytes_accepted 1) (1000 ∷ []) no_line no_line 0 0 0 0
-        [] byte_sent [] byte_valid one_is tt (has_room byte_plan 0 0 [] [] (omega arith) (λ full. absurd (omega arith)))
+        [] (short_sent 0) [] byte_valid one_is tt (has_room byte_plan 0 0 [] [] (omega arith) (λ full. absurd (omega arith)))
         finding (fragments_of byte_plan 0 (bytes_accepted 1 0 0), refl) refl in_time);
     begins = (fragments_of byte_plan 0 (bytes_accepted 1 0 0), refl);
     is_up = refl;
@@ -198,7 +166,7 @@ needs_its_premises = record {
     begins = ([], refl);
     is_up = refl;
     comes = λ timely. ⊎_elim (λ here. absurd (omega arith)) (λ none. none) (timely.1 (omega arith));
-    missed = not_released byte_plan 0 0 1000 (byte_sent ∷ []) [] [] (entry 1001 (byte_frame A) ∷ []) (stream_at byte_plan 0 (byte_line 1001)) refl
-        (All-from_recursion (λ (e : Entry). 1000 < e.at) (entry 1001 (byte_frame A) ∷ []) (omega arith, tt)) (omega arith);
+    missed = not_released byte_plan 0 0 1000 (short_sent 0 ∷ []) [] [] (entry 1001 (short_frame 0 0 0 A) ∷ []) (stream_at byte_plan 0 (byte_line 1001)) refl
+        (All-from_recursion (λ (e : Entry). 1000 < e.at) (entry 1001 (short_frame 0 0 0 A) ∷ []) (omega arith, tt)) (omega arith);
   };
 }

@@ -1,7 +1,7 @@
 -- A worked run of polls of an emitter over a link of three sub-VLs, with queues of one message. The first frame of a
 -- message of two fragments of sub-VL 0 was transmitted at time 0. The other two sub-VLs send messages of one byte. Four
 -- polls follow, 3,000 microseconds apart.
-use Rattle.std.specs.Prelude.{ℕ, zero, suc, ◌+◌, ◌≡◌, ◌<◌, false, nat_lt, List, [], ◌∷◌, length, replicate, take, true, None}
+use Rattle.std.specs.Prelude.{ℕ, zero, suc, ◌≡◌, ◌<◌, false, nat_lt, List, [], ◌∷◌, length, replicate, take, true, None}
 use Rattle.afdx_plan.specs.Config.{Plan, IsPlan}
 use Rattle.afdx_plan.specs.Demo.{demo_plan, demo_port}
 use Rattle.afdx_plan.specs.declared.link_plan.LinkPlan.{LinkPlan}
@@ -13,7 +13,7 @@ use Rattle.afdx_frame.specs.Frame.{frame_of}
 use Rattle.afdx_frame.specs.Fragments.{Sent}
 use Rattle.afdx_frame.specs.Header.{sub_in}
 use Rattle.redundant_mux.specs.Lines.{Lines, log, stands_for}
-use Rattle.subvl_queue.specs.Views.{new_receiver, after_take}
+use Rattle.subvl_queue.specs.Views.{ReceiverView, new_receiver, after_take}
 use Rattle.status_board.specs.Views.{no_cell}
 use Rattle.vl_shaper.specs.Pace.{IsLater}
 use Rattle.afdx_legal.specs.Counting.{counts_in}
@@ -29,20 +29,13 @@ use Rattle.afdx_laws.specs.NextFragment.{link_wait}
 use Rattle.afdx_laws.specs.WorkedDelivery.{front_frame, bytes_41}
 use Rattle.run_laws.specs.Runs.{ArePolls, EmitterPolls, ComeWithin, ComesBy}
 use Rattle.run_laws.specs.MessageInRun.{AreTimely, AreReleasedBy, FindsIt, HasPlace, IsAccepted, fragments_of, seen_of}
-use Rattle.run_laws.specs.WorkedRun.{tight_link, front_entry, lines_by}
+use Rattle.run_laws.specs.WorkedRun.{short_port, short_sent, short_frame, tight_link, front_entry, lines_by}
 
 abbrev pub three_link : LinkPlan
 three_link = record tight_link { sub_vls = 3 }
 
--- the port of sub-VL 1 or 2
-abbrev pub short_port : ℕ → PortPlan
-short_port sub = record demo_port { id = record { 0 = 10 + sub }; sub = sub; source = 1000 + sub; max = 1 }
-
 abbrev pub three_plan : Plan
 three_plan = record demo_plan { links = three_link ∷ []; ports = demo_port ∷ short_port 1 ∷ short_port 2 ∷ [] }
-
-abbrev pub short_sent : ℕ → Sent
-short_sent sub = record { port = short_port sub; bytes = 1 ∷ [] }
 
 abbrev pub long_sent : Sent
 long_sent = record { port = demo_port; bytes = bytes_41 }
@@ -53,10 +46,6 @@ three_accepted k zero = long_sent ∷ []
 three_accepted k (suc zero) = short_sent 1 ∷ short_sent 1 ∷ []
 three_accepted k (suc (suc sub)) = short_sent 2 ∷ []
 
--- the frame of the message at this place
-abbrev pub short_frame : (sub place number : ℕ) → Net → List ℕ
-short_frame sub place number net = frame_of 1 (short_port sub) (1 ∷ []) place (piece_at 25 9 0) net number
-
 -- the second frame of the long message, with number 3
 abbrev pub end_frame : Net → List ℕ
 end_frame net = frame_of 1 demo_port bytes_41 0 (piece_at 25 49 24) net 3
@@ -66,42 +55,46 @@ abbrev pub line_after : ℕ → Lines
 line_after many = lines_by (take many ((0, front_frame) ∷ (3000, short_frame 1 0 1) ∷ (6000, short_frame 2 0 2)
     ∷ (9000, end_frame) ∷ (12000, short_frame 1 1 4) ∷ []))
 
-abbrev pub long_sub : List (List ℕ) → Held
-long_sub left = record {
-  of = record { end_system = 1; link = three_link; sub = 0 };
-  ports = demo_port ∷ [];
+-- a sub-VL of one port, whose queue this is, with what is left of a message
+abbrev pub sub_of : LinkPlan → (sub : ℕ) → PortPlan → List (List ℕ) → ReceiverView → Held
+sub_of link sub port left queue = record {
+  of = record { end_system = 1; link = link; sub = sub };
+  ports = port ∷ [];
   left = left;
-  seen = receiving (after_take (new_receiver no_cell 1 1) (0, bytes_41));
+  seen = receiving queue;
 }
+
+-- a queue that was not polled
+abbrev pub fresh : ReceiverView
+fresh = new_receiver no_cell 1 1
+
+abbrev pub long_sub : List (List ℕ) → Held
+long_sub left = sub_of three_link 0 demo_port left (after_take fresh (0, bytes_41))
 
 -- sub-VL 1 or 2, which took and sent these messages
 abbrev pub short_sub : ℕ → List (ℕ × List ℕ) → Held
-short_sub sub taken = record {
-  of = record { end_system = 1; link = three_link; sub = sub };
-  ports = short_port sub ∷ [];
-  left = [];
-  seen = receiving (record (new_receiver no_cell 1 1) { looks = length taken; found = nat_lt 0 (length taken); taken = taken });
-}
+short_sub sub taken = sub_of three_link sub (short_port sub) []
+    (record fresh { looks = length taken; found = nat_lt 0 (length taken); taken = taken })
 
 -- the sub-VLs with what is left of the long message, and the numbers of short messages sent
 abbrev pub subs_of : (left : List (List ℕ)) (first second : ℕ) → List Held
 subs_of left first second = long_sub left ∷ short_sub 1 (replicate first (0, 1 ∷ []))
     ∷ short_sub 2 (replicate second (0, 1 ∷ [])) ∷ []
 
--- the emitter whose link has these sub-VLs
-abbrev pub tx_of : (moment : ℕ) → List Held → Lines → Tx
-tx_of moment subs lines = record {
-  plan = three_plan;
+-- the emitter of a plan with a link, whose sub-VLs these are
+abbrev pub tx_of : Plan → LinkPlan → List Held → Lines → Tx
+tx_of plan link subs lines = record {
+  plan = plan;
   links = record {
     end_system = 1;
-    plan = three_link;
-    pace = pace_of 1000 3 (link_stream 1 (log lines));
+    plan = link;
+    pace = pace_of 1000 link.sub_vls (link_stream 1 (log lines));
     subs = subs;
     lost = false;
     counts = counts_in (link_stream 1 (log lines));
   } ∷ [];
   lines = lines;
-  moment = moment;
+  moment = 0;
   board = [];
 }
 

@@ -155,28 +155,30 @@ pub record MeetsTheWait : Type 0 where
 
 -- The same link, with a port that sends messages of one byte: the wait is one gap.
 
-abbrev pub byte_port : PortPlan
-byte_port = record demo_port { max = 1 }
+-- such a port of this sub-VL
+abbrev pub short_port : ℕ → PortPlan
+short_port sub = record demo_port { id = record { 0 = 10 + sub }; sub = sub; source = 1000 + sub; max = 1 }
+
+abbrev pub short_sent : ℕ → Sent
+short_sent sub = record { port = short_port sub; bytes = 1 ∷ [] }
+
+-- the frame of the message at this place
+abbrev pub short_frame : (sub place number : ℕ) → Net → List ℕ
+short_frame sub place number net = frame_of 1 (short_port sub) (1 ∷ []) place (piece_at 25 9 0) net number
 
 abbrev pub byte_plan : Plan
-byte_plan = record demo_plan { links = tight_link ∷ []; ports = byte_port ∷ [] }
-
-abbrev pub byte_sent : Sent
-byte_sent = record { port = byte_port; bytes = 1 ∷ [] }
+byte_plan = record demo_plan { links = tight_link ∷ []; ports = short_port 0 ∷ [] }
 
 -- the sub-VL accepted this many messages
 abbrev pub bytes_accepted : ℕ → Accepted
-bytes_accepted many k sub = replicate many byte_sent
-
-abbrev pub byte_frame : Net → List ℕ
-byte_frame net = frame_of 1 byte_port (1 ∷ []) 0 (piece_at 25 9 0) net 0
+bytes_accepted many k sub = replicate many (short_sent 0)
 
 abbrev pub no_line : Lines
 no_line = lines_by []
 
 -- the first message, transmitted at `now`
 abbrev pub byte_line : ℕ → Lines
-byte_line now = lines_by ((now, byte_frame) ∷ [])
+byte_line now = lines_by ((now, short_frame 0 0 0) ∷ [])
 
 -- both networks failed before they accepted a frame
 abbrev pub failed_line : Lines
@@ -185,21 +187,21 @@ failed_line = lines_of [] [] 1 1 false false []
 -- The law for the message after `earlier` others, where `many` were accepted, and a poll at `now` follows the start at
 -- time 0, with no lateness. Each premise with flag `true` holds, each other one fails, and so does the conclusion.
 pub record ByteCase (many earlier now : ℕ) (lines after : Lines) (accepts starts holds finds up timely : Bool) : Type 0 where
-  pub accepted : Holds accepts (IsAccepted byte_plan (bytes_accepted many) 0 0 (replicate earlier byte_sent) byte_sent [])
+  pub accepted : Holds accepts (IsAccepted byte_plan (bytes_accepted many) 0 0 (replicate earlier (short_sent 0)) (short_sent 0) [])
   pub start : Holds starts (IsLater (latest None (stream_at byte_plan 0 lines)) 0)
-  pub place : Holds holds (HasPlace byte_plan 0 0 (replicate earlier byte_sent) (stream_at byte_plan 0 lines))
+  pub place : Holds holds (HasPlace byte_plan 0 0 (replicate earlier (short_sent 0)) (stream_at byte_plan 0 lines))
   pub finding : Holds finds (AreFinding byte_plan (bytes_accepted many) 0 0
-      (length (fragments_of byte_plan 0 (replicate earlier byte_sent ++ byte_sent ∷ []))) (now ∷ []) lines after)
+      (length (fragments_of byte_plan 0 (replicate earlier (short_sent 0) ++ (short_sent 0) ∷ []))) (now ∷ []) lines after)
   pub begins : IsPrefixOf (seen_of 0 (stream_at byte_plan 0 after)) (fragments_of byte_plan 0 (bytes_accepted many 0 0))
   pub is_up : Holds up (stands_for (link_plan_at byte_plan.links 0).networks after ≡ true)
   pub comes : Holds timely (AreTimely 1000 0 1000 0 (now ∷ []))
-  pub missed : AreReleasedBy byte_plan 0 0 (replicate earlier byte_sent ++ byte_sent ∷ []) (stream_at byte_plan 0 lines)
+  pub missed : AreReleasedBy byte_plan 0 0 (replicate earlier (short_sent 0) ++ (short_sent 0) ∷ []) (stream_at byte_plan 0 lines)
       (stream_at byte_plan 0 after) 1000 → ⊥
 
 -- Each of these premises is needed: one of them fails alone, and the message is not released within its wait.
 pub record NeedsItsPremises : Type 0 where
   pub valid : IsPlan byte_plan
-  pub wait : worst_wait 0 byte_plan byte_port ≡ 1000
+  pub wait : worst_wait 0 byte_plan (short_port 0) ≡ 1000
   -- it was not accepted
   pub unaccepted : ByteCase 0 0 1000 no_line no_line false true true true true true
   -- the wait starts before the last release
