@@ -1,5 +1,5 @@
 -- The worked runs, by computation.
-use Rattle.run_laws.proofs.Names.{◌≡◌, ℕ, ◌+◌, ◌<◌, ◌≤◌, ◌⊎◌, List, [], ◌∷◌, ◌++◌, length, Bool, true, false, ◌&&◌, refl, ap, sym, ◌∙◌, arith, inl, inr, Some, false≢true, length-append, All-from_recursion, A, cutting, fragments_at, blanked, Sent, addresses, header_front, internet_header, link_header, udp_header, datagram, unnumbered, Entry, entry, Lines, Endures, BothEndure, log, stands_for, LinkPlan, may_release, is_due, turn_of, IsAllowed, IsQueued, AreAllowed, AreQueued, Served, Nothing, Released, Lost, Drains, pace_in, stream_at, link_wait, EmitterPolls, DrainPolls, AreRuns, ComesBy, cons_parts, below_one, below_both, slice_index, link_in, sub_in, number_in, interface_byte, suc, None, All, All-head, All-tail, IsPlan, IsLink, IsPort, IsLater, AreTimely, latest, IsPrefixOf, IsAccepted, HasPlace, AreFinding, fragments_of, seen_of}
+use Rattle.run_laws.proofs.Names.{All-nil, ◌≡◌, ℕ, ◌+◌, ◌<◌, ◌≤◌, ◌⊎◌, List, [], ◌∷◌, ◌++◌, length, Bool, true, false, ◌&&◌, refl, ap, sym, ◌∙◌, arith, inl, inr, Some, false≢true, length-append, All-from_recursion, A, cutting, fragments_at, blanked, Sent, addresses, header_front, internet_header, link_header, udp_header, datagram, unnumbered, Entry, entry, Lines, Endures, BothEndure, log, stands_for, LinkPlan, may_release, is_due, turn_of, IsAllowed, IsQueued, AreAllowed, AreQueued, Served, Nothing, Released, Lost, Drains, pace_in, stream_at, link_wait, EmitterPolls, DrainPolls, AreRuns, ComesBy, cons_parts, below_one, below_both, slice_index, link_in, sub_in, number_in, interface_byte, suc, None, All, All-head, All-tail, IsPlan, IsLink, IsPort, IsLater, AreTimely, latest, IsPrefixOf, IsAccepted, HasPlace, AreFinding, fragments_of, seen_of}
 use Rattle.afdx_legal.specs.Done.{Owes}
 use Rattle.afdx_plan.specs.declared.networks.Networks.TheVariants.{Both}
 use Rattle.redundant_mux.specs.Logged.{logged_for}
@@ -7,7 +7,9 @@ use Rattle.afdx_laws.specs.WorkedDelivery.{back_frame}
 use Rattle.afdx_laws.proofs.WorkedDemo.{demo_with_valid}
 use Rattle.afdx_plan.proofs.PlanLemmas.{valid}
 use Rattle.afdx_frame.specs.Checksum.{checksum}
-use Rattle.run_laws.specs.WorkedRun.{both_at, lost_line, NeedsARun, small_link, small_plan, message_accepted, front_line, both_lines, front_entry, ComesInRun, tight_link, tight_port, tight_plan, tight_sent, tight_accepted, tight_frame, tight_line, TightReleased, MeetsTheWait}
+use Rattle.afdx_legal.specs.Turns.{more_in}
+use Rattle.afdx_laws.specs.WorkedDelivery.{front_frame}
+use Rattle.run_laws.specs.WorkedRun.{stray_frame, stray_line, both_at, lost_line, NeedsARun, small_link, small_plan, message_accepted, front_line, both_lines, front_entry, ComesInRun, tight_link, tight_port, tight_plan, tight_sent, tight_accepted, tight_frame, tight_line, TightReleased, MeetsTheWait}
 use Rattle.std.proofs.lemmas.List.{append_cancel_left}
 use Rattle.afdx_plan.specs.Config.{Plan, link_plan_at}
 use Rattle.afdx_laws.proofs.ListLemmas.{nil_isnt_cons, cons_same}
@@ -96,8 +98,8 @@ two_polls = (
 )
 
 -- after it alone nothing comes
-alone : (bound : ℕ) (stream : List Entry) → stream ≡ front_entry ∷ [] → ComesBy stream front_entry bound → ⊥
-alone bound stream is comes = grind (arith, ap length is, ap length comes.are.is, length-append)
+alone : (first : Entry) (bound : ℕ) (stream : List Entry) → stream ≡ first ∷ [] → ComesBy stream first bound → ⊥
+alone first bound stream is comes = grind (arith, ap length is, ap length comes.are.is, length-append)
 
 -- of two entries the second follows the first
 second_is : (before between after : List Entry) (first second e next : Entry)
@@ -139,6 +141,34 @@ comes_in_run = record {
   };
 }
 
+last_polls : AreRuns small_plan (2000 ∷ 3000 ∷ []) both_lines both_lines
+last_polls = (
+  both_lines,
+  a_poll 2000 both_lines both_lines Nothing (after_both 2000 refl),
+  (both_lines, a_poll 3000 both_lines both_lines Nothing (after_both 3000 refl), refl),
+)
+
+-- a drain with nothing accepted transmits nothing
+stray_poll : (now : ℕ) → is_due 1000 (Some (record { at = 1000; sub = 1 })) now ≡ true
+    → EmitterPolls small_plan now stray_line stray_line ⊎ DrainPolls small_plan now stray_line stray_line
+unfolding log checksum addresses header_front internet_header link_header udp_header datagram unnumbered cutting fragments_at
+stray_poll now due = inr (record {
+  accepted = λ k s. [];
+  allowed = λ k s in_k in_s. All-nil (IsQueued small_plan k s);
+  run = (stray_line, Nothing, (inr (ap (λ (t : Bool). t && true) due, record { each = below_one _ refl; others = λ s le. tt }), refl), refl);
+})
+
+-- the front frame at 1,000 is no entry that another follows
+not_first : (before between after : List Entry) (next : Entry)
+    → front_entry ∷ entry 1000 (back_frame A) ∷ [] ≡ before ++ (entry 1000 (front_frame A) ∷ (between ++ next ∷ after)) → ⊥
+not_first [] between after next is =
+    let same : ◌≡◌ {A = ℕ} 0 1000 = ap (λ (e : Entry). e.at) (cons_parts is).0 in
+    absurd (omega arith)
+not_first (x ∷ xs) between after next is =
+    let parts = length-append xs (entry 1000 (front_frame A) ∷ (between ++ next ∷ after)) in
+    let rest = length-append between (next ∷ after) in
+    absurd (omega (arith, ap length is))
+
 pub needs_a_run : NeedsARun
 unfolding log checksum addresses header_front internet_header link_header udp_header datagram unnumbered
 needs_a_run = record {
@@ -147,16 +177,16 @@ needs_a_run = record {
     is_up = refl;
     comes = tt;
     reaches = omega arith;
-    next = alone (0 + link_wait 1000 small_link) (stream_at small_plan 0 front_line) refl;
+    next = alone front_entry (0 + link_wait 1000 small_link) (stream_at small_plan 0 front_line) refl;
   };
   idle = record {
-    runs = λ runs. alone (0 + link_wait 1000 small_link) (stream_at small_plan 0 front_line) refl (next_in_run_holds small_plan
+    runs = λ runs. alone front_entry (0 + link_wait 1000 small_link) (stream_at small_plan 0 front_line) refl (next_in_run_holds small_plan
         (1000 ∷ 2000 ∷ []) front_line front_line 0 1000 [] front_entry small_valid (omega arith) refl refl (omega arith) runs refl
         (omega arith) (omega arith)).0;
     is_up = refl;
     comes = omega arith;
     reaches = omega arith;
-    next = alone (0 + link_wait 1000 small_link) (stream_at small_plan 0 front_line) refl;
+    next = alone front_entry (0 + link_wait 1000 small_link) (stream_at small_plan 0 front_line) refl;
   };
   late = record {
     runs = (both_at 5000, a_poll 5000 front_line (both_at 5000) (Released 0 1) (back_turn 5000 refl), refl);
@@ -172,19 +202,37 @@ needs_a_run = record {
     is_up = λ up. false≢true up;
     comes = omega arith;
     reaches = omega arith;
-    next = alone (0 + link_wait 1000 small_link) (stream_at small_plan 0 lost_line) refl;
+    next = alone front_entry (0 + link_wait 1000 small_link) (stream_at small_plan 0 lost_line) refl;
   };
   whole = record {
-    runs = (
-      both_lines,
-      a_poll 2000 both_lines both_lines Nothing (after_both 2000 refl),
-      (both_lines, a_poll 3000 both_lines both_lines Nothing (after_both 3000 refl), refl),
-    );
+    runs = last_polls;
     ends = refl;
+    flag = λ more. false≢true more;
+    inside = omega arith;
     is_up = refl;
     comes = omega arith;
     reaches = omega arith;
-    more = record { premise = λ more. false≢true more; conclusion = λ comes. false≢true comes.are.more };
+    none = λ comes. false≢true comes.are.more;
+  };
+  elsewhere = record {
+    runs = last_polls;
+    ends = λ is. let same = ap (λ (e : Entry). more_in e.frame) (cons_parts (cons_parts is).1).0 in false≢true same;
+    flag = refl;
+    inside = omega arith;
+    is_up = refl;
+    comes = omega arith;
+    reaches = omega arith;
+    none = λ comes. not_first comes.are.before comes.between comes.are.after comes.next comes.are.is;
+  };
+  stray = record {
+    runs = (_, stray_poll 2000 refl, (_, stray_poll 3000 refl, refl));
+    ends = refl;
+    flag = refl;
+    inside = λ below. absurd (omega arith);
+    is_up = refl;
+    comes = omega arith;
+    reaches = omega arith;
+    none = alone (entry 1000 (stray_frame A)) (1000 + link_wait 1000 small_link) (stream_at small_plan 0 stray_line) refl;
   };
 }
 

@@ -13,7 +13,7 @@ use Rattle.afdx_legal.specs.Legal.{Accepted}
 use Rattle.afdx_legal.specs.Turns.{more_in}
 use Rattle.afdx_tx.specs.DrainEnds.{stream_at}
 use Rattle.afdx_laws.specs.NextFragment.{link_wait}
-use Rattle.afdx_laws.specs.Rows.{BothFail, Holds}
+use Rattle.afdx_laws.specs.Rows.{Holds}
 use Rattle.afdx_laws.specs.WorkedDelivery.{one_accepted, front_frame, back_frame, bytes_41}
 use Rattle.afdx_plan.specs.declared.port_plan.PortPlan.{PortPlan}
 use Rattle.afdx_frame.specs.declared.net.Net.{Net}
@@ -85,25 +85,36 @@ pub record ComesInRun : Type 0 where
   pub below : sub_in (front_frame A) < small_link.sub_vls
   pub run : RunCase (1000 ∷ 2000 ∷ []) both_lines true true true true
 
--- both frames were transmitted, and two polls follow
-pub record EndsWhole : Type 0 where
-  pub runs : AreRuns small_plan (2000 ∷ 3000 ∷ []) both_lines both_lines
-  pub ends : stream_at small_plan 0 both_lines ≡ (front_entry ∷ []) ++ entry 1000 (back_frame A) ∷ []
-  pub is_up : stands_for (link_plan_at small_plan.links 0).networks both_lines ≡ true
+-- a frame of the same message, with the number of a sub-VL that the link does not have
+abbrev pub stray_frame : Net → List ℕ
+stray_frame net = frame_of 1 (record demo_port { sub = 1 }) bytes_41 0 (piece_at 25 49 0) net 0
+
+abbrev pub stray_line : Lines
+stray_line = lines_by ((1000, stray_frame) ∷ [])
+
+-- The law for an entry at 1,000, with two polls that transmit nothing. Each premise with flag `true` holds, each other
+-- one fails, and no fragment follows.
+pub record LastCase (lines : Lines) (earlier : List Entry) (frame : List ℕ) (last more below : Bool) : Type 0 where
+  pub runs : AreRuns small_plan (2000 ∷ 3000 ∷ []) lines lines
+  pub ends : Holds last (stream_at small_plan 0 lines ≡ earlier ++ entry 1000 frame ∷ [])
+  pub flag : Holds more (more_in frame ≡ true)
+  pub inside : Holds below (sub_in frame < small_link.sub_vls)
+  pub is_up : stands_for (link_plan_at small_plan.links 0).networks lines ≡ true
   pub comes : ComeWithin 1000 1000 (2000 ∷ 3000 ∷ [])
   pub reaches : 1000 + link_wait 1000 small_link ≤ latest_of 1000 (2000 ∷ 3000 ∷ [])
-  pub more : BothFail (more_in (back_frame A) ≡ true)
-      (ComesBy (stream_at small_plan 0 both_lines) (entry 1000 (back_frame A)) (1000 + link_wait 1000 small_link))
+  pub none : ComesBy (stream_at small_plan 0 lines) (entry 1000 frame) (1000 + link_wait 1000 small_link) → ⊥
 
 -- Each of these premises is needed. Without a poll the second fragment is not released, nor if what follows is no run. A
 -- late poll releases it after the bound. If both networks fail with its frame, it is lost. After the last fragment none
--- follows.
+-- follows, nor after an entry that the stream does not have or a sub-VL that the link does not have.
 pub record NeedsARun : Type 0 where
   pub none : RunCase [] front_line true true true false
   pub idle : RunCase (1000 ∷ 2000 ∷ []) front_line false true true true
   pub late : RunCase (5000 ∷ []) (both_at 5000) true true false true
   pub lost : RunCase (1000 ∷ 2000 ∷ []) lost_line true false true true
-  pub whole : EndsWhole
+  pub whole : LastCase both_lines (front_entry ∷ []) (back_frame A) true false true
+  pub elsewhere : LastCase both_lines (front_entry ∷ []) (front_frame A) false true true
+  pub stray : LastCase stray_line [] (stray_frame A) true true false
 
 -- A link of one sub-VL with a queue of one message, and a port that sends messages of up to 41 bytes, two frames each.
 -- The first frame of a message is transmitted at time 0, and then another message is accepted.

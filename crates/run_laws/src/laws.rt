@@ -21,7 +21,8 @@ pub fn next_in_run()
     // polls of an emitter with three sub-VLs
     ensures in_turn { ComesInTurn }
 
-    // no poll; no run; a late poll; networks that fail with the fragment; a last fragment
+    // no poll; no run; a late poll; networks that fail with the fragment; a last fragment; an entry that isn't in the
+    // stream; a sub-VL that the link doesn't have
     ensures needed { NeedsARun }
 {}
 
