@@ -6,7 +6,11 @@ use Rattle.afdx_frame.specs.Checksum.{checksum}
 use Rattle.redundant_mux.specs.Logged.{logged_for}
 use Rattle.std.specs.Prelude.{replicate}
 use Rattle.vl_link.specs.Kept.{IsTied}
-use Rattle.vl_link.specs.Links.{GivesFrame, IsSameSub, sent_by, message_fragments}
+use Rattle.afdx_plan.specs.Config.{Plan}
+use Rattle.afdx_plan.specs.declared.link_plan.LinkPlan.{LinkPlan}
+use Rattle.vl_link.specs.declared.served.Served.{Served}
+use Rattle.afdx_legal.specs.Streams.{link_stream}
+use Rattle.vl_link.specs.Links.{AreSameSubs, Serves, GivesFrame, IsSameSub, sent_by, message_fragments}
 use Rattle.vl_link.specs.Seen.{Seen, Finds, receiving, gathered, taken_of}
 use Rattle.vl_link.proofs.SubInStep.{moves_of, gave_same, same_sub_here, same_sub_on}
 use Rattle.afdx_legal.specs.Streams.{sub_stream, latest, IsPrefixOf}
@@ -72,6 +76,33 @@ finds before after p =
     looks_of (receiving r) = r.looks
     looks_of (gathered g) = 0
 
+-- A poll of an emitter, by the turn of its one link.
+abbrev pub polls_by : (now : ℕ) (plan : Plan) (link : LinkPlan) (old new : List Held) (lines after : Lines) (did : Served)
+    → IsReady (tx_of plan link old lines) → length new ≡ length old → AreSameSubs old new
+    → ((s : ℕ) → s < link.sub_vls → IsTied (held_at old s) (sub_stream s (link_stream link.id.0 (log lines))))
+    → Serves now link (pace_in link (log lines)) old new lines after did → EmitterPolls plan now lines after
+polls_by now plan link old new lines after did ready count same tied serves = record {
+  old = tx_of plan link old lines;
+  new = tx_of plan link new after;
+  ready = ready;
+  of = refl;
+  before = refl;
+  afterwards = refl;
+  run = record {
+    count = refl;
+    turns = (
+      after,
+      did,
+      record {
+        same = record { end_system = refl; plan = refl; gap = refl; sub_vls = refl; count = count; subs = same };
+        tied = λ up. tied;
+        serves = serves;
+      },
+      refl,
+    );
+  };
+}
+
 -- A poll at which the first sub-VL in turn gives this frame, on both networks.
 gives : (now sub number : ℕ) (frame : List ℕ) (left new_left : List (List ℕ)) (first new_first second new_second : ℕ) (lines after : Lines)
     → may_release now three_link (pace_in three_link (log lines)) lines ≡ true → number ≡ (pace_in three_link (log lines)).next
@@ -82,45 +113,26 @@ gives : (now sub number : ℕ) (frame : List ℕ) (left new_left : List (List �
     → length frame ≡ 60 → link_in frame ≡ 1 → sub_in frame ≡ sub → number_in frame ≡ number → slice_index frame 11 ≡ interface_byte A → after.logged ≡ lines.logged ++ logged_for Both (entry now frame) ∷ []
     → stands_for Both after ≡ true → BothEndure lines after → FindsIt three_plan 0 1 2 now lines after
 gives now sub number frame left new_left first new_first second new_second lines after may next is given others tied size own of carries interface enters stands endure = record {
-  poll = record {
-    old = tx_of three_plan three_link (subs_of left first second) lines;
-    new = tx_of three_plan three_link (subs_of new_left new_first new_second) after;
-    ready = ready left first second lines;
-    of = refl;
-    before = refl;
-    afterwards = refl;
-    run = record {
-      count = refl;
-      turns = (
-        after,
-        Released sub number,
+  poll = polls_by now three_plan three_link (subs_of left first second) (subs_of new_left new_first new_second) lines after
+      (Released sub number) (ready left first second lines) refl same tied (
+        may,
+        next,
         record {
-          same = record { end_system = refl; plan = refl; gap = refl; sub_vls = refl; count = refl; subs = same };
-          tied = λ up. tied;
-          serves = (
-            may,
-            next,
-            record {
-              frame = frame;
-              choice = record {
-                turn = 0;
-                within = omega arith;
-                is = is;
-                chosen = given;
-                before = λ k lt. absurd (omega arith);
-                others = λ s other. others s (λ e. other 0 (omega arith) (sym is ∙ sym e));
-              };
-              of = record { size = omega arith; link = own; of_sub = of; carries = carries; interface = interface };
-              enters = enters;
-              stands = stands;
-              endure = endure;
-            },
-          );
+          frame = frame;
+          choice = record {
+            turn = 0;
+            within = omega arith;
+            is = is;
+            chosen = given;
+            before = λ k lt. absurd (omega arith);
+            others = λ s other. others s (λ e. other 0 (omega arith) (sym is ∙ sym e));
+          };
+          of = record { size = omega arith; link = own; of_sub = of; carries = carries; interface = interface };
+          enters = enters;
+          stands = stands;
+          endure = endure;
         },
-        refl,
       );
-    };
-  };
   finds = λ passes. absurd (finds _ _ passes);
 }
   where

@@ -1,14 +1,19 @@
 -- The cases in which a premise of the law of a message in a run fails, by computation.
-use Rattle.run_laws.proofs.Names.{Served, sym, append-nil, drop, IsQueued, All, ◌≡◌, ℕ, zero, suc, ◌<◌, ◌≤◌, [], ◌∷◌, ◌++◌, length, refl, arith, inl, inr, All-nil, All-from_recursion, ⊎_elim, below_one, below_both, false≢true, A, cutting, fragments_at, addresses, header_front, internet_header, link_header, udp_header, datagram, unnumbered, Entry, entry, Lines, log, Nothing, Released, Drains, Held, Passes, held_at, IsAllowed, stream_at, EmitterPolls, AreTimely, AreFinding, IsAccepted, fragments_of, seen_of, IsPlan, IsLink, IsPort}
+use Rattle.run_laws.proofs.Names.{true, Served, sym, append-nil, drop, IsQueued, All, ◌≡◌, ℕ, zero, suc, ◌<◌, ◌≤◌, [], ◌∷◌, ◌++◌, length, refl, arith, inl, inr, All-nil, All-from_recursion, ⊎_elim, below_one, below_both, false≢true, A, cutting, fragments_at, addresses, header_front, internet_header, link_header, udp_header, datagram, unnumbered, Entry, entry, Lines, log, Nothing, Released, Drains, Held, Passes, held_at, IsAllowed, stream_at, EmitterPolls, AreTimely, AreFinding, IsAccepted, fragments_of, seen_of, IsPlan, IsLink, IsPort}
 use Rattle.std.specs.Prelude.{replicate}
 use Rattle.afdx_plan.proofs.PlanLemmas.{valid}
 use Rattle.afdx_frame.specs.Checksum.{checksum}
 use Rattle.subvl_queue.specs.Views.{ReceiverView, looked}
-use Rattle.vl_link.specs.Links.{IsSameSub}
+use Rattle.vl_link.specs.Kept.{IsTied}
+use Rattle.vl_link.specs.Turn.{may_release}
+use Rattle.afdx_tx.specs.Drain.{pace_in}
+use Rattle.afdx_legal.specs.Streams.{sub_stream}
+use Rattle.run_laws.proofs.EmitterRuns.{polls_by}
+use Rattle.vl_link.specs.Links.{taken_by, IsSameSub}
 use Rattle.vl_link.proofs.SubInStep.{moves_of, same_sub_here}
 use Rattle.afdx_laws.proofs.ListLemmas.{nil_isnt_cons}
 use Rattle.run_laws.specs.MessageInRun.{AreReleasedBy}
-use Rattle.run_laws.specs.EmitterRun.{fresh, sub_of, tx_of}
+use Rattle.run_laws.specs.EmitterRun.{fresh, sub_of}
 use Rattle.run_laws.specs.WorkedRun.{tight_link, short_port, byte_plan, short_sent, bytes_accepted, short_frame, no_line, byte_line, failed_line, NeedsItsPremises}
 use Rattle.run_laws.proofs.WorkedRuns.{takes, releases, has_room, not_released}
 use Rattle.run_laws.proofs.MessageRun.{message_in_run_holds}
@@ -52,43 +57,26 @@ in_time = (omega arith, λ near. inl (omega arith, omega arith), omega arith)
 abbrev held : ReceiverView → Held
 held queue = sub_of tight_link 0 (short_port 0) [] queue
 
-passes : Passes (held fresh) (held (looked fresh))
-passes = record { whole = refl; nothing = refl; same = refl }
-
--- a poll of an emitter whose queue has no message ready
-a_poll : EmitterPolls byte_plan 1000 no_line no_line
-unfolding log
-a_poll = record {
-  old = tx_of byte_plan tight_link (held fresh ∷ []) no_line;
-  new = tx_of byte_plan tight_link (held (looked fresh) ∷ []) no_line;
-  ready = record {
-    count = refl;
-    links = below_one _ (record { plan_is = refl; gap = refl; sub_vls = refl });
-    allowed = below_both _ _ refl (All-nil (IsQueued byte_plan 0 0));
-  };
-  of = refl;
-  before = refl;
-  afterwards = refl;
-  run = record {
-    count = refl;
-    turns = (
-      no_line,
-      Nothing,
-      record {
-        same = record { end_system = refl; plan = refl; gap = refl; sub_vls = refl; count = refl; subs = same };
-        tied = λ up. below_one _ refl;
-        serves = (inr (refl, record { each = below_one _ passes; others = others }), refl);
-      },
-      refl,
-    );
-  };
-}
+-- a poll of an emitter that finds no message ready
+finds_none : (queue : ReceiverView) (lines : Lines) → All (IsQueued byte_plan 0 0) (taken_by (held queue))
+    → may_release 1000 tight_link (pace_in tight_link (log lines)) lines ≡ true
+    → IsTied (held queue) (sub_stream 0 (stream_at byte_plan 0 lines)) → EmitterPolls byte_plan 1000 lines lines
+finds_none queue lines queued due tied = polls_by 1000 byte_plan tight_link (held queue ∷ []) (held (looked queue) ∷ []) lines lines Nothing
+    (record {
+      count = refl;
+      links = below_one _ (record { plan_is = refl; gap = refl; sub_vls = refl });
+      allowed = below_both _ _ refl queued;
+    })
+    refl same (below_one _ tied) (inr (due, record { each = below_one _ passes; others = others }), refl)
   where
-    same : (s : ℕ) → IsSameSub (held_at (held fresh ∷ []) s) (held_at (held (looked fresh) ∷ []) s)
-    same zero = moves_of (held fresh) (held (looked fresh)) (inl passes)
+    passes : Passes (held queue) (held (looked queue))
+    passes = record { whole = refl; nothing = refl; same = refl }
+
+    same : (s : ℕ) → IsSameSub (held_at (held queue ∷ []) s) (held_at (held (looked queue) ∷ []) s)
+    same zero = moves_of (held queue) (held (looked queue)) (inl passes)
     same (suc s) = same_sub_here _ _ refl
 
-    others : (s : ℕ) → 1 ≤ s → held_at (held (looked fresh) ∷ []) s ≡ held_at (held fresh ∷ []) s
+    others : (s : ℕ) → 1 ≤ s → held_at (held (looked queue) ∷ []) s ≡ held_at (held queue ∷ []) s
     others zero le = absurd (omega arith)
     others (suc s) le = refl
 
@@ -135,7 +123,7 @@ needs_its_premises = record {
     missed = not_released byte_plan 0 0 1000 (short_sent 0 ∷ short_sent 0 ∷ []) [] (entry 1000 (short_frame 0 0 0 A) ∷ []) []
         (stream_at byte_plan 0 (byte_line 1000)) refl (All-nil (λ (e : Entry). 1000 < e.at)) (omega arith);
   };
-  poll = a_poll;
+  poll = finds_none fresh no_line (All-nil (IsQueued byte_plan 0 0)) refl refl;
   unfound = record {
     accepted = one_is;
     start = tt;

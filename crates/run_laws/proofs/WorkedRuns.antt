@@ -8,7 +8,6 @@ use Rattle.afdx_laws.proofs.WorkedDemo.{demo_with_valid}
 use Rattle.afdx_plan.proofs.PlanLemmas.{valid}
 use Rattle.afdx_frame.specs.Checksum.{checksum}
 use Rattle.afdx_legal.specs.Turns.{more_in}
-use Rattle.afdx_laws.specs.WorkedDelivery.{front_frame}
 use Rattle.run_laws.specs.WorkedRun.{stray_frame, stray_line, both_at, lost_line, NeedsARun, small_link, small_plan, message_accepted, front_line, both_lines, front_entry, ComesInRun, tight_link, tight_port, tight_plan, tight_sent, tight_accepted, tight_frame, tight_line, TightReleased, MeetsTheWait}
 use Rattle.std.proofs.lemmas.List.{append_cancel_left}
 use Rattle.afdx_plan.specs.Config.{Plan, link_plan_at}
@@ -103,8 +102,8 @@ alone first bound stream is comes = grind (arith, ap length is, ap length comes.
 
 -- of two entries the second follows the first
 second_is : (before between after : List Entry) (first second e next : Entry)
-    → first ∷ second ∷ [] ≡ before ++ (e ∷ (between ++ next ∷ after)) → second ≡ next
-second_is [] [] after first second e next is = (cons_parts (cons_parts is).1).0
+    → first ∷ second ∷ [] ≡ before ++ (e ∷ (between ++ next ∷ after)) → (first ≡ e) × (second ≡ next)
+second_is [] [] after first second e next is = ((cons_parts is).0, (cons_parts (cons_parts is).1).0)
 second_is [] (x ∷ xs) after first second e next is =
     let parts = length-append xs (next ∷ after) in
     absurd (omega (arith, ap length is))
@@ -116,8 +115,8 @@ second_is (x ∷ xs) between after first second e next is =
 comes_when : (now bound : ℕ) (stream : List Entry) → stream ≡ front_entry ∷ entry now (back_frame A) ∷ []
     → ComesBy stream front_entry bound → now ≤ bound
 comes_when now bound stream is comes =
-    let next = second_is comes.are.before comes.between comes.are.after front_entry (entry now (back_frame A))
-    front_entry comes.next (sym is ∙ comes.are.is) in
+    let next = (second_is comes.are.before comes.between comes.are.after front_entry (entry now (back_frame A))
+    front_entry comes.next (sym is ∙ comes.are.is)).1 in
     grind arith
 
 small_valid : IsPlan small_plan
@@ -157,17 +156,6 @@ stray_poll now due = inr (record {
   allowed = λ k s in_k in_s. All-nil (IsQueued small_plan k s);
   run = (stray_line, Nothing, (inr (ap (λ (t : Bool). t && true) due, record { each = below_one _ refl; others = λ s le. tt }), refl), refl);
 })
-
--- the front frame at 1,000 is no entry that another follows
-not_first : (before between after : List Entry) (next : Entry)
-    → front_entry ∷ entry 1000 (back_frame A) ∷ [] ≡ before ++ (entry 1000 (front_frame A) ∷ (between ++ next ∷ after)) → ⊥
-not_first [] between after next is =
-    let same : ◌≡◌ {A = ℕ} 0 1000 = ap (λ (e : Entry). e.at) (cons_parts is).0 in
-    absurd (omega arith)
-not_first (x ∷ xs) between after next is =
-    let parts = length-append xs (entry 1000 (front_frame A) ∷ (between ++ next ∷ after)) in
-    let rest = length-append between (next ∷ after) in
-    absurd (omega (arith, ap length is))
 
 pub needs_a_run : NeedsARun
 unfolding log checksum addresses header_front internet_header link_header udp_header datagram unnumbered
@@ -222,7 +210,10 @@ needs_a_run = record {
     is_up = refl;
     comes = omega arith;
     reaches = omega arith;
-    none = λ comes. not_first comes.are.before comes.between comes.are.after comes.next comes.are.is;
+    none = λ comes.
+        let first = (second_is comes.are.before comes.between comes.are.after front_entry _ _ comes.next comes.are.is).0 in
+        let same : ◌≡◌ {A = ℕ} 0 1000 = ap (λ (e : Entry). e.at) first in
+        absurd (omega arith);
   };
   stray = record {
     runs = (_, stray_poll 2000 refl, (_, stray_poll 3000 refl, refl));

@@ -21,7 +21,8 @@ use Rattle.afdx_legal.specs.Legal.{Accepted}
 use Rattle.afdx_legal.specs.Streams.{latest, link_stream, IsPrefixOf}
 use Rattle.afdx_legal.specs.Turns.{more_in}
 use Rattle.vl_link.specs.Seen.{receiving}
-use Rattle.vl_link.specs.Links.{Held, pace_of}
+use Rattle.vl_link.specs.Links.{Held}
+use Rattle.afdx_tx.specs.Drain.{pace_in}
 use Rattle.afdx_tx.specs.Emitter.{Tx}
 use Rattle.afdx_tx.specs.DrainEnds.{stream_at}
 use Rattle.plan_analysis.specs.Wait.{worst_wait}
@@ -86,12 +87,12 @@ abbrev pub tx_of : Plan → LinkPlan → List Held → Lines → Tx
 tx_of plan link subs lines = record {
   plan = plan;
   links = record {
-    end_system = 1;
+    end_system = plan.end_system;
     plan = link;
-    pace = pace_of 1000 link.sub_vls (link_stream 1 (log lines));
+    pace = pace_in link (log lines);
     subs = subs;
     lost = false;
-    counts = counts_in (link_stream 1 (log lines));
+    counts = counts_in (link_stream link.id.0 (log lines));
   } ∷ [];
   lines = lines;
   moment = 0;
