@@ -1,9 +1,9 @@
 -- The cases in which a premise of the law of a message in a run fails, by computation.
-use Rattle.run_laws.proofs.Names.{true, Served, sym, append-nil, drop, IsQueued, All, ◌≡◌, ℕ, zero, suc, ◌<◌, ◌≤◌, [], ◌∷◌, ◌++◌, length, refl, arith, inl, inr, All-nil, All-from_recursion, ⊎_elim, below_one, below_both, false≢true, A, cutting, fragments_at, addresses, header_front, internet_header, link_header, udp_header, datagram, unnumbered, Entry, entry, Lines, log, Nothing, Released, Drains, Held, Passes, held_at, IsAllowed, stream_at, EmitterPolls, AreTimely, AreFinding, IsAccepted, fragments_of, seen_of, IsPlan, IsLink, IsPort}
+use Rattle.run_laws.proofs.Names.{List, blanked, ap, ◌∙◌, cons_parts, slice_index, true, Served, sym, append-nil, drop, IsQueued, All, ◌≡◌, ℕ, zero, suc, ◌<◌, ◌≤◌, [], ◌∷◌, ◌++◌, length, refl, arith, inl, inr, All-nil, All-from_recursion, ⊎_elim, below_one, below_both, false≢true, A, cutting, fragments_at, addresses, header_front, internet_header, link_header, udp_header, datagram, unnumbered, Entry, entry, Lines, log, Nothing, Released, Drains, Held, Passes, held_at, IsAllowed, stream_at, EmitterPolls, AreTimely, AreFinding, IsAccepted, fragments_of, seen_of, IsPlan, IsLink, IsPort}
 use Rattle.std.specs.Prelude.{replicate}
 use Rattle.afdx_plan.proofs.PlanLemmas.{valid}
 use Rattle.afdx_frame.specs.Checksum.{checksum}
-use Rattle.subvl_queue.specs.Views.{ReceiverView, looked}
+use Rattle.subvl_queue.specs.Views.{after_take, ReceiverView, looked}
 use Rattle.vl_link.specs.Kept.{IsTied}
 use Rattle.vl_link.specs.Turn.{may_release}
 use Rattle.afdx_tx.specs.Drain.{pace_in}
@@ -14,8 +14,9 @@ use Rattle.vl_link.proofs.SubInStep.{moves_of, same_sub_here}
 use Rattle.afdx_laws.proofs.ListLemmas.{nil_isnt_cons}
 use Rattle.run_laws.specs.MessageInRun.{AreReleasedBy}
 use Rattle.run_laws.specs.EmitterRun.{fresh, sub_of}
-use Rattle.run_laws.specs.WorkedRun.{tight_link, short_port, byte_plan, short_sent, bytes_accepted, short_frame, no_line, byte_line, failed_line, NeedsItsPremises}
+use Rattle.run_laws.specs.WorkedRun.{other_frame, other_line, tight_link, short_port, byte_plan, short_sent, bytes_accepted, short_frame, no_line, byte_line, failed_line, NeedsItsPremises}
 use Rattle.run_laws.proofs.WorkedRuns.{takes, releases, has_room, not_released}
+use Rattle.run_laws.proofs.Ran.{seen_append}
 use Rattle.run_laws.proofs.MessageRun.{message_in_run_holds}
 
 byte_valid : IsPlan byte_plan
@@ -87,6 +88,17 @@ misses : (earlier : ℕ) (lines : Lines)
 misses earlier lines few = not_released byte_plan 0 0 1000 (replicate earlier (short_sent 0) ++ short_sent 0 ∷ []) (stream_at byte_plan 0 lines) [] []
     (stream_at byte_plan 0 lines) (sym (append-nil _)) (All-nil (λ (e : Entry). 1000 < e.at)) few
 
+-- the other message was taken and sent
+finds_other : EmitterPolls byte_plan 1000 other_line other_line
+unfolding log checksum addresses header_front internet_header link_header udp_header datagram unnumbered cutting fragments_at
+finds_other = finds_none (after_take fresh (0, 2 ∷ [])) other_line
+    (All-from_recursion (IsQueued byte_plan 0 0) (record { port = short_port 0; bytes = 2 ∷ [] } ∷ [])
+    (record { port = (0, omega arith, refl); over = refl; its = refl; some = omega arith; most = omega arith }, tt)) refl refl
+
+other_bytes : blanked (other_frame A) ≡ blanked (short_frame 0 0 0 A) → ⊥
+unfolding checksum addresses header_front internet_header link_header udp_header datagram unnumbered
+other_bytes is = let same : ◌≡◌ {A = ℕ} 2 1 = ap (λ (f : List ℕ). slice_index f 42) is in absurd (omega arith)
+
 pub needs_its_premises : NeedsItsPremises
 unfolding log checksum addresses header_front internet_header link_header udp_header datagram unnumbered cutting fragments_at
 needs_its_premises = record {
@@ -97,7 +109,7 @@ needs_its_premises = record {
     start = tt;
     place = has_room byte_plan 0 0 [] [] (omega arith) (λ full. absurd (omega arith));
     finding = finds 0 1 1000 no_line no_line Nothing (inr (refl, record { each = below_one _ refl; others = λ s le. tt }), refl);
-    begins = ([], refl);
+    prefix = ([], refl);
     is_up = refl;
     comes = in_time;
     missed = misses 0 no_line (omega arith);
@@ -107,7 +119,7 @@ needs_its_premises = record {
     start = λ starts. absurd (omega arith);
     place = has_room byte_plan 0 0 (short_sent 0 ∷ []) (stream_at byte_plan 0 (byte_line 5000)) (omega arith) (λ full. omega arith);
     finding = finds 2 2 1000 (byte_line 5000) (byte_line 5000) Nothing (inl (refl, λ s. tt), refl);
-    begins = (drop 1 (fragments_of byte_plan 0 (bytes_accepted 2 0 0)), refl);
+    prefix = (drop 1 (fragments_of byte_plan 0 (bytes_accepted 2 0 0)), refl);
     is_up = refl;
     comes = in_time;
     missed = misses 1 (byte_line 5000) (omega arith);
@@ -117,7 +129,7 @@ needs_its_premises = record {
     start = tt;
     place = λ place. let none = place [] (short_sent 0 ∷ []) refl (omega arith) in absurd (omega arith);
     finding = finds 2 2 1000 no_line (byte_line 1000) (Released 0 0) (sends 1000 1);
-    begins = (drop 1 (fragments_of byte_plan 0 (bytes_accepted 2 0 0)), refl);
+    prefix = (drop 1 (fragments_of byte_plan 0 (bytes_accepted 2 0 0)), refl);
     is_up = refl;
     comes = in_time;
     missed = not_released byte_plan 0 0 1000 (short_sent 0 ∷ short_sent 0 ∷ []) [] (entry 1000 (short_frame 0 0 0 A) ∷ []) []
@@ -131,17 +143,27 @@ needs_its_premises = record {
     finding = λ finding. misses 0 no_line (omega arith) (message_in_run_holds byte_plan (bytes_accepted 1) (1000 ∷ []) no_line no_line 0 0 0 0
         [] (short_sent 0) [] byte_valid one_is tt (has_room byte_plan 0 0 [] [] (omega arith) (λ full. absurd (omega arith)))
         finding (fragments_of byte_plan 0 (bytes_accepted 1 0 0), refl) refl in_time);
-    begins = (fragments_of byte_plan 0 (bytes_accepted 1 0 0), refl);
+    prefix = (fragments_of byte_plan 0 (bytes_accepted 1 0 0), refl);
     is_up = refl;
     comes = in_time;
     missed = misses 0 no_line (omega arith);
+  };
+  unlike = record {
+    accepted = one_is;
+    start = omega arith;
+    place = has_room byte_plan 0 0 [] (stream_at byte_plan 0 other_line) (omega arith) (λ full. absurd (omega arith));
+    finding = (other_line, inl (record { poll = finds_other; finds = λ none. omega arith }), refl);
+    prefix = λ is. other_bytes (cons_parts is.1).0;
+    is_up = refl;
+    comes = in_time;
+    missed = λ r. other_bytes (sym (cons_parts (r.whole.1 ∙ seen_append 0 (stream_at byte_plan 0 other_line) r.soon)).0);
   };
   down = record {
     accepted = one_is;
     start = tt;
     place = has_room byte_plan 0 0 [] [] (omega arith) (λ full. absurd (omega arith));
     finding = finds 1 1 1000 failed_line failed_line Nothing (inl (refl, λ s. tt), refl);
-    begins = (fragments_of byte_plan 0 (bytes_accepted 1 0 0), refl);
+    prefix = (fragments_of byte_plan 0 (bytes_accepted 1 0 0), refl);
     is_up = λ up. false≢true up;
     comes = in_time;
     missed = misses 0 failed_line (omega arith);
@@ -151,7 +173,7 @@ needs_its_premises = record {
     start = tt;
     place = has_room byte_plan 0 0 [] [] (omega arith) (λ full. absurd (omega arith));
     finding = finds 1 1 1001 no_line (byte_line 1001) (Released 0 0) (sends 1001 0);
-    begins = ([], refl);
+    prefix = ([], refl);
     is_up = refl;
     comes = λ timely. ⊎_elim (λ here. absurd (omega arith)) (λ none. none) (timely.1 (omega arith));
     missed = not_released byte_plan 0 0 1000 (short_sent 0 ∷ []) [] [] (entry 1001 (short_frame 0 0 0 A) ∷ []) (stream_at byte_plan 0 (byte_line 1001)) refl

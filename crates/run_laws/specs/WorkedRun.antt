@@ -191,19 +191,26 @@ no_line = lines_by []
 abbrev pub byte_line : ℕ → Lines
 byte_line now = lines_by ((now, short_frame 0 0 0) ∷ [])
 
+-- the frame of another message, transmitted at time 0
+abbrev pub other_frame : Net → List ℕ
+other_frame net = frame_of 1 (short_port 0) (2 ∷ []) 0 (piece_at 25 9 0) net 0
+
+abbrev pub other_line : Lines
+other_line = lines_by ((0, other_frame) ∷ [])
+
 -- both networks failed before they accepted a frame
 abbrev pub failed_line : Lines
 failed_line = lines_of [] [] 1 1 false false []
 
 -- The law for the message after `earlier` others, where `many` were accepted, and a poll at `now` follows the start at
 -- time 0, with no lateness. Each premise with flag `true` holds, each other one fails, and so does the conclusion.
-pub record ByteCase (many earlier now : ℕ) (lines after : Lines) (accepts starts holds finds up timely : Bool) : Type 0 where
+pub record ByteCase (many earlier now : ℕ) (lines after : Lines) (accepts starts holds finds begins up timely : Bool) : Type 0 where
   pub accepted : Holds accepts (IsAccepted byte_plan (bytes_accepted many) 0 0 (replicate earlier (short_sent 0)) (short_sent 0) [])
   pub start : Holds starts (IsLater (latest None (stream_at byte_plan 0 lines)) 0)
   pub place : Holds holds (HasPlace byte_plan 0 0 (replicate earlier (short_sent 0)) (stream_at byte_plan 0 lines))
   pub finding : Holds finds (AreFinding byte_plan (bytes_accepted many) 0 0
       (length (fragments_of byte_plan 0 (replicate earlier (short_sent 0) ++ (short_sent 0) ∷ []))) (now ∷ []) lines after)
-  pub begins : IsPrefixOf (seen_of 0 (stream_at byte_plan 0 after)) (fragments_of byte_plan 0 (bytes_accepted many 0 0))
+  pub prefix : Holds begins (IsPrefixOf (seen_of 0 (stream_at byte_plan 0 after)) (fragments_of byte_plan 0 (bytes_accepted many 0 0)))
   pub is_up : Holds up (stands_for (link_plan_at byte_plan.links 0).networks after ≡ true)
   pub comes : Holds timely (AreTimely 1000 0 1000 0 (now ∷ []))
   pub missed : AreReleasedBy byte_plan 0 0 (replicate earlier (short_sent 0) ++ (short_sent 0) ∷ []) (stream_at byte_plan 0 lines)
@@ -214,15 +221,17 @@ pub record NeedsItsPremises : Type 0 where
   pub valid : IsPlan byte_plan
   pub wait : worst_wait 0 byte_plan (short_port 0) ≡ 1000
   -- it was not accepted
-  pub unaccepted : ByteCase 0 0 1000 no_line no_line false true true true true true
+  pub unaccepted : ByteCase 0 0 1000 no_line no_line false true true true true true true
   -- the wait starts before the last release
-  pub early : ByteCase 2 1 1000 (byte_line 5000) (byte_line 5000) true false true true true true
+  pub early : ByteCase 2 1 1000 (byte_line 5000) (byte_line 5000) true false true true true true true
   -- the queue holds two messages, one more than its capacity
-  pub crowded : ByteCase 2 1 1000 no_line (byte_line 1000) true true false true true true
+  pub crowded : ByteCase 2 1 1000 no_line (byte_line 1000) true true false true true true true
   -- a poll of the emitter does not find it
   pub poll : EmitterPolls byte_plan 1000 no_line no_line
-  pub unfound : ByteCase 1 0 1000 no_line no_line true true true false true true
+  pub unfound : ByteCase 1 0 1000 no_line no_line true true true false true true true
+  -- the emitter sent another
+  pub unlike : ByteCase 1 0 1000 other_line other_line true true true true false true true
   -- the networks are down
-  pub down : ByteCase 1 0 1000 failed_line failed_line true true true true false true
+  pub down : ByteCase 1 0 1000 failed_line failed_line true true true true true false true
   -- the poll is a microsecond late
-  pub late : ByteCase 1 0 1001 no_line (byte_line 1001) true true true true true false
+  pub late : ByteCase 1 0 1001 no_line (byte_line 1001) true true true true true true false

@@ -55,6 +55,6 @@ pub fn message_in_run()
     ensures in_turn { WaitsItsTurn }
 
     // a message that isn't accepted; a start before the last release; a queue that exceeds its capacity; a poll that
-    // doesn't find the message; networks that are down; a late poll
+    // doesn't find the message; an emitter that sent another; networks that are down; a late poll
     ensures needed { NeedsItsPremises }
 {}
