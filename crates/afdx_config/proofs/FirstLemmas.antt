@@ -1,13 +1,14 @@
 -- The first finding has the fault of the least number, and so has the text.
+use Rattle.std.proofs.Math.Path.{fun_ext}
 use Rattle.afdx_config.proofs.Names.{◌≡◌, ◌≢◌, ℕ, ◌+◌, ◌<◌, ◌≤◌, List, [], ◌∷◌, ◌++◌, length, Bool, true, false, ◌||◌}
 use Rattle.afdx_config.proofs.Names.{◌&&◌, cond, Option, Some, None, refl, ap, sym, subst, ◌∙◌, arith, lit≤, ◌==◌}
 use Rattle.afdx_config.proofs.Names.{eq-eqb, and_parts, eqb-true, list_any, flat_map, find, take, get_or, inl, inr}
-use Rattle.afdx_config.proofs.Names.{cases_lt, AllByRecursion, same_Some, Result, Ok, Err, IfOk, IfErr, Members}
+use Rattle.afdx_config.proofs.Names.{cases_lt, same_Some, Result, Ok, Err, IfOk, IfErr, Members}
 use Rattle.afdx_config.proofs.Names.{fault_number, plan_faults, Cells, cells_of, cells_show, values_show, not, nat_tests, ConfigFault, Toml, Memory, MissingKey, UnknownKey, WrongKind, OutOfRange, BadBag, nat_lt, ltb-true}
 use Rattle.afdx_config.proofs.Names.{Plan, plan_of, shows, Reads, HasFault, IsLeastFault, IsPlanOf, Finding}
 use Rattle.afdx_config.proofs.Names.{findings_of, value_findings, shown_faults, first_fault, has, FirstIsAnswered}
 use Rattle.afdx_config.specs.Findings.{plan_findings}
-use Rattle.afdx_config.proofs.ShownLemmas.{of_shown, no_toml, no_memory, is_value, values_in, values_shown, plan_shown}
+use Rattle.afdx_config.proofs.ShownLemmas.{of_shown, no_toml, no_memory, is_value, values_far, values_in, values_shown, plan_shown}
 
 -- the number of a fault determines it
 fault_at : (f : ConfigFault) → get_or (Memory ∷ Toml ∷ shown_faults) (fault_number f) Memory ≡ f
@@ -126,11 +127,6 @@ five : (a b c d e : Bool) (m u w o g x : ConfigFault) (rest : Option ConfigFault
     (cond (e || false) (Some g) rest)))) ≡ Some x
 five a b c d e m u w o g x rest is = grind arith
 
--- equal tests find the same
-find_same : {A : Type 0} (p q : A → Bool) (xs : List A) → ((x : A) → p x ≡ q x) → find p xs ≡ find q xs
-find_same p q [] same = refl
-find_same p q (x ∷ xs) same = rw (same x, find_same p q xs same) refl
-
 pub value_first : (doc : Members) (xs : List Finding) (e : ConfigFault) → xs ≡ value_findings doc
     → Some e ≡ find (λ f. list_any (has f) xs) (take 5 shown_faults) → Some e ≡ first_fault doc
 value_first doc xs e are is =
@@ -138,34 +134,29 @@ value_first doc xs e are is =
     let at : (f : ConfigFault) → list_any (has f) xs ≡ values_show f doc = λ f. rw are (values_shown f doc) in
     sym (five (shown MissingKey) (shown UnknownKey) (shown WrongKind) (shown OutOfRange) (shown BadBag)
     MissingKey UnknownKey WrongKind OutOfRange BadBag e (find (λ f. shows f doc) plan_faults)
-    (sym (is ∙ find_same (λ f. list_any (has f) xs) shown (take 5 shown_faults) at)))
+    (sym (is ∙ ap (λ t. find t (take 5 shown_faults)) (fun_ext at))))
+
+-- a list in which no fault is found is empty
+pub empty : (xs : List Finding) → ((fault : ConfigFault) → list_any (has fault) xs ≡ false) → xs ≡ []
+empty [] lacks = refl
+empty (x ∷ xs) lacks = let none = lacks x.fault in let number = eq-eqb (fault_number x.fault) (fault_number x.fault) refl in cc
 
 -- if no fault of values is found, there is no finding of values
-empty : (xs : List Finding) → AllByRecursion (λ x. is_value x.fault ≡ true) xs
-    → find (λ f. list_any (has f) xs) (take 5 shown_faults) ≡ None → xs ≡ []
-empty [] all is = refl
-empty (x ∷ xs) all is = here x.fault refl all.0
-  where
-    from_5 : IsFrom 2 (take 5 shown_faults)
-    from_5 = (refl, (refl, (refl, (refl, (refl, tt)))))
-
-    out : (h : ConfigFault) → is_value h ≡ true → list_any (has h) (x ∷ xs) ≡ false
-    out h small = let (low, high) = and_parts (nat_lt 1 (fault_number h)) (nat_lt (fault_number h) 7) small in
-        before (λ f. list_any (has f) (x ∷ xs)) 7 h (take 5 shown_faults) 2 from_5 refl
-        (ltb-true 1 (fault_number h) low) (rw is (ltb-true (fault_number h) 7 high))
-
-    here : (h : ConfigFault) → x.fault ≡ h → is_value h ≡ true → x ∷ xs ≡ []
-    here h same small = let lacks = out x.fault (rw same small) in let number = eq-eqb (fault_number x.fault) (fault_number x.fault) refl in cc
-
 pub no_value : (doc : Members) (xs : List Finding) → xs ≡ value_findings doc
     → None ≡ find (λ f. list_any (has f) xs) (take 5 shown_faults) → value_findings doc ≡ []
-no_value doc xs are is = empty (value_findings doc) (values_in doc) (sym (rw are at is))
+no_value doc xs are is = empty (value_findings doc) (λ f. here f (is_value f) refl)
+  where
+    here : (f : ConfigFault) (b : Bool) → is_value f ≡ b → list_any (has f) (value_findings doc) ≡ false
+    here f false far = values_far f (value_findings doc) (values_in doc) far
+    here f true small = let (low, high) = and_parts (nat_lt 1 (fault_number f)) (nat_lt (fault_number f) 7) small in
+        before (λ f. list_any (has f) (value_findings doc)) 7 f (take 5 shown_faults) 2 (refl, (refl, (refl, (refl, (refl, tt))))) refl
+        (ltb-true 1 (fault_number f) low) (rw (sym (rw are at is)) (ltb-true (fault_number f) 7 high))
 
 -- without findings of values, the first fault is that of links and ports
-pub rows_first : (doc : Members) (cells : Cells) (first : Option ConfigFault) → cells ≡ cells_of doc → value_findings doc ≡ []
-    → first ≡ find (λ f. cells_show f cells) plan_faults → first ≡ first_fault doc
-rows_first doc cells first are none is = is ∙ rw are (sym (find_same (λ f. shows f doc) (λ f. cells_show f (cells_of doc)) shown_faults
-    (λ f. ap (λ b. b || cells_show f (cells_of doc)) (sym (values_shown f doc) ∙ ap (list_any (has f)) none))))
+pub rows_first : (doc : Members) (cells : Cells) → cells ≡ cells_of doc → value_findings doc ≡ []
+    → find (λ f. cells_show f cells) plan_faults ≡ first_fault doc
+rows_first doc cells are none = rw are (sym (ap (λ t. find t shown_faults) (fun_ext
+    (λ f. ap (λ b. b || cells_show f (cells_of doc)) (sym (values_shown f doc) ∙ ap (list_any (has f)) none)))))
 
 -- there is a finding of a fault exactly if links and ports have it
 pub rows_show : (g : ConfigFault) (cells : Cells) (xs : List Finding) → xs ≡ plan_findings g cells → not (length xs == 0) ≡ cells_show g cells

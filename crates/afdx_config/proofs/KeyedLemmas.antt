@@ -1,4 +1,5 @@
 -- Rows by their keys.
+use Rattle.std.proofs.Math.Path.{fun_ext}
 use Rattle.afdx_config.proofs.Names.{◌≡◌, ℕ, ◌+◌, ◌-◌, ◌<◌, ◌≤◌, List, [], ◌∷◌, length, drop, get_or, cond, Bool, true, false, zero, suc, same_Some, Option, Some, None, refl, ap, sym, ◌∙◌, arith, drop_more, drop_all, map, map-map, nat_eq}
 use Rattle.afdx_config.proofs.Names.{position, position_from, position_from-zero, option_map_or, nat_cmp, nat_tests, Ordering, both, is_key, first_row, is_eq, bytes_eq, slice_cmp, is_eq-slice_cmp, find, find_at, position_or_len, cases_lt, ◌⊎◌, option_and_then, slice_get, Cells, PortRow, LinkRow, is_row_of, all_named, lacks_link, ◌&&◌, is_some, is_none, not, Bor, option_copied, inl, inr, lt-ltb, le-ltb, slice_get_past, IfSome, position-Some}
 use Rattle.afdx_config.proofs.SectionLemmas.{any_found}
@@ -22,12 +23,8 @@ pub all_left : {A : Type 0} (test : A → Bool) (rows : List A) (i : ℕ) (o : O
 all_left test rows i o at is = let zero : i ≡ 0 = omega arith in rw zero at is ∙ sym (position_from-zero test rows)
 
 -- equal tests find the same row
-from_same : {A : Type 0} (p q : A → Bool) (k : ℕ) (rows : List A) → ((x : A) → p x ≡ q x) → position_from p k rows ≡ position_from q k rows
-from_same p q k [] same = refl
-from_same p q k (x ∷ xs) same = rw (same x, from_same p q (k + 1) xs same) refl
-
 pub position_same : {A : Type 0} (p q : A → Bool) (rows : List A) → ((x : A) → p x ≡ q x) → position p rows ≡ position q rows
-position_same p q rows same = position_from-zero p rows ∙ from_same p q 0 rows same ∙ sym (position_from-zero q rows)
+position_same p q rows same = ap (λ t. position t rows) (fun_ext same)
 
 from_map : {A B : Type 0} (p : B → Bool) (f : A → B) (k : ℕ) (rows : List A) → position_from p k (map f rows) ≡ position_from (λ x. p (f x)) k rows
 from_map p f k [] = refl
@@ -49,16 +46,12 @@ pub row_is : {A K : Type 0} (cmp : K → K → Ordering) (key : A → Option K) 
 row_is cmp key rows test None same = sym (position_none test rows same)
 row_is cmp key rows test (Some k) same = position_map (is_key cmp k) key rows ∙ sym (position_same test (λ e. is_key cmp k (key e)) rows same)
 
-pub map_same : {A B : Type 0} (f g : A → B) (xs : List A) → ((x : A) → f x ≡ g x) → map f xs ≡ map g xs
-map_same f g [] same = refl
-map_same f g (x ∷ xs) same = rw (same x, map_same f g xs same) refl
-
 pub rows_keyed : {A K : Type 0} (cmp : K → K → Ordering) (key : A → Option K) (clash : A → A → Bool) (rows : List A)
     → ((e r : A) → clash e r ≡ option_map_or (λ k. is_key cmp k (key e)) (key r) false)
     → map (first_row cmp (map key rows)) (map key rows) ≡ map (λ r. position (λ e. clash e r) rows) rows
 rows_keyed cmp key clash rows same = map-map (first_row cmp (map key rows)) key rows
-    ∙ map_same (λ r. first_row cmp (map key rows) (key r)) (λ r. position (λ e. clash e r) rows) rows
-    (λ r. row_is cmp key rows (λ e. clash e r) (key r) (λ e. same e r))
+    ∙ ap (λ f. map f rows) (fun_ext
+    (λ r. row_is cmp key rows (λ e. clash e r) (key r) (λ e. same e r)))
 
 -- two numbers are the same exactly if the order says so
 pub tied : (a b : ℕ) → nat_eq a b ≡ is_eq (nat_cmp a b)
@@ -78,13 +71,7 @@ same_address a b = sym (is_eq-slice_cmp a b)
 from_weaker : {A : Type 0} (p q : A → Bool) (k : ℕ) (rows : List A) → ((x : A) → p x ≡ false → q x ≡ false)
     → position_from p k rows ≡ None → position_from q k rows ≡ None
 from_weaker p q k [] weaker is = refl
-from_weaker p q k (x ∷ xs) weaker is = here (p x) refl is (from_weaker p q (k + 1) xs weaker)
-  where
-    here : (b : Bool) → p x ≡ b → cond b (Some k) (position_from p (k + 1) xs) ≡ None
-        → (position_from p (k + 1) xs ≡ None → position_from q (k + 1) xs ≡ None)
-        → cond (q x) (Some k) (position_from q (k + 1) xs) ≡ None
-    here true at is more = cc
-    here false at is more = rw (weaker x at) (more is)
+from_weaker p q k (x ∷ xs) weaker is = grind (arith, weaker x, from_weaker p q (k + 1) xs weaker)
 
 pub position_weaker : {A : Type 0} (p q : A → Bool) (rows : List A) → ((x : A) → p x ≡ false → q x ≡ false) → position p rows ≡ None
     → position q rows ≡ None

@@ -5,16 +5,16 @@ use Rattle.afdx_config.proofs.Names.{AllByRecursion, list_any, has_pair, Members
 use Rattle.afdx_config.proofs.Names.{cells_of, cells_show, plan_of, DuplicateVl, DuplicatePort, NoSuchVl, NoSuchSub, SamplingTooLong, SameFlow}
 use Rattle.afdx_config.proofs.Names.{SharedUnicast, Limit, same_link, same_port, same_flow, share_unicast, lacks_link, lacks_sub, is_long, is_packed}
 use Rattle.afdx_config.proofs.Names.{is_row_of, on_sub_of, Top, Link, Port, document_fields, link_fields, port_fields, fields_in, is_version_2}
-use Rattle.afdx_config.proofs.Names.{IsSoundTable, plan_shows, is_sampling, nat_lt, nat_le, option_map_or, ◌&&◌, is_none, has, Finding, eq-eqb}
-use Rattle.afdx_config.proofs.Names.{fault_number, plan_faults, first_fault, cond, ◌+◌, both, ◌-◌, RulesAgree, is_no_count}
+use Rattle.afdx_config.proofs.Names.{IsSoundTable, plan_shows, is_sampling, nat_lt, nat_le, option_map_or, ◌&&◌, is_none}
+use Rattle.afdx_config.proofs.Names.{plan_faults, first_fault, cond, ◌+◌, both, ◌-◌, RulesAgree, is_no_count}
 use Rattle.afdx_config.specs.Cells.{link_row, port_row}
 use Rattle.afdx_config.specs.PlanOf.{link_of, port_of}
 use Rattle.afdx_config.specs.Findings.{value_findings}
 use Rattle.afdx_config.proofs.SectionLemmas.{list_any_map, find_map, option_maps}
 use Rattle.std.proofs.lemmas.List.Folds.{fold-map}
 use Rattle.afdx_plan.specs.PlanFaults.{is_link_of, least_plan_fault}
-use Rattle.afdx_config.proofs.FirstLemmas.{rows_first}
-use Rattle.afdx_config.proofs.ShownLemmas.{values_shown}
+use Rattle.afdx_config.proofs.FirstLemmas.{empty, rows_first}
+use Rattle.afdx_config.proofs.ShownLemmas.{any_no, values_shown}
 use Rattle.afdx_config.proofs.SoundLemmas.{none, table_sound, rows_sound}
 
 -- the values of a link and of a port that have no fault
@@ -78,10 +78,6 @@ at_link : (g : LinkRow → Bool) (p : PortPlan) (links : List LinkPlan)
 at_link g p links = ap (λ o. option_map_or g o false) (find_map (is_row_of (port_whole p)) link_whole links)
     ∙ option_maps g link_whole (find (is_link_of p) links) false
 
-named : (links : List LinkPlan) → list_any (λ (link : LinkRow). is_none link.id) (map link_whole links) ≡ false
-named [] = refl
-named (x ∷ xs) = named xs
-
 any_whole : (test : PortRow → Bool) (of_plan : PortPlan → Bool) (ports : List PortPlan) → ((p : PortPlan) → test (port_whole p) ≡ of_plan p)
     → list_any test (map port_whole ports) ≡ list_any of_plan ports
 any_whole test of_plan ports same = list_any_map test port_whole ports ∙ ap (λ t. list_any t ports) (fun_ext same)
@@ -91,7 +87,7 @@ whole_shows : (plan : Plan) (fault : ConfigFault) → cells_show fault (whole pl
 whole_shows plan DuplicateVl = pair_map same_link link_whole plan.links
 whole_shows plan DuplicatePort = pair_map same_port port_whole plan.ports
 whole_shows plan NoSuchVl = any_whole (lacks_link (whole plan)) _ plan.ports
-    (λ p. rw (named plan.links, list_any_map (is_row_of (port_whole p)) link_whole plan.links) refl)
+    (λ p. rw (list_any_map (λ (link : LinkRow). is_none link.id) link_whole plan.links, any_no plan.links, list_any_map (is_row_of (port_whole p)) link_whole plan.links) refl)
 whole_shows plan NoSuchSub = any_whole (lacks_sub (whole plan)) _ plan.ports
     (λ p. at_link (λ link. both nat_le link.sub_vls (Some p.sub)) p plan.links)
 whole_shows plan SamplingTooLong = any_whole (is_long (whole plan)) _ plan.ports
@@ -105,11 +101,6 @@ whole_shows plan Limit = rw (length-map plan.links link_whole, length-map plan.p
     (λ p. ap (nat_lt 64) (fold-map (λ n q. n + cond (on_sub_of (port_whole p) q) 1 0) port_whole 0 plan.ports))))
 whole_shows plan _ = refl
 
--- a list in which no fault is found is empty
-empty : (xs : List Finding) → ((fault : ConfigFault) → list_any (has fault) xs ≡ false) → xs ≡ []
-empty [] lacks = refl
-empty (x ∷ xs) lacks = let none = lacks x.fault in let number = eq-eqb (fault_number x.fault) (fault_number x.fault) refl in cc
-
 pub rules_agree : RulesAgree
 rules_agree doc free fault =
     ap (λ b. b || cells_show fault (cells_of doc)) (free fault)
@@ -121,4 +112,4 @@ pub fine : (doc : Members) (plan : Plan) → value_findings doc ≡ [] → first
     → least_plan_fault plan.links plan.ports ≡ None
 fine doc plan free lacks is = rw is (ap (λ t. find t plan_faults)
     (fun_ext (λ f. sym (ap (cells_show f) (cells_are doc free) ∙ whole_shows (plan_of doc) f)))
-    ∙ rows_first doc (cells_of doc) _ refl free refl ∙ lacks)
+    ∙ rows_first doc (cells_of doc) refl free ∙ lacks)

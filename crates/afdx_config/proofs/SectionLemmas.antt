@@ -65,3 +65,7 @@ none_counted p [] = refl
 none_counted p (x ∷ xs) =
     let step = sum_by-cons (λ y. cond {A = ℕ} (p y) 1 0) x xs in
     grind (arith, nat_tests, none_counted p xs, step)
+
+pub none_on : {A : Type 0} (test : A → Bool) (rows : List A) → ((x : A) → test x ≡ false) → count_by test rows ≡ 0
+none_on test [] fails = refl
+none_on test (x ∷ xs) fails = let step = sum_by-cons (λ y. cond {A = ℕ} (test y) 1 0) x xs in grind (arith, fails x, none_on test xs fails, step)

@@ -1,13 +1,14 @@
 -- Ports with the same keys.
-use Rattle.afdx_config.proofs.Names.{◌≡◌, ℕ, List, Bool, true, false, ◌&&◌, Option, Some, None, refl, ap, sym, ◌∙◌, arith, option_map_or, nat_eq, nat_cmp, nat_tests, is_eq, Ordering, ordering_then, both_tied, and-false, slice_cmp, option_cmp, not, ◌==◌, bytes_eq, map, position, slice_get, slice_get-get_or, position-Some, get_or, option_and_then, share_unicast, cond, length, ◌<◌}
+use Rattle.std.proofs.Math.Path.{fun_ext}
+use Rattle.afdx_config.proofs.Names.{◌≡◌, ℕ, List, Bool, true, false, ◌&&◌, Option, Some, None, refl, ap, sym, ◌∙◌, arith, option_map_or, nat_eq, nat_cmp, nat_tests, is_eq, Ordering, ordering_then, both_tied, and-false, slice_cmp, option_cmp, not, ◌==◌, map, position, slice_get, slice_get-get_or, position-Some, get_or, option_and_then, share_unicast, cond, length, ◌<◌}
 use Rattle.afdx_config.proofs.Names.{both, is_key, PortRow, same_flow, flow_of, are_one_destination, are_one_address}
-use Rattle.std.proofs.Common.{Less, Equal, Greater, ◌+◌, ◌^◌, take, count_by, unwrap_or, BTreeMap, length-take, [], ◌∷◌, add-zero}
-use Rattle.std.specs.BTreeMap.{get}
-use Rattle.std.proofs.lemmas.List.Sums.{count_by-le-length, count_by_more_yes, count_by_more_no, sum_by-cons}
+use Rattle.std.proofs.Common.{Less, Equal, Greater, ◌+◌, ◌^◌, take, count_by, length-take, add-zero}
+use Rattle.std.proofs.lemmas.List.Sums.{count_by-le-length, count_by_more_yes, count_by_more_no}
 use Rattle.afdx_config.proofs.Names.{on_sub_of, ◌-◌, nat_le, one_if, found, Limit, Port, plan_key, crowd_finding}
 use Rattle.std.proofs.lemmas.Map.Lookups.{exact_bytes, exact_pairs, exact_unsigned}
-use Rattle.afdx_config.specs.Sharing.{sub_in, sub_cmp, is_on_sub, all_five, address_in, address_of, address_cmp, are_apart, is_apart, later_address, sharing_place}
-use Rattle.afdx_config.proofs.KeyedLemmas.{tied, same_address, map_same, position_map, position_same, position_none, position_weaker, position_passed}
+use Rattle.afdx_config.specs.Sharing.{sub_in, is_on_sub, all_five, address_in, address_of, address_cmp, are_apart, is_apart, later_address, sharing_place}
+use Rattle.afdx_config.proofs.SectionLemmas.{none_on}
+use Rattle.afdx_config.proofs.KeyedLemmas.{tied, same_address, position_map, position_same, position_none, position_weaker, position_passed}
 
 -- no key, no match
 keyless : {A : Type 0} (o : Option A) → option_map_or (λ k. false) o false ≡ false
@@ -26,24 +27,9 @@ five : (cmp : Option (List ℕ) → Option (List ℕ) → Ordering) (same : (a b
     (a a' b b' c c' d d' : Option ℕ) (u u' : Option (Option (List ℕ)))
     → (both nat_eq a a' && both nat_eq b b' && both nat_eq c c' && both nat_eq d d' && both are_one_destination u u')
     ≡ option_map_or (λ k. is_key (flow_cmp cmp) k (all_five a b c d u)) (all_five a' b' c' d' u') false
-five cmp same None a' b b' c c' d d' u u' = sym (keyless (all_five a' b' c' d' u'))
-five cmp same (Some a) None b b' c c' d d' u u' = refl
-five cmp same (Some a) (Some a') None b' c c' d d' u u' =
-    rw (and-false (nat_eq a a')) (sym (keyless (all_five (Some a') b' c' d' u')))
-five cmp same (Some a) (Some a') (Some b) None c c' d d' u u' = rw (and-false (nat_eq a a')) refl
-five cmp same (Some a) (Some a') (Some b) (Some b') None c' d d' u u' =
-    rw (and-false (nat_eq a a' && nat_eq b b')) (sym (keyless (all_five (Some a') (Some b') c' d' u')))
-five cmp same (Some a) (Some a') (Some b) (Some b') (Some c) None d d' u u' = rw (and-false (nat_eq a a' && nat_eq b b')) refl
-five cmp same (Some a) (Some a') (Some b) (Some b') (Some c) (Some c') None d' u u' =
-    rw (and-false (nat_eq a a' && nat_eq b b' && nat_eq c c')) (sym (keyless (all_five (Some a') (Some b') (Some c') d' u')))
-five cmp same (Some a) (Some a') (Some b) (Some b') (Some c) (Some c') (Some d) None u u' =
-    rw (and-false (nat_eq a a' && nat_eq b b' && nat_eq c c')) refl
-five cmp same (Some a) (Some a') (Some b) (Some b') (Some c) (Some c') (Some d) (Some d') None u' =
-    rw (and-false (nat_eq a a' && nat_eq b b' && nat_eq c c' && nat_eq d d')) (sym (keyless (all_five (Some a') (Some b') (Some c') (Some d') u')))
-five cmp same (Some a) (Some a') (Some b) (Some b') (Some c) (Some c') (Some d) (Some d') (Some u) None =
-    rw (and-false (nat_eq a a' && nat_eq b b' && nat_eq c c' && nat_eq d d')) refl
 five cmp same (Some a) (Some a') (Some b) (Some b') (Some c) (Some c') (Some d) (Some d') (Some u) (Some u') =
     both_tied _ _ _ _ (both_tied _ _ _ _ (both_tied _ _ _ _ (both_tied _ _ _ _ (tied a a') (tied b b')) (tied c c')) (tied d d')) (same u u')
+five cmp same a a' b b' c c' d d' u u' = simp (keyless, and-false) refl
 
 -- two destinations are the same exactly if the order says so
 abbrev pub destination_cmp : Option (List ℕ) → Option (List ℕ) → Ordering
@@ -66,24 +52,11 @@ sharing_key : (v w a b : Option ℕ) (u t : Option (Option (List ℕ)))
     ≡ (both (λ x y. not (x == y)) v w && option_map_or (λ k. is_key address_cmp k (address_in v a u)) (address_in w b t) false)
 sharing_key None w a b u t = refl
 sharing_key (Some v) None a b u t = refl
-sharing_key (Some v) (Some w) None b u t = rw (keyless (address_in (Some w) b t), and-false (not (v == w))) refl
-sharing_key (Some v) (Some w) (Some a) None u t = rw (and-false (not (v == w))) refl
-sharing_key (Some v) (Some w) (Some a) (Some b) None t =
-    rw (keyless (address_in (Some w) (Some b) t), and-false (not (v == w)), and-false (not (v == w) && nat_eq a b)) refl
-sharing_key (Some v) (Some w) (Some a) (Some b) (Some None) None = rw (and-false (not (v == w)), and-false (not (v == w) && nat_eq a b)) refl
-sharing_key (Some v) (Some w) (Some a) (Some b) (Some None) (Some t) =
-    rw (keyless (address_in (Some w) (Some b) (Some t)), and-false (not (v == w)), and-false (not (v == w) && nat_eq a b)) refl
-sharing_key (Some v) (Some w) (Some a) (Some b) (Some (Some x)) None =
-    rw (and-false (not (v == w)), and-false (not (v == w) && nat_eq a b)) refl
-sharing_key (Some v) (Some w) (Some a) (Some b) (Some (Some x)) (Some None) =
-    rw (and-false (not (v == w)), and-false (not (v == w) && nat_eq a b)) refl
 sharing_key (Some v) (Some w) (Some a) (Some b) (Some (Some x)) (Some (Some y)) =
     let both_are = both_tied _ _ _ _ (tied a b) (same_address x y) in
-    and_assoc (not (v == w)) (nat_eq a b) (bytes_eq x y) ∙ ap (λ c. not (v == w) && c) both_are
-  where
-    and_assoc : (p q r : Bool) → (p && q && r) ≡ (p && (q && r))
-    and_assoc true q r = refl
-    and_assoc false q r = refl
+    rw (← both_are) (grind arith)
+sharing_key (Some v) (Some w) (Some a) (Some b) (Some None) (Some t) = simp (keyless, and-false) refl
+sharing_key v w a b u t = simp (keyless, and-false) refl
 
 -- an address is that of a known link
 linked : (v a : Option ℕ) (u : Option (Option (List ℕ))) (k : ℕ × List ℕ) → address_in v a u ≡ Some k → (n : ℕ) × (v ≡ Some n)
@@ -188,19 +161,14 @@ pub sharing : (ports : List PortRow) (F L : Address → Option ℕ) (keys laters
     → ((q : Address) → L q ≡ position (is_key address_cmp q) laters) → places ≡ map (sharing_place F L ports) ports
     → places ≡ map (λ p. position (λ e. share_unicast e p) ports) ports
 sharing ports F L keys laters places keys_are laters_are first later are =
-    are ∙ map_same (sharing_place F L ports) (λ p. position (λ e. share_unicast e p) ports) ports
-    (shared_first ports F L (λ q. rw keys_are at (first q)) (λ q. rw laters_are at (later q)))
+    are ∙ ap (λ f. map f ports) (fun_ext
+    (shared_first ports F L (λ q. rw keys_are at (first q)) (λ q. rw laters_are at (later q))))
 
 -- the ports before one on its sub-VL
 pub before_is : (ports : List PortRow) (i n : ℕ) (port : PortRow)
     → n ≡ option_map_or (λ q. count_by (is_on_sub q) (take i ports)) (sub_in port.vl port.sub) 0 → n ≡ count_by (on_sub_of port) (take i ports)
 before_is ports i n port is = is ∙ here port.vl port.sub
   where
-    none : (xs : List PortRow) (test : PortRow → Bool) → ((x : PortRow) → test x ≡ false) → 0 ≡ count_by test xs
-    none [] test fails = refl
-    none (x ∷ xs) test fails = let step = sum_by-cons (λ y. cond {A = ℕ} (test y) 1 0) x xs in
-        grind (arith, fails x, none xs test fails, step)
-
     no_sub : (a b c : Option ℕ) → (both nat_eq a b && both nat_eq c None) ≡ false
     no_sub a b None = and-false (both nat_eq a b)
     no_sub a b (Some c) = and-false (both nat_eq a b)
@@ -211,8 +179,8 @@ before_is ports i n port is = is ∙ here port.vl port.sub
 
     here : (v u : Option ℕ) → option_map_or (λ q. count_by (is_on_sub q) (take i ports)) (sub_in v u) 0
         ≡ count_by (λ (q : PortRow). both nat_eq q.vl v && both nat_eq q.sub u) (take i ports)
-    here None u = none (take i ports) (λ (q : PortRow). both nat_eq q.vl None && both nat_eq q.sub u) (λ q. no_vl q.vl q.sub u)
-    here (Some v) None = none (take i ports) (λ (q : PortRow). both nat_eq q.vl (Some v) && both nat_eq q.sub None) (λ q. no_sub q.vl (Some v) q.sub)
+    here None u = sym (none_on (λ (q : PortRow). both nat_eq q.vl None && both nat_eq q.sub u) (take i ports) (λ q. no_vl q.vl q.sub u))
+    here (Some v) None = sym (none_on (λ (q : PortRow). both nat_eq q.vl (Some v) && both nat_eq q.sub None) (take i ports) (λ q. no_sub q.vl (Some v) q.sub))
     here (Some v) (Some u) = refl
 
 -- counting one port more
@@ -232,20 +200,6 @@ pub count_small : (ports : List PortRow) (i : ℕ) (old : ℕ × ℕ → ℕ) �
     → ((q : ℕ × ℕ) → old q ≡ count_by (is_on_sub q) (take i ports)) → (q : ℕ × ℕ) → old q < 2 ^ 63
 count_small ports i old small is q = let h = count_by-le-length (is_on_sub q) (take i ports) in
     let l = length-take i ports in rw (is q) (omega arith)
-
--- the number of ports on a sub-VL after one was counted
-pub one_counted : (vl sub n : ℕ) (port : PortRow) (m m' : BTreeMap (ℕ × ℕ) ℕ) → port.vl ≡ Some vl → port.sub ≡ Some sub → n ≡ unwrap_or (get sub_cmp m (vl, sub)) 0
-    → ((q : ℕ × ℕ) → get sub_cmp m' q ≡ cond (is_eq (sub_cmp (vl, sub) q)) (Some (n + 1)) (get sub_cmp m q))
-    → (q : ℕ × ℕ) → unwrap_or (get sub_cmp m' q) 0 ≡ unwrap_or (get sub_cmp m q) 0 + cond (is_on_sub q port) 1 0
-one_counted vl sub n port m m' at_vl at_sub was now q =
-    rw (now q, at_vl, at_sub, both_tied _ _ _ _ (tied vl q.0) (tied sub q.1)) (here (is_eq (sub_cmp (vl, sub) q)) refl)
-  where
-    here : (b : Bool) → is_eq (sub_cmp (vl, sub) q) ≡ b
-        → unwrap_or (cond b (Some (n + 1)) (get sub_cmp m q)) 0 ≡ unwrap_or (get sub_cmp m q) 0 + cond {A = ℕ} b 1 0
-    here true is =
-        let same : (vl, sub) ≡ q = exact_pairs nat_cmp nat_cmp exact_unsigned exact_unsigned (vl, sub) q (equal (sub_cmp (vl, sub) q) is) in
-        rw (← same, was) refl
-    here false is = sym (add-zero (unwrap_or (get sub_cmp m q) 0))
 
 -- the finding of a port that was counted
 pub crowd_is : (ports : List PortRow) (i n : ℕ) (port : PortRow) (old : ℕ × ℕ → ℕ) → ((q : ℕ × ℕ) → old q ≡ count_by (is_on_sub q) (take i ports))

@@ -1,9 +1,9 @@
 -- A document has a fault exactly if some finding has it.
 use Rattle.std.proofs.lemmas.List.Sums.{sum_by-append, sum_by-cons}
 use Rattle.std.proofs.Math.Seq.{take-append_seam}
-use Rattle.afdx_config.proofs.SectionLemmas.{none_counted}
+use Rattle.afdx_config.proofs.SectionLemmas.{none_counted, none_on}
 use Rattle.std.proofs.Common.{length-append}
-use Rattle.afdx_config.proofs.Names.{◌≡◌, ℕ, ◌+◌, ◌-◌, ◌≤◌, List, [], ◌∷◌, ◌++◌, length, take, Bool, true, false, ◌||◌, ◌&&◌, cond, append_assoc, count_by, eqb-true, eq-eqb, le-ltb, lt-ltb, or-true, nat_eq, nat_le}
+use Rattle.afdx_config.proofs.Names.{◌≡◌, ℕ, ◌+◌, ◌-◌, ◌≤◌, List, [], ◌∷◌, ◌++◌, length, take, Bool, true, false, ◌||◌, ◌&&◌, cond, append_assoc, count_by, eqb-true, eq-eqb, or-true, nat_eq, nat_le}
 use Rattle.afdx_config.proofs.Names.{Option, Some, None, refl, ap, sym, ◌∙◌, filter, codes, arith, option_map_or}
 use Rattle.afdx_config.proofs.Names.{◌==◌, and_parts, nat_tests, or-false, and-true, and-false, and-or_distrib_left, nat_lt, list_any-append, position}
 use Rattle.afdx_config.proofs.Names.{position_from, list_any, flat_map, then_some, position_from-zero, AllByRecursion, not}
@@ -19,7 +19,7 @@ use Rattle.afdx_config.specs.Findings.{plan_findings, table_findings, value_find
 use Rattle.afdx_config.proofs.PlaceLemmas.{r_append, r_each, values_have}
 
 -- no element passes
-any_no : {A : Type 0} (xs : List A) → list_any (λ x. false) xs ≡ false
+pub any_no : {A : Type 0} (xs : List A) → list_any (λ x. false) xs ≡ false
 any_no [] = refl
 any_no (x ∷ xs) = any_no xs
 
@@ -79,22 +79,12 @@ pair f g at k (Some i) = one f (nat_lt (i + 1) k) (found g (at k) (plan_key g) (
 -- the first row that passes is before row k exactly if some row before it passes
 late : {A : Type 0} (p : A → Bool) (n k : ℕ) (rows : List A) → k ≤ n + 1 → is_before k (position_from p n rows) ≡ false
 late p n k [] small = refl
-late p n k (x ∷ xs) small = here (p x) (late p (n + 1) k xs (omega arith))
-  where
-    here : (b : Bool) → is_before k (position_from p (n + 1) xs) ≡ false
-        → is_before k (cond b (Some n) (position_from p (n + 1) xs)) ≡ false
-    here true more = le-ltb (n + 1) k small
-    here false more = more
+late p n k (x ∷ xs) small = grind (arith, nat_tests, late p (n + 1) k xs (omega arith))
 
 early_from : {A : Type 0} (p : A → Bool) (n k : ℕ) (before rest : List A) → k ≡ n + length before + 1
     → is_before k (position_from p n (before ++ rest)) ≡ list_any p before
 early_from p n k [] rest is = late p n k rest (omega arith)
-early_from p n k (y ∷ ys) rest is = here (p y) (early_from p (n + 1) k ys rest (omega arith))
-  where
-    here : (b : Bool) → is_before k (position_from p (n + 1) (ys ++ rest)) ≡ list_any p ys
-        → is_before k (cond b (Some n) (position_from p (n + 1) (ys ++ rest))) ≡ (b || list_any p ys)
-    here true more = lt-ltb (n + 1) k (omega arith)
-    here false more = more
+early_from p n k (y ∷ ys) rest is = grind (arith, nat_tests, early_from p (n + 1) k ys rest (omega arith))
 
 early : {A : Type 0} (p : A → Bool) (k : ℕ) (before rest : List A) → k ≡ length before + 1
     → is_before k (position p (before ++ rest)) ≡ list_any p before
@@ -110,10 +100,7 @@ more_before related before x (y ∷ ys) =
     (shuffle (list_any (λ e. related e y) before) (related x y) (list_any (λ z. list_any (λ e. related e z) before) ys) (list_any (related x) ys))
   where
     shuffle : (a b c d : Bool) → ((a || (b || false)) || (c || d)) ≡ ((a || c) || (b || d))
-    shuffle true b c d = refl
-    shuffle false true true d = refl
-    shuffle false true false d = refl
-    shuffle false false c d = refl
+    shuffle a b c d = grind arith
 
 -- the tests of the rows that clash with an earlier one
 any_pair : {A : Type 0} (related : A → A → Bool) (all before rest : List A) (k : ℕ) → all ≡ before ++ rest → k ≡ length before + 1
@@ -129,9 +116,7 @@ any_pair related all before (x ∷ xs) k is at =
     (shuffle (list_any (λ e. related e x) before) (list_any (λ y. list_any (λ e. related e y) before) xs) (list_any (related x) xs) (has_pair related xs))
   where
     shuffle : (a b c d : Bool) → (a || ((b || c) || d)) ≡ ((a || b) || (c || d))
-    shuffle true b c d = refl
-    shuffle false true c d = refl
-    shuffle false false c d = refl
+    shuffle a b c d = grind arith
 
 pairs_shown : {A : Type 0} (f g : ConfigFault) (at : ℕ → Place) (related : A → A → Bool) (rows : List A)
     → list_any (has f) (pair_findings g at related rows) ≡ (same f g && has_pair related rows)
@@ -185,10 +170,6 @@ no_sub None u (Some a) b is = refl
 no_sub (Some v) None a None is = and-false (both nat_eq a (Some v))
 no_sub (Some v) None a (Some b) is = and-false (both nat_eq a (Some v))
 no_sub (Some v) (Some u) a b is = let one = eq-eqb v v refl in let two = eq-eqb u u refl in cc
-
-none_on : (test : PortRow → Bool) (rows : List PortRow) → ((x : PortRow) → test x ≡ false) → count_by test rows ≡ 0
-none_on test [] fails = refl
-none_on test (x ∷ xs) fails = let step = sum_by-cons (λ y. cond {A = ℕ} (test y) 1 0) x xs in grind (arith, fails x, none_on test xs fails, step)
 
 -- the counts of a port's sub-VL: before the port, after it and in all
 counts : (n m t : ℕ) (follows later : Bool) → t ≡ n + (1 + m) → not follows ≡ nat_eq m 0
@@ -341,7 +322,7 @@ pub values_in : (doc : Members) → AreValues (value_findings doc)
 values_in doc = values_have (λ x. is_value x.fault ≡ true) doc (λ place fields members at. table_in place fields members)
 
 -- no other fault is one of values
-values_far : (f : ConfigFault) (xs : List Finding) → AreValues xs → is_value f ≡ false → list_any (has f) xs ≡ false
+pub values_far : (f : ConfigFault) (xs : List Finding) → AreValues xs → is_value f ≡ false → list_any (has f) xs ≡ false
 values_far f [] all far = refl
 values_far f (x ∷ xs) all far = grind (arith, nat_tests, all.0, values_far f xs all.1 far)
 
