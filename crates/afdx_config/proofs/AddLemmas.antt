@@ -6,7 +6,7 @@ use Rattle.afdx_config.proofs.Names.{ConfigFault, findings_of, finding_of, field
 use Rattle.afdx_config.proofs.Names.{port_fields, fields_in, field_fault, key_fault, is_version_2, map-map, BTreeMap, Value}
 use Rattle.afdx_config.specs.declared.format.Field.{Field as Key}
 use Rattle.afdx_config.specs.declared.findings.Finding.{Finding as Written}
-use Rattle.afdx_config.proofs.Names.{pair_finding, pair_findings, position, Option, None}
+use Rattle.afdx_config.proofs.Names.{None}
 use Rattle.afdx_config.specs.Cells.{link_row, port_row}
 use Rattle.afdx_config.specs.Findings.{plan_findings, table_findings, value_findings}
 use Rattle.afdx_config.proofs.SectionLemmas.{Found, keys_are, option_maps}
@@ -96,10 +96,3 @@ pub all_found : (doc : Members) (gs : List ConfigFault) (values : List Finding) 
     → Grows old new (flat_map (λ fault. filter (has fault) values ++ plan_findings fault cells) gs)
     → map finding_of new ≡ flat_map (λ g. findings_of g doc) gs
 all_found doc gs values cells old new none values_are cells_are added = rw (none, values_are, cells_are) at added
-
--- the findings of the rows that clash with an earlier one
-pub pairs_all : {A : Type 0} (fault : ConfigFault) (at : ℕ → Place) (clash : A → A → Bool) (rows : List A) (firsts : List (Option ℕ))
-    → firsts ≡ map (λ row. position (λ earlier. clash earlier row) rows) rows
-    → each_row (pair_finding fault at) 1 firsts ≡ pair_findings fault at clash rows
-pairs_all fault at clash rows firsts is =
-    rw is (each_row-map (pair_finding fault at) (λ row. position (λ earlier. clash earlier row) rows) 1 rows)

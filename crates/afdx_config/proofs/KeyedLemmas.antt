@@ -83,16 +83,8 @@ from_passed : {A : Type 0} (p q : A → Bool) (k i : ℕ) (d : A) (rows : List A
     → position_from p k rows ≡ Some (k + i) → q (get_or rows i d) ≡ true → position_from q k rows ≡ Some (k + i)
 from_passed p q k i d [] weaker is passed = cc
 from_passed p q k zero d (x ∷ xs) weaker is passed = rw passed (ap Some (omega arith))
-from_passed p q k (suc i) d (x ∷ xs) weaker is passed = here (p x) refl is (from_passed p q (k + 1) i d xs weaker)
-  where
-    next : k + 1 + i ≡ k + suc i
-    next = omega arith
-
-    here : (b : Bool) → p x ≡ b → cond b (Some k) (position_from p (k + 1) xs) ≡ Some (k + suc i)
-        → (position_from p (k + 1) xs ≡ Some (k + 1 + i) → q (get_or xs i d) ≡ true → position_from q (k + 1) xs ≡ Some (k + 1 + i))
-        → cond (q x) (Some k) (position_from q (k + 1) xs) ≡ Some (k + suc i)
-    here true at is more = let same : k ≡ k + suc i = same_Some k (k + suc i) is in absurd (omega arith)
-    here false at is more = rw (weaker x at) (more (is ∙ ap Some (sym next)) passed ∙ ap Some next)
+from_passed p q k (suc i) d (x ∷ xs) weaker is passed =
+    let next : k + 1 + i ≡ k + suc i = omega arith in grind (arith, weaker x, same_Some, from_passed p q (k + 1) i d xs weaker)
 
 pub position_passed : {A : Type 0} (p q : A → Bool) (i : ℕ) (d : A) (rows : List A) → ((x : A) → p x ≡ false → q x ≡ false)
     → position p rows ≡ Some i → q (get_or rows i d) ≡ true → position q rows ≡ Some i

@@ -12,6 +12,7 @@ use Rattle.afdx_config.proofs.Names.{Cells, cells_of, count_findings, findings_o
 use Rattle.afdx_config.proofs.Names.{value_has, key_has, has_place, PlacesHaveFaults, Field, document_fields}
 use Rattle.afdx_config.proofs.Names.{end_fields, link_fields, port_fields, fields_in, field_fault, key_fault}
 use Rattle.afdx_config.proofs.Names.{is_fault, is_key_of, is_version_2, rows_at, section_at, members_at, fields_at, fault_number}
+use Rattle.afdx_config.proofs.AddLemmas.{each_row-map}
 use Rattle.afdx_config.specs.Findings.{plan_findings, table_findings, value_findings}
 
 -- a property of both lists is one of their concatenation
@@ -157,8 +158,9 @@ row_passes test rows k x is passes = rw is passes
 pair_fine : {A : Type 0} (cells : Cells) (g : ConfigFault) (at : ℕ → Place) (related : A → A → Bool) (all : List A)
     → ((k j : ℕ) → rows_have related all k (Some j) ≡ true → plan_has cells g (at k) (plan_key g) (Some j) ≡ true)
     → AllByRecursion (Has cells) (pair_findings g at related all)
-pair_fine {A = A} cells g at related all fine = all_rows (Has cells) (λ k x. pair_finding g at k (position (λ e. related e x) all)) all
-    (λ k x some is. here k x is (position (λ e. related e x) all) refl)
+pair_fine {A = A} cells g at related all fine = rw (each_row-map (pair_finding g at) (λ x. position (λ e. related e x) all) 1 all)
+    (all_rows (Has cells) (λ k x. pair_finding g at k (position (λ e. related e x) all)) all
+    (λ k x some is. here k x is (position (λ e. related e x) all) refl))
   where
     here : (k : ℕ) (x : A) → slice_get all (k - 1) ≡ Some x → (o : Option ℕ) → position (λ e. related e x) all ≡ o
         → AllByRecursion (Has cells) (pair_finding g at k o)

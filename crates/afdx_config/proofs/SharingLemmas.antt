@@ -8,6 +8,7 @@ use Rattle.afdx_config.proofs.Names.{on_sub_of, ◌-◌, nat_le, one_if, found, 
 use Rattle.std.proofs.lemmas.Map.Lookups.{exact_bytes, exact_pairs, exact_unsigned}
 use Rattle.afdx_config.specs.Sharing.{sub_in, is_on_sub, all_five, address_in, address_of, address_cmp, are_apart, is_apart, later_address, sharing_place}
 use Rattle.afdx_config.proofs.SectionLemmas.{none_on}
+use Rattle.afdx_config.proofs.ShownLemmas.{no_sub}
 use Rattle.afdx_config.proofs.KeyedLemmas.{tied, same_address, position_map, position_same, position_none, position_weaker, position_passed}
 
 -- no key, no match
@@ -169,18 +170,10 @@ pub before_is : (ports : List PortRow) (i n : ℕ) (port : PortRow)
     → n ≡ option_map_or (λ q. count_by (is_on_sub q) (take i ports)) (sub_in port.vl port.sub) 0 → n ≡ count_by (on_sub_of port) (take i ports)
 before_is ports i n port is = is ∙ here port.vl port.sub
   where
-    no_sub : (a b c : Option ℕ) → (both nat_eq a b && both nat_eq c None) ≡ false
-    no_sub a b None = and-false (both nat_eq a b)
-    no_sub a b (Some c) = and-false (both nat_eq a b)
-
-    no_vl : (a b c : Option ℕ) → (both nat_eq a None && both nat_eq b c) ≡ false
-    no_vl None b c = refl
-    no_vl (Some a) b c = refl
-
     here : (v u : Option ℕ) → option_map_or (λ q. count_by (is_on_sub q) (take i ports)) (sub_in v u) 0
         ≡ count_by (λ (q : PortRow). both nat_eq q.vl v && both nat_eq q.sub u) (take i ports)
-    here None u = sym (none_on (λ (q : PortRow). both nat_eq q.vl None && both nat_eq q.sub u) (take i ports) (λ q. no_vl q.vl q.sub u))
-    here (Some v) None = sym (none_on (λ (q : PortRow). both nat_eq q.vl (Some v) && both nat_eq q.sub None) (take i ports) (λ q. no_sub q.vl (Some v) q.sub))
+    here None u = sym (none_on (λ (q : PortRow). both nat_eq q.vl None && both nat_eq q.sub u) (take i ports) (λ q. no_sub None u q.vl q.sub refl))
+    here (Some v) None = sym (none_on (λ (q : PortRow). both nat_eq q.vl (Some v) && both nat_eq q.sub None) (take i ports) (λ q. no_sub (Some v) None q.vl q.sub (and-false (nat_eq v v))))
     here (Some v) (Some u) = refl
 
 -- counting one port more

@@ -16,6 +16,7 @@ use Rattle.afdx_config.proofs.Names.{link_number, count_findings, Cells, cells_o
 use Rattle.afdx_config.proofs.Names.{findings_of, shown_faults, field_fault, is_fault, table_shows, section_at, rows_at, is_version_2}
 use Rattle.afdx_config.proofs.Names.{key_fault, is_key_of, fault_in, content_fault, fault_under, Content, IfSome, FaultsAreFound}
 use Rattle.afdx_config.specs.Findings.{plan_findings, table_findings, value_findings}
+use Rattle.afdx_config.proofs.AddLemmas.{each_row-map}
 use Rattle.afdx_config.proofs.PlaceLemmas.{r_append, r_each, values_have}
 
 -- no element passes
@@ -121,7 +122,8 @@ any_pair related all before (x ∷ xs) k is at =
 pairs_shown : {A : Type 0} (f g : ConfigFault) (at : ℕ → Place) (related : A → A → Bool) (rows : List A)
     → list_any (has f) (pair_findings g at related rows) ≡ (same f g && has_pair related rows)
 pairs_shown f g at related rows =
-    rows_shown f (same f g) (λ k x. pair_finding g at k (position (λ e. related e x) rows)) (λ k x. is_before k (position (λ e. related e x) rows)) 1 rows
+    ap (list_any (has f)) (each_row-map (pair_finding g at) (λ x. position (λ e. related e x) rows) 1 rows)
+    ∙ rows_shown f (same f g) (λ k x. pair_finding g at k (position (λ e. related e x) rows)) (λ k x. is_before k (position (λ e. related e x) rows)) 1 rows
     (λ k x. pair f g at k (position (λ e. related e x) rows))
     ∙ ap (λ b. same f g && b) (any_pair related rows [] rows 1 refl refl ∙ ap (λ b. b || has_pair related rows) (any_no rows))
 
@@ -164,7 +166,7 @@ packed_same all p (q ∷ rest) follows packed = here (on_sub_of p q) refl follow
     here false on passes more = rw (more passes packed) (or-true (is_packed all q))
 
 -- a port on no known sub-VL
-no_sub : (v u a b : Option ℕ) → (both nat_eq v v && both nat_eq u u) ≡ false → (both nat_eq a v && both nat_eq b u) ≡ false
+pub no_sub : (v u a b : Option ℕ) → (both nat_eq v v && both nat_eq u u) ≡ false → (both nat_eq a v && both nat_eq b u) ≡ false
 no_sub None u None b is = refl
 no_sub None u (Some a) b is = refl
 no_sub (Some v) None a None is = and-false (both nat_eq a (Some v))

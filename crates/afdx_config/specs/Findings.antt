@@ -1,5 +1,5 @@
 -- All faults of a document, each with its place.
-use Rattle.std.specs.Prelude.{codes, ℕ, ◌+◌, ◌-◌, List, [], ◌∷◌, ◌++◌, length, take, filter, count_by, nat_lt, nat_le, Bool, true, false, ◌==◌, Option, Some, None, option_map}
+use Rattle.std.specs.Prelude.{codes, ℕ, ◌+◌, ◌-◌, List, [], ◌∷◌, ◌++◌, length, map, take, filter, count_by, nat_lt, nat_le, Bool, true, false, ◌==◌, Option, Some, None, option_map}
 use Rattle.std.specs.List.{position, flat_map}
 use Rattle.std.specs.Option.{option_map_or}
 use Rattle.toml.specs.Data.{Members}
@@ -86,7 +86,7 @@ pair_finding fault at k (Some i) = one_if (nat_lt (i + 1) k) (found fault (at k)
 -- the findings of the rows that clash with an earlier one, each with the first of those
 abbrev pub pair_findings : {A : Type 0} → ConfigFault → (ℕ → Place) → (A → A → Bool) → List A → List Finding
 pair_findings fault at clash rows =
-    each_row (λ k row. pair_finding fault at k (position (λ earlier. clash earlier row) rows)) 1 rows
+    each_row (pair_finding fault at) 1 (map (λ row. position (λ earlier. clash earlier row) rows) rows)
 
 -- the number of a port's link
 abbrev pub link_number : List LinkRow → PortRow → Option ℕ

@@ -1,36 +1,34 @@
-use Rattle.afdx_config.proofs.Names.{◌∙◌, Link, Port, DuplicateVl, DuplicatePort, SameFlow, SharedUnicast, row_like, same_link, same_port, same_flow, share_unicast}
 use Rattle.afdx_config.specs.Findings.{plan_findings}
-use Rattle.afdx_config.proofs.AddLemmas.{pairs_all}
 use Rattle.afdx_config.proofs.plan_findings.add_plan.Goals as goal
 
 pub returns-in_ok-firsts-in-DuplicateVl : goal.returns-in_ok-firsts-in-DuplicateVl
 unfolding plan_findings
 returns-in_ok-firsts-in-DuplicateVl c = rw c.in-DuplicateVl.is (rw (
   c.in-DuplicateVl.is,
-  pairs_all DuplicateVl (row_like (Link 0)) same_link c.args.rows.now.links.items c.as_slice-in-DuplicateVl.result.now
-      (c.as_slice-in-DuplicateVl.ensures.value ∙ rw c.as_slice.ensures.value at c.in_ok-firsts-in-DuplicateVl.ensures),
+  c.as_slice-in-DuplicateVl.ensures.value,
+  rw c.as_slice.ensures.value at c.in_ok-firsts-in-DuplicateVl.ensures,
 ) at c.add_pairs.ensures)
 
 pub returns-in_ok-firsts-in-DuplicatePort : goal.returns-in_ok-firsts-in-DuplicatePort
 unfolding plan_findings
 returns-in_ok-firsts-in-DuplicatePort c = rw c.in-DuplicatePort.is (rw (
   c.in-DuplicatePort.is,
-  pairs_all DuplicatePort (row_like (Port 0)) same_port c.args.rows.now.ports.items c.as_slice-in-DuplicatePort.result.now
-      (c.as_slice-in-DuplicatePort.ensures.value ∙ rw c.as_slice-ports.ensures.value at c.in_ok-firsts-in-DuplicatePort.ensures),
+  c.as_slice-in-DuplicatePort.ensures.value,
+  rw c.as_slice-ports.ensures.value at c.in_ok-firsts-in-DuplicatePort.ensures,
 ) at c.add_pairs-in-DuplicatePort.ensures)
 
 pub returns-in_ok-firsts-in-SameFlow : goal.returns-in_ok-firsts-in-SameFlow
 unfolding plan_findings
 returns-in_ok-firsts-in-SameFlow c = rw c.in-SameFlow.is (rw (
   c.in-SameFlow.is,
-  pairs_all SameFlow (row_like (Port 0)) same_flow c.args.rows.now.ports.items c.as_slice-in-SameFlow.result.now
-      (c.as_slice-in-SameFlow.ensures.value ∙ rw c.as_slice-ports.ensures.value at c.in_ok-firsts-in-SameFlow.ensures),
+  c.as_slice-in-SameFlow.ensures.value,
+  rw c.as_slice-ports.ensures.value at c.in_ok-firsts-in-SameFlow.ensures,
 ) at c.add_pairs-in-SameFlow.ensures)
 
 pub returns-in_ok-firsts-in-SharedUnicast : goal.returns-in_ok-firsts-in-SharedUnicast
 unfolding plan_findings
 returns-in_ok-firsts-in-SharedUnicast c = rw c.in-SharedUnicast.is (rw (
   c.in-SharedUnicast.is,
-  pairs_all SharedUnicast (row_like (Port 0)) share_unicast c.args.rows.now.ports.items c.as_slice-in-SharedUnicast.result.now
-      (c.as_slice-in-SharedUnicast.ensures.value ∙ rw c.as_slice-ports.ensures.value at c.in_ok-firsts-in-SharedUnicast.ensures),
+  c.as_slice-in-SharedUnicast.ensures.value,
+  rw c.as_slice-ports.ensures.value at c.in_ok-firsts-in-SharedUnicast.ensures,
 ) at c.add_pairs-in-SharedUnicast.ensures)
