@@ -1,7 +1,7 @@
 -- Rows by their keys.
 use Rattle.std.proofs.Math.Path.{fun_ext}
 use Rattle.afdx_config.proofs.Names.{◌≡◌, ℕ, ◌+◌, ◌-◌, ◌<◌, ◌≤◌, List, [], ◌∷◌, length, drop, get_or, cond, Bool, true, false, zero, suc, same_Some, Option, Some, None, refl, ap, sym, ◌∙◌, arith, drop_more, drop_all, map, map-map, nat_eq}
-use Rattle.afdx_config.proofs.Names.{position, position_from, position_from-zero, option_map_or, nat_cmp, nat_tests, Ordering, both, is_key, first_row, is_eq, bytes_eq, slice_cmp, is_eq-slice_cmp, find, find_at, position_or_len, cases_lt, ◌⊎◌, option_and_then, slice_get, Cells, PortRow, LinkRow, is_row_of, all_named, lacks_link, ◌&&◌, is_some, is_none, not, Bor, option_copied, inl, inr, lt-ltb, le-ltb, slice_get_past, IfSome, position-Some}
+use Rattle.afdx_config.proofs.Names.{position, position_from, position_from-zero, option_map_or, nat_cmp, nat_tests, Ordering, both, is_key, first_row, is_eq, bytes_eq, slice_cmp, is_eq-slice_cmp, find, find_at, position_or_len, option_and_then, slice_get, Cells, PortRow, LinkRow, is_row_of, all_named, lacks_link, ◌&&◌, is_some, is_none, Bor, option_copied, slice_get_past, IfSome, position-Some}
 use Rattle.afdx_config.proofs.SectionLemmas.{any_found}
 
 -- the first row from the one before i on
@@ -22,10 +22,6 @@ pub all_left : {A : Type 0} (test : A → Bool) (rows : List A) (i : ℕ) (o : O
     → o ≡ position test rows
 all_left test rows i o at is = let zero : i ≡ 0 = omega arith in rw zero at is ∙ sym (position_from-zero test rows)
 
--- equal tests find the same row
-pub position_same : {A : Type 0} (p q : A → Bool) (rows : List A) → ((x : A) → p x ≡ q x) → position p rows ≡ position q rows
-position_same p q rows same = ap (λ t. position t rows) (fun_ext same)
-
 from_map : {A B : Type 0} (p : B → Bool) (f : A → B) (k : ℕ) (rows : List A) → position_from p k (map f rows) ≡ position_from (λ x. p (f x)) k rows
 from_map p f k [] = refl
 from_map p f k (x ∷ xs) = rw (from_map p f (k + 1) xs) refl
@@ -38,13 +34,13 @@ from_none k [] = refl
 from_none k (x ∷ xs) = from_none (k + 1) xs
 
 pub position_none : {A : Type 0} (p : A → Bool) (rows : List A) → ((x : A) → p x ≡ false) → position p rows ≡ None
-position_none p rows fails = position_same p (λ x. false) rows fails ∙ position_from-zero (λ x. false) rows ∙ from_none 0 rows
+position_none p rows fails = ap (λ t. position t rows) (fun_ext fails) ∙ position_from-zero (λ x. false) rows ∙ from_none 0 rows
 
 -- the first row that clashes is the first with the key
 pub row_is : {A K : Type 0} (cmp : K → K → Ordering) (key : A → Option K) (rows : List A) (test : A → Bool) (o : Option K)
     → ((e : A) → test e ≡ option_map_or (λ k. is_key cmp k (key e)) o false) → first_row cmp (map key rows) o ≡ position test rows
 row_is cmp key rows test None same = sym (position_none test rows same)
-row_is cmp key rows test (Some k) same = position_map (is_key cmp k) key rows ∙ sym (position_same test (λ e. is_key cmp k (key e)) rows same)
+row_is cmp key rows test (Some k) same = position_map (is_key cmp k) key rows ∙ sym (ap (λ t. position t rows) (fun_ext same))
 
 pub rows_keyed : {A K : Type 0} (cmp : K → K → Ordering) (key : A → Option K) (clash : A → A → Bool) (rows : List A)
     → ((e r : A) → clash e r ≡ option_map_or (λ k. is_key cmp k (key e)) (key r) false)
@@ -94,22 +90,14 @@ position_passed p q i d rows weaker is passed =
 
 -- what a search finds is at the first index
 pub find_place : {A : Type 0} (p : A → Bool) (rows : List A) → find p rows ≡ option_and_then (slice_get rows) (position p rows)
-find_place p rows = find_at p rows ∙ here (cases_lt (position_or_len p rows) (length rows))
-  where
-    here : (position_or_len p rows < length rows) ⊎ (length rows ≤ position_or_len p rows)
-        → slice_get rows (position_or_len p rows) ≡ option_and_then (slice_get rows) (position p rows)
-    here (inl lt) = rw (lt-ltb (position_or_len p rows) (length rows) lt) refl
-    here (inr le) = rw (le-ltb (position_or_len p rows) (length rows) le, slice_get_past rows (position_or_len p rows) le) refl
+find_place p rows = grind (arith, nat_tests, find_at p rows, slice_get_past rows (position_or_len p rows))
 
 -- the link of a port, found by its identifier
 pub link_found : (links : List LinkRow) (by_id : ℕ → Option ℕ) (port : PortRow)
     → ((q : ℕ) → by_id q ≡ position (is_key nat_cmp q) (map (λ (l : LinkRow). l.id) links))
     → option_and_then by_id port.vl ≡ position (is_row_of port) links
-link_found links by_id port is = here port.vl ∙ row_is nat_cmp (λ (l : LinkRow). l.id) links (is_row_of port) port.vl (λ l. same_number l.id port.vl)
-  where
-    here : (o : Option ℕ) → option_and_then by_id o ≡ first_row nat_cmp (map (λ (l : LinkRow). l.id) links) o
-    here None = refl
-    here (Some q) = is q
+link_found links by_id port is = ap (λ f. option_and_then f port.vl) (fun_ext is)
+    ∙ row_is nat_cmp (λ (l : LinkRow). l.id) links (is_row_of port) port.vl (λ l. same_number l.id port.vl)
 
 pub link_within : (links : List LinkRow) (port : PortRow) (o : Option ℕ) → o ≡ position (is_row_of port) links → IfSome o (λ l. l < length links)
 link_within links port None is = tt
@@ -118,9 +106,4 @@ link_within links port (Some l) is = (position-Some (is_row_of port) links l (re
 -- the test of a port without a link
 pub misfit_vl : (cells : Cells) (port : PortRow) (named : Bool) (link : Option (Bor LinkRow)) → named ≡ all_named cells
     → option_copied link ≡ find (is_row_of port) cells.links → ((named && is_some port.vl) && is_none link) ≡ lacks_link cells port
-misfit_vl cells port named link at is = rw (at, any_found (is_row_of port) cells.links, ← is) (here link)
-  where
-    here : (o : Option (Bor LinkRow)) → ((all_named cells && is_some port.vl) && is_none o)
-        ≡ ((all_named cells && is_some port.vl) && not (is_some (option_copied o)))
-    here None = refl
-    here (Some l) = refl
+misfit_vl cells port named link at is = rw (at, any_found (is_row_of port) cells.links, ← is) (grind arith)

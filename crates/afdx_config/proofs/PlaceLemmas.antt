@@ -1,8 +1,8 @@
 -- The place of each finding has its fault.
 use Rattle.afdx_config.proofs.Names.{◌≡◌, ℕ, suc, ◌+◌, ◌-◌, ◌≤◌, List, [], ◌∷◌, ◌++◌, length, get_or, Bool, nat_lt}
-use Rattle.afdx_config.proofs.Names.{true, false, ◌||◌, ◌&&◌, not, cond, Option, Some, None, refl, ap, ◌∙◌, codes}
+use Rattle.afdx_config.proofs.Names.{true, false, ◌||◌, ◌&&◌, not, Option, Some, None, refl, ap, ◌∙◌, codes}
 use Rattle.afdx_config.proofs.Names.{arith, lit≤, bytes_eq, slice_get, position, list_any, flat_map, filter}
-use Rattle.afdx_config.proofs.Names.{AllByRecursion, option_map_or, or-true, All-from_recursion}
+use Rattle.afdx_config.proofs.Names.{AllByRecursion, option_map_or, or-true, All-from_recursion, recursion_from_All}
 use Rattle.afdx_config.proofs.Names.{position-Some, slice_get-get_or, bytes_eq-Decides, eq-eqb, then_some, Members}
 use Rattle.afdx_config.proofs.Names.{ConfigFault, UnknownKey, DuplicateVl, DuplicatePort, NoSuchVl, NoSuchSub, SamplingTooLong, SameFlow, SharedUnicast, Limit, Place, Top}
 use Rattle.afdx_config.proofs.Names.{EndSystem, Link, Port, Finding, found, has, one_if, key_finding, each_row}
@@ -12,6 +12,7 @@ use Rattle.afdx_config.proofs.Names.{Cells, cells_of, count_findings, findings_o
 use Rattle.afdx_config.proofs.Names.{value_has, key_has, has_place, PlacesHaveFaults, Field, document_fields}
 use Rattle.afdx_config.proofs.Names.{end_fields, link_fields, port_fields, fields_in, field_fault, key_fault}
 use Rattle.afdx_config.proofs.Names.{is_fault, is_key_of, is_version_2, rows_at, section_at, members_at, fields_at, fault_number}
+use Rattle.std.proofs.lemmas.List.Elements.{All-filter}
 use Rattle.afdx_config.proofs.AddLemmas.{each_row-map}
 use Rattle.afdx_config.specs.Findings.{plan_findings, table_findings, value_findings}
 
@@ -29,12 +30,7 @@ r_map P Q [] step each = tt
 r_map P Q (x ∷ xs) step each = (step x each.0, r_map P Q xs step each.1)
 
 r_filter : {A : Type 0} (P : A → Type 0) (test : A → Bool) (xs : List A) → AllByRecursion P xs → AllByRecursion P (filter test xs)
-r_filter P test [] each = tt
-r_filter P test (x ∷ xs) each = here (test x) (r_filter P test xs each.1)
-  where
-    here : (b : Bool) → AllByRecursion P (filter test xs) → AllByRecursion P (cond b (x ∷ filter test xs) (filter test xs))
-    here true rest = (each.0, rest)
-    here false rest = rest
+r_filter P test xs each = recursion_from_All P _ (All-filter test P xs (All-from_recursion P xs each))
 
 -- a property of a conditional finding
 r_one : (P : Finding → Type 0) (b : Bool) (x : Finding) → (b ≡ true → P x) → AllByRecursion P (one_if b x)

@@ -9,7 +9,7 @@ use Rattle.std.proofs.lemmas.Map.Lookups.{exact_bytes, exact_pairs, exact_unsign
 use Rattle.afdx_config.specs.Sharing.{sub_in, is_on_sub, all_five, address_in, address_of, address_cmp, are_apart, is_apart, later_address, sharing_place}
 use Rattle.afdx_config.proofs.SectionLemmas.{none_on}
 use Rattle.afdx_config.proofs.ShownLemmas.{no_sub}
-use Rattle.afdx_config.proofs.KeyedLemmas.{tied, same_address, position_map, position_same, position_none, position_weaker, position_passed}
+use Rattle.afdx_config.proofs.KeyedLemmas.{tied, same_address, position_map, position_none, position_weaker, position_passed}
 
 -- no key, no match
 keyless : {A : Type 0} (o : Option A) → option_map_or (λ k. false) o false ≡ false
@@ -138,8 +138,7 @@ shared_first ports F L first later p = here (address_of p) refl
         (λ e. is_key address_cmp k (address_of e)) (λ e. share_unicast e p) i p ports (unlike k at) (sym (of_key k) ∙ is)
         (rw (← which) (share_is k at f ∙ rw (far, keyed) refl))))
     apart k i f at is there which keyed false near = rw (at, is, there, near) (of_later k
-        ∙ position_same (λ e. is_key address_cmp k (later_address F ports e)) (λ e. share_unicast e p) ports
-        (λ e. later_same ports F p e f k i at keyed is there near))
+        ∙ ap (λ t. position t ports) (fun_ext (λ e. later_same ports F p e f k i at keyed is there near)))
 
     found : (k : Address) → address_of p ≡ Some k → (o : Option ℕ) → F k ≡ o → sharing_place F L ports p ≡ position (λ e. share_unicast e p) ports
     found k at None is =
@@ -200,8 +199,4 @@ pub crowd_is : (ports : List PortRow) (i n : ℕ) (port : PortRow) (old : ℕ ×
     → one_if (nat_le 64 n) (found Limit (Port (i + 1)) (plan_key Limit) None) ≡ crowd_finding ports (i + 1) port
 crowd_is ports i n port old are is =
     let back : i + 1 - 1 ≡ i = omega arith in
-    rw (back, ← before_is ports i n port (is ∙ here (sub_in port.vl port.sub))) refl
-  where
-    here : (o : Option (ℕ × ℕ)) → option_map_or old o 0 ≡ option_map_or (λ q. count_by (is_on_sub q) (take i ports)) o 0
-    here None = refl
-    here (Some q) = are q
+    rw (back, ← before_is ports i n port (is ∙ ap (λ f. option_map_or f (sub_in port.vl port.sub) 0) (fun_ext are))) refl

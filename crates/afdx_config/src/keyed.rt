@@ -1,5 +1,5 @@
 //! Rows by their keys, in the time of sorting them.
-ghost use Rattle.std.specs.Prelude.{◌≡◌, ℕ, map, IfOk, option_and_then};
+ghost use Rattle.std.specs.Prelude.{◌≡◌, ℕ, map, slice_get, option_copied, IfOk, option_and_then};
 ghost use Rattle.std.specs.List.{position};
 ghost use Rattle.std.specs.BTreeMap.{get};
 ghost use Rattle.afdx_config.specs.Keyed.{is_key, first_row};
@@ -29,6 +29,16 @@ pub(crate) fn row_with<K: Ord + Copy>(rows: &BTreeMap<K, usize>, key: &Option<K>
 {
     match key {
         Some(key) => rows.get(key).copied(),
+        None => None,
+    }
+}
+
+/// The row at an index.
+pub(crate) fn nth_row<R: Copy>(rows: &[R], place: Option<usize>) -> Option<&R>
+    ensures { option_copied result ≡ option_and_then (slice_get rows.now) place }
+{
+    match place {
+        Some(i) => rows.get(i),
         None => None,
     }
 }

@@ -13,7 +13,7 @@ ghost use Rattle.afdx_config.specs.declared.findings.Place.TheVariants.{Link, Po
 
 use crate::crowding::add_crowded;
 use crate::findings::{Added, Found, Place, add, row_like};
-use crate::keyed::{first_rows, row_with};
+use crate::keyed::{first_rows, nth_row, row_with};
 use crate::pairs::{same_flows, same_links, same_ports};
 use crate::rows::{LinkRow, PortRow, Rows};
 use crate::sharing::sharing_ports;
@@ -87,22 +87,12 @@ fn all_named(rows: &Rows) -> bool
     rows.has_links && !some_is_nameless(rows.links.as_slice())
 }
 
-/// The link at an index.
-fn link_at(links: &[LinkRow], place: Option<usize>) -> Option<&LinkRow>
-    ensures { option_copied result ≡ option_and_then (slice_get links.now) place }
-{
-    match place {
-        Some(i) => links.get(i),
-        None => None,
-    }
-}
-
 /// The link of a port, which is at the index `place`.
 fn link_of<'a>(links: &'a [LinkRow], port: &PortRow, place: Option<usize>) -> Option<&'a LinkRow>
     requires { place ≡ position (is_row_of port.now) links.now }
     ensures { option_copied result ≡ find (is_row_of port.now) links.now }
 {
-    link_at(links, place)
+    nth_row(links, place)
 }
 
 /// The port names a link, and there is none.

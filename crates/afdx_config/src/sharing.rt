@@ -5,7 +5,7 @@ ghost use Rattle.std.specs.BTreeMap.{get};
 ghost use Rattle.afdx_config.specs.CellFaults.{share_unicast};
 ghost use Rattle.afdx_config.specs.Sharing.{address_of, address_cmp, are_apart, is_apart, later_address, sharing_place};
 
-use crate::keyed::{first_rows, row_with};
+use crate::keyed::{first_rows, nth_row, row_with};
 use crate::pairs::Firsts;
 use crate::rows::PortRow;
 use std::alloc::{AllocError, Global};
@@ -41,21 +41,11 @@ fn are_apart(a: &PortRow, b: &PortRow) -> bool
     }
 }
 
-/// The port at an index.
-fn port_at(ports: &[PortRow], place: Option<usize>) -> Option<&PortRow>
-    ensures { option_copied result ≡ option_and_then (slice_get ports.now) place }
-{
-    match place {
-        Some(i) => ports.get(i),
-        None => None,
-    }
-}
-
 /// The port at an index is on another link.
 fn is_apart(ports: &[PortRow], place: Option<usize>, port: &PortRow) -> bool
     ensures { result ≡ is_apart ports.now place port.now }
 {
-    match port_at(ports, place) {
+    match nth_row(ports, place) {
         Some(first) => are_apart(first, port),
         None => false,
     }
