@@ -4,7 +4,7 @@ use Rattle.toml.specs.Data.{Members}
 use Rattle.afdx_plan.specs.declared.fault.ConfigFault.TheVariants.{Toml}
 use Rattle.afdx_config.specs.declared.findings.Place.TheVariants.{Text}
 use Rattle.afdx_config.specs.Faults.{Reads}
-use Rattle.afdx_config.specs.Findings.{Finding, found, findings}
+use Rattle.afdx_config.specs.Findings.{Finding, found, findings, lines_limit}
 use Rattle.afdx_config.specs.Told.{explanation, toml_text}
 
 -- the line after these bytes, counted from 1
@@ -21,25 +21,27 @@ column_after k [] = 1 + k
 column_after k (byte ∷ rest) =
     column_after (if byte == 10 then 0 else if begins_character byte then k + 1 else k) rest
 
--- the findings of a document and their text
-pub record TellsDocument (document : Members) (found_all : List Finding) (text : List ℕ) : Type 0 where
-  pub findings_are : found_all ≡ findings document
-  pub text_is : text ≡ explanation document found_all
+-- the first findings of a document, the number of all, and their text
+pub record TellsDocument (document : Members) (first : List Finding) (count : ℕ) (text : List ℕ) : Type 0 where
+  pub findings_are : first ≡ take lines_limit (findings document)
+  pub count_is : count ≡ length (findings document)
+  pub text_is : text ≡ explanation document (findings document)
 
 -- the one finding of a text that stops being TOML after these bytes, and the message of the TOML parser
-pub record TellsStop (before message : List ℕ) (found_all : List Finding) (text : List ℕ) : Type 0 where
-  pub finding_is : found_all ≡ found Toml (Text (line_of before) (column_after 0 before)) message None ∷ []
+pub record TellsStop (before message : List ℕ) (first : List Finding) (count : ℕ) (text : List ℕ) : Type 0 where
+  pub finding_is : first ≡ found Toml (Text (line_of before) (column_after 0 before)) message None ∷ []
+  pub count_is : count ≡ 1
   pub text_is : text ≡ toml_text (line_of before) (column_after 0 before) message
 
 -- the same, at some place of the text
-pub record TellsToml (input : List ℕ) (found_all : List Finding) (text : List ℕ) : Type 0 where
+pub record TellsToml (input : List ℕ) (first : List Finding) (count : ℕ) (text : List ℕ) : Type 0 where
   pub at : ℕ
   pub within : at ≤ length input
   pub message : List ℕ
-  pub tells : TellsStop (take at input) message found_all text
+  pub tells : TellsStop (take at input) message first count text
 
--- the findings of a text and their text: those of its document, or that it is not TOML
-abbrev pub Explains : List ℕ → List Finding → List ℕ → Type 0
-Explains input found_all text =
-    ((document : Members) × Reads input document × TellsDocument document found_all text)
-    ⊎ (((document : Members) → ¬ Reads input document) × TellsToml input found_all text)
+-- the first findings of a text, the number of all, and their text: those of its document, or that it is not TOML
+abbrev pub Explains : List ℕ → List Finding → ℕ → List ℕ → Type 0
+Explains input first count text =
+    ((document : Members) × Reads input document × TellsDocument document first count text)
+    ⊎ (((document : Members) → ¬ Reads input document) × TellsToml input first count text)

@@ -161,3 +161,7 @@ shown_faults = MissingKey
 -- all findings of a document, ordered by the number of the fault, then by the order of the tables
 abbrev pub findings : Members → List Finding
 findings document = flat_map (λ fault. findings_of fault document) shown_faults
+
+-- the most findings that are kept, and have a line each
+abbrev pub lines_limit : ℕ
+lines_limit = 1000

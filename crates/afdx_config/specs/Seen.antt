@@ -1,10 +1,11 @@
 -- The specification values of findings in the code.
-use Rattle.std.specs.Prelude.{◌≡◌, ◌++◌, ℕ, List, map, string_bytes}
+use Rattle.std.specs.Prelude.{◌≡◌, ◌++◌, ℕ, List, length, map, take, string_bytes}
 use Rattle.std.specs.Global.{Vec}
 use Rattle.afdx_config.specs.Cells.{Cells}
-use Rattle.afdx_config.specs.Findings.{Finding}
+use Rattle.afdx_config.specs.Findings.{Finding, lines_limit}
 use Rattle.afdx_config.specs.declared.rows.Rows.{Rows}
 use Rattle.afdx_config.specs.declared.findings.Finding.{Finding as Written}
+use Rattle.afdx_config.specs.declared.findings.Found.{Found}
 
 -- the finding
 abbrev pub finding_of : Written → Finding
@@ -24,9 +25,14 @@ cells_in rows = record {
   has_ports = rows.has_ports;
 }
 
+-- the first 1,000 of these findings are kept, and all are counted
+pub record Holds (found : Found) (all : List Finding) : Type 0 where
+  pub first_are : map finding_of found.first.items ≡ take lines_limit all
+  pub count_is : found.count ≡ length all
+
 -- these findings were added
-abbrev pub Adds : Vec Written → Vec Written → List Finding → Type 0
-Adds old new more = map finding_of new.items ≡ map finding_of old.items ++ more
+abbrev pub Adds : Found → Found → List Finding → Type 0
+Adds old new more = (all : List Finding) → Holds old all → Holds new (all ++ more)
 
 -- a text was extended by these bytes
 abbrev pub Tells : Vec ℕ → Vec ℕ → List ℕ → Type 0

@@ -12,7 +12,7 @@ use Rattle.afdx_config.specs.declared.findings.Place.TheVariants.{Text, Top, End
 use Rattle.afdx_config.specs.declared.format.Content.{Content}
 use Rattle.afdx_config.specs.declared.format.Content.TheVariants.{Whole, Gap, Networks, PortKind, Address, Checksum, Section, Rows}
 use Rattle.afdx_config.specs.Entries.{whole_at}
-use Rattle.afdx_config.specs.Findings.{Finding, row_like}
+use Rattle.afdx_config.specs.Findings.{Finding, lines_limit, row_like}
 use Rattle.afdx_config.specs.Format.{Field, document_fields, end_fields, link_fields, port_fields, fields_in}
 use Rattle.afdx_config.specs.Tables.{rows_at, section_at, is_key_of, is_version_2}
 
@@ -223,7 +223,7 @@ rest_line count = if count == 0 then [] else codes "and " ++ decimal count ++ co
 -- the number of all findings of a document, the lines of the first 1,000, and the number of the others
 unfoldable pub explanation : Members → List Finding → List ℕ
 explanation document findings = count_line (length findings)
-    ++ flat_map (finding_line document) (take 1000 findings) ++ rest_line (length findings - 1000)
+    ++ flat_map (finding_line document) (take lines_limit findings) ++ rest_line (length findings - lines_limit)
 
 -- the explanation of a text that is not TOML: the place at which it stops being TOML, and the message of the
 -- TOML parser

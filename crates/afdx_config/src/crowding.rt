@@ -61,7 +61,7 @@ fn add_crowd(found: &mut Found, i: usize, before: usize) -> Added
 pub(crate) fn add_crowded(found: &mut Found, ports: &[PortRow]) -> Added
     ensures { OnOk result (Adds found.old found.new (crowd_findings ports.now)) }
 {
-    let mut counts = BTreeMap::new(*found.allocator());
+    let mut counts = BTreeMap::new(found.alloc());
     for (i, port) in ports.iter().enumerate() {
         let before = count_port(&mut counts, port)?;
         add_crowd(found, i, before)?;

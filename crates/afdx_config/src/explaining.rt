@@ -5,15 +5,15 @@ ghost use Rattle.toml.specs.Errors.{IsWithin};
 ghost use Rattle.toml.specs.View.{table_view};
 ghost use Rattle.afdx_config.specs.Explained.{column_after, line_of, Explains, TellsDocument, TellsStop, TellsToml};
 ghost use Rattle.afdx_config.specs.Findings.{findings_of};
-ghost use Rattle.afdx_config.specs.Seen.{Adds, finding_of};
+ghost use Rattle.afdx_config.specs.Seen.{Holds, finding_of};
 ghost use Rattle.afdx_config.specs.Views.{IsDocument, data_of};
 
 use crate::document::Document;
-use crate::findings::{Finding, Place, SHOWN_FAULTS, add};
+use crate::findings::{Finding, Found, Place, SHOWN_FAULTS, add};
 use crate::plan_findings::add_plan;
 use crate::rows::rows_of;
 use crate::told::{write_explanation, write_toml};
-use crate::value_findings::{add_those, value_findings};
+use crate::value_findings::add_values;
 use afdx_plan::ConfigFault;
 use std::alloc::{AllocError, Global};
 use toml::Table;
@@ -22,8 +22,10 @@ use toml::de::Error;
 /// All faults of a text.
 #[derive(Debug, Drop)]
 pub struct Explanation {
-    /// Ordered by the number of the fault, then by the order of the tables in the text.
+    /// The first 1,000, ordered by the number of the fault, then by the order of the tables in the text.
     pub findings: Vec<Finding>,
+    /// The number of all findings.
+    pub count: usize,
     /// A line with the number of findings, a line for each of the first 1,000, and if there are more a line
     /// with the number of the others.
     pub text: Vec<u8>,
@@ -34,16 +36,15 @@ fn findings_in(
     alloc: Global,
     document: &Document<'_>,
     faults: &[ConfigFault],
-) -> Result<Vec<Finding>, AllocError>
+) -> Result<Found, AllocError>
     requires { IsDocument document.now }
-    ensures { IfOk result (λ found. map finding_of found.items
-        ≡ flat_map (λ fault. findings_of fault (data_of document.now)) faults.now) }
+    ensures { IfOk result (λ found.
+        Holds found (flat_map (λ fault. findings_of fault (data_of document.now)) faults.now)) }
 {
-    let values = value_findings(alloc, document)?;
     let rows = rows_of(alloc, document)?;
-    let mut found = Vec::new(alloc);
+    let mut found = Found::new(alloc);
     for fault in faults {
-        add_those(&mut found, *fault, values.as_slice())?;
+        add_values(&mut found, *fault, document)?;
         add_plan(&mut found, *fault, &rows)?;
     }
     Ok(found)
@@ -52,14 +53,24 @@ fn findings_in(
 /// Explains a document.
 fn explain_document(alloc: Global, table: &Table) -> Result<Explanation, AllocError>
     ensures { IfOk result (λ e.
-        TellsDocument (table_view table.now) (map finding_of e.findings.items) e.text.items) }
+        TellsDocument (table_view table.now) (map finding_of e.findings.items) e.count e.text.items) }
 {
     let document = Document::of(alloc, table)?;
-    let findings = findings_in(alloc, &document, &SHOWN_FAULTS)?;
+    let found = findings_in(alloc, &document, &SHOWN_FAULTS)?;
     let mut text = Vec::new(alloc);
-    match write_explanation(&mut text, &document, findings.as_slice()) {
-        Ok(()) => Ok(Explanation { findings, text }),
+    match write_explanation(&mut text, &document, &found) {
+        Ok(()) => Ok(explanation_of(found, text)),
         Err(_) => Err(AllocError),
+    }
+}
+
+fn explanation_of(found: Found, text: Vec<u8>) -> Explanation
+    ensures { result ≡ record { findings = found.first; count = found.count; text = text } }
+{
+    Explanation {
+        findings: found.first,
+        count: found.count,
+        text,
     }
 }
 
@@ -89,7 +100,7 @@ fn column_of(before: &[u8]) -> usize
 fn explain_toml(alloc: Global, text: &[u8], error: &Error) -> Result<Explanation, AllocError>
     requires { IsWithin text.now error.now }
     ensures { IfOk result (λ e.
-        TellsToml text.now (map finding_of e.findings.items) e.text.items) }
+        TellsToml text.now (map finding_of e.findings.items) e.count e.text.items) }
 {
     let start = match error.span() {
         Some(span) => span.start,
@@ -102,26 +113,27 @@ fn explain_toml(alloc: Global, text: &[u8], error: &Error) -> Result<Explanation
 /// Explains a text that stops being TOML after the bytes `before`.
 fn tell_toml(alloc: Global, before: &[u8], message: &str) -> Result<Explanation, AllocError>
     ensures { IfOk result (λ e. TellsStop before.now message.now
-        (map finding_of e.findings.items) e.text.items) }
+        (map finding_of e.findings.items) e.count e.text.items) }
 {
     let line = line_of(before);
     let column = column_of(before);
-    let mut findings = Vec::new(alloc);
+    let mut found = Found::new(alloc);
     let place = Place::Text(line, column);
     let fault = ConfigFault::Toml;
-    add(&mut findings, fault, place, message, None)?;
+    add(&mut found, fault, place, message, None)?;
     let mut text = Vec::new(alloc);
     match write_toml(&mut text, line, column, message) {
-        Ok(()) => Ok(Explanation { findings, text }),
+        Ok(()) => Ok(explanation_of(found, text)),
         Err(_) => Err(AllocError),
     }
 }
 
-/// Finds all faults of a configuration, each with its place. A text that is not TOML has this one fault.
+/// Finds all faults of a configuration, and keeps the first 1,000, each with its place. A text that is not TOML
+/// has this one fault.
 /// `read_config` returns the fault of the first finding, or the plan if there is no finding.
 pub fn explain(alloc: Global, text: &[u8]) -> Result<Explanation, AllocError>
     ensures { IfOk result (λ e.
-        Explains text.now (map finding_of e.findings.items) e.text.items) }
+        Explains text.now (map finding_of e.findings.items) e.count e.text.items) }
 {
     match toml::table_from_slice(alloc, text) {
         Ok(table) => explain_document(alloc, &table),

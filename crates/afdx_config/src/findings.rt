@@ -1,10 +1,10 @@
 //! Faults of a configuration with their places.
 ghost use Rattle.std.specs.Prelude.{◌≡◌, ◌∷◌, [], OnOk};
 ghost use Rattle.afdx_config.specs.Findings.{found as finding_at, row_like};
-ghost use Rattle.afdx_config.specs.Seen.{Adds};
+ghost use Rattle.afdx_config.specs.Seen.{Adds, Holds};
 
 use afdx_plan::ConfigFault;
-use std::alloc::AllocError;
+use std::alloc::{AllocError, Global};
 
 /// The place of a fault. Tables are counted from 1, in the order of the text.
 #[derive(Clone, Copy, Debug, PartialEq, Eq)]
@@ -61,8 +61,30 @@ pub(crate) fn row_like(place: Place, k: usize) -> Place
     }
 }
 
-/// The findings so far.
-pub(crate) type Found = Vec<Finding>;
+/// The most findings that are kept, and have a line each.
+pub(crate) const LINES_LIMIT: usize = 1_000;
+
+/// The findings so far: the first `LINES_LIMIT`, and the number of all.
+#[derive(Drop)]
+pub(crate) struct Found {
+    pub first: Vec<Finding>,
+    pub count: usize,
+}
+
+impl Found {
+    pub(crate) fn new(alloc: Global) -> Found
+        ensures { Holds result [] }
+    {
+        Found {
+            first: Vec::new(alloc),
+            count: 0,
+        }
+    }
+
+    pub(crate) fn alloc(&self) -> Global {
+        *self.first.allocator()
+    }
+}
 
 /// The result of an addition.
 pub(crate) type Added = Result<(), AllocError>;
@@ -77,12 +99,20 @@ pub(crate) fn add(
 ) -> Added
     ensures { OnOk result (Adds found.old found.new (finding_at fault place key.now other ∷ [])) }
 {
-    let key = String::from_str(*found.allocator(), key)?;
-    found.push(Finding {
+    let Some(count) = found.count.checked_add(1) else {
+        return Err(AllocError);
+    };
+    if LINES_LIMIT <= found.count {
+        found.count = count;
+        return Ok(());
+    }
+    let key = String::from_str(found.alloc(), key)?;
+    found.first.push(Finding {
         fault,
         place,
         key,
         other,
     })?;
+    found.count = count;
     Ok(())
 }

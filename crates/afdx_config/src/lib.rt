@@ -18,6 +18,7 @@ mod rows;
 mod sharing;
 mod subjects;
 mod told;
+mod value_faults;
 mod value_findings;
 mod values;
 

@@ -209,7 +209,7 @@ fn link_place(links: &[LinkRow], by_id: &BTreeMap<u64, usize>, port: &PortRow) -
 fn add_misfits(found: &mut Found, fault: ConfigFault, rows: &Rows) -> Added
     ensures { OnOk result (Adds found.old found.new (misfit_findings fault (cells_in rows.now))) }
 {
-    let alloc = *found.allocator();
+    let alloc = found.alloc();
     let links = rows.links.as_slice();
     let ids = link_ids(alloc, links)?;
     let by_id = first_rows(alloc, ids.as_slice())?;
@@ -247,7 +247,7 @@ fn add_counts(found: &mut Found, rows: &Rows) -> Added
 pub(crate) fn add_plan(found: &mut Found, fault: ConfigFault, rows: &Rows) -> Added
     ensures { OnOk result (Adds found.old found.new (plan_findings fault (cells_in rows.now))) }
 {
-    let alloc = *found.allocator();
+    let alloc = found.alloc();
     let ports = rows.ports.as_slice();
     match fault {
         ConfigFault::DuplicateVl => {

@@ -9,11 +9,11 @@ ghost use Rattle.afdx_config.specs.Seen.{cells_in};
 ghost use Rattle.afdx_config.specs.Views.{IsDocument, data_of, first_fault};
 
 use crate::document::Document;
-use crate::findings::SHOWN_FAULTS;
+use crate::findings::{Found, SHOWN_FAULTS};
 use crate::parts::parts_of;
 use crate::plan_findings::add_plan;
 use crate::rows::{Rows, rows_of};
-use crate::value_findings::{first_among, value_findings};
+use crate::value_faults::first_among;
 use afdx_plan::{Config, ConfigFault};
 use std::alloc::{AllocError, Global};
 
@@ -21,9 +21,9 @@ use std::alloc::{AllocError, Global};
 fn rows_have(alloc: Global, fault: ConfigFault, rows: &Rows) -> Result<bool, AllocError>
     ensures { IfOk result (λ has. has ≡ cells_show fault (cells_in rows.now)) }
 {
-    let mut found = Vec::new(alloc);
+    let mut found = Found::new(alloc);
     add_plan(&mut found, fault, rows)?;
-    Ok(!found.as_slice().is_empty())
+    Ok(found.count != 0)
 }
 
 /// The first of these faults that links and ports have.
@@ -48,8 +48,7 @@ fn fault_of(alloc: Global, document: &Document<'_>) -> Result<Option<ConfigFault
     ensures first { IfOk result (λ first. first ≡ first_fault (data_of document.now)) }
     ensures values { IfOk result (λ first. first ≡ None → value_findings (data_of document.now) ≡ []) }
 {
-    let found = value_findings(alloc, document)?;
-    if let Some(fault) = first_among(found.as_slice(), &SHOWN_FAULTS[..5]) {
+    if let Some(fault) = first_among(document, &SHOWN_FAULTS[..5]) {
         return Ok(Some(*fault));
     }
     let rows = rows_of(alloc, document)?;

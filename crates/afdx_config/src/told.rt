@@ -1,21 +1,19 @@
 //! The text of findings.
-ghost use Rattle.std.specs.Prelude.{◌≡◌, ◌++◌, map, codes, option_map, length, OnOk};
+ghost use Rattle.std.specs.Prelude.{◌≡◌, ◌++◌, ◌-◌, map, codes, option_map, OnOk};
 ghost use Rattle.std.specs.List.{flat_map};
+ghost use Rattle.afdx_config.specs.Findings.{lines_limit};
 ghost use Rattle.afdx_config.specs.Seen.{finding_of, Tells};
 ghost use Rattle.afdx_config.specs.Tables.{is_key_of};
-ghost use Rattle.afdx_config.specs.Told.{fault_name, latest_at, fields_at, field_at, content_text, kind_text, key_names, limit_text, content_at, kind_at, bound_text, allowed_text, pair_text, same_text, is_of_pair, told, toml_text, finding_line, count_line, explanation};
+ghost use Rattle.afdx_config.specs.Told.{fault_name, latest_at, fields_at, field_at, content_text, kind_text, key_names, limit_text, content_at, kind_at, bound_text, allowed_text, pair_text, same_text, is_of_pair, told, toml_text, finding_line, count_line, rest_line};
 ghost use Rattle.afdx_config.specs.Views.{IsDocument, data_of, field_of};
 
 use crate::document::{Document, fields_in};
 use crate::fields::{key_fault, row_named};
-use crate::findings::{Finding, Place, row_like};
+use crate::findings::{Finding, Found, LINES_LIMIT, Place, row_like};
 use crate::format::{Content, DOCUMENT, END, Field, LINK, PORT};
 use crate::subjects::{Text, write_place, write_subject};
 use afdx_plan::ConfigFault;
 use std::io::{Result, Write};
-
-/// The most findings that have a line each.
-const LINES_LIMIT: usize = 1_000;
 
 /// The name of a fault.
 fn fault_name(fault: ConfigFault) -> &'static str
@@ -301,24 +299,25 @@ fn write_lines(out: &mut Text, document: &Document<'_>, findings: &[Finding]) ->
     Ok(())
 }
 
-/// Writes the number of findings, a line for each of the first `LINES_LIMIT`, and the number of the others.
+/// Writes the number of findings, a line for each of those kept, and the number of the others.
+#[tactic(auto, unfolding(crate::specs::Told::rest_line))]
 pub(crate) fn write_explanation(
     out: &mut Text,
     document: &Document<'_>,
-    findings: &[Finding],
+    found: &Found,
 ) -> Result<()>
     requires { IsDocument document.now }
-    ensures { OnOk result (Tells out.old out.new
-        (explanation (data_of document.now) (map finding_of findings.now))) }
+    ensures { OnOk result (Tells out.old out.new (count_line found.now.count
+        ++ flat_map (finding_line (data_of document.now)) (map finding_of found.now.first.items)
+        ++ rest_line (found.now.count - lines_limit))) }
 {
-    write_count(out, findings.len())?;
-    if findings.len() > LINES_LIMIT {
-        let (shown, others) = findings.split_at(LINES_LIMIT);
-        write_lines(out, document, shown)?;
-        let count = others.len();
-        writeln!(out, "and {count} more")
+    write_count(out, found.count)?;
+    write_lines(out, document, found.first.as_slice())?;
+    if found.count > LINES_LIMIT {
+        let others = found.count - LINES_LIMIT;
+        writeln!(out, "and {others} more")
     } else {
-        write_lines(out, document, findings)
+        Ok(())
     }
 }
 

@@ -6,8 +6,9 @@ use Rattle.afdx_handle.specs.Listing.{with_front}
 
 -- the explanation of the text has `size` bytes, and as many of them as fit were written over the buffer's front
 pub record IsExplainedIn (text old new : List ℕ) (size : ℕ) : Type 0 where
-  pub findings : List Finding
+  pub first : List Finding
+  pub count : ℕ
   pub told : List ℕ
-  pub explains : Explains text findings told
+  pub explains : Explains text first count told
   pub size_is : size ≡ length told
   pub front : new ≡ with_front (take (length old) told) old

@@ -1,5 +1,5 @@
 -- Results of reading the text of a configuration.
-use Rattle.std.specs.Prelude.{◌≡◌, ◌≢◌, ◌*◌, ◌^◌, ℕ, List, [], ◌∷◌, Option, ⊤}
+use Rattle.std.specs.Prelude.{◌≡◌, ◌≢◌, ◌==◌, if◌then◌else◌, ◌*◌, ◌^◌, ℕ, List, Option, ⊤}
 use Rattle.std.specs.Io.KnownBytes.{Appends}
 use Rattle.plan_report.specs.Report.{report_of}
 use Rattle.plan_report.specs.declared.status.End.{End}
@@ -30,15 +30,15 @@ pub record Reports (text : List ℕ) (old new : Option (List ℕ)) : Type 0 wher
   pub is_plan : IsPlanOf text plan
   pub wrote : Appends old new (report_of plan)
 
--- the end of `explain` with these findings
-abbrev pub end_of : List Finding → End
-end_of [] = Told
-end_of (first ∷ rest) = FaultsTold
+-- the end of `explain` with this number of findings
+abbrev pub end_of : ℕ → End
+end_of count = if count == 0 then Told else FaultsTold
 
--- all findings of a text were written
+-- the findings of a text were written
 pub record TellsFaults (text : List ℕ) (end : End) (old new : Option (List ℕ)) : Type 0 where
-  pub findings : List Finding
+  pub first : List Finding
+  pub count : ℕ
   pub told : List ℕ
-  pub explained : Explains text findings told
+  pub explained : Explains text first count told
   pub wrote : Appends old new told
-  pub end_is : end ≡ end_of findings
+  pub end_is : end ≡ end_of count

@@ -1,9 +1,8 @@
 //! Reading of configurations, and the commands `check` and `explain`.
-ghost use Rattle.std.specs.Prelude.{◌≡◌, ◌≢◌, ◌≤◌, ◌⊎◌, nat_le, map, IfOk, IfErr, IfSome, OnOk, vec_len};
+ghost use Rattle.std.specs.Prelude.{◌≡◌, ◌≢◌, ◌≤◌, ◌⊎◌, nat_le, IfOk, IfErr, IfSome, OnOk, vec_len};
 ghost use Rattle.std.specs.Io.KnownBytes.{Keeps};
 ghost use Rattle.plan_report.specs.Reading.{IsRefusal, Reports, TellsFaults, end_of, text_limit};
 ghost use Rattle.afdx_config.specs.Faults.{IsPlanOf};
-ghost use Rattle.afdx_config.specs.Seen.{finding_of};
 
 use crate::failure::Failure;
 use crate::report::write_report;
@@ -79,9 +78,9 @@ pub fn tell_faults<R: Read + Drop, W: Write>(
 }
 
 fn end_of(told: &Explanation) -> End
-    ensures { result ≡ end_of (map finding_of told.now.findings.items) }
+    ensures { result ≡ end_of told.now.count }
 {
-    if told.findings.is_empty() {
+    if told.count == 0 {
         End::Told
     } else {
         End::FaultsTold
