@@ -99,7 +99,8 @@ failed_line = line_of 1000 1 false
 -- The start isn't before the release, the greatest gap is at most `gap`, the networks are up, and the polls are more
 -- than the frames owed.
 abbrev pub StartsAfter : Lines → ℕ → Type 0
-StartsAfter lines start = (k : ℕ) → k < length demo_plan.links → IsLater (latest None (stream_at demo_plan k lines)) start
+StartsAfter lines start = (k : ℕ) → k < length demo_plan.links
+    → IsLater (latest None (stream_at demo_plan k lines)) start
 
 abbrev pub IsGap : ℕ → Type 0
 IsGap gap = (k : ℕ) → k < length demo_plan.links → bag_micros (link_plan_at demo_plan.links k).bag ≤ gap

@@ -110,7 +110,8 @@ gives : (now sub number : ℕ) (frame : List ℕ) (left new_left : List (List �
     → GivesFrame (held_at (subs_of left first second) sub) frame (held_at (subs_of new_left new_first new_second) sub)
     → ((s : ℕ) → s ≢ sub → held_at (subs_of new_left new_first new_second) s ≡ held_at (subs_of left first second) s)
     → ((s : ℕ) → s < 3 → IsTied (held_at (subs_of left first second) s) (sub_stream s (stream_at three_plan 0 lines)))
-    → length frame ≡ 60 → link_in frame ≡ 1 → sub_in frame ≡ sub → number_in frame ≡ number → slice_index frame 11 ≡ interface_byte A → after.logged ≡ lines.logged ++ logged_for Both (entry now frame) ∷ []
+    → length frame ≡ 60 → link_in frame ≡ 1 → sub_in frame ≡ sub → number_in frame ≡ number → slice_index frame 11 ≡ interface_byte A
+    → after.logged ≡ lines.logged ++ logged_for Both (entry now frame) ∷ []
     → stands_for Both after ≡ true → BothEndure lines after → FindsIt three_plan 0 1 2 now lines after
 gives now sub number frame left new_left first new_first second new_second lines after may next is given others tied size own of carries interface enters stands endure = record {
   poll = polls_by now three_plan three_link (subs_of left first second) (subs_of new_left new_first new_second) lines after

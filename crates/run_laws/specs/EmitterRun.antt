@@ -117,15 +117,16 @@ abbrev pub ThirdReleased : ℕ → Type 0
 ThirdReleased bound = AreReleasedBy three_plan 0 1 (short_sent 1 ∷ short_sent 1 ∷ [])
     (stream_at three_plan 0 (line_after 2)) (stream_at three_plan 0 (line_after 5)) bound
 
--- Sub-VL 1 sends its first message at 3,000 and then accepts another. Polls come 2,000 microseconds late, and its wait is
--- 9,000. Sub-VLs 2 and 0 each release a frame, and then it is released, at exactly 12,000.
+-- Sub-VL 1 sends its first message at 3,000 and then accepts another. Polls come 2,000 microseconds late, and its wait
+-- is 9,000. Sub-VLs 2 and 0 each release a frame, and then it is released, at exactly 12,000.
 pub record WaitsItsTurn : Type 0 where
   pub wait : worst_wait 2000 three_plan (short_port 1) ≡ 9000
   pub accepted : IsAccepted three_plan three_accepted 0 1 (short_sent 1 ∷ []) (short_sent 1) []
   pub start : IsLater (latest None (stream_at three_plan 0 (line_after 2))) 3000
   pub place : HasPlace three_plan 0 1 (short_sent 1 ∷ []) (stream_at three_plan 0 (line_after 2))
   pub finding : ArePolls (FindsIt three_plan 0 1 2) (6000 ∷ 9000 ∷ 12000 ∷ []) (line_after 2) (line_after 5)
-  pub begins : IsPrefixOf (seen_of 1 (stream_at three_plan 0 (line_after 5))) (fragments_of three_plan 0 (three_accepted 0 1))
+  pub begins : IsPrefixOf (seen_of 1 (stream_at three_plan 0 (line_after 5)))
+      (fragments_of three_plan 0 (three_accepted 0 1))
   pub is_up : stands_for three_link.networks (line_after 5) ≡ true
   pub timely : AreTimely 1000 2000 12000 3000 (6000 ∷ 9000 ∷ 12000 ∷ [])
   pub released : ThirdReleased 12000

@@ -104,9 +104,9 @@ pub record LastCase (lines : Lines) (earlier : List Entry) (frame : List ℕ) (l
   pub reaches : 1000 + link_wait 1000 small_link ≤ latest_of 1000 (2000 ∷ 3000 ∷ [])
   pub none : ComesBy (stream_at small_plan 0 lines) (entry 1000 frame) (1000 + link_wait 1000 small_link) → ⊥
 
--- Each of these premises is needed. Without a poll the second fragment is not released, nor if what follows is no run. A
--- late poll releases it after the bound. If both networks fail with its frame, it is lost. After the last fragment none
--- follows, nor after an entry that the stream does not have or a sub-VL that the link does not have.
+-- Each of these premises is needed. Without a poll the second fragment is not released, nor if what follows is no run.
+-- A late poll releases it after the bound. If both networks fail with its frame, it is lost. After the last fragment
+-- none follows, nor after an entry that the stream does not have or one of a sub-VL that the link does not have.
 pub record NeedsARun : Type 0 where
   pub none : RunCase [] front_line true true true false
   pub idle : RunCase (1000 ∷ 2000 ∷ []) front_line false true true true
@@ -149,16 +149,18 @@ abbrev pub TightReleased : ℕ → Type 0
 TightReleased bound = AreReleasedBy tight_plan 0 0 (tight_sent ∷ tight_sent ∷ [])
     (stream_at tight_plan 0 (tight_line 1)) (stream_at tight_plan 0 (tight_line 4)) bound
 
--- Polls follow at 1,000, 2,000 and 3,000, with no lateness. The wait of the port is 3,000 microseconds: one gap for each
--- of three fragments, the message's own two and one before them. The message takes exactly that.
+-- Polls follow at 1,000, 2,000 and 3,000, with no lateness. The wait of the port is 3,000 microseconds: one gap for
+-- each of three fragments, the message's own two and one before them. The message takes exactly that.
 pub record MeetsTheWait : Type 0 where
   pub valid : IsPlan tight_plan
   pub wait : worst_wait 0 tight_plan tight_port ≡ 3000
   pub accepted : IsAccepted tight_plan tight_accepted 0 0 (tight_sent ∷ []) tight_sent []
   pub start : IsLater (latest None (stream_at tight_plan 0 (tight_line 1))) 0
   pub place : HasPlace tight_plan 0 0 (tight_sent ∷ []) (stream_at tight_plan 0 (tight_line 1))
-  pub finding : AreFinding tight_plan tight_accepted 0 0 4 (1000 ∷ 2000 ∷ 3000 ∷ []) (tight_line 1) (tight_line 4)
-  pub begins : IsPrefixOf (seen_of 0 (stream_at tight_plan 0 (tight_line 4))) (fragments_of tight_plan 0 (tight_accepted 0 0))
+  pub finding : AreFinding tight_plan tight_accepted 0 0 4 (1000 ∷ 2000 ∷ 3000 ∷ [])
+      (tight_line 1) (tight_line 4)
+  pub begins : IsPrefixOf (seen_of 0 (stream_at tight_plan 0 (tight_line 4)))
+      (fragments_of tight_plan 0 (tight_accepted 0 0))
   pub is_up : stands_for (link_plan_at tight_plan.links 0).networks (tight_line 4) ≡ true
   pub comes : AreTimely 1000 0 3000 0 (1000 ∷ 2000 ∷ 3000 ∷ [])
   pub met : TightReleased 3000
@@ -204,17 +206,21 @@ failed_line = lines_of [] [] 1 1 false false []
 
 -- The law for the message after `earlier` others, where `many` were accepted, and a poll at `now` follows the start at
 -- time 0, with no lateness. Each premise with flag `true` holds, each other one fails, and so does the conclusion.
-pub record ByteCase (many earlier now : ℕ) (lines after : Lines) (accepts starts holds finds begins up timely : Bool) : Type 0 where
-  pub accepted : Holds accepts (IsAccepted byte_plan (bytes_accepted many) 0 0 (replicate earlier (short_sent 0)) (short_sent 0) [])
+pub record ByteCase (many earlier now : ℕ) (lines after : Lines)
+    (accepts starts holds finds begins up timely : Bool) : Type 0 where
+  pub accepted : Holds accepts (IsAccepted byte_plan (bytes_accepted many) 0 0
+      (replicate earlier (short_sent 0)) (short_sent 0) [])
   pub start : Holds starts (IsLater (latest None (stream_at byte_plan 0 lines)) 0)
   pub place : Holds holds (HasPlace byte_plan 0 0 (replicate earlier (short_sent 0)) (stream_at byte_plan 0 lines))
   pub finding : Holds finds (AreFinding byte_plan (bytes_accepted many) 0 0
-      (length (fragments_of byte_plan 0 (replicate earlier (short_sent 0) ++ (short_sent 0) ∷ []))) (now ∷ []) lines after)
-  pub prefix : Holds begins (IsPrefixOf (seen_of 0 (stream_at byte_plan 0 after)) (fragments_of byte_plan 0 (bytes_accepted many 0 0)))
+      (length (fragments_of byte_plan 0 (replicate earlier (short_sent 0) ++ short_sent 0 ∷ [])))
+      (now ∷ []) lines after)
+  pub prefix : Holds begins (IsPrefixOf (seen_of 0 (stream_at byte_plan 0 after))
+      (fragments_of byte_plan 0 (bytes_accepted many 0 0)))
   pub is_up : Holds up (stands_for (link_plan_at byte_plan.links 0).networks after ≡ true)
   pub comes : Holds timely (AreTimely 1000 0 1000 0 (now ∷ []))
-  pub missed : AreReleasedBy byte_plan 0 0 (replicate earlier (short_sent 0) ++ (short_sent 0) ∷ []) (stream_at byte_plan 0 lines)
-      (stream_at byte_plan 0 after) 1000 → ⊥
+  pub missed : AreReleasedBy byte_plan 0 0 (replicate earlier (short_sent 0) ++ short_sent 0 ∷ [])
+      (stream_at byte_plan 0 lines) (stream_at byte_plan 0 after) 1000 → ⊥
 
 -- Each of these premises is needed: one of them fails alone, and the message is not released within its wait.
 pub record NeedsItsPremises : Type 0 where
