@@ -240,7 +240,7 @@ static void check_send(void) {
     polls(0, 2, 1);
 }
 
-/* Polls; the copy that afdx_send makes is freed by the poll that takes the next message of the sub-VL. */
+/* Polls; the copy that afdx_send makes is freed by the poll that transmits its last fragment. */
 static void check_poll(void) {
     uint8_t standing = 7;
     CHECK(frames(&all.it, AFDX_A) == 0 && frames(&all.it, AFDX_B) == 0);
@@ -252,9 +252,9 @@ static void check_poll(void) {
     CHECK(frames(&all.it, AFDX_A) == 1 && frames(&all.it, AFDX_B) == 1);
     polls(5, 0, 0);
     polls(1004, 0, 0);
-    CHECK(blocks == sent);
-    polls(1005, 1, 1);
     CHECK(blocks == sent - 1);
+    polls(1005, 1, 1);
+    CHECK(blocks == sent - 2);
     CHECK(send_bytes(&all.ports[0], 3) == 0);
     polls(UINT64_MAX, 1, 1);
     CHECK(afdx_poll(&all.it, 0, &standing) == AFDX_TIME_BACK);

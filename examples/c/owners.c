@@ -284,9 +284,8 @@ static void explains(const char *text, const char *told) {
 
 static void check_explain(void) {
     explains(plan(1, 1, 2, 1), "no faults\n");
-    explains("", "5 faults\n2 MissingKey: end_system is missing: a table\n2 MissingKey: vl is missing: an array of tables\n"
-                 "2 MissingKey: port is missing: an array of tables\n14 Limit: vl is missing: 1 to 64 tables\n"
-                 "14 Limit: port is missing: 1 to 256 tables\n");
+    explains("", "3 faults\n2 MissingKey: end_system is missing: a table\n2 MissingKey: vl is missing: an array of tables\n"
+                 "2 MissingKey: port is missing: an array of tables\n");
     explains("a = ", "1 fault\n1 Toml: line 1, column 5: invalid value, expected a string, number, boolean, date-time, array "
                      "or inline table\n");
 }
