@@ -1,8 +1,11 @@
 -- A sound emitter's frames conform, for the accepted messages too.
-use Rattle.afdx_tx.proofs.Names.{Accepted, Tx, IsSound, Conforms, ℕ, ◌≡◌, ◌<◌, List, ◌++◌, length, arith, refl, ap, ◌∙◌, sym, subst, ⊎_elim, Result, Ok, Err, OnOk, append_assoc, get_or_past, cases_lt, Plan, link_plan_at, room_of, Net, A, B, Entry, Seen, receiving, gathered, IsKnownWhole, IsSameQueue, known_of, told_of, IsLegalOn, IsLegal, Held, LinkState, held_at, link_at, nothing_held, no_link, IsSameSub, IsSamePlan, taken_in, AreGathered, accepted_by, accepted_in}
+use Rattle.afdx_tx.proofs.Names.{Accepted, Tx, IsSound, Conforms, ℕ, ◌≡◌, ◌<◌, List, ◌++◌, length, arith, refl, ap, ◌∙◌, sym, subst, ⊎_elim, Result, Ok, Err, OnOk, append_assoc, get_or_past, cases_lt, Plan, link_plan_at, room_of, Net, A, B, Entry, Seen, receiving, gathered, IsKnownWhole, IsSameQueue, known_of, told_of, IsLegalOn, IsLegal, Held, LinkState, held_at, link_at, nothing_held, no_link, IsSameSub, IsSamePlan, taken_in, AreGathered, accepted_by, accepted_in, Bool, true, false, AreLinksOf, IsRun, BothEndure}
 use Rattle.afdx_legal.specs.Allowed.{AreAllowed}
 use Rattle.afdx_tx.proofs.PortMessages.{taken_allowed, accepted_allowed}
-use Rattle.afdx_tx.proofs.SoundEmitter.{sound_legal, sound_streams, sound_turns}
+use Rattle.afdx_tx.specs.Phases.{AreOfPorts, IsInPhase, KeepsMessages, Runs, StaysLawful}
+use Rattle.afdx_tx.proofs.NothingLeft.{run_drained}
+use Rattle.afdx_tx.proofs.SoundEmitter.{same_queues, same_totals, sound_legal, sound_streams, sound_turns}
+use Rattle.vl_link.proofs.QueueLooks.{still_receiving}
 use Rattle.afdx_tx.proofs.OwedFragments.{owed_split, untaken}
 
 -- The same queue has the same accepted messages.
@@ -41,19 +44,6 @@ same_whole : (old new : Seen) → IsKnownWhole old → IsSameQueue old new → I
 same_whole (receiving r) new g e = absurd g
 same_whole (gathered q) (gathered h) g e = tt
 same_whole (gathered q) (receiving s) g e = absurd e
-
--- a drain's queues are known whole, and its ports may send the accepted messages
-abbrev pub IsDraining : Plan → List LinkState → Type 0
-IsDraining plan links = AreGathered links × AreAllowed plan (accepted_in links)
-
--- After a poll a drain is still one.
-pub still_drains : (plan after : Plan) (old new : List LinkState) → after ≡ plan → IsSamePlan old new → IsDraining plan old
-    → IsDraining after new
-still_drains plan after old new same links is = (
-  λ k s lt slt. same_whole _ _ (gathered_past old k s is.0) ((links.each k (omega (arith, links.count))).subs s).queue,
-  subst (λ (p : Plan). AreAllowed p (accepted_in new)) (sym same)
-      (subst (λ (accepted : Accepted). AreAllowed plan accepted) (sym (accepted_same old new links is.0)) is.1),
-)
 
 -- A network's frames are legal for the accepted messages.
 legal_on : (plan : Plan) (links : List LinkState) (net : Net) (handed : List Entry)
@@ -99,3 +89,46 @@ sound_conforms tx sound =
       mirrored = sound.mirrored;
       streams = sound_streams tx.plan tx.links tx.lines tx.moment sound;
     }
+
+-- The links keep their phase.
+pub still_in : (phase : Bool) (plan after : Plan) (old new : List LinkState) → after ≡ plan → IsSamePlan old new
+    → IsInPhase phase plan old → IsInPhase phase after new
+still_in false plan after old new same links is = λ k s lt slt.
+    let here : k < length old = omega (arith, links.count) in
+    let kept = links.each k here in
+    still_receiving _ _ (kept.subs s).queue (is k s here (omega (arith, slt, kept.count)))
+still_in true plan after old new same links is = (
+  λ k s lt slt. same_whole _ _ (gathered_past old k s is.0) ((links.each k (omega (arith, links.count))).subs s).queue,
+  subst (λ (p : Plan). AreAllowed p (accepted_in new)) (sym same)
+      (subst (λ (accepted : Accepted). AreAllowed plan accepted) (sym (accepted_same old new links is.0)) is.1),
+)
+
+-- The messages are of ports that may send them.
+pub of_ports : (phase : Bool) (tx : Tx) → Conforms tx → IsInPhase phase tx.plan tx.links → AreOfPorts phase tx
+of_ports false tx conforms is = conforms.taken
+of_ports true tx conforms is = is.1
+
+-- The messages still to send are kept.
+keeps_messages : (phase : Bool) (old new : Tx) → IsSamePlan old.links new.links → IsInPhase phase old.plan old.links
+    → KeepsMessages phase old new
+keeps_messages false old new same is = record { queues = same_queues _ _ same; totals = same_totals _ _ same }
+keeps_messages true old new same is = accepted_same _ _ same is.0
+
+-- A poll leaves an emitter lawful.
+pub stays_lawful : (phase : Bool) (old new : Tx) → IsInPhase phase old.plan old.links → IsSamePlan old.links new.links
+    → Conforms new → BothEndure old.lines new.lines → new.plan ≡ old.plan → new.board ≡ old.board
+    → StaysLawful phase old new
+stays_lawful phase old new is same conforms endure plan board = record {
+  conforms = conforms;
+  allowed = of_ports phase new conforms (still_in phase old.plan new.plan old.links new.links plan same is);
+  endure = endure;
+  plan = plan;
+  board = board;
+  messages = keeps_messages phase old new same is;
+}
+
+-- The links had the turns of their phase.
+pub runs : (phase : Bool) (now : ℕ) (old new : Tx) → AreLinksOf old.plan old.links → IsInPhase phase old.plan old.links
+    → IsRun now old.links new.links old.lines new.lines → Runs phase now old new
+runs false now old new of is run = run
+runs true now old new of is run = run_drained _ _ _ _ _ _ of is.0 run

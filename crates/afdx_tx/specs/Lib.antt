@@ -11,3 +11,4 @@ pub mod Drain
 pub mod Gathering
 pub mod Closing
 pub mod DrainEnds
+pub mod Phases

@@ -16,16 +16,21 @@ use Rattle.afdx_tx.specs.Emitter.{Tx, plans, AreLinks, AreKept, AreCarried, AreW
 use Rattle.afdx_tx.specs.Run.{IsTurnAt}
 use Rattle.afdx_tx.specs.Report.{IsTold}
 
--- The properties of each emitter. The transmitted frames are legal for the messages taken, and so
--- for the accepted ones; the ports may send these messages; and each link's stream is its own.
+-- The properties of each emitter.
 pub record Conforms (tx : Tx) : Type 0 where
+  -- the transmitted frames are legal for the messages taken, and so for the accepted ones
   pub legal : IsLegal tx.plan (taken_in tx.links) tx.lines.a tx.lines.b
   pub legal_accepted : IsLegal tx.plan (accepted_in tx.links) tx.lines.a tx.lines.b
+  -- the sub-VLs of a link take turns
   pub turns : TakeTurns tx.plan tx.lines.a tx.lines.b
+  -- the messages are of ports of their sub-VL
   pub taken : AreQueued tx.plan (taken_in tx.links)
   pub accepted : AreQueued tx.plan (accepted_in tx.links)
+  -- what was taken of a link that lost no frame is transmitted or left to send
   pub tied : AreTied tx.links (log tx.lines)
+  -- each network's list is its part of a beginning of the log
   pub mirrored : IsMirrored tx.lines
+  -- each link's stream is the longer of its two
   pub streams : AreOwnStreams tx.plan (log tx.lines) tx.lines.a tx.lines.b
 
 -- the invariant of turns

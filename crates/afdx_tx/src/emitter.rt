@@ -2,48 +2,44 @@
 use crate::draining::Draining;
 use crate::fault::{NoSuchSub, PollFault};
 use crate::gather::has_every_place;
+use crate::phase::{Phase, Sending};
 use crate::port::TxPort;
 use crate::report::Report;
-use crate::transmitter::Transmitter;
+use crate::transmitter::{Transmitter, Unreported};
 use afdx_plan::{Config, VlId};
+use arrayvec::ArrayVec;
 use redundant_mux::{Network, Standing};
 use status_board::Counts;
-use std::marker::Model;
+use std::marker::{Model, PhantomData};
 use std::sync::Wait;
 
 /// Transmits the messages of its ports on two networks. Contracts see its plan, its links, the
 /// frames that the networks accepted, the time of the last poll, and what was published.
 #[derive(Drop)]
-pub struct Emitter<A: Network + Drop, B: Network + Drop> {
+pub struct Emitter<A: Network + Drop, B: Network + Drop, P: Phase = Sending> {
     pub(crate) inner: Transmitter<A, B>,
+    pub(crate) phase: PhantomData<P>,
 }
 
-impl<A: Network + Drop, B: Network + Drop> Model for Emitter<A, B> {
-    ghost use Rattle.afdx_tx.specs.Emitter.{Tx, AreReceiving};
+impl<A: Network + Drop, B: Network + Drop, P: Phase> Model for Emitter<A, B, P> {
+    ghost use Rattle.afdx_tx.specs.Emitter.{Tx};
+    ghost use Rattle.afdx_tx.specs.Phases.{IsInPhase};
 
     ghost Value = { Tx };
 
     ghost view = { λ e. e.inner };
 
-    ghost invariant = { λ e. AreReceiving e.inner.links };
+    ghost invariant = { λ e. IsInPhase P.gathered e.inner.plan e.inner.links };
 }
 
-impl<A: Network + Drop, B: Network + Drop> Emitter<A, B> {
-    ghost use Rattle.std.specs.Prelude.{◌≡◌, ℕ, ◌≤◌, ◌↔◌, false, length, IsErr, OnErr, OnOk, IfOk, IfErr};
-    ghost use Rattle.redundant_mux.specs.Lines.{BothEndure, is_alive, log, IsMirrored};
-    ghost use Rattle.afdx_legal.specs.Legal.{IsLegal};
-    ghost use Rattle.afdx_legal.specs.Allowed.{AreAllowed, AreQueued};
-    ghost use Rattle.afdx_legal.specs.Turns.{TakeTurns};
-    ghost use Rattle.afdx_tx.specs.Drain.{accepted_in};
-    ghost use Rattle.afdx_tx.specs.Run.{IsRun};
-    ghost use Rattle.afdx_legal.specs.Own.{AreOwnStreams};
+impl<A: Network + Drop, B: Network + Drop, P: Phase> Emitter<A, B, P> {
+    ghost use Rattle.std.specs.Prelude.{◌≡◌, ◌≤◌, ◌↔◌, false, IsErr, OnErr, OnOk, IfOk};
+    ghost use Rattle.redundant_mux.specs.Lines.{is_alive};
     ghost use Rattle.afdx_tx.specs.Report.{Polls, PollsUnreported};
-    ghost use Rattle.afdx_tx.specs.Emitter.{AreTied, taken_in, queues_in, total_in};
+    ghost use Rattle.afdx_tx.specs.Serving.{Conforms};
+    ghost use Rattle.afdx_tx.specs.Phases.{AreOfPorts, Runs, StaysLawful};
     ghost use Rattle.afdx_tx.specs.Publishing.{Publishes, ShowsCounts};
     ghost use Rattle.afdx_tx.specs.NextDue.{TellsNextDue};
-    ghost use Rattle.afdx_tx.specs.Ports.{AreOpenedWith, LacksPlace};
-    ghost use Rattle.afdx_tx.specs.Gathering.{IsGatheredTx};
-    ghost use Rattle.afdx_tx.specs.Closing.{LacksSub, ClosesTx};
 
     /// The configuration that it was opened with.
     pub fn config(&self) -> &Config
@@ -103,11 +99,10 @@ impl<A: Network + Drop, B: Network + Drop> Emitter<A, B> {
         ensures b { B.handed result.1 ≡ self.lines.b }
         ensures a_failures { A.failures result.0 ≡ self.lines.a_failures }
         ensures b_failures { B.failures result.1 ≡ self.lines.b_failures }
-        ensures legal { IsLegal self.plan (taken_in self.links) self.lines.a self.lines.b }
-        ensures turns { TakeTurns self.plan self.lines.a self.lines.b }
-        ensures allowed { AreQueued self.plan (taken_in self.links) }
+        ensures conforms { Conforms self }
+        ensures allowed { AreOfPorts P.gathered self }
     {
-        let Emitter { inner } = self;
+        let Emitter { inner, phase: _ } = self;
         inner.into_networks()
     }
 
@@ -121,23 +116,13 @@ impl<A: Network + Drop, B: Network + Drop> Emitter<A, B> {
         requires { self.old.moment ≤ now }
         ensures both_down { IsErr result ↔ (is_alive self.old.lines ≡ false) }
         ensures unchanged { OnErr result (self.new ≡ self.old) }
-        ensures legal { IsLegal self.new.plan (taken_in self.new.links) self.new.lines.a self.new.lines.b }
-        ensures turns { TakeTurns self.new.plan self.new.lines.a self.new.lines.b }
-        ensures allowed { AreQueued self.new.plan (taken_in self.new.links) }
-        ensures tied { AreTied self.new.links (log self.new.lines) }
-        ensures plan { self.new.plan ≡ self.old.plan }
-        ensures board { self.new.board ≡ self.old.board }
-        ensures queues { queues_in self.new.links ≡ queues_in self.old.links }
-        ensures totals { (k s : ℕ) → total_in self.new.links k s ≡ total_in self.old.links k s }
-        ensures mirrored { IsMirrored self.new.lines }
-        ensures streams { AreOwnStreams self.new.plan (log self.new.lines)
-            self.new.lines.a self.new.lines.b }
-        ensures endure { BothEndure self.old.lines self.new.lines }
+        ensures lawful { StaysLawful P.gathered self.old self.new }
         ensures told { IfOk result (λ report. Polls now self.old report self.new) }
-        ensures run { OnOk result
-            (IsRun now self.old.links self.new.links self.old.lines self.new.lines) }
+        ensures run { OnOk result (Runs P.gathered now self.old self.new) }
     {
-        self.inner.poll(now)
+        let mut released = ArrayVec::new();
+        let standing = self.inner.poll(now, &mut released)?;
+        Ok(Report { released, standing })
     }
 
     /// As `poll`, without a report: for a caller that asks the networks for the frames.
@@ -146,24 +131,32 @@ impl<A: Network + Drop, B: Network + Drop> Emitter<A, B> {
         requires { self.old.moment ≤ now }
         ensures both_down { IsErr result ↔ (is_alive self.old.lines ≡ false) }
         ensures unchanged { OnErr result (self.new ≡ self.old) }
-        ensures legal { IsLegal self.new.plan (taken_in self.new.links) self.new.lines.a self.new.lines.b }
-        ensures turns { TakeTurns self.new.plan self.new.lines.a self.new.lines.b }
-        ensures allowed { AreQueued self.new.plan (taken_in self.new.links) }
-        ensures tied { AreTied self.new.links (log self.new.lines) }
-        ensures plan { self.new.plan ≡ self.old.plan }
-        ensures board { self.new.board ≡ self.old.board }
-        ensures queues { queues_in self.new.links ≡ queues_in self.old.links }
-        ensures totals { (k s : ℕ) → total_in self.new.links k s ≡ total_in self.old.links k s }
-        ensures mirrored { IsMirrored self.new.lines }
-        ensures streams { AreOwnStreams self.new.plan (log self.new.lines)
-            self.new.lines.a self.new.lines.b }
-        ensures endure { BothEndure self.old.lines self.new.lines }
+        ensures lawful { StaysLawful P.gathered self.old self.new }
         ensures told { IfOk result (λ standing. PollsUnreported now self.old standing self.new) }
-        ensures run { OnOk result
-            (IsRun now self.old.links self.new.links self.old.lines self.new.lines) }
+        ensures run { OnOk result (Runs P.gathered now self.old self.new) }
     {
-        self.inner.poll_unreported(now)
+        self.inner.poll(now, &mut Unreported)
     }
+
+    /// Publishes the counts of each link, once, in the order of the configuration: those of the
+    /// longer of its two streams. May wait for a monitor that is in the middle of a reading.
+    /// Allocates nothing.
+    pub fn publish<R: Wait>(&mut self, rt: &R)
+        ensures { Publishes self.old self.new }
+    {
+        self.inner.publish(rt);
+    }
+}
+
+impl<A: Network + Drop, B: Network + Drop> Emitter<A, B> {
+    ghost use Rattle.std.specs.Prelude.{◌≡◌, ◌↔◌, length, IsErr, OnErr, IfOk, IfErr};
+    ghost use Rattle.afdx_legal.specs.Allowed.{AreAllowed};
+    ghost use Rattle.afdx_tx.specs.Drain.{accepted_in};
+    ghost use Rattle.afdx_tx.specs.Emitter.{queues_in};
+    ghost use Rattle.afdx_tx.specs.Serving.{Conforms};
+    ghost use Rattle.afdx_tx.specs.Ports.{AreOpenedWith, LacksPlace};
+    ghost use Rattle.afdx_tx.specs.Gathering.{IsGatheredTx};
+    ghost use Rattle.afdx_tx.specs.Closing.{LacksSub, ClosesTx};
 
     /// Closes a sub-VL, by its link and its index there, and returns the number of accepted
     /// messages. None is accepted from then on: each later close returns the same number, and so
@@ -182,25 +175,13 @@ impl<A: Network + Drop, B: Network + Drop> Emitter<A, B> {
         self.inner.close(vl, sub)
     }
 
-    /// Publishes the counts of each link, once, in the order of the configuration: those of the
-    /// longer of its two streams. May wait for a monitor that is in the middle of a reading.
-    /// Allocates nothing.
-    pub fn publish<R: Wait>(&mut self, rt: &R)
-        ensures { Publishes self.old self.new }
-    {
-        self.inner.publish(rt);
-    }
-
     /// Takes back all ports, in any order, and starts draining: all accepted messages are then
     /// known, and can be transmitted. Fails exactly if the list lacks a port of the configuration,
     /// and then returns both unchanged. Never waits, and allocates nothing.
     pub fn gather(self, ports: Vec<TxPort>) -> Result<Draining<A, B>, (Emitter<A, B>, Vec<TxPort>)>
         requires opened { AreOpenedWith self ports.items }
         ensures gathered { IfOk result (λ draining. IsGatheredTx self ports.items draining) }
-        ensures legal { IfOk result (λ draining. IsLegal draining.plan
-            (taken_in draining.links) draining.lines.a draining.lines.b) }
-        ensures turns { IfOk result (λ draining.
-            TakeTurns draining.plan draining.lines.a draining.lines.b) }
+        ensures conforms { IfOk result Conforms }
         ensures allowed { IfOk result (λ draining.
             AreAllowed draining.plan (accepted_in draining.links)) }
         ensures emitter_back { IfErr result (λ back. back.0 ≡ self) }
@@ -210,8 +191,14 @@ impl<A: Network + Drop, B: Network + Drop> Emitter<A, B> {
         if !has_every_place(ports.as_slice(), self.config().ports().len()) {
             return Err((self, ports));
         }
-        let Emitter { mut inner } = self;
+        let Emitter {
+            mut inner,
+            phase: _,
+        } = self;
         inner.gather(ports);
-        Ok(Draining { inner })
+        Ok(Emitter {
+            inner,
+            phase: PhantomData,
+        })
     }
 }

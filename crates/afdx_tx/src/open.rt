@@ -16,6 +16,7 @@ use afdx_plan::{Config, LinkPlan, PortPlan};
 use redundant_mux::Network;
 use status_board::{Board, Monitor, open_board};
 use std::alloc::{AllocError, Global};
+use std::marker::PhantomData;
 use subvl_queue::open_queue;
 use vl_link::{Link, Sub, SubVl};
 
@@ -153,7 +154,8 @@ pub fn open_tx<A: Network + Drop, B: Network + Drop>(
     match open_parts(alloc, &config) {
         Ok((links, ports, board, monitor)) => {
             let inner = Transmitter::over(config, links, a, b, board);
-            Ok((Emitter { inner }, ports, monitor))
+            let phase = PhantomData;
+            Ok((Emitter { inner, phase }, ports, monitor))
         }
         Err(_) => Err(OpenFault { config, a, b }),
     }

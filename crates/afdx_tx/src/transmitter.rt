@@ -1,7 +1,6 @@
 //! All links over two networks, before and after the ports are taken back.
 ghost use Rattle.std.specs.Prelude.{◌≡◌, ◌<◌, ◌≤◌, ◌++◌, List, [], length};
 ghost use Rattle.afdx_tx.specs.declared.report.Release.{Release};
-ghost use Rattle.arrayvec.specs.ArrayVec.{array_vec_len};
 ghost use Rattle.redundant_mux.specs.Lines.{BothEndure};
 ghost use Rattle.afdx_tx.specs.Run.{IsRun};
 ghost use Rattle.afdx_tx.specs.Report.{IsTold, turn_release};
@@ -13,7 +12,7 @@ ghost use Rattle.afdx_tx.specs.Publishing.{Reaches, PublishesCounts};
 use crate::fault::{NoSuchSub, PollFault};
 use crate::gather::gather_links;
 use crate::port::TxPort;
-use crate::report::{Release, Report};
+use crate::report::Release;
 use crate::routing::link_of_sub;
 use afdx_frame::FrameBuffer;
 use afdx_plan::{Config, Networks, VlId};
@@ -25,63 +24,62 @@ use std::marker::Model;
 use std::sync::Wait;
 use vl_link::{Link, Served};
 
-/// Appends the frame that a turn released, if any.
-fn note(released: &mut ArrayVec<Release, 64>, vl: VlId, did: &Served)
-    requires { array_vec_len released.old < 64 }
-    ensures { released.new.items ≡ released.old.items ++ turn_release vl did.now }
-{
-    if let Served::Released { sub, number } = *did {
-        released.push(Release { vl, sub, number });
+/// Where a poll notes the frames that it releases.
+pub(crate) trait Notes {
+    /// What was noted, as far as it is kept.
+    ghost noted: { Self → List Release → Type 0 };
+
+    /// Notes the frame that a turn released, if any.
+    fn note(&mut self, vl: VlId, did: &Served)
+        requires { (rs : List Release) × noted self.old rs × (length rs < 64) }
+        ensures { (rs : List Release) → noted self.old rs →
+            noted self.new (rs ++ turn_release vl did.now) };
+}
+
+impl Notes for ArrayVec<Release, 64> {
+    ghost noted = { λ list rs. list.items ≡ rs };
+
+    fn note(&mut self, vl: VlId, did: &Served) {
+        if let Served::Released { sub, number } = *did {
+            self.push(Release { vl, sub, number });
+        }
     }
 }
 
+/// Notes nothing.
+#[derive(Drop)]
+pub(crate) struct Unreported;
+
+impl Notes for Unreported {
+    ghost noted = { λ none rs. Unit {0} };
+
+    fn note(&mut self, _vl: VlId, _did: &Served) {}
+}
+
 /// Gives each link its turn, in order.
-fn serve_all<A: Network + Drop, B: Network + Drop>(
+fn serve_all<A: Network + Drop, B: Network + Drop, N: Notes>(
     links: &mut [Link],
     frame: &mut FrameBuffer,
     mux: &mut Mux<A, B>,
     now: u64,
-    released: &mut ArrayVec<Release, 64>,
+    notes: &mut N,
 )
     requires few { length links.old ≤ 64 }
-    requires none { released.old.items ≡ [] }
+    requires none { N.noted notes.old [] }
     requires steady { IsSteady now links.old links.old mux.old }
     requires apart { AreApart links.old }
     requires whole { AreWhole links.old mux.old }
     ensures steady { IsSteady now links.old links.new mux.new }
     ensures run { IsRun now links.old links.new mux.old mux.new }
     ensures whole { AreWhole links.new mux.new }
-    ensures told { IsTold now released.new.items mux.old mux.new }
+    ensures told { (released : List Release) × N.noted notes.new released
+        × (length released ≤ length links.old) × IsTold now released mux.old mux.new }
     ensures endure { BothEndure mux.old mux.new }
 {
     for link in links.iter_mut() {
         if link.may_release(mux, now) {
             let did = link.serve(frame, mux, now);
-            note(released, link.id(), &did);
-        }
-    }
-}
-
-/// As `serve_all`, without a list of the frames. Each link released at most one.
-fn serve_each<A: Network + Drop, B: Network + Drop>(
-    links: &mut [Link],
-    frame: &mut FrameBuffer,
-    mux: &mut Mux<A, B>,
-    now: u64,
-)
-    requires steady { IsSteady now links.old links.old mux.old }
-    requires apart { AreApart links.old }
-    requires whole { AreWhole links.old mux.old }
-    ensures steady { IsSteady now links.old links.new mux.new }
-    ensures run { IsRun now links.old links.new mux.old mux.new }
-    ensures whole { AreWhole links.new mux.new }
-    ensures told { (released : List Release) × (length released ≤ length links.old)
-        × IsTold now released mux.old mux.new }
-    ensures endure { BothEndure mux.old mux.new }
-{
-    for link in links.iter_mut() {
-        if link.may_release(mux, now) {
-            let _did = link.serve(frame, mux, now);
+            notes.note(link.id(), &did);
         }
     }
 }
@@ -164,13 +162,14 @@ impl<A: Network + Drop, B: Network + Drop> Model for Transmitter<A, B> {
 }
 
 impl<A: Network + Drop, B: Network + Drop> Transmitter<A, B> {
-    ghost use Rattle.std.specs.Prelude.{◌≡◌, ◌≤◌, ◌↔◌, ℕ, [], false, length, IsTrue, IsErr, OnErr, OnOk, IfOk};
+    ghost use Rattle.std.specs.Prelude.{◌≡◌, ◌≤◌, ◌↔◌, ℕ, List, [], false, length, IsTrue, IsErr, OnErr, OnOk, IfOk};
     ghost use Rattle.status_board.specs.Views.{published};
     ghost use Rattle.afdx_plan.specs.Config.{IsPlan};
     ghost use Rattle.redundant_mux.specs.Lines.{BothEndure, is_alive, log};
     ghost use Rattle.afdx_legal.specs.Done.{IsAllDone};
     ghost use Rattle.afdx_tx.specs.Run.{IsRun};
-    ghost use Rattle.afdx_tx.specs.Report.{Polls, PollsUnreported};
+    ghost use Rattle.afdx_tx.specs.Report.{PollsWith};
+    ghost use Rattle.afdx_tx.specs.declared.report.Release.{Release};
     ghost use Rattle.afdx_tx.specs.Emitter.{IsFreshTx, AreFreshLinks, AreLinksOf, AreReceiving, IsSamePlan};
     ghost use Rattle.afdx_tx.specs.Serving.{Conforms};
     ghost use Rattle.afdx_tx.specs.Publishing.{Publishes, ShowsCounts};
@@ -251,8 +250,9 @@ impl<A: Network + Drop, B: Network + Drop> Transmitter<A, B> {
 
     /// Gives each link its turn at `now`, in microseconds, in the order of the configuration.
     #[inline(always)]
-    pub fn poll(&mut self, now: u64) -> Result<Report, PollFault>
-        requires { self.old.moment ≤ now }
+    pub fn poll<N: Notes>(&mut self, now: u64, notes: &mut N) -> Result<Standing, PollFault>
+        requires later { self.old.moment ≤ now }
+        requires none { N.noted notes.old [] }
         ensures both_down { IsErr result ↔ (is_alive self.old.lines ≡ false) }
         ensures unchanged { OnErr result (self.new ≡ self.old) }
         ensures conforms { Conforms self.new }
@@ -261,7 +261,8 @@ impl<A: Network + Drop, B: Network + Drop> Transmitter<A, B> {
         ensures same { IsSamePlan self.old.links self.new.links }
         ensures of_plan { AreLinksOf self.old.plan self.old.links }
         ensures endure { BothEndure self.old.lines self.new.lines }
-        ensures told { IfOk result (λ report. Polls now self.old report self.new) }
+        ensures told { IfOk result (λ standing. (released : List Release) × N.noted notes.new released
+            × (length released ≤ 64) × PollsWith now self.old released standing self.new) }
         ensures run { OnOk result
             (IsRun now self.old.links self.new.links self.old.lines self.new.lines) }
     {
@@ -269,41 +270,7 @@ impl<A: Network + Drop, B: Network + Drop> Transmitter<A, B> {
             return Err(PollFault::BothDown);
         }
         self.moment = now;
-        let mut released = ArrayVec::new();
-        serve_all(
-            &mut self.links,
-            &mut self.frame,
-            &mut self.mux,
-            now,
-            &mut released,
-        );
-        Ok(Report {
-            released,
-            standing: self.mux.standing(),
-        })
-    }
-
-    /// As `poll`, without a report: blanking its list takes longer than the turn of a link that isn't due.
-    #[inline(always)]
-    pub fn poll_unreported(&mut self, now: u64) -> Result<Standing, PollFault>
-        requires { self.old.moment ≤ now }
-        ensures both_down { IsErr result ↔ (is_alive self.old.lines ≡ false) }
-        ensures unchanged { OnErr result (self.new ≡ self.old) }
-        ensures conforms { Conforms self.new }
-        ensures plan { self.new.plan ≡ self.old.plan }
-        ensures board { self.new.board ≡ self.old.board }
-        ensures same { IsSamePlan self.old.links self.new.links }
-        ensures of_plan { AreLinksOf self.old.plan self.old.links }
-        ensures endure { BothEndure self.old.lines self.new.lines }
-        ensures told { IfOk result (λ standing. PollsUnreported now self.old standing self.new) }
-        ensures run { OnOk result
-            (IsRun now self.old.links self.new.links self.old.lines self.new.lines) }
-    {
-        if !self.mux.stands_for(Networks::Both) {
-            return Err(PollFault::BothDown);
-        }
-        self.moment = now;
-        serve_each(&mut self.links, &mut self.frame, &mut self.mux, now);
+        serve_all(&mut self.links, &mut self.frame, &mut self.mux, now, notes);
         Ok(self.mux.standing())
     }
 

@@ -59,7 +59,7 @@ returns g c =
     let plan = c.drain_whole.ensures.plan ∙ c.gather_one-draining.ensures.plan ∙ sent.ensures.plan ∙ opened.ensures.plan in
     let own = sent.ensures.port.own ∙ ap (λ own. (own ++ (1 ∷ []) ∷ []) ++ (2 ∷ []) ∷ []) opened.ensures.port.fresh in
     whole drained.plan (accepted_in drained.links) (λ place. two_messages) drained.lines _ _ plan c.into_networks.ensures.a
-    c.into_networks.ensures.b c.into_networks.ensures.legal c.into_networks.ensures.allowed
+    c.into_networks.ensures.b c.into_networks.ensures.conforms.legal_accepted c.into_networks.ensures.allowed
     (subst (λ p. AreOwn p (accepted_in drained.links) (λ place. two_messages)) (sym c.drain_whole.ensures.plan)
     (subst (λ (xs : Accepted). AreOwn gathered.plan xs (λ place. two_messages)) (sym c.drain_whole.ensures.accepted)
     (own_one sent.new.tx gathered sent.result two_messages own c.gather_one-draining.ensures)))

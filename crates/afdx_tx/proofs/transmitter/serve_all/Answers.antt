@@ -1,5 +1,4 @@
-use Rattle.afdx_tx.proofs.Names.{◌++◌, ◌≡◌, ◌<◌, ◌∙◌, ap, sym, length, get_or, arith, and_parts, get_or_default, set-get_or, VlId, LinkPlan, link_at, no_link, Release, turn_release}
-use Rattle.arrayvec.specs.ArrayVec.{ArrayVec}
+use Rattle.afdx_tx.proofs.Names.{◌++◌, ◌≡◌, ◌<◌, ◌∙◌, [], rules, ap, sym, length, get_or, arith, and_parts, get_or_default, set-get_or, LinkPlan, link_at, no_link, turn_release}
 use Rattle.afdx_tx.proofs.PollTurns.{turned_at, polling_more, polling_on}
 use Rattle.afdx_tx.proofs.transmitter.serve_all.Goals.{then-may_release, else-may_release}
 use Rattle.afdx_tx.proofs.transmitter.serve_all.Given
@@ -7,7 +6,7 @@ use Rattle.afdx_tx.proofs.transmitter.serve_all.Goals as goal
 
 -- The place is that of a link.
 within : (g : Given.Over) (c : goal.Joined-may_release g) → c.loop-link.link-index < length c.loop-link.links
-within g c = let q = c.loop-link.invariant.steady.same.count in let r = c.loop-link-test.true in omega arith
+within g c = let q = c.loop-link.invariant.polls.steady.same.count in let r = c.loop-link-test.true in omega arith
 
 -- The tested link is the one at that place.
 asked : (g : Given.Over) (c : goal.Joined-may_release g)
@@ -17,7 +16,7 @@ asked g c = get_or_default c.loop-link.links c.loop-link.link-index c.link-item.
 
 pub serve-did-requires-clause-paced : goal.serve-did-requires-clause-paced
 serve-did-requires-clause-paced g c =
-    let s = c.loop-link.invariant in
+    let s = c.loop-link.invariant.polls in
     let i = c.loop-link.link-index in
     let lt : c.loop-link.link-index < length c.loop-link.links =
     let q = s.steady.same.count in let r = c.loop-link-test.true in omega arith in
@@ -25,11 +24,20 @@ serve-did-requires-clause-paced g c =
     let may = rw is at (sym c.may_release.ensures ∙ c.if-may_release.true) in
     rw is ((s.steady.kept i lt).paced (s.whole i lt (and_parts _ _ may).1))
 
+pub note-requires : goal.note-requires
+note-requires g c =
+    let inv = c.loop-link.invariant in
+    let room = inv.polls.room in
+    let few = c.requires.few in
+    let test = c.loop-link-test.true in
+    (inv.released, inv.noted, omega arith)
+
 pub loop-link-preserved : goal.loop-link-preserved
 loop-link-preserved g c =
     let links = c.loop-link.links in
     let i = c.loop-link.link-index in
-    let p = c.loop-link.invariant in
+    let inv = c.loop-link.invariant in
+    let p = inv.polls in
     let lt = within g c in
     elim c.if-may_release.branch [
       | then-may_release w ↦
@@ -37,14 +45,21 @@ loop-link-preserved g c =
           let may = rw (asked g c) at (sym c.may_release.ensures ∙ w.if-may_release.true) in
           let turned = turned_at _ _ links _ _ _ _ _ (asked g c) lt p.steady.later (p.whole i lt (and_parts _ _ may).1)
           e.serves e.paced e.same e.lost e.counted in
-          let names = w.note.ensures ∙ ap (λ (v : VlId). c.loop-link.released.items ++ turn_release v
-          w.serve-did.result)
-          (w.id.ensures ∙ ap (λ (plan : LinkPlan). plan.id) turned.same.plan) in
-          rw (w.links-is, w.mux-is, ap (λ (v : ArrayVec Release). v.items) w.released-is ∙ names)
-          (polling_more c.args.now i c.args.links.now links c.args.mux.now c.loop-link.mux w.serve-did.new.mux
-          w.serve-did.new.self w.serve-did.result c.loop-link.released.items p c.requires.apart lt turned e.later e.endure)
+          let named = w.id.ensures ∙ ap (λ (plan : LinkPlan). plan.id) turned.same.plan in
+          rw (w.links-is, w.mux-is, w.notes-is) (record {
+            released = inv.released ++ turn_release (link_at links i).plan.id w.serve-did.result;
+            noted = rw named at (w.note.ensures inv.released inv.noted);
+            polls = polling_more c.args.now i c.args.links.now links c.args.mux.now c.loop-link.mux w.serve-did.new.mux
+                w.serve-did.new.self w.serve-did.result inv.released p c.requires.apart lt turned e.later e.endure;
+          })
       | else-may_release w ↦
           let no = rw (asked g c) at (sym c.may_release.ensures ∙ w.if-may_release.false) in
-          rw (w.links-is ∙ set-get_or links i c.link-item.result, w.mux-is, ap (λ (v : ArrayVec Release). v.items) w.released-is)
-          (polling_on c.args.now i c.args.links.now links c.args.mux.now c.loop-link.mux c.loop-link.released.items p lt no)
+          rw (w.links-is ∙ set-get_or links i c.link-item.result, w.mux-is, w.notes-is) (record {
+            released = inv.released;
+            noted = inv.noted;
+            polls = polling_on c.args.now i c.args.links.now links c.args.mux.now c.loop-link.mux inv.released p lt no;
+          })
     ]
+
+pub loop-link-init : goal.loop-link-init
+loop-link-init g c = record { released = []; noted = c.requires.none; polls = search rules }

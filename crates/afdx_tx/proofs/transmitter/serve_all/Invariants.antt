@@ -1,5 +1,10 @@
-use Rattle.afdx_tx.proofs.Names.{IsPolling}
+use Rattle.std.proofs.Common.{List}
+use Rattle.afdx_tx.proofs.Names.{IsPolling, Release}
 use Rattle.afdx_tx.proofs.transmitter.serve_all.Given as goal
 
 abbrev pub invariant-loop-link : goal.invariant-loop-link
-invariant-loop-link g l = IsPolling l.fn.now l.link-index l.fn.links l.links l.fn.mux l.mux l.released.items
+invariant-loop-link g l = record {
+  released : List Release;
+  noted : g.N.Notes.noted l.notes released;
+  polls : IsPolling l.fn.now l.link-index l.fn.links l.links l.fn.mux l.mux released;
+}

@@ -18,5 +18,5 @@ returns-clause-step g c = on_ok_weaker c.poll.result
 pub returns-clause-ready : goal.returns-clause-ready
 returns-clause-ready g c = on_ok_weaker c.poll.result
     (λ run. kept_ready.polled c.args.now c.args.emitter.now c.poll.new.self c.requires.ready
-    c.poll.ensures.plan run c.poll.ensures.allowed)
+    c.poll.ensures.lawful.plan run c.poll.ensures.lawful.allowed)
     c.poll.ensures.run

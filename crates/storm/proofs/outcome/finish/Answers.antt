@@ -28,7 +28,7 @@ returns g c =
       whole = handed_whole joined.tx c.gather_all-draining.result drained c.args.load.messages c.args.load.turns joined.ports.items _ _
           c.requires.joined.spent c.gather_all-draining.ensures c.in_ok-drain.ensures.plan c.in_ok-drain.ensures.accepted
           c.in_ok-drain.ensures.done c.in_ok-drain.ensures.streams
-          (subst (λ (t : Tx). IsLegal t.plan (accepted_in t.links) t.lines.a t.lines.b) same end.legal)
+          (subst (λ (t : Tx). IsLegal t.plan (accepted_in t.links) t.lines.a t.lines.b) same end.conforms.legal_accepted)
           (subst (λ (t : Tx). AreAllowed t.plan (accepted_in t.links)) same end.allowed) a b;
       accepted = c.count_accepted-accepted.ensures
           ∙ ap (λ (ports : List PortView). sum_by (λ (port : PortView). length port.sender.own) ports) c.as_slice.ensures.value

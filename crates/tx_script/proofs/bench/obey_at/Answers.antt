@@ -10,8 +10,8 @@ returns-clause-ok c = elim c.match-poll.branch [
       let told = w.in-Ok.ensures.told in
       rw w.result-is (at_bench c.bench.view_is (obeys_poll c.bench.inside.emitter c.poll.new.self c.bench.inside.ports.items
       c.args.moment w.len.result (omega (arith, c.now.ensures, c.if-moment-now.false)) w.in-Ok.ensures.run
-      w.in-Ok.ensures.mirrored (sym told.a_stands ∙ w.if-report.true) (sym told.b_stands ∙ w.if-report-2.true)
-      w.in-Ok.ensures.plan told.moment c.poll.ensures.totals
+      w.in-Ok.ensures.lawful.conforms.mirrored (sym told.a_stands ∙ w.if-report.true) (sym told.b_stands ∙ w.if-report-2.true)
+      w.in-Ok.ensures.lawful.plan told.moment c.poll.ensures.lawful.messages.totals
       (w.len.ensures.value ∙ released_many _ _ c.args.moment _ told.released) w.len.ensures.fits))
   | in-Ok+else-report w ↦ rw w.result-is tt
   | in-Err w ↦ rw w.result-is tt
@@ -19,4 +19,4 @@ returns-clause-ok c = elim c.match-poll.branch [
 
 pub returns-clause-takes : goal.returns-clause-takes
 returns-clause-takes c = poll_takes c.poll.result c.bench.inside.emitter c.poll.new.self c.bench.inside.ports.items
-    c.args.moment _ c.bench.view_is c.poll.ensures.unchanged c.poll.ensures.run c.poll.ensures.plan c.poll.ensures.totals
+    c.args.moment _ c.bench.view_is c.poll.ensures.unchanged c.poll.ensures.run c.poll.ensures.lawful.plan c.poll.ensures.lawful.messages.totals

@@ -1,8 +1,14 @@
-use Rattle.afdx_tx.proofs.SoundEmitter.{same_queues, same_totals}
+use Rattle.afdx_tx.proofs.Conforming.{on_ok, runs, stays_lawful, still_in}
 use Rattle.afdx_tx.proofs.emitter.Emitter.poll_unreported.Goals as goal
 
-pub returns-clause-queues : goal.returns-clause-queues
-returns-clause-queues g c = rw (← c.self.view_is) (same_queues _ _ c.poll_unreported.ensures.same)
+pub returns-clause-lawful : goal.returns-clause-lawful
+returns-clause-lawful g c =
+    let did = c.poll.ensures in
+    rw (← c.self.view_is) (stays_lawful g.P.Phase.gathered _ _ c.self.invariant did.same did.conforms did.endure did.plan did.board)
 
-pub returns-clause-totals : goal.returns-clause-totals
-returns-clause-totals g c = rw (← c.self.view_is) (same_totals _ _ c.poll_unreported.ensures.same)
+pub invariant_of-self : goal.invariant_of-self
+invariant_of-self g c = still_in g.P.Phase.gathered _ _ _ _ c.poll.ensures.plan c.poll.ensures.same c.self.invariant
+
+pub returns-clause-run : goal.returns-clause-run
+returns-clause-run g c = rw (← c.self.view_is) (on_ok c.poll.result _ _
+    (runs g.P.Phase.gathered c.args.now _ _ c.poll.ensures.of_plan c.self.invariant) c.poll.ensures.run)

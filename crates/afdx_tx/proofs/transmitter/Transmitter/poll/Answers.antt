@@ -1,6 +1,6 @@
-use Rattle.afdx_tx.proofs.Names.{◌≡◌, ◌∙◌, with_items_is, with_items, log, IsSound, IsSteady}
+use Rattle.afdx_tx.proofs.Names.{◌≡◌, ◌∙◌, ap, arith, length, refl, with_items_is, with_items, log, IsSound, IsSteady}
 use Rattle.afdx_tx.proofs.KeptLinks.{reaches_on}
-use Rattle.afdx_tx.proofs.SoundEmitter.{links_apart, sound_after}
+use Rattle.afdx_tx.proofs.SoundEmitter.{count_is, links_apart, sound_after}
 use Rattle.afdx_tx.proofs.Conforming.{sound_conforms}
 use Rattle.afdx_tx.proofs.transmitter.Transmitter.poll.Given
 use Rattle.afdx_tx.proofs.transmitter.Transmitter.poll.Goals as goal
@@ -28,7 +28,7 @@ sound g c = rw (links_are g c) (sound_after _ _ _ _ _ c.self.invariant.0.valid c
 
 pub invariant_of-self : goal.invariant_of-self
 invariant_of-self g c =
-    let told = c.serve_all.ensures.told in
+    let told = c.serve_all.ensures.told.3 in
     let kept = steady g c in (
       sound g c,
       rw (links_are g c) (reaches_on c.self.inside.links.items.items c.serve_all.new.links c.self.inside.board
@@ -42,3 +42,23 @@ returns-clause-conforms g c = sound_conforms _ (sound g c)
 
 pub returns-then-not-stands_for-clause-conforms : goal.returns-then-not-stands_for-clause-conforms
 returns-then-not-stands_for-clause-conforms g c = rw (← c.self.view_is) (sound_conforms _ c.self.invariant.0)
+
+pub returns-clause-told : goal.returns-clause-told
+returns-clause-told g c =
+    let links = c.self.inside.links.items.items in
+    let sound = c.self.invariant.0 in
+    let told = c.serve_all.ensures.told in
+    let all : length c.deref_mut.result.now ≡ length links = ap length c.deref_mut.ensures.value in
+    rw (← c.self.view_is) (
+      told.0,
+      told.1,
+      omega (arith, told.2, all, count_is c.self.inside.config links sound.of_plan, sound.valid.links.1),
+      record { moment = refl; released = told.3; a_stands = c.standing.ensures.a; b_stands = c.standing.ensures.b },
+    )
+
+pub serve_all-requires-clause-few : goal.serve_all-requires-clause-few
+serve_all-requires-clause-few g c =
+    let links = c.self.inside.links.items.items in
+    let sound = c.self.invariant.0 in
+    let all : length c.deref_mut.result.now ≡ length links = ap length c.deref_mut.ensures.value in
+    omega (arith, all, count_is c.self.inside.config links sound.of_plan, sound.valid.links.1)

@@ -1,6 +1,6 @@
 use Rattle.afdx_tx.proofs.Names.{rules}
 use Rattle.afdx_tx.proofs.ClosedEmitter.{answered_queues}
-use Rattle.afdx_tx.proofs.emitter.Emitter.close.Goals as goal
+use Rattle.afdx_tx.proofs.emitter.Emitter+A+B.close.Goals as goal
 
 pub returns-clause-queues : goal.returns-clause-queues
 returns-clause-queues g c =

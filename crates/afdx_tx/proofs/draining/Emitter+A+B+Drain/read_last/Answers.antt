@@ -1,4 +1,4 @@
-use Rattle.afdx_tx.proofs.draining.Draining.read_last.Goals as goal
+use Rattle.afdx_tx.proofs.draining.Emitter+A+B+Drain.read_last.Goals as goal
 
 -- Only the board has changed.
 pub invariant_of-self : goal.invariant_of-self
