@@ -1,6 +1,5 @@
 -- An emitter with one closed sub-VL is still sound.
-use Rattle.afdx_tx.proofs.Names.{ℕ, ◌≡◌, ◌<◌, ◌≤◌, List, length, set, arith, refl, ap, ◌∙◌, sym, subst, ⊎_elim, Result, Ok, Err, OnErr, IfOk, cases_lt, length-set, get_or_past, Plan, IsPlan, link_plan_at, queue_of, Held, LinkState, held_at, link_at, no_link, ClosesSub, ClosesLink, Tx, queues_in, LacksSub, ClosesTx}
-use Rattle.vl_link.proofs.Closing.{closes_taken, closes_known, closes_name}
+use Rattle.afdx_tx.proofs.Names.{ℕ, ◌≡◌, ◌<◌, ◌≤◌, List, length, set, arith, ap, sym, subst, Result, Ok, Err, OnErr, IfOk, cases_lt, length-set, get_or_past, Plan, IsPlan, link_plan_at, queue_of, Held, LinkState, held_at, link_at, no_link, ClosesSub, ClosesLink, Tx, queues_in, LacksSub, ClosesTx}
 use Rattle.afdx_tx.proofs.SoundEmitter.{alike_queues}
 use Rattle.afdx_tx.proofs.KeptLinks.{KeepsSub, KeepLinks, one_link, one_count, one_each}
 
@@ -10,28 +9,10 @@ pub record ClosedSub (old new : Held) : Type 0 where
   pub name : queue_of new.seen ≡ queue_of old.seen
 
 sub_here : (held : Held) → ClosedSub held held
-sub_here held = record {
-  keeps = record {
-    of = refl;
-    ports = refl;
-    left = refl;
-    taken = refl;
-    items = λ items. items;
-  };
-  name = refl;
-}
+sub_here held = grind arith
 
 sub_closed : (old : Held) (total : ℕ) (new : Held) → ClosesSub old total new → ClosedSub old new
-sub_closed old total new c = record {
-  keeps = record {
-    of = ap (λ (h : Held). h.of) c.same;
-    ports = ap (λ (h : Held). h.ports) c.same;
-    left = ap (λ (h : Held). h.left) c.same;
-    taken = closes_taken old.seen total new.seen c.queue;
-    items = λ items. rw (c.same, closes_known old.seen total new.seen c.queue) items;
-  };
-  name = closes_name old.seen total new.seen c.queue;
-}
+sub_closed old total new c = grind arith
 
 -- links whose sub-VLs may have been closed; all else is unchanged
 pub record ClosedLinks (old new : List LinkState) : Type 0 where
@@ -53,10 +34,7 @@ links_closed old place sub total new c within = record {
 
 -- Only the queues have changed.
 pub closed_kept : (old new : List LinkState) → ClosedLinks old new → KeepLinks old new
-closed_kept old new c = record {
-  count = c.count;
-  each = λ k lt. record { same = c.same k; count = c.subs k; each = λ s slt. (c.each k s).keeps };
-}
+closed_kept old new c = grind arith
 
 -- The queues have the same identities.
 queues_same : (old new : List LinkState) → ClosedLinks old new → queues_in new ≡ queues_in old
@@ -65,15 +43,11 @@ queues_same old new c = alike_queues old new c.count (λ k _. c.subs k) (λ k s 
 -- A found link lacks this sub-VL, and no other link has its identifier.
 pub lacks_at : (plan : Plan) (vl sub place : ℕ) → IsPlan plan → place < length plan.links
     → (link_plan_at plan.links place).id.0 ≡ vl → (link_plan_at plan.links place).sub_vls ≤ sub → LacksSub plan vl sub
-lacks_at plan vl sub place valid within id few other at =
-    let same = valid.links_apart other place at.within within (λ i. record { 0 = (at.id ∙ sym id) i }) in
-    let below = rw same at at.below in omega arith
+lacks_at plan vl sub place valid within id few other at = grind arith
 
 -- The link of the closed sub-VL is one of the emitter's.
 pub closes_within : (old : Tx) (vl sub total : ℕ) (new : Tx) (c : ClosesTx old vl sub total new) → c.place < length old.links
-closes_within old vl sub total new c = ⊎_elim (λ lt. lt)
-    (λ past. absurd (let below = rw (get_or_past old.links c.place no_link past) at c.closes.within in omega arith))
-    (cases_lt c.place (length old.links))
+closes_within old vl sub total new c = grind (arith, get_or_past, no_link, cases_lt)
 
 -- The links after the close.
 pub closes_links : (old : Tx) (vl sub total : ℕ) (new : Tx) → ClosesTx old vl sub total new → ClosedLinks old.links new.links

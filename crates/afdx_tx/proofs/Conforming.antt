@@ -1,5 +1,5 @@
 -- A sound emitter's frames conform, for the accepted messages too.
-use Rattle.afdx_tx.proofs.Names.{Accepted, Tx, IsSound, Conforms, ℕ, ◌≡◌, ◌<◌, List, ◌++◌, length, arith, refl, ap, ◌∙◌, sym, subst, ⊎_elim, Result, Ok, Err, OnOk, append_assoc, get_or_past, cases_lt, Plan, link_plan_at, room_of, Net, A, B, Entry, Seen, receiving, gathered, IsKnownWhole, IsSameQueue, known_of, told_of, IsLegalOn, IsLegal, Held, LinkState, held_at, link_at, nothing_held, no_link, IsSameSub, IsSamePlan, taken_in, AreGathered, accepted_by, accepted_in, Bool, true, false, AreLinksOf, IsRun, BothEndure}
+use Rattle.afdx_tx.proofs.Names.{Accepted, Tx, IsSound, Conforms, ℕ, ◌≡◌, ◌<◌, List, ◌++◌, length, arith, refl, ap, ◌∙◌, sym, subst, Result, Ok, Err, OnOk, append_assoc, get_or_past, cases_lt, Plan, link_plan_at, room_of, Net, A, B, Entry, Seen, receiving, gathered, IsKnownWhole, IsSameQueue, known_of, told_of, IsLegalOn, IsLegal, Held, LinkState, held_at, link_at, nothing_held, no_link, IsSameSub, IsSamePlan, taken_in, AreGathered, accepted_by, accepted_in, Bool, true, false, AreLinksOf, IsRun, BothEndure}
 use Rattle.afdx_legal.specs.Allowed.{AreAllowed}
 use Rattle.afdx_tx.proofs.PortMessages.{taken_allowed, accepted_allowed}
 use Rattle.afdx_tx.specs.Phases.{AreOfPorts, IsInPhase, KeepsMessages, Runs, StaysLawful}
@@ -16,11 +16,7 @@ same_known (gathered q) (receiving s) g e = absurd e
 
 -- A sub-VL after the last has no queue.
 gathered_past : (links : List LinkState) (k s : ℕ) → AreGathered links → IsKnownWhole (held_at (link_at links k).subs s).seen
-gathered_past links k s g = ⊎_elim
-    (λ lt. ⊎_elim (g k s lt) (λ ge. rw (get_or_past (link_at links k).subs s nothing_held ge) tt)
-    (cases_lt s (length (link_at links k).subs)))
-    (λ ge. rw (get_or_past links k no_link ge) tt)
-    (cases_lt k (length links))
+gathered_past links k s g = grind (arith, get_or_past, link_at, nothing_held, cases_lt, no_link)
 
 -- The accepted list of a sub-VL is the same.
 same_accepted : (old new : Held) → IsKnownWhole old.seen → IsSameSub old new → accepted_by new ≡ accepted_by old
@@ -29,11 +25,7 @@ same_accepted old new g e = rw (e.ports, same_known old.seen new.seen g e.queue)
 -- Each accepted list is the same.
 each_same : (old new : List LinkState) → IsSamePlan old new → AreGathered old → (k s : ℕ)
     → accepted_in new k s ≡ accepted_in old k s
-each_same old new p g k s = ⊎_elim
-    (λ (lt : k < length old). same_accepted (held_at (link_at old k).subs s) (held_at (link_at new k).subs s)
-    (gathered_past old k s g) ((p.each k lt).subs s))
-    (λ ge. rw (get_or_past new k no_link (omega (arith, p.count)), get_or_past old k no_link ge) refl)
-    (cases_lt k (length old))
+each_same old new p g k s = grind (arith, same_accepted, held_at, link_at, gathered_past, get_or_past, no_link, cases_lt)
 
 -- The accepted lists are the same.
 pub accepted_same : (old new : List LinkState) → IsSamePlan old new → AreGathered old → accepted_in new ≡ accepted_in old

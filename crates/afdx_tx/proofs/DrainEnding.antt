@@ -1,5 +1,5 @@
 -- Each poll of a drain at which a link is due sends one of its frames, until it owes none.
-use Rattle.afdx_tx.proofs.Names.{ℕ, zero, suc, ◌≡◌, ◌≢◌, ◌⊎◌, ◌+◌, ◌-◌, ◌<◌, ◌≤◌, List, [], ◌∷◌, ◌++◌, true, length, arith, refl, ap, ◌∙◌, sym, subst, Option, Some, None, inl, inr, ⊎_elim, and_from, both_ways, cases_eq, le-leb, length-append, length-map, length_push, LinkPlan, Plan, IsPlan, link_plan_at, bag_micros, room_of, A, sub_in, Sent, fragments, Entry, entry, Lines, BothEndure, stands_for, log, both_none, both_on, stood_before, log_same, Stamp, IsLater, is_due, Served, Nothing, Released, Lost, AreTurns, choice_below, turn_endures, turns_endure, latest, link_stream, sub_stream, told, Accepted, Drains, DrainsAt, pace_in, accepted_view, owed, stream_at, owed_at, AreApartBy, AreDrained, DrainEnds}
+use Rattle.afdx_tx.proofs.Names.{ℕ, zero, suc, ◌≡◌, ◌≢◌, ◌⊎◌, ◌+◌, ◌-◌, ◌<◌, ◌≤◌, List, [], ◌∷◌, ◌++◌, true, length, arith, refl, ap, ◌∙◌, sym, subst, Option, Some, None, inl, inr, ⊎_elim, both_ways, cases_eq, le-leb, length-append, length-map, length_push, LinkPlan, Plan, IsPlan, link_plan_at, bag_micros, room_of, A, sub_in, Sent, fragments, Entry, entry, Lines, BothEndure, stands_for, log, both_none, both_on, stood_before, log_same, Stamp, IsLater, is_due, Served, Nothing, Released, Lost, AreTurns, choice_below, turn_endures, turns_endure, latest, link_stream, sub_stream, told, Accepted, Drains, DrainsAt, pace_in, accepted_view, owed, stream_at, owed_at, AreApartBy, AreDrained, DrainEnds}
 use Rattle.vl_link.proofs.PaceOfStream.{stream_more, stream_same}
 use Rattle.afdx_legal.proofs.LongerStream.{latest_push, with_push_in, with_push_out}
 use Rattle.afdx_tx.proofs.PollTurns.{later_on}
@@ -37,10 +37,7 @@ own_turn : (now end_system : ℕ) (link : LinkPlan) (accepted : ℕ → List Sen
     → is_due (bag_micros link.bag) (latest None (link_stream link.id.0 (log lines))) now ≡ true
     → Drains now end_system link accepted lines after did → stands_for link.networks after ≡ true
     → Comes now end_system link accepted (link_stream link.id.0 (log lines)) (link_stream link.id.0 (log after))
-own_turn now end_system link accepted lines after Nothing due t stands = ⊎_elim
-    (λ early. absurd (both_ways _ early.0 (and_from _ _ due (rw t.1 at stands))))
-    (λ none. inl (ap (λ (l : Lines). link_stream link.id.0 (log l)) t.1, none.1.each))
-    t.0
+own_turn now end_system link accepted lines after Nothing due t stands = grind arith
 own_turn now end_system link accepted lines after (Released sub number) due t stands =
     let r = t.2 in
     let view = accepted_view end_system link accepted (log lines) in
@@ -59,13 +56,11 @@ own_turn now end_system link accepted lines after Lost due t stands = absurd (bo
 other_turn : (now end_system : ℕ) (link : LinkPlan) (accepted : ℕ → List Sent) (lines after : Lines) (did : Served) (vl : ℕ)
     → link.id.0 ≢ vl → Drains now end_system link accepted lines after did
     → link_stream vl (log after) ≡ link_stream vl (log lines)
-other_turn now end_system link accepted lines after Nothing vl ne t =
-    ap (λ (l : Lines). link_stream vl (log l)) t.1
+other_turn now end_system link accepted lines after Nothing vl ne t = grind arith
 other_turn now end_system link accepted lines after (Released sub number) vl ne t =
     let r = t.2 in
     stream_same link.id.0 vl now sub number link.networks r.frame lines after r.of r.enters ne
-other_turn now end_system link accepted lines after Lost vl ne t =
-    ap (link_stream vl) (log_same lines after t.1.same)
+other_turn now end_system link accepted lines after Lost vl ne t = grind (arith, link_stream, log_same)
 
 -- A network that is down after turns was down before, or failed.
 drains_endure : (now : ℕ) (plan : Plan) (accepted : Accepted) (i many : ℕ) (lines after : Lines)
@@ -135,15 +130,12 @@ due_by bag gap before now (Some last) small apart later = le-leb bag (now - last
 -- The frames of other sub-VLs are the same.
 told_other : (now sub s : ℕ) (frame : List ℕ) (S T : List Entry) → sub_in frame ≡ sub → s ≢ sub → T ≡ S ++ entry now frame ∷ []
     → length (told (sub_stream s T)) ≡ length (told (sub_stream s S))
-told_other now sub s frame S T of ne more =
-    rw (more, with_push_out (λ (e : Entry). sub_in e.frame) s S (entry now frame) (λ e. ne (sym e ∙ of))) refl
+told_other now sub s frame S T of ne more = grind (arith, with_push_out, sub_in)
 
 -- The sub-VL has one frame more.
 told_own : (now sub : ℕ) (frame : List ℕ) (S T : List Entry) → sub_in frame ≡ sub → T ≡ S ++ entry now frame ∷ []
     → length (told (sub_stream sub T)) ≡ length (told (sub_stream sub S)) + 1
-told_own now sub frame S T of more =
-    rw (more, with_push_in (λ (e : Entry). sub_in e.frame) sub S (entry now frame) of)
-    (simp length-map (length_push _ _))
+told_own now sub frame S T of more = grind (arith, with_push_in, sub_in, length-map, length_push)
 
 module _ (now end_system : ℕ) (link : LinkPlan) (accepted : ℕ → List Sent) (S T : List Entry)
     (g : Gains now end_system link accepted S T) where
@@ -197,8 +189,7 @@ ends : (plan : Plan) (accepted : Accepted) (k : ℕ) (moments : List ℕ) (lines
     → AreApartBy gap start moments → AreDrained plan accepted moments lines after → StandsAt plan k after
     → HasAllAt plan accepted k (stream_at plan k lines) ⊎ (owed_at plan accepted k lines < length moments)
     → HasAllAt plan accepted k (stream_at plan k after)
-ends plan accepted k [] lines after start gap valid lt small later apart p stands few =
-    ⊎_elim (λ all. rw p all) (λ (none : owed_at plan accepted k lines < 0). absurd (omega arith)) few
+ends plan accepted k [] lines after start gap valid lt small later apart p stands few = grind arith
 ends plan accepted k (now ∷ moments) lines after start gap valid lt small later apart p stands few = ⊎_elim
     (λ still. ends plan accepted k moments p.0 after now gap valid lt small
     (rw still.0 (later_on _ start now (omega (arith, apart.0)) later)) apart.1 p.2 stands (inl (rw still.0 still.1)))

@@ -1,8 +1,8 @@
 -- The accepted messages of each port that was gathered.
-use Rattle.afdx_tx.proofs.Names.{ℕ, ◌≡◌, ◌<◌, List, length, arith, ap, ◌∙◌, subst, Contains, All-contains, PortPlan, Plan, IsPlan, port_plan_at, link_place, part_of, brought_by, known_of, IsKnownWhole, receiving, gathered, Seen, taken_of, Held, LinkState, held_at, link_at, back_of, BecomesWhole, Lines, Tx, AreLinksOf, HaveOwnItems, IsSound, queues_in, PortView, BelongsTo, AreOpenedWith, HasPlace, HasEveryPlace, index_of, AreGathered, OnlyTakeBack, IsTakenBack, GathersLinks, GathersPorts, IsGatheredLink, IsGatheredTx, HasOwnPart, held_for, Published, Reaches}
+use Rattle.afdx_tx.proofs.Names.{ℕ, ◌≡◌, ◌<◌, List, length, arith, ap, ◌∙◌, subst, Contains, All-contains, PortPlan, Plan, IsPlan, port_plan_at, link_place, part_of, brought_by, known_of, IsKnownWhole, receiving, gathered, Seen, taken_of, LinkState, held_at, link_at, back_of, BecomesWhole, Lines, Tx, AreLinksOf, HaveOwnItems, IsSound, queues_in, PortView, BelongsTo, AreOpenedWith, HasPlace, HasEveryPlace, index_of, AreGathered, OnlyTakeBack, IsTakenBack, GathersLinks, GathersPorts, IsGatheredLink, IsGatheredTx, HasOwnPart, held_for, Published, Reaches}
 use Rattle.afdx_tx.proofs.PortMessages.{own_messages, port_within}
-use Rattle.afdx_tx.proofs.KeptLinks.{reaches_kept, kept_sound, KeepLinks}
-use Rattle.afdx_tx.proofs.TakenBack.{whole_from, back_kept}
+use Rattle.afdx_tx.proofs.KeptLinks.{kept_sound, KeepLinks}
+use Rattle.afdx_tx.proofs.TakenBack.{back_kept}
 
 -- The messages taken are the same.
 taken_same : (old new : Seen) → BecomesWhole old new → taken_of new ≡ taken_of old
@@ -12,39 +12,12 @@ taken_same old new b = absurd b
 
 -- Only the queues have changed.
 gathered_kept : (old new : List LinkState) → GathersLinks old new → KeepLinks old new
-gathered_kept old new g = record {
-  count = g.count;
-  each = λ k lt.
-      let link = g.each k lt in
-      record {
-        same = link.same;
-        count = link.subs.count;
-        each = λ s slt.
-            let sub = link.subs.each s slt in
-            record {
-              of = ap (λ (h : Held). h.of) sub.same;
-              ports = ap (λ (h : Held). h.ports) sub.same;
-              left = ap (λ (h : Held). h.left) sub.same;
-              taken = taken_same _ _ sub.gathers.queue;
-              items = λ _. sub.items;
-            };
-      };
-}
+gathered_kept old new g = grind arith
 
 -- A gathered link is the same as before the senders were taken back, apart from its queues.
 link_gathered : (old mid new : List LinkState) (k : ℕ) → k < length mid → OnlyTakeBack old mid → GathersLinks mid new
     → IsGatheredLink (link_at old k) (link_at new k)
-link_gathered old mid new k lt takes gathers =
-    let g = gathers.each k lt in
-    record {
-      same = g.same ∙ ap (λ (l : LinkState). record l { subs = (link_at new k).subs }) (takes.links k);
-      count = g.subs.count ∙ takes.subs k;
-      each = λ s slt. let sub = g.subs.each s (omega (arith, takes.subs k)) in
-          record {
-            same = sub.same ∙ ap (λ (h : Held). record h { seen = (held_at (link_at new k).subs s).seen }) (takes.helds k s);
-            queue = whole_from _ _ _ (takes.queues k s) sub.gathers.queue;
-          };
-    }
+link_gathered old mid new k lt takes gathers = grind arith
 
 -- A queue that became whole is known whole.
 is_known : (old new : Seen) → BecomesWhole old new → IsKnownWhole new
@@ -54,11 +27,7 @@ is_known old new whole = absurd whole
 
 -- Each queue is gathered.
 pub all_gathered : (mid new : List LinkState) → GathersLinks mid new → AreGathered new
-all_gathered mid new g k s lt slt =
-    let below : k < length mid = omega (arith, g.count) in
-    let link = g.each k below in
-    let sub : s < length (link_at mid k).subs = omega (arith, link.subs.count) in
-    is_known _ _ (link.subs.each s sub).gathers.queue
+all_gathered mid new g k s lt slt = grind arith
 
 -- The part of the port at a place is its own list.
 own_part : (tx new : Tx) (mid : List LinkState) (ports : List PortView) (place : ℕ) → IsPlan tx.plan
@@ -103,8 +72,7 @@ gathers_sound config old ports new lines moment g sound =
 -- The published counts are still at most the current ones.
 pub gathers_reaches : (config : Plan) (old : List LinkState) (ports : List PortView) (new : List LinkState) (board : List Published)
     → GathersPorts config old ports new → Reaches old board → Reaches new board
-gathers_reaches config old ports new board g r =
-    reaches_kept g.mid new board (gathered_kept g.mid new g.gathers) (reaches_kept old g.mid board (back_kept old g.mid g.takes) r)
+gathers_reaches config old ports new board g r = grind arith
 
 -- The accepted messages of each port are its own list.
 pub gathers_tx : (old new : Tx) (ports : List PortView) → GathersPorts old.plan old.links ports new.links

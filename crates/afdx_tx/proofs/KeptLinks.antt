@@ -1,5 +1,5 @@
 -- Links one of whose sub-VLs has changed, or only their queues, and the counts published of them.
-use Rattle.afdx_tx.proofs.Names.{ℕ, ◌≡◌, ◌<◌, ◌++◌, List, length, arith, refl, ap, ◌∙◌, sym, subst, Plan, Entry, Lines, log, told, taken_of, Held, LinkState, held_at, link_at, HasOwnItems, IsLinkOfPlan, taken_by, sub_fragments, IsKept, IsTied, IsBehind, IsSound, ◌≢◌, set, ⊎_elim, cases_eq, length-set, get_or-set_other, each_set, no_link, nothing_held, ◌≤◌, [], zero-le, LinkPlan, link_in, zeros, NoFieldFalls, Published, published, last_of, with_entry, link_stream, with_append, AreKept, IsSamePlan, Reaches, PublishesCounts}
+use Rattle.afdx_tx.proofs.Names.{ℕ, ◌≡◌, ◌<◌, ◌++◌, List, length, arith, refl, ap, ◌∙◌, sym, subst, Plan, Entry, Lines, log, taken_of, Held, LinkState, held_at, link_at, HasOwnItems, IsLinkOfPlan, taken_by, sub_fragments, IsKept, IsTied, IsBehind, IsSound, ◌≢◌, set, ⊎_elim, cases_eq, length-set, get_or-set_other, each_set, no_link, nothing_held, ◌≤◌, [], zero-le, link_in, zeros, NoFieldFalls, Published, published, last_of, with_entry, link_stream, with_append, AreKept, IsSamePlan, Reaches, PublishesCounts}
 use Rattle.status_board.specs.declared.counts.Counts.{Counts}
 use Rattle.status_board.proofs.Histories.{last_or-push, falls_not_same, falls_not_through}
 use Rattle.afdx_legal.proofs.CountingLemmas.{counts_more}
@@ -34,8 +34,7 @@ shown_same old new s = rw s.of (ap (sub_fragments old.of 0) (taken_by_same old n
 
 -- The sub-VL is tied to the same stream.
 tied_same : (old new : Held) (stream : List Entry) → KeepsSub old new → IsTied old stream → IsTied new stream
-tied_same old new stream s tied =
-    shown_same old new s ∙ tied ∙ ap (λ (left : List (List ℕ)). told stream ++ left) (sym s.left)
+tied_same old new stream s tied = grind arith
 
 -- The sub-VL lacks fragments in the same stream.
 behind_same : (old new : Held) (stream : List Entry) → KeepsSub old new → IsBehind old stream → IsBehind new stream
@@ -44,14 +43,7 @@ behind_same old new stream s b = record { left = b.left; some = b.some; ahead = 
 -- The link keeps its invariant.
 own_same : (old new : LinkState) → KeepsLink old new → IsLinkOfPlan old.end_system old.plan old.pace old.subs
     → IsLinkOfPlan new.end_system new.plan new.pace new.subs
-own_same old new g own =
-    subst (λ (l : LinkState). IsLinkOfPlan l.end_system l.plan l.pace l.subs) (sym g.same)
-    (record {
-      count = g.count ∙ own.count;
-      sub_vls = own.sub_vls;
-      gap = own.gap;
-      named = λ s lt. let below : s < length old.subs = omega (arith, g.count) in (g.each s below).of ∙ own.named s below;
-    })
+own_same old new g own = grind arith
 
 -- The link keeps its invariant with a log.
 kept_same : (old new : LinkState) (log : List Entry) → KeepsLink old new
@@ -147,11 +139,7 @@ publishing_all links old new p = record { count = p.count; each = p.first }
 -- The last published counts are then the current ones.
 pub reaches_all : (links : List LinkState) (old new : List Published) → length old ≡ length links
     → PublishesCounts links old new → Reaches links new
-reaches_all links old new count p = record {
-  count = p.count ∙ count;
-  each = λ k under. rw (p.each k under, last_or-push zeros (published old k).history (link_at links k).counts)
-      (falls_not_same (link_at links k).counts);
-}
+reaches_all links old new count p = grind (arith, last_or-push, link_at, falls_not_same)
 
 -- With nothing published, no published count is above the current one.
 pub reaches_none : (links : List LinkState) (board : List Published) → length board ≡ length links
@@ -167,29 +155,13 @@ reaches_none links board count none = record {
 -- No count of a link falls as the log grows.
 rises_on : (old new : LinkState) (before entries after : List Entry) → new.plan ≡ old.plan → after ≡ before ++ entries
     → IsKept old before → IsKept new after → NoFieldFalls old.counts new.counts
-rises_on old new before entries after plan grown was is =
-    let vl = old.plan.id.0 in
-    let stream = ap (λ (p : LinkPlan). link_stream p.id.0 after) plan ∙ ap (link_stream vl) grown
-    ∙ with_append (λ (e : Entry). link_in e.frame) vl before entries in
-    rw (was.counted, is.counted, stream)
-    (counts_more new.pace.gap (link_stream vl before) (link_stream vl entries) (rw stream at is.spaced))
+rises_on old new before entries after plan grown was is = grind (arith, link_stream, with_append, link_in, counts_more)
 
 -- The published counts are at most the current ones as the log grows.
 pub reaches_on : (old new : List LinkState) (board : List Published) (before entries after : List Entry) → IsSamePlan old new
     → after ≡ before ++ entries → AreKept old before → AreKept new after → Reaches old board → Reaches new board
-reaches_on old new board before entries after same grown was is r = record {
-  count = r.count ∙ sym same.count;
-  each = λ k under.
-      let here : k < length old = omega (arith, same.count) in
-      falls_not_through (last_of board k) (link_at old k).counts (link_at new k).counts (r.each k here)
-      (rises_on (link_at old k) (link_at new k) before entries after (same.each k here).plan grown (was k here) (is k under));
-}
+reaches_on old new board before entries after same grown was is r = grind (arith, falls_not_through, last_of, link_at, rises_on)
 
 -- The published counts are at most the current ones while only queues change.
 pub reaches_kept : (old new : List LinkState) (board : List Published) → KeepLinks old new → Reaches old board → Reaches new board
-reaches_kept old new board g r = record {
-  count = r.count ∙ sym g.count;
-  each = λ k under.
-      let here : k < length old = omega (arith, g.count) in
-      rw (g.each k here).same (r.each k here);
-}
+reaches_kept old new board g r = grind arith

@@ -8,8 +8,7 @@ sooner from until before plan pace lines le rests = λ now late early. rests now
 
 none_sooner : (now : ℕ) (links : List LinkState) (lines : Lines) (many until before : ℕ) → before ≤ until
     → NoneDueBefore now links lines many until → NoneDueBefore now links lines many before
-none_sooner now links lines many until before le none = λ k within rests.
-    sooner now until before (link_at links k).plan (link_at links k).pace lines le (none k within rests)
+none_sooner now links lines many until before le none = grind arith
 
 -- A link that stays as it is and may not release a frame rests at all times of 64 bits.
 stays : (now : ℕ) (plan : LinkPlan) (pace : Pace) (lines : Lines) → StaysAsIs now plan pace lines → may_release now plan pace lines ≡ false
@@ -22,13 +21,7 @@ none_more : (now : ℕ) (links : List LinkState) (lines : Lines) (many until : �
     → (may_release now (link_at links many).plan (link_at links many).pace lines ≡ false
     → RestsUntil now until (link_at links many).plan (link_at links many).pace lines)
     → NoneDueBefore now links lines (many + 1) until
-none_more now links lines many until none own = λ k within rests. elim (cases_lt k many) [
-  | inl lt ↦ none k lt rests
-  | inr ge ↦
-      let is : k ≡ many = omega (arith, ge, within) in
-      subst (λ (n : ℕ). may_release now (link_at links n).plan (link_at links n).pace lines ≡ false
-      → RestsUntil now until (link_at links n).plan (link_at links n).pace lines) (sym is) own rests
-]
+none_more now links lines many until none own = grind arith
 
 one_more : (now : ℕ) (links : List LinkState) (lines : Lines) (many at : ℕ) → OneDueAt now links lines many at → OneDueAt now links lines (many + 1) at
 one_more now links lines many at one = record { place = one.place; within = omega (arith, one.within); due = one.due }
@@ -40,10 +33,7 @@ pub first_of_more : (now : ℕ) (links : List LinkState) (lines : Lines) (many :
     → IsFirstDue now links lines (many + 1) (earlier first own)
 first_of_more now links lines many None None none as_is =
     none_more now links lines many (2 ^ 64) none (stays now (link_at links many).plan (link_at links many).pace lines as_is)
-first_of_more now links lines many None (Some at) none due = (
-  record { place = many; within = omega arith; due = due },
-  none_more now links lines many at (none_sooner now links lines many (2 ^ 64) at (omega (arith, due.few)) none) (λ rests. due.until),
-)
+first_of_more now links lines many None (Some at) none due = grind arith
 first_of_more now links lines many (Some at) None first as_is =
     let plan = (link_at links many).plan in let pace = (link_at links many).pace in (
       one_more now links lines many at first.0,

@@ -1,5 +1,5 @@
 -- The turns of a drain, and whether all accepted messages are wholly released.
-use Rattle.afdx_tx.proofs.Names.{ℕ, ◌≡◌, ◌<◌, List, [], Bool, true, false, length, arith, refl, ap, ◌∙◌, sym, ⊎_elim, inl, inr, both_ways, cases_Bool, Plan, Entry, Lines, log, SubVl, Seen, receiving, gathered, IsKnownWhole, TellsDrained, LinkState, held_at, link_at, no_link, sub_fragments, taken_by, IsKept, IsSound, Owes, IsLinkDone, IsAllDone, AreGathered, accepted_in, TellsAllDone, IsOwn, subst, and_parts, Served, AreTurns, held_view, IsTurn, IsTurnAt, IsRun, AreLinksOf, accepted_view, pace_in, Drains, DrainsAt, IsDrained, turn_seen, turns_seen}
+use Rattle.afdx_tx.proofs.Names.{ℕ, ◌≡◌, ◌<◌, List, [], Bool, true, false, length, arith, refl, ap, ◌∙◌, sym, ⊎_elim, both_ways, cases_Bool, Plan, Entry, Lines, log, SubVl, Seen, receiving, gathered, IsKnownWhole, TellsDrained, LinkState, held_at, link_at, no_link, sub_fragments, taken_by, IsKept, IsSound, Owes, IsLinkDone, IsAllDone, AreGathered, accepted_in, TellsAllDone, IsOwn, subst, and_parts, Served, AreTurns, held_view, IsTurn, IsTurnAt, IsRun, AreLinksOf, accepted_view, pace_in, Drains, DrainsAt, IsDrained, turn_seen, turns_seen}
 use Rattle.vl_link.specs.LinkDone.{HasSubLeft, TellsLinkDone}
 use Rattle.afdx_tx.proofs.SoundEmitter.{plan_is, count_is}
 use Rattle.afdx_tx.proofs.OwedFragments.{rest_of, stands_of, lists_of, all_released, owes_taken, owes_rest, owes_not, passed_released, asked_owes}
@@ -99,11 +99,7 @@ left_owes link log own kept g d whole =
 -- A link that isn't done owes a fragment.
 link_owes : (link : LinkState) (log : List Entry) → IsOwn link → IsKept link log → IsLinkGathered link
     → TellsLinkDone false link → HasOwing link log
-link_owes link log own kept g d =
-    elim (cases_Bool link.lost) [
-      | inl lost ↦ lost_owes link log own kept lost
-      | inr whole ↦ left_owes link log own kept g (⊎_elim (λ lost. absurd (both_ways _ whole lost)) (λ left. left) d) whole
-    ]
+link_owes link log own kept g d = grind (arith, cases_Bool, lost_owes, left_owes, both_ways)
 
 -- If all links are done, all accepted messages are wholly released.
 done_true : (config : Plan) (links : List LinkState) (lines : Lines) (moment : ℕ)

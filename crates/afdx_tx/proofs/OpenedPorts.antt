@@ -1,5 +1,5 @@
 -- New links, while the senders of their ports are made, and an emitter before its first call.
-use Rattle.afdx_tx.proofs.Names.{ℕ, ◌≡◌, ◌+◌, ◌<◌, List, [], ◌∷◌, ◌++◌, length, take, get_or, set, arith, refl, ap, ◌∙◌, sym, subst, below_more, Option, Some, None, and_right, ne_eqb, length-append, get_or_append_left, get_or_push, length-set, LinkPlan, PortPlan, Plan, IsPlan, link_plan_at, port_plan_at, link_place, most_calls, QueueName, SenderView, new_receiver, new_sender, SubVl, Seen, receiving, gathered, queue_of, ports_of, Held, LinkState, held_at, link_at, nothing_held, no_link, MakesSender, LacksSender, SubMakesSender, LinkMakesSender, ports_of_sub, held_queue, link_queues, queues_in, IsOpenedSub, AreOpenedSubs, IsOpenedLink, AreOpenedLinks, queue_at, index_of, IsFreshSender, IsFreshPort, each_set, both_ways, ext_get_or, All-nil, link_in, Logged, fresh_lines, fresh_log, fresh_in_step, IsItem, no_link_plan, AreFreshLinks, plans, IsSound}
+use Rattle.afdx_tx.proofs.Names.{ℕ, ◌≡◌, ◌+◌, ◌<◌, List, [], ◌∷◌, ◌++◌, length, take, get_or, set, arith, refl, ap, ◌∙◌, sym, below_more, Option, None, and_right, ne_eqb, length-append, get_or_append_left, get_or_push, length-set, LinkPlan, PortPlan, Plan, IsPlan, link_plan_at, port_plan_at, link_place, most_calls, QueueName, SenderView, new_receiver, new_sender, SubVl, Seen, receiving, gathered, queue_of, ports_of, Held, LinkState, held_at, link_at, nothing_held, no_link, MakesSender, LacksSender, SubMakesSender, LinkMakesSender, ports_of_sub, held_queue, link_queues, queues_in, IsOpenedSub, AreOpenedSubs, IsOpenedLink, AreOpenedLinks, queue_at, index_of, IsFreshPort, each_set, both_ways, ext_get_or, All-nil, link_in, Logged, fresh_lines, fresh_log, fresh_in_step, IsItem, no_link_plan, AreFreshLinks, plans, IsSound}
 use Rattle.std.proofs.Math.ListN.{get_or-map}
 use Rattle.afdx_tx.proofs.KeptLinks.{one_count, one_each}
 use Rattle.afdx_tx.proofs.PortLink.{few_ports, IsAt, seats, seats_within, index_at, seat_at, others_at, other_at}
@@ -16,9 +16,7 @@ queue_at_is links k s =
 -- A property of each element of a list, with one element more.
 pub each_push : {X : Type 0} (P : ℕ → X → Type 0) (xs : List X) (new d : X) (n : ℕ) → length xs ≡ n
     → ((k : ℕ) → k < n → P k (get_or xs k d)) → P n new → (k : ℕ) → k < n + 1 → P k (get_or (xs ++ new ∷ []) k d)
-each_push P xs new d n count each last = below_more (λ k. P k (get_or (xs ++ new ∷ []) k d)) n
-    (λ k lt. rw (get_or_append_left xs (new ∷ []) d k (omega arith)) (each k lt))
-    (rw (get_or_push xs new d n count) last)
+each_push P xs new d n count each last = grind (arith, below_more, get_or, get_or_append_left, get_or_push)
 
 -- One link more.
 pub links_push : (config : Plan) (first : List PortPlan) (links : List LinkState) (n : ℕ) (new : LinkState)
@@ -35,8 +33,7 @@ pub sub_at : (config : Plan) (links : List LinkState) (place k s : ℕ) → IsAt
     → AreOpenedLinks config (take place config.ports) links (length config.links)
     → IsOpenedSub (record { end_system = config.end_system; link = link_plan_at config.links k; sub = s })
     (ports_of_sub config.ports (link_plan_at config.links k).id.0 s) (index_of config.ports place) (held_at (link_at links k).subs s)
-sub_at config links place k s at are =
-    rw (index_at config place k s at) ((are.each k at.link).subs.each s (rw at.sub at at.over.sub))
+sub_at config links place k s at are = grind arith
 
 -- The sub-VL of the next port lacks a sender.
 pub lacks_at : (config : Plan) (links : List LinkState) (place k s : ℕ) → IsPlan config → IsAt config place k s
@@ -60,32 +57,18 @@ lacks_at config links place k s valid at are =
 makes_seen : (old : Seen) (calls : ℕ) (sender : SenderView) (new : Seen) (queue : QueueName) (capacity n : ℕ)
     → MakesSender old calls sender new → old ≡ receiving (new_receiver queue capacity n)
     → (new ≡ receiving (new_receiver queue capacity (n + 1))) × (sender ≡ new_sender queue capacity calls n)
-makes_seen old calls sender new queue capacity n makes is =
-    let here = subst (λ (seen : Seen). MakesSender seen calls sender new) is makes in (here.1, here.0)
+makes_seen old calls sender new queue capacity n makes is = grind arith
 
 -- A sub-VL has one sender more.
 makes_sub : (own : SubVl) (ports : List PortPlan) (n : ℕ) (old : Held) (calls : ℕ) (sender : SenderView) (new : Held)
     → IsOpenedSub own ports n old → SubMakesSender old calls sender new → IsOpenedSub own ports (n + 1) new
-makes_sub own ports n old calls sender new opened makes = rw makes.same (record {
-  of = opened.of;
-  ports_are = opened.ports_are;
-  left = opened.left;
-  queue = opened.queue;
-  seen = (makes_seen old.seen calls sender new.seen opened.queue own.link.capacity n makes.queue opened.seen).0;
-})
+makes_sub own ports n old calls sender new opened makes = grind arith
 
 -- A link with other sub-VLs, which have senders for these ports.
 with_subs : (own : ℕ) (ports first more : List PortPlan) (link : LinkPlan) (state : LinkState) (subs : List Held)
     → IsOpenedLink own ports first link state → AreOpenedSubs own ports more link subs link.sub_vls
     → IsOpenedLink own ports more link (record state { subs = subs })
-with_subs own ports first more link state subs opened these = record {
-  end_system = opened.end_system;
-  plan = opened.plan;
-  pace = opened.pace;
-  subs = these;
-  lost = opened.lost;
-  counts = opened.counts;
-}
+with_subs own ports first more link state subs opened these = grind arith
 
 -- The link of the next port, after its sender was made.
 link_more : (config : Plan) (old : LinkState) (place k s calls : ℕ) (sender : SenderView) (new : LinkState) → IsAt config place k s
@@ -151,21 +134,7 @@ pub fresh_port : (config : Plan) (links : List LinkState) (place k s : ℕ) (pla
     → LinkMakesSender (link_at links k) s most_calls sender new
     → plan ≡ port_plan_at config.ports place → k ≡ link_place config plan → s ≡ plan.sub
     → IsFreshPort config (queues_in links) place (record { place = place; plan = plan; sender = sender })
-fresh_port config links place k s plan sender new at are makes is link sub =
-    let opened = sub_at config links place k s at are in
-    let made = (makes_seen _ most_calls sender _ opened.queue _ (index_of config.ports place) makes.makes.queue
-    opened.seen).1 in
-    let fresh : IsFreshSender (queue_at (queues_in links) k s) (link_plan_at config.links k).capacity (index_of config.ports place) sender =
-    record {
-      of = queue_at_is links k s ∙ ap queue_of opened.seen ∙ ap (λ (x : SenderView). Some x.queue) (sym made);
-      is = made ∙ ap (λ (q : QueueName). new_sender q (link_plan_at config.links k).capacity most_calls (index_of config.ports place))
-          (ap (λ (x : SenderView). x.queue) (sym made));
-    } in
-    record {
-      at = refl;
-      plan = is;
-      sender = rw (← link, ← sub) fresh;
-    }
+fresh_port config links place k s plan sender new at are makes is link sub = grind (arith, sub_at, makes_seen, most_calls, index_of, queue_at, queues_in, link_plan_at, queue_at_is, queue_of, new_sender)
 
 -- A fresh emitter is sound.
 pub fresh_sound : (config : Plan) (links : List LinkState) → IsPlan config

@@ -1,5 +1,5 @@
 -- The fragments of a sub-VL's accepted messages, and its stream.
-use Rattle.afdx_tx.proofs.Names.{ℕ, suc, ◌≡◌, ◌+◌, ◌<◌, List, [], ◌∷◌, ◌++◌, true, false, length, arith, refl, ap, ◌∙◌, sym, inl, inr, append-nil, append_assoc, map-append, nil_from_length, length-append, room_of, LinkPlan, Net, A, Sent, fragments, fragments_at, fragments_from, Entry, SubVl, Seen, receiving, gathered, taken_of, FindsNothing, Finds, IsKnownWhole, known_of, told_of, Held, LinkState, held_at, Asks, sent_of, sent_by, taken_by, sub_fragments, IsLinkTied, IsReleased, Owes, accepted_by, IsOwn}
+use Rattle.afdx_tx.proofs.Names.{ℕ, suc, ◌≡◌, ◌+◌, ◌<◌, List, [], ◌∷◌, ◌++◌, true, false, length, arith, refl, ap, ◌∙◌, sym, inl, inr, append-nil, append_assoc, map-append, nil_from_length, length-append, room_of, LinkPlan, Net, A, Sent, fragments, fragments_at, fragments_from, Entry, Seen, receiving, gathered, taken_of, FindsNothing, Finds, IsKnownWhole, known_of, told_of, Held, LinkState, held_at, Asks, sent_of, sent_by, taken_by, IsLinkTied, IsReleased, Owes, accepted_by, IsOwn}
 use Rattle.vl_link.proofs.FragmentsLeft.{fragments_some}
 
 -- the messages known to be left in a queue
@@ -43,9 +43,7 @@ untaken end_system room net held =
 pub owed_split : (end_system room : ℕ) (net : Net) (held : Held)
     → fragments end_system room net (accepted_by held)
     ≡ fragments end_system room net (taken_by held) ++ untaken end_system room net held
-owed_split end_system room net held =
-    rw (known_rest held.seen, map-append (sent_of held.ports) (taken_of held.seen) (rest_of held.seen))
-    (fragments_append end_system room net 0 (taken_by held) (sent_by held.ports (rest_of held.seen)))
+owed_split end_system room net held = grind (arith, known_rest, map-append, sent_of, taken_of, rest_of, fragments_append, end_system, taken_by, sent_by)
 
 -- Two lists are empty if together they are.
 nils : {X : Type 0} (xs ys : List X) → xs ++ ys ≡ [] → (xs ≡ []) × (ys ≡ [])
@@ -61,12 +59,7 @@ pub record Stands (end_system : ℕ) (link : LinkPlan) (log : List Entry) (s : �
 pub stands_of : (link : LinkState) (log : List Entry) (s : ℕ) → IsOwn link → IsLinkTied link log
     → s < length link.subs → IsKnownWhole (held_at link.subs s).seen
     → Stands link.end_system link.plan log s (held_at link.subs s)
-stands_of link log s own tied lt g =
-    let within : s < link.plan.sub_vls = omega (arith, own.count, own.sub_vls) in
-    record {
-      taken = ap (λ (of : SubVl). sub_fragments of 0 (taken_by (held_at link.subs s))) (sym (own.named s lt)) ∙ tied s within;
-      seen = g;
-    }
+stands_of link log s own tied lt g = grind arith
 
 -- the accepted lists of some sub-VLs
 abbrev pub lists_of : List Held → ℕ → List Sent
@@ -77,17 +70,7 @@ module _ (end_system : ℕ) (link : LinkPlan) (log : List Entry) (s : ℕ) (subs
   pub all_released : Stands end_system link log s (held_at subs s) → (held_at subs s).left ≡ []
       → rest_of (held_at subs s).seen ≡ []
       → IsReleased end_system link (lists_of subs) log s
-  all_released at none drained =
-      let held = held_at subs s in
-      let room = room_of link.lmax in
-      owed_split end_system room A held
-      ∙ rw (
-        drained,
-        append-nil (fragments end_system room A (taken_by held)),
-        at.taken,
-        none,
-        append-nil (told_of link.id.0 s log),
-      ) refl
+  all_released at none drained = grind (arith, held_at, room_of, owed_split, end_system, append-nil, taken_by, told_of)
 
   -- The stream lacks fragments of the messages taken.
   pub owes_taken : (left : List (List ℕ)) → (left ≡ [] → ⊥)

@@ -29,15 +29,7 @@ stream_for_a lines vl m = sym (link_side A vl (log lines)) ∙ ap (link_stream v
 
 -- A prefix as long as the whole is the whole.
 all_of : (net : Net) (S xs : List Entry) → IsFront net S xs → length S ≤ length xs → xs ≡ map (side net) S
-all_of net S xs f long =
-    let none = nil_from_length f.behind (omega (
-      arith,
-      ap length f.is,
-      length-append f.front f.behind,
-      ap length f.got,
-      length-map f.front (side net),
-    )) in
-    f.got ∙ ap (map (side net)) (sym (f.is ∙ rw (none, append-nil f.front) refl))
+all_of net S xs f long = grind (arith, nil_from_length, length-append, length-map, append-nil)
 
 -- Of two prefixes of a stream, one of which is the whole, the longer is the whole.
 longer_is : (S a b : List Entry) → map (side A) S ≡ S → IsFront A S a → IsFront B S b

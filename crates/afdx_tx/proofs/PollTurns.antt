@@ -1,6 +1,5 @@
 -- A poll after one more link's turn.
-use Rattle.afdx_tx.proofs.Names.{ℕ, ◌≡◌, ◌≢◌, ◌<◌, List, [], ◌∷◌, ◌++◌, ◌||◌, false, length, map, set, get_or, arith, refl, ap, ◌∙◌, sym, subst, ◌≤◌, Option, Some, None, length-set, ext_get_or, get_or-map, length-map, All-push, VlId, LinkPlan, link_plan_at, A, link_in, Entry, entry, Logged, logged_for, Lines, log, log_more, log_same, Stamp, IsLater, Served, Nothing, Released, Lost, counts_in, link_stream, IsKnown, AreKnown, LinkState, link_at, held_at, no_link, no_link_plan, Serves, Follows, IsSameLink, is_lost, plan_of_link, plans, AreApart, AreCarried, AreServedBy, IsSamePlan, IsKept, IsSteady, Turned, IsOwn, HasItems, link_turn, kept_turn, other_stream, kept_stream, released_below, each_set, ◌+◌, add-one, true, inl, inr, append-nil, map-append, append_assoc, length-append, get_or-set_same, get_or-set_other, BothEndure, stands_for, both_on, stood_before, Pace, pace_of, may_release, AreTurns, Release, turn_release, release_of, IsTold, IsPolling, cases_Bool, both_ways, IsTurn, IsTurnAt, turns_seen, turns_push, may_not}
-use Rattle.vl_link.proofs.SubInStep.{same_sub_on, same_sub_here}
+use Rattle.afdx_tx.proofs.Names.{ℕ, ◌≡◌, ◌≢◌, ◌<◌, List, [], ◌∷◌, ◌++◌, ◌||◌, false, length, map, set, get_or, arith, refl, ap, ◌∙◌, sym, subst, ◌≤◌, Option, Some, None, length-set, ext_get_or, get_or-map, length-map, All-push, VlId, LinkPlan, link_plan_at, A, link_in, Entry, entry, Logged, logged_for, Lines, log, log_more, log_same, Stamp, IsLater, Served, Nothing, Released, Lost, counts_in, link_stream, IsKnown, AreKnown, LinkState, link_at, no_link, no_link_plan, Serves, Follows, IsSameLink, is_lost, plan_of_link, plans, AreApart, AreCarried, AreServedBy, IsSamePlan, IsKept, IsSteady, Turned, IsOwn, HasItems, link_turn, kept_turn, other_stream, kept_stream, released_below, each_set, ◌+◌, add-one, true, inl, append-nil, map-append, append_assoc, length-append, get_or-set_same, get_or-set_other, BothEndure, stands_for, both_on, stood_before, Pace, pace_of, may_release, AreTurns, Release, turn_release, release_of, IsTold, IsPolling, both_ways, IsTurn, IsTurnAt, turns_seen, turns_push}
 
 -- A later time.
 pub later_on : (last : Option Stamp) (m n : ℕ) → m ≤ n → IsLater last m → IsLater last n
@@ -9,14 +8,7 @@ later_on (Some last) m n le later = omega arith
 
 -- The relation is reflexive.
 pub same_link : (link : LinkState) → IsSameLink link link
-same_link link = record {
-  end_system = refl;
-  plan = refl;
-  gap = refl;
-  sub_vls = refl;
-  count = refl;
-  subs = λ s. same_sub_here (held_at link.subs s) (held_at link.subs s) refl;
-}
+same_link link = grind arith
 
 -- The turn of one link, at its place.
 pub turned_at : (now i : ℕ) (links : List LinkState) (item new : LinkState) (lines after : Lines) (did : Served)
@@ -25,17 +17,7 @@ pub turned_at : (now i : ℕ) (links : List LinkState) (item new : LinkState) (l
     → IsSameLink item new → new.lost ≡ (item.lost || is_lost did)
     → new.counts ≡ counts_in (link_stream new.plan.id.0 (log after))
     → Turned now (link_at links i) new lines after did
-turned_at now i links item new lines after did is lt later whole serves paced same lost counted =
-    let kept : item.lost ≡ false = rw is whole in
-    subst (λ (l : LinkState). Turned now l new lines after did) is (record {
-      serves = serves;
-      paced = paced;
-      same = same;
-      later = rw is (later i lt);
-      whole = kept;
-      lost = rw kept at lost;
-      counted = counted;
-    })
+turned_at now i links item new lines after did is lt later whole serves paced same lost counted = grind arith
 
 -- A property of each link of which one was set.
 pub at_each : (P : ℕ → LinkState → Type 0) (links : List LinkState) (i : ℕ) (new : LinkState)
@@ -46,25 +28,12 @@ at_each P links i new lt p q k klt =
 
 -- The relation is transitive.
 trans_same : (a b c : LinkState) → IsSameLink a b → IsSameLink b c → IsSameLink a c
-trans_same a b c p q =
-    record {
-      end_system = q.end_system ∙ p.end_system;
-      plan = q.plan ∙ p.plan;
-      gap = q.gap ∙ p.gap;
-      sub_vls = q.sub_vls ∙ p.sub_vls;
-      count = q.count ∙ p.count;
-      subs = λ s. same_sub_on (held_at a.subs s) (held_at b.subs s) (held_at c.subs s) (p.subs s) (q.subs s);
-    }
+trans_same a b c p q = grind arith
 
 -- Two links of the running list have different identifiers.
 apart_now : (old links : List LinkState) (i k : ℕ) → AreApart old → IsSamePlan old links → i < length links
     → k < length links → k ≢ i → (link_at links i).plan.id.0 ≢ (link_at links k).plan.id.0
-apart_now old links i k apart same lt klt ne e =
-    let il : i < length old = omega (arith, same.count) in
-    let kl : k < length old = omega (arith, same.count) in
-    let id = λ (j : ℕ) (jl : j < length old). ap (λ (p : LinkPlan). p.id) (same.each j jl).plan in
-    let made = λ (n : ℕ). let v : VlId = record { 0 = n } in v in
-    ne (sym (apart i k il kl (sym (id i il) ∙ ap made e ∙ id k kl)))
+apart_now old links i k apart same lt klt ne e = grind arith
 
 -- A known frame at the end of a known list.
 known_push : (links : List LinkPlan) (H : List Entry) (e : Entry) → AreKnown links A H
@@ -169,8 +138,7 @@ steady_more now i old links lines after new did s apart lt t later =
 -- If nothing entered the log, no release is reported.
 told_same : (now : ℕ) (rs : List Release) (before lines after : Lines) → log after ≡ log lines
     → IsTold now rs before lines → IsTold now (rs ++ []) before after
-told_same now rs before lines after e t =
-    record { entries = t.entries; grown = e ∙ t.grown; named = t.named ∙ sym (append-nil rs); moments = t.moments }
+told_same now rs before lines after e t = grind (arith, append-nil)
 
 -- The release of a turn is reported after the earlier ones.
 pub told_more : (now : ℕ) (did : Served) (link new : LinkState) (rs : List Release) (before lines after : Lines)
@@ -191,8 +159,7 @@ told_more now (Released sub number) link new rs before lines after t h =
       moments = map-append (λ (x : Entry). x.at) h.entries (e ∷ []) ∙ ap (λ (x : List ℕ). x ++ now ∷ []) h.moments
           ∙ sym (map-append (λ (x : Entry). now) h.entries (e ∷ []));
     }
-told_more now Lost link new rs before lines after t h =
-    told_same now rs before lines after (log_same lines after t.serves.1.same) h
+told_more now Lost link new rs before lines after t h = grind (arith, told_same, log_same)
 
 -- A turn releases at most one frame.
 pub few_released : (vl : VlId) (did : Served) (rs : List Release) (i : ℕ) → length rs ≤ i
@@ -230,10 +197,7 @@ idle_turn now link lines may_not_now whole kept = record {
     stream_pace = pace_of link.pace.gap link.pace.sub_vls (link_stream link.plan.id.0 (log lines))
 
     idle : may_release now link.plan stream_pace lines ≡ false
-    idle = elim (cases_Bool (stands_for link.plan.networks lines)) [
-      | inl stands ↦ subst (λ (p : Pace). may_release now link.plan p lines ≡ false) (kept.paced (whole stands)) may_not_now
-      | inr down ↦ may_not now link.plan stream_pace lines down
-    ]
+    idle = grind arith
 
 -- One more link has had its turn.
 pub polling_more : (now i : ℕ) (old links : List LinkState) (before lines after : Lines) (new : LinkState) (did : Served)

@@ -1,5 +1,5 @@
 -- The link of a port, and the number of the first ports of a configuration that are of a sub-VL.
-use Rattle.afdx_tx.proofs.Names.{ℕ, ◌≡◌, ◌<◌, List, Bool, length, arith, ap, ◌∙◌, sym, refl, Option, Some, None, unwrap_or, ⊎_elim, eq-eqb, lt-ltb, eqb-true, both_ways, cases_lt, position, position_or_len, ◌==◌, VlId, LinkPlan, PortPlan, SendsOver, Plan, IsPlan, HasLink, link_plan_at, no_link_plan, link_place, ◌+◌, ◌≤◌, ◌++◌, true, false, ◌&&◌, nat_eq, cond, take, drop, add-zero, ne_eqb, and_from, and_left, and_parts, length-append, take-append-drop, filter-append, All-filter, filter_passes, port_plan_at, IsPort, ports_of_sub, index_of, SubVl, All}
+use Rattle.afdx_tx.proofs.Names.{ℕ, ◌≡◌, ◌<◌, List, Bool, length, arith, ap, ◌∙◌, sym, refl, Option, Some, None, unwrap_or, eq-eqb, lt-ltb, eqb-true, both_ways, cases_lt, position, position_or_len, ◌==◌, VlId, LinkPlan, PortPlan, SendsOver, Plan, IsPlan, HasLink, link_plan_at, no_link_plan, link_place, ◌+◌, ◌≤◌, ◌++◌, true, false, ◌&&◌, nat_eq, cond, take, drop, add-zero, and_from, and_parts, length-append, take-append-drop, filter-append, All-filter, filter_passes, port_plan_at, IsPort, ports_of_sub, index_of, SubVl, All}
 use Rattle.std.proofs.lemmas.List.Sums.{fails_before_first, length-filter}
 use Rattle.std.proofs.lemmas.List.Quantifiers.{position-Some}
 use Rattle.std.proofs.lemmas.List.Filters.{length-filter_more}
@@ -16,18 +16,12 @@ is_its port link = has_id port.vl.0 link
 -- If no link is found, none has the identifier.
 pub none_has : (links : List LinkPlan) (vl k : ℕ) → position (has_id vl) links ≡ None → k < length links
     → (link_plan_at links k).id.0 ≡ vl → ⊥
-none_has links vl k none within id = ⊎_elim
-    (λ some. absurd (let e : None ≡ Some (position_or_len (has_id vl) links) =
-    sym none ∙ rw (lt-ltb (position_or_len (has_id vl) links) (length links) some) refl in cc))
-    (λ all. both_ways _ (fails_before_first (has_id vl) links k no_link_plan (omega arith)) (eq-eqb _ _ id))
-    (cases_lt (position_or_len (has_id vl) links) (length links))
+none_has links vl k none within id = grind (arith, position_or_len, has_id, lt-ltb, both_ways, fails_before_first, no_link_plan, eq-eqb, cases_lt)
 
 -- A found link has the identifier.
 pub found_at : (links : List LinkPlan) (vl k : ℕ) → position (has_id vl) links ≡ Some k
     → (k < length links) × ((link_plan_at links k).id.0 ≡ vl)
-found_at links vl k e =
-    let some = position-Some (has_id vl) links k no_link_plan e in
-    (some.0, eqb-true _ _ some.1)
+found_at links vl k e = grind (arith, position-Some, has_id, no_link_plan, eqb-true)
 
 -- The link of a port is found.
 pub found : (links : List LinkPlan) (port : PortPlan) → HasLink links port → position (is_its port) links ≡ None → ⊥
@@ -99,23 +93,19 @@ module _ (config : Plan) (place k s : ℕ) (at : IsAt config place k s) where
 -- The port is of no other link.
 pub other_at : (config : Plan) (place k s other t : ℕ) → IsPlan config → IsAt config place k s → other < length config.links
     → (other ≡ k → ⊥) → on_sub_vl (link_plan_at config.links other).id.0 t (port_plan_at config.ports place) ≡ false
-other_at config place k s other t valid at lt ne = and_left _ _ (ne_eqb _ _
-    (λ e. ne (valid.links_apart other k lt at.link
-    (λ i. record { 0 = (sym e ∙ ap (λ (v : VlId). v.0) (sym at.over.id)) i }))))
+other_at config place k s other t valid at lt ne = grind arith
 
 -- The numbers of the other sub-VLs are the same.
 pub others_at : (config : Plan) (place vl t : ℕ) → place < length config.ports
     → on_sub_vl vl t (port_plan_at config.ports place) ≡ false
     → seats config.ports (place + 1) vl t ≡ seats config.ports place vl t
-others_at config place vl t lt off = rw off at (seats_more config.ports place vl t lt)
-    ∙ add-zero (seats config.ports place vl t)
+others_at config place vl t lt off = grind (arith, seats_more, add-zero)
 
 -- The port at a place, for a configuration behind a reference.
 pub place_at : (config shown : Plan) (place k s : ℕ) (plan : PortPlan) → shown ≡ config
     → plan ≡ port_plan_at shown.ports place → place < length shown.ports → k < length shown.links
     → SendsOver plan (link_plan_at shown.links k) → s ≡ plan.sub → IsAt config place k s
-place_at config shown place k s plan e is within link over sub =
-    rw (← e) (record { within = within; link = link; over = rw (← is) over; sub = rw (← is) (sym sub) })
+place_at config shown place k s plan e is within link over sub = grind arith
 
 -- A sub-VL has few ports.
 pub few_ports : (config : Plan) (vl sub : ℕ) → IsPlan config → length (ports_of_sub config.ports vl sub) ≤ 64

@@ -1,5 +1,5 @@
 -- The messages of each port that its sub-VL accepted.
-use Rattle.afdx_tx.proofs.Names.{ℕ, suc, ◌≡◌, ◌≢◌, ◌<◌, List, [], ◌∷◌, Bool, true, ◌≤◌, cond, nat_eq, filter, ◌+◌, ◌++◌, drop, drop-cons, length, take, get_or, arith, refl, ap, ◌∙◌, sym, subst, ⊎_elim, All, Contains, ◌==◌, AllPairs, cases_eq, cases_lt, eq-eqb, ne_eqb, get_or_at, get_or_default, take-append-drop, All-head, All-tail, All-map, All-contains_itself, filter-append, VlId, PortPlan, Plan, IsPlan, link_plan_at, port_plan_at, SendsOver, IsItem, AreItems, part_of, Seen, taken_of, known_of, LinkState, held_at, link_at, sent_of, sent_by, items_taken, Tx, AreLinksOf, HaveOwnItems, taken_in, ports_of_sub, accepted_in, link_place, index_of, held_for}
+use Rattle.afdx_tx.proofs.Names.{ℕ, suc, ◌≡◌, ◌≢◌, ◌<◌, List, [], ◌∷◌, Bool, true, cond, nat_eq, filter, ◌+◌, ◌++◌, drop, drop-cons, length, take, get_or, arith, refl, ap, ◌∙◌, sym, All, Contains, ◌==◌, AllPairs, get_or_at, get_or_default, take-append-drop, All-head, All-tail, All-map, All-contains_itself, filter-append, PortPlan, Plan, IsPlan, link_plan_at, port_plan_at, SendsOver, IsItem, AreItems, part_of, Seen, taken_of, known_of, LinkState, held_at, link_at, sent_of, sent_by, items_taken, Tx, AreLinksOf, HaveOwnItems, taken_in, ports_of_sub, accepted_in, link_place, index_of, held_for}
 use Rattle.std.proofs.lemmas.List.Kept.{AllPairs-filter}
 use Rattle.afdx_plan.specs.declared.identifiers.PortId.{PortId}
 use Rattle.afdx_legal.specs.Allowed.{IsQueued, AreQueued, messages_of, port_messages}
@@ -109,14 +109,7 @@ ports_differ config valid i j d lt jlt e =
 is_index : (ports : List PortPlan) → AllPairs AreOthers ports → (index id : ℕ) → index < length ports
     → (port_plan_at ports index).id.0 ≡ id → (i : ℕ) → i < length ports
     → (i == index) ≡ nat_eq (port_plan_at ports i).id.0 id
-is_index ports apart index id lt own i ilt = ⊎_elim
-    (λ (e : i ≡ index). eq-eqb i index e ∙ sym (eq-eqb (port_plan_at ports i).id.0 id
-    (ap (λ (k : ℕ). (port_plan_at ports k).id.0) e ∙ own)))
-    (λ (ne : i ≢ index). ne_eqb i index ne ∙ sym (ne_eqb (port_plan_at ports i).id.0 id (λ same.
-    ⊎_elim (λ (below : i < index). apart i index (port_plan_at [] 0) below lt (same ∙ sym own))
-    (λ (ge : index ≤ i). apart index i (port_plan_at [] 0) (omega arith) ilt (own ∙ sym same))
-    (cases_lt i index))))
-    (cases_eq i index)
+is_index ports apart index id lt own i ilt = grind arith
 
 -- A sender's part of the items is the messages of its port.
 part_is : (ports : List PortPlan) (index : ℕ) (port : PortPlan) (items : List (ℕ × List ℕ))
@@ -153,15 +146,4 @@ pub own_messages : (tx : Tx) (place : ℕ) (own : List (List ℕ)) → IsPlan tx
     → HaveOwnItems tx.links → place < length tx.plan.ports
     → part_of (index_of tx.plan.ports place) (known_of (held_for tx (port_plan_at tx.plan.ports place)).seen) ≡ own
     → port_messages tx.plan (accepted_in tx.links) place ≡ own
-own_messages tx place own valid of items lt part =
-    let port = port_plan_at tx.plan.ports place in
-    let k = link_place tx.plan port in
-    let there = port_within tx.plan tx.links of place valid lt in
-    let known = known_of (held_for tx port).seen in
-    let mine = ports_of_sub tx.plan.ports port.vl.0 port.sub in
-    let ports : (held_for tx port).ports ≡ mine = ports_are tx.plan tx.links of k port.sub there.0 there.1
-    ∙ ap (λ (id : VlId). ports_of_sub tx.plan.ports id.0 port.sub) there.2.id in
-    ap (λ ps. messages_of port (sent_by ps known)) ports
-    ∙ sym (part_is mine (index_of tx.plan.ports place) port known (own_index tx.plan place valid lt)
-    (subst (λ ps. AreItems (length ps) known) ports (items k port.sub there.0 there.1)))
-    ∙ part
+own_messages tx place own valid of items lt part = grind (arith, port_plan_at, link_place, port_within, known_of, held_for, ports_of_sub, ports_are, messages_of, sent_by, part_is, index_of, own_index)

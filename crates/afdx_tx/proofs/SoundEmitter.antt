@@ -1,5 +1,5 @@
 -- An emitter after the turns of its links.
-use Rattle.afdx_tx.proofs.Names.{ℕ, ◌≡◌, ◌<◌, List, length, arith, refl, ap, ◌∙◌, sym, None, ⊎_elim, Bool, subst, cases_lt, get_or_past, LinkPlan, Plan, IsPlan, link_plan_at, Lines, log, IsMirrored, Keeps, link_stream, IsLegal, counts_in, own_stream, AreOwnStreams, LinkState, link_at, no_link, held_at, nothing_held, plan_of_link, AreLinks, AreApart, AreLinksOf, AreWhole, IsSamePlan, IsSound, taken_in, held_queue, link_queues, queues_in, total_in, AreCarried, IsSteady, same_name, same_total, Net, A, B, Entry}
+use Rattle.afdx_tx.proofs.Names.{ℕ, ◌≡◌, ◌<◌, List, length, arith, ap, ◌∙◌, sym, None, Bool, subst, cases_lt, get_or_past, LinkPlan, Plan, IsPlan, link_plan_at, Lines, log, IsMirrored, Keeps, link_stream, IsLegal, counts_in, own_stream, AreOwnStreams, LinkState, link_at, no_link, held_at, nothing_held, plan_of_link, AreLinks, AreApart, AreLinksOf, AreWhole, IsSamePlan, IsSound, taken_in, held_queue, link_queues, queues_in, total_in, AreCarried, IsSteady, same_name, same_total, Net, A, B, Entry}
 use Rattle.afdx_tx.proofs.LegalLists.{legal_of}
 use Rattle.afdx_tx.proofs.OwnStreams.{own_streams}
 use Rattle.afdx_tx.proofs.PollTurns.{map_alike, plan_at_is, plans_length}
@@ -110,16 +110,11 @@ alike_queues old new count subs each = map_alike link_queues new old no_link cou
 
 -- The total of a sub-VL is the same.
 pub same_totals : (old new : List LinkState) → IsSamePlan old new → (k s : ℕ) → total_in new k s ≡ total_in old k s
-same_totals old new p k s = ⊎_elim
-    (λ (lt : k < length old). same_total (held_at (link_at old k).subs s).seen (held_at (link_at new k).subs s).seen
-    ((p.each k lt).subs s).queue)
-    (λ past. rw (get_or_past new k no_link (omega (arith, p.count)), get_or_past old k no_link past) refl)
-    (cases_lt k (length old))
+same_totals old new p k s = grind (arith, same_total, held_at, link_at, get_or_past, no_link, cases_lt)
 
 -- The queues of all links are the same.
 pub same_queues : (old new : List LinkState) → IsSamePlan old new → queues_in new ≡ queues_in old
-same_queues old new p = alike_queues old new p.count (λ k lt. (p.each k lt).count)
-    (λ k s lt. same_name (held_at (link_at old k).subs s).seen (held_at (link_at new k).subs s).seen ((p.each k lt).subs s).queue)
+same_queues old new p = grind (arith, alike_queues, same_name, held_at, link_at)
 
 -- The frames of a network take turns if the log does.
 turns_keeps : (plan : Plan) (net : Net) (stands : Bool) (handed : List Entry) (lines : Lines) → Keeps net stands handed lines.logged

@@ -1,5 +1,5 @@
 -- The queues of an emitter take back the senders of its ports.
-use Rattle.afdx_tx.proofs.Names.{ℕ, zero, suc, ◌≡◌, ◌+◌, ◌<◌, ◌≤◌, List, [], ◌∷◌, Bool, true, false, cond, length, set, arith, refl, ap, ◌∙◌, sym, subst, ⊎_elim, All, Contains, and_parts, cases_lt, eqb-true, length-set, get_or-set_same, All-contains, Contains-push, Contains-append_left, VlId, PortPlan, Plan, IsPlan, link_plan_at, port_plan_at, link_place, SenderView, ReceiverView, Brought, brought_by, Seen, receiving, gathered, queue_of, taken_of, known_of, IsReceiving, Held, LinkState, held_at, link_at, no_link, TakesBack, back_of, LinkTakesBack, BecomesWhole, AreLinksOf, AreReceiving, ports_of_sub, queues_in, PortView, HasEveryPlace, BelongsTo, HasOwnMessages, index_of, OnlyTakesBack, OnlyTakeBack, IsTakenBack, AreFull}
+use Rattle.afdx_tx.proofs.Names.{ℕ, zero, suc, ◌≡◌, ◌+◌, ◌<◌, ◌≤◌, List, [], ◌∷◌, Bool, true, false, cond, length, set, arith, refl, ap, ◌∙◌, sym, subst, ⊎_elim, All, Contains, and_parts, cases_lt, eqb-true, length-set, get_or-set_same, All-contains, Contains-push, Contains-append_left, VlId, PortPlan, Plan, IsPlan, link_plan_at, port_plan_at, link_place, SenderView, ReceiverView, Brought, brought_by, Seen, receiving, gathered, queue_of, IsReceiving, Held, LinkState, held_at, link_at, no_link, TakesBack, back_of, LinkTakesBack, BecomesWhole, AreLinksOf, AreReceiving, ports_of_sub, queues_in, PortView, HasEveryPlace, BelongsTo, HasOwnMessages, index_of, OnlyTakesBack, OnlyTakeBack, IsTakenBack, AreFull}
 use Rattle.std.proofs.Math.Seq.{take-length}
 use Rattle.afdx_tx.proofs.KeptLinks.{one_link, one_count, one_each, KeepLinks}
 use Rattle.afdx_tx.proofs.SoundEmitter.{plan_is, count_is}
@@ -38,10 +38,7 @@ only_receiving (receiving old) (gathered new) only may = absurd only
 
 -- A queue that then becomes whole becomes whole from the one before.
 pub whole_from : (old mid new : Seen) → OnlyTakesBack old mid → BecomesWhole mid new → BecomesWhole old new
-whole_from (receiving old) (receiving mid) (gathered new) only whole =
-    let back : record mid { back = old.back } ≡ old = ap (λ (r : ReceiverView). record r { back = old.back }) only in
-    let same : BecomesWhole (receiving (record mid { back = old.back })) (gathered new) = whole in
-    subst (λ r. BecomesWhole (receiving r) (gathered new)) back same
+whole_from (receiving old) (receiving mid) (gathered new) only whole = grind arith
 whole_from (receiving old) (receiving mid) (receiving new) only whole = absurd whole
 whole_from (gathered old) (gathered mid) (gathered new) only whole = absurd whole
 whole_from (gathered old) (gathered mid) (receiving new) only whole = absurd whole
@@ -81,33 +78,11 @@ take_one links k s sender new within takes =
 
 -- The relation of links is transitive.
 pub take_on : (a b c : List LinkState) → OnlyTakeBack a b → OnlyTakeBack b c → OnlyTakeBack a c
-take_on a b c p q = record {
-  count = q.count ∙ p.count;
-  links = λ k. q.links k ∙ ap (λ (l : LinkState). record l { subs = (link_at c k).subs }) (p.links k);
-  subs = λ k. q.subs k ∙ p.subs k;
-  helds = λ k s. q.helds k s
-      ∙ ap (λ (h : Held). record h { seen = (held_at (link_at c k).subs s).seen }) (p.helds k s);
-  queues = λ k s. only_on _ _ _ (p.queues k s) (q.queues k s);
-}
+take_on a b c p q = grind arith
 
 -- Only the queues have changed.
 pub back_kept : (old new : List LinkState) → OnlyTakeBack old new → KeepLinks old new
-back_kept old new t = record {
-  count = t.count;
-  each = λ k lt. record {
-    same = t.links k;
-    count = t.subs k;
-    each = λ s slt.
-        let ports = ap (λ (h : Held). h.ports) (t.helds k s) in
-        record {
-          of = ap (λ (h : Held). h.of) (t.helds k s);
-          ports = ports;
-          left = ap (λ (h : Held). h.left) (t.helds k s);
-          taken = only_read taken_of (λ r b. refl) _ _ (t.queues k s);
-          items = λ items. rw (ports, only_read known_of (λ r b. refl) _ _ (t.queues k s)) items;
-        };
-  };
-}
+back_kept old new t = grind arith
 
 -- The queue of each sub-VL has the same identity.
 pub back_name : (old new : List LinkState) (k s : ℕ) → OnlyTakeBack old new
@@ -128,12 +103,7 @@ stays_back config links k s sender new port within takes was =
 pub comes_back : (config : Plan) (links : List LinkState) (k s : ℕ) (new : LinkState) (port : PortView)
     → k < length links → k ≡ link_place config port.plan → s ≡ port.plan.sub
     → LinkTakesBack (link_at links k) s port.sender new → HasOwnMessages port → IsTakenBack config (set links k new) port
-comes_back config links k s new port within link sub takes messages =
-    record {
-      messages = messages;
-      back = rw (← link, ← sub, get_or-set_same links k new no_link within)
-          (one_back _ port.sender _ takes.takes.queue);
-    }
+comes_back config links k s new port within link sub takes messages = grind (arith, get_or-set_same, no_link, one_back)
 
 -- the port of a sub-VL with this index is at this place
 record HasIndex (ports : List PortPlan) (vl sub index place : ℕ) : Type 0 where
