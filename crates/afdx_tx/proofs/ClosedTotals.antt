@@ -1,30 +1,20 @@
 -- The total of a closed sub-VL is the number of messages that it accepted.
-use Rattle.afdx_tx.proofs.Names.{ℕ, ◌≡◌, ◌<◌, List, length, refl, ap, ◌∙◌, sym, ⊎_elim, Option, Some, None, get_or, cases_lt, get_or_past, length-map, Seen, receiving, gathered, known_of, total_of, Held, LinkState, held_at, link_at, no_link, nothing_held, sent_of, Closes, BecomesWhole, Tx, total_in, PortView, accepted_in, ClosesTx, IsGatheredTx}
+use Rattle.std.proofs.Common.{arith}
+use Rattle.afdx_tx.proofs.Names.{ℕ, ◌≡◌, ◌<◌, List, length, refl, ◌∙◌, Option, Some, None, get_or, cases_lt, get_or_past, length-map, Seen, known_of, total_of, Held, LinkState, held_at, link_at, no_link, nothing_held, sent_of, BecomesWhole, Tx, total_in, PortView, accepted_in, ClosesTx, IsGatheredTx}
 
 -- A closed sub-VL has its total.
 pub closes_total : (old : Tx) (vl sub total : ℕ) (new : Tx) (c : ClosesTx old vl sub total new)
     → total_in new.links c.place sub ≡ Some total
-closes_total old vl sub total new c =
-    closed_total (held_at (link_at old.links c.place).subs sub).seen total (held_at (link_at new.links c.place).subs sub).seen
-    c.closes.closes.queue
-  where
-    closed_total : (before : Seen) (total : ℕ) (after : Seen) → Closes before total after → total_of after ≡ Some total
-    closed_total (receiving before) total after c = ap total_of c.0
-    closed_total (gathered before) total after c = absurd c
+closes_total old vl sub total new c = grind arith
 
 -- An element with a total is within the list.
 shows : {X : Type 0} (show : X → Option ℕ) (xs : List X) (k total : ℕ) (past : X) → show past ≡ None
     → show (get_or xs k past) ≡ Some total → k < length xs
-shows show xs k total past none shown = ⊎_elim (λ lt. lt)
-    (λ ge. absurd (let e : None ≡ Some total = sym none ∙ ap show (sym (get_or_past xs k past ge)) ∙ shown in cc))
-    (cases_lt k (length xs))
+shows show xs k total past none shown = grind (arith, get_or_past, cases_lt)
 
 -- The total of a queue is the number of its known messages once it is gathered.
 whole_total : (old new : Seen) (total : ℕ) → BecomesWhole old new → total_of old ≡ Some total → length (known_of new) ≡ total
-whole_total (receiving old) (gathered new) total b shown =
-    sym (rw shown at b.3)
-whole_total (gathered old) (gathered new) total b shown = absurd b
-whole_total old new total b shown = absurd b
+whole_total old new total b shown = grind arith
 
 -- The total of a sub-VL is the number of its accepted messages once the ports are gathered.
 pub total_whole : (old : Tx) (ports : List PortView) (new : Tx) (k s total : ℕ) → IsGatheredTx old ports new

@@ -1,5 +1,5 @@
 -- A sound emitter's frames conform, for the accepted messages too.
-use Rattle.afdx_tx.proofs.Names.{Accepted, Tx, IsSound, Conforms, ℕ, ◌≡◌, ◌<◌, List, ◌++◌, length, arith, refl, ap, ◌∙◌, sym, subst, Result, Ok, Err, OnOk, append_assoc, get_or_past, cases_lt, Plan, link_plan_at, room_of, Net, A, B, Entry, Seen, receiving, gathered, IsKnownWhole, IsSameQueue, known_of, told_of, IsLegalOn, IsLegal, Held, LinkState, held_at, link_at, nothing_held, no_link, IsSameSub, IsSamePlan, taken_in, AreGathered, accepted_by, accepted_in, Bool, true, false, AreLinksOf, IsRun, BothEndure}
+use Rattle.afdx_tx.proofs.Names.{Accepted, Tx, IsSound, Conforms, ℕ, ◌≡◌, ◌<◌, List, ◌++◌, length, arith, refl, ap, ◌∙◌, sym, subst, Result, Ok, Err, OnOk, append_assoc, get_or_past, cases_lt, Plan, link_plan_at, room_of, Net, A, B, Entry, Seen, IsKnownWhole, IsSameQueue, known_of, told_of, IsLegalOn, IsLegal, Held, LinkState, held_at, link_at, nothing_held, no_link, IsSameSub, IsSamePlan, taken_in, AreGathered, accepted_by, accepted_in, Bool, true, false, AreLinksOf, IsRun, BothEndure}
 use Rattle.afdx_legal.specs.Allowed.{AreAllowed}
 use Rattle.afdx_tx.proofs.PortMessages.{taken_allowed, accepted_allowed}
 use Rattle.afdx_tx.specs.Phases.{AreOfPorts, IsInPhase, KeepsMessages, Runs, StaysLawful}
@@ -10,9 +10,7 @@ use Rattle.afdx_tx.proofs.OwedFragments.{owed_split, untaken}
 
 -- The same queue has the same accepted messages.
 same_known : (old new : Seen) → IsKnownWhole old → IsSameQueue old new → known_of new ≡ known_of old
-same_known (receiving r) new g e = absurd g
-same_known (gathered q) (gathered h) g e = e.1
-same_known (gathered q) (receiving s) g e = absurd e
+same_known old new g e = grind arith
 
 -- A sub-VL after the last has no queue.
 gathered_past : (links : List LinkState) (k s : ℕ) → AreGathered links → IsKnownWhole (held_at (link_at links k).subs s).seen
@@ -33,9 +31,7 @@ accepted_same old new p g = λ i. λ k s. each_same old new p g k s i
 
 -- The same queue is known whole.
 same_whole : (old new : Seen) → IsKnownWhole old → IsSameQueue old new → IsKnownWhole new
-same_whole (receiving r) new g e = absurd g
-same_whole (gathered q) (gathered h) g e = tt
-same_whole (gathered q) (receiving s) g e = absurd e
+same_whole old new g e = grind arith
 
 -- A network's frames are legal for the accepted messages.
 legal_on : (plan : Plan) (links : List LinkState) (net : Net) (handed : List Entry)
@@ -110,14 +106,7 @@ keeps_messages true old new same is = accepted_same _ _ same is.0
 pub stays_lawful : (phase : Bool) (old new : Tx) → IsInPhase phase old.plan old.links → IsSamePlan old.links new.links
     → Conforms new → BothEndure old.lines new.lines → new.plan ≡ old.plan → new.board ≡ old.board
     → StaysLawful phase old new
-stays_lawful phase old new is same conforms endure plan board = record {
-  conforms = conforms;
-  allowed = of_ports phase new conforms (still_in phase old.plan new.plan old.links new.links plan same is);
-  endure = endure;
-  plan = plan;
-  board = board;
-  messages = keeps_messages phase old new same is;
-}
+stays_lawful phase old new is same conforms endure plan board = grind (arith, of_ports, still_in, keeps_messages)
 
 -- The links had the turns of their phase.
 pub runs : (phase : Bool) (now : ℕ) (old new : Tx) → AreLinksOf old.plan old.links → IsInPhase phase old.plan old.links

@@ -56,19 +56,12 @@ own_turn now end_system link accepted lines after Lost due t stands = absurd (bo
 other_turn : (now end_system : ℕ) (link : LinkPlan) (accepted : ℕ → List Sent) (lines after : Lines) (did : Served) (vl : ℕ)
     → link.id.0 ≢ vl → Drains now end_system link accepted lines after did
     → link_stream vl (log after) ≡ link_stream vl (log lines)
-other_turn now end_system link accepted lines after Nothing vl ne t = grind arith
-other_turn now end_system link accepted lines after (Released sub number) vl ne t =
-    let r = t.2 in
-    stream_same link.id.0 vl now sub number link.networks r.frame lines after r.of r.enters ne
-other_turn now end_system link accepted lines after Lost vl ne t = grind (arith, link_stream, log_same)
+other_turn now end_system link accepted lines after did vl ne t = grind (arith, stream_same, link_stream, log_same)
 
 -- A network that is down after turns was down before, or failed.
 drains_endure : (now : ℕ) (plan : Plan) (accepted : Accepted) (i many : ℕ) (lines after : Lines)
     → AreTurns (DrainsAt now plan accepted) i many lines after → BothEndure lines after
-drains_endure now plan accepted i many lines after t =
-    turns_endure (DrainsAt now plan accepted) i many lines after
-    (λ k before behind did turn. turn_endures now (link_plan_at plan.links k) (pace_in (link_plan_at plan.links k) (log before))
-    (accepted_view plan.end_system (link_plan_at plan.links k) (accepted k) (log before)) before behind did turn) t
+drains_endure now plan accepted i many lines after turns = grind (arith, turns_endure, turn_endures, link_plan_at, pace_in, log, accepted_view)
 
 -- the link at this place isn't that one
 abbrev IsOther : Plan → ℕ → ℕ → Type 0

@@ -1,14 +1,8 @@
 -- The accepted messages of each port that was gathered.
-use Rattle.afdx_tx.proofs.Names.{ℕ, ◌≡◌, ◌<◌, List, length, arith, ap, ◌∙◌, subst, Contains, All-contains, PortPlan, Plan, IsPlan, port_plan_at, link_place, part_of, brought_by, known_of, IsKnownWhole, receiving, gathered, Seen, taken_of, LinkState, held_at, link_at, back_of, BecomesWhole, Lines, Tx, AreLinksOf, HaveOwnItems, IsSound, queues_in, PortView, BelongsTo, AreOpenedWith, HasPlace, HasEveryPlace, index_of, AreGathered, OnlyTakeBack, IsTakenBack, GathersLinks, GathersPorts, IsGatheredLink, IsGatheredTx, HasOwnPart, held_for, Published, Reaches}
+use Rattle.afdx_tx.proofs.Names.{ℕ, ◌≡◌, ◌<◌, List, length, arith, ap, ◌∙◌, subst, Contains, All-contains, PortPlan, Plan, IsPlan, port_plan_at, link_place, part_of, brought_by, known_of, LinkState, held_at, link_at, back_of, Lines, Tx, AreLinksOf, HaveOwnItems, IsSound, queues_in, PortView, BelongsTo, AreOpenedWith, HasPlace, HasEveryPlace, index_of, AreGathered, OnlyTakeBack, IsTakenBack, GathersLinks, GathersPorts, IsGatheredLink, IsGatheredTx, HasOwnPart, held_for, Published, Reaches}
 use Rattle.afdx_tx.proofs.PortMessages.{own_messages, port_within}
 use Rattle.afdx_tx.proofs.KeptLinks.{kept_sound, KeepLinks}
 use Rattle.afdx_tx.proofs.TakenBack.{back_kept}
-
--- The messages taken are the same.
-taken_same : (old new : Seen) → BecomesWhole old new → taken_of new ≡ taken_of old
-taken_same (receiving old) (gathered new) b = b.0
-taken_same (gathered old) (gathered new) b = absurd b
-taken_same old new b = absurd b
 
 -- Only the queues have changed.
 gathered_kept : (old new : List LinkState) → GathersLinks old new → KeepLinks old new
@@ -18,12 +12,6 @@ gathered_kept old new g = grind arith
 link_gathered : (old mid new : List LinkState) (k : ℕ) → k < length mid → OnlyTakeBack old mid → GathersLinks mid new
     → IsGatheredLink (link_at old k) (link_at new k)
 link_gathered old mid new k lt takes gathers = grind arith
-
--- A queue that became whole is known whole.
-is_known : (old new : Seen) → BecomesWhole old new → IsKnownWhole new
-is_known (receiving old) (gathered new) whole = tt
-is_known (gathered old) (gathered new) whole = tt
-is_known old new whole = absurd whole
 
 -- Each queue is gathered.
 pub all_gathered : (mid new : List LinkState) → GathersLinks mid new → AreGathered new

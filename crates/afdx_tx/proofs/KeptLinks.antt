@@ -1,6 +1,5 @@
 -- Links one of whose sub-VLs has changed, or only their queues, and the counts published of them.
-use Rattle.afdx_tx.proofs.Names.{ℕ, ◌≡◌, ◌<◌, ◌++◌, List, length, arith, refl, ap, ◌∙◌, sym, subst, Plan, Entry, Lines, log, taken_of, Held, LinkState, held_at, link_at, HasOwnItems, IsLinkOfPlan, taken_by, sub_fragments, IsKept, IsTied, IsBehind, IsSound, ◌≢◌, set, ⊎_elim, cases_eq, length-set, get_or-set_other, each_set, no_link, nothing_held, ◌≤◌, [], zero-le, link_in, zeros, NoFieldFalls, Published, published, last_of, with_entry, link_stream, with_append, AreKept, IsSamePlan, Reaches, PublishesCounts}
-use Rattle.status_board.specs.declared.counts.Counts.{Counts}
+use Rattle.afdx_tx.proofs.Names.{ℕ, ◌≡◌, ◌<◌, ◌++◌, List, length, arith, refl, ap, ◌∙◌, sym, subst, Plan, Entry, Lines, log, taken_of, Held, LinkState, held_at, link_at, HasOwnItems, IsLinkOfPlan, taken_by, sub_fragments, IsKept, IsTied, IsBehind, IsSound, ◌≢◌, set, ⊎_elim, cases_eq, length-set, get_or-set_other, each_set, no_link, nothing_held, ◌≤◌, [], link_in, NoFieldFalls, Published, published, last_of, with_entry, link_stream, with_append, AreKept, IsSamePlan, Reaches, PublishesCounts}
 use Rattle.status_board.proofs.Histories.{last_or-push, falls_not_same, falls_not_through}
 use Rattle.afdx_legal.proofs.CountingLemmas.{counts_more}
 use Rattle.afdx_tx.proofs.SoundEmitter.{plans_after}
@@ -144,13 +143,7 @@ reaches_all links old new count p = grind (arith, last_or-push, link_at, falls_n
 -- With nothing published, no published count is above the current one.
 pub reaches_none : (links : List LinkState) (board : List Published) → length board ≡ length links
     → ((k : ℕ) → (published board k).history ≡ []) → Reaches links board
-reaches_none links board count none = record {
-  count = count;
-  each = λ k under. rw (none k) least;
-}
-  where
-    least : {c : Counts} → NoFieldFalls zeros c
-    least = record { frames = zero-le; bytes = zero-le; messages = zero-le; last = zero-le }
+reaches_none links board count none = grind arith
 
 -- No count of a link falls as the log grows.
 rises_on : (old new : LinkState) (before entries after : List Entry) → new.plan ≡ old.plan → after ≡ before ++ entries

@@ -33,14 +33,7 @@ spaced_side net gap before (x ∷ xs) ys h = (
 
 -- A known frame, turned to a network, is known there.
 known_twin : (links : List LinkPlan) (net : Net) (e : Entry) → IsKnown links A e.frame → IsKnown links net (side net e).frame
-known_twin links net e h = record {
-  size = omega (arith, length-twin net e.frame, h.size);
-  k = h.k;
-  within = h.within;
-  link = twin_link net e.frame ∙ h.link;
-  of_sub = omega (arith, twin_sub net e.frame, h.of_sub);
-  interface = twin_interface net e.frame h.size;
-}
+known_twin links net e h = grind (arith, length-twin, twin_link, twin_sub, twin_interface)
 
 -- A network's entries of a known log are known there.
 known_sent : (links : List LinkPlan) (net : Net) (ls : List Logged) (rest : List Entry)

@@ -1,5 +1,5 @@
 -- The turns of a drain, and whether all accepted messages are wholly released.
-use Rattle.afdx_tx.proofs.Names.{ℕ, ◌≡◌, ◌<◌, List, [], Bool, true, false, length, arith, refl, ap, ◌∙◌, sym, ⊎_elim, both_ways, cases_Bool, Plan, Entry, Lines, log, SubVl, Seen, receiving, gathered, IsKnownWhole, TellsDrained, LinkState, held_at, link_at, no_link, sub_fragments, taken_by, IsKept, IsSound, Owes, IsLinkDone, IsAllDone, AreGathered, accepted_in, TellsAllDone, IsOwn, subst, and_parts, Served, AreTurns, held_view, IsTurn, IsTurnAt, IsRun, AreLinksOf, accepted_view, pace_in, Drains, DrainsAt, IsDrained, turn_seen, turns_seen}
+use Rattle.afdx_tx.proofs.Names.{ℕ, ◌≡◌, ◌<◌, List, [], Bool, true, false, length, arith, refl, both_ways, cases_Bool, Plan, Entry, Lines, log, Seen, receiving, gathered, IsKnownWhole, TellsDrained, LinkState, held_at, link_at, no_link, sub_fragments, taken_by, IsKept, IsSound, Owes, IsLinkDone, IsAllDone, AreGathered, accepted_in, TellsAllDone, IsOwn, subst, and_parts, Served, AreTurns, held_view, IsTurn, IsTurnAt, IsRun, AreLinksOf, accepted_view, pace_in, Drains, DrainsAt, IsDrained, turn_seen, turns_seen}
 use Rattle.vl_link.specs.LinkDone.{HasSubLeft, TellsLinkDone}
 use Rattle.afdx_tx.proofs.SoundEmitter.{plan_is, count_is}
 use Rattle.afdx_tx.proofs.OwedFragments.{rest_of, stands_of, lists_of, all_released, owes_taken, owes_rest, owes_not, passed_released, asked_owes}
@@ -52,11 +52,7 @@ drained_rest (gathered g) d = d
 -- A link that is done is wholly released.
 link_done : (link : LinkState) (log : List Entry) → IsOwn link → IsKept link log → IsLinkGathered link
     → TellsLinkDone true link → IsLinkDone link.end_system link.plan (lists_of link.subs) log
-link_done link log own kept g d s lt =
-    let within : s < length link.subs = omega (arith, own.count, own.sub_vls) in
-    all_released link.end_system link.plan log s link.subs (stands_of link log s own (kept.tied d.0) within
-    (g s within))
-    (d.1 s within).0 (drained_rest (held_at link.subs s).seen (d.1 s within).1)
+link_done link log own kept known done = grind (arith, all_released, stands_of, drained_rest, held_at)
 
 -- A queue that isn't drained has something left.
 left_rest : (seen : Seen) → IsKnownWhole seen → TellsDrained false seen → rest_of seen ≡ [] → ⊥
@@ -71,30 +67,12 @@ pub record HasOwing (link : LinkState) (log : List Entry) : Type 0 where
 
 -- If a frame was lost.
 lost_owes : (link : LinkState) (log : List Entry) → IsOwn link → IsKept link log → link.lost ≡ true → HasOwing link log
-lost_owes link log own kept lost =
-    let b = kept.behind lost in
-    let within : b.sub < length link.subs = omega (arith, b.within, own.count, own.sub_vls) in
-    record {
-      sub = b.sub;
-      within = b.within;
-      owes = owes_taken link.end_system link.plan log b.sub link.subs b.behind.left b.behind.some
-          (ap (λ (of : SubVl). sub_fragments of 0 (taken_by (held_at link.subs b.sub))) (sym (own.named b.sub within)) ∙ b.behind.ahead);
-    }
+lost_owes link log own kept lost = grind (arith, owes_taken, sub_fragments, taken_by, held_at)
 
 -- If something is left and no frame was lost.
 left_owes : (link : LinkState) (log : List Entry) → IsOwn link → IsKept link log → IsLinkGathered link
     → HasSubLeft link.subs → link.lost ≡ false → HasOwing link log
-left_owes link log own kept g d whole =
-    let within : d.sub < link.plan.sub_vls = omega (arith, d.within, own.count, own.sub_vls) in
-    let at = stands_of link log d.sub own (kept.tied whole) d.within (g d.sub d.within) in
-    record {
-      sub = d.sub;
-      within = within;
-      owes = ⊎_elim
-          (λ some. owes_taken link.end_system link.plan log d.sub link.subs (held_at link.subs d.sub).left some at.taken)
-          (λ not. owes_rest link.end_system link.plan log d.sub link.subs at (left_rest (held_at link.subs d.sub).seen at.seen not))
-          d.left;
-    }
+left_owes link log own kept known left whole = grind (arith, stands_of, owes_taken, held_at, owes_rest, left_rest)
 
 -- A link that isn't done owes a fragment.
 link_owes : (link : LinkState) (log : List Entry) → IsOwn link → IsKept link log → IsLinkGathered link
@@ -105,10 +83,7 @@ link_owes link log own kept g d = grind (arith, cases_Bool, lost_owes, left_owes
 done_true : (config : Plan) (links : List LinkState) (lines : Lines) (moment : ℕ)
     → IsSound config links lines moment → AreGathered links → TellsAllDone true links
     → IsAllDone config (accepted_in links) (log lines)
-done_true config links lines moment sound g d k lt =
-    let here : k < length links = omega (arith, lt, count_is config links sound.of_plan) in
-    rw (plan_is config links sound.of_plan k here, ← sound.of_plan.end_system k here)
-    (link_done (link_at links k) (log lines) (sound.of_plan.each k here) (sound.kept k here) (λ s slt. g k s here slt) (d k no_link (omega arith) here))
+done_true config links lines moment sound known done = grind (arith, count_is, plan_is, link_done, link_at, log, no_link)
 
 -- If one isn't, some message isn't wholly released.
 done_false : (config : Plan) (links : List LinkState) (lines : Lines) (moment : ℕ)

@@ -1,5 +1,5 @@
 -- No accepted message is longer than its port may send.
-use Rattle.afdx_tx.proofs.Names.{ℕ, ◌≡◌, ◌<◌, ◌≤◌, List, [], ◌∷◌, Bool, true, false, length, get_or, nat_eq, refl, ap, ◌∙◌, sym, subst, All, eq-eqb, both_ways, get_or_default, All-nil, All-head, All-tail, All-contains, Plan, IsPlan, HasLink, link_plan_at, port_plan_at, link_place, PortPlan, Sent, accepted_in, Tx, IsGatheredTx, PortView, AreOpenedWith}
+use Rattle.afdx_tx.proofs.Names.{ℕ, ◌≡◌, ◌<◌, ◌≤◌, arith, List, [], ◌∷◌, Bool, true, false, length, get_or, nat_eq, refl, ap, ◌∙◌, sym, subst, All, eq-eqb, both_ways, get_or_default, All-nil, All-head, All-tail, All-contains, Plan, IsPlan, link_plan_at, port_plan_at, link_place, PortPlan, Sent, accepted_in, Tx, IsGatheredTx, PortView, AreOpenedWith}
 use Rattle.std.specs.Prelude.{if◌then◌else◌}
 use Rattle.std.proofs.lemmas.List.Elements.{All-cons}
 use Rattle.afdx_legal.specs.Allowed.{IsQueued, AreQueued, AreAllowed, messages_of}
@@ -9,12 +9,7 @@ use Rattle.afdx_tx.proofs.PortLink.{link_within}
 -- the link of a message's port is the one that it was accepted over
 pub own_link : (plan : Plan) (k s : ℕ) (sent : Sent) → IsPlan plan → k < length plan.links → IsQueued plan k s sent
     → link_place plan sent.port ≡ k
-own_link plan k s sent valid inside of =
-    let has : HasLink plan.links sent.port = All-contains (HasLink plan.links) plan.ports sent.port valid.linked of.port in
-    let there = link_within plan sent.port valid has in
-    let id : (link_plan_at plan.links (link_place plan sent.port)).id ≡ (link_plan_at plan.links k).id =
-    there.1.id ∙ (λ i. record { 0 = of.over i }) in
-    valid.links_apart (link_place plan sent.port) k there.0 inside id
+own_link plan k s sent valid inside of = grind (arith, link_within, link_plan_at, link_place)
 
 -- what holds of a port's messages in a list holds of each message of the port there
 of_port : (port : PortPlan) (P : List ℕ → Type 0) (xs : List Sent) → All P (messages_of port xs)

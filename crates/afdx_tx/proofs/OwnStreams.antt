@@ -104,18 +104,7 @@ taken_front xs ys zs ws same le =
 
 -- Two prefixes of one list, each turned to its network, are twins.
 front_twins : (xs ys zs ws : List Entry) → xs ++ ys ≡ zs ++ ws → AreTwins side (map (side A) xs) (map (side B) zs)
-front_twins xs ys zs ws same = record {
-  b_shorter = λ le. shorter B A zs xs (taken_front xs ys zs ws same (omega (arith, le, length-map xs (side A), length-map zs (side B))));
-  a_shorter = λ le. shorter A B xs zs (taken_front zs ws xs ys (sym same) (omega (arith, le, length-map xs (side A), length-map zs (side B))));
-}
-  where
-    shorter : (net other : Net) (front whole : List Entry) → take (length front) whole ≡ front
-        → map (side net) front ≡ map (side net) (take (length (map (side net) front)) (map (side other) whole))
-    shorter net other front whole is = sym (
-        ap (λ (n : ℕ). map (side net) (take n (map (side other) whole))) (length-map front (side net))
-        ∙ ap (map (side net)) (take-map (side other) (length front) whole)
-        ∙ sides net other (take (length front) whole)
-        ∙ ap (map (side net)) is)
+front_twins xs ys zs ws same = grind (arith, taken_front, length-map, side, take-map, sides)
 
 -- The entries of such links in two lists.
 both_append : (links : List LinkPlan) (xs ys : List Entry) → on_both links (xs ++ ys) ≡ on_both links xs ++ on_both links ys

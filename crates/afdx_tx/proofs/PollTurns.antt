@@ -1,5 +1,5 @@
 -- A poll after one more link's turn.
-use Rattle.afdx_tx.proofs.Names.{ℕ, ◌≡◌, ◌≢◌, ◌<◌, List, [], ◌∷◌, ◌++◌, ◌||◌, false, length, map, set, get_or, arith, refl, ap, ◌∙◌, sym, subst, ◌≤◌, Option, Some, None, length-set, ext_get_or, get_or-map, length-map, All-push, VlId, LinkPlan, link_plan_at, A, link_in, Entry, entry, Logged, logged_for, Lines, log, log_more, log_same, Stamp, IsLater, Served, Nothing, Released, Lost, counts_in, link_stream, IsKnown, AreKnown, LinkState, link_at, no_link, no_link_plan, Serves, Follows, IsSameLink, is_lost, plan_of_link, plans, AreApart, AreCarried, AreServedBy, IsSamePlan, IsKept, IsSteady, Turned, IsOwn, HasItems, link_turn, kept_turn, other_stream, kept_stream, released_below, each_set, ◌+◌, add-one, true, inl, append-nil, map-append, append_assoc, length-append, get_or-set_same, get_or-set_other, BothEndure, stands_for, both_on, stood_before, Pace, pace_of, may_release, AreTurns, Release, turn_release, release_of, IsTold, IsPolling, both_ways, IsTurn, IsTurnAt, turns_seen, turns_push}
+use Rattle.afdx_tx.proofs.Names.{ℕ, ◌≡◌, ◌≢◌, ◌<◌, List, [], ◌∷◌, ◌++◌, ◌||◌, false, length, map, set, get_or, arith, refl, ap, ◌∙◌, sym, subst, ◌≤◌, Option, Some, None, length-set, ext_get_or, get_or-map, length-map, All-push, VlId, LinkPlan, link_plan_at, A, link_in, Entry, entry, Logged, logged_for, Lines, log, log_more, log_same, Stamp, IsLater, Served, Nothing, Released, Lost, counts_in, link_stream, IsKnown, AreKnown, LinkState, link_at, no_link, no_link_plan, Serves, Follows, IsSameLink, is_lost, plan_of_link, plans, AreApart, AreCarried, AreServedBy, IsSamePlan, IsKept, IsSteady, Turned, IsOwn, HasItems, link_turn, kept_turn, other_stream, kept_stream, released_below, each_set, ◌+◌, add-one, true, inl, append-nil, map-append, append_assoc, length-append, get_or-set_same, get_or-set_other, BothEndure, stands_for, both_on, stood_before, Pace, pace_of, may_release, AreTurns, Release, turn_release, release_of, IsTold, IsPolling, IsTurn, IsTurnAt, turns_seen, turns_push}
 
 -- A later time.
 pub later_on : (last : Option Stamp) (m n : ℕ) → m ≤ n → IsLater last m → IsLater last n
@@ -164,16 +164,12 @@ told_more now Lost link new rs before lines after t h = grind (arith, told_same,
 -- A turn releases at most one frame.
 pub few_released : (vl : VlId) (did : Served) (rs : List Release) (i : ℕ) → length rs ≤ i
     → length (rs ++ turn_release vl did) ≤ i + 1
-few_released vl Nothing rs i h = omega (arith, length-append rs [])
-few_released vl (Released sub number) rs i h = omega (arith, length-append rs (turn_release vl (Released sub number)))
-few_released vl Lost rs i h = omega (arith, length-append rs [])
+few_released vl did rs i few = grind (arith, length-append, turn_release)
 
 -- All networks of a link that lost a frame are down.
 whole_after : (now : ℕ) (did : Served) (link new : LinkState) (lines after : Lines)
     → Turned now link new lines after did → stands_for new.plan.networks after ≡ true → new.lost ≡ false
-whole_after now Nothing link new lines after t stands = t.lost
-whole_after now (Released sub number) link new lines after t stands = t.lost
-whole_after now Lost link new lines after t stands = absurd (both_ways _ t.serves.1.down (rw t.same.plan at stands))
+whole_after now did link new lines after t stands = grind arith
 
 -- One turn more.
 turns_on : (now i : ℕ) (old news : List LinkState) (before lines after : Lines) (did : Served)

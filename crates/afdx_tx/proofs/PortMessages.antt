@@ -1,7 +1,6 @@
 -- The messages of each port that its sub-VL accepted.
 use Rattle.afdx_tx.proofs.Names.{ℕ, suc, ◌≡◌, ◌≢◌, ◌<◌, List, [], ◌∷◌, Bool, true, cond, nat_eq, filter, ◌+◌, ◌++◌, drop, drop-cons, length, take, get_or, arith, refl, ap, ◌∙◌, sym, All, Contains, ◌==◌, AllPairs, get_or_at, get_or_default, take-append-drop, All-head, All-tail, All-map, All-contains_itself, filter-append, PortPlan, Plan, IsPlan, link_plan_at, port_plan_at, SendsOver, IsItem, AreItems, part_of, Seen, taken_of, known_of, LinkState, held_at, link_at, sent_of, sent_by, items_taken, Tx, AreLinksOf, HaveOwnItems, taken_in, ports_of_sub, accepted_in, link_place, index_of, held_for}
 use Rattle.std.proofs.lemmas.List.Kept.{AllPairs-filter}
-use Rattle.afdx_plan.specs.declared.identifiers.PortId.{PortId}
 use Rattle.afdx_legal.specs.Allowed.{IsQueued, AreQueued, messages_of, port_messages}
 use Rattle.afdx_tx.proofs.SoundEmitter.{plan_is, count_is}
 use Rattle.afdx_tx.proofs.PortLink.{link_within, of_sub, on_own, on_sub_vl, seats_more, seats_within}
@@ -96,14 +95,7 @@ AreOthers p q = p.id.0 ≢ q.id.0
 
 -- No two ports of a valid plan have the same identifier.
 ports_differ : (config : Plan) → IsPlan config → AllPairs AreOthers config.ports
-ports_differ config valid i j d lt jlt e =
-    let made = λ (n : ℕ). let v : PortId = record { 0 = n } in v in
-    let ilt : i < length config.ports = omega arith in
-    let none = port_plan_at [] 0 in
-    let same : i ≡ j = valid.ports_apart i j ilt jlt
-    (ap (λ (p : PortPlan). p.id) (sym (get_or_default config.ports i d none ilt)) ∙ ap made e
-    ∙ ap (λ (p : PortPlan). p.id) (get_or_default config.ports j d none jlt)) in
-    omega arith
+ports_differ config valid = grind (arith, port_plan_at, get_or_default)
 
 -- Among ports with different identifiers, the index determines the identifier.
 is_index : (ports : List PortPlan) → AllPairs AreOthers ports → (index id : ℕ) → index < length ports

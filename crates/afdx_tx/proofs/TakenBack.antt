@@ -1,5 +1,5 @@
 -- The queues of an emitter take back the senders of its ports.
-use Rattle.afdx_tx.proofs.Names.{ℕ, zero, suc, ◌≡◌, ◌+◌, ◌<◌, ◌≤◌, List, [], ◌∷◌, Bool, true, false, cond, length, set, arith, refl, ap, ◌∙◌, sym, subst, ⊎_elim, All, Contains, and_parts, cases_lt, eqb-true, length-set, get_or-set_same, All-contains, Contains-push, Contains-append_left, VlId, PortPlan, Plan, IsPlan, link_plan_at, port_plan_at, link_place, SenderView, ReceiverView, Brought, brought_by, Seen, receiving, gathered, queue_of, IsReceiving, Held, LinkState, held_at, link_at, no_link, TakesBack, back_of, LinkTakesBack, BecomesWhole, AreLinksOf, AreReceiving, ports_of_sub, queues_in, PortView, HasEveryPlace, BelongsTo, HasOwnMessages, index_of, OnlyTakesBack, OnlyTakeBack, IsTakenBack, AreFull}
+use Rattle.afdx_tx.proofs.Names.{ℕ, zero, suc, ◌≡◌, ◌+◌, ◌<◌, ◌≤◌, List, [], ◌∷◌, Bool, true, false, cond, length, set, arith, refl, ap, ◌∙◌, sym, subst, ⊎_elim, All, Contains, and_parts, cases_lt, eqb-true, length-set, get_or-set_same, All-contains, Contains-push, Contains-append_left, VlId, PortPlan, Plan, IsPlan, link_plan_at, port_plan_at, link_place, SenderView, ReceiverView, Brought, brought_by, Seen, receiving, gathered, queue_of, IsReceiving, Held, LinkState, held_at, link_at, no_link, TakesBack, back_of, LinkTakesBack, AreLinksOf, AreReceiving, ports_of_sub, queues_in, PortView, HasEveryPlace, BelongsTo, HasOwnMessages, index_of, OnlyTakesBack, OnlyTakeBack, IsTakenBack, AreFull}
 use Rattle.std.proofs.Math.Seq.{take-length}
 use Rattle.afdx_tx.proofs.KeptLinks.{one_link, one_count, one_each, KeepLinks}
 use Rattle.afdx_tx.proofs.SoundEmitter.{plan_is, count_is}
@@ -15,34 +15,14 @@ only_one : (old : Seen) (sender : SenderView) (new : Seen) → TakesBack old sen
 only_one (receiving old) sender new takes = subst (OnlyTakesBack (receiving old)) (sym takes) refl
 only_one (gathered old) sender new takes = absurd takes
 
--- The relation is transitive.
-only_on : (a b c : Seen) → OnlyTakesBack a b → OnlyTakesBack b c → OnlyTakesBack a c
-only_on (receiving a) (receiving b) (receiving c) p q = q ∙ ap (λ (r : ReceiverView). record r { back = c.back }) p
-only_on (gathered a) (gathered b) (gathered c) p q = q ∙ p
-only_on (receiving a) (receiving b) (gathered c) p q = absurd q
-only_on (gathered a) (gathered b) (receiving c) p q = absurd q
-only_on a b c p q = absurd p
-
 -- All else of the queue is the same.
 only_read : {X : Type 0} (read : Seen → X) → ((r : ReceiverView) (back : List Brought) → read (receiving (record r { back = back })) ≡ read (receiving r))
     → (old new : Seen) → OnlyTakesBack old new → read new ≡ read old
-only_read read same (receiving old) (receiving new) only = ap (λ r. read (receiving r)) only ∙ same old new.back
-only_read read same (gathered old) (gathered new) only = ap (λ g. read (gathered g)) only
-only_read read same old new only = absurd only
+only_read read same old new only = grind arith
 
 -- The queue still has its receiver.
 only_receiving : (old new : Seen) → OnlyTakesBack old new → IsReceiving old → IsReceiving new
-only_receiving (receiving old) (receiving new) only may = tt
-only_receiving (gathered old) new only may = absurd may
-only_receiving (receiving old) (gathered new) only may = absurd only
-
--- A queue that then becomes whole becomes whole from the one before.
-pub whole_from : (old mid new : Seen) → OnlyTakesBack old mid → BecomesWhole mid new → BecomesWhole old new
-whole_from (receiving old) (receiving mid) (gathered new) only whole = grind arith
-whole_from (receiving old) (receiving mid) (receiving new) only whole = absurd whole
-whole_from (gathered old) (gathered mid) (gathered new) only whole = absurd whole
-whole_from (gathered old) (gathered mid) (receiving new) only whole = absurd whole
-whole_from old mid new only whole = absurd only
+only_receiving old new only may = grind arith
 
 -- The senders that were back still are, and so is this one.
 more_back : (old : Seen) (sender : SenderView) (new : Seen) (b : Brought) → TakesBack old sender new → Contains (back_of old) b
