@@ -1,18 +1,16 @@
 -- Findings added one after the other.
 use Rattle.std.proofs.lemmas.Grind.{flat_map-append}
-use Rattle.std.proofs.lemmas.List.{take_more, length-take, take-append-le}
-use Rattle.std.proofs.Common.{length-append}
-use Rattle.std.proofs.lemmas.List.Elements.{filter-append}
-use Rattle.afdx_config.proofs.Names.{◌≡◌, ℕ, ◌+◌, ◌<◌, List, [], ◌∷◌, ◌++◌, length, get_or, refl, ap, sym, ◌∙◌, map, filter, append_assoc, option_map_or}
-use Rattle.afdx_config.proofs.Names.{append-nil, ◌⊎◌, inl, inr, NoSuchVl, NoSuchSub, SamplingTooLong, misfit_findings, take, take_all, arith, ◌≤◌, Adds, flat_map, flat_map-map, table_view, string_bytes}
-use Rattle.afdx_config.proofs.Names.{keys_of, String, Global, LinkRow, PortRow, Bool, Cells, cells_of, Place, Link, Port, Top, EndSystem, Field, Finding, has, key_finding, each_row}
-use Rattle.afdx_config.proofs.Names.{ConfigFault, member_keys, finding_of, field_of, IsDocument, Document, data_of, document_fields, end_fields, link_fields}
+use Rattle.std.proofs.lemmas.List.{take_more, length-take}
+use Rattle.afdx_config.proofs.Names.{◌≡◌, ℕ, ◌+◌, ◌<◌, List, [], ◌∷◌, ◌++◌, length, get_or, refl, ap, sym, ◌∙◌, map, append_assoc, option_map_or}
+use Rattle.afdx_config.proofs.Names.{append-nil, take, arith, Adds, flat_map, flat_map-map, table_view, string_bytes}
+use Rattle.afdx_config.proofs.Names.{keys_of, String, Global, LinkRow, PortRow, Bool, cells_of, Place, Link, Port, Top, EndSystem, Field, Finding, key_finding, each_row}
+use Rattle.afdx_config.proofs.Names.{field_of, IsDocument, Document, data_of, document_fields, end_fields, link_fields}
 use Rattle.afdx_config.proofs.Names.{port_fields, fields_in, field_fault, key_fault, is_version_2, map-map, BTreeMap, Value}
 use Rattle.afdx_config.specs.declared.format.Field.{Field as Key}
 use Rattle.afdx_config.specs.declared.findings.Found.{Found as Kept}
 use Rattle.afdx_config.proofs.Names.{None}
 use Rattle.afdx_config.specs.Cells.{link_row, port_row}
-use Rattle.afdx_config.specs.Findings.{lines_limit, plan_findings, table_findings, value_findings}
+use Rattle.afdx_config.specs.Findings.{table_findings, value_findings}
 use Rattle.afdx_config.proofs.SectionLemmas.{Found, keys_are, option_maps}
 
 -- no finding
@@ -22,29 +20,6 @@ adds_none found all holds = rw (append-nil all) holds
 -- one after the other
 pub adds_both : (old mid new : Kept) (a b : List Finding) → Adds old mid a → Adds mid new b → Adds old new (a ++ b)
 adds_both old mid new a b p q all holds = rw (← append_assoc all a b) (q (all ++ a) (p all holds))
-
--- one finding, which is kept
-pub adds_kept : (old new : Kept) (x : Finding) → new.count ≡ old.count + 1 → old.count < lines_limit
-    → map finding_of new.first.items ≡ map finding_of old.first.items ++ x ∷ [] → Adds old new (x ∷ [])
-adds_kept old new x counted room kept all holds =
-    let size = holds.count_is in
-    let more : length (all ++ x ∷ []) ≡ length all + 1 = length-append all (x ∷ []) in
-    record {
-      first_are = kept ∙ ap (λ ys. ys ++ x ∷ []) (holds.first_are ∙ take_all lines_limit all (omega arith))
-          ∙ sym (take_all lines_limit (all ++ x ∷ []) (omega arith));
-      count_is = omega arith;
-    }
-
--- one finding, which is only counted
-pub adds_full : (old new : Kept) (x : Finding) → new.count ≡ old.count + 1 → lines_limit ≤ old.count
-    → new.first ≡ old.first → Adds old new (x ∷ [])
-adds_full old new x counted full same all holds =
-    let size = holds.count_is in
-    let more : length (all ++ x ∷ []) ≡ length all + 1 = length-append all (x ∷ []) in
-    record {
-      first_are = ap (λ v. map finding_of v.items) same ∙ holds.first_are ∙ sym (take-append-le lines_limit all (x ∷ []) (omega arith));
-      count_is = omega arith;
-    }
 
 -- the findings of the rows after others
 each_row-append : {A : Type 0} (each : ℕ → A → List Finding) (k : ℕ) (xs ys : List A)
@@ -82,75 +57,43 @@ pub each_more : {A : Type 0} (each : A → List Finding) (xs : List A) (x : A) (
 each_more each xs x old mid new before this =
     rw (flat_map-append each xs (x ∷ []), append-nil (each x)) (adds_both old mid new _ _ before this)
 
--- those of a fault among the findings of each element
-those_each : {A : Type 0} (wanted : ConfigFault) (each : A → List Finding) (xs : List A)
-    → filter (has wanted) (flat_map each xs) ≡ flat_map (λ x. filter (has wanted) (each x)) xs
-those_each wanted each [] = refl
-those_each wanted each (x ∷ xs) = filter-append (has wanted) (each x) (flat_map each xs) ∙ ap (λ ys. filter (has wanted) (each x) ++ ys) (those_each wanted each xs)
-
--- those of a fault among the findings of each row
-those_rows : {A : Type 0} (wanted : ConfigFault) (each : ℕ → A → List Finding) (k : ℕ) (rows : List A)
-    → filter (has wanted) (each_row each k rows) ≡ each_row (λ j x. filter (has wanted) (each j x)) k rows
-those_rows wanted each k [] = refl
-those_rows wanted each k (x ∷ xs) = filter-append (has wanted) (each k x) (each_row each (k + 1) xs)
-    ∙ ap (λ ys. filter (has wanted) (each k x) ++ ys) (those_rows wanted each (k + 1) xs)
-
 -- rows of other rows
 pub each_row-map : {A B : Type 0} (each : ℕ → B → List Finding) (f : A → B) (k : ℕ) (rows : List A)
     → each_row each k (map f rows) ≡ each_row (λ j x. each j (f x)) k rows
 each_row-map each f k [] = refl
 each_row-map each f k (x ∷ xs) = ap (λ ys. each k (f x) ++ ys) (each_row-map each f (k + 1) xs)
 
--- the findings of a table that have a fault
-pub table_all : (wanted : ConfigFault) (place : Place) (fields : List Key) (table : BTreeMap (String Global) Value) (old mid new : Kept)
-    → Adds old mid (flat_map (λ f. filter (has wanted) (key_finding place (field_of f).key (field_fault (table_view table) (field_of f)))) fields)
-    → Adds mid new (flat_map (λ k. filter (has wanted) (key_finding place (string_bytes k) (key_fault (map field_of fields) (string_bytes k)))) (keys_of table.entries))
-    → Adds old new (filter (has wanted) (table_findings place (map field_of fields) (table_view table)))
+-- the findings of a table
+pub table_all : (place : Place) (fields : List Key) (table : BTreeMap (String Global) Value) (old mid new : Kept)
+    → Adds old mid (flat_map (λ f. key_finding place (field_of f).key (field_fault (table_view table) (field_of f))) fields)
+    → Adds mid new (flat_map (λ k. key_finding place (string_bytes k) (key_fault (map field_of fields) (string_bytes k))) (keys_of table.entries))
+    → Adds old new (table_findings place (map field_of fields) (table_view table))
 unfolding table_findings
-table_all wanted place fields table old mid new p q =
+table_all place fields table old mid new p q =
     let of_field : Field → List Finding = λ f. key_finding place f.key (field_fault (table_view table) f) in
     let of_key : List ℕ → List Finding = λ k. key_finding place k (key_fault (map field_of fields) k) in
     rw (
-      filter-append (has wanted) (flat_map of_field (map field_of fields)) (flat_map of_key (member_keys (table_view table))),
       flat_map-map of_field field_of fields,
-      those_each wanted (λ f. of_field (field_of f)) fields,
       ← keys_are table.entries,
       flat_map-map of_key (λ (k : String Global). string_bytes k) (keys_of table.entries),
-      those_each wanted (λ (k : String Global). of_key (string_bytes k)) (keys_of table.entries),
     )
     (adds_both old mid new _ _ p q)
 
--- the findings of a fault in the values of a document
-pub values_all : (wanted : ConfigFault) (s : Document) (lf pf : List Field) (ls ps : List Found) (old one two three new : Kept)
+-- the findings of the values of a document
+pub values_all : (s : Document) (lf pf : List Field) (ls ps : List Found) (old one two three new : Kept)
     → IsDocument s → lf ≡ fields_in (is_version_2 (data_of s)) link_fields → pf ≡ fields_in (is_version_2 (data_of s)) port_fields
-    → ls ≡ s.links.items → ps ≡ s.ports.items → Adds old one (filter (has wanted) (table_findings Top document_fields (data_of s)))
-    → Adds one two (filter (has wanted) (option_map_or (λ t. table_findings EndSystem end_fields (table_view t.now)) s.end []))
-    → Adds two three (each_row (λ k t. filter (has wanted) (table_findings (Link k) lf (table_view t.now))) 1 ls)
-    → Adds three new (each_row (λ k t. filter (has wanted) (table_findings (Port k) pf (table_view t.now))) 1 ps)
-    → Adds old new (filter (has wanted) (value_findings (data_of s)))
+    → ls ≡ s.links.items → ps ≡ s.ports.items → Adds old one (table_findings Top document_fields (data_of s))
+    → Adds one two (option_map_or (λ t. table_findings EndSystem end_fields (table_view t.now)) s.end [])
+    → Adds two three (each_row (λ k t. table_findings (Link k) lf (table_view t.now)) 1 ls)
+    → Adds three new (each_row (λ k t. table_findings (Port k) pf (table_view t.now)) 1 ps)
+    → Adds old new (value_findings (data_of s))
 unfolding value_findings
-values_all wanted s lf pf ls ps old one two three new are lf_is pf_is ls_is ps_is p q r t =
+values_all s lf pf ls ps old one two three new are lf_is pf_is ls_is ps_is p q r t =
     let whole = adds_both old three new _ _ (adds_both old two three _ _ (adds_both old one two _ _ p q) r) t in
     let end = option_maps (table_findings EndSystem end_fields) (λ (t : Found). table_view t.now) s.end [] in
     let links = sym (each_row-map (λ k m. table_findings (Link k) lf m) (λ (t : Found). table_view t.now) 1 ls) in
     let ports = sym (each_row-map (λ k m. table_findings (Port k) pf m) (λ (t : Found). table_view t.now) 1 ps) in
-    rw (
-      ← those_rows wanted (λ k t. table_findings (Link k) lf (table_view t.now)) 1 ls,
-      ← those_rows wanted (λ k t. table_findings (Port k) pf (table_view t.now)) 1 ps,
-      ← filter-append,
-      ← filter-append,
-      ← filter-append,
-      ← end,
-      links,
-      ports,
-      lf_is,
-      pf_is,
-      ls_is,
-      ps_is,
-      are.end_is,
-      are.links_are,
-      are.ports_are,
-    ) at whole
+    rw (← end, links, ports, lf_is, pf_is, ls_is, ps_is, are.end_is, are.links_are, are.ports_are) at whole
 
 -- the links and ports of a document
 pub rows_are : (s : Document) (links : List LinkRow) (ports : List PortRow) (ls ps : List Found) (has_links has_ports : Bool) → IsDocument s
@@ -164,11 +107,3 @@ rows_are s links ports ls ps has_links has_ports are at_ls at_links at_ps at_por
     let ports_are = at_ports ∙ sym (map-map port_row (λ (t : Found). table_view t.now) ps)
     ∙ ap (λ ts. map port_row (map (λ (t : Found). table_view t.now) ts)) at_ps ∙ ap (map port_row) are.ports_are in
     rw (links_are, ports_are, hl, hp) refl
-
--- the findings of the ports that do not fit their link
-pub misfits_all : (fault : ConfigFault) (cells : Cells) → (fault ≡ NoSuchVl) ⊎ ((fault ≡ NoSuchSub) ⊎ (fault ≡ SamplingTooLong))
-    → plan_findings fault cells ≡ misfit_findings fault cells
-unfolding plan_findings
-misfits_all fault cells (inl is) = rw is refl
-misfits_all fault cells (inr (inl is)) = rw is refl
-misfits_all fault cells (inr (inr is)) = rw is refl

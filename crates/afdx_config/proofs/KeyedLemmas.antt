@@ -107,3 +107,9 @@ link_within links port (Some l) is = (position-Some (is_row_of port) links l (re
 pub misfit_vl : (cells : Cells) (port : PortRow) (named : Bool) (link : Option (Bor LinkRow)) → named ≡ all_named cells
     → option_copied link ≡ find (is_row_of port) cells.links → ((named && is_some port.vl) && is_none link) ≡ lacks_link cells port
 misfit_vl cells port named link at is = rw (at, any_found (is_row_of port) cells.links, ← is) (grind arith)
+
+-- the test of a port with a link
+pub of_link : (test : LinkRow → Bool) (link : Option (Bor LinkRow)) (found : Option LinkRow) → option_copied link ≡ found
+    → option_map_or (λ l. test l.now) link false ≡ option_map_or test found false
+of_link test None found is = rw (← is) refl
+of_link test (Some l) found is = rw (← is) refl

@@ -1,36 +1,25 @@
 -- The place of each finding has its fault.
-use Rattle.afdx_config.proofs.Names.{◌≡◌, ℕ, suc, ◌+◌, ◌-◌, ◌≤◌, List, [], ◌∷◌, ◌++◌, length, get_or, Bool, nat_lt}
+use Rattle.afdx_config.proofs.Names.{◌≡◌, ℕ, suc, ◌+◌, ◌-◌, ◌≤◌, List, [], ◌∷◌, length, get_or, Bool, nat_lt}
 use Rattle.afdx_config.proofs.Names.{true, false, ◌||◌, ◌&&◌, not, Option, Some, None, refl, ap, ◌∙◌, codes}
-use Rattle.afdx_config.proofs.Names.{arith, lit≤, bytes_eq, slice_get, position, list_any, flat_map, filter}
-use Rattle.afdx_config.proofs.Names.{AllByRecursion, option_map_or, or-true, All-from_recursion, recursion_from_All}
+use Rattle.afdx_config.proofs.Names.{arith, lit≤, bytes_eq, slice_get, position, list_any, flat_map}
+use Rattle.afdx_config.proofs.Names.{AllByRecursion, option_map_or, or-true, All-from_recursion}
 use Rattle.afdx_config.proofs.Names.{position-Some, slice_get-get_or, bytes_eq-Decides, eq-eqb, then_some, Members}
 use Rattle.afdx_config.proofs.Names.{ConfigFault, UnknownKey, DuplicateVl, DuplicatePort, NoSuchVl, NoSuchSub, SamplingTooLong, SameFlow, SharedUnicast, Limit, Place, Top}
-use Rattle.afdx_config.proofs.Names.{EndSystem, Link, Port, Finding, found, has, one_if, key_finding, each_row}
-use Rattle.afdx_config.proofs.Names.{member_keys, plan_key, pair_finding, pair_findings, ports_clash, same_link, same_port, same_flow, share_unicast}
-use Rattle.afdx_config.proofs.Names.{is_misfit, misfit_finding, misfit_findings, link_number, is_past_limit, crowd_finding, crowd_findings, is_wrong_count}
-use Rattle.afdx_config.proofs.Names.{Cells, cells_of, count_findings, findings_of, shown_faults, findings, row_has, rows_have, plan_has}
+use Rattle.afdx_config.proofs.Names.{EndSystem, Link, Port, Finding, found, one_if, key_finding, each_row}
+use Rattle.afdx_config.proofs.Names.{member_keys, pair_finding, pair_findings, ports_clash, same_link, same_port, same_flow, share_unicast}
+use Rattle.afdx_config.proofs.Names.{is_misfit, is_past_limit, is_wrong_count}
+use Rattle.afdx_config.proofs.Names.{Cells, PortRow, cells_of, count_has, findings, row_has, rows_have, plan_has}
 use Rattle.afdx_config.proofs.Names.{value_has, key_has, has_place, PlacesHaveFaults, Field, document_fields}
 use Rattle.afdx_config.proofs.Names.{end_fields, link_fields, port_fields, fields_in, field_fault, key_fault}
 use Rattle.afdx_config.proofs.Names.{is_fault, is_key_of, is_version_2, rows_at, section_at, members_at, fields_at, fault_number}
-use Rattle.std.proofs.lemmas.List.Elements.{All-filter}
 use Rattle.afdx_config.proofs.AddLemmas.{each_row-map}
-use Rattle.afdx_config.specs.Findings.{plan_findings, table_findings, value_findings}
+use Rattle.afdx_config.proofs.OrderLemmas.{r_append, r_fold, r_map}
+use Rattle.afdx_config.specs.Findings.{count_finding, crowd_finding, misfit, misfit_findings, plan_findings, table_findings, value_findings}
 
--- a property of both lists is one of their concatenation
-pub r_append : {A : Type 0} (P : A → Type 0) (xs ys : List A) → AllByRecursion P xs → AllByRecursion P ys → AllByRecursion P (xs ++ ys)
-r_append P [] ys one two = two
-r_append P (x ∷ xs) ys one two = (one.0, r_append P xs ys one.1 two)
-
+-- a property of each element of the lists
 pub r_each : {A B : Type 0} (P : B → Type 0) (F : A → List B) (xs : List A) → ((x : A) → AllByRecursion P (F x)) → AllByRecursion P (flat_map F xs)
 r_each P F [] step = tt
 r_each P F (x ∷ xs) step = r_append P (F x) (flat_map F xs) (step x) (r_each P F xs step)
-
-r_map : {A : Type 0} (P Q : A → Type 0) (xs : List A) → ((x : A) → P x → Q x) → AllByRecursion P xs → AllByRecursion Q xs
-r_map P Q [] step each = tt
-r_map P Q (x ∷ xs) step each = (step x each.0, r_map P Q xs step each.1)
-
-r_filter : {A : Type 0} (P : A → Type 0) (test : A → Bool) (xs : List A) → AllByRecursion P xs → AllByRecursion P (filter test xs)
-r_filter P test xs each = recursion_from_All P _ (All-filter test P xs (All-from_recursion P xs each))
 
 -- a property of a conditional finding
 r_one : (P : Finding → Type 0) (b : Bool) (x : Finding) → (b ≡ true → P x) → AllByRecursion P (one_if b x)
@@ -151,17 +140,17 @@ row_passes : {A : Type 0} (test : A → Bool) (rows : List A) (k : ℕ) (x : A) 
 row_passes test rows k x is passes = rw is passes
 
 -- two rows that are related
-pair_fine : {A : Type 0} (cells : Cells) (g : ConfigFault) (at : ℕ → Place) (related : A → A → Bool) (all : List A)
-    → ((k j : ℕ) → rows_have related all k (Some j) ≡ true → plan_has cells g (at k) (plan_key g) (Some j) ≡ true)
-    → AllByRecursion (Has cells) (pair_findings g at related all)
-pair_fine {A = A} cells g at related all fine = rw (each_row-map (pair_finding g at) (λ x. position (λ e. related e x) all) 1 all)
-    (all_rows (Has cells) (λ k x. pair_finding g at k (position (λ e. related e x) all)) all
+pair_fine : {A : Type 0} (cells : Cells) (g : ConfigFault) (key : List ℕ) (at : ℕ → Place) (related : A → A → Bool) (all : List A)
+    → ((k j : ℕ) → rows_have related all k (Some j) ≡ true → plan_has cells g (at k) key (Some j) ≡ true)
+    → AllByRecursion (Has cells) (pair_findings g key at related all)
+pair_fine {A = A} cells g key at related all fine = rw (each_row-map (pair_finding g key at) (λ x. position (λ e. related e x) all) 1 all)
+    (all_rows (Has cells) (λ k x. pair_finding g key at k (position (λ e. related e x) all)) all
     (λ k x some is. here k x is (position (λ e. related e x) all) refl))
   where
     here : (k : ℕ) (x : A) → slice_get all (k - 1) ≡ Some x → (o : Option ℕ) → position (λ e. related e x) all ≡ o
-        → AllByRecursion (Has cells) (pair_finding g at k o)
+        → AllByRecursion (Has cells) (pair_finding g key at k o)
     here k x there None is = tt
-    here k x there (Some i) is = r_one (Has cells) (nat_lt (i + 1) k) (found g (at k) (plan_key g) (Some (i + 1))) (λ early.
+    here k x there (Some i) is = r_one (Has cells) (nat_lt (i + 1) k) (found g (at k) key (Some (i + 1))) (λ early.
         let passes = position-Some (λ e. related e x) all i x is in
         let index : i + 1 - 1 ≡ i = omega arith in
         let other : slice_get all (i + 1 - 1) ≡ Some (get_or all i x) =
@@ -172,43 +161,39 @@ pair_fine {A = A} cells g at related all fine = rw (each_row-map (pair_finding g
               (row_passes (λ e. related e x) all (i + 1) (get_or all i x) other passes.1),
         ) refl))
 
-misfit_fine : (g : ConfigFault) (cells : Cells) → AllByRecursion (Has cells) (misfit_findings g cells)
-misfit_fine g cells = all_rows (Has cells) (misfit_finding g cells) cells.ports (λ k p some is.
-    r_one (Has cells) (is_misfit g cells p) (found g (Port k) (plan_key g) (link_number cells.links p))
-    (λ bad. rw (row_passes (is_misfit g cells) cells.ports k p is bad)
-    (or-true (rows_have (ports_clash g) cells.ports k (link_number cells.links p)))))
+-- a port that does not fit its link
+misfit_fine : (g : ConfigFault) (key : List ℕ) (cells : Cells) (k : ℕ) (p : PortRow) → slice_get cells.ports (k - 1) ≡ Some p
+    → AllByRecursion (Has cells) (misfit g key cells k p (is_misfit g cells p))
+misfit_fine g key cells k p is = r_one (Has cells) (is_misfit g cells p) _
+    (λ bad. rw (row_passes (is_misfit g cells) cells.ports k p is bad) (or-true (rows_have (ports_clash g) cells.ports k _)))
 
-crowd_fine : (cells : Cells) → AllByRecursion (Has cells) (crowd_findings cells.ports)
-crowd_fine cells = all_rows (Has cells) (crowd_finding cells.ports) cells.ports (λ k p some is.
-    r_one (Has cells) (is_past_limit cells.ports k p) (found Limit (Port k) (plan_key Limit) None)
+crowd_fine : (cells : Cells) (k : ℕ) (p : PortRow) → slice_get cells.ports (k - 1) ≡ Some p
+    → AllByRecursion (Has cells) (crowd_finding cells.ports k p)
+crowd_fine cells k p is = r_one (Has cells) (is_past_limit cells.ports k p) (found Limit (Port k) (codes "sub") None)
     (λ past. rw (row_passes (is_past_limit cells.ports k) cells.ports k p is past)
-    (or-true (row_has (is_misfit Limit cells) cells.ports k))))
+    (or-true (row_has (is_misfit Limit cells) cells.ports k)))
 
-counts_fine : (cells : Cells) → AllByRecursion (Has cells) (count_findings cells)
-counts_fine cells = r_append (Has cells)
-    (one_if (is_wrong_count cells.has_links 64 (length cells.links)) (found Limit Top (codes "vl") None))
-    (one_if (is_wrong_count cells.has_ports 256 (length cells.ports)) (found Limit Top (codes "port") None))
-    (r_one (Has cells) (is_wrong_count cells.has_links 64 (length cells.links)) (found Limit Top (codes "vl") None) (λ is. rw is refl))
-    (r_one (Has cells) (is_wrong_count cells.has_ports 256 (length cells.ports)) (found Limit Top (codes "port") None) (λ is. rw is refl))
+count_fine : (cells : Cells) (key : List ℕ) (is_wrong : Bool) → (is_wrong ≡ true → count_has Limit cells key ≡ true)
+    → AllByRecursion (Has cells) (count_finding key is_wrong)
+count_fine cells key is_wrong fine = r_one (Has cells) is_wrong (found Limit Top key None) fine
 
-plan_fine : (g : ConfigFault) (cells : Cells) → AllByRecursion (Has cells) (plan_findings g cells)
+plan_fine : (cells : Cells) → AllByRecursion (Has cells) (plan_findings cells)
 unfolding plan_findings
-plan_fine DuplicateVl cells = pair_fine cells DuplicateVl Link same_link cells.links (λ k j is. is)
-plan_fine DuplicatePort cells = pair_fine cells DuplicatePort Port same_port cells.ports (λ k j is. rw is refl)
-plan_fine NoSuchVl cells = misfit_fine NoSuchVl cells
-plan_fine NoSuchSub cells = misfit_fine NoSuchSub cells
-plan_fine SamplingTooLong cells = misfit_fine SamplingTooLong cells
-plan_fine SameFlow cells = pair_fine cells SameFlow Port same_flow cells.ports (λ k j is. rw is refl)
-plan_fine SharedUnicast cells = pair_fine cells SharedUnicast Port share_unicast cells.ports (λ k j is. rw is refl)
-plan_fine Limit cells = r_append (Has cells) (count_findings cells) (crowd_findings cells.ports) (counts_fine cells) (crowd_fine cells)
-plan_fine g cells = tt
-
-of_fine : (doc : Members) (g : ConfigFault) → AllByRecursion (Fine doc) (findings_of g doc)
-of_fine doc g = r_append (Fine doc) _ _
-    (r_filter (Fine doc) (has g) (value_findings doc) (values_have (Fine doc) doc (table_fine doc)))
-    (r_map (Has (cells_of doc)) (Fine doc) (plan_findings g (cells_of doc))
-    (λ f is. rw is (or-true (value_has doc f || key_has doc f))) (plan_fine g (cells_of doc)))
+plan_fine cells = r_append (Has cells) _ _ (r_append (Has cells) _ _ (r_append (Has cells) _ _ (r_append (Has cells) _ _
+    (r_append (Has cells) _ _ (r_append (Has cells) _ _ (r_append (Has cells) _ _
+    (pair_fine cells DuplicateVl _ Link same_link cells.links (λ k j is. is))
+    (pair_fine cells DuplicatePort _ Port same_port cells.ports (λ k j is. rw is refl)))
+    (all_rows (Has cells) (misfit_findings cells) cells.ports (λ k p some is.
+    r_append (Has cells) _ _ (r_append (Has cells) _ _ (misfit_fine NoSuchVl _ cells k p is)
+    (misfit_fine NoSuchSub _ cells k p is)) (misfit_fine SamplingTooLong _ cells k p is))))
+    (pair_fine cells SameFlow _ Port same_flow cells.ports (λ k j is. rw is refl)))
+    (pair_fine cells SharedUnicast _ Port share_unicast cells.ports (λ k j is. rw is refl)))
+    (count_fine cells (codes "vl") (is_wrong_count cells.has_links 64 (length cells.links)) (λ is. rw is refl)))
+    (count_fine cells (codes "port") (is_wrong_count cells.has_ports 256 (length cells.ports)) (λ is. rw is refl)))
+    (all_rows (Has cells) (crowd_finding cells.ports) cells.ports (λ k p some is. crowd_fine cells k p is))
 
 pub places_have_faults : PlacesHaveFaults
 places_have_faults doc = All-from_recursion (λ f. has_place doc f ≡ true) (findings doc)
-    (r_each (Fine doc) (λ g. findings_of g doc) shown_faults (of_fine doc))
+    (r_fold (Fine doc) [] _ tt (r_append (Fine doc) _ _ (values_have (Fine doc) doc (table_fine doc))
+    (r_map (Has (cells_of doc)) (Fine doc) (plan_findings (cells_of doc))
+    (λ f is. rw is (or-true (value_has doc f || key_has doc f))) (plan_fine (cells_of doc)))))

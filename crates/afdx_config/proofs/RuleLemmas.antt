@@ -6,15 +6,16 @@ use Rattle.afdx_config.proofs.Names.{cells_of, cells_show, plan_of, DuplicateVl,
 use Rattle.afdx_config.proofs.Names.{SharedUnicast, Limit, same_link, same_port, same_flow, share_unicast, lacks_link, lacks_sub, is_long, is_packed}
 use Rattle.afdx_config.proofs.Names.{is_row_of, on_sub_of, Top, Link, Port, document_fields, link_fields, port_fields, fields_in, is_version_2}
 use Rattle.afdx_config.proofs.Names.{IsSoundTable, plan_shows, is_sampling, nat_lt, nat_le, option_map_or, ◌&&◌, is_none}
-use Rattle.afdx_config.proofs.Names.{plan_faults, first_fault, cond, ◌+◌, both, ◌-◌, RulesAgree, is_no_count}
+use Rattle.afdx_config.proofs.Names.{plan_faults, cond, ◌+◌, both, ◌-◌, RulesAgree, is_no_count}
 use Rattle.afdx_config.specs.Cells.{link_row, port_row}
 use Rattle.afdx_config.specs.PlanOf.{link_of, port_of}
 use Rattle.afdx_config.specs.Findings.{value_findings}
 use Rattle.afdx_config.proofs.SectionLemmas.{list_any_map, find_map, option_maps}
 use Rattle.std.proofs.lemmas.List.Folds.{fold-map}
 use Rattle.afdx_plan.specs.PlanFaults.{is_link_of, least_plan_fault}
-use Rattle.afdx_config.proofs.FirstLemmas.{empty, rows_first}
-use Rattle.afdx_config.proofs.ShownLemmas.{any_no, values_shown}
+use Rattle.afdx_config.proofs.FirstLemmas.{no_value}
+use Rattle.afdx_config.proofs.ShownLemmas.{any_no, faults_are_found}
+use Rattle.afdx_config.proofs.Names.{Finding, eq-eqb, fault_number, findings, has}
 use Rattle.afdx_config.proofs.SoundLemmas.{none, table_sound, rows_sound}
 
 -- the values of a link and of a port that have no fault
@@ -101,15 +102,18 @@ whole_shows plan Limit = rw (length-map plan.links link_whole, length-map plan.p
     (λ p. ap (nat_lt 64) (fold-map (λ n q. n + cond (on_sub_of (port_whole p) q) 1 0) port_whole 0 plan.ports))))
 whole_shows plan _ = refl
 
+-- a list in which no fault is found is empty
+empty : (xs : List Finding) → ((fault : ConfigFault) → list_any (has fault) xs ≡ false) → xs ≡ []
+empty [] lacks = refl
+empty (x ∷ xs) lacks = let none = lacks x.fault in let number = eq-eqb (fault_number x.fault) (fault_number x.fault) refl in cc
+
 pub rules_agree : RulesAgree
 rules_agree doc free fault =
     ap (λ b. b || cells_show fault (cells_of doc)) (free fault)
-    ∙ ap (cells_show fault) (cells_are doc (empty (value_findings doc) (λ f. values_shown f doc ∙ free f)))
+    ∙ ap (cells_show fault) (cells_are doc (empty (value_findings doc) free))
     ∙ whole_shows (plan_of doc) fault
 
--- the plan of a document without faults is not refused
-pub fine : (doc : Members) (plan : Plan) → value_findings doc ≡ [] → first_fault doc ≡ None → plan ≡ plan_of doc
-    → least_plan_fault plan.links plan.ports ≡ None
-fine doc plan free lacks is = rw is (ap (λ t. find t plan_faults)
-    (fun_ext (λ f. sym (ap (cells_show f) (cells_are doc free) ∙ whole_shows (plan_of doc) f)))
-    ∙ rows_first doc (cells_of doc) refl free ∙ lacks)
+-- the plan of a document without findings is not refused
+pub fine : (doc : Members) (plan : Plan) → findings doc ≡ [] → plan ≡ plan_of doc → least_plan_fault plan.links plan.ports ≡ None
+fine doc plan free is = rw is (ap (λ t. find t plan_faults) (fun_ext (λ f.
+    sym (rules_agree doc (λ g. ap (list_any (has g)) (no_value doc free)) f) ∙ faults_are_found doc f ∙ ap (list_any (has f)) free)))

@@ -4,7 +4,7 @@ use Rattle.afdx_config.proofs.Names.{◌≡◌, ℕ, List, Bool, true, false, �
 use Rattle.afdx_config.proofs.Names.{both, is_key, PortRow, same_flow, flow_of, are_one_destination, are_one_address}
 use Rattle.std.proofs.Common.{Less, Equal, Greater, ◌+◌, ◌^◌, take, count_by, length-take, add-zero}
 use Rattle.std.proofs.lemmas.List.Sums.{count_by-le-length, count_by_more_yes, count_by_more_no}
-use Rattle.afdx_config.proofs.Names.{on_sub_of, ◌-◌, nat_le, one_if, found, Limit, Port, plan_key, crowd_finding}
+use Rattle.afdx_config.proofs.Names.{on_sub_of, ◌-◌, nat_le, one_if, found, Limit, Port, codes, crowd_finding}
 use Rattle.std.proofs.lemmas.Map.Lookups.{exact_bytes, exact_pairs, exact_unsigned}
 use Rattle.afdx_config.specs.Sharing.{sub_in, is_on_sub, all_five, address_in, address_of, address_cmp, are_apart, is_apart, later_address, sharing_place}
 use Rattle.afdx_config.proofs.SectionLemmas.{none_on}
@@ -196,7 +196,7 @@ count_small ports i old small is q = let h = count_by-le-length (is_on_sub q) (t
 -- the finding of a port that was counted
 pub crowd_is : (ports : List PortRow) (i n : ℕ) (port : PortRow) (old : ℕ × ℕ → ℕ) → ((q : ℕ × ℕ) → old q ≡ count_by (is_on_sub q) (take i ports))
     → n ≡ option_map_or old (sub_in port.vl port.sub) 0
-    → one_if (nat_le 64 n) (found Limit (Port (i + 1)) (plan_key Limit) None) ≡ crowd_finding ports (i + 1) port
+    → one_if (nat_le 64 n) (found Limit (Port (i + 1)) (codes "sub") None) ≡ crowd_finding ports (i + 1) port
 crowd_is ports i n port old are is =
     let back : i + 1 - 1 ≡ i = omega arith in
     rw (back, ← before_is ports i n port (is ∙ ap (λ f. option_map_or f (sub_in port.vl port.sub) 0) (fun_ext are))) refl

@@ -5,15 +5,15 @@ use Rattle.std.specs.Option.{option_map_or}
 use Rattle.toml.specs.Data.{Members}
 use Rattle.afdx_plan.specs.PlanFaults.{plan_shows}
 use Rattle.afdx_plan.specs.declared.fault.ConfigFault.{ConfigFault}
-use Rattle.afdx_plan.specs.declared.fault.ConfigFault.TheVariants.{UnknownKey, DuplicateVl, DuplicatePort, SameFlow, SharedUnicast, Limit}
+use Rattle.afdx_plan.specs.declared.fault.ConfigFault.TheVariants.{UnknownKey, DuplicateVl, DuplicatePort, NoSuchVl, NoSuchSub, SamplingTooLong, SameFlow, SharedUnicast, Limit}
 use Rattle.afdx_config.specs.declared.rows.LinkRow.{LinkRow}
 use Rattle.afdx_config.specs.declared.rows.PortRow.{PortRow}
 use Rattle.afdx_config.specs.Cells.{Cells, cells_of}
-use Rattle.afdx_config.specs.CellFaults.{same_link, same_port, same_flow, share_unicast, is_wrong_count}
+use Rattle.afdx_config.specs.CellFaults.{same_link, same_port, same_flow, share_unicast, lacks_link, lacks_sub, is_long, is_wrong_count}
 use Rattle.afdx_config.specs.declared.findings.Place.{Place}
 use Rattle.afdx_config.specs.declared.findings.Place.TheVariants.{Top, Link, Port}
 use Rattle.afdx_config.specs.Faults.{shows, values_show, Reads, IsLeastFault, IsPlanOf}
-use Rattle.afdx_config.specs.Findings.{Finding, findings, has, is_misfit, is_past_limit}
+use Rattle.afdx_config.specs.Findings.{Finding, findings, has, is_past_limit}
 use Rattle.afdx_config.specs.Entries.{member_keys}
 use Rattle.afdx_config.specs.PlanOf.{plan_of}
 use Rattle.afdx_config.specs.Tables.{field_fault, is_fault, is_key_of}
@@ -59,6 +59,13 @@ row_has test rows k = option_map_or test (slice_get rows (k - 1)) false
 abbrev pub rows_have : {A : Type 0} → (A → A → Bool) → List A → ℕ → Option ℕ → Bool
 rows_have related rows k None = false
 rows_have related rows k (Some j) = nat_lt j k && row_has (λ a. row_has (λ earlier. related earlier a) rows j) rows k
+
+-- a port does not fit its link
+abbrev pub is_misfit : ConfigFault → Cells → PortRow → Bool
+is_misfit NoSuchVl cells port = lacks_link cells port
+is_misfit NoSuchSub cells port = lacks_sub cells port
+is_misfit SamplingTooLong cells port = is_long cells port
+is_misfit _ cells port = false
 
 -- two links have this fault together
 abbrev pub links_clash : ConfigFault → LinkRow → LinkRow → Bool

@@ -1,12 +1,11 @@
 -- All faults of a document, each with its place.
-use Rattle.std.specs.Prelude.{codes, ℕ, ◌+◌, ◌-◌, List, [], ◌∷◌, ◌++◌, length, map, take, filter, count_by, nat_lt, nat_le, Bool, true, false, ◌==◌, Option, Some, None, option_map}
-use Rattle.std.specs.List.{position, flat_map}
+use Rattle.std.specs.Prelude.{codes, ℕ, ◌+◌, ◌-◌, List, [], ◌∷◌, ◌++◌, length, map, take, count_by, nat_lt, nat_le, Bool, true, false, ◌==◌, if◌then◌else◌, Option, Some, None, option_map}
+use Rattle.std.specs.List.{position, flat_map, fold}
 use Rattle.std.specs.Option.{option_map_or}
 use Rattle.toml.specs.Data.{Members}
 use Rattle.afdx_plan.specs.PlanFaults.{fault_number}
 use Rattle.afdx_plan.specs.declared.fault.ConfigFault.{ConfigFault}
-use Rattle.afdx_plan.specs.declared.fault.ConfigFault.TheVariants.{MissingKey, UnknownKey, WrongKind, OutOfRange, BadBag, DuplicateVl, DuplicatePort, NoSuchVl, NoSuchSub, SamplingTooLong, SameFlow, SharedUnicast, Limit}
-use Rattle.afdx_config.specs.declared.rows.LinkRow.{LinkRow}
+use Rattle.afdx_plan.specs.declared.fault.ConfigFault.TheVariants.{DuplicateVl, DuplicatePort, NoSuchVl, NoSuchSub, SamplingTooLong, SameFlow, SharedUnicast, Limit}
 use Rattle.afdx_config.specs.declared.rows.PortRow.{PortRow}
 use Rattle.afdx_config.specs.declared.findings.Place.{Place}
 use Rattle.afdx_config.specs.declared.findings.Place.TheVariants.{Top, EndSystem, Link, Port}
@@ -68,99 +67,66 @@ value_findings document = table_findings Top document_fields document
     (λ k row. table_findings (Port k) (fields_in (is_version_2 document) port_fields) row) 1
     (rows_at (codes "port") document)
 
--- the key that a finding of 7 to 14 names
-abbrev pub plan_key : ConfigFault → List ℕ
-plan_key SameFlow = codes "destination"
-plan_key SharedUnicast = codes "dest_ip"
-plan_key NoSuchVl = codes "vl"
-plan_key NoSuchSub = codes "sub"
-plan_key SamplingTooLong = codes "max"
-plan_key Limit = codes "sub"
-plan_key _ = codes "id"
-
 -- the fault of table k and of the first one that it clashes with, which is at this index, if that one is earlier
-abbrev pub pair_finding : ConfigFault → (ℕ → Place) → ℕ → Option ℕ → List Finding
-pair_finding fault at k None = []
-pair_finding fault at k (Some i) = one_if (nat_lt (i + 1) k) (found fault (at k) (plan_key fault) (Some (i + 1)))
+abbrev pub pair_finding : ConfigFault → List ℕ → (ℕ → Place) → ℕ → Option ℕ → List Finding
+pair_finding fault key at k None = []
+pair_finding fault key at k (Some i) = one_if (nat_lt (i + 1) k) (found fault (at k) key (Some (i + 1)))
 
 -- the findings of the rows that clash with an earlier one, each with the first of those
-abbrev pub pair_findings : {A : Type 0} → ConfigFault → (ℕ → Place) → (A → A → Bool) → List A → List Finding
-pair_findings fault at clash rows =
-    each_row (pair_finding fault at) 1 (map (λ row. position (λ earlier. clash earlier row) rows) rows)
+abbrev pub pair_findings : {A : Type 0} → ConfigFault → List ℕ → (ℕ → Place) → (A → A → Bool) → List A → List Finding
+pair_findings fault key at clash rows =
+    each_row (pair_finding fault key at) 1 (map (λ row. position (λ earlier. clash earlier row) rows) rows)
 
--- the number of a port's link
-abbrev pub link_number : List LinkRow → PortRow → Option ℕ
-link_number links port = option_map (λ i. i + 1) (position (is_row_of port) links)
+-- the finding of port k that names the number of its link, if it does not fit that link
+abbrev pub misfit : ConfigFault → List ℕ → Cells → ℕ → PortRow → Bool → List Finding
+misfit fault key cells k port holds =
+    one_if holds (found fault (Port k) key (option_map (λ i. i + 1) (position (is_row_of port) cells.links)))
 
--- a port does not fit its link
-abbrev pub is_misfit : ConfigFault → Cells → PortRow → Bool
-is_misfit NoSuchVl cells port = lacks_link cells port
-is_misfit NoSuchSub cells port = lacks_sub cells port
-is_misfit SamplingTooLong cells port = is_long cells port
-is_misfit _ cells port = false
-
--- the finding of port k, if it does not fit its link
-abbrev pub misfit_finding : ConfigFault → Cells → ℕ → PortRow → List Finding
-misfit_finding fault cells k port =
-    one_if (is_misfit fault cells port) (found fault (Port k) (plan_key fault) (link_number cells.links port))
-
--- the findings of the ports that do not fit their link
-abbrev pub misfit_findings : ConfigFault → Cells → List Finding
-misfit_findings fault cells = each_row (misfit_finding fault cells) 1 cells.ports
+-- the findings of port k that does not fit its link
+abbrev pub misfit_findings : Cells → ℕ → PortRow → List Finding
+misfit_findings cells k port = misfit NoSuchVl (codes "vl") cells k port (lacks_link cells port)
+    ++ misfit NoSuchSub (codes "sub") cells k port (lacks_sub cells port)
+    ++ misfit SamplingTooLong (codes "max") cells k port (is_long cells port)
 
 -- port k is past the 64th on its sub-VL
 abbrev pub is_past_limit : List PortRow → ℕ → PortRow → Bool
 is_past_limit ports k port = nat_le 64 (count_by (on_sub_of port) (take (k - 1) ports))
 
--- the findings of the numbers of links and ports
-abbrev pub count_findings : Cells → List Finding
-count_findings cells = one_if (is_wrong_count cells.has_links 64 (length cells.links)) (found Limit Top (codes "vl") None)
-    ++ one_if (is_wrong_count cells.has_ports 256 (length cells.ports)) (found Limit Top (codes "port") None)
-
 -- the finding of port k, if it is past the 64th on its sub-VL
 abbrev pub crowd_finding : List PortRow → ℕ → PortRow → List Finding
-crowd_finding ports k port = one_if (is_past_limit ports k port) (found Limit (Port k) (plan_key Limit) None)
+crowd_finding ports k port = one_if (is_past_limit ports k port) (found Limit (Port k) (codes "sub") None)
 
--- the findings of the ports that are past the 64th on their sub-VL
-abbrev pub crowd_findings : List PortRow → List Finding
-crowd_findings ports = each_row (crowd_finding ports) 1 ports
+-- the finding of the number of tables under a key
+abbrev pub count_finding : List ℕ → Bool → List Finding
+count_finding key is_wrong = one_if is_wrong (found Limit Top key None)
 
--- the findings of a fault of 7 to 14
-unfoldable pub plan_findings : ConfigFault → Cells → List Finding
-plan_findings DuplicateVl cells = pair_findings DuplicateVl Link same_link cells.links
-plan_findings DuplicatePort cells = pair_findings DuplicatePort Port same_port cells.ports
-plan_findings NoSuchVl cells = misfit_findings NoSuchVl cells
-plan_findings NoSuchSub cells = misfit_findings NoSuchSub cells
-plan_findings SamplingTooLong cells = misfit_findings SamplingTooLong cells
-plan_findings SameFlow cells = pair_findings SameFlow Port same_flow cells.ports
-plan_findings SharedUnicast cells = pair_findings SharedUnicast Port share_unicast cells.ports
-plan_findings Limit cells = count_findings cells ++ crowd_findings cells.ports
-plan_findings _ cells = []
+-- the findings of 7 to 14
+unfoldable pub plan_findings : Cells → List Finding
+plan_findings cells = pair_findings DuplicateVl (codes "id") Link same_link cells.links
+    ++ pair_findings DuplicatePort (codes "id") Port same_port cells.ports
+    ++ each_row (misfit_findings cells) 1 cells.ports
+    ++ pair_findings SameFlow (codes "destination") Port same_flow cells.ports
+    ++ pair_findings SharedUnicast (codes "dest_ip") Port share_unicast cells.ports
+    ++ count_finding (codes "vl") (is_wrong_count cells.has_links 64 (length cells.links))
+    ++ count_finding (codes "port") (is_wrong_count cells.has_ports 256 (length cells.ports))
+    ++ each_row (crowd_finding cells.ports) 1 cells.ports
 
--- the findings of a fault in a document
-abbrev pub findings_of : ConfigFault → Members → List Finding
-findings_of fault document = filter (has fault) (value_findings document) ++ plan_findings fault (cells_of document)
+-- the number of a finding's fault
+abbrev pub number_of : Finding → ℕ
+number_of finding = fault_number finding.fault
 
--- the faults of documents, in the order of their numbers
-abbrev pub shown_faults : List ConfigFault
-shown_faults = MissingKey
-    ∷ UnknownKey
-    ∷ WrongKind
-    ∷ OutOfRange
-    ∷ BadBag
-    ∷ DuplicateVl
-    ∷ DuplicatePort
-    ∷ NoSuchVl
-    ∷ NoSuchSub
-    ∷ SamplingTooLong
-    ∷ SameFlow
-    ∷ SharedUnicast
-    ∷ Limit
-    ∷ []
+-- a finding among others: after those of faults with no greater number
+abbrev pub put : List Finding → Finding → List Finding
+put [] x = x ∷ []
+put (y ∷ ys) x = if nat_lt (number_of x) (number_of y) then x ∷ y ∷ ys else y ∷ put ys x
+
+-- findings ordered by the numbers of their faults; those of one fault keep their order
+abbrev pub by_fault : List Finding → List Finding
+by_fault all = fold put [] all
 
 -- all findings of a document, ordered by the number of the fault, then by the order of the tables
 abbrev pub findings : Members → List Finding
-findings document = flat_map (λ fault. findings_of fault document) shown_faults
+findings document = by_fault (value_findings document ++ plan_findings (cells_of document))
 
 -- the most findings that are kept, and have a line each
 abbrev pub lines_limit : ℕ

@@ -9,7 +9,7 @@ use Rattle.afdx_plan.specs.declared.fault.ConfigFault.{ConfigFault}
 use Rattle.afdx_plan.specs.declared.fault.ConfigFault.TheVariants.{MissingKey, UnknownKey, WrongKind, OutOfRange, BadBag}
 use Rattle.afdx_config.specs.declared.format.Content.{Content}
 use Rattle.afdx_config.specs.declared.format.Content.TheVariants.{Whole, Gap, Networks, PortKind, Address, Checksum, Section, Rows}
-use Rattle.afdx_config.specs.Entries.{number_at, member_keys, tables_among, lies_outside}
+use Rattle.afdx_config.specs.Entries.{number_at, tables_among, lies_outside}
 use Rattle.afdx_config.specs.Values.{bag_of, networks_of, kind_of, address_of, checksum_of}
 use Rattle.afdx_config.specs.Format.{Field}
 
@@ -55,11 +55,6 @@ key_fault fields key = then_some (not (is_key_of fields key)) UnknownKey
 abbrev pub is_fault : ConfigFault → Option ConfigFault → Bool
 is_fault fault None = false
 is_fault fault (Some other) = fault_number fault == fault_number other
-
--- some key of a table has the fault: it is in the format or in the table
-abbrev pub table_shows : ConfigFault → List Field → Members → Bool
-table_shows fault fields members = list_any (λ field. is_fault fault (field_fault members field)) fields
-    || list_any (λ key. is_fault fault (key_fault fields key)) (member_keys members)
 
 -- the tables of the array under a key
 abbrev pub rows_at : List ℕ → Members → List Members

@@ -1,13 +1,10 @@
 -- The specification values of formats and documents in the code.
-use Rattle.std.specs.Prelude.{◌≡◌, codes, false, List, map, find, Option, None, option_map, All}
+use Rattle.std.specs.Prelude.{◌≡◌, codes, false, List, map, None, option_map, All}
 use Rattle.std.specs.List.{AllByRecursion}
 use Rattle.std.specs.Option.{ForSome}
 use Rattle.toml.specs.Data.{Members}
 use Rattle.toml.specs.View.{table_view}
-use Rattle.afdx_plan.specs.declared.fault.ConfigFault.{ConfigFault}
 use Rattle.afdx_plan.specs.Config.{Plan, plan_of_parts}
-use Rattle.afdx_config.specs.Faults.{shows}
-use Rattle.afdx_config.specs.Findings.{shown_faults}
 use Rattle.afdx_config.specs.Format.{Field, end_fields, link_fields, port_fields, fields_in}
 use Rattle.afdx_config.specs.Tables.{field_fault, section_at, rows_at}
 use Rattle.afdx_config.specs.declared.format.Field.{Field as Written}
@@ -31,10 +28,6 @@ pub record IsDocument (document : Document) : Type 0 where
   pub end_is : option_map (λ t. table_view t.now) document.end ≡ section_at (codes "end_system") (data_of document)
   pub links_are : map (λ r. table_view r.now) document.links.items ≡ rows_at (codes "vl") (data_of document)
   pub ports_are : map (λ r. table_view r.now) document.ports.items ≡ rows_at (codes "port") (data_of document)
-
--- the first of the faults that a document has
-abbrev pub first_fault : Members → Option ConfigFault
-first_fault document = find (λ fault. shows fault document) shown_faults
 
 -- no key of this format has a fault in the table
 abbrev pub IsSoundTable : List Field → Members → Type 0

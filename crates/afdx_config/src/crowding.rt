@@ -1,15 +1,12 @@
 //! Ports on one sub-VL.
-ghost use Rattle.std.specs.Prelude.{◌≡◌, ℕ, ◌+◌, ◌^◌, ◌<◌, nat_le, if◌then◌else◌, None, unwrap_or, OnOk, IfOk};
-ghost use Rattle.afdx_plan.specs.declared.fault.ConfigFault.{ConfigFault};
+ghost use Rattle.std.specs.Prelude.{◌≡◌, ℕ, ◌+◌, ◌^◌, ◌<◌, if◌then◌else◌, unwrap_or, OnOk, IfOk};
 ghost use Rattle.std.specs.BTreeMap.{get};
 ghost use Rattle.std.specs.Option.{option_map_or};
-ghost use Rattle.afdx_config.specs.Findings.{found as finding_at, one_if, plan_key, crowd_findings};
+ghost use Rattle.afdx_config.specs.Findings.{crowd_finding, each_row};
 ghost use Rattle.afdx_config.specs.Seen.{Adds};
-ghost use Rattle.afdx_config.specs.declared.findings.Place.TheVariants.{Port};
 ghost use Rattle.afdx_config.specs.Sharing.{sub_in, sub_cmp, is_on_sub};
 
-use crate::findings::{Added, Found, Place, add};
-use crate::plan_findings::plan_key;
+use crate::findings::{Added, Found, Place, add_if};
 use crate::rows::PortRow;
 use afdx_plan::{ConfigFault, SUB_PORTS_LIMIT};
 use std::alloc::AllocError;
@@ -43,28 +40,16 @@ fn count_port(counts: &mut Counts, port: &PortRow) -> Result<usize, AllocError>
     }
 }
 
-/// Adds the port at index `i` if there are enough before it on its sub-VL.
-fn add_crowd(found: &mut Found, i: usize, before: usize) -> Added
-    requires { i < 2 ^ 63 }
-    ensures { OnOk result (Adds found.old found.new (one_if (nat_le 64 before)
-        (finding_at ConfigFault.Limit (Port (i + 1)) (plan_key ConfigFault.Limit) None))) }
-{
-    if SUB_PORTS_LIMIT <= before {
-        let fault = ConfigFault::Limit;
-        add(found, fault, Place::Port(i + 1), plan_key(fault), None)
-    } else {
-        Ok(())
-    }
-}
-
 /// Adds the ports that are past the limit on their sub-VL.
 pub(crate) fn add_crowded(found: &mut Found, ports: &[PortRow]) -> Added
-    ensures { OnOk result (Adds found.old found.new (crowd_findings ports.now)) }
+    ensures { OnOk result (Adds found.old found.new (each_row (crowd_finding ports.now) 1 ports.now)) }
 {
     let mut counts = BTreeMap::new(found.alloc());
     for (i, port) in ports.iter().enumerate() {
         let before = count_port(&mut counts, port)?;
-        add_crowd(found, i, before)?;
+        let is_past = SUB_PORTS_LIMIT <= before;
+        let place = Place::Port(i + 1);
+        add_if(is_past, found, ConfigFault::Limit, place, "sub", None)?;
     }
     Ok(())
 }

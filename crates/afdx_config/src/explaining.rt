@@ -1,15 +1,15 @@
 //! All faults of a configuration, each with its place.
-ghost use Rattle.std.specs.Prelude.{◌≡◌, map, IfOk};
-ghost use Rattle.std.specs.List.{flat_map};
+ghost use Rattle.std.specs.Prelude.{◌≡◌, ◌++◌, map, IfOk};
 ghost use Rattle.toml.specs.Errors.{IsWithin};
 ghost use Rattle.toml.specs.View.{table_view};
+ghost use Rattle.afdx_config.specs.Cells.{cells_of};
 ghost use Rattle.afdx_config.specs.Explained.{column_after, line_of, Explains, TellsDocument, TellsStop, TellsToml};
-ghost use Rattle.afdx_config.specs.Findings.{findings_of};
+ghost use Rattle.afdx_config.specs.Findings.{plan_findings, value_findings};
 ghost use Rattle.afdx_config.specs.Seen.{Holds, finding_of};
 ghost use Rattle.afdx_config.specs.Views.{IsDocument, data_of};
 
 use crate::document::Document;
-use crate::findings::{Finding, Found, Place, SHOWN_FAULTS, add};
+use crate::findings::{Finding, Found, Place, add};
 use crate::plan_findings::add_plan;
 use crate::rows::rows_of;
 use crate::told::{write_explanation, write_toml};
@@ -31,22 +31,16 @@ pub struct Explanation {
     pub text: Vec<u8>,
 }
 
-/// The findings of these faults in a document.
-fn findings_in(
-    alloc: Global,
-    document: &Document<'_>,
-    faults: &[ConfigFault],
-) -> Result<Found, AllocError>
+/// The findings of a document.
+fn findings_in(alloc: Global, document: &Document<'_>) -> Result<Found, AllocError>
     requires { IsDocument document.now }
-    ensures { IfOk result (λ found.
-        Holds found (flat_map (λ fault. findings_of fault (data_of document.now)) faults.now)) }
+    ensures { IfOk result (λ found. Holds found
+        (value_findings (data_of document.now) ++ plan_findings (cells_of (data_of document.now)))) }
 {
-    let rows = rows_of(alloc, document)?;
     let mut found = Found::new(alloc);
-    for fault in faults {
-        add_values(&mut found, *fault, document)?;
-        add_plan(&mut found, *fault, &rows)?;
-    }
+    add_values(&mut found, document)?;
+    let rows = rows_of(alloc, document)?;
+    add_plan(&mut found, &rows)?;
     Ok(found)
 }
 
@@ -56,7 +50,7 @@ fn explain_document(alloc: Global, table: &Table) -> Result<Explanation, AllocEr
         TellsDocument (table_view table.now) (map finding_of e.findings.items) e.count e.text.items) }
 {
     let document = Document::of(alloc, table)?;
-    let found = findings_in(alloc, &document, &SHOWN_FAULTS)?;
+    let found = findings_in(alloc, &document)?;
     let mut text = Vec::new(alloc);
     match write_explanation(&mut text, &document, &found) {
         Ok(()) => Ok(explanation_of(found, text)),

@@ -1,7 +1,9 @@
 //! Faults of a configuration with their places.
-ghost use Rattle.std.specs.Prelude.{◌≡◌, ◌∷◌, [], OnOk};
-ghost use Rattle.afdx_config.specs.Findings.{found as finding_at, row_like};
-ghost use Rattle.afdx_config.specs.Seen.{Adds, Holds};
+ghost use Rattle.std.specs.Prelude.{◌≡◌, ◌∷◌, ◌≤◌, [], length, map, OnOk};
+ghost use Rattle.std.specs.List.{insert};
+ghost use Rattle.afdx_config.specs.Findings.{found as finding_at, Finding as Told, one_if, put, row_like};
+ghost use Rattle.afdx_config.specs.Seen.{Adds, Holds, IsOrdered, finding_of};
+ghost use Rattle.afdx_plan.specs.PlanFaults.{fault_number};
 
 use afdx_plan::ConfigFault;
 use std::alloc::{AllocError, Global};
@@ -34,23 +36,6 @@ pub struct Finding {
     pub other: Option<usize>,
 }
 
-/// The faults of documents, in the order of their numbers; the first five are those of values.
-pub(crate) const SHOWN_FAULTS: [ConfigFault; 13] = [
-    ConfigFault::MissingKey,
-    ConfigFault::UnknownKey,
-    ConfigFault::WrongKind,
-    ConfigFault::OutOfRange,
-    ConfigFault::BadBag,
-    ConfigFault::DuplicateVl,
-    ConfigFault::DuplicatePort,
-    ConfigFault::NoSuchVl,
-    ConfigFault::NoSuchSub,
-    ConfigFault::SamplingTooLong,
-    ConfigFault::SameFlow,
-    ConfigFault::SharedUnicast,
-    ConfigFault::Limit,
-];
-
 /// The place of row `k` of the array of this place.
 pub(crate) fn row_like(place: Place, k: usize) -> Place
     ensures { result ≡ row_like place k }
@@ -64,7 +49,7 @@ pub(crate) fn row_like(place: Place, k: usize) -> Place
 /// The most findings that are kept, and have a line each.
 pub(crate) const LINES_LIMIT: usize = 1_000;
 
-/// The findings so far: the first `LINES_LIMIT`, and the number of all.
+/// The findings so far: the first `LINES_LIMIT` by the numbers of their faults, and the number of all.
 #[derive(Drop)]
 pub(crate) struct Found {
     pub first: Vec<Finding>,
@@ -89,6 +74,20 @@ impl Found {
 /// The result of an addition.
 pub(crate) type Added = Result<(), AllocError>;
 
+/// The index after the last finding of a fault with no greater number.
+fn index_of(first: &[Finding], fault: ConfigFault) -> usize
+    ensures within { result ≤ length first.now }
+    ensures put { (x : Told) → x.fault ≡ fault → IsOrdered (map finding_of first.now) →
+        insert (map finding_of first.now) result x ≡ put (map finding_of first.now) x }
+{
+    for i in (0..first.len()).rev() {
+        if first[i].fault.number() <= fault.number() {
+            return i + 1;
+        }
+    }
+    0
+}
+
 /// Adds a finding.
 pub(crate) fn add(
     found: &mut Found,
@@ -102,17 +101,38 @@ pub(crate) fn add(
     let Some(count) = found.count.checked_add(1) else {
         return Err(AllocError);
     };
-    if LINES_LIMIT <= found.count {
+    let index = index_of(found.first.as_slice(), fault);
+    if LINES_LIMIT <= index {
         found.count = count;
         return Ok(());
     }
     let key = String::from_str(found.alloc(), key)?;
-    found.first.push(Finding {
+    let finding = Finding {
         fault,
         place,
         key,
         other,
-    })?;
+    };
+    found.first.insert(index, finding)?;
+    found.first.truncate(LINES_LIMIT);
     found.count = count;
     Ok(())
+}
+
+/// Adds a finding if the test holds.
+pub(crate) fn add_if(
+    holds: bool,
+    found: &mut Found,
+    fault: ConfigFault,
+    place: Place,
+    key: &str,
+    other: Option<usize>,
+) -> Added
+    ensures { OnOk result (Adds found.old found.new (one_if holds (finding_at fault place key.now other))) }
+{
+    if holds {
+        add(found, fault, place, key, other)
+    } else {
+        Ok(())
+    }
 }

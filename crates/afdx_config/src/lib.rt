@@ -18,7 +18,6 @@ mod rows;
 mod sharing;
 mod subjects;
 mod told;
-mod value_faults;
 mod value_findings;
 mod values;
 

@@ -1,27 +1,91 @@
-//! The first table that each one clashes with.
-ghost use Rattle.std.specs.Prelude.{◌≡◌, map, IfOk};
-ghost use Rattle.std.specs.List.{position};
+//! Tables that clash with an earlier one.
+ghost use Rattle.std.specs.Prelude.{◌≡◌, ◌+◌, ◌^◌, ◌<◌, codes, map, IfOk, OnOk};
+ghost use Rattle.afdx_plan.specs.declared.fault.ConfigFault.{ConfigFault};
 ghost use Rattle.afdx_config.specs.CellFaults.{same_link, same_port, same_flow};
+ghost use Rattle.afdx_config.specs.Findings.{each_row, pair_finding, pair_findings, row_like};
+ghost use Rattle.afdx_config.specs.Keyed.{first_row};
+ghost use Rattle.afdx_config.specs.Seen.{Adds};
 ghost use Rattle.afdx_config.specs.Sharing.{flow_of};
+ghost use Rattle.afdx_config.specs.declared.findings.Place.TheVariants.{Link, Port};
 
+use crate::findings::{Added, Found, Place, add, row_like};
 use crate::keyed::first_same;
-use crate::plan_findings::link_ids;
 use crate::rows::{LinkRow, PortRow};
+use afdx_plan::ConfigFault;
 use std::alloc::{AllocError, Global};
-
-/// For each row the index of the first one that it clashes with.
-pub(crate) type Firsts = Result<Vec<Option<usize>>, AllocError>;
 
 /// Link, partition, both UDP ports and destination.
 type Flow = (u64, u64, u64, u64, Option<[u8; 4]>);
 
-/// For each link the first one with its identifier.
-pub(crate) fn same_links(alloc: Global, links: &[LinkRow]) -> Firsts
-    ensures { IfOk result (λ firsts.
-        firsts.items ≡ map (λ l. position (λ earlier. same_link earlier l) links.now) links.now) }
+/// Adds the table at index `i` of an array if the first one that it clashes with is earlier.
+fn add_pair(
+    found: &mut Found,
+    fault: ConfigFault,
+    key: &str,
+    array: Place,
+    i: usize,
+    first: Option<usize>,
+) -> Added
+    requires { i < 2 ^ 63 }
+    ensures { OnOk result (Adds found.old found.new
+        (pair_finding fault key.now (row_like array) (i + 1) first)) }
 {
-    let ids = link_ids(alloc, links)?;
-    first_same(alloc, ids.as_slice())
+    match first {
+        Some(earlier) if earlier < i => {
+            let place = row_like(array, i + 1);
+            add(found, fault, place, key, Some(earlier + 1))
+        }
+        _ => Ok(()),
+    }
+}
+
+/// Adds the tables of an array that clash with an earlier one.
+pub(crate) fn add_pairs(
+    found: &mut Found,
+    fault: ConfigFault,
+    key: &str,
+    array: Place,
+    firsts: &[Option<usize>],
+) -> Added
+    ensures { OnOk result (Adds found.old found.new
+        (each_row (pair_finding fault key.now (row_like array)) 1 firsts.now)) }
+{
+    for (i, first) in firsts.iter().enumerate() {
+        add_pair(found, fault, key, array, i, *first)?;
+    }
+    Ok(())
+}
+
+/// Adds the tables of an array that have the key of an earlier one.
+fn add_keyed<K: Ord + Copy>(
+    found: &mut Found,
+    fault: ConfigFault,
+    key: &str,
+    array: Place,
+    keys: &[Option<K>],
+) -> Added
+    ensures { OnOk result (Adds found.old found.new
+        (each_row (pair_finding fault key.now (row_like array)) 1 (map (first_row K.cmp keys.now) keys.now))) }
+{
+    let firsts = first_same(found.alloc(), keys)?;
+    add_pairs(found, fault, key, array, firsts.as_slice())
+}
+
+/// The identifiers of links.
+pub(crate) fn link_ids(alloc: Global, links: &[LinkRow]) -> Result<Vec<Option<u64>>, AllocError>
+    ensures { IfOk result (λ ids. ids.items ≡ map (λ l. l.id) links.now) }
+{
+    links.iter().map(|link| link.id).collect(alloc)
+}
+
+/// Adds the links that have the identifier of an earlier one.
+pub(crate) fn add_same_links(found: &mut Found, links: &[LinkRow]) -> Added
+    ensures { OnOk result (Adds found.old found.new
+        (pair_findings ConfigFault.DuplicateVl (codes "id") Link same_link links.now)) }
+{
+    let ids = link_ids(found.alloc(), links)?;
+    let fault = ConfigFault::DuplicateVl;
+    add_keyed(found, fault, "id", Place::Link(0), ids.as_slice())
 }
 
 /// The identifiers of ports.
@@ -31,13 +95,14 @@ fn port_ids(alloc: Global, ports: &[PortRow]) -> Result<Vec<Option<u64>>, AllocE
     ports.iter().map(|port| port.id).collect(alloc)
 }
 
-/// For each port the first one with its identifier.
-pub(crate) fn same_ports(alloc: Global, ports: &[PortRow]) -> Firsts
-    ensures { IfOk result (λ firsts.
-        firsts.items ≡ map (λ p. position (λ earlier. same_port earlier p) ports.now) ports.now) }
+/// Adds the ports that have the identifier of an earlier one.
+pub(crate) fn add_same_ports(found: &mut Found, ports: &[PortRow]) -> Added
+    ensures { OnOk result (Adds found.old found.new
+        (pair_findings ConfigFault.DuplicatePort (codes "id") Port same_port ports.now)) }
 {
-    let ids = port_ids(alloc, ports)?;
-    first_same(alloc, ids.as_slice())
+    let ids = port_ids(found.alloc(), ports)?;
+    let fault = ConfigFault::DuplicatePort;
+    add_keyed(found, fault, "id", Place::Port(0), ids.as_slice())
 }
 
 /// The flow of a port, if its values have no fault.
@@ -65,11 +130,18 @@ fn flows_of(alloc: Global, ports: &[PortRow]) -> Result<Vec<Option<Flow>>, Alloc
     ports.iter().map(|port| flow_of(port)).collect(alloc)
 }
 
-/// For each port the first one with its flow.
-pub(crate) fn same_flows(alloc: Global, ports: &[PortRow]) -> Firsts
-    ensures { IfOk result (λ firsts.
-        firsts.items ≡ map (λ p. position (λ earlier. same_flow earlier p) ports.now) ports.now) }
+/// Adds the ports that have the flow of an earlier one.
+pub(crate) fn add_same_flows(found: &mut Found, ports: &[PortRow]) -> Added
+    ensures { OnOk result (Adds found.old found.new
+        (pair_findings ConfigFault.SameFlow (codes "destination") Port same_flow ports.now)) }
 {
-    let flows = flows_of(alloc, ports)?;
-    first_same(alloc, flows.as_slice())
+    let flows = flows_of(found.alloc(), ports)?;
+    let fault = ConfigFault::SameFlow;
+    add_keyed(
+        found,
+        fault,
+        "destination",
+        Place::Port(0),
+        flows.as_slice(),
+    )
 }

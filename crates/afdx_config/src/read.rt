@@ -1,70 +1,56 @@
 //! Reading a configuration.
-ghost use Rattle.std.specs.Prelude.{◌≡◌, ◌≢◌, Some, None, [], find, IfOk, IfErr};
+ghost use Rattle.std.specs.Prelude.{◌≡◌, ◌≢◌, Some, None, [], map, IfOk, IfErr};
 ghost use Rattle.afdx_plan.specs.declared.fault.ConfigFault.{ConfigFault};
 ghost use Rattle.afdx_config.specs.PlanOf.{plan_of};
 ghost use Rattle.afdx_config.specs.Faults.{IsPlanOf, IsLeastFault};
-ghost use Rattle.afdx_config.specs.CellFaults.{cells_show};
-ghost use Rattle.afdx_config.specs.Findings.{value_findings};
-ghost use Rattle.afdx_config.specs.Seen.{cells_in};
-ghost use Rattle.afdx_config.specs.Views.{IsDocument, data_of, first_fault};
+ghost use Rattle.afdx_config.specs.Findings.{findings};
+ghost use Rattle.afdx_config.specs.Seen.{fault_of, finding_of};
+ghost use Rattle.afdx_config.specs.Views.{IsDocument, data_of};
 
 use crate::document::Document;
-use crate::findings::{Found, SHOWN_FAULTS};
+use crate::findings::Found;
 use crate::parts::parts_of;
 use crate::plan_findings::add_plan;
-use crate::rows::{Rows, rows_of};
-use crate::value_faults::first_among;
+use crate::rows::rows_of;
+use crate::value_findings::add_values;
 use afdx_plan::{Config, ConfigFault};
 use std::alloc::{AllocError, Global};
 
-/// Links and ports have the fault.
-fn rows_have(alloc: Global, fault: ConfigFault, rows: &Rows) -> Result<bool, AllocError>
-    ensures { IfOk result (λ has. has ≡ cells_show fault (cells_in rows.now)) }
+/// The fault of the first finding.
+fn first_of(found: &Found) -> Option<ConfigFault>
+    ensures { result ≡ fault_of (map finding_of found.now.first.items) }
+{
+    match found.first.as_slice() {
+        [] => None,
+        [first, ..] => Some(first.fault),
+    }
+}
+
+/// The fault of the least number in a document. If a value has a fault, links and ports aren't looked at.
+fn least_fault(alloc: Global, document: &Document<'_>) -> Result<Option<ConfigFault>, AllocError>
+    requires { IsDocument document.now }
+    ensures { IfOk result (λ first. first ≡ fault_of (findings (data_of document.now))) }
 {
     let mut found = Found::new(alloc);
-    add_plan(&mut found, fault, rows)?;
-    Ok(found.count != 0)
-}
-
-/// The first of these faults that links and ports have.
-fn first_in_rows(
-    alloc: Global,
-    faults: &[ConfigFault],
-    rows: &Rows,
-) -> Result<Option<ConfigFault>, AllocError>
-    ensures { IfOk result (λ first. first ≡ find (λ fault. cells_show fault (cells_in rows.now)) faults.now) }
-{
-    for fault in faults {
-        if rows_have(alloc, *fault, rows)? {
-            return Ok(Some(*fault));
-        }
-    }
-    Ok(None)
-}
-
-/// The fault of the least number in a document.
-fn fault_of(alloc: Global, document: &Document<'_>) -> Result<Option<ConfigFault>, AllocError>
-    requires { IsDocument document.now }
-    ensures first { IfOk result (λ first. first ≡ first_fault (data_of document.now)) }
-    ensures values { IfOk result (λ first. first ≡ None → value_findings (data_of document.now) ≡ []) }
-{
-    if let Some(fault) = first_among(document, &SHOWN_FAULTS[..5]) {
-        return Ok(Some(*fault));
+    add_values(&mut found, document)?;
+    if found.count != 0 {
+        return Ok(first_of(&found));
     }
     let rows = rows_of(alloc, document)?;
-    first_in_rows(alloc, &SHOWN_FAULTS[5..], &rows)
+    add_plan(&mut found, &rows)?;
+    Ok(first_of(&found))
 }
 
 /// Converts a document. The time of `Config::new` grows as the square of the number of tables; a document
 /// without faults has few.
 fn read_document(alloc: Global, document: &Document<'_>) -> Result<Config, ConfigFault>
     requires { IsDocument document.now }
-    ensures fine { IfOk result (λ _. first_fault (data_of document.now) ≡ None) }
+    ensures fine { IfOk result (λ _. findings (data_of document.now) ≡ []) }
     ensures plan { IfOk result (λ config. config ≡ plan_of (data_of document.now)) }
     ensures fault { IfErr result (λ fault. fault ≢ ConfigFault.Memory →
-        first_fault (data_of document.now) ≡ Some fault) }
+        fault_of (findings (data_of document.now)) ≡ Some fault) }
 {
-    let Ok(first) = fault_of(alloc, document) else {
+    let Ok(first) = least_fault(alloc, document) else {
         return Err(ConfigFault::Memory);
     };
     if let Some(fault) = first {

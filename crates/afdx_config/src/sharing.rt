@@ -1,13 +1,18 @@
 //! Ports on different links with the same partition and unicast address.
-ghost use Rattle.std.specs.Prelude.{◌≡◌, map, slice_get, option_and_then, option_copied, IfOk};
-ghost use Rattle.std.specs.List.{position};
+ghost use Rattle.std.specs.Prelude.{◌≡◌, codes, map, slice_get, option_and_then, option_copied, IfOk, OnOk};
+ghost use Rattle.afdx_plan.specs.declared.fault.ConfigFault.{ConfigFault};
 ghost use Rattle.std.specs.BTreeMap.{get};
 ghost use Rattle.afdx_config.specs.CellFaults.{share_unicast};
+ghost use Rattle.afdx_config.specs.Findings.{pair_findings};
+ghost use Rattle.afdx_config.specs.Seen.{Adds};
+ghost use Rattle.afdx_config.specs.declared.findings.Place.TheVariants.{Port};
 ghost use Rattle.afdx_config.specs.Sharing.{address_of, address_cmp, are_apart, is_apart, later_address, sharing_place};
 
+use crate::findings::{Added, Found, Place};
 use crate::keyed::{first_rows, nth_row, row_with};
-use crate::pairs::Firsts;
+use crate::pairs::add_pairs;
 use crate::rows::PortRow;
+use afdx_plan::ConfigFault;
 use std::alloc::{AllocError, Global};
 use std::collections::BTreeMap;
 
@@ -108,7 +113,7 @@ fn sharing_places(
     firsts: &BTreeMap<Address, usize>,
     laters: &BTreeMap<Address, usize>,
     ports: &[PortRow],
-) -> Firsts
+) -> Result<Vec<Option<usize>>, AllocError>
     ensures { IfOk result (λ places. places.items
         ≡ map (sharing_place (get address_cmp firsts.now) (get address_cmp laters.now) ports.now) ports.now) }
 {
@@ -118,14 +123,17 @@ fn sharing_places(
         .collect(alloc)
 }
 
-/// For each port the first one on another link with its partition and unicast address.
-pub(crate) fn sharing_ports(alloc: Global, ports: &[PortRow]) -> Firsts
-    ensures { IfOk result (λ firsts. firsts.items
-        ≡ map (λ p. position (λ earlier. share_unicast earlier p) ports.now) ports.now) }
+/// Adds the ports that are on another link than an earlier one with their partition and unicast address.
+pub(crate) fn add_sharing(found: &mut Found, ports: &[PortRow]) -> Added
+    ensures { OnOk result (Adds found.old found.new
+        (pair_findings ConfigFault.SharedUnicast (codes "dest_ip") Port share_unicast ports.now)) }
 {
+    let alloc = found.alloc();
     let addresses = addresses(alloc, ports)?;
     let firsts = first_rows(alloc, addresses.as_slice())?;
     let later = later_addresses(alloc, &firsts, ports)?;
     let laters = first_rows(alloc, later.as_slice())?;
-    sharing_places(alloc, &firsts, &laters, ports)
+    let places = sharing_places(alloc, &firsts, &laters, ports)?;
+    let fault = ConfigFault::SharedUnicast;
+    add_pairs(found, fault, "dest_ip", Place::Port(0), places.as_slice())
 }

@@ -1,11 +1,11 @@
 //! The faults of the values of a document, with their places.
-ghost use Rattle.std.specs.Prelude.{◌≡◌, [], map, filter, string_bytes, OnOk};
+ghost use Rattle.std.specs.Prelude.{◌≡◌, [], map, string_bytes, OnOk};
 ghost use Rattle.std.specs.List.{flat_map};
 ghost use Rattle.std.specs.Option.{option_map_or};
 ghost use Rattle.std.specs.BTreeMap.{keys};
 ghost use Rattle.toml.specs.View.{table_view};
-ghost use Rattle.afdx_config.specs.Findings.{each_row, has, key_finding, row_like, table_findings, value_findings};
-ghost use Rattle.afdx_config.specs.Tables.{field_fault, key_fault};
+ghost use Rattle.afdx_config.specs.Findings.{each_row, key_finding, row_like, table_findings, value_findings};
+ghost use Rattle.afdx_config.specs.Tables.{key_fault};
 ghost use Rattle.afdx_config.specs.Seen.{Adds};
 ghost use Rattle.afdx_config.specs.Views.{IsDocument, data_of, field_of};
 ghost use Rattle.afdx_config.specs.Format.{end_fields};
@@ -18,101 +18,74 @@ use crate::format::{DOCUMENT, END, Field, LINK, PORT};
 use afdx_plan::ConfigFault;
 use toml::Table;
 
-/// Adds a key of a table if it has the fault `wanted`.
-fn add_key(
-    found: &mut Found,
-    wanted: ConfigFault,
-    place: Place,
-    key: &str,
-    fault: Option<ConfigFault>,
-) -> Added
-    ensures { OnOk result (Adds found.old found.new (filter (has wanted) (key_finding place key.now fault))) }
+/// Adds a key of a table if it has a fault.
+fn add_key(found: &mut Found, place: Place, key: &str, fault: Option<ConfigFault>) -> Added
+    ensures { OnOk result (Adds found.old found.new (key_finding place key.now fault)) }
 {
     match fault {
-        Some(fault) if wanted.number() == fault.number() => add(found, fault, place, key, None),
-        _ => Ok(()),
+        Some(fault) => add(found, fault, place, key, None),
+        None => Ok(()),
     }
 }
 
-/// Adds the keys of a table that its format lacks, if that is the fault `wanted`.
-fn add_keys(
-    found: &mut Found,
-    wanted: ConfigFault,
-    place: Place,
-    fields: &[Field],
-    table: &Table,
-) -> Added
+/// Adds the keys of a table that its format lacks.
+fn add_keys(found: &mut Found, place: Place, fields: &[Field], table: &Table) -> Added
     ensures { OnOk result (Adds found.old found.new
-        (flat_map (λ k. filter (has wanted)
-        (key_finding place (string_bytes k) (key_fault (map field_of fields.now) (string_bytes k))))
+        (flat_map (λ k. key_finding place (string_bytes k) (key_fault (map field_of fields.now) (string_bytes k)))
         (keys table.now))) }
 {
     for key in table.keys() {
         let key = key.as_str();
-        add_key(found, wanted, place, key, key_fault(fields, key))?;
+        add_key(found, place, key, key_fault(fields, key))?;
     }
     Ok(())
 }
 
-/// Adds the keys of a table's format that have the fault `wanted`, and those of its keys that the format lacks.
-fn add_table(
-    found: &mut Found,
-    wanted: ConfigFault,
-    place: Place,
-    fields: &[Field],
-    table: &Table,
-) -> Added
+/// Adds the keys of a table's format that have a fault, and those of its keys that the format lacks.
+fn add_table(found: &mut Found, place: Place, fields: &[Field], table: &Table) -> Added
     ensures { OnOk result (Adds found.old found.new
-        (filter (has wanted) (table_findings place (map field_of fields.now) (table_view table.now)))) }
+        (table_findings place (map field_of fields.now) (table_view table.now))) }
 {
     for field in fields {
-        add_key(found, wanted, place, field.0, field_fault(table, field))?;
+        add_key(found, place, field.0, field_fault(table, field))?;
     }
-    add_keys(found, wanted, place, fields, table)
+    add_keys(found, place, fields, table)
 }
 
 /// Adds the findings of the tables of an array that has this place.
-fn add_rows(
-    found: &mut Found,
-    wanted: ConfigFault,
-    array: Place,
-    fields: &[Field],
-    tables: &[&Table],
-) -> Added
+fn add_rows(found: &mut Found, array: Place, fields: &[Field], tables: &[&Table]) -> Added
     ensures { OnOk result (Adds found.old found.new (each_row
-        (λ k t. filter (has wanted) (table_findings (row_like array k) (map field_of fields.now) (table_view t.now)))
-        1 tables.now)) }
+        (λ k t. table_findings (row_like array k) (map field_of fields.now) (table_view t.now)) 1 tables.now)) }
 {
     for (i, table) in tables.iter().enumerate() {
         let place = row_like(array, i + 1);
-        add_table(found, wanted, place, fields, table)?;
+        add_table(found, place, fields, table)?;
     }
     Ok(())
 }
 
 /// Adds the findings of the table of the end system.
-fn add_end(found: &mut Found, wanted: ConfigFault, end: Option<&Table>) -> Added
-    ensures { OnOk result (Adds found.old found.new (filter (has wanted)
-        (option_map_or (λ t. table_findings EndSystem end_fields (table_view t.now)) end.entry []))) }
+fn add_end(found: &mut Found, end: Option<&Table>) -> Added
+    ensures { OnOk result (Adds found.old found.new
+        (option_map_or (λ t. table_findings EndSystem end_fields (table_view t.now)) end.entry [])) }
 {
     match end {
-        Some(table) => add_table(found, wanted, Place::EndSystem, &END, table),
+        Some(table) => add_table(found, Place::EndSystem, &END, table),
         None => Ok(()),
     }
 }
 
-/// Adds the findings of a fault in the values of a document.
-pub(crate) fn add_values(found: &mut Found, wanted: ConfigFault, document: &Document<'_>) -> Added
+/// Adds the findings of the values of a document.
+pub(crate) fn add_values(found: &mut Found, document: &Document<'_>) -> Added
     requires { IsDocument document.now }
-    ensures { OnOk result (Adds found.old found.new
-        (filter (has wanted) (value_findings (data_of document.now)))) }
+    ensures { OnOk result (Adds found.old found.new (value_findings (data_of document.now))) }
 {
-    add_table(found, wanted, Place::Top, &DOCUMENT, document.top)?;
-    add_end(found, wanted, document.end)?;
+    add_table(found, Place::Top, &DOCUMENT, document.top)?;
+    add_end(found, document.end)?;
     let fields = fields_in(document, &LINK);
     let links = document.links.as_slice();
-    add_rows(found, wanted, Place::Link(0), fields, links)?;
+    add_rows(found, Place::Link(0), fields, links)?;
     let fields = fields_in(document, &PORT);
     let ports = document.ports.as_slice();
-    add_rows(found, wanted, Place::Port(0), fields, ports)
+    add_rows(found, Place::Port(0), fields, ports)
 }

@@ -13,7 +13,7 @@ loop-i-preserved c = record {
   findings = row_more (crowd_finding c.args.ports.now) c.loop-i.i c.args.ports.now _ no_port _ _ _ c.loop-i-test.true refl
       c.loop-i.invariant.findings
       (rw (crowd_is c.args.ports.now c.loop-i.i _ (get_or c.args.ports.now c.loop-i.i no_port) (λ q. unwrap_or (get sub_cmp c.loop-i.counts q) 0)
-      c.loop-i.invariant.counts c.in_ok-before.ensures.before) at c.in_ok-add_crowd.ensures);
+      c.loop-i.invariant.counts c.in_ok-before.ensures.before) at c.in_ok-add_if.ensures);
   counts = count_more c.args.ports.now c.loop-i.i no_port _ (λ q. unwrap_or (get sub_cmp c.loop-i.counts q) 0)
       (λ q. unwrap_or (get sub_cmp c.count_port.new.counts q) 0) c.loop-i-test.true refl c.loop-i.invariant.counts
       c.in_ok-before.ensures.after;

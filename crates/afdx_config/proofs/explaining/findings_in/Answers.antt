@@ -1,6 +1,5 @@
-use Rattle.afdx_config.proofs.Names.{[], take_all}
+use Rattle.afdx_config.proofs.Names.{[]}
 use Rattle.afdx_config.proofs.explaining.findings_in.Goals as goal
 
 pub returns : goal.returns
-returns c = rw (take_all c.loop-fault.fault-index c.args.faults.now c.loop-fault-test.false, c.in_ok-rows.ensures)
-    at (c.loop-fault.invariant [] c.new-found.ensures)
+returns c = rw c.in_ok-rows.ensures at (c.in_ok-add_plan.ensures _ (c.in_ok-add_values.ensures [] c.new-found.ensures))

@@ -1,11 +1,18 @@
-use Rattle.afdx_config.proofs.Names.{refl, rules, ap, map, finding_of, ◌∙◌, ◌++◌, ◌∷◌, []}
-use Rattle.std.proofs.lemmas.List.{map-append}
-use Rattle.afdx_config.proofs.AddLemmas.{adds_kept, adds_full}
+use Rattle.afdx_config.proofs.Names.{refl, rules, ap, map, take, finding_of, ◌∙◌}
+use Rattle.std.proofs.lemmas.List.{length-map}
+use Rattle.std.specs.List.{insert}
+use Rattle.afdx_config.specs.Findings.{found, lines_limit}
+use Rattle.afdx_config.proofs.OrderLemmas.{adds_put, adds_past, map_insert}
 use Rattle.afdx_config.proofs.findings.add.Goals as goal
 
-pub returns-then-found-ge-LINES_LIMIT : goal.returns-then-found-ge-LINES_LIMIT
-returns-then-found-ge-LINES_LIMIT c = adds_full _ _ _ c.in-Some.ensures.1 c.if-found-ge-LINES_LIMIT.true refl
+pub returns-then-index-ge-LINES_LIMIT : goal.returns-then-index-ge-LINES_LIMIT
+returns-then-index-ge-LINES_LIMIT c = adds_past _ _ _ c.index_of-index.result c.in-Some.ensures.1
+    (rw c.as_slice.ensures.value at (c.index_of-index.ensures.put (found c.args.fault c.args.place c.args.key.now c.args.other) refl)) c.if-index-ge-LINES_LIMIT.true
+    (rw (length-map c.args.found.now.first.items finding_of) (rw c.as_slice.ensures.value at c.index_of-index.ensures.within)) refl
 
 pub returns : goal.returns
-returns c = adds_kept _ _ _ c.in-Some.ensures.1 c.if-found-ge-LINES_LIMIT.false
-    (ap (map finding_of) c.in_ok-push.ensures.items ∙ map-append finding_of c.args.found.now.first.items _ ∙ ap (λ k. map finding_of c.args.found.now.first.items ++ record { fault = c.args.fault; place = c.args.place; key = k; other = c.args.other } ∷ []) (search rules))
+returns c = adds_put _ _ _ c.index_of-index.result c.in-Some.ensures.1
+    (rw c.as_slice.ensures.value at (c.index_of-index.ensures.put (found c.args.fault c.args.place c.args.key.now c.args.other) refl))
+    (ap (map finding_of) (c.truncate.ensures.items ∙ ap (take lines_limit) c.in_ok-insert.ensures.items) ∙ map_insert c.args.found.now.first.items _ _
+    ∙ ap (λ k. take lines_limit (insert (map finding_of c.args.found.now.first.items) c.index_of-index.result
+    record { fault = c.args.fault; place = c.args.place; key = k; other = c.args.other })) (search rules))

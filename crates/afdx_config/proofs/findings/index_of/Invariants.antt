@@ -1,0 +1,6 @@
+use Rattle.afdx_config.proofs.Names.{◌≡◌, ◌∷◌, drop, map, Finding, finding_of}
+use Rattle.afdx_config.specs.Findings.{put}
+use Rattle.afdx_config.proofs.findings.index_of.Given as goal
+
+abbrev pub invariant-loop-i : goal.invariant-loop-i
+invariant-loop-i l = (x : Finding) → x.fault ≡ l.fault → put (drop l.i (map finding_of l.first)) x ≡ x ∷ drop l.i (map finding_of l.first)
