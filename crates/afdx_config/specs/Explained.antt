@@ -1,11 +1,10 @@
 -- The explanation of a text.
-use Rattle.std.specs.Prelude.{◌≡◌, ◌≤◌, ◌⊎◌, ℕ, ◌+◌, List, [], ◌∷◌, length, take, count_by, Bool, not, ◌==◌, ◌&&◌, nat_le, nat_lt, if◌then◌else◌, None}
+use Rattle.std.specs.Prelude.{◌≡◌, ◌≤◌, ◌⊎◌, ℕ, ◌+◌, ◌-◌, List, [], ◌∷◌, ◌++◌, codes, decimal, length, take, count_by, Bool, not, ◌==◌, ◌&&◌, nat_le, nat_lt, if◌then◌else◌, None}
 use Rattle.toml.specs.Data.{Members}
 use Rattle.afdx_plan.specs.declared.fault.ConfigFault.TheVariants.{Toml}
 use Rattle.afdx_config.specs.declared.findings.Place.TheVariants.{Text}
 use Rattle.afdx_config.specs.Faults.{Reads}
 use Rattle.afdx_config.specs.Findings.{Finding, found, findings, lines_limit}
-use Rattle.afdx_config.specs.Told.{explanation, toml_text}
 
 -- the line after these bytes, counted from 1
 abbrev pub line_of : List ℕ → ℕ
@@ -21,27 +20,41 @@ column_after k [] = 1 + k
 column_after k (byte ∷ rest) =
     column_after (if byte == 10 then 0 else if begins_character byte then k + 1 else k) rest
 
--- the first findings of a document, the number of all, and their text
-pub record TellsDocument (document : Members) (first : List Finding) (count : ℕ) (text : List ℕ) : Type 0 where
+-- the first findings of a document, and the number of all
+pub record TellsDocument (document : Members) (first : List Finding) (count : ℕ) : Type 0 where
   pub findings_are : first ≡ take lines_limit (findings document)
   pub count_is : count ≡ length (findings document)
-  pub text_is : text ≡ explanation document (findings document)
 
--- the one finding of a text that stops being TOML after these bytes, and the message of the TOML parser
-pub record TellsStop (before message : List ℕ) (first : List Finding) (count : ℕ) (text : List ℕ) : Type 0 where
+-- the one finding of a text that stops being TOML after these bytes, with the message of the TOML parser
+pub record TellsStop (before message : List ℕ) (first : List Finding) (count : ℕ) : Type 0 where
   pub finding_is : first ≡ found Toml (Text (line_of before) (column_after 0 before)) message None ∷ []
   pub count_is : count ≡ 1
-  pub text_is : text ≡ toml_text (line_of before) (column_after 0 before) message
 
 -- the same, at some place of the text
-pub record TellsToml (input : List ℕ) (first : List Finding) (count : ℕ) (text : List ℕ) : Type 0 where
+pub record TellsToml (input : List ℕ) (first : List Finding) (count : ℕ) : Type 0 where
   pub at : ℕ
   pub within : at ≤ length input
   pub message : List ℕ
-  pub tells : TellsStop (take at input) message first count text
+  pub tells : TellsStop (take at input) message first count
+
+-- the number of findings
+unfoldable pub count_line : ℕ → List ℕ
+count_line count =
+    if count == 0 then codes "no faults" ++ 10 ∷ []
+    else if count == 1 then codes "1 fault" ++ 10 ∷ []
+    else decimal count ++ codes " faults" ++ 10 ∷ []
+
+-- the number of findings that have no line
+unfoldable pub rest_line : ℕ → List ℕ
+rest_line count = if count == 0 then [] else codes "and " ++ decimal count ++ codes " more" ++ 10 ∷ []
+
+-- a text of the number of findings, the lines of the first 1,000, and the number of the others
+pub record HasLines (count : ℕ) (text : List ℕ) : Type 0 where
+  pub lines : List ℕ
+  pub text_is : text ≡ count_line count ++ lines ++ rest_line (count - lines_limit)
 
 -- the first findings of a text, the number of all, and their text: those of its document, or that it is not TOML
 abbrev pub Explains : List ℕ → List Finding → ℕ → List ℕ → Type 0
-Explains input first count text =
-    ((document : Members) × Reads input document × TellsDocument document first count text)
-    ⊎ (((document : Members) → ¬ Reads input document) × TellsToml input first count text)
+Explains input first count text = HasLines count text
+    × (((document : Members) × Reads input document × TellsDocument document first count)
+    ⊎ (((document : Members) → ¬ Reads input document) × TellsToml input first count))

@@ -11,13 +11,13 @@ use Rattle.afdx_config.specs.declared.rows.PortRow.{PortRow}
 use Rattle.afdx_config.specs.Cells.{Cells, cells_of}
 use Rattle.afdx_config.specs.CellFaults.{same_link, same_port, same_flow, share_unicast, lacks_link, lacks_sub, is_long, is_wrong_count}
 use Rattle.afdx_config.specs.declared.findings.Place.{Place}
-use Rattle.afdx_config.specs.declared.findings.Place.TheVariants.{Top, Link, Port}
+use Rattle.afdx_config.specs.declared.findings.Place.TheVariants.{Text, Top, EndSystem, Link, Port}
 use Rattle.afdx_config.specs.Faults.{shows, values_show, Reads, IsLeastFault, IsPlanOf}
 use Rattle.afdx_config.specs.Findings.{Finding, findings, has, is_past_limit}
 use Rattle.afdx_config.specs.Entries.{member_keys}
 use Rattle.afdx_config.specs.PlanOf.{plan_of}
-use Rattle.afdx_config.specs.Tables.{field_fault, is_fault, is_key_of}
-use Rattle.afdx_config.specs.Told.{members_at, fields_at}
+use Rattle.afdx_config.specs.Tables.{field_fault, is_fault, is_key_of, is_version_2, rows_at, section_at}
+use Rattle.afdx_config.specs.Format.{Field, document_fields, end_fields, link_fields, port_fields, fields_in}
 
 -- a document has a fault exactly if some finding has it
 abbrev pub FaultsAreFound : Type 0
@@ -35,6 +35,22 @@ FirstIsAnswered = (text : List ℕ) (document : Members) → Reads text document
 abbrev pub RulesAgree : Type 0
 RulesAgree = (document : Members) → ((value : ConfigFault) → values_show value document ≡ false)
     → (fault : ConfigFault) → shows fault document ≡ plan_shows fault (plan_of document)
+
+-- the table at a place
+abbrev pub members_at : Members → Place → Option Members
+members_at document (Text line column) = None
+members_at document Top = Some document
+members_at document EndSystem = section_at (codes "end_system") document
+members_at document (Link k) = slice_get (rows_at (codes "vl") document) (k - 1)
+members_at document (Port k) = slice_get (rows_at (codes "port") document) (k - 1)
+
+-- the keys of the format of the table at a place
+abbrev pub fields_at : Members → Place → List Field
+fields_at document (Text line column) = []
+fields_at document Top = document_fields
+fields_at document EndSystem = end_fields
+fields_at document (Link k) = fields_in (is_version_2 document) link_fields
+fields_at document (Port k) = fields_in (is_version_2 document) port_fields
 
 -- the table at a place exists and passes a test
 abbrev pub table_has : (Members → Bool) → Members → Place → Bool

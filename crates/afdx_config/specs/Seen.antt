@@ -1,6 +1,5 @@
 -- The specification values of findings in the code.
-use Rattle.std.specs.Prelude.{◌≡◌, ◌≤◌, ◌++◌, ⊤, ℕ, List, [], ◌∷◌, length, map, take, string_bytes, Option, Some, None}
-use Rattle.std.specs.Global.{Vec}
+use Rattle.std.specs.Prelude.{◌≡◌, ◌≤◌, ◌++◌, ⊤, List, [], ◌∷◌, length, map, take, string_bytes, Option, Some, None}
 use Rattle.std.specs.List.{AllByRecursion}
 use Rattle.afdx_plan.specs.declared.fault.ConfigFault.{ConfigFault}
 use Rattle.afdx_config.specs.Cells.{Cells}
@@ -45,7 +44,3 @@ pub record Holds (found : Found) (all : List Finding) : Type 0 where
 -- these findings were added
 abbrev pub Adds : Found → Found → List Finding → Type 0
 Adds old new more = (all : List Finding) → Holds old all → Holds new (all ++ more)
-
--- a text was extended by these bytes
-abbrev pub Tells : Vec ℕ → Vec ℕ → List ℕ → Type 0
-Tells old new bytes = new.items ≡ old.items ++ bytes

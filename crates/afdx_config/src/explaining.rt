@@ -3,7 +3,7 @@ ghost use Rattle.std.specs.Prelude.{◌≡◌, ◌++◌, map, IfOk};
 ghost use Rattle.toml.specs.Errors.{IsWithin};
 ghost use Rattle.toml.specs.View.{table_view};
 ghost use Rattle.afdx_config.specs.Cells.{cells_of};
-ghost use Rattle.afdx_config.specs.Explained.{column_after, line_of, Explains, TellsDocument, TellsStop, TellsToml};
+ghost use Rattle.afdx_config.specs.Explained.{column_after, line_of, Explains, HasLines, TellsDocument, TellsStop, TellsToml};
 ghost use Rattle.afdx_config.specs.Findings.{plan_findings, value_findings};
 ghost use Rattle.afdx_config.specs.Seen.{Holds, finding_of};
 ghost use Rattle.afdx_config.specs.Views.{IsDocument, data_of};
@@ -12,7 +12,7 @@ use crate::document::Document;
 use crate::findings::{Finding, Found, Place, add};
 use crate::plan_findings::add_plan;
 use crate::rows::rows_of;
-use crate::told::{write_explanation, write_toml};
+use crate::told::{text_of, text_of_toml};
 use crate::value_findings::add_values;
 use afdx_plan::ConfigFault;
 use std::alloc::{AllocError, Global};
@@ -46,14 +46,14 @@ fn findings_in(alloc: Global, document: &Document<'_>) -> Result<Found, AllocErr
 
 /// Explains a document.
 fn explain_document(alloc: Global, table: &Table) -> Result<Explanation, AllocError>
-    ensures { IfOk result (λ e.
-        TellsDocument (table_view table.now) (map finding_of e.findings.items) e.count e.text.items) }
+    ensures findings { IfOk result (λ e.
+        TellsDocument (table_view table.now) (map finding_of e.findings.items) e.count) }
+    ensures text { IfOk result (λ e. HasLines e.count e.text.items) }
 {
     let document = Document::of(alloc, table)?;
     let found = findings_in(alloc, &document)?;
-    let mut text = Vec::new(alloc);
-    match write_explanation(&mut text, &document, &found) {
-        Ok(()) => Ok(explanation_of(found, text)),
+    match text_of(alloc, &document, &found) {
+        Ok(text) => Ok(explanation_of(found, text)),
         Err(_) => Err(AllocError),
     }
 }
@@ -93,8 +93,8 @@ fn column_of(before: &[u8]) -> usize
 /// Explains a text that is not TOML.
 fn explain_toml(alloc: Global, text: &[u8], error: &Error) -> Result<Explanation, AllocError>
     requires { IsWithin text.now error.now }
-    ensures { IfOk result (λ e.
-        TellsToml text.now (map finding_of e.findings.items) e.count e.text.items) }
+    ensures findings { IfOk result (λ e. TellsToml text.now (map finding_of e.findings.items) e.count) }
+    ensures text { IfOk result (λ e. HasLines e.count e.text.items) }
 {
     let start = match error.span() {
         Some(span) => span.start,
@@ -106,8 +106,9 @@ fn explain_toml(alloc: Global, text: &[u8], error: &Error) -> Result<Explanation
 
 /// Explains a text that stops being TOML after the bytes `before`.
 fn tell_toml(alloc: Global, before: &[u8], message: &str) -> Result<Explanation, AllocError>
-    ensures { IfOk result (λ e. TellsStop before.now message.now
-        (map finding_of e.findings.items) e.count e.text.items) }
+    ensures findings { IfOk result (λ e.
+        TellsStop before.now message.now (map finding_of e.findings.items) e.count) }
+    ensures text { IfOk result (λ e. HasLines e.count e.text.items) }
 {
     let line = line_of(before);
     let column = column_of(before);
@@ -115,9 +116,8 @@ fn tell_toml(alloc: Global, before: &[u8], message: &str) -> Result<Explanation,
     let place = Place::Text(line, column);
     let fault = ConfigFault::Toml;
     add(&mut found, fault, place, message, None)?;
-    let mut text = Vec::new(alloc);
-    match write_toml(&mut text, line, column, message) {
-        Ok(()) => Ok(explanation_of(found, text)),
+    match text_of_toml(alloc, line, column, message) {
+        Ok(text) => Ok(explanation_of(found, text)),
         Err(_) => Err(AllocError),
     }
 }
