@@ -1,6 +1,6 @@
 -- Rows by their keys.
 use Rattle.std.proofs.Math.Path.{fun_ext}
-use Rattle.afdx_config.proofs.Names.{◌≡◌, ℕ, ◌+◌, ◌-◌, ◌<◌, ◌≤◌, List, [], ◌∷◌, length, drop, get_or, cond, Bool, true, false, zero, suc, same_Some, Option, Some, None, refl, ap, sym, ◌∙◌, arith, drop_more, drop_all, map, map-map, nat_eq}
+use Rattle.afdx_config.proofs.Names.{◌≡◌, ℕ, ◌+◌, ◌-◌, ◌<◌, ◌≤◌, List, [], ◌∷◌, length, drop, get_or, cond, Bool, false, Option, Some, None, refl, ap, sym, ◌∙◌, arith, drop_more, drop_all, map, map-map, nat_eq}
 use Rattle.afdx_config.proofs.Names.{position, position_from, position_from-zero, option_map_or, nat_cmp, nat_tests, Ordering, both, is_key, first_row, is_eq, bytes_eq, slice_cmp, is_eq-slice_cmp, find, find_at, position_or_len, option_and_then, slice_get, Cells, PortRow, LinkRow, is_row_of, all_named, lacks_link, ◌&&◌, is_some, is_none, Bor, option_copied, slice_get_past, IfSome, position-Some}
 use Rattle.afdx_config.proofs.SectionLemmas.{any_found}
 
@@ -62,31 +62,6 @@ same_number (Some a) (Some b) = tied a b
 -- two unicast addresses are the same exactly if the order says so
 pub same_address : (a b : List ℕ) → bytes_eq a b ≡ is_eq (slice_cmp nat_cmp a b)
 same_address a b = sym (is_eq-slice_cmp a b)
-
--- a stronger test finds no row where the weaker one finds none
-from_weaker : {A : Type 0} (p q : A → Bool) (k : ℕ) (rows : List A) → ((x : A) → p x ≡ false → q x ≡ false)
-    → position_from p k rows ≡ None → position_from q k rows ≡ None
-from_weaker p q k [] weaker is = refl
-from_weaker p q k (x ∷ xs) weaker is = grind (arith, weaker x, from_weaker p q (k + 1) xs weaker)
-
-pub position_weaker : {A : Type 0} (p q : A → Bool) (rows : List A) → ((x : A) → p x ≡ false → q x ≡ false) → position p rows ≡ None
-    → position q rows ≡ None
-position_weaker p q rows weaker is =
-    position_from-zero q rows ∙ from_weaker p q 0 rows weaker (sym (position_from-zero p rows) ∙ is)
-
--- a stronger test finds the row that the weaker one finds, if that row passes it
-from_passed : {A : Type 0} (p q : A → Bool) (k i : ℕ) (d : A) (rows : List A) → ((x : A) → p x ≡ false → q x ≡ false)
-    → position_from p k rows ≡ Some (k + i) → q (get_or rows i d) ≡ true → position_from q k rows ≡ Some (k + i)
-from_passed p q k i d [] weaker is passed = cc
-from_passed p q k zero d (x ∷ xs) weaker is passed = rw passed (ap Some (omega arith))
-from_passed p q k (suc i) d (x ∷ xs) weaker is passed =
-    let next : k + 1 + i ≡ k + suc i = omega arith in grind (arith, weaker x, same_Some, from_passed p q (k + 1) i d xs weaker)
-
-pub position_passed : {A : Type 0} (p q : A → Bool) (i : ℕ) (d : A) (rows : List A) → ((x : A) → p x ≡ false → q x ≡ false)
-    → position p rows ≡ Some i → q (get_or rows i d) ≡ true → position q rows ≡ Some i
-position_passed p q i d rows weaker is passed =
-    position_from-zero q rows ∙ from_passed p q 0 i d rows weaker (sym (position_from-zero p rows) ∙ is ∙ ap Some (omega arith)) passed
-    ∙ ap Some (omega arith)
 
 -- what a search finds is at the first index
 pub find_place : {A : Type 0} (p : A → Bool) (rows : List A) → find p rows ≡ option_and_then (slice_get rows) (position p rows)

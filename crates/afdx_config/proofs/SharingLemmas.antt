@@ -1,15 +1,15 @@
 -- Ports with the same keys.
 use Rattle.std.proofs.Math.Path.{fun_ext}
-use Rattle.afdx_config.proofs.Names.{◌≡◌, ℕ, List, Bool, true, false, ◌&&◌, Option, Some, None, refl, ap, sym, ◌∙◌, arith, option_map_or, nat_eq, nat_cmp, nat_tests, is_eq, Ordering, ordering_then, both_tied, and-false, slice_cmp, option_cmp, not, ◌==◌, map, position, slice_get, slice_get-get_or, position-Some, get_or, option_and_then, share_unicast, cond, length, ◌<◌}
+use Rattle.afdx_config.proofs.Names.{◌≡◌, ℕ, List, [], ◌∷◌, Bool, true, false, ◌&&◌, Option, Some, None, refl, ap, sym, ◌∙◌, arith, option_map_or, nat_eq, nat_cmp, is_eq, Ordering, ordering_then, both_tied, and-false, slice_cmp, option_cmp, not, ◌==◌, map, position, position_from, position_from-zero, get_or, eqb-true, share_unicast, cond, length, ◌<◌}
 use Rattle.afdx_config.proofs.Names.{both, is_key, PortRow, same_flow, flow_of, are_one_destination, are_one_address}
 use Rattle.std.proofs.Common.{Less, Equal, Greater, ◌+◌, ◌^◌, take, count_by, length-take, add-zero}
 use Rattle.std.proofs.lemmas.List.Sums.{count_by-le-length, count_by_more_yes, count_by_more_no}
 use Rattle.afdx_config.proofs.Names.{on_sub_of, ◌-◌, nat_le, one_if, found, Limit, Port, codes, crowd_finding}
 use Rattle.std.proofs.lemmas.Map.Lookups.{exact_bytes, exact_pairs, exact_unsigned}
-use Rattle.afdx_config.specs.Sharing.{sub_in, is_on_sub, all_five, address_in, address_of, address_cmp, are_apart, is_apart, later_address, sharing_place}
+use Rattle.afdx_config.specs.Sharing.{sub_in, is_on_sub, all_five, address_in, address_of, address_cmp, first_at, off_link, sharing_place}
 use Rattle.afdx_config.proofs.SectionLemmas.{none_on}
 use Rattle.afdx_config.proofs.ShownLemmas.{no_sub}
-use Rattle.afdx_config.proofs.KeyedLemmas.{tied, same_address, position_map, position_none, position_weaker, position_passed}
+use Rattle.afdx_config.proofs.KeyedLemmas.{tied, same_address, position_none}
 
 -- no key, no match
 keyless : {A : Type 0} (o : Option A) → option_map_or (λ k. false) o false ≡ false
@@ -48,21 +48,24 @@ same_flows e r = five destination_cmp same_destination e.vl r.vl e.partition r.p
     e.unicast r.unicast
 
 -- two ports share an address exactly if they are on different links and the order says so
+abbrev share : Option ((ℕ × List ℕ) × ℕ) → Option ((ℕ × List ℕ) × ℕ) → Bool
+share None b = false
+share (Some a) None = false
+share (Some a) (Some b) = not (a.1 == b.1) && is_eq (address_cmp a.0 b.0)
+
+share_none : (o : Option ((ℕ × List ℕ) × ℕ)) → share o None ≡ false
+share_none None = refl
+share_none (Some k) = refl
+
 sharing_key : (v w a b : Option ℕ) (u t : Option (Option (List ℕ)))
-    → (both (λ x y. not (x == y)) v w && both nat_eq a b && both are_one_address u t)
-    ≡ (both (λ x y. not (x == y)) v w && option_map_or (λ k. is_key address_cmp k (address_in v a u)) (address_in w b t) false)
+    → (both (λ x y. not (x == y)) v w && both nat_eq a b && both are_one_address u t) ≡ share (address_in v a u) (address_in w b t)
 sharing_key None w a b u t = refl
-sharing_key (Some v) None a b u t = refl
+sharing_key (Some v) None a b u t = sym (share_none (address_in (Some v) a u))
 sharing_key (Some v) (Some w) (Some a) (Some b) (Some (Some x)) (Some (Some y)) =
     let both_are = both_tied _ _ _ _ (tied a b) (same_address x y) in
     rw (← both_are) (grind arith)
-sharing_key (Some v) (Some w) (Some a) (Some b) (Some None) (Some t) = simp (keyless, and-false) refl
-sharing_key v w a b u t = simp (keyless, and-false) refl
-
--- an address is that of a known link
-linked : (v a : Option ℕ) (u : Option (Option (List ℕ))) (k : ℕ × List ℕ) → address_in v a u ≡ Some k → (n : ℕ) × (v ≡ Some n)
-linked None a u k is = cc
-linked (Some v) a u k is = (v, refl)
+sharing_key (Some v) (Some w) (Some a) (Some b) (Some None) (Some t) = simp and-false refl
+sharing_key v w a b u t = simp (share_none, and-false) refl
 
 -- equal addresses in the order are equal
 equal : (o : Ordering) → is_eq o ≡ true → o ≡ Equal
@@ -70,99 +73,45 @@ equal Less is = cc
 equal Equal is = refl
 equal Greater is = cc
 
-exact : (k : ℕ × List ℕ) (o : Option (ℕ × List ℕ)) → is_key address_cmp k o ≡ true → o ≡ Some k
-exact k None is = cc
-exact k (Some q) is = ap Some (exact_pairs nat_cmp (slice_cmp nat_cmp) exact_unsigned exact_bytes q k (equal (address_cmp q k) is))
+exact : (a b : ℕ × List ℕ) → is_eq (address_cmp a b) ≡ true → a ≡ b
+exact a b is = exact_pairs nat_cmp (slice_cmp nat_cmp) exact_unsigned exact_bytes a b (equal (address_cmp a b) is)
 
--- on other links than that of f
-apart_same : (f e p : Option ℕ) (a b c : ℕ) → f ≡ Some a → e ≡ Some b → p ≡ Some c → both (λ x y. not (x == y)) f p ≡ false
-    → both (λ x y. not (x == y)) f e ≡ both (λ x y. not (x == y)) e p
-apart_same f e p a b c hf he hp is =
-    let known : not (a == c) ≡ false = rw (hf, hp) at is in
-    rw (hf, he, hp) (grind (arith, nat_tests))
-
-pick : (b : Bool) (k : ℕ × List ℕ) → is_key address_cmp k (cond b (Some k) None) ≡ (b && is_key address_cmp k (Some k))
-pick true k = refl
-pick false k = refl
-
-stays : (b : Bool) (o : Option (ℕ × List ℕ)) (k : ℕ × List ℕ) → is_key address_cmp k o ≡ false → is_key address_cmp k (cond b o None) ≡ false
-stays true o k is = is
-stays false o k is = refl
-
--- where the first port with an address is on the same link, the first that shares the address is a later one
-abbrev Address : Type 0
-Address = ℕ × List ℕ
-
-later_same : (ports : List PortRow) (F : Address → Option ℕ) (p e f : PortRow) (k : Address) (i : ℕ) → address_of p ≡ Some k
-    → is_key address_cmp k (address_of f) ≡ true → F k ≡ Some i → slice_get ports i ≡ Some f → are_apart f p ≡ false
-    → is_key address_cmp k (later_address F ports e) ≡ share_unicast e p
-later_same ports F p e f k i at_p at_f first there same =
-    here (is_key address_cmp k (address_of e)) refl ∙ sym (sharing_key e.vl p.vl e.partition p.partition e.unicast p.unicast
-    ∙ rw at_p refl)
+-- the first port on another link with an address
+next_found : (q a : ℕ × List ℕ) (v w i : ℕ) (place : Option ℕ) (rest : List PortRow) → place ≡ off_link v (first_at q (i + 1) rest)
+    → cond (not (w == v) && is_eq (address_cmp a q)) (Some i) place
+    ≡ off_link v (cond (is_eq (address_cmp a q)) (Some (i, w, off_link w (first_at a (i + 1) rest))) (first_at q (i + 1) rest))
+next_found q a v w i place rest is = here (is_eq (address_cmp a q)) refl (w == v) refl
   where
-    here : (b : Bool) → is_key address_cmp k (address_of e) ≡ b
-        → is_key address_cmp k (later_address F ports e) ≡ (are_apart e p && is_key address_cmp k (address_of e))
-    here true is =
-        let at_e = exact k (address_of e) is in
-        let of_f = linked f.vl f.partition f.unicast k (exact k (address_of f) at_f) in
-        let of_e = linked e.vl e.partition e.unicast k at_e in
-        let of_p = linked p.vl p.partition p.unicast k at_p in
-        let moved = apart_same f.vl e.vl p.vl of_f.0 of_e.0 of_p.0 of_f.1 of_e.1 of_p.1 same in
-        rw (at_e, first, there, moved) (pick (are_apart e p) k)
-    here false is = stays (is_apart ports (option_and_then F (address_of e)) e) (address_of e) k is
-        ∙ sym (ap (λ b. are_apart e p && b) is ∙ and-false (are_apart e p))
+    here : (b : Bool) → is_eq (address_cmp a q) ≡ b → (c : Bool) → (w == v) ≡ c → cond (not c && b) (Some i) place
+        ≡ off_link v (cond b (Some (i, w, off_link w (first_at a (i + 1) rest))) (first_at q (i + 1) rest))
+    here false differ c at = rw (and-false (not c)) is
+    here true same true at = rw at (rw (exact a q same, eqb-true w v at) is)
+    here true same false at = rw at refl
 
-shared_first : (ports : List PortRow) (F L : Address → Option ℕ) → ((q : Address) → F q ≡ position (is_key address_cmp q) (map address_of ports))
-    → ((q : Address) → L q ≡ position (is_key address_cmp q) (map (later_address F ports) ports))
-    → (p : PortRow) → sharing_place F L ports p ≡ position (λ e. share_unicast e p) ports
-shared_first ports F L first later p = here (address_of p) refl
+found_from : (p : PortRow) (q : ℕ × List ℕ) (v : ℕ) → address_of p ≡ Some (q, v) → (i : ℕ) (ports : List PortRow)
+    → position_from (λ e. share_unicast e p) i ports ≡ off_link v (first_at q i ports)
+found_from p q v at i [] = refl
+found_from p q v at i (e ∷ rest) = here (address_of e) refl (found_from p q v at (i + 1) rest)
   where
-    share_is : (k : Address) → address_of p ≡ Some k → (e : PortRow) → share_unicast e p ≡ (are_apart e p && is_key address_cmp k (address_of e))
-    share_is k at e = sharing_key e.vl p.vl e.partition p.partition e.unicast p.unicast ∙ rw at refl
+    with_key : (o : Option ((ℕ × List ℕ) × ℕ)) → position_from (λ d. share_unicast d p) (i + 1) rest ≡ off_link v (first_at q (i + 1) rest)
+        → cond (share o (Some (q, v))) (Some i) (position_from (λ d. share_unicast d p) (i + 1) rest)
+        ≡ off_link v (option_map_or (λ k. cond (is_eq (address_cmp k.0 q)) (Some (i, k.1, off_link k.1 (first_at k.0 (i + 1) rest)))
+        (first_at q (i + 1) rest)) o (first_at q (i + 1) rest))
+    with_key None more = more
+    with_key (Some (a, w)) more = next_found q a v w i _ rest more
 
-    unlike : (k : Address) → address_of p ≡ Some k → (e : PortRow) → is_key address_cmp k (address_of e) ≡ false → share_unicast e p ≡ false
-    unlike k at e is = share_is k at e ∙ rw is (and-false (are_apart e p))
+    here : (o : Option ((ℕ × List ℕ) × ℕ)) → address_of e ≡ o → position_from (λ d. share_unicast d p) (i + 1) rest ≡ off_link v (first_at q (i + 1) rest)
+        → position_from (λ d. share_unicast d p) i (e ∷ rest) ≡ off_link v (first_at q i (e ∷ rest))
+    here o is more = rw (sharing_key e.vl p.vl e.partition p.partition e.unicast p.unicast, is, at) (with_key o more)
 
-    later_unlike : (k : Address) (e : PortRow) → is_key address_cmp k (address_of e) ≡ false → is_key address_cmp k (later_address F ports e) ≡ false
-    later_unlike k e is = stays (is_apart ports (option_and_then F (address_of e)) e) (address_of e) k is
-
-    of_key : (k : Address) → F k ≡ position (λ e. is_key address_cmp k (address_of e)) ports
-    of_key k = first k ∙ position_map (is_key address_cmp k) address_of ports
-
-    of_later : (k : Address) → L k ≡ position (λ e. is_key address_cmp k (later_address F ports e)) ports
-    of_later k = later k ∙ position_map (is_key address_cmp k) (later_address F ports) ports
-
-    apart : (k : Address) (i : ℕ) (f : PortRow) → address_of p ≡ Some k → F k ≡ Some i → slice_get ports i ≡ Some f → f ≡ get_or ports i p
-        → is_key address_cmp k (address_of f) ≡ true → (b : Bool) → are_apart f p ≡ b → sharing_place F L ports p ≡ position (λ e. share_unicast e p) ports
-    apart k i f at is there which keyed true far = rw (at, is, there, far) (sym (position_passed
-        (λ e. is_key address_cmp k (address_of e)) (λ e. share_unicast e p) i p ports (unlike k at) (sym (of_key k) ∙ is)
-        (rw (← which) (share_is k at f ∙ rw (far, keyed) refl))))
-    apart k i f at is there which keyed false near = rw (at, is, there, near) (of_later k
-        ∙ ap (λ t. position t ports) (fun_ext (λ e. later_same ports F p e f k i at keyed is there near)))
-
-    found : (k : Address) → address_of p ≡ Some k → (o : Option ℕ) → F k ≡ o → sharing_place F L ports p ≡ position (λ e. share_unicast e p) ports
-    found k at None is =
-        let none : position (λ e. is_key address_cmp k (address_of e)) ports ≡ None = sym (of_key k) ∙ is in
-        rw (at, is) (of_later k ∙ position_weaker (λ e. is_key address_cmp k (address_of e)) (λ e. is_key address_cmp k (later_address F ports e)) ports
-        (later_unlike k) none
-        ∙ sym (position_weaker (λ e. is_key address_cmp k (address_of e)) (λ e. share_unicast e p) ports (unlike k at) none))
-    found k at (Some i) is =
-        let facts = position-Some (λ e. is_key address_cmp k (address_of e)) ports i p (sym (of_key k) ∙ is) in
-        apart k i (get_or ports i p) at is (slice_get-get_or ports i p facts.0) refl facts.1 (are_apart (get_or ports i p) p) refl
-
-    here : (o : Option Address) → address_of p ≡ o → sharing_place F L ports p ≡ position (λ e. share_unicast e p) ports
-    here None at = rw at (sym (position_none (λ e. share_unicast e p) ports
-        (λ e. sharing_key e.vl p.vl e.partition p.partition e.unicast p.unicast ∙ rw at (and-false (are_apart e p)))))
-    here (Some k) at = found k at (F k) refl
-
--- the first port that shares an address
-pub sharing : (ports : List PortRow) (F L : Address → Option ℕ) (keys laters : List (Option Address)) (places : List (Option ℕ))
-    → keys ≡ map address_of ports → laters ≡ map (later_address F ports) ports → ((q : Address) → F q ≡ position (is_key address_cmp q) keys)
-    → ((q : Address) → L q ≡ position (is_key address_cmp q) laters) → places ≡ map (sharing_place F L ports) ports
-    → places ≡ map (λ p. position (λ e. share_unicast e p) ports) ports
-sharing ports F L keys laters places keys_are laters_are first later are =
-    are ∙ ap (λ f. map f ports) (fun_ext
-    (shared_first ports F L (λ q. rw keys_are at (first q)) (λ q. rw laters_are at (later q))))
+pub sharing : (ports : List PortRow) (first : ℕ × List ℕ → Option (ℕ × ℕ × Option ℕ)) → ((q : ℕ × List ℕ) → first q ≡ first_at q 0 ports)
+    → map (sharing_place first) ports ≡ map (λ p. position (λ e. share_unicast e p) ports) ports
+sharing ports first is = ap (λ f. map f ports) (fun_ext (λ p. here p (address_of p) refl))
+  where
+    here : (p : PortRow) (o : Option ((ℕ × List ℕ) × ℕ)) → address_of p ≡ o → sharing_place first p ≡ position (λ e. share_unicast e p) ports
+    here p None at = rw at (sym (position_none (λ e. share_unicast e p) ports
+        (λ e. sharing_key e.vl p.vl e.partition p.partition e.unicast p.unicast ∙ rw at (share_none (address_of e)))))
+    here p (Some (q, v)) at = rw (at, is q) (sym (position_from-zero (λ e. share_unicast e p) ports ∙ found_from p q v at 0 ports))
 
 -- the ports before one on its sub-VL
 pub before_is : (ports : List PortRow) (i n : ℕ) (port : PortRow)

@@ -1,8 +1,8 @@
 -- Keys of ports.
-use Rattle.std.specs.Prelude.{ℕ, List, Bool, false, not, ◌==◌, ◌&&◌, nat_eq, if◌then◌else◌, Option, Some, None, option_and_then, slice_get}
+use Rattle.std.specs.Prelude.{ℕ, ◌+◌, List, [], ◌∷◌, Bool, ◌==◌, ◌&&◌, nat_eq, if◌then◌else◌, Option, Some, None, option_and_then}
 use Rattle.std.specs.Cmp.Lexicographic.{slice_cmp}
 use Rattle.std.specs.Option.{option_map_or}
-use Rattle.std.specs.Ordering.{nat_cmp, ordering_then}
+use Rattle.std.specs.Ordering.{is_eq, nat_cmp, ordering_then}
 use Rattle.std.specs.declared.cmp.Ordering.{Ordering}
 use Rattle.afdx_config.specs.CellFaults.{both}
 use Rattle.afdx_config.specs.declared.rows.PortRow.{PortRow}
@@ -16,36 +16,33 @@ all_five _ _ _ _ _ = None
 abbrev pub flow_of : PortRow → Option (ℕ × ℕ × ℕ × ℕ × Option (List ℕ))
 flow_of port = all_five port.vl port.partition port.source port.destination port.unicast
 
--- the partition and unicast address of a port whose link is known
-abbrev pub address_in : Option ℕ → Option ℕ → Option (Option (List ℕ)) → Option (ℕ × List ℕ)
-address_in (Some link) (Some partition) (Some (Some address)) = Some (partition, address)
+-- the partition and unicast address of a port, and its link
+abbrev pub address_in : Option ℕ → Option ℕ → Option (Option (List ℕ)) → Option ((ℕ × List ℕ) × ℕ)
+address_in (Some link) (Some partition) (Some (Some address)) = Some ((partition, address), link)
 address_in _ _ _ = None
 
-abbrev pub address_of : PortRow → Option (ℕ × List ℕ)
+abbrev pub address_of : PortRow → Option ((ℕ × List ℕ) × ℕ)
 address_of port = address_in port.vl port.partition port.unicast
 
 -- the order of partitions and addresses
 abbrev pub address_cmp : ℕ × List ℕ → ℕ × List ℕ → Ordering
 address_cmp x y = ordering_then (nat_cmp x.0 y.0) (slice_cmp nat_cmp x.1 y.1)
 
--- two ports are on different links
-abbrev pub are_apart : PortRow → PortRow → Bool
-are_apart a b = both (λ x y. not (x == y)) a.vl b.vl
+-- of the first port with an address, its link, and the first such port on another link: the first that is not on this link
+abbrev pub off_link : ℕ → Option (ℕ × ℕ × Option ℕ) → Option ℕ
+off_link link None = None
+off_link link (Some first) = if first.1 == link then first.2 else Some first.0
 
--- the port at an index is on another link
-abbrev pub is_apart : List PortRow → Option ℕ → PortRow → Bool
-is_apart ports place port = option_map_or (λ first. are_apart first port) (option_and_then (slice_get ports) place) false
+-- these of the ports from index i on
+abbrev pub first_at : ℕ × List ℕ → ℕ → List PortRow → Option (ℕ × ℕ × Option ℕ)
+first_at address i [] = None
+first_at address i (port ∷ rest) = option_map_or (λ key. if is_eq (address_cmp key.0 address)
+    then Some (i, key.1, off_link key.1 (first_at key.0 (i + 1) rest))
+    else first_at address (i + 1) rest) (address_of port) (first_at address (i + 1) rest)
 
--- the address of a port, if the first port with that address is on another link
-abbrev pub later_address : (ℕ × List ℕ → Option ℕ) → List PortRow → PortRow → Option (ℕ × List ℕ)
-later_address first ports port =
-    if is_apart ports (option_and_then first (address_of port)) port then address_of port else None
-
--- the first port with the address, or the first one that is on another link than that one
-abbrev pub sharing_place : (ℕ × List ℕ → Option ℕ) → (ℕ × List ℕ → Option ℕ) → List PortRow → PortRow → Option ℕ
-sharing_place first later ports port = if is_apart ports (option_and_then first (address_of port)) port
-    then option_and_then first (address_of port)
-    else option_and_then later (address_of port)
+-- the first port on another link with the address of a port
+abbrev pub sharing_place : (ℕ × List ℕ → Option (ℕ × ℕ × Option ℕ)) → PortRow → Option ℕ
+sharing_place first port = option_and_then (λ key. off_link key.1 (first key.0)) (address_of port)
 
 -- the order of sub-VLs, each with its link
 abbrev pub sub_cmp : ℕ × ℕ → ℕ × ℕ → Ordering

@@ -1,15 +1,14 @@
 //! Ports on different links with the same partition and unicast address.
-ghost use Rattle.std.specs.Prelude.{◌≡◌, codes, map, slice_get, option_and_then, option_copied, IfOk, OnOk};
+ghost use Rattle.std.specs.Prelude.{◌≡◌, ℕ, List, codes, map, IfOk, OnOk};
 ghost use Rattle.afdx_plan.specs.declared.fault.ConfigFault.{ConfigFault};
 ghost use Rattle.std.specs.BTreeMap.{get};
 ghost use Rattle.afdx_config.specs.CellFaults.{share_unicast};
 ghost use Rattle.afdx_config.specs.Findings.{pair_findings};
 ghost use Rattle.afdx_config.specs.Seen.{Adds};
 ghost use Rattle.afdx_config.specs.declared.findings.Place.TheVariants.{Port};
-ghost use Rattle.afdx_config.specs.Sharing.{address_of, address_cmp, are_apart, is_apart, later_address, sharing_place};
+ghost use Rattle.afdx_config.specs.Sharing.{address_of, address_cmp, first_at, off_link, sharing_place};
 
 use crate::findings::{Added, Found, Place};
-use crate::keyed::{first_rows, nth_row, row_with};
 use crate::pairs::add_pairs;
 use crate::rows::PortRow;
 use afdx_plan::ConfigFault;
@@ -19,107 +18,65 @@ use std::collections::BTreeMap;
 /// Partition and unicast address.
 type Address = (u64, [u8; 4]);
 
-/// The partition and unicast address of a port whose link is known.
-fn address_of(port: &PortRow) -> Option<Address>
+/// The first port with an address, its link, and the first such port on another link.
+type First = (usize, u64, Option<usize>);
+
+/// The partition and unicast address of a port, and its link.
+fn address_of(port: &PortRow) -> Option<(Address, u64)>
     ensures { result ≡ address_of port.now }
 {
     match (port.vl, port.partition, port.unicast) {
-        (Some(_), Some(partition), Some(Some(address))) => Some((partition, address)),
+        (Some(vl), Some(partition), Some(Some(address))) => Some(((partition, address), vl)),
         _ => None,
     }
 }
 
-/// The addresses of ports.
-fn addresses(alloc: Global, ports: &[PortRow]) -> Result<Vec<Option<Address>>, AllocError>
-    ensures { IfOk result (λ addresses. addresses.items ≡ map address_of ports.now) }
+/// The first of the ports with an address that is on another link than this one.
+fn off_link(vl: u64, first: Option<First>) -> Option<usize>
+    ensures { result ≡ off_link vl first }
 {
-    ports.iter().map(|port| address_of(port)).collect(alloc)
-}
-
-/// Two ports are on different links.
-fn are_apart(a: &PortRow, b: &PortRow) -> bool
-    ensures { result ≡ are_apart a.now b.now }
-{
-    match (a.vl, b.vl) {
-        (Some(one), Some(other)) => one != other,
-        _ => false,
+    match first {
+        Some((i, other, next)) => { if other == vl { next } else { Some(i) } }
+        None => None,
     }
 }
 
-/// The port at an index is on another link.
-fn is_apart(ports: &[PortRow], place: Option<usize>, port: &PortRow) -> bool
-    ensures { result ≡ is_apart ports.now place port.now }
+/// The first port with each address.
+fn first_ports(alloc: Global, ports: &[PortRow]) -> Result<BTreeMap<Address, First>, AllocError>
+    ensures { IfOk result (λ firsts. (q : ℕ × List ℕ) → get address_cmp firsts q ≡ first_at q 0 ports.now) }
 {
-    match nth_row(ports, place) {
-        Some(first) => are_apart(first, port),
-        None => false,
+    let mut firsts = BTreeMap::new(alloc);
+    for i in (0..ports.len()).rev() {
+        if let Some((address, vl)) = address_of(&ports[i]) {
+            let next = off_link(vl, firsts.get(&address).copied());
+            firsts.insert(address, (i, vl, next))?;
+        }
     }
+    Ok(firsts)
 }
 
-/// The address of a port, if the first port with that address is on another link.
-fn later_address(
-    firsts: &BTreeMap<Address, usize>,
-    ports: &[PortRow],
-    port: &PortRow,
-) -> Option<Address>
-    ensures { result ≡ later_address (get address_cmp firsts.now) ports.now port.now }
+/// The first port on another link with the partition and unicast address of a port.
+fn sharing_place(firsts: &BTreeMap<Address, First>, port: &PortRow) -> Option<usize>
+    ensures { result ≡ sharing_place (get address_cmp firsts.now) port.now }
 {
-    let address = address_of(port);
-    let first = row_with(firsts, &address);
-    if is_apart(ports, first, port) {
-        address
-    } else {
-        None
-    }
-}
-
-/// These addresses of ports.
-fn later_addresses(
-    alloc: Global,
-    firsts: &BTreeMap<Address, usize>,
-    ports: &[PortRow],
-) -> Result<Vec<Option<Address>>, AllocError>
-    ensures { IfOk result (λ addresses.
-        addresses.items ≡ map (later_address (get address_cmp firsts.now) ports.now) ports.now) }
-{
-    ports
-        .iter()
-        .map(|port| later_address(firsts, ports, port))
-        .collect(alloc)
-}
-
-/// The first port with the address of a port, or the first one that is on another link than that one.
-fn sharing_place(
-    firsts: &BTreeMap<Address, usize>,
-    laters: &BTreeMap<Address, usize>,
-    ports: &[PortRow],
-    port: &PortRow,
-) -> Option<usize>
-    ensures { result
-        ≡ sharing_place (get address_cmp firsts.now) (get address_cmp laters.now) ports.now port.now }
-{
-    let address = address_of(port);
-    let first = row_with(firsts, &address);
-    if is_apart(ports, first, port) {
-        first
-    } else {
-        row_with(laters, &address)
+    match address_of(port) {
+        Some((address, vl)) => off_link(vl, firsts.get(&address).copied()),
+        None => None,
     }
 }
 
 /// These ports for each port.
 fn sharing_places(
     alloc: Global,
-    firsts: &BTreeMap<Address, usize>,
-    laters: &BTreeMap<Address, usize>,
+    firsts: &BTreeMap<Address, First>,
     ports: &[PortRow],
 ) -> Result<Vec<Option<usize>>, AllocError>
     ensures { IfOk result (λ places. places.items
-        ≡ map (sharing_place (get address_cmp firsts.now) (get address_cmp laters.now) ports.now) ports.now) }
+        ≡ map (sharing_place (get address_cmp firsts.now)) ports.now) }
 {
     ports
         .iter()
-        .map(|port| sharing_place(firsts, laters, ports, port))
+        .map(|port| sharing_place(firsts, port))
         .collect(alloc)
 }
 
@@ -128,12 +85,8 @@ pub(crate) fn add_sharing(found: &mut Found, ports: &[PortRow]) -> Added
     ensures { OnOk result (Adds found.old found.new
         (pair_findings ConfigFault.SharedUnicast (codes "dest_ip") Port share_unicast ports.now)) }
 {
-    let alloc = found.alloc();
-    let addresses = addresses(alloc, ports)?;
-    let firsts = first_rows(alloc, addresses.as_slice())?;
-    let later = later_addresses(alloc, &firsts, ports)?;
-    let laters = first_rows(alloc, later.as_slice())?;
-    let places = sharing_places(alloc, &firsts, &laters, ports)?;
+    let firsts = first_ports(found.alloc(), ports)?;
+    let places = sharing_places(found.alloc(), &firsts, ports)?;
     let fault = ConfigFault::SharedUnicast;
     add_pairs(found, fault, "dest_ip", Place::Port(0), places.as_slice())
 }
