@@ -13,10 +13,6 @@ use Rattle.afdx_config.specs.Cells.{link_row, port_row}
 use Rattle.afdx_config.specs.Findings.{table_findings, value_findings}
 use Rattle.afdx_config.proofs.SectionLemmas.{Found, keys_are, option_maps}
 
--- no finding
-pub adds_none : (found : Kept) → Adds found found []
-adds_none found all holds = rw (append-nil all) holds
-
 -- one after the other
 pub adds_both : (old mid new : Kept) (a b : List Finding) → Adds old mid a → Adds mid new b → Adds old new (a ++ b)
 adds_both old mid new a b p q all holds = rw (← append_assoc all a b) (q (all ++ a) (p all holds))

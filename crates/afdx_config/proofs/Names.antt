@@ -1,13 +1,13 @@
 -- The names of other crates, and of this one's definitions, that the proofs here use.
-pub use Rattle.std.proofs.Common.{BTreeMap, Bool, Bor, Global, List, None, Option, Some, String, Vec, [], ap}
-pub use Rattle.std.proofs.Common.{append-nil, append_assoc, arith, codes, cond, decimal, drop, eq-eqb, false}
-pub use Rattle.std.proofs.Common.{get_or, if◌then◌else◌, inl, inr, is_none, is_some, length, option_copied, ◌⊎◌, length-drop, lit≤, map}
+pub use Rattle.std.proofs.Common.{BTreeMap, Bool, Bor, Global, List, None, Option, Some, String, [], ap}
+pub use Rattle.std.proofs.Common.{append-nil, append_assoc, arith, codes, cond, drop, eq-eqb, false}
+pub use Rattle.std.proofs.Common.{get_or, if◌then◌else◌, inl, inr, is_none, is_some, length, option_copied, lit≤, map}
 pub use Rattle.std.proofs.Common.{nat_eq, nat_le, not, option_and_then, option_map, refl, rules, slice_get, slice_index, string_bytes, subst, suc, zero, count_by, unwrap_or}
 pub use Rattle.std.proofs.Common.{sym, take, true, ℕ, ◌&&◌, ◌++◌, ◌+◌, ◌-◌, ◌<◌, ◌||◌, ◌∙◌, ◌∷◌, ◌≡◌, ◌≤◌}
 pub use Rattle.std.proofs.Math.Bool.{and-false, and-or_distrib_left, and-true, or-false, or-true}
 pub use Rattle.std.proofs.NetLemmas.Ipv4.{read_ipv4_complete, read_ipv4_sound}
 pub use Rattle.std.proofs.NetLemmas.Options.{and_then_some, cond_some}
-pub use Rattle.std.proofs.lemmas.Bool.{and_parts, cases_lt, eqb-true, le-ltb, lt-ltb, ltb-true}
+pub use Rattle.std.proofs.lemmas.Bool.{and_parts, cases_lt, eqb-true}
 pub use Rattle.std.proofs.lemmas.Bool.Decides.{nat_tests}
 pub use Rattle.std.proofs.lemmas.Grind.{common_steps}
 pub use Rattle.std.proofs.lemmas.Iterator.Adapters.{position_from-zero}
@@ -30,29 +30,29 @@ pub use Rattle.std.specs.declared.cmp.Ordering.{Ordering}
 pub use Rattle.std.specs.Net.Grammar.{IsDotted}
 pub use Rattle.std.specs.Net.Reader.{read_ipv4}
 pub use Rattle.std.specs.Option.{ForSome, option_cmp, option_map_or}
-pub use Rattle.std.specs.Prelude.{All, Err, IfErr, IfOk, IfSome, Ok, Result, bytes_eq, filter, find, nat_lt, ◌==◌, ◌≢◌}
+pub use Rattle.std.specs.Prelude.{All, Err, IfErr, IfOk, IfSome, Ok, Result, bytes_eq, find, nat_lt, ◌==◌, ◌≢◌}
 pub use Rattle.std.specs.declared.net.ipv4_addr.Ipv4Addr.{Ipv4Addr}
 pub use Rattle.toml.specs.Data.{Data, Members, as_table, get_member}
 pub use Rattle.toml.specs.View.{items_view, members_view, table_view, view}
-pub use Rattle.toml.specs.declared.value.Value.{Array, Value}
+pub use Rattle.toml.specs.declared.value.Value.{Value}
 pub use Rattle.afdx_plan.specs.Config.{Plan}
-pub use Rattle.afdx_plan.specs.PlanFaults.{are_one_address, are_one_destination, fault_number, has_pair, is_no_count, is_sampling, has_same_flow, has_same_port, has_same_vl, is_crowded, is_too_long, names_no_link, names_no_sub, parts_show}
-pub use Rattle.afdx_plan.specs.PlanFaults.{plan_faults, plan_shows, shares_unicast}
+pub use Rattle.afdx_plan.specs.PlanFaults.{are_one_address, are_one_destination, fault_number, has_pair, is_no_count, is_sampling}
+pub use Rattle.afdx_plan.specs.PlanFaults.{plan_faults, plan_shows}
 pub use Rattle.afdx_plan.specs.declared.fault.ConfigFault.{ConfigFault}
-pub use Rattle.afdx_plan.specs.declared.fault.ConfigFault.TheVariants.{BadBag, DuplicatePort, DuplicateVl, Limit, Memory, MissingKey, NoSuchSub, NoSuchVl}
-pub use Rattle.afdx_plan.specs.declared.fault.ConfigFault.TheVariants.{OutOfRange, SameFlow, SamplingTooLong, SharedUnicast, Toml, UnknownKey, WrongKind}
+pub use Rattle.afdx_plan.specs.declared.fault.ConfigFault.TheVariants.{DuplicatePort, DuplicateVl, Limit, Memory, MissingKey, NoSuchSub, NoSuchVl}
+pub use Rattle.afdx_plan.specs.declared.fault.ConfigFault.TheVariants.{SameFlow, SamplingTooLong, SharedUnicast, Toml, UnknownKey}
 pub use Rattle.afdx_plan.specs.declared.link_plan.LinkPlan.{LinkPlan}
 pub use Rattle.afdx_plan.specs.declared.port_plan.PortPlan.{PortPlan}
 pub use Rattle.afdx_config.specs.Entries.{member_keys, number_at, tables_among}
 pub use Rattle.afdx_config.specs.Explained.{column_after}
 pub use Rattle.afdx_config.specs.Faults.{HasFault, IsLeastFault, IsPlanOf, Reads, shows, values_show}
-pub use Rattle.afdx_config.specs.FindingLaws.{FaultsAreFound, FirstIsAnswered, PlacesHaveFaults, RulesAgree, count_has, crowd_has, fields_at, has_place, members_at, is_misfit, key_has, links_clash, plan_has, ports_clash, row_has, rows_have, value_has}
-pub use Rattle.afdx_config.specs.Cells.{Cells, cells_of, if_sound, sound_number}
+pub use Rattle.afdx_config.specs.FindingLaws.{FaultsAreFound, FirstIsAnswered, PlacesHaveFaults, RulesAgree, count_has, fields_at, has_place, members_at, is_misfit, key_has, plan_has, ports_clash, row_has, rows_have, value_has}
+pub use Rattle.afdx_config.specs.Cells.{Cells, cells_of}
 pub use Rattle.afdx_config.specs.CellFaults.{all_named, both, cells_show, is_long, is_packed, is_row_of, is_wrong_count, lacks_link, lacks_sub, on_sub_of}
 pub use Rattle.afdx_config.specs.CellFaults.{same_flow, same_link, same_port, share_unicast}
 pub use Rattle.afdx_config.specs.Findings.{Finding, crowd_finding, each_row, findings, found, has, is_past_limit}
-pub use Rattle.afdx_config.specs.Findings.{key_finding, misfit_findings, one_if, pair_finding, pair_findings, plan_findings, row_like}
-pub use Rattle.afdx_config.specs.Findings.{table_findings, value_findings}
+pub use Rattle.afdx_config.specs.Findings.{key_finding, misfit_findings, one_if, pair_finding, pair_findings, row_like}
+pub use Rattle.afdx_config.specs.Findings.{table_findings}
 pub use Rattle.afdx_config.specs.Keyed.{first_row, is_key}
 pub use Rattle.afdx_config.specs.Sharing.{flow_of}
 pub use Rattle.afdx_config.specs.Format.{Field, document_fields, end_fields, fields_in, link_fields, port_fields}
@@ -63,7 +63,6 @@ pub use Rattle.afdx_config.specs.Views.{AreSound, IsDocument, IsSoundTable, data
 pub use Rattle.afdx_config.specs.declared.document.Document.{Document}
 pub use Rattle.afdx_config.specs.declared.rows.LinkRow.{LinkRow}
 pub use Rattle.afdx_config.specs.declared.rows.PortRow.{PortRow}
-pub use Rattle.afdx_config.specs.declared.rows.Rows.{Rows}
 pub use Rattle.afdx_config.specs.declared.findings.Place.{Place}
 pub use Rattle.afdx_config.specs.declared.findings.Place.TheVariants.{EndSystem, Link, Port, Top}
 pub use Rattle.afdx_config.specs.declared.format.Content.{Content}

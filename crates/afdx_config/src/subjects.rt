@@ -58,14 +58,12 @@ fn table_at<'a>(document: &Document<'a>, place: Place) -> Option<&'a Table> {
     }
 }
 
-/// Writes a place, and the identifier of its table if that is a whole number.
-pub(crate) fn write_place(out: &mut Text, document: &Document<'_>, place: Place) -> Result<()> {
+/// Writes the name and number of the table of a link or a port, and its identifier if that is a whole number.
+pub(crate) fn write_row(out: &mut Text, document: &Document<'_>, place: Place) -> Result<()> {
     match place {
-        Place::Text(line, column) => return write!(out, "line {line}, column {column}"),
-        Place::Top => return Ok(()),
-        Place::EndSystem => return out.write_all(b"end_system"),
         Place::Link(k) => write!(out, "vl {k}")?,
         Place::Port(k) => write!(out, "port {k}")?,
+        _ => return Ok(()),
     }
     let Some(table) = table_at(document, place) else {
         return Ok(());
@@ -76,16 +74,6 @@ pub(crate) fn write_place(out: &mut Text, document: &Document<'_>, place: Place)
     }
 }
 
-/// The separator between a place and a key.
-fn joint(place: Place) -> &'static str {
-    match place {
-        Place::Text(_, _) => ": ",
-        Place::Top => "",
-        Place::EndSystem => ".",
-        Place::Link(_) | Place::Port(_) => ", ",
-    }
-}
-
 /// Writes a key of a place and its value.
 pub(crate) fn write_subject(
     out: &mut Text,
@@ -93,8 +81,14 @@ pub(crate) fn write_subject(
     place: Place,
     key: &str,
 ) -> Result<()> {
-    write_place(out, document, place)?;
-    out.write_all(joint(place).as_bytes())?;
+    match place {
+        Place::Text(_, _) | Place::Top => {}
+        Place::EndSystem => out.write_all(b"end_system.")?,
+        Place::Link(_) | Place::Port(_) => {
+            write_row(out, document, place)?;
+            out.write_all(b", ")?;
+        }
+    }
     write_cut(out, key)?;
     out.write_all(b" is ")?;
     let value = match table_at(document, place) {

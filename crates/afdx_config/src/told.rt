@@ -7,7 +7,7 @@ use crate::document::{Document, fields_in};
 use crate::fields::{key_fault, row_named};
 use crate::findings::{Finding, Found, LINES_LIMIT, Place, row_like};
 use crate::format::{Content, DOCUMENT, END, Field, LINK, PORT};
-use crate::subjects::{Text, write_place, write_subject};
+use crate::subjects::{Text, write_row, write_subject};
 use afdx_plan::ConfigFault;
 use std::alloc::Global;
 use std::io::{Result, Write};
@@ -34,10 +34,8 @@ fn fields_at(document: &Document<'_>, place: Place) -> &'static [Field] {
 /// The content of a finding's key.
 fn content_at(document: &Document<'_>, finding: &Finding) -> Option<Content> {
     let fields = fields_at(document, finding.place);
-    match row_named(fields, finding.key.as_str()) {
-        Some(field) => Some(field.2),
-        None => None,
-    }
+    let field = row_named(fields, finding.key.as_str())?;
+    Some(field.2)
 }
 
 /// Writes the values that a content allows.
@@ -78,11 +76,11 @@ fn write_known(out: &mut Text, document: &Document<'_>, finding: &Finding) -> Re
     Ok(())
 }
 
-/// The allowed number of tables or ports.
-fn limit_text(finding: &Finding) -> &'static str {
-    match (finding.place, finding.key.as_str()) {
-        (Place::Top, "vl") => "1 to 64 tables",
-        (Place::Top, _) => "1 to 256 tables",
+/// The allowed number of tables under a key, or of ports of a sub-VL.
+fn limit_text(key: &str) -> &'static str {
+    match key {
+        "vl" => "1 to 64 tables",
+        "port" => "1 to 256 tables",
         _ => "at most 64 ports of one sub-VL",
     }
 }
@@ -121,7 +119,7 @@ fn write_allowed(out: &mut Text, document: &Document<'_>, finding: &Finding) -> 
         (ConfigFault::SamplingTooLong, _) => {
             write_bound(out, document, link, "at most lmax - 47 of its vl", "lmax")
         }
-        (ConfigFault::Limit, _) => out.write_all(limit_text(finding).as_bytes()),
+        (ConfigFault::Limit, _) => out.write_all(limit_text(finding.key.as_str()).as_bytes()),
         (_, Some(content)) => write_content(out, content),
         (_, None) => Ok(()),
     }
@@ -143,10 +141,10 @@ fn write_finding(out: &mut Text, document: &Document<'_>, finding: &Finding) -> 
     write!(out, "{number} {}: ", finding.fault)?;
     match same_text(finding.fault) {
         Some(same) => {
-            write_place(out, document, finding.place)?;
+            write_row(out, document, finding.place)?;
             if let Some(k) = finding.other {
                 out.write_all(b" and ")?;
-                write_place(out, document, row_like(finding.place, k))?;
+                write_row(out, document, row_like(finding.place, k))?;
             }
             writeln!(out, ": {same}")
         }
