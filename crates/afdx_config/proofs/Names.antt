@@ -46,7 +46,7 @@ pub use Rattle.afdx_plan.specs.declared.port_plan.PortPlan.{PortPlan}
 pub use Rattle.afdx_config.specs.Entries.{member_keys, number_at, tables_among}
 pub use Rattle.afdx_config.specs.Explained.{column_after}
 pub use Rattle.afdx_config.specs.Faults.{HasFault, IsLeastFault, IsPlanOf, Reads, shows, values_show}
-pub use Rattle.afdx_config.specs.FindingLaws.{FaultsAreFound, FirstIsAnswered, PlacesHaveFaults, RulesAgree, count_has, fields_at, has_place, members_at, is_misfit, key_has, plan_has, ports_clash, row_has, rows_have, value_has}
+pub use Rattle.afdx_config.specs.FindingLaws.{FaultsAreFound, FirstIsAnswered, PlacesHaveFaults, RulesAgree, count_has, fields_at, has_place, members_at, port_has, key_has, plan_has, ports_clash, row_has, rows_have, value_has}
 pub use Rattle.afdx_config.specs.Cells.{Cells, cells_of}
 pub use Rattle.afdx_config.specs.CellFaults.{all_named, both, cells_show, is_long, is_packed, is_row_of, is_wrong_count, lacks_link, lacks_sub, on_sub_of}
 pub use Rattle.afdx_config.specs.CellFaults.{same_flow, same_link, same_port, share_unicast}
@@ -59,7 +59,7 @@ pub use Rattle.afdx_config.specs.Format.{Field, document_fields, end_fields, fie
 pub use Rattle.afdx_config.specs.PlanOf.{link_of, plan_of, port_of}
 pub use Rattle.afdx_config.specs.Seen.{Adds, cells_in, finding_of}
 pub use Rattle.afdx_config.specs.Tables.{content_fault, fault_in, fault_under, field_fault, has_other_item, is_fault, is_key_of, is_version_2, key_fault, rows_at, section_at}
-pub use Rattle.afdx_config.specs.Views.{AreSound, IsDocument, IsSoundTable, data_of, field_of, plan_in}
+pub use Rattle.afdx_config.specs.Views.{IsDocument, IsSoundTable, data_of, field_of, plan_in}
 pub use Rattle.afdx_config.specs.declared.document.Document.{Document}
 pub use Rattle.afdx_config.specs.declared.rows.LinkRow.{LinkRow}
 pub use Rattle.afdx_config.specs.declared.rows.PortRow.{PortRow}

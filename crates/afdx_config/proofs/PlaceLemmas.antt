@@ -7,14 +7,14 @@ use Rattle.afdx_config.proofs.Names.{position-Some, slice_get-get_or, bytes_eq-D
 use Rattle.afdx_config.proofs.Names.{ConfigFault, UnknownKey, DuplicateVl, DuplicatePort, NoSuchVl, NoSuchSub, SamplingTooLong, SameFlow, SharedUnicast, Limit, Place, Top}
 use Rattle.afdx_config.proofs.Names.{EndSystem, Link, Port, Finding, found, one_if, key_finding, each_row}
 use Rattle.afdx_config.proofs.Names.{member_keys, pair_finding, pair_findings, ports_clash, same_link, same_port, same_flow, share_unicast}
-use Rattle.afdx_config.proofs.Names.{is_misfit, is_past_limit, is_wrong_count}
+use Rattle.afdx_config.proofs.Names.{port_has, is_wrong_count}
 use Rattle.afdx_config.proofs.Names.{Cells, PortRow, cells_of, count_has, findings, row_has, rows_have, plan_has}
 use Rattle.afdx_config.proofs.Names.{value_has, key_has, has_place, PlacesHaveFaults, Field, document_fields}
 use Rattle.afdx_config.proofs.Names.{end_fields, link_fields, port_fields, fields_in, field_fault, key_fault}
 use Rattle.afdx_config.proofs.Names.{is_fault, is_key_of, is_version_2, rows_at, section_at, members_at, fields_at, fault_number}
 use Rattle.afdx_config.proofs.AddLemmas.{each_row-map}
 use Rattle.afdx_config.proofs.OrderLemmas.{r_append, r_fold, r_map}
-use Rattle.afdx_config.specs.Findings.{count_finding, crowd_finding, misfit, misfit_findings, plan_findings, table_findings, value_findings}
+use Rattle.afdx_config.specs.Findings.{count_finding, crowd_finding, misfit_findings, plan_findings, table_findings, value_findings}
 
 -- a property of each element of the lists
 pub r_each : {A B : Type 0} (P : B → Type 0) (F : A → List B) (xs : List A) → ((x : A) → AllByRecursion P (F x)) → AllByRecursion P (flat_map F xs)
@@ -161,17 +161,11 @@ pair_fine {A = A} cells g key at related all fine = rw (each_row-map (pair_findi
               (row_passes (λ e. related e x) all (i + 1) (get_or all i x) other passes.1),
         ) refl))
 
--- a port that does not fit its link
-misfit_fine : (g : ConfigFault) (key : List ℕ) (cells : Cells) (k : ℕ) (p : PortRow) → slice_get cells.ports (k - 1) ≡ Some p
-    → AllByRecursion (Has cells) (misfit g key cells k p (is_misfit g cells p))
-misfit_fine g key cells k p is = r_one (Has cells) (is_misfit g cells p) _
-    (λ bad. rw (row_passes (is_misfit g cells) cells.ports k p is bad) (or-true (rows_have (ports_clash g) cells.ports k _)))
-
-crowd_fine : (cells : Cells) (k : ℕ) (p : PortRow) → slice_get cells.ports (k - 1) ≡ Some p
-    → AllByRecursion (Has cells) (crowd_finding cells.ports k p)
-crowd_fine cells k p is = r_one (Has cells) (is_past_limit cells.ports k p) (found Limit (Port k) (codes "sub") None)
-    (λ past. rw (row_passes (is_past_limit cells.ports k) cells.ports k p is past)
-    (or-true (row_has (is_misfit Limit cells) cells.ports k)))
+-- a port with a fault of its own
+port_fine : (g : ConfigFault) (cells : Cells) (k : ℕ) (p : PortRow) (key : List ℕ) (other : Option ℕ) → slice_get cells.ports (k - 1) ≡ Some p
+    → AllByRecursion (Has cells) (one_if (port_has g cells k p) (found g (Port k) key other))
+port_fine g cells k p key other is = r_one (Has cells) (port_has g cells k p) _
+    (λ bad. rw (row_passes (port_has g cells k) cells.ports k p is bad) (or-true (rows_have (ports_clash g) cells.ports k other)))
 
 count_fine : (cells : Cells) (key : List ℕ) (is_wrong : Bool) → (is_wrong ≡ true → count_has Limit cells key ≡ true)
     → AllByRecursion (Has cells) (count_finding key is_wrong)
@@ -184,13 +178,13 @@ plan_fine cells = r_append (Has cells) _ _ (r_append (Has cells) _ _ (r_append (
     (pair_fine cells DuplicateVl _ Link same_link cells.links (λ k j is. is))
     (pair_fine cells DuplicatePort _ Port same_port cells.ports (λ k j is. rw is refl)))
     (all_rows (Has cells) (misfit_findings cells) cells.ports (λ k p some is.
-    r_append (Has cells) _ _ (r_append (Has cells) _ _ (misfit_fine NoSuchVl _ cells k p is)
-    (misfit_fine NoSuchSub _ cells k p is)) (misfit_fine SamplingTooLong _ cells k p is))))
+    r_append (Has cells) _ _ (r_append (Has cells) _ _ (port_fine NoSuchVl cells k p _ _ is)
+    (port_fine NoSuchSub cells k p _ _ is)) (port_fine SamplingTooLong cells k p _ _ is))))
     (pair_fine cells SameFlow _ Port same_flow cells.ports (λ k j is. rw is refl)))
     (pair_fine cells SharedUnicast _ Port share_unicast cells.ports (λ k j is. rw is refl)))
     (count_fine cells (codes "vl") (is_wrong_count cells.has_links 64 (length cells.links)) (λ is. rw is refl)))
     (count_fine cells (codes "port") (is_wrong_count cells.has_ports 256 (length cells.ports)) (λ is. rw is refl)))
-    (all_rows (Has cells) (crowd_finding cells.ports) cells.ports (λ k p some is. crowd_fine cells k p is))
+    (all_rows (Has cells) (crowd_finding cells.ports) cells.ports (λ k p some is. port_fine Limit cells k p _ _ is))
 
 pub places_have_faults : PlacesHaveFaults
 places_have_faults doc = All-from_recursion (λ f. has_place doc f ≡ true) (findings doc)

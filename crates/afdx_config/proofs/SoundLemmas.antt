@@ -1,13 +1,15 @@
 -- A document whose values have no fault has tables without faults.
 use Rattle.afdx_config.proofs.Names.{◌≡◌, ◌-◌, ◌+◌, codes, Bool, true, false, List, [], ◌∷◌, ◌++◌, map, length, Option}
-use Rattle.afdx_config.proofs.Names.{Some, None, ℕ, refl, ap, sym, ◌∙◌, same_Some, All-cons, All-nil, All-take}
-use Rattle.afdx_config.proofs.Names.{AllByRecursion, All-from_recursion, recursion_from_All, All, flat_map, option_map_or, ForSome}
-use Rattle.afdx_config.proofs.Names.{Members, table_view, ConfigFault, number_at, Field, end_fields, link_fields}
-use Rattle.afdx_config.proofs.Names.{port_fields, fields_in, link_of, port_of, plan_of, field_fault, is_version_2}
-use Rattle.afdx_config.proofs.Names.{IsDocument, AreSound, IsSoundTable, Document, data_of, map-map, LinkPlan, PortPlan}
-use Rattle.afdx_config.proofs.Names.{Place, EndSystem, Link, Port, key_finding, each_row, section_at}
-use Rattle.afdx_config.specs.Findings.{table_findings, value_findings}
-use Rattle.afdx_config.proofs.SectionLemmas.{Found, option_maps}
+use Rattle.afdx_config.proofs.Names.{Some, None, ℕ, refl, ap, sym, ◌∙◌, All-take}
+use Rattle.afdx_config.proofs.Names.{AllByRecursion, All-from_recursion, recursion_from_All, flat_map, option_map_or}
+use Rattle.afdx_config.proofs.Names.{Members, table_view, ConfigFault, Field}
+use Rattle.afdx_config.proofs.Names.{fields_in, link_of, port_of, plan_of, field_fault}
+use Rattle.afdx_config.proofs.Names.{IsDocument, IsSoundTable, Document, data_of, map-map, LinkPlan, PortPlan}
+use Rattle.afdx_config.proofs.Names.{Place, key_finding, each_row}
+use Rattle.afdx_config.specs.Format.{id_range}
+use Rattle.afdx_config.specs.Entries.{number_in}
+use Rattle.afdx_config.specs.Findings.{table_findings}
+use Rattle.afdx_config.proofs.SectionLemmas.{option_maps}
 
 -- two lists are empty if their concatenation is
 pub none : {A : Type 0} (xs ys : List A) → xs ++ ys ≡ [] → (xs ≡ []) × (ys ≡ [])
@@ -45,43 +47,14 @@ rows_sound is_2 like fields k [] is = tt
 rows_sound is_2 like fields k (x ∷ xs) is = let (one, rest) = none _ _ is in
     (both_sound is_2 fields x (table_sound (like k) (fields_in is_2 fields) x one), rows_sound is_2 like fields (k + 1) xs rest)
 
--- what holds of the data of tables holds of the tables
-of_tables : (P : Members → Type 0) (tables : List Found) → AllByRecursion P (map (λ t. table_view t.now) tables)
-    → All (λ t. P (table_view t.now)) tables
-of_tables P [] all = All-nil (λ (t : Found). P (table_view t.now))
-of_tables P (x ∷ xs) all = All-cons (λ (t : Found). P (table_view t.now)) x xs all.0 (of_tables P xs all.1)
-
--- the table of the end system is sound
-end_sound : (o : Option Found) → option_map_or (λ t. table_findings EndSystem end_fields (table_view t.now)) o [] ≡ []
-    → ForSome o (λ t. IsSoundTable end_fields (table_view t.now))
-end_sound None is = λ t e. cc
-end_sound (Some x) is = λ t e. rw (← same_Some x t e) (table_sound EndSystem end_fields (table_view x.now) is)
-
--- the tables of a document whose values have no finding are sound
-pub sound : (s : Document) → IsDocument s → value_findings (data_of s) ≡ [] → AreSound s
-unfolding value_findings
-sound s are is =
-    let (before_ports, ports) = none _ _ is in
-    let (before_links, links) = none _ _ before_ports in
-    let end : option_map_or (table_findings EndSystem end_fields) (section_at (codes "end_system") (data_of s)) [] ≡ [] =
-    (none _ _ before_links).1 in
-    record {
-      end_sound = end_sound s.end (sym (option_maps (table_findings EndSystem end_fields) (λ (t : Found). table_view t.now) s.end [])
-          ∙ rw (← are.end_is) at end);
-      links_sound = of_tables (IsSoundTable (fields_in false link_fields)) s.links.items
-          (rw are.links_are (rows_sound (is_version_2 (data_of s)) Link link_fields 1 _ links));
-      ports_sound = of_tables (IsSoundTable (fields_in false port_fields)) s.ports.items
-          (rw are.ports_are (rows_sound (is_version_2 (data_of s)) Port port_fields 1 _ ports));
-    }
-
 -- the plan of the parts is that of the document
 pub plan_parts : (s : Document) (e : ℕ) (ls : List LinkPlan) (ps : List PortPlan) → IsDocument s
-    → e ≡ option_map_or (λ t. number_at (codes "id") (table_view t.now)) s.end 0
+    → e ≡ option_map_or (λ t. number_in (codes "id") id_range (table_view t.now)) s.end 0
     → ls ≡ map (λ t. link_of (table_view t.now)) s.links.items
     → ps ≡ map (λ t. port_of (table_view t.now)) s.ports.items → record { end_system = e; links = ls; ports = ps } ≡ plan_of (data_of s)
 plan_parts s e ls ps are he hl hp =
-    let a = he ∙ sym (option_maps (number_at (codes "id")) (λ t. table_view t.now) s.end 0)
-    ∙ ap (λ o. option_map_or (number_at (codes "id")) o 0) are.end_is in
+    let a = he ∙ sym (option_maps (number_in (codes "id") id_range) (λ t. table_view t.now) s.end 0)
+    ∙ ap (λ o. option_map_or (number_in (codes "id") id_range) o 0) are.end_is in
     let b = hl ∙ sym (map-map link_of (λ t. table_view t.now) s.links.items) ∙ ap (map link_of) are.links_are in
     let c = hp ∙ sym (map-map port_of (λ t. table_view t.now) s.ports.items) ∙ ap (map port_of) are.ports_are in
     rw (a, b, c) refl

@@ -4,10 +4,10 @@ use Rattle.toml.specs.Data.{Members}
 use Rattle.afdx_plan.specs.declared.fault.ConfigFault.{ConfigFault}
 use Rattle.afdx_plan.specs.declared.identifiers.Kind.TheVariants.{Sampling}
 use Rattle.afdx_config.specs.declared.format.Content.TheVariants.{Whole, PortKind, Address, Rows}
+use Rattle.afdx_config.specs.Format.{needed, optional, id_range, lmax_range, max_range, partition_range, sub_range, subs_range, udp_range}
 use Rattle.afdx_config.specs.declared.rows.LinkRow.{LinkRow}
 use Rattle.afdx_config.specs.declared.rows.PortRow.{PortRow}
-use Rattle.afdx_config.specs.Entries.{text_at, number_at}
-use Rattle.afdx_config.specs.Format.{needed, optional}
+use Rattle.afdx_config.specs.Entries.{text_at, number_in}
 use Rattle.afdx_config.specs.Tables.{field_fault, rows_at}
 use Rattle.afdx_config.specs.Values.{kind_of, address_of}
 
@@ -17,30 +17,29 @@ if_sound None value = Some value
 if_sound (Some fault) value = None
 
 -- the number under a key, if the key has no fault
-abbrev pub sound_number : List ℕ → ℕ → ℕ → Members → Option ℕ
-sound_number key least most members =
-    if_sound (field_fault members (needed key (Whole (least, most)))) (number_at key members)
+abbrev pub sound_number : List ℕ → ℕ × ℕ → Members → Option ℕ
+sound_number key range members = if_sound (field_fault members (needed key (Whole range))) (number_in key range members)
 
 -- the link of a table
 unfoldable pub link_row : Members → LinkRow
 link_row members = record {
-  id = sound_number (codes "id") 0 65535 members;
-  lmax = sound_number (codes "lmax") 64 1518 members;
-  sub_vls = sound_number (codes "sub_vls") 1 4 members;
+  id = sound_number (codes "id") id_range members;
+  lmax = sound_number (codes "lmax") lmax_range members;
+  sub_vls = sound_number (codes "sub_vls") subs_range members;
 }
 
 -- the port of a table
 unfoldable pub port_row : Members → PortRow
 port_row members = record {
-  id = sound_number (codes "id") 0 65535 members;
-  vl = sound_number (codes "vl") 0 65535 members;
-  sub = sound_number (codes "sub") 0 3 members;
-  partition = sound_number (codes "partition") 0 31 members;
+  id = sound_number (codes "id") id_range members;
+  vl = sound_number (codes "vl") id_range members;
+  sub = sound_number (codes "sub") sub_range members;
+  partition = sound_number (codes "partition") partition_range members;
   kind = if_sound (field_fault members (needed (codes "kind") PortKind))
       (unwrap_or (option_and_then kind_of (text_at (codes "kind") members)) Sampling);
-  source = sound_number (codes "source") 1 65535 members;
-  destination = sound_number (codes "destination") 1 65535 members;
-  max = sound_number (codes "max") 1 8192 members;
+  source = sound_number (codes "source") udp_range members;
+  destination = sound_number (codes "destination") udp_range members;
+  max = sound_number (codes "max") max_range members;
   unicast = if_sound (field_fault members (optional (codes "dest_ip") Address))
       (option_and_then address_of (text_at (codes "dest_ip") members));
 }

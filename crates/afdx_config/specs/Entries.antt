@@ -1,5 +1,5 @@
 -- Values of a table by key.
-use Rattle.std.specs.Prelude.{ℕ, ℤ, pos, negsuc, nat_lt, List, [], ◌∷◌, Bool, true, ◌||◌, Option, option_and_then}
+use Rattle.std.specs.Prelude.{ℕ, ℤ, pos, negsuc, nat_lt, List, [], ◌∷◌, Bool, true, ◌||◌, if◌then◌else◌, Option, option_and_then}
 use Rattle.std.specs.List.{cons_option}
 use Rattle.std.specs.Option.{option_map_or}
 use Rattle.toml.specs.Data.{Items, no_items, item, Members, no_members, member, get_member, as_integer, as_str, as_table}
@@ -25,6 +25,14 @@ natural (negsuc n) = 0
 -- the number under a key, or 0
 abbrev pub number_at : List ℕ → Members → ℕ
 number_at key members = option_map_or natural (whole_at key members) 0
+
+-- a number, or the nearest one of a range
+abbrev pub into_range : ℕ × ℕ → ℕ → ℕ
+into_range range n = if nat_lt n range.0 then range.0 else if nat_lt range.1 n then range.1 else n
+
+-- the number under a key, or the nearest one of a range
+abbrev pub number_in : List ℕ → ℕ × ℕ → Members → ℕ
+number_in key range members = into_range range (number_at key members)
 
 -- the keys of a table
 abbrev pub member_keys : Members → List (List ℕ)

@@ -76,12 +76,13 @@ abbrev pub rows_have : {A : Type 0} → (A → A → Bool) → List A → ℕ �
 rows_have related rows k None = false
 rows_have related rows k (Some j) = nat_lt j k && row_has (λ a. row_has (λ earlier. related earlier a) rows j) rows k
 
--- a port does not fit its link
-abbrev pub is_misfit : ConfigFault → Cells → PortRow → Bool
-is_misfit NoSuchVl cells port = lacks_link cells port
-is_misfit NoSuchSub cells port = lacks_sub cells port
-is_misfit SamplingTooLong cells port = is_long cells port
-is_misfit _ cells port = false
+-- port k does not fit its link, or is past the 64th on its sub-VL
+abbrev pub port_has : ConfigFault → Cells → ℕ → PortRow → Bool
+port_has NoSuchVl cells k port = lacks_link cells port
+port_has NoSuchSub cells k port = lacks_sub cells port
+port_has SamplingTooLong cells k port = is_long cells port
+port_has Limit cells k port = is_past_limit cells.ports k port
+port_has _ cells k port = false
 
 -- two links have this fault together
 abbrev pub links_clash : ConfigFault → LinkRow → LinkRow → Bool
@@ -95,11 +96,6 @@ ports_clash SameFlow a b = same_flow a b
 ports_clash SharedUnicast a b = share_unicast a b
 ports_clash _ a b = false
 
--- port k is past the 64th on its sub-VL
-abbrev pub crowd_has : ConfigFault → Cells → ℕ → Bool
-crowd_has Limit cells k = row_has (is_past_limit cells.ports k) cells.ports k
-crowd_has _ cells k = false
-
 -- the number of tables under a key is wrong
 abbrev pub count_has : ConfigFault → Cells → List ℕ → Bool
 count_has Limit cells key = (bytes_eq key (codes "vl") && is_wrong_count cells.has_links 64 (length cells.links))
@@ -110,7 +106,7 @@ count_has _ cells key = false
 abbrev pub plan_has : Cells → ConfigFault → Place → List ℕ → Option ℕ → Bool
 plan_has cells fault (Link k) key other = rows_have (links_clash fault) cells.links k other
 plan_has cells fault (Port k) key other = rows_have (ports_clash fault) cells.ports k other
-    || (row_has (is_misfit fault cells) cells.ports k || crowd_has fault cells k)
+    || row_has (port_has fault cells k) cells.ports k
 plan_has cells fault Top key other = count_has fault cells key
 plan_has cells fault _ key other = false
 

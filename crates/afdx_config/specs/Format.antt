@@ -17,6 +17,38 @@ needed name what = record { key = name; is_needed = true; content = what }
 abbrev pub optional : List ℕ → Content → Field
 optional name what = record { key = name; is_needed = false; content = what }
 
+-- the ranges of numbers: of identifiers
+abbrev pub id_range : ℕ × ℕ
+id_range = (0, 65535)
+
+-- Lmax
+abbrev pub lmax_range : ℕ × ℕ
+lmax_range = (64, 1518)
+
+-- the number of sub-VLs
+abbrev pub subs_range : ℕ × ℕ
+subs_range = (1, 4)
+
+-- the capacity of a queue
+abbrev pub capacity_range : ℕ × ℕ
+capacity_range = (1, 256)
+
+-- sub-VLs
+abbrev pub sub_range : ℕ × ℕ
+sub_range = (0, 3)
+
+-- partitions
+abbrev pub partition_range : ℕ × ℕ
+partition_range = (0, 31)
+
+-- UDP ports
+abbrev pub udp_range : ℕ × ℕ
+udp_range = (1, 65535)
+
+-- the greatest message
+abbrev pub max_range : ℕ × ℕ
+max_range = (1, 8192)
+
 -- the top level of the text
 abbrev pub document_fields : List Field
 document_fields = optional (codes "version") (Whole (1, 2))
@@ -27,28 +59,28 @@ document_fields = optional (codes "version") (Whole (1, 2))
 
 -- the table of the end system
 abbrev pub end_fields : List Field
-end_fields = needed (codes "id") (Whole (0, 65535)) ∷ []
+end_fields = needed (codes "id") (Whole id_range) ∷ []
 
 -- the table of a link in version 2; version 1 lacks the last key
 abbrev pub link_fields : List Field
-link_fields = needed (codes "id") (Whole (0, 65535))
+link_fields = needed (codes "id") (Whole id_range)
     ∷ needed (codes "bag_ms") Gap
-    ∷ needed (codes "lmax") (Whole (64, 1518))
-    ∷ needed (codes "sub_vls") (Whole (1, 4))
-    ∷ needed (codes "capacity") (Whole (1, 256))
+    ∷ needed (codes "lmax") (Whole lmax_range)
+    ∷ needed (codes "sub_vls") (Whole subs_range)
+    ∷ needed (codes "capacity") (Whole capacity_range)
     ∷ optional (codes "networks") Networks
     ∷ []
 
 -- the table of a port in version 2; version 1 lacks the last key
 abbrev pub port_fields : List Field
-port_fields = needed (codes "id") (Whole (0, 65535))
-    ∷ needed (codes "vl") (Whole (0, 65535))
-    ∷ needed (codes "sub") (Whole (0, 3))
-    ∷ needed (codes "partition") (Whole (0, 31))
+port_fields = needed (codes "id") (Whole id_range)
+    ∷ needed (codes "vl") (Whole id_range)
+    ∷ needed (codes "sub") (Whole sub_range)
+    ∷ needed (codes "partition") (Whole partition_range)
     ∷ needed (codes "kind") PortKind
-    ∷ needed (codes "source") (Whole (1, 65535))
-    ∷ needed (codes "destination") (Whole (1, 65535))
-    ∷ needed (codes "max") (Whole (1, 8192))
+    ∷ needed (codes "source") (Whole udp_range)
+    ∷ needed (codes "destination") (Whole udp_range)
+    ∷ needed (codes "max") (Whole max_range)
     ∷ optional (codes "dest_ip") Address
     ∷ optional (codes "checksum") Checksum
     ∷ []

@@ -1,11 +1,10 @@
 -- The specification values of formats and documents in the code.
-use Rattle.std.specs.Prelude.{◌≡◌, codes, false, List, map, None, option_map, All}
+use Rattle.std.specs.Prelude.{◌≡◌, codes, List, map, None, option_map}
 use Rattle.std.specs.List.{AllByRecursion}
-use Rattle.std.specs.Option.{ForSome}
 use Rattle.toml.specs.Data.{Members}
 use Rattle.toml.specs.View.{table_view}
 use Rattle.afdx_plan.specs.Config.{Plan, plan_of_parts}
-use Rattle.afdx_config.specs.Format.{Field, end_fields, link_fields, port_fields, fields_in}
+use Rattle.afdx_config.specs.Format.{Field}
 use Rattle.afdx_config.specs.Tables.{field_fault, section_at, rows_at}
 use Rattle.afdx_config.specs.declared.format.Field.{Field as Written}
 use Rattle.afdx_config.specs.declared.document.Document.{Document}
@@ -32,12 +31,6 @@ pub record IsDocument (document : Document) : Type 0 where
 -- no key of this format has a fault in the table
 abbrev pub IsSoundTable : List Field → Members → Type 0
 IsSoundTable fields members = AllByRecursion (λ field. field_fault members field ≡ None) fields
-
--- no table has a fault; for links and ports, in the keys of version 1
-pub record AreSound (document : Document) : Type 0 where
-  pub end_sound : ForSome document.end (λ t. IsSoundTable end_fields (table_view t.now))
-  pub links_sound : All (λ r. IsSoundTable (fields_in false link_fields) (table_view r.now)) document.links.items
-  pub ports_sound : All (λ r. IsSoundTable (fields_in false port_fields) (table_view r.now)) document.ports.items
 
 -- the plan of parts that are not yet checked against each other
 abbrev pub plan_in : Parts → Plan

@@ -1,11 +1,8 @@
 //! Values of a table by key.
-ghost use Rattle.std.specs.Prelude.{◌≡◌, ◌≤◌, None, option_map, option_copied};
+ghost use Rattle.std.specs.Prelude.{◌≡◌, ◌≤◌, option_map, option_copied};
 ghost use Rattle.toml.specs.Data.{get_member};
 ghost use Rattle.toml.specs.View.{view, table_view};
-ghost use Rattle.afdx_config.specs.declared.format.Content.TheVariants.{Whole};
-ghost use Rattle.afdx_config.specs.Format.{needed};
-ghost use Rattle.afdx_config.specs.Tables.{field_fault};
-ghost use Rattle.afdx_config.specs.Entries.{whole_at, text_at, number_at};
+ghost use Rattle.afdx_config.specs.Entries.{whole_at, text_at, number_at, number_in};
 
 use crate::format::Range;
 use toml::{Table, Value};
@@ -48,15 +45,20 @@ pub(crate) fn number_or_0(table: &Table, key: &str) -> u64
     }
 }
 
-/// The number under a key whose value has no fault.
+/// The number under a key, or the nearest one of the range.
 pub(crate) fn number(table: &Table, key: &str, range: Range) -> u16
-    requires { field_fault (table_view table.now) (needed key.now (Whole range)) ≡ None }
-    ensures value { result ≡ number_at key.now (table_view table.now) }
+    requires { range.0 ≤ range.1 }
+    ensures value { result ≡ number_in key.now range (table_view table.now) }
     ensures least { range.0 ≤ result }
     ensures most { result ≤ range.1 }
 {
-    match whole_number(table, key) {
-        Some(number) => number as u16,
-        None => unreachable!(),
+    let (least, most) = range;
+    let number = number_or_0(table, key);
+    if number < u64::from(least) {
+        least
+    } else if u64::from(most) < number {
+        most
+    } else {
+        number as u16
     }
 }

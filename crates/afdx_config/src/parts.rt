@@ -1,12 +1,12 @@
-//! Parts of plans from tables without faults.
-ghost use Rattle.std.specs.Prelude.{◌≡◌, codes, false, map, IfOk, All};
-ghost use Rattle.std.specs.Option.{option_map_or, ForSome};
+//! Parts of plans from tables.
+ghost use Rattle.std.specs.Prelude.{◌≡◌, codes, map, IfOk, All};
+ghost use Rattle.std.specs.Option.{option_map_or};
 ghost use Rattle.toml.specs.View.{table_view};
 ghost use Rattle.afdx_plan.specs.Plan.{IsLink, IsPort};
-ghost use Rattle.afdx_config.specs.Entries.{number_at};
-ghost use Rattle.afdx_config.specs.Format.{end_fields, link_fields, port_fields, fields_in};
+ghost use Rattle.afdx_config.specs.Entries.{number_in};
+ghost use Rattle.afdx_config.specs.Format.{id_range};
 ghost use Rattle.afdx_config.specs.PlanOf.{link_of, port_of, plan_of};
-ghost use Rattle.afdx_config.specs.Views.{IsDocument, data_of, AreSound, IsSoundTable, plan_in};
+ghost use Rattle.afdx_config.specs.Views.{IsDocument, data_of, plan_in};
 
 use crate::document::Document;
 use crate::entries::{number, text, whole_number};
@@ -26,9 +26,8 @@ pub(crate) struct Parts {
 
 /// The identifier of the end system, or 0 if it has no table.
 fn end_system(end: Option<&Table>) -> u16
-    requires { ForSome end (λ t. IsSoundTable end_fields (table_view t.now)) }
     ensures { result
-        ≡ option_map_or (λ t. number_at (codes "id") (table_view t.now)) end.entry 0 }
+        ≡ option_map_or (λ t. number_in (codes "id") id_range (table_view t.now)) end.entry 0 }
 {
     match end {
         Some(table) => number(table, "id", IDENTIFIER),
@@ -36,10 +35,9 @@ fn end_system(end: Option<&Table>) -> u16
     }
 }
 
-/// Converts a table without faults to a link.
+/// Converts a table to a link.
 #[tactic(auto, unfolding(crate::specs::PlanOf::link_of))]
 fn link_plan(table: &Table) -> LinkPlan
-    requires { IsSoundTable (fields_in false link_fields) (table_view table.now) }
     ensures value { result ≡ link_of (table_view table.now) }
     ensures ranges { IsLink result }
 {
@@ -55,10 +53,9 @@ fn link_plan(table: &Table) -> LinkPlan
     }
 }
 
-/// Converts a table without faults to a port.
+/// Converts a table to a port.
 #[tactic(auto, unfolding(crate::specs::PlanOf::port_of))]
 fn port_plan(table: &Table) -> PortPlan
-    requires { IsSoundTable (fields_in false port_fields) (table_view table.now) }
     ensures value { result ≡ port_of (table_view table.now) }
     ensures ranges { IsPort result }
 {
@@ -79,9 +76,8 @@ fn port_plan(table: &Table) -> PortPlan
     }
 }
 
-/// Converts tables without faults to links.
+/// Converts tables to links.
 fn link_plans(alloc: Global, tables: &[&Table]) -> Result<Vec<LinkPlan>, AllocError>
-    requires { All (λ t. IsSoundTable (fields_in false link_fields) (table_view t.now)) tables.now }
     ensures value { IfOk result (λ links.
         links.items ≡ map (λ t. link_of (table_view t.now)) tables.now) }
     ensures ranges { IfOk result (λ links. All IsLink links.items) }
@@ -89,9 +85,8 @@ fn link_plans(alloc: Global, tables: &[&Table]) -> Result<Vec<LinkPlan>, AllocEr
     tables.iter().map(|table| link_plan(table)).collect(alloc)
 }
 
-/// Converts tables without faults to ports.
+/// Converts tables to ports.
 fn port_plans(alloc: Global, tables: &[&Table]) -> Result<Vec<PortPlan>, AllocError>
-    requires { All (λ t. IsSoundTable (fields_in false port_fields) (table_view t.now)) tables.now }
     ensures value { IfOk result (λ ports.
         ports.items ≡ map (λ t. port_of (table_view t.now)) tables.now) }
     ensures ranges { IfOk result (λ ports. All IsPort ports.items) }
@@ -99,10 +94,9 @@ fn port_plans(alloc: Global, tables: &[&Table]) -> Result<Vec<PortPlan>, AllocEr
     tables.iter().map(|table| port_plan(table)).collect(alloc)
 }
 
-/// Converts a document whose values have no fault.
+/// Converts a document.
 pub(crate) fn parts_of(alloc: Global, document: &Document<'_>) -> Result<Parts, AllocError>
-    requires found { IsDocument document.now }
-    requires sound { AreSound document.now }
+    requires { IsDocument document.now }
     ensures value { IfOk result (λ parts. plan_in parts ≡ plan_of (data_of document.now)) }
     ensures links { IfOk result (λ parts. All IsLink parts.links.items) }
     ensures ports { IfOk result (λ parts. All IsPort parts.ports.items) }

@@ -1,14 +1,13 @@
 //! The values of links and ports that have no fault.
-ghost use Rattle.std.specs.Prelude.{◌≡◌, map, is_none, option_and_then, unwrap_or, IfOk};
+ghost use Rattle.std.specs.Prelude.{◌≡◌, ◌≤◌, map, is_none, option_and_then, unwrap_or, IfOk};
 ghost use Rattle.toml.specs.View.{table_view};
 ghost use Rattle.afdx_config.specs.Cells.{if_sound, sound_number, link_row, port_row, cells_of};
-ghost use Rattle.afdx_config.specs.Entries.{number_at};
 ghost use Rattle.afdx_config.specs.Seen.{cells_in};
 ghost use Rattle.afdx_config.specs.Tables.{field_fault};
 ghost use Rattle.afdx_config.specs.Views.{IsDocument, data_of, field_of};
 
 use crate::document::Document;
-use crate::entries::{number_or_0, text};
+use crate::entries::{number, text};
 use crate::fields::field_fault;
 use crate::format::{
     Content, Field, IDENTIFIER, LMAX, MESSAGE, PARTITION, Range, SUB_VL, SUB_VLS, UDP_PORT,
@@ -58,10 +57,11 @@ fn is_sound(table: &Table, field: &Field) -> bool
 
 /// The number under a key, if the key has no fault.
 fn sound_number(table: &Table, key: &'static str, range: Range) -> Option<u64>
-    ensures { result ≡ sound_number key.now range.0 range.1 (table_view table.now) }
+    requires { range.0 ≤ range.1 }
+    ensures { result ≡ sound_number key.now range (table_view table.now) }
 {
     match field_fault(table, &Field(key, true, Content::Whole(range))) {
-        None => Some(number_or_0(table, key)),
+        None => Some(u64::from(number(table, key, range))),
         Some(_) => None,
     }
 }

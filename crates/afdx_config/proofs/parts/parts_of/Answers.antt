@@ -3,7 +3,7 @@ use Rattle.afdx_config.proofs.SoundLemmas.{plan_parts}
 use Rattle.afdx_config.proofs.parts.parts_of.Goals as goal
 
 pub returns-clause-value : goal.returns-clause-value
-returns-clause-value c = plan_parts _ _ _ _ c.requires.found c.end_system-end_system.ensures
+returns-clause-value c = plan_parts _ _ _ _ c.requires c.end_system-end_system.ensures
     (c.in_ok-links.ensures.value
     ∙ ap (map (λ t. link_of (table_view t.now))) c.as_slice.ensures.value)
     (c.in_ok-ports.ensures.value
