@@ -22,8 +22,7 @@ fragments_received got sent same =
 
 sub_take : (sub n : ℕ) (stream : List (List ℕ))
     → those_with sub_in sub stream ≡ those_with sub_in sub (take n stream) ++ those_with sub_in sub (drop n stream)
-sub_take sub n stream = ap (those_with sub_in sub) (sym (take-append-drop n stream))
-    ∙ with_append sub_in sub (take n stream) (drop n stream)
+sub_take sub n stream = grind (arith, take-append-drop n stream, with_append sub_in sub (take n stream) (drop n stream))
 
 more_of_sub : (sub few many : ℕ) (stream : List (List ℕ)) → few ≤ many
     → length (those_with sub_in sub (take few stream)) ≤ length (those_with sub_in sub (take many stream))
@@ -34,10 +33,7 @@ datagrams_of end_system accepted = map (λ (sent : Sent). datagram end_system se
 
 bytes_of : (end_system many : ℕ) (accepted : List Sent) → map (drop 8) (take many (datagrams_of end_system accepted))
     ≡ take many (map (λ (sent : Sent). sent.bytes) accepted)
-bytes_of end_system many accepted =
-    sym (take-map (drop 8) many (datagrams_of end_system accepted))
-    ∙ ap (take many) (map-map (drop 8) (λ (sent : Sent). datagram end_system sent.port sent.bytes) accepted
-    ∙ map_same _ (λ (sent : Sent). sent.bytes) accepted (drop-datagram end_system))
+bytes_of end_system many accepted = grind (arith, take-map, datagrams_of, map-map, map_same, drop-datagram)
 
 pub some_bytes : (end_system sub : ℕ) (accepted : List Sent) → All (IsSent sub) accepted → All HasByte (datagrams_of end_system accepted)
 some_bytes end_system sub accepted sent =

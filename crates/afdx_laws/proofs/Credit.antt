@@ -94,9 +94,11 @@ one_passed : (charge : Charge) (rule : Rule) (account : Account) (f : Arrival) (
     ≡ price charge rule f + cost charge rule
     (passed charge rule (paid (filled rule account f.at) (price charge rule f)) later)
 one_passed charge rule account f later can =
-    let t = le-leb _ _ can in
-    rw t (sum_by-cons (price charge rule) f
-    (passed charge rule (paid (filled rule account f.at) (price charge rule f)) later))
+    grind (
+      arith,
+      le-leb _ _ can,
+      sum_by-cons (price charge rule) f (passed charge rule (paid (filled rule account f.at) (price charge rule f)) later),
+    )
 
 one_dropped : (charge : Charge) (rule : Rule) (account : Account) (f : Arrival) (later : List Arrival)
     → (filled rule account f.at).credit < price charge rule f → cost charge rule (passed charge rule account (f ∷ later))

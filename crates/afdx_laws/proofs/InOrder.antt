@@ -5,7 +5,7 @@ use Rattle.afdx_laws.proofs.Names.{identification, cutting, pieces_from, cutting
 use Rattle.afdx_laws.proofs.Names.{fragment_of, fragments_of, IsPrefixOf, with_buffer, kept_in, given, delivered, of_sub, keyed, sent_from, HasByte, AreGiven}
 use Rattle.afdx_laws.proofs.Names.{InOrder, buffers_after}
 use Rattle.afdx_frame.proofs.Buffers.{any_order_holds}
-use Rattle.afdx_laws.proofs.ListLemmas.{cons_parts, nil_isnt_cons, nil_begins}
+use Rattle.afdx_laws.proofs.ListLemmas.{cons_parts, nil_begins}
 
 -- buffers are the same for a sub-VL
 abbrev pub AreSame : ℕ → (ℕ → Buffer) → (ℕ → Buffer) → Type 0
@@ -162,8 +162,7 @@ goes (c ∷ []) room sub place buffers done f [] d [] rest least small some spli
       all = λ j few enough. omega arith;
       alone = rw whole (record { key = 0; others = λ m is_m ne. all_empty sub (identification place sub) buffers holds.1 m is_m });
     })
-goes (c ∷ x ∷ came) room sub place buffers done f [] d [] rest least small some split block none holds is =
-    absurd (nil_isnt_cons (cons_parts is).1)
+goes (c ∷ x ∷ came) room sub place buffers done f [] d [] rest least small some split block none holds is = grind arith
 goes (c ∷ came) room sub place buffers done f [] d (e ∷ later) rest least small some split block none holds is =
     let heads = cons_parts is in
     let k : ℕ = identification place sub in

@@ -1,11 +1,11 @@
 -- Each link of a plan, by what was transmitted legally.
-use Rattle.afdx_laws.proofs.Names.{◌≡◌, ℕ, ◌≤◌, nat_eq, List, ◌++◌, length, map, take, drop, refl, ap, sym, ◌∙◌, arith, ◌<◌, inl, inr, Bool, true, [], ◌∷◌, All}
+use Rattle.afdx_laws.proofs.Names.{◌≡◌, ℕ, ◌≤◌, nat_eq, List, ◌++◌, length, map, take, drop, refl, ap, sym, ◌∙◌, arith, ◌<◌, Bool, true, [], ◌∷◌, All}
 use Rattle.afdx_laws.proofs.Names.{filter, take-append_seam, take-append-drop, length-map, length-take, take_all, take-map, All-weaker, All-map, All-filter}
-use Rattle.afdx_laws.proofs.Names.{All-contains, map-map, LinkPlan, Net, A, B, blanked, Sent, link_in, sub_in, number_in, twin_of, twin_same, twin_link, Entry}
+use Rattle.afdx_laws.proofs.Names.{map-map, LinkPlan, Net, A, B, blanked, Sent, link_in, sub_in, number_in, twin_of, twin_same, twin_link, Entry}
 use Rattle.afdx_laws.proofs.Names.{side, names, those_with, link_stream, sub_stream, told, entry_number, IsNumbered, IsKnown, AreKnown, AreTwins, Accepted}
 use Rattle.afdx_laws.proofs.Names.{is_on_both, on_both, IsLegal, IsLegalOn, known_all, with_append, with_map, numbered_map, IsLong, IsOfNet, IsHanded}
 use Rattle.afdx_laws.proofs.Names.{AreHanded, frames_of, id_at, piece_room, IsHandedOver, LegalArrive, LegalDespiteLoss, cases_lt, eqb-true, Plan, IsPlan}
-use Rattle.afdx_laws.proofs.Names.{link_plan_at, is_both, Networks, Both, OnlyA, OnlyB, IsLink, IsPort, IsSent, IsLinkOf, IsQueued}
+use Rattle.afdx_laws.proofs.Names.{link_plan_at, is_both, Networks, Both, OnlyA, OnlyB, IsLink, IsSent, IsLinkOf, IsQueued}
 use Rattle.afdx_legal.proofs.OnBoth.{on_both_is}
 use Rattle.afdx_laws.proofs.HandedOver.{own_twins, twin_twin, handed_arrive_holds, handed_despite_loss_holds}
 
@@ -30,50 +30,37 @@ pub numbered_of : (es : List Entry) → IsNumbered entry_number 0 es → IsNumbe
 numbered_of es numbered = numbered_map entry_number number_in frame_of_entry 0 es (λ k d inside. refl) numbered
 
 pub told_is : (sub : ℕ) (es : List Entry) → told (sub_stream sub es) ≡ map blanked (those_with sub_in sub (map frame_of_entry es))
-told_is sub es =
-    sym (map-map blanked frame_of_entry (sub_stream sub es))
-    ∙ ap (map blanked) (sym (with_map (λ (e : Entry). sub_in e.frame) sub_in frame_of_entry sub (λ e. refl) es))
+told_is sub es = grind (arith, map-map blanked frame_of_entry (sub_stream sub es), with_map)
 
 pub frames_side : (net : Net) (es : List Entry) → map frame_of_entry (map (side net) es) ≡ map (twin_of net) (map frame_of_entry es)
 frames_side net es = map-map frame_of_entry (side net) es ∙ sym (map-map (twin_of net) frame_of_entry es)
 
 pub stream_side : (net : Net) (vl : ℕ) (es : List Entry) → link_stream vl (map (side net) es) ≡ map (side net) (link_stream vl es)
-stream_side net vl es = with_map (λ (e : Entry). link_in e.frame) (λ (e : Entry). link_in e.frame) (side net) vl
-    (λ e. twin_link net e.frame) es
+stream_side net vl es = grind (arith, with_map, twin_link)
 
 stream_take : (vl n : ℕ) (es : List Entry) → link_stream vl (take n es) ≡ take (length (link_stream vl (take n es))) (link_stream vl es)
-stream_take vl n es = grind (
-  arith,
-  take-append-drop n es,
-  take-append_seam (link_stream vl (take n es)) (link_stream vl (drop n es)),
-  with_append (λ (e : Entry). link_in e.frame) vl (take n es) (drop n es),
-)
+stream_take vl n es =
+    grind (arith, take-append-drop n es, take-append_seam (link_stream vl (take n es)) (link_stream vl (drop n es)), with_append)
 
 pub stream_front : (net : Net) (vl : ℕ) (longer shorter : List Entry) → shorter ≡ map (side net) (take (length shorter) longer)
     → link_stream vl shorter ≡ map (side net) (take (length (link_stream vl shorter)) (link_stream vl longer))
-stream_front net vl longer shorter is = grind (
-  arith,
-  ap (link_stream vl) is,
-  length-map,
-  stream_side net vl (take (length shorter) longer),
-  stream_take vl (length shorter) longer,
-)
+stream_front net vl longer shorter is = grind (arith, length-map, stream_side, stream_take)
 
 pub frames_front : (net : Net) (vl : ℕ) (longer shorter : List Entry) → shorter ≡ map (side net) (take (length shorter) longer)
     → frames_of vl shorter ≡ map (twin_of net) (take (length (frames_of vl shorter)) (frames_of vl longer))
-frames_front net vl longer shorter is = grind (
-  arith,
-  ap (map frame_of_entry) (stream_front net vl longer shorter is),
-  frames_side net (take (length (link_stream vl shorter)) (link_stream vl longer)),
-  take-map,
-  length-map,
-)
+frames_front net vl longer shorter is =
+    grind (
+      arith,
+      stream_front net vl longer shorter is,
+      frames_side net (take (length (link_stream vl shorter)) (link_stream vl longer)),
+      take-map,
+      length-map,
+    )
 
 -- if all of a network's own frames have twins in a list, they are the twins of the first of that list
 turned_back : (first second : Net) (xs ys : List (List ℕ)) → All (IsOfNet first) xs
     → ys ≡ map (twin_of second) (take (length ys) xs) → length xs ≤ length ys → xs ≡ map (twin_of first) (take (length xs) ys)
-turned_back first second xs ys own is as_long =
-    grind (arith, ap length is, length-map, length-take, take_all, twin_twin, own_twins first xs own)
+turned_back first second xs ys own is as_long = grind (arith, length-map, length-take, take_all, twin_twin, own_twins)
 
 -- the shorter list is twins of a beginning of the longer one, whichever that is
 pub twins_by_b : (xs ys : List (List ℕ)) → All (IsOfNet A) xs → ys ≡ map (twin_of B) (take (length ys) xs) → AreTwins twin_of xs ys
@@ -89,16 +76,11 @@ filter_twice p q each (x ∷ xs) = grind (arith, filter_twice p q each xs, each 
 -- a link on both networks has all its frames among the entries of such links
 frames_on_both : (links : List LinkPlan) (vl : ℕ) (es : List Entry) → is_on_both links vl ≡ true
     → frames_of vl (on_both links es) ≡ frames_of vl es
-frames_on_both links vl es on = ap (map (λ (e : Entry). e.frame))
-    (filter_twice (λ (e : Entry). nat_eq (link_in e.frame) vl) (λ (e : Entry). is_on_both links (link_in e.frame))
-    (λ e own. ap (is_on_both links) (eqb-true (link_in e.frame) vl own) ∙ on) es)
+frames_on_both links vl es on = grind (arith, filter_twice, eqb-true)
 
 frames_twins : (vl : ℕ) (a b : List Entry) → All (IsOfNet A) (frames_of vl a) → All (IsOfNet B) (frames_of vl b)
     → AreTwins side a b → AreTwins twin_of (frames_of vl a) (frames_of vl b)
-frames_twins vl a b own_a own_b twins = elim (cases_lt (length a) (length b)) [
-  | inl shorter ↦ twins_by_a (frames_of vl a) (frames_of vl b) own_b (frames_front A vl b a (twins.a_shorter (omega arith)))
-  | inr as_long ↦ twins_by_b (frames_of vl a) (frames_of vl b) own_a (frames_front B vl a b (twins.b_shorter (omega arith)))
-]
+frames_twins vl a b own_a own_b twins = grind (arith, cases_lt, twins_by_a, frames_front, twins_by_b)
 
 nothing : (net : Net) (xs : List (List ℕ)) → length xs ≤ 0 → xs ≡ map (twin_of net) (take (length xs) [])
 nothing net [] h = refl
@@ -135,14 +117,10 @@ pub link_is : (plan : Plan) (k : ℕ) → IsPlan plan → k < length plan.links 
 link_is plan k valid inside = valid.each_link k _ inside
 
 room_is : (plan : Plan) (k : ℕ) → IsPlan plan → k < length plan.links → IsLinkOf plan.end_system (piece_room plan k)
-room_is plan k valid inside =
-    let lmax = (link_is plan k valid inside).lmax in
-    record { numbered = valid.end_system; least = omega arith; greatest = omega arith }
+room_is plan k valid inside = grind arith
 
 pub sent_is : (plan : Plan) (k sub : ℕ) (sent : Sent) → IsPlan plan → IsQueued plan k sub sent → IsSent sub sent
-sent_is plan k sub sent valid allowed =
-    let port : IsPort sent.port = All-contains IsPort plan.ports sent.port valid.each_port allowed.port in
-    record { port = port; its = allowed.its; some = allowed.some; most = allowed.most }
+sent_is plan k sub sent valid allowed = grind arith
 
 pub handed_is : (plan : Plan) (accepted : Accepted) (net : Net) (handed : List Entry) (k sub : ℕ)
     → IsLegalOn plan accepted net handed → k < length plan.links → sub < (link_plan_at plan.links k).sub_vls
@@ -163,14 +141,15 @@ handed_is plan accepted net handed k sub legal inside index =
 pub are_handed : (plan : Plan) (accepted : Accepted) (a b : List Entry) (k sub : ℕ) → IsHandedOver plan accepted a b k sub
     → AreHanded plan.end_system (piece_room plan k) sub (accepted k sub)
     (frames_of (id_at plan k) a) (frames_of (id_at plan k) b)
-are_handed plan accepted a b k sub h = record {
-  link = room_is plan k h.valid h.inside;
-  sent = All-weaker (IsQueued plan k sub) (IsSent sub) (λ sent is. sent_is plan k sub sent h.valid is)
-      (accepted k sub) h.allowed;
-  on_a = handed_is plan accepted A a k sub h.legal.on_a h.inside h.index;
-  on_b = handed_is plan accepted B b k sub h.legal.on_b h.inside h.index;
-  twins = twins_are plan accepted a b k h.valid h.legal h.inside;
-}
+are_handed plan accepted a b k sub h =
+    grind (
+      arith,
+      room_is plan k h.valid h.inside,
+      handed_is plan accepted A a k sub h.legal.on_a h.inside h.index,
+      handed_is plan accepted B b k sub h.legal.on_b h.inside h.index,
+      twins_are plan accepted a b k h.valid h.legal h.inside,
+      sent_is,
+    )
 
 pub legal_arrive_holds : LegalArrive
 legal_arrive_holds plan accepted a b k sub lag tolerance arrivals handed fit carry =

@@ -1,6 +1,6 @@
 -- Each link of a plan keeps its gap and its greatest frame, by what was transmitted legally: no fragment is greater.
-use Rattle.afdx_laws.proofs.Names.{ℕ, suc, ◌+◌, ◌-◌, ◌≤◌, inl, inr, List, [], ◌∷◌, length, map, get_or, sym, subst, arith, ◌≡◌, ◌<◌, Bool, true, nat_eq, refl}
-use Rattle.afdx_laws.proofs.Names.{◌∙◌, All, filter, cases_Bool, eqb-true, eq-eqb, false≢true, length-append, length-take, All-cons, All-nil, All-append}
+use Rattle.afdx_laws.proofs.Names.{ℕ, suc, ◌+◌, ◌-◌, ◌≤◌, inl, inr, List, [], ◌∷◌, length, map, get_or, sym, arith, ◌≡◌, ◌<◌, Bool, true, nat_eq, refl}
+use Rattle.afdx_laws.proofs.Names.{◌∙◌, All, filter, cases_Bool, eq-eqb, false≢true, length-append, length-take, All-cons, All-nil, All-append}
 use Rattle.afdx_laws.proofs.Names.{All-filter, All-from_recursion, All-head, All-map, All-tail, All-weaker, filter_passes, Plan, IsPlan, link_plan_at, IsPort}
 use Rattle.afdx_laws.proofs.Names.{bag_micros, room_of, Net, Piece, cutting, pieces_from, Sent, fragments_from, blanked, unnumbered, link_in, sub_in, IsPiece}
 use Rattle.afdx_laws.proofs.Names.{length-frame, Entry, link_stream, told_of, Accepted, IsKnown, AreKnown, IsLegalOn, IsQueued, known_all, IsLong, IsSent}
@@ -18,9 +18,11 @@ short_piece : (end_system lmax place : ℕ) (sent : Sent) (piece : Piece) (net :
     → IsPiece (length sent.bytes) piece → piece.len ≤ room_of lmax
     → IsShort lmax (unnumbered end_system sent.port sent.bytes place piece net)
 short_piece end_system lmax place sent piece net least port is fits =
-    let whole = length-frame end_system sent.port sent.bytes place piece net 0 port is.within in
-    let parts = length-append (unnumbered end_system sent.port sent.bytes place piece net) (0 ∷ []) in
-    omega arith
+    grind (
+      arith,
+      length-frame end_system sent.port sent.bytes place piece net 0 port is.within,
+      length-append (unnumbered end_system sent.port sent.bytes place piece net) (0 ∷ []),
+    )
 
 short_message : (end_system lmax place : ℕ) (sent : Sent) (net : Net) → 64 ≤ lmax → lmax ≤ 1518 → IsPort sent.port
     → All (IsShort lmax) (fragments_at end_system (room_of lmax) net place sent)
@@ -49,10 +51,7 @@ pub record IsOfSubs (subs : ℕ) (e : Entry) : Type 0 where
 
 known_within : (plan : Plan) (net : Net) (k : ℕ) (e : Entry) → IsPlan plan → k < length plan.links
     → IsKnown plan.links net e.frame → nat_eq (link_in e.frame) (id_at plan k) ≡ true → IsOfSubs (link_plan_at plan.links k).sub_vls e
-known_within plan net k e valid inside known on =
-    let at : known.k ≡ k = valid.links_apart known.k k known.within inside
-    (let number = eqb-true (link_in e.frame) (id_at plan k) on in grind arith) in
-    record { long = known.size; of_sub = subst (λ (j : ℕ). sub_in e.frame < (link_plan_at plan.links j).sub_vls) at known.of_sub }
+known_within plan net k e valid inside known on = grind arith
 
 pub stream_within : (plan : Plan) (net : Net) (k : ℕ) (es : List Entry) → IsPlan plan → k < length plan.links
     → AreKnown plan.links net es → All (IsOfSubs (link_plan_at plan.links k).sub_vls) (link_stream (id_at plan k) es)

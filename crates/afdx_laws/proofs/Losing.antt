@@ -56,11 +56,8 @@ masks : {F : Type 0} (number : F → ℕ) (h : F → F) (stream : List F) (frame
     → seen_on whole state ≡ last b → state.accepted ≡ last c → b ≤ c → c ≤ high → (high ≡ 0) ⊎ (1 ≤ c)
     → Masks h stream (received number (record { check = check; window = 1 }) state
     (map (λ (e : Net × ℕ). (e.0, frame e.0 e.1)) es)) c (b + length (carried whole es))
-masks number h stream frame check whole [] state high b c some each close first seen took behind within begun = record {
-  many = c;
-  reaches = omega arith;
-  are = append-nil (take c stream);
-}
+masks number h stream frame check whole [] state high b c some each close first seen took behind within begun =
+    grind (arith, append-nil (take c stream))
 masks {F = F} number h stream frame check whole
     ((net, i) ∷ es) state high b c some each close first seen took behind within begun =
     let tolerance : Tolerance = record { check = check; window = 1 } in
@@ -131,9 +128,7 @@ pub first_comes_holds : FirstComes
 first_comes_holds whole n came within begins = record { within = within; first = λ none. starts whole n came within begins }
 
 pub masked_from_first_holds : MaskedFromFirst
-masked_from_first_holds whole check stream came some frames within begins =
-    loss_masked_holds whole check stream came some frames
-    (first_comes_holds whole (length stream) came within begins)
+masked_from_first_holds whole check stream came some frames within begins = grind (arith, loss_masked_holds, first_comes_holds)
 
 pub numbers_clash_holds : NumbersClash
 numbers_clash_holds check window lag place checks opens behind apart old =

@@ -1,5 +1,5 @@
 -- The next fragment of a message comes within a round of the sub-VLs.
-use Rattle.afdx_laws.proofs.Names.{◌≡◌, ◌≢◌, ℕ, zero, suc, ◌+◌, ◌*◌, ◌≤◌, ◌<◌, Bool, true, false, eqb, nat_eq, cond, List, [], ◌∷◌, ◌++◌, length, map, refl}
+use Rattle.afdx_laws.proofs.Names.{◌≡◌, ◌≢◌, ℕ, zero, suc, ◌+◌, ◌*◌, ◌≤◌, ◌<◌, Bool, true, false, eqb, cond, List, [], ◌∷◌, ◌++◌, length, map, refl}
 use Rattle.afdx_laws.proofs.Names.{subst, arith, All, AllByRecursion, IsDistinct, list_any, nat_tests, eq-eqb, ne_eqb, false≢true, length-map, length-filter}
 use Rattle.afdx_laws.proofs.Names.{count_by-le-length, All-tail, All-weaker, All-from_recursion, link_plan_at, bag_micros, LinkPlan, sub_in, Entry, mul-le}
 use Rattle.afdx_laws.proofs.Names.{sub_stream, link_stream, id_at}
@@ -133,9 +133,7 @@ lie_two_gaps_apart = record {
 }
 
 pub few_in : (sub : ℕ) (es : List Entry) → length (sub_stream sub es) ≤ length es
-few_in sub es =
-    let test : Entry → Bool = λ e. nat_eq (sub_in e.frame) sub in
-    omega (arith, length-filter test es, count_by-le-length test es)
+few_in sub es = grind (arith, length-filter, count_by-le-length)
 
 pub turns_are_told : TurnsAreTold
 turns_are_told = record {

@@ -1,8 +1,8 @@
 -- What is read of a frame is what went in.
-use Rattle.afdx_laws.proofs.Names.{◌≡◌, ℕ, zero, suc, inl, inr, ◌+◌, ◌-◌, ◌%◌, ◌≤◌, List, [], ◌∷◌, ◌++◌, length, map, take, drop, get_or, refl, ap, sym, ◌∙◌}
-use Rattle.afdx_laws.proofs.Names.{subst, arith, All, AllByRecursion, cases_lt, All-from_recursion, drop-set-lt, map-append, length-append, drop_at, take_more}
-use Rattle.afdx_laws.proofs.Names.{take_all, IsPort, identification, Net, Piece, step_of, cut_by, pieces_from, step_le, cut_last, cut_more, interface_byte}
-use Rattle.afdx_laws.proofs.Names.{udp_header, unnumbered, frame_of, twin_of, total_length, Sent, blanked, fragments_from, IsPiece, twin_word, says, total_ok}
+use Rattle.afdx_laws.proofs.Names.{◌≡◌, ℕ, zero, suc, inl, inr, ◌+◌, ◌-◌, ◌%◌, ◌≤◌, List, [], ◌∷◌, ◌++◌, length, map, take, drop, get_or, refl, ap, ◌∙◌}
+use Rattle.afdx_laws.proofs.Names.{subst, arith, All, AllByRecursion, cases_lt, All-from_recursion, map-append, length-append, drop_at, take_more}
+use Rattle.afdx_laws.proofs.Names.{take_all, IsPort, identification, Net, Piece, step_of, cut_by, pieces_from, step_le, cut_last, cut_more}
+use Rattle.afdx_laws.proofs.Names.{udp_header, unnumbered, frame_of, twin_of, total_length, Sent, blanked, fragments_from, IsPiece, says, total_ok}
 use Rattle.afdx_laws.proofs.Names.{payload_says, Fragment, fragment_of, fragments_of, sub_in, those_with, with_map, of_sub, keyed, sent_from, IsLong}
 use Rattle.afdx_laws.proofs.Names.{fragment_in, IsSent, cutting, datagram, fragments_at}
 use Rattle.afdx_frame.proofs.PiecesAre.{pieces_are}
@@ -11,12 +11,7 @@ use Rattle.afdx_laws.proofs.ListLemmas.{cons_parts, cons_same, append_same, nil_
 
 -- the interface identifier isn't read
 pub same_fragment : (net : Net) (frame : List ℕ) → fragment_in (twin_of net frame) ≡ fragment_in frame
-same_fragment net frame =
-    let ident = twin_word net frame 18 (λ e. omega arith) (λ e. omega arith) in
-    let total = twin_word net frame 16 (λ e. omega arith) (λ e. omega arith) in
-    let field = twin_word net frame 20 (λ e. omega arith) (λ e. omega arith) in
-    let behind = drop-set-lt 34 frame 11 (interface_byte net) (omega arith) in
-    cc
+same_fragment net frame = grind arith
 
 -- the frame of a piece carries its fragment
 read_piece : (end_system : ℕ) (sent : Sent) (net : Net) (place : ℕ) (piece : Piece) (number : ℕ) → IsPort sent.port
@@ -51,19 +46,12 @@ reads_pieces : (ps : List Piece) (end_system : ℕ) (sent : Sent) (net : Net) (p
     (map (fragment_of (datagram end_system sent.port sent.bytes)) ps))
 reads_pieces [] end_system sent net place port most are = record { each = tt; are = refl }
 reads_pieces (p ∷ ps) end_system sent net place port most are =
-    let rest = reads_pieces ps end_system sent net place port most are.1 in
-    let one = λ (n : ℕ). read_piece end_system sent net place p n port most are.0 in
-    record { each = (λ number. one number ∙ sym (one 0), rest.each); are = cons_same (one 0) rest.are }
+    grind (arith, read_piece, cons_same, reads_pieces ps end_system sent net place port most are.1)
 
 pub length-datagram : (end_system : ℕ) (sent : Sent) → length
     (datagram end_system sent.port sent.bytes) ≡ 8 + length sent.bytes
 unfolding datagram
-length-datagram end_system sent = omega (
-  arith,
-  length-append
-      (udp_header end_system sent.port sent.bytes) sent.bytes,
-  length-udp_header end_system sent.port sent.bytes,
-)
+length-datagram end_system sent = grind (arith, length-append, length-udp_header)
 
 pub drop-datagram : (end_system : ℕ) (sent : Sent) → drop 8 (datagram end_system sent.port sent.bytes) ≡ sent.bytes
 unfolding datagram
@@ -97,10 +85,7 @@ reads_message : (end_system room : ℕ) (sent : Sent) (net : Net) (place : ℕ) 
     → IsPort sent.port → length sent.bytes ≤ 8192 → AreRead (fragments_at end_system room net place sent)
     (keyed (identification place sent.port.sub) (fragments_of room (datagram end_system sent.port sent.bytes)))
 unfolding fragments_at
-reads_message end_system room sent net place least greatest port most =
-    rw (length-datagram end_system sent)
-    (reads_pieces (pieces_from 0 (cutting room (8 + length sent.bytes))) end_system sent net place port most
-    (from_start room (length sent.bytes) least greatest))
+reads_message end_system room sent net place least greatest port most = grind (arith, length-datagram, reads_pieces, from_start)
 
 all_append : {X : Type 0} (P : X → Type 0) (xs ys : List X) → AllByRecursion P xs → AllByRecursion P ys → AllByRecursion P (xs ++ ys)
 all_append P [] ys a b = b

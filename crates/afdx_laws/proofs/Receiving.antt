@@ -1,5 +1,5 @@
 -- What a receiver accepts of what two networks carry.
-use Rattle.afdx_laws.proofs.Names.{◌≡◌, ℕ, suc, ◌+◌, ◌≤◌, ◌<◌, true, false, max, List, [], ◌∷◌, ◌++◌, length, map, take, get_or, refl, ap, sym, ◌∙◌, arith}
+use Rattle.afdx_laws.proofs.Names.{◌≡◌, ℕ, suc, ◌+◌, ◌≤◌, ◌<◌, true, false, max, List, [], ◌∷◌, ◌++◌, length, map, take, get_or, refl, ap, ◌∙◌, arith}
 use Rattle.afdx_laws.proofs.Names.{drop, cases_lt, Option, All, take_more, append_assoc, append-nil, drop_more, drop_all, get_or-map, length-map, set-set, Net}
 use Rattle.afdx_laws.proofs.Names.{A, B, sequence_number, Tolerance, State, is_valid, is_ahead, received, carried, with_seen, with_accepted, seen_on, other}
 use Rattle.afdx_laws.proofs.Names.{carried_by, IsNear, IsNumbered, IsPrefixOf, numbered_at, interface_byte, twin_of, number_in, twin_number, IsLong, most_carried, ExactlyOnce}
@@ -49,22 +49,7 @@ one_more : {F : Type 0} (number : F → ℕ) (h : F → F) (stream : List F) (to
     ≡ take next stream ++ map h (received number tolerance (to (last next)) es)
 one_more {F = F} number h stream tolerance lag net from to frame es a b m next
     check window near placed close m_is next_is seen took then_seen then_took =
-    grind (
-      arith,
-      cases_lt a b,
-      old_copy tolerance.window a b,
-      new_next tolerance.window a window,
-      valid_next tolerance.check a check,
-      seen (last a),
-      took (last a),
-      took (last b),
-      then_seen (last a),
-      then_seen (last b),
-      then_took (last a),
-      drops_it number tolerance (from (last b)) (to (last b)) net frame es (sequence_number a) placed.1,
-      takes_it number tolerance (from (last a)) (to (last (suc a))) net frame es (sequence_number a) placed.1,
-      grows h stream a frame (map h (received number tolerance (to (last (suc a))) es)) placed.0 placed.2,
-    )
+    grind (arith, cases_lt, old_copy, new_next, valid_next, last, drops_it, takes_it, grows)
 
 -- what is accepted continues the stream
 pub hands_on : {F : Type 0} (number : F → ℕ) (h : F → F) (stream : List F)
@@ -72,8 +57,7 @@ pub hands_on : {F : Type 0} (number : F → ℕ) (h : F → F) (stream : List F)
     → 1 ≤ tolerance.check → 1 ≤ tolerance.window → lag + tolerance.window ≤ 255 → Comes number h stream lag a b arrivals
     → take (max a b) stream ++ map h (received number tolerance (state_at a b) arrivals)
     ≡ take (max (a + length (carried A arrivals)) (b + length (carried B arrivals))) stream
-hands_on number h stream tolerance lag [] a b check window near comes =
-    append-nil (take (max a b) stream) ∙ ap (λ (k : ℕ). take k stream) (omega arith)
+hands_on number h stream tolerance lag [] a b check window near comes = grind (arith, append-nil)
 hands_on number h stream tolerance lag ((A, frame) ∷ es) a b check window near comes =
     one_more number h stream tolerance lag A (λ o. record { seen_a = last a; seen_b = last b; accepted = o })
     (λ o. record { seen_a = last (suc a); seen_b = last b; accepted = o }) frame es a b (max a b) (max (suc a) b)
@@ -126,13 +110,7 @@ one_comes : (net : Net) (stream : List (List ℕ)) (lag i j : ℕ) (arrivals es 
     × IsPrefixOf (carried net es) (drop (suc i) (map (twin_of net) stream))
     × (arrivals ≡ (before ++ (net, frame) ∷ []) ++ es)
 one_comes net stream lag i j arrivals es before frame long numbered near whole mine others p =
-    let first = first_of_rest (map (twin_of net) stream) i frame (carried net es ++ p.0) p.1 in
-    let close = near before es net frame whole in (
-      placed net stream i frame long numbered first.0 first.1,
-      omega arith,
-      (p.0, first.2),
-      whole ∙ sym (append_assoc before ((net, frame) ∷ []) es),
-    )
+    grind (arith, first_of_rest, placed, append_assoc)
 
 -- what two networks carry comes as the receiver needs it
 comes : (stream : List (List ℕ)) (lag : ℕ) (arrivals : List (Net × List ℕ)) (rest before : List (Net × List ℕ))

@@ -19,12 +19,7 @@ longer_frames xs ys = grind (arith, length-map)
 -- a link's own stream has as many frames of a sub-VL as the longer of its two lists
 many_own : (sub vl : ℕ) (a b : List Entry)
     → many_of sub (map (λ (e : Entry). e.frame) (own_stream vl a b)) ≡ many_of sub (longer (frames_of vl a) (frames_of vl b))
-many_own sub vl a b = grind (
-  arith,
-  frames_side A (longer_stream (link_stream vl a) (link_stream vl b)),
-  many_twins A sub,
-  longer_frames (link_stream vl a) (link_stream vl b),
-)
+many_own sub vl a b = grind (arith, frames_side, many_twins, longer_frames)
 
 -- of a sub-VL that is wholly released, all fragments are in the longer list
 all_handed : (plan : Plan) (accepted : Accepted) (log a b : List Entry) (k sub : ℕ)
@@ -32,8 +27,7 @@ all_handed : (plan : Plan) (accepted : Accepted) (log a b : List Entry) (k sub :
     → IsReleased plan.end_system (link_plan_at plan.links k) (accepted k) log sub
     → length (fragments plan.end_system (piece_room plan k) A (accepted k sub))
     ≡ many_of sub (longer (frames_of (id_at plan k) a) (frames_of (id_at plan k) b))
-all_handed plan accepted log a b k sub own released =
-    grind (arith, ap length released, told_is sub (link_stream (id_at plan k) log), length-map, own, many_own sub (id_at plan k) a b)
+all_handed plan accepted log a b k sub own released = grind (arith, told_is, length-map, many_own)
 
 pub own_lists_arrive_holds : OwnListsArrive
 own_lists_arrive_holds plan own a b valid handed k sub inside index lag tolerance arrivals fit carry whole =

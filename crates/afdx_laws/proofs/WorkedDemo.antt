@@ -1,14 +1,12 @@
 -- The worked transmissions of a plan, by computation: of one message, also complete and on one network, and of two.
-use Rattle.afdx_laws.proofs.Names.{◌≡◌, ℕ, true, [], ◌∷◌, refl, sym, ◌∙◌, arith, ◌≤◌, Bool, false, nat_eq, List, length, map, ap, ◌<◌, false≢true}
-use Rattle.afdx_laws.proofs.Names.{All-from_recursion, All-contains, if◌then◌else◌, All, Contains, AllZip, port_plan_at, IsPlan, HasLink, IsLink, Networks}
+use Rattle.afdx_laws.proofs.Names.{◌≡◌, ℕ, true, [], ◌∷◌, refl, sym, ◌∙◌, arith, ◌≤◌, Bool, nat_eq, List, length, map, ap}
+use Rattle.afdx_laws.proofs.Names.{All-from_recursion, if◌then◌else◌, All, AllZip, port_plan_at, IsPlan, Networks}
 use Rattle.afdx_laws.proofs.Names.{Both, OnlyA, demo_valid, Net, A, B, Sent, names, link_stream, Accepted, IsKnown, IsLegalOn, IsLegal, IsAllowed, IsQueued, messages_of}
 use Rattle.afdx_laws.proofs.Names.{by_frames, IsOnItsWay, AreCarriedOf, frames_of, IsOn, IsOnBoth, IsHandedOver, plain_receiver, checksum, cutting}
 use Rattle.afdx_laws.proofs.Names.{fragments_at, addresses, header_front, internet_header, link_header, udp_header, datagram, unnumbered}
 use Rattle.afdx_plan.specs.Demo.{demo_plan, demo_port, demo_link}
-use Rattle.afdx_plan.specs.declared.identifiers.Kind.TheVariants.{Sampling, Queuing}
-use Rattle.afdx_plan.specs.declared.port_plan.PortPlan.{PortPlan}
 use Rattle.afdx_legal.specs.WorkedMessage.{one_byte_accepted, one_frame, one_byte}
-use Rattle.afdx_laws.specs.WorkedPlan.{one_entry, two_arrivals, OneIsLegal, only_lost, LegalDespiteOneLoss, one_own, other_own, OwnComes, OneIsWhole, NeedsAll, demo_on, ComesFromOne, AreTwinsOfOne, two_accepted, swapped_accepted, pair_at, two_entries, PairHanded, AreSwapped, both_arrive, PairArrives, NeedsLegal, both_from_b, NeedsClose, pair_passes, PassesAGapApart}
+use Rattle.afdx_laws.specs.WorkedPlan.{one_entry, two_arrivals, OneIsLegal, LegalDespiteOneLoss, one_own, other_own, OwnComes, OneIsWhole, NeedsAll, demo_on, ComesFromOne, AreTwinsOfOne, two_accepted, swapped_accepted, pair_at, two_entries, PairHanded, AreSwapped, both_arrive, PairArrives, NeedsLegal, both_from_b, NeedsClose, pair_passes, PassesAGapApart}
 use Rattle.afdx_laws.proofs.AllOnBoth.{all_on_both_holds}
 use Rattle.afdx_laws.proofs.LegalLinks.{legal_arrive_holds, legal_despite_loss_holds}
 use Rattle.afdx_laws.proofs.LegalSpacing.{legal_passes_holds}
@@ -23,30 +21,14 @@ one_known carriers net = record { size = omega arith; k = 0; within = omega arit
 legal_on : (carriers : Networks) (net : Net) → names net carriers ≡ true
     → IsLegalOn (demo_on carriers) one_byte_accepted net (one_entry net)
 unfolding checksum addresses header_front internet_header link_header udp_header datagram unnumbered cutting fragments_at
-legal_on carriers net named = record {
-  known = (one_known carriers net, tt);
-  carried = below_one _ (λ none. absurd (false≢true (sym none ∙ named)));
-  prefixes = below_both _ _ refl ([], refl);
-  numbered = below_one _ (refl, tt);
-  spaced = below_one _ (tt, tt);
-}
+legal_on carriers net named = grind arith
 
 byte_queued : (carriers : Networks) (byte : ℕ) → IsQueued (demo_on carriers) 0 0 (record { port = demo_port; bytes = byte ∷ [] })
 byte_queued carriers byte = record { port = (0, omega arith, refl); over = refl; its = refl; some = omega arith; most = omega arith }
 
 one_handed : IsHandedOver demo_plan one_byte_accepted (one_entry A) (one_entry B) 0 0
 unfolding checksum addresses header_front internet_header link_header udp_header datagram unnumbered
-one_handed = record {
-  valid = demo_valid;
-  legal = record {
-    on_a = legal_on Both A refl;
-    on_b = legal_on Both B refl;
-    twins = record { b_shorter = λ h. refl; a_shorter = λ h. refl };
-  };
-  inside = omega arith;
-  index = omega arith;
-  allowed = All-from_recursion (IsQueued demo_plan 0 0) (one_byte_accepted 0 0) (byte_queued Both 1, tt);
-}
+one_handed = grind (arith, legal_on Both A refl, legal_on Both B refl, byte_queued Both 1, demo_valid)
 
 pub one_is_legal : OneIsLegal
 unfolding checksum addresses header_front internet_header link_header udp_header datagram unnumbered
@@ -60,12 +42,7 @@ one_is_legal = record {
 
 pub legal_despite_one_loss : LegalDespiteOneLoss
 unfolding checksum addresses header_front internet_header link_header udp_header datagram unnumbered
-legal_despite_one_loss = record {
-  handed = one_handed;
-  close = close_by_test only_lost B 1 refl refl;
-  message = refl;
-  first = record { many = 1; are = refl; all = λ j few enough. few };
-}
+legal_despite_one_loss = grind (arith, one_handed, close_by_test)
 
 pub one_is_whole : OneIsWhole
 unfolding checksum addresses header_front internet_header link_header udp_header datagram unnumbered cutting fragments_at
@@ -131,59 +108,11 @@ needs_all = record {
 -- the plan is valid, whichever networks its link is on, and with other frames
 pub demo_with_valid : (carriers : Networks) (most : ℕ) → 64 ≤ most → most ≤ 1518
     → IsPlan (record demo_plan { links = record demo_link { networks = carriers; lmax = most } ∷ [] })
-demo_with_valid carriers most least greatest = record {
-  end_system = demo_valid.end_system;
-  links = omega arith;
-  ports = demo_valid.ports;
-  each_link = All-from_recursion IsLink (record demo_link { networks = carriers; lmax = most } ∷ []) (omega arith);
-  each_port = demo_valid.each_port;
-  links_apart = λ i j a b e. same_place i j a b;
-  ports_apart = demo_valid.ports_apart;
-  linked = All-from_recursion (HasLink (record demo_link { networks = carriers; lmax = most } ∷ [])) demo_plan.ports
-      (record { at = 0; within = omega arith; over = record { id = refl; sub = omega arith } }, tt);
-  sampling = λ p link has_p has_link kind id. absurd (no_sampling p has_p kind);
-  flows_apart = demo_valid.flows_apart;
-  unicasts_apart = demo_valid.unicasts_apart;
-  few_ports = demo_valid.few_ports;
-}
-  where
-    same_place : (i j : ℕ) → i < 1 → j < 1 → i ≡ j
-    same_place i j a b = omega arith
-
-    no_sampling : (p : PortPlan) → Contains demo_plan.ports p → p.kind ≡ Sampling → ⊥
-    no_sampling p has kind =
-        let queuing : p.kind ≡ Queuing = All-contains (λ (q : PortPlan). q.kind ≡ Queuing) demo_plan.ports p
-        (All-from_recursion (λ (q : PortPlan). q.kind ≡ Queuing) demo_plan.ports (refl, tt)) has in
-        cc
+demo_with_valid carriers most least greatest = grind arith
 
 pub comes_from_one : ComesFromOne
 unfolding checksum addresses header_front internet_header link_header udp_header datagram unnumbered
-comes_from_one = record {
-  handed = record {
-    valid = demo_with_valid OnlyA demo_link.lmax (omega arith) (omega arith);
-    legal = record {
-      on_a = legal_on OnlyA A refl;
-      on_b = record {
-        known = tt;
-        carried = λ k inside none. refl;
-        prefixes = λ k s inside index. (_, refl);
-        numbered = λ k inside. tt;
-        spaced = λ k inside. tt;
-      };
-      twins = record { b_shorter = λ h. refl; a_shorter = λ h. refl };
-    };
-    inside = omega arith;
-    index = omega arith;
-    allowed = All-from_recursion (IsQueued (demo_on OnlyA) 0 0) (one_byte_accepted 0 0) (byte_queued OnlyA 1, tt);
-  };
-  alone = refl;
-  fit = omega arith;
-  begins = ([], refl);
-  message = refl;
-  first = record { many = 1; are = refl; all = λ j few enough. few };
-  elsewhere = λ legal. nil_isnt_cons (sym (legal.on_b.carried 0 (omega arith) refl));
-  lost = refl;
-}
+comes_from_one = grind (arith, legal_on OnlyA A refl, byte_queued OnlyA 1, demo_with_valid, nil_isnt_cons)
 
 one_on_both : All IsOnBoth (demo_on Both).links
 one_on_both = All-from_recursion IsOnBoth (demo_on Both).links (refl, tt)
@@ -201,17 +130,7 @@ are_twins_of_one = record {
 
 pair_legal_on : (net : Net) → IsLegalOn demo_plan two_accepted net (two_entries net)
 unfolding checksum addresses header_front internet_header link_header udp_header datagram unnumbered cutting fragments_at
-pair_legal_on net = record {
-  known = (one_known Both net, (record { size = omega arith; k = 0; within = omega arith; link = refl; of_sub = omega arith; interface = refl }, tt));
-  carried = below_one _ (carries net);
-  prefixes = below_both _ _ refl ([], refl);
-  numbered = below_one _ (refl, (refl, tt));
-  spaced = below_one _ (tt, (omega arith, tt));
-}
-  where
-    carries : (net : Net) → names net Both ≡ false → link_stream 1 (two_entries net) ≡ []
-    carries A none = absurd (false≢true (sym none))
-    carries B none = absurd (false≢true (sym none))
+pair_legal_on net = grind arith
 
 two_allowed : All (IsQueued demo_plan 0 0) (two_accepted 0 0)
 two_allowed = All-from_recursion (IsQueued demo_plan 0 0) (two_accepted 0 0) (byte_queued Both 1, (byte_queued Both 2, tt))
@@ -221,16 +140,11 @@ swapped_allowed = All-from_recursion (IsQueued demo_plan 0 0) (swapped_accepted 
 
 handed_pair : (accepted : Accepted) → All (IsQueued demo_plan 0 0) (accepted 0 0)
     → IsLegal demo_plan accepted (two_entries A) (two_entries B) → PairHanded accepted
-handed_pair accepted allowed legal =
-    record { valid = demo_valid; legal = legal; inside = omega arith; index = omega arith; allowed = allowed }
+handed_pair accepted allowed legal = grind arith
 
 two_handed : PairHanded two_accepted
 unfolding checksum addresses header_front internet_header link_header udp_header datagram unnumbered
-two_handed = handed_pair two_accepted two_allowed (record {
-  on_a = pair_legal_on A;
-  on_b = pair_legal_on B;
-  twins = record { b_shorter = λ h. refl; a_shorter = λ h. refl };
-})
+two_handed = grind (arith, pair_legal_on A, pair_legal_on B, handed_pair, two_allowed)
 
 pair_carried : AreCarriedOf 3 (frames_of 1 (two_entries A)) (frames_of 1 (two_entries B)) both_arrive
 unfolding checksum addresses header_front internet_header link_header udp_header datagram unnumbered

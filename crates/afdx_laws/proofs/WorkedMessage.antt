@@ -1,11 +1,11 @@
 -- The worked delivery, the worked runs of a receiver and the worked losses, by computation.
-use Rattle.afdx_laws.proofs.Names.{◌≡◌, ◌≤◌, ◌<◌, List, [], ◌∷◌, length, map, take, ◌+◌, ℕ, suc, false, nat_eq, refl, ap, sym, ◌∙◌, arith, max, Bool, true, not}
+use Rattle.afdx_laws.proofs.Names.{◌≡◌, ◌≤◌, ◌<◌, List, [], ◌∷◌, length, map, take, ◌+◌, ℕ, suc, false, nat_eq, refl, ap, arith, max, Bool, true, not}
 use Rattle.afdx_laws.proofs.Names.{◌&&◌, ◌||◌, nat_lt, nat_le, cond, and_parts, nat_tests, slice_index, length-append, length-take, length-map}
-use Rattle.afdx_laws.proofs.Names.{All-from_recursion, demo_port_is, Net, A, B, Sent, fragments, sub_in, number_in, twin_of, those_with, begin, carried, other}
-use Rattle.afdx_laws.proofs.Names.{IsNear, IsLong, IsStream, AreCarried, AreWithin, StartsFirst, AreClose, same_net, one_lost, IsSent, IsSending, AreFirst}
-use Rattle.afdx_laws.proofs.Names.{IsOfNet, IsHanded, AreHanded, one_accepted, both_frames, four_arrivals, OneMessageArrives, NeedsHanding, bare_frame}
+use Rattle.afdx_laws.proofs.Names.{All-from_recursion, demo_port_is, Net, A, B, Sent, fragments, sub_in, twin_of, those_with, carried, other}
+use Rattle.afdx_laws.proofs.Names.{IsNear, IsLong, IsStream, AreCarried, AreWithin, StartsFirst, AreClose, same_net, IsSending, AreFirst}
+use Rattle.afdx_laws.proofs.Names.{IsHanded, AreHanded, one_accepted, both_frames, four_arrivals, OneMessageArrives, NeedsHanding, bare_frame}
 use Rattle.afdx_laws.proofs.Names.{bare_stream, same_twice, far_behind, wide_receiver, AcceptsEachOnce, NeedsNumbers, NeedsALag, NeedsAStream, second_lost}
-use Rattle.afdx_laws.proofs.Names.{first_lost, MasksOneLoss, NeedsTheFirst, BeginsOnBoth, ComesDespiteLoss, NeedsAWholeNetwork, NeedsOneWhole, checksum}
+use Rattle.afdx_laws.proofs.Names.{MasksOneLoss, NeedsTheFirst, BeginsOnBoth, ComesDespiteLoss, NeedsAWholeNetwork, NeedsOneWhole, checksum}
 use Rattle.afdx_laws.proofs.Names.{cutting, addresses, header_front, internet_header, link_header, udp_header, datagram, unnumbered, fragments_at}
 use Rattle.afdx_laws.proofs.ListLemmas.{cons_parts, other_length, fails_by, needs_each}
 use Rattle.afdx_laws.proofs.Receiving.{exactly_once_holds}
@@ -14,22 +14,11 @@ use Rattle.afdx_laws.proofs.HandedOver.{sending_to, handed_arrive_holds, handed_
 
 handed_to : (net : Net) → IsHanded 1 25 0 one_accepted net (both_frames net)
 unfolding checksum addresses header_front internet_header link_header udp_header datagram unnumbered cutting fragments_at
-handed_to net = record {
-  frames = record { long = All-from_recursion IsLong (both_frames net) (omega arith); numbered = (refl, (refl, tt)) };
-  own = All-from_recursion (IsOfNet net) (both_frames net) (refl, (refl, tt));
-  first = ([], refl);
-}
+handed_to net = grind arith
 
 pub both_handed : AreHanded 1 25 0 one_accepted (both_frames A) (both_frames B)
 unfolding checksum addresses header_front internet_header link_header udp_header datagram unnumbered
-both_handed = record {
-  link = omega arith;
-  sent = All-from_recursion (IsSent 0) one_accepted
-      (record { port = demo_port_is; its = refl; some = omega arith; most = omega arith }, tt);
-  on_a = handed_to A;
-  on_b = handed_to B;
-  twins = record { b_shorter = λ h. refl; a_shorter = λ h. refl };
-}
+both_handed = grind (arith, handed_to A, handed_to B, demo_port_is)
 
 are_sent : IsSending 1 25 0 one_accepted A (both_frames A)
 are_sent = sending_to both_handed.link both_handed.sent both_handed.on_a
@@ -60,15 +49,13 @@ first_byte message = slice_index message 0
 pub not_first : {room : ℕ} {accepted : List Sent} {m : List ℕ} {later frames messages : List (List ℕ)}
     → messages ≡ m ∷ later → nat_eq (first_byte m) (first_of first_byte (map (λ (s : Sent). s.bytes) accepted)) ≡ false
     → AreFirst 1 room 0 accepted frames messages → ⊥
-not_first {accepted = accepted} are other first =
-    not_front first_byte (map (λ (s : Sent). s.bytes) accepted) first.many other (sym are ∙ first.are)
+not_first {accepted = accepted} are other first = grind arith
 
 -- nor are fewer than those whose frames all came
 pub too_few : {room : ℕ} {accepted : List Sent} {frames messages given : List (List ℕ)} (n : ℕ)
     → messages ≡ given → length given < n → n ≤ length accepted
     → length (fragments 1 room A (take n accepted)) ≤ length (those_with sub_in 0 frames) → AreFirst 1 room 0 accepted frames messages → ⊥
-too_few {accepted = accepted} n are short within enough first =
-    grind (arith, first.all n within enough, ap length (sym are ∙ first.are), length-take, length-map)
+too_few {accepted = accepted} n are short within enough first = grind (arith, length-take, length-map)
 
 -- the worked message has two frames, and both are among the stream's first two
 whole_lost : {messages : List (List ℕ)} → messages ≡ [] → AreFirst 1 25 0 one_accepted (take 2 (both_frames A)) messages → ⊥
@@ -151,37 +138,18 @@ second_is_close = close_by_test second_lost B 2 refl refl
 
 pub masks_one_loss : MasksOneLoss
 unfolding checksum addresses header_front internet_header link_header udp_header datagram unnumbered
-masks_one_loss = record {
-  lost = close_by_test one_lost B 3 refl refl;
-  numbers = refl;
-  stream = are_sent.frames;
-  close = second_is_close;
-  masked = refl;
-}
+masks_one_loss = grind arith
 
 pub not_close : {n i : ℕ} {es : List (Net × ℕ)} → AreClose B n 0 0 ((A, suc i) ∷ es) → ⊥
 not_close close = let first = close.first refl in omega arith
 
 pub needs_the_first : NeedsTheFirst
 unfolding checksum addresses header_front internet_header link_header udp_header datagram unnumbered
-needs_the_first = record {
-  within = within_by_test first_lost B 2 0 0 refl;
-  close = record {
-    premise = not_close;
-    conclusion = λ masked. not_front number_in (map (twin_of A) (both_frames A)) masked.0 refl masked.2;
-  };
-  three = not_close;
-  numbers = refl;
-}
+needs_the_first = grind arith
 
 pub begins_on_both : BeginsOnBoth
 unfolding checksum addresses header_front internet_header link_header udp_header datagram unnumbered
-begins_on_both = record {
-  begins = λ place later is. sym (cons_parts is).0;
-  masks = masks_one_loss;
-  later = λ begins. let first = begins 1 [] refl in omega arith;
-  dropped = refl;
-}
+begins_on_both = grind (arith, cons_parts, masks_one_loss)
 
 pub comes_despite_loss : ComesDespiteLoss
 unfolding checksum addresses header_front internet_header link_header udp_header datagram unnumbered

@@ -1,12 +1,10 @@
 -- The worked reassembly and its buffers, by computation.
-use Rattle.afdx_laws.proofs.Names.{ℕ, ◌≤◌, false, [], ◌∷◌, length, refl, arith, ◌≡◌, inl, inr, ap, sym, true, All, Some, None, cases_eq, All-from_recursion, A}
-use Rattle.afdx_laws.proofs.Names.{B, Buffer, empty, HasByte, buffers_after, HoldsOne, HasUpTo, one_accepted, both_frames, four_arrivals, plain_receiver}
+use Rattle.afdx_laws.proofs.Names.{ℕ, ◌≤◌, false, [], ◌∷◌, refl, arith, ◌≡◌, inl, inr, ap, sym, true, All, Some, None, cases_eq, All-from_recursion}
+use Rattle.afdx_laws.proofs.Names.{Buffer, empty, HasByte, buffers_after, HoldsOne, HasUpTo}
 use Rattle.afdx_laws.proofs.Names.{checksum, cutting, addresses, header_front, internet_header, link_header, udp_header, datagram, unnumbered, two_datagrams}
-use Rattle.afdx_laws.proofs.Names.{second_came, one_without_bytes, eight_bytes, piece, FirstIsGiven, NeedsOrder, two_begun, NeedsInTurn, HoldsAFrame}
+use Rattle.afdx_laws.proofs.Names.{piece, FirstIsGiven, NeedsOrder, two_begun, NeedsInTurn, HoldsAFrame}
 use Rattle.afdx_laws.proofs.ListLemmas.{fails_by}
-use Rattle.afdx_laws.proofs.InOrder.{in_order_holds}
-use Rattle.afdx_laws.proofs.OneBuffer.{one_buffer, handed_need_one}
-use Rattle.afdx_laws.proofs.WorkedMessage.{not_front, both_handed, needs_handing}
+use Rattle.afdx_laws.proofs.OneBuffer.{one_buffer}
 
 two_some : All HasByte two_datagrams
 two_some = All-from_recursion HasByte two_datagrams (omega arith)
@@ -17,18 +15,7 @@ first_is_given = record { some = two_some; first = (piece 4 1 false 29 4 ∷ [],
 
 pub needs_order : NeedsOrder
 unfolding cutting
-needs_order = record {
-  lost = fails_by (in_order_holds 8 0 two_datagrams second_came (omega arith) two_some)
-      (λ are. not_front length two_datagrams are.0 refl are.1);
-  none = record {
-    premise = λ all. let some : 1 ≤ 0 = all 0 [] (omega arith) in omega arith;
-    conclusion = λ are. not_front length one_without_bytes are.0 refl are.1;
-  };
-  none_first = ([], refl);
-  small_some = All-from_recursion HasByte eight_bytes (omega arith);
-  small_first = ([], refl);
-  small = record { premise = omega arith; conclusion = λ are. not_front length eight_bytes are.0 refl are.1 };
-}
+needs_order = grind arith
 
 has_byte : (b : Buffer) (x : ℕ) → b.byte_at 0 ≡ Some x → b ≡ empty → ⊥
 has_byte b x has is = cc (ap (λ (c : Buffer). c.byte_at 0) is)
@@ -58,10 +45,4 @@ needs_in_turn = record {
 
 pub holds_a_frame : HoldsAFrame
 unfolding checksum addresses header_front internet_header link_header udp_header datagram unnumbered
-holds_a_frame = record {
-  last = refl;
-  next = refl;
-  given = refl;
-  enough = handed_need_one 1 25 0 3 plain_receiver one_accepted (both_frames A) (both_frames B) four_arrivals
-      both_handed needs_handing.second needs_handing.third;
-}
+holds_a_frame = grind arith

@@ -1,6 +1,5 @@
 -- The worked run of polls of an emitter, by computation.
-use Rattle.run_laws.proofs.Names.{Contains, None, inr, ◌⊎◌, DrainPolls, IsDrained, subst, IsLater, link_plan_at, ◌≡◌, ◌≢◌, ℕ, zero, suc, ◌<◌, List, [], ◌∷◌, ◌++◌, length, refl, ap, sym, ◌∙◌, arith, inl, true, All, All-nil, All-cons, All-from_recursion, below_one, cases_eq, ⊎_elim, A, cutting, fragments_at, blanked, addresses, header_front, internet_header, link_header, udp_header, datagram, unnumbered, Entry, entry, Lines, BothEndure, log, stands_for, may_release, turn_of, pace_in, slice_index, link_in, sub_in, number_in, interface_byte, Held, Passes, held_at, IsQueued, IsAllowed, Released, stream_at, EmitterPolls, IsReady, FindsIt, ArePolls, IsPlan, IsLink, IsPort, taken_in, HasPlace, IsAccepted, AreTimely, fragments_of, seen_of}
-use Rattle.afdx_plan.proofs.PlanLemmas.{valid}
+use Rattle.run_laws.proofs.Names.{Contains, None, inr, ◌⊎◌, DrainPolls, IsDrained, subst, IsLater, link_plan_at, ◌≡◌, ◌≢◌, ℕ, zero, suc, ◌<◌, List, [], ◌∷◌, ◌++◌, length, refl, sym, ◌∙◌, arith, inl, true, All, All-nil, All-cons, All-from_recursion, below_one, cases_eq, ⊎_elim, A, cutting, fragments_at, blanked, addresses, header_front, internet_header, link_header, udp_header, datagram, unnumbered, Entry, entry, Lines, BothEndure, log, stands_for, may_release, turn_of, pace_in, slice_index, link_in, sub_in, number_in, interface_byte, Held, Passes, held_at, IsQueued, IsAllowed, Released, stream_at, EmitterPolls, IsReady, FindsIt, ArePolls, IsPlan, taken_in, HasPlace, IsAccepted, AreTimely, fragments_of, seen_of}
 use Rattle.afdx_plan.specs.declared.networks.Networks.TheVariants.{Both}
 use Rattle.afdx_frame.specs.Checksum.{checksum}
 use Rattle.redundant_mux.specs.Logged.{logged_for}
@@ -11,7 +10,7 @@ use Rattle.afdx_plan.specs.declared.link_plan.LinkPlan.{LinkPlan}
 use Rattle.vl_link.specs.declared.served.Served.{Served}
 use Rattle.afdx_legal.specs.Streams.{link_stream}
 use Rattle.vl_link.specs.Links.{AreSameSubs, Serves, GivesFrame, IsSameSub, sent_by, message_fragments}
-use Rattle.vl_link.specs.Seen.{Seen, Finds, receiving, gathered, taken_of}
+use Rattle.vl_link.specs.Seen.{Finds, taken_of}
 use Rattle.vl_link.proofs.SubInStep.{moves_of, gave_same, same_sub_here, same_sub_on}
 use Rattle.afdx_legal.specs.Streams.{sub_stream, latest, IsPrefixOf}
 use Rattle.run_laws.specs.WorkedRun.{short_port, short_sent, short_frame, front_entry}
@@ -27,20 +26,13 @@ by_three P first second third (suc (suc zero)) lt = third
 by_three P first second third (suc (suc (suc s))) lt = absurd (omega arith)
 
 three_valid : IsPlan three_plan
-three_valid = valid three_plan (omega arith) (All-from_recursion IsLink three_plan.links (omega arith))
-    (All-from_recursion IsPort three_plan.ports (omega arith)) refl
+three_valid = grind arith
 
 long_allowed : IsAllowed three_plan 0 0 long_sent
-long_allowed = record {
-  queued = record { port = (0, omega arith, refl); over = refl; its = refl; some = omega arith; most = omega arith };
-  most = omega arith;
-}
+long_allowed = grind arith
 
 short_allowed : (sub : ℕ) → Contains three_plan.ports (short_port sub) → IsAllowed three_plan 0 sub (short_sent sub)
-short_allowed sub port = record {
-  queued = record { port = port; over = refl; its = refl; some = omega arith; most = omega arith };
-  most = omega arith;
-}
+short_allowed sub port = grind arith
 
 first_allowed : IsAllowed three_plan 0 1 (short_sent 1)
 first_allowed = short_allowed 1 (1, omega arith, refl)
@@ -67,14 +59,7 @@ ready left first second lines = record {
 
 -- Whatever sub-VL 1 takes, its poll isn't one that finds nothing.
 finds : (before after : List (ℕ × List ℕ)) → Passes (short_sub 1 before) (short_sub 1 after) → ⊥
-finds before after p =
-    let looks = ap (λ (s : Seen). looks_of s) p.nothing in
-    let taken = ap (λ (s : Seen). length (taken_of s)) p.nothing in
-    omega arith
-  where
-    looks_of : Seen → ℕ
-    looks_of (receiving r) = r.looks
-    looks_of (gathered g) = 0
+finds before after p = grind arith
 
 -- A poll of an emitter, by the turn of its one link.
 abbrev pub polls_by : (now : ℕ) (plan : Plan) (link : LinkPlan) (old new : List Held) (lines after : Lines) (did : Served)
@@ -208,8 +193,7 @@ each_poll f [] lines after p = p
 each_poll f (now ∷ moments) lines after p = (p.0, f now lines p.0 p.1, each_poll f moments p.0 after p.2)
 
 polls : ArePolls (EmitterPolls three_plan) (3000 ∷ 6000 ∷ 9000 ∷ 12000 ∷ []) (line_after 1) (line_after 5)
-polls = each_poll {P = FindsIt three_plan 0 1 2} (λ now lines after f. f.poll) (3000 ∷ 6000 ∷ 9000 ∷ 12000 ∷ []) (line_after 1) (line_after 5)
-    (line_after 2, first_poll, finding)
+polls = grind (arith, each_poll, first_poll, finding)
 
 pub comes_in_turn : ComesInTurn
 unfolding log checksum addresses header_front internet_header link_header udp_header datagram unnumbered
@@ -229,12 +213,7 @@ comes_in_turn = record {
 }
 
 accepted_is : IsAccepted three_plan three_accepted 0 1 (short_sent 1 ∷ []) (short_sent 1) []
-accepted_is = record { link = omega arith; sub = omega arith; are = refl; allowed = λ k s lt. by_link k lt s }
-  where
-    by_link : (k : ℕ) → k < 1 → (s : ℕ) → s < (link_plan_at three_plan.links k).sub_vls → All (IsAllowed three_plan k s) (three_accepted k s)
-    by_link = below_one _ (by_three _ (All-from_recursion (IsAllowed three_plan 0 0) (three_accepted 0 0) (long_allowed, tt))
-        (All-from_recursion (IsAllowed three_plan 0 1) (three_accepted 0 1) (first_allowed, (first_allowed, tt)))
-        (All-from_recursion (IsAllowed three_plan 0 2) (three_accepted 0 2) (second_allowed, tt)))
+accepted_is = grind arith
 
 start_is : IsLater (latest None (stream_at three_plan 0 (line_after 2))) 3000
 unfolding log checksum addresses header_front internet_header link_header udp_header datagram unnumbered
@@ -252,11 +231,7 @@ unfolding log checksum addresses header_front internet_header link_header udp_he
 begins_is = ([], refl)
 
 timely_is : AreTimely 1000 2000 12000 3000 (6000 ∷ 9000 ∷ 12000 ∷ [])
-timely_is = (
-  omega arith,
-  λ near. inl (omega arith, omega arith),
-  (omega arith, λ near. inl (omega arith, omega arith), (omega arith, λ near. inl (omega arith, omega arith), omega arith)),
-)
+timely_is = grind arith
 
 sooner_is : ThirdReleased 11999 → ⊥
 unfolding log checksum addresses header_front internet_header link_header udp_header datagram unnumbered cutting fragments_at

@@ -1,5 +1,5 @@
 -- An emitter stays ready.
-use Rattle.run_laws.proofs.Names.{ℕ, ◌≡◌, ◌<◌, List, [], length, arith, ap, ◌∙◌, sym, subst, All, All-nil, Plan, PortPlan, Pace, Held, LinkState, held_at, link_at, sent_by, taken_by, IsSameLink, turns_each, IsQueued, AreQueued, Tx, taken_in, IsOpenedSub, IsFreshTx, IsRun, IsTurnAt, IsPlanned, IsReadyFor, IsReady, KeptReady}
+use Rattle.run_laws.proofs.Names.{ℕ, ◌≡◌, ◌<◌, List, [], length, arith, ap, ◌∙◌, sym, subst, All, Plan, PortPlan, Held, LinkState, held_at, link_at, sent_by, taken_by, IsSameLink, turns_each, IsQueued, AreQueued, Tx, taken_in, IsOpenedSub, IsFreshTx, IsRun, IsTurnAt, IsPlanned, IsReadyFor, IsReady, KeptReady}
 use Rattle.vl_link.specs.declared.sub_vl.SubVl.{SubVl}
 use Rattle.vl_link.specs.Seen.{Seen, taken_of}
 use Rattle.afdx_tx.specs.Closing.{ClosesTx}
@@ -13,23 +13,11 @@ opened_taken : (own : SubVl) (ports : List PortPlan) (senders : ℕ) (held : Hel
 opened_taken own ports senders held f = ap (λ (seen : Seen). sent_by held.ports (taken_of seen)) f.seen
 
 opened : (config : Plan) (tx : Tx) → IsFreshTx config tx → IsReady tx
-opened config tx f = by_own config tx f.plan (record {
-  count = f.links.count;
-  links = λ k lt.
-      let link = f.links.each k lt in
-      record { plan_is = link.plan; gap = ap (λ (p : Pace). p.gap) link.pace; sub_vls = ap (λ (p : Pace). p.sub_vls) link.pace };
-  allowed = λ k s lt slt.
-      subst (All (IsQueued config k s)) (sym (opened_taken _ _ _ _ ((f.links.each k lt).subs.each s slt)))
-      (All-nil (IsQueued config k s));
-})
+opened config tx f = grind arith
 
 planned_on : (plan : Plan) (old new : List LinkState) (k : ℕ) → IsSameLink (link_at old k) (link_at new k)
     → IsPlanned plan old k → IsPlanned plan new k
-planned_on plan old new k same own = record {
-  plan_is = same.plan ∙ own.plan_is;
-  gap = same.gap ∙ own.gap;
-  sub_vls = same.sub_vls ∙ own.sub_vls;
-}
+planned_on plan old new k same own = grind arith
 
 polled : (now : ℕ) (old new : Tx) → IsReady old → new.plan ≡ old.plan
     → IsRun now old.links new.links old.lines new.lines → AreQueued new.plan (taken_in new.links) → IsReady new
@@ -44,9 +32,7 @@ polled now old new ready plan run allowed = by_own old.plan new plan (record {
         0 (length old.links) old.lines new.lines (λ i before behind did t. t.same) run.turns k (omega arith) (omega arith)
 
 closed_taken : (old new : Held) → ClosedSub old new → taken_by new ≡ taken_by old
-closed_taken old new c =
-    ap (λ (ports : List PortPlan). sent_by ports (taken_of new.seen)) c.keeps.ports
-    ∙ ap (sent_by old.ports) c.keeps.taken
+closed_taken old new c = grind arith
 
 closed : (old new : Tx) (vl sub total : ℕ) → IsReady old → ClosesTx old vl sub total new → IsReady new
 closed old new vl sub total ready c =

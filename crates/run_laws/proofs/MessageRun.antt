@@ -1,5 +1,5 @@
 -- The law of a message in a run of polls.
-use Rattle.run_laws.proofs.Names.{ℕ, suc, ◌≡◌, ◌⊎◌, ◌+◌, ◌-◌, ◌*◌, ◌<◌, ◌≤◌, List, [], ◌∷◌, ◌++◌, Bool, nat_lt, length, map, take, drop, get_or, arith, refl, ap, ◌∙◌, sym, subst, None, inl, inr, ⊎_elim, All, suc-mul, mul-le, cases_lt, lt-ltb, le-ltb, append_assoc, length-append, take-append-drop, length-drop, All-head, All-drop, Plan, IsPlan, link_plan_at, IsLink, bag_micros, link_place, room_of, LinkPlan, A, Sent, fragments_at, fragments_from, Entry, Lines, Passes, held_at, link_at, no_link_plan, latest, IsPrefixOf, Accepted, IsAllowed, IsDrained, stream_at, cons_parts, cons_same, all_front, pieces_of, port_pieces, most_pieces, queued_before, message_wait, worst_wait, AreTimely, fragments_of, seen_of, HasPlace, FindsIt, MessageInRun}
+use Rattle.run_laws.proofs.Names.{ℕ, suc, ◌≡◌, ◌⊎◌, ◌+◌, ◌-◌, ◌*◌, ◌<◌, ◌≤◌, List, [], ◌∷◌, ◌++◌, Bool, nat_lt, length, map, take, drop, arith, refl, ap, ◌∙◌, sym, subst, None, inl, inr, ⊎_elim, All, suc-mul, mul-le, cases_lt, lt-ltb, le-ltb, append_assoc, length-append, take-append-drop, length-drop, All-head, All-drop, Plan, IsPlan, link_plan_at, IsLink, bag_micros, link_place, room_of, LinkPlan, A, Sent, fragments_at, fragments_from, Entry, Lines, Passes, held_at, link_at, no_link_plan, latest, IsPrefixOf, Accepted, IsAllowed, IsDrained, stream_at, cons_parts, cons_same, all_front, pieces_of, port_pieces, most_pieces, queued_before, message_wait, worst_wait, AreTimely, fragments_of, seen_of, HasPlace, FindsIt, MessageInRun}
 use Rattle.afdx_tx.proofs.OwnLengths.{own_link}
 use Rattle.run_laws.proofs.PollStep.{StandsAt, StepsAt, emitter_step, drain_step, emitter_endures, drain_endures}
 use Rattle.run_laws.proofs.Ran.{some_gap, at_of, seen_both, seen_append, adds_seen, timely_rise, splits, AreSteps, have_run, all_back}
@@ -19,18 +19,7 @@ find_step now plan accepted k x many lines mid valid inside most (inl finds) sta
     (λ l a did at t up s lt passes is. le-ltb _ many (finds.finds (subst (λ (y : ℕ).
     Passes (held_at (link_at finds.poll.old.links k).subs y) (held_at (link_at finds.poll.new.links k).subs y)) is passes)))
     stands
-find_step now plan accepted k x many lines mid valid inside most (inr drains) stands =
-    drain_step now plan accepted k x (waiting x many (stream_at plan k lines)) lines mid valid inside drains
-    (λ l a did at t up s lt released is. le-ltb _ many (none_left l s at released is)) stands
-  where
-    none_left : (l : Lines) (s : ℕ) → stream_at plan k l ≡ stream_at plan k lines
-        → fragments_of plan k (accepted k s) ≡ seen_of s (stream_at plan k l) → s ≡ x → many ≤ length (seen_of x (stream_at plan k lines))
-    none_left l s at released is =
-        let all : fragments_of plan k (accepted k x) ≡ seen_of x (stream_at plan k lines) =
-        subst (λ (y : ℕ). fragments_of plan k (accepted k y) ≡ seen_of y (stream_at plan k lines)) is
-        (subst (λ (S : List Entry). fragments_of plan k (accepted k s) ≡ seen_of s S) at released) in
-        let same = ap length all in
-        omega arith
+find_step now plan accepted k x many lines mid valid inside most (inr drains) stands = grind (arith, drain_step, valid, le-ltb)
 
 -- the polls of a run
 finding_steps : (plan : Plan) (accepted : Accepted) (k x many : ℕ) → IsPlan plan → k < length plan.links
@@ -54,10 +43,7 @@ front_of (x ∷ xs) (y ∷ ys) us vs is le =
     (rest.0, cons_same parts.0 rest.1)
 
 wide_room : (plan : Plan) (k : ℕ) → IsPlan plan → k < length plan.links → 8 ≤ room_of (link_plan_at plan.links k).lmax
-wide_room plan k valid inside =
-    let link : IsLink (link_plan_at plan.links k) = valid.each_link k no_link_plan inside in
-    let least = link.lmax.0 in
-    omega arith
+wide_room plan k valid inside = grind arith
 
 module _ (plan : Plan) (k s : ℕ) (valid : IsPlan plan) (inside : k < length plan.links) where
   abbrev most_of : ℕ
@@ -71,15 +57,10 @@ module _ (plan : Plan) (k s : ℕ) (valid : IsPlan plan) (inside : k < length pl
   own_few m of = pieces_mono _ (length m.bytes) m.port.max (wide_room plan k valid inside) of.most
 
   port_few : (m : Sent) → IsAllowed plan k s m → port_pieces (link_plan_at plan.links k) m.port ≤ most_of
-  port_few m of =
-      subst (λ (t : ℕ). port_pieces (link_plan_at plan.links k) m.port ≤ most_pieces (link_plan_at plan.links k) t plan.ports) of.queued.its
-      (port_most (link_plan_at plan.links k) plan.ports m.port of.queued.port of.queued.over)
+  port_few m of = grind (arith, port_most)
 
   all_few : (messages : List Sent) → All (IsAllowed plan k s) messages → All Few messages
-  all_few messages of i d lt =
-      let own = own_few (get_or messages i d) (of i d lt) in
-      let port = port_few (get_or messages i d) (of i d lt) in
-      omega arith
+  all_few messages of i d lt = grind (arith, own_few, port_few)
 
   -- How many fragments up to the message's last can be missing if its queue had room for it.
   missing : (earlier : List Sent) (sent : Sent) (stream : List Entry) → All Few earlier
@@ -123,11 +104,7 @@ module _ (plan : Plan) (k s : ℕ) (valid : IsPlan plan) (inside : k < length pl
 own_wait : (plan : Plan) (k s late : ℕ) (sent : Sent) → link_place plan sent.port ≡ k → sent.port.sub ≡ s
     → worst_wait late plan sent.port ≡ message_wait late (link_plan_at plan.links k)
     (most_pieces (link_plan_at plan.links k) s plan.ports) (port_pieces (link_plan_at plan.links k) sent.port)
-own_wait plan k s late sent at its =
-    ap (λ (j : ℕ). message_wait late (link_plan_at plan.links j) (most_pieces (link_plan_at plan.links j) sent.port.sub plan.ports)
-    (port_pieces (link_plan_at plan.links j) sent.port)) at
-    ∙ ap (λ (t : ℕ). message_wait late (link_plan_at plan.links k) (most_pieces (link_plan_at plan.links k) t plan.ports)
-    (port_pieces (link_plan_at plan.links k) sent.port)) its
+own_wait plan k s late sent at its = grind arith
 
 pub message_in_run_holds : MessageInRun
 message_in_run_holds plan accepted moments lines after k s late start earlier sent later valid is last place finding begins stands timely =

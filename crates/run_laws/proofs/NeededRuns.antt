@@ -1,7 +1,6 @@
 -- The cases in which a premise of the law of a message in a run fails, by computation.
-use Rattle.run_laws.proofs.Names.{List, blanked, ap, ◌∙◌, cons_parts, slice_index, true, Served, sym, append-nil, drop, IsQueued, All, ◌≡◌, ℕ, zero, suc, ◌<◌, ◌≤◌, [], ◌∷◌, ◌++◌, length, refl, arith, inl, inr, All-nil, All-from_recursion, ⊎_elim, below_one, below_both, false≢true, A, cutting, fragments_at, addresses, header_front, internet_header, link_header, udp_header, datagram, unnumbered, Entry, entry, Lines, log, Nothing, Released, Drains, Held, Passes, held_at, IsAllowed, stream_at, EmitterPolls, AreTimely, AreFinding, IsAccepted, fragments_of, seen_of, IsPlan, IsLink, IsPort}
+use Rattle.run_laws.proofs.Names.{List, blanked, ap, ◌∙◌, cons_parts, slice_index, true, Served, sym, append-nil, drop, IsQueued, All, ◌≡◌, ℕ, zero, suc, ◌<◌, ◌≤◌, [], ◌∷◌, ◌++◌, length, refl, arith, inl, inr, All-nil, All-from_recursion, ⊎_elim, below_one, below_both, false≢true, A, cutting, fragments_at, addresses, header_front, internet_header, link_header, udp_header, datagram, unnumbered, Entry, entry, Lines, log, Nothing, Released, Drains, Held, Passes, held_at, IsAllowed, stream_at, EmitterPolls, AreTimely, AreFinding, IsAccepted, fragments_of, seen_of, IsPlan}
 use Rattle.std.specs.Prelude.{replicate}
-use Rattle.afdx_plan.proofs.PlanLemmas.{valid}
 use Rattle.afdx_frame.specs.Checksum.{checksum}
 use Rattle.subvl_queue.specs.Views.{after_take, ReceiverView, looked}
 use Rattle.vl_link.specs.Kept.{IsTied}
@@ -20,14 +19,10 @@ use Rattle.run_laws.proofs.Ran.{seen_append}
 use Rattle.run_laws.proofs.MessageRun.{message_in_run_holds}
 
 byte_valid : IsPlan byte_plan
-byte_valid = valid byte_plan (omega arith) (All-from_recursion IsLink byte_plan.links (omega arith))
-    (All-from_recursion IsPort byte_plan.ports (omega arith)) refl
+byte_valid = grind arith
 
 may_send : IsAllowed byte_plan 0 0 (short_sent 0)
-may_send = record {
-  queued = record { port = (0, omega arith, refl); over = refl; its = refl; some = omega arith; most = omega arith };
-  most = omega arith;
-}
+may_send = grind arith
 
 accepted_are : (earlier : ℕ) → bytes_accepted (suc earlier) 0 0 ≡ replicate earlier (short_sent 0) ++ short_sent 0 ∷ []
     → All (IsAllowed byte_plan 0 0) (bytes_accepted (suc earlier) 0 0)

@@ -1,5 +1,5 @@
 -- How many fragments messages have.
-use Rattle.run_laws.proofs.Names.{ℕ, suc, zero, ◌≡◌, ◌+◌, ◌-◌, ◌*◌, ◌<◌, ◌≤◌, true, ◌&&◌, nat_eq, List, [], ◌∷◌, ◌++◌, length, arith, refl, ap, ◌∙◌, sym, inl, inr, All, Contains, mul-le, cases_lt, and_from, eq-eqb, length-append, length-map, append_assoc, All-head, All-tail, All-contains, suc-mul, step_of, cutting, cut_by, pieces_from, Sent, fragments_at, fragments_from, unnumbered, LinkPlan, PortPlan, pieces_of, port_pieces, pieces_on, most_pieces}
+use Rattle.run_laws.proofs.Names.{ℕ, suc, zero, ◌≡◌, ◌+◌, ◌-◌, ◌*◌, ◌<◌, ◌≤◌, true, ◌&&◌, nat_eq, List, [], ◌∷◌, ◌++◌, length, arith, refl, ap, ◌∙◌, inl, inr, All, Contains, cases_lt, and_from, eq-eqb, length-append, length-map, append_assoc, All-head, All-tail, All-contains, suc-mul, step_of, cutting, cut_by, pieces_from, Sent, fragments_at, fragments_from, LinkPlan, PortPlan, pieces_of, port_pieces, pieces_on, most_pieces}
 use Rattle.std.specs.Int.{div_ceil}
 use Rattle.std.proofs.lemmas.Grind.{div_ceil_times}
 use Rattle.std.proofs.lemmas.List.Recursion.{max_bounds}
@@ -7,39 +7,16 @@ use Rattle.afdx_frame.specs.declared.net.Net.{Net}
 use Rattle.afdx_frame.proofs.CuttingLemmas.{cut_last, cut_more, step_pos, step_le}
 
 one_quotient : (a s c d : ℕ) → a ≤ c * s → c * s < a + s → a ≤ d * s → d * s < a + s → c ≡ d
-one_quotient a s c d c_most c_least d_most d_least = elim (cases_lt c d) [
-  | inl less ↦ let m = mul-le (suc c) s d s (omega arith) (omega arith) in absurd (omega arith)
-  | inr more ↦ elim (cases_lt d c) [
-    | inl less ↦ let m = mul-le (suc d) s c s (omega arith) (omega arith) in absurd (omega arith)
-    | inr same ↦ omega arith
-  ]
-]
+one_quotient a s c d c_most c_least d_most d_least = grind arith
 
 ceil_none : (s : ℕ) → 1 ≤ s → div_ceil 0 s ≡ 0
 ceil_none s step = grind (arith, div_ceil_times 0 s)
 
 ceil_less : (a s : ℕ) → 1 ≤ a → 1 ≤ s → div_ceil a s ≡ 1 + div_ceil (a - s) s
-ceil_less a s some step =
-    let whole = div_ceil_times a s (omega arith) in
-    let rest = div_ceil_times (a - s) s (omega arith) in
-    let next : (1 + div_ceil (a - s) s) * s ≡ s + div_ceil (a - s) s * s = omega arith in
-    elim (cases_lt a s) [
-      | inl less ↦
-          let past : a - s ≡ 0 = omega arith in
-          let none : div_ceil (a - s) s ≡ 0 = ap (λ (n : ℕ). div_ceil n s) past ∙ ceil_none s step in
-          let one : (1 + div_ceil (a - s) s) * s ≡ s = ap (λ (n : ℕ). (1 + n) * s) none ∙ omega arith in
-          one_quotient a s (div_ceil a s) (1 + div_ceil (a - s) s) whole.0 whole.1 (omega arith) (omega arith)
-      | inr more ↦ one_quotient a s (div_ceil a s) (1 + div_ceil (a - s) s) whole.0 whole.1 (omega arith) (omega arith)
-    ]
+ceil_less a s some step = grind arith
 
 ceil_mono : (a b s : ℕ) → 1 ≤ s → a ≤ b → div_ceil a s ≤ div_ceil b s
-ceil_mono a b s step le =
-    let of_a = div_ceil_times a s (omega arith) in
-    let of_b = div_ceil_times b s (omega arith) in
-    elim (cases_lt (div_ceil b s) (div_ceil a s)) [
-      | inl less ↦ let m = mul-le (suc (div_ceil b s)) s (div_ceil a s) s (omega arith) (omega arith) in absurd (omega arith)
-      | inr fine ↦ omega arith
-    ]
+ceil_mono a b s step le = grind arith
 
 -- the number of pieces of some bytes
 cut_count : (turns room n : ℕ) → 8 ≤ room → 1 ≤ n → n ≤ turns → length (cut_by turns room n) ≡ 1 + div_ceil (n - room) (step_of room)
@@ -66,11 +43,7 @@ pieces_count (len ∷ rest) start = ap suc (pieces_count rest (start + len))
 pub message_pieces : (end_system room : ℕ) (net : Net) (place : ℕ) (sent : Sent) → 8 ≤ room
     → length (fragments_at end_system room net place sent) ≡ pieces_of room (length sent.bytes)
 unfolding fragments_at cutting
-message_pieces end_system room net place sent wide =
-    let size : ℕ = 8 + length sent.bytes in
-    length-map (pieces_from 0 (cut_by size room size)) (λ piece. unnumbered end_system sent.port sent.bytes place piece net)
-    ∙ pieces_count (cut_by size room size) 0
-    ∙ cut_count size room size wide (omega arith) (omega arith)
+message_pieces end_system room net place sent wide = grind (arith, length-map, pieces_count, cut_count)
 
 pub pieces_mono : (room a b : ℕ) → 8 ≤ room → a ≤ b → pieces_of room a ≤ pieces_of room b
 pieces_mono room a b wide le =
@@ -96,11 +69,7 @@ pub fragments_both : (end_system room : ℕ) (net : Net) (place : ℕ) (xs ys : 
     ≡ fragments_from end_system room net place xs ++ fragments_from end_system room net (place + length xs) ys
 fragments_both end_system room net place [] ys = ap (λ (p : ℕ). fragments_from end_system room net p ys) (omega arith)
 fragments_both end_system room net place (x ∷ xs) ys =
-    ap (λ (z : List (List ℕ)). fragments_at end_system room net place x ++ z)
-    (fragments_both end_system room net (suc place) xs ys
-    ∙ ap (λ (p : ℕ). fragments_from end_system room net (suc place) xs ++ fragments_from end_system room net p ys)
-    (omega arith))
-    ∙ sym (append_assoc (fragments_at end_system room net place x) _ _)
+    grind (arith, append_assoc, fragments_both end_system room net (suc place) xs ys)
 
 -- a port needs at most as many fragments per message as the neediest of its sub-VL
 pub port_most : (link : LinkPlan) (ports : List PortPlan) (port : PortPlan) → Contains ports port → port.vl.0 ≡ link.id.0

@@ -1,5 +1,5 @@
 -- What a turn of a link, and a poll of all links, does to the stream of one of them.
-use Rattle.run_laws.proofs.Names.{ℕ, zero, suc, ◌≡◌, ◌≢◌, ◌+◌, ◌<◌, List, [], ◌∷◌, ◌++◌, Bool, true, false, ◌&&◌, ◌||◌, nat_eq, arith, refl, ap, ◌∙◌, sym, subst, Option, Some, None, inl, inr, ⊎_elim, ◌≤◌, length, nat_tests, both_ways, cases_eq, and_from, and_parts, eq-eqb, LinkPlan, sub_in, Entry, entry, Lines, stands_for, log, BothEndure, Pace, is_due, turn_of, IsServed, Served, Nothing, Released, Lost, TurnView, Turn, AreTurns, pace_of, Held, LinkState, held_at, link_at, taken_by, held_view, Passes, none_begun, begun_by, latest, link_stream, sub_stream, told, All, append-nil, All-weaker, Plan, IsPlan, link_plan_at, bag_micros, room_of, A, Sent, stood_before, turn_endures, turns_endure, turns_seen, Accepted, IsQueued, AreQueued, Tx, taken_in, IsTurnAt, DrainsAt, IsDrained, accepted_view, stream_at, IsReadyFor, EmitterPolls}
+use Rattle.run_laws.proofs.Names.{ℕ, zero, suc, ◌≡◌, ◌≢◌, ◌+◌, ◌<◌, List, [], ◌∷◌, ◌++◌, Bool, true, false, ◌&&◌, ◌||◌, nat_eq, arith, refl, ap, ◌∙◌, sym, subst, Option, Some, None, inl, inr, ⊎_elim, ◌≤◌, length, nat_tests, both_ways, cases_eq, and_from, and_parts, eq-eqb, LinkPlan, sub_in, Entry, entry, Lines, stands_for, log, BothEndure, Pace, is_due, turn_of, IsServed, Served, Nothing, Released, Lost, TurnView, Turn, AreTurns, pace_of, Held, LinkState, held_at, link_at, taken_by, held_view, Passes, none_begun, begun_by, latest, link_stream, sub_stream, told, All, append-nil, All-weaker, Plan, IsPlan, link_plan_at, bag_micros, room_of, A, Sent, stood_before, turns_endure, turns_seen, Accepted, IsQueued, AreQueued, Tx, IsTurnAt, DrainsAt, IsDrained, accepted_view, stream_at, IsReadyFor, EmitterPolls}
 use borrow.Author.Count.{below_more}
 use Rattle.std.proofs.Math.Bool.{or-true}
 use Rattle.redundant_mux.proofs.MirroredLines.{log_same}
@@ -126,8 +126,7 @@ LacksNone plan k x b S P view = (lines after : Lines) (did : Served) → stream_
 -- turns never bring a network up
 turned : (now : ℕ) (plan : Plan) (view : ℕ → Lines → TurnView) (P : ℕ → Lines → Lines → Served → Type 0) (j : ℕ)
     (lines after : Lines) (did : Served) → IsSeen now plan view P j lines after did → BothEndure lines after
-turned now plan view P j lines after did t = turn_endures now (link_plan_at plan.links j)
-    (pace_of (gap_at plan j) (subs_at plan j) (stream_at plan j lines)) (view j lines) lines after did t.turn
+turned now plan view P j lines after did t = grind arith
 
 pub seen_endure : (now : ℕ) (plan : Plan) (view : ℕ → Lines → TurnView) (P : ℕ → Lines → Lines → Served → Type 0) (i many : ℕ)
     (lines after : Lines) → AreTurns (IsSeen now plan view P) i many lines after → BothEndure lines after
@@ -138,9 +137,7 @@ module _ (now : ℕ) (plan : Plan) (k x : ℕ) (b : Bool) (S : List Entry) (P : 
     (view : ℕ → Lines → TurnView) (valid : IsPlan plan) (inside : k < length plan.links) where
   keeps : (j : ℕ) (lines after : Lines) (did : Served) → j ≢ k → IsSeen now plan view P j lines after did
       → stream_at plan k after ≡ stream_at plan k lines
-  keeps j lines after did ne t = other_turn now (link_plan_at plan.links j)
-      (pace_of (gap_at plan j) (subs_at plan j) (stream_at plan j lines)) (view j lines) lines after did (link_plan_at plan.links k).id.0
-      (λ e. ne (valid.links_apart j k t.inside inside (grind arith))) t.turn
+  keeps j lines after did ne t = grind (arith, other_turn, gap_at, subs_at)
 
   others_keep : (i many : ℕ) (lines after : Lines) → k < i → AreTurns (IsSeen now plan view P) i many lines after
       → stream_at plan k after ≡ stream_at plan k lines
@@ -209,9 +206,7 @@ emitter_turns now plan lines after p =
 -- and of a drain
 drain_turns : (now : ℕ) (plan : Plan) (accepted : Accepted) (lines after : Lines) → IsDrained now plan accepted lines after
     → AreTurns (IsSeen now plan (drain_view plan accepted) (DrainsAt now plan accepted)) 0 (length plan.links) lines after
-drain_turns now plan accepted lines after run = turns_seen (DrainsAt now plan accepted)
-    (IsSeen now plan (drain_view plan accepted) (DrainsAt now plan accepted)) 0 (length plan.links) lines after
-    (λ j le lt before behind did t. record { inside = omega arith; turn = t; is = t }) run
+drain_turns now plan accepted lines after run = grind (arith, turns_seen)
 
 -- what a poll of an emitter does to the stream of a link
 pub emitter_step : (now : ℕ) (plan : Plan) (k x : ℕ) (b : Bool) (lines after : Lines) → IsPlan plan → k < length plan.links
@@ -219,27 +214,19 @@ pub emitter_step : (now : ℕ) (plan : Plan) (k x : ℕ) (b : Bool) (lines after
     → LacksNone plan k x b (stream_at plan k lines) (IsTurnAt now p.old.links p.new.links) (emitter_view p.old p.new k)
     → StandsAt plan k after → StepsAt now plan k x b lines after
 emitter_step now plan k x b lines after valid inside p lacks stands =
-    turns_step now plan k x b (stream_at plan k lines) (IsTurnAt now p.old.links p.new.links) (emitter_view p.old p.new) valid inside
-    0 (length plan.links) lines after lacks (omega arith) (omega arith) refl (emitter_turns now plan lines after p) stands
+    grind (arith, emitter_turns now plan lines after p, turns_step, valid)
 
 -- no message that is begun waits at a sub-VL that has nothing in a poll of an emitter
 pub emitter_lacks : (now : ℕ) (plan : Plan) (k x : ℕ) (lines after : Lines) → k < length plan.links
     → (p : EmitterPolls plan now lines after) → LacksNone plan k x (begun_by none_begun (stream_at plan k lines) x) (stream_at plan k lines)
     (IsTurnAt now p.old.links p.new.links) (emitter_view p.old p.new k)
 emitter_lacks now plan k x lines after inside p mid mid_after did at t stands s lt passes is =
-    let ready : IsReadyFor plan p.old = ready_for now plan lines after p in
-    let own = ready.links k inside in
-    let stood : stands_for (link_at p.old.links k).plan.networks mid ≡ true = rw own.plan_is stands in
-    let within : s < (link_at p.old.links k).plan.sub_vls = rw own.plan_is lt in
-    rw (← is, ← at, ← own.plan_is) (passed (link_at p.old.links k) (held_at (link_at p.new.links k).subs s) (log mid) s
-    (t.tied stood) within (short plan k s (taken_in p.old.links k s) (ready.allowed k s inside lt)) passes)
+    grind (arith, ready_for, passed, short)
 
 -- nor of a drain
 pub drain_lacks : (now : ℕ) (plan : Plan) (accepted : Accepted) (k x : ℕ) (S : List Entry) → k < length plan.links
     → AreQueued plan accepted → LacksNone plan k x (begun_by none_begun S x) S (DrainsAt now plan accepted) (drain_view plan accepted k)
-drain_lacks now plan accepted k x S inside allowed lines after did at t stands s lt released is =
-    rw (← is, ← at) (not_begun plan.end_system (room_of (link_plan_at plan.links k).lmax) A (stream_at plan k lines) s
-    (accepted k s) (short plan k s (accepted k s) (allowed k s inside lt)) released)
+drain_lacks now plan accepted k x S inside allowed lines after did at t stands s lt released is = grind (arith, not_begun, short)
 
 -- what a poll of a drain does to the stream of a link
 pub drain_step : (now : ℕ) (plan : Plan) (accepted : Accepted) (k x : ℕ) (b : Bool) (lines after : Lines) → IsPlan plan
@@ -247,8 +234,7 @@ pub drain_step : (now : ℕ) (plan : Plan) (accepted : Accepted) (k x : ℕ) (b 
     → LacksNone plan k x b (stream_at plan k lines) (DrainsAt now plan accepted) (drain_view plan accepted k)
     → StandsAt plan k after → StepsAt now plan k x b lines after
 drain_step now plan accepted k x b lines after valid inside run lacks stands =
-    turns_step now plan k x b (stream_at plan k lines) (DrainsAt now plan accepted) (drain_view plan accepted) valid inside
-    0 (length plan.links) lines after lacks (omega arith) (omega arith) refl (drain_turns now plan accepted lines after run) stands
+    grind (arith, drain_turns now plan accepted lines after run, turns_step, valid)
 
 -- no poll brings a network up
 pub emitter_endures : (now : ℕ) (plan : Plan) (lines after : Lines) → EmitterPolls plan now lines after → BothEndure lines after
@@ -257,6 +243,4 @@ emitter_endures now plan lines after p = seen_endure now plan (emitter_view p.ol
 
 pub drain_endures : (now : ℕ) (plan : Plan) (accepted : Accepted) (lines after : Lines) → IsDrained now plan accepted lines after
     → BothEndure lines after
-drain_endures now plan accepted lines after run =
-    seen_endure now plan (drain_view plan accepted) (DrainsAt now plan accepted) 0 (length plan.links) lines after
-    (drain_turns now plan accepted lines after run)
+drain_endures now plan accepted lines after run = grind (arith, seen_endure, drain_turns)

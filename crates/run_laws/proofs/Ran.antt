@@ -1,5 +1,5 @@
 -- A run of polls, as the polls of one link, and what it adds to the stream of the link.
-use Rattle.run_laws.proofs.Names.{false, ℕ, ◌≡◌, ◌+◌, ◌<◌, ◌≤◌, List, [], ◌∷◌, ◌++◌, Bool, true, ◌&&◌, cond, nat_eq, nat_le, arith, refl, ap, ◌∙◌, sym, Option, Some, None, inl, inr, ◌-◌, ◌*◌, length, map, subst, All, nat_tests, cases_lt, All-cons, All-nil, All-drop, filter-append, append_assoc, append-nil, length-append, map-append, Plan, link_plan_at, bag_ms, blanked, sub_in, Entry, entry, Lines, BothEndure, both_none, both_on, stood_before, Poll, is_of, released_by, IsServed, AreServed, HasAtPolls, latest, sub_stream, latest_push, stream_at, ArePolls, AreTimely, seen_of}
+use Rattle.run_laws.proofs.Names.{false, ℕ, ◌≡◌, ◌+◌, ◌<◌, ◌≤◌, List, [], ◌∷◌, ◌++◌, Bool, true, ◌&&◌, cond, nat_eq, nat_le, arith, refl, ap, ◌∙◌, sym, Option, Some, None, inl, inr, ◌-◌, ◌*◌, length, map, subst, All, nat_tests, cases_lt, All-cons, All-nil, All-drop, filter-append, append_assoc, append-nil, length-append, map-append, Plan, link_plan_at, bag_ms, sub_in, Entry, entry, Lines, BothEndure, both_none, stood_before, Poll, is_of, released_by, IsServed, AreServed, HasAtPolls, latest, latest_push, stream_at, ArePolls, AreTimely, seen_of}
 use Rattle.std.proofs.lemmas.List.Sums.{sum_by-cons}
 use Rattle.std.proofs.Math.Seq.{drop-append_seam}
 use Rattle.afdx_plan.specs.declared.bag.Bag.{Bag}
@@ -25,9 +25,7 @@ counted x bound p polls = sum_by-cons (λ (q : Poll). cond (nat_le q.at bound &&
 
 -- the fragments in two parts of a stream
 pub seen_append : (x : ℕ) (S U : List Entry) → seen_of x (S ++ U) ≡ seen_of x S ++ seen_of x U
-seen_append x S U =
-    ap (map (λ (e : Entry). blanked e.frame)) (filter-append (λ (e : Entry). nat_eq (sub_in e.frame) x) S U)
-    ∙ map-append (λ (e : Entry). blanked e.frame) (sub_stream x S) (sub_stream x U)
+seen_append x S U = grind (arith, filter-append, map-append)
 
 pub seen_both : (x : ℕ) (S U : List Entry) → length (seen_of x (S ++ U)) ≡ length (seen_of x S) + length (seen_of x U)
 seen_both x S U = ap length (seen_append x S U) ∙ length-append (seen_of x S) (seen_of x U)
@@ -40,10 +38,7 @@ seen_first x e U = grind (arith, nat_tests)
 pub adds_seen : (now x : ℕ) (released : Option ℕ) (S T : List Entry) → Adds now released S T
     → length (seen_of x T) ≡ length (seen_of x S) + cond (is_of x released) 1 0
 adds_seen now x None S T same = ap (λ (s : List Entry). length (seen_of x s)) same ∙ omega arith
-adds_seen now x (Some chosen) S T (frame, of, more) =
-    ap (λ (s : List Entry). length (seen_of x s)) more ∙ seen_both x S (entry now frame ∷ [])
-    ∙ ap (λ (n : ℕ). length (seen_of x S) + n) (seen_first x (entry now frame) [])
-    ∙ ap (λ (c : ℕ). length (seen_of x S) + (cond (nat_eq c x) 1 0 + 0)) of ∙ omega arith
+adds_seen now x (Some chosen) S T (frame, of, more) = grind (arith, seen_both, seen_first)
 
 -- the times of polls don't fall
 abbrev pub Rise : ℕ → List Poll → Type 0
@@ -165,23 +160,14 @@ polls_endure : (Polls : ℕ → Lines → Lines → Type 0) (moments : List ℕ)
     → ((now : ℕ) (lines after : Lines) → Polls now lines after → BothEndure lines after)
     → ArePolls Polls moments lines after → BothEndure lines after
 polls_endure Polls [] lines after each r = subst (BothEndure lines) (sym r) (both_none lines)
-polls_endure Polls (now ∷ moments) lines after each r =
-    both_on lines r.0 after (each now lines r.0 r.1) (polls_endure Polls moments r.0 after each r.2)
+polls_endure Polls (now ∷ moments) lines after each r = grind (arith, polls_endure Polls moments r.0 after each r.2)
 
 -- the run of polls
 pub have_run : (moments : List ℕ) (plan : Plan) (k x many : ℕ) (Polls : ℕ → Lines → Lines → Type 0) (Awaits : ℕ → List Entry → Type 0)
     (test : List Entry → Bool) (lines after : Lines) → AreSteps plan k x Polls Awaits test
     → ArePolls Polls moments lines after → StandsAt plan k after → Awaits many (stream_at plan k lines)
     → HaveRun (gap_at plan k) (subs_at plan k) x many moments (stream_at plan k lines) (stream_at plan k after)
-have_run [] plan k x many Polls Awaits test lines after each r stands awaits = record {
-  polls = [];
-  at = refl;
-  served = tt;
-  had = tt;
-  added = [];
-  grown = ap (stream_at plan k) r ∙ sym (append-nil (stream_at plan k lines));
-  show = refl;
-}
+have_run [] plan k x many Polls Awaits test lines after each r stands awaits = grind (arith, append-nil)
 have_run (now ∷ moments) plan k x many Polls Awaits test lines after each r stands awaits =
     let stood : StandsAt plan k r.0 = stood_before r.0 after (link_plan_at plan.links k).networks
     (polls_endure Polls moments r.0 after each.endure r.2) stands in

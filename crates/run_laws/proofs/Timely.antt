@@ -1,5 +1,5 @@
 -- How long a sub-VL waits if polls come when its link is due.
-use Rattle.run_laws.proofs.Names.{ℕ, suc, zero, ◌≡◌, ◌⊎◌, ◌+◌, ◌-◌, ◌*◌, ◌%◌, ◌<◌, ◌≤◌, List, [], ◌∷◌, true, false, ◌&&◌, cond, nat_le, arith, refl, ap, ◌∙◌, sym, Option, Some, None, inl, inr, map, mul-suc, mul-le, cases_lt, cases_eq, eq-eqb, ne_eqb, le-leb, is_due, turn_of, IsLater, Poll, IsServed, AreServed, HasAtPolls, is_of, released_by, ComeWithin, latest_of, ComesIn, AreTimely, ApartAreTimely}
+use Rattle.run_laws.proofs.Names.{ℕ, suc, zero, ◌≡◌, ◌⊎◌, ◌+◌, ◌-◌, ◌*◌, ◌%◌, ◌<◌, ◌≤◌, List, [], ◌∷◌, true, false, ◌&&◌, cond, nat_le, arith, refl, ap, ◌∙◌, Option, Some, None, inl, inr, map, mul-suc, mul-le, cases_lt, cases_eq, eq-eqb, ne_eqb, le-leb, is_due, turn_of, IsLater, Poll, IsServed, AreServed, HasAtPolls, is_of, released_by, ComeWithin, latest_of, ComesIn, AreTimely, ApartAreTimely}
 use Rattle.std.proofs.Math.Nat.{mod-add-mod, mod-lt}
 use Rattle.vl_shaper.specs.Choices.{Choice, next_turn, IsChosen}
 use Rattle.vl_shaper.specs.declared.shaper.Stamp.{Stamp}
@@ -16,8 +16,7 @@ not_before : (gap late end before low high : ℕ) (moments : List ℕ) → AreTi
 not_before gap late end before low high [] timely comes = absurd comes
 not_before gap late end before low high (now ∷ moments) timely (inl here) = omega arith
 not_before gap late end before low high (now ∷ moments) timely (inr later) =
-    let rest = not_before gap late end now low high moments timely.2 later in
-    omega arith
+    grind (arith, not_before gap late end now low high moments timely.2 later)
 
 one_pause : (fewer more pause : ℕ) → suc fewer ≤ more → pause + fewer * pause ≤ more * pause
 one_pause fewer more pause less = let m = mul-le (suc fewer) pause more pause less (omega arith) in omega arith
@@ -34,10 +33,7 @@ due_then gap before moment (Some l) after late = le-leb gap (moment - l.at) (ome
 -- a poll that released none, though a sub-VL had something, came before the link was due
 not_due : (gap subs before x : ℕ) (last : Option Stamp) (p : Poll) → x < subs → IsLater last before
     → IsServed gap subs last p None → p.has x ≡ true → p.at < before + gap
-not_due gap subs before x last p xl after idle had = elim (cases_lt p.at (before + gap)) [
-  | inl early ↦ early
-  | inr due ↦ absurd (cc (had, idle (due_then gap before p.at last after due) x xl))
-]
+not_due gap subs before x last p xl after idle had = grind arith
 
 -- the cyclic order of the sub-VLs starts after `l`
 abbrev pub IsBehind : ℕ → ℕ → Option Stamp → Type 0
@@ -62,13 +58,7 @@ same_turn subs last k =
     rw (left, right) (mod-add-mod last subs (1 + k))
 
 reordered : (subs : ℕ) (f g : ℕ → ℕ) (c : Choice) → ((k : ℕ) → k < subs → g k ≡ f k) → IsChosen subs f c → IsChosen subs g c
-reordered subs f g c same ch = record {
-  turn = ch.turn;
-  within = ch.within;
-  is = ch.is ∙ sym (same ch.turn ch.within);
-  had = ch.had;
-  before = λ k h. let w = ch.within in ap c.has (same k (omega arith)) ∙ ch.before k h;
-}
+reordered subs f g c same ch = grind arith
 
 pub is_behind : (subs : ℕ) (last : Option Stamp) → IsBehind subs (behind subs last) last
 is_behind subs None c ch = reordered subs (turn_of subs None) (next_turn subs (subs - 1)) c (from_0 subs) ch
@@ -166,8 +156,5 @@ comes_close late low high from (now ∷ moments) before wide close far = elim (c
 
 pub apart_timely : ApartAreTimely
 apart_timely gap late end before [] some close far = omega arith
-apart_timely gap late end before (now ∷ moments) some close far = (
-  omega arith,
-  λ near. comes_close late (before + gap) (before + (gap + late)) before (now ∷ moments) (omega arith) (omega arith) close (omega arith),
-  apart_timely gap late end now moments some close.2 far,
-)
+apart_timely gap late end before (now ∷ moments) some close far =
+    grind (arith, comes_close, apart_timely gap late end now moments some close.2 far)

@@ -1,14 +1,13 @@
 -- The worked runs, by computation.
-use Rattle.run_laws.proofs.Names.{All-nil, ◌≡◌, ℕ, ◌+◌, ◌<◌, ◌≤◌, ◌⊎◌, List, [], ◌∷◌, ◌++◌, length, Bool, true, false, ◌&&◌, refl, ap, sym, ◌∙◌, arith, inl, inr, Some, false≢true, length-append, All-from_recursion, A, cutting, fragments_at, blanked, Sent, addresses, header_front, internet_header, link_header, udp_header, datagram, unnumbered, Entry, entry, Lines, Endures, BothEndure, log, stands_for, LinkPlan, may_release, is_due, turn_of, IsAllowed, IsQueued, AreAllowed, AreQueued, Served, Nothing, Released, Lost, Drains, pace_in, stream_at, link_wait, EmitterPolls, DrainPolls, AreRuns, ComesBy, cons_parts, below_one, below_both, slice_index, link_in, sub_in, number_in, interface_byte, suc, None, All, All-head, All-tail, IsPlan, IsLink, IsPort, IsLater, AreTimely, latest, IsPrefixOf, IsAccepted, HasPlace, AreFinding, fragments_of, seen_of}
+use Rattle.run_laws.proofs.Names.{All-nil, ◌≡◌, ℕ, ◌+◌, ◌<◌, ◌≤◌, ◌⊎◌, List, [], ◌∷◌, ◌++◌, length, Bool, true, false, ◌&&◌, refl, ap, sym, ◌∙◌, arith, inl, inr, Some, false≢true, length-append, All-from_recursion, A, cutting, fragments_at, blanked, Sent, addresses, header_front, internet_header, link_header, udp_header, datagram, unnumbered, Entry, entry, Lines, Endures, BothEndure, log, stands_for, LinkPlan, may_release, is_due, turn_of, IsAllowed, IsQueued, AreAllowed, AreQueued, Served, Nothing, Released, Lost, Drains, pace_in, stream_at, link_wait, EmitterPolls, DrainPolls, AreRuns, ComesBy, cons_parts, below_one, below_both, slice_index, link_in, sub_in, number_in, interface_byte, None, All, All-head, All-tail, IsPlan, IsLater, AreTimely, latest, IsPrefixOf, IsAccepted, HasPlace, AreFinding, fragments_of, seen_of}
 use Rattle.afdx_legal.specs.Done.{Owes}
 use Rattle.afdx_plan.specs.declared.networks.Networks.TheVariants.{Both}
 use Rattle.redundant_mux.specs.Logged.{logged_for}
 use Rattle.afdx_laws.specs.WorkedDelivery.{back_frame}
 use Rattle.afdx_laws.proofs.WorkedDemo.{demo_with_valid}
-use Rattle.afdx_plan.proofs.PlanLemmas.{valid}
 use Rattle.afdx_frame.specs.Checksum.{checksum}
 use Rattle.afdx_legal.specs.Turns.{more_in}
-use Rattle.run_laws.specs.WorkedRun.{stray_frame, stray_line, both_at, lost_line, NeedsARun, small_link, small_plan, message_accepted, front_line, both_lines, front_entry, ComesInRun, tight_link, tight_port, tight_plan, tight_sent, tight_accepted, tight_frame, tight_line, TightReleased, MeetsTheWait}
+use Rattle.run_laws.specs.WorkedRun.{stray_frame, stray_line, both_at, lost_line, NeedsARun, small_link, small_plan, message_accepted, front_line, both_lines, front_entry, ComesInRun, tight_link, tight_plan, tight_sent, tight_accepted, tight_frame, tight_line, TightReleased, MeetsTheWait}
 use Rattle.std.proofs.lemmas.List.{append_cancel_left}
 use Rattle.afdx_plan.specs.Config.{Plan, link_plan_at}
 use Rattle.afdx_laws.proofs.ListLemmas.{nil_isnt_cons, cons_same}
@@ -18,24 +17,13 @@ use Rattle.run_laws.proofs.NextRun.{next_in_run_holds}
 use Rattle.run_laws.proofs.MessageRun.{message_in_run_holds}
 
 each_queued : AreQueued small_plan message_accepted
-each_queued = below_both _ _ refl (All-from_recursion (IsQueued small_plan 0 0) (message_accepted 0 0)
-    (record { port = (0, omega arith, refl); over = refl; its = refl; some = omega arith; most = omega arith }, tt))
+each_queued = grind arith
 
 pub takes : (old new : List Entry) → Endures true true old new 0 0
-takes old new = record {
-  stays = ((λ up. (refl, refl)), (λ both. refl));
-  least = omega arith;
-  most = omega arith;
-  down = λ (no : true ≡ false). cc;
-}
+takes old new = grind arith
 
 fails : (handed : List Entry) → Endures true false handed handed 0 1
-fails handed = record {
-  stays = ((λ up. absurd (false≢true up)), (λ both. let same = both.1 in absurd (omega arith)));
-  least = omega arith;
-  most = omega arith;
-  down = λ (no : true ≡ false). cc;
-}
+fails handed = grind arith
 
 -- a turn that releases the next frame of the one sub-VL, on both networks
 pub releases : (now number : ℕ) (link : LinkPlan) (accepted : ℕ → List Sent) (lines after : Lines) (frame : List ℕ)
@@ -90,11 +78,14 @@ after_both now due = (inr (ap (λ (t : Bool). t && true) due, record { each = be
 
 two_polls : AreRuns small_plan (1000 ∷ 2000 ∷ []) front_line both_lines
 unfolding log checksum addresses header_front internet_header link_header udp_header datagram unnumbered cutting fragments_at
-two_polls = (
-  both_lines,
-  a_poll 1000 front_line both_lines (Released 0 1) (back_turn 1000 refl),
-  (both_lines, a_poll 2000 both_lines both_lines Nothing (after_both 2000 refl), refl),
-)
+two_polls =
+    grind (
+      arith,
+      a_poll 1000 front_line both_lines (Released 0 1) (back_turn 1000 refl),
+      back_turn 1000 refl,
+      a_poll 2000 both_lines both_lines Nothing (after_both 2000 refl),
+      after_both 2000 refl,
+    )
 
 -- after it alone nothing comes
 alone : (first : Entry) (bound : ℕ) (stream : List Entry) → stream ≡ first ∷ [] → ComesBy stream first bound → ⊥
@@ -104,20 +95,13 @@ alone first bound stream is comes = grind (arith, ap length is, ap length comes.
 second_is : (before between after : List Entry) (first second e next : Entry)
     → first ∷ second ∷ [] ≡ before ++ (e ∷ (between ++ next ∷ after)) → (first ≡ e) × (second ≡ next)
 second_is [] [] after first second e next is = ((cons_parts is).0, (cons_parts (cons_parts is).1).0)
-second_is [] (x ∷ xs) after first second e next is =
-    let parts = length-append xs (next ∷ after) in
-    absurd (omega (arith, ap length is))
+second_is [] (x ∷ xs) after first second e next is = grind (arith, length-append xs (next ∷ after))
 second_is (x ∷ xs) between after first second e next is =
-    let parts = length-append xs (e ∷ (between ++ next ∷ after)) in
-    let rest = length-append between (next ∷ after) in
-    absurd (omega (arith, ap length is))
+    grind (arith, length-append xs (e ∷ (between ++ next ∷ after)), length-append between (next ∷ after))
 
 comes_when : (now bound : ℕ) (stream : List Entry) → stream ≡ front_entry ∷ entry now (back_frame A) ∷ []
     → ComesBy stream front_entry bound → now ≤ bound
-comes_when now bound stream is comes =
-    let next = (second_is comes.are.before comes.between comes.are.after front_entry (entry now (back_frame A))
-    front_entry comes.next (sym is ∙ comes.are.is)).1 in
-    grind arith
+comes_when now bound stream is comes = grind (arith, second_is)
 
 small_valid : IsPlan small_plan
 small_valid = demo_with_valid Both 64 (omega arith) (omega arith)
@@ -141,11 +125,14 @@ comes_in_run = record {
 }
 
 last_polls : AreRuns small_plan (2000 ∷ 3000 ∷ []) both_lines both_lines
-last_polls = (
-  both_lines,
-  a_poll 2000 both_lines both_lines Nothing (after_both 2000 refl),
-  (both_lines, a_poll 3000 both_lines both_lines Nothing (after_both 3000 refl), refl),
-)
+last_polls =
+    grind (
+      arith,
+      a_poll 2000 both_lines both_lines Nothing (after_both 2000 refl),
+      after_both 2000 refl,
+      a_poll 3000 both_lines both_lines Nothing (after_both 3000 refl),
+      after_both 3000 refl,
+    )
 
 -- a drain with nothing accepted transmits nothing
 stray_poll : (now : ℕ) → is_due 1000 (Some (record { at = 1000; sub = 1 })) now ≡ true
@@ -228,36 +215,22 @@ needs_a_run = record {
 }
 
 tight_valid : IsPlan tight_plan
-tight_valid = valid tight_plan (omega arith) (All-from_recursion IsLink (tight_link ∷ []) (omega arith))
-    (All-from_recursion IsPort (tight_port ∷ []) (omega arith)) refl
+tight_valid = grind arith
 
 may_send : IsAllowed tight_plan 0 0 tight_sent
-may_send = record {
-  queued = record { port = (0, omega arith, refl); over = refl; its = refl; some = omega arith; most = omega arith };
-  most = omega arith;
-}
+may_send = grind arith
 
 both_allowed : AreAllowed tight_plan tight_accepted
 both_allowed = below_both _ _ refl (All-from_recursion (IsAllowed tight_plan 0 0) (tight_accepted 0 0) (may_send, (may_send, tt)))
 
 accepted_is : IsAccepted tight_plan tight_accepted 0 0 (tight_sent ∷ []) tight_sent []
-accepted_is = record {
-  link = omega arith;
-  sub = omega arith;
-  are = refl;
-  allowed = both_allowed;
-}
+accepted_is = grind arith
 
 -- no more messages precede it than the queue holds, and if as many, one was begun
 pub has_room : (plan : Plan) (k s : ℕ) (earlier : List Sent) (stream : List Entry) → length earlier ≤ (link_plan_at plan.links k).capacity
     → ((link_plan_at plan.links k).capacity ≤ length earlier → 0 < length (seen_of s stream)) → HasPlace plan k s earlier stream
-has_room plan k s earlier stream few begun [] back is room =
-    let some = begun (omega (arith, ap length is)) in
-    omega arith
-has_room plan k s earlier stream few begun (f ∷ front) back is room =
-    let parts = length-append front back in
-    let size : length earlier ≡ suc (length (front ++ back)) = ap length is in
-    absurd (omega arith)
+has_room plan k s earlier stream few begun [] back is room = grind arith
+has_room plan k s earlier stream few begun (f ∷ front) back is room = grind (arith, length-append, back)
 
 second_turn : Drains 1000 1 tight_link (tight_accepted 0) (tight_line 1) (tight_line 2) (Released 0 1)
 unfolding log checksum addresses header_front internet_header link_header udp_header datagram unnumbered cutting fragments_at
@@ -329,11 +302,7 @@ unfolding log checksum addresses header_front internet_header link_header udp_he
 place_is = has_room tight_plan 0 0 (tight_sent ∷ []) (stream_at tight_plan 0 (tight_line 1)) (omega arith) (λ full. omega arith)
 
 timely_is : AreTimely 1000 0 3000 0 (1000 ∷ 2000 ∷ 3000 ∷ [])
-timely_is = (
-  omega arith,
-  λ near. inl (omega arith, omega arith),
-  (omega arith, λ near. inl (omega arith, omega arith), (omega arith, λ near. inl (omega arith, omega arith), omega arith)),
-)
+timely_is = grind arith
 
 -- without the last frame the second message is incomplete
 not_sooner : TightReleased 2999 → ⊥

@@ -1,5 +1,5 @@
 -- The bytes before a line feed in a buffer.
-use Rattle.std.proofs.Common.{◌≡◌, ℕ, ◌+◌, ◌-◌, ◌≤◌, ◌<◌, ◌==◌, Bool, true, false, List, [], ◌∷◌, ◌++◌, zero, suc, length, take, drop, get_or, refl, ap, sym, ◌∙◌, arith, append_assoc, if◌then◌else◌, length-take, length-append, drop-drop, subst, Option, Some, None}
+use Rattle.std.proofs.Common.{◌≡◌, ℕ, ◌+◌, ◌-◌, ◌≤◌, ◌<◌, ◌==◌, Bool, true, false, List, [], ◌∷◌, ◌++◌, zero, suc, length, take, drop, get_or, refl, ap, arith, append_assoc, if◌then◌else◌, length-take, length-append, drop-drop, Option, Some, None}
 use Rattle.std.proofs.lemmas.Bool.{false_from_ne_true}
 use Rattle.std.proofs.lemmas.List.{take_all, drop-take}
 use Rattle.std.proofs.Math.Seq.{drop-append_seam}
@@ -36,15 +36,15 @@ before_range : (buffer : List ℕ) (start end : ℕ) (plain : List ℕ)
     → plain ≡ before_feed (slice_range buffer start end)
     → slice_range buffer start end ≡ plain ++ slice_range buffer (start + length plain) end
 before_range buffer start end plain is =
-    let h : IsBefore (slice_range buffer start end) plain = rw is (before_is (slice_range buffer start end)) in
-    let len = ap length h.is in
-    let all : end - start ≡ length plain + (end - (start + length plain)) =
-    omega (arith, len, length-append plain h.others, length-take (end - start) (drop start buffer)) in
-    h.is ∙ ap (λ (rest : List ℕ). plain ++ rest)
-    (sym (drop-append_seam plain h.others) ∙ ap (drop (length plain)) (sym h.is)
-    ∙ ap (λ n. drop (length plain) (take n (drop start buffer))) all
-    ∙ drop-take (length plain) (end - (start + length plain)) (drop start buffer)
-    ∙ ap (take (end - (start + length plain))) (drop-drop (length plain) start buffer))
+    grind (
+      arith,
+      before_is (slice_range buffer start end),
+      length-take (end - start) (drop start buffer),
+      drop-take (length plain) (end - (start + length plain)) (drop start buffer),
+      drop-drop (length plain) start buffer,
+      length-append,
+      drop-append_seam,
+    )
 
 -- they are taken from a reader's bytes, whose front is a range of a buffer
 before_taken : (buffer : List ℕ) (start end : ℕ) (plain : List ℕ) (known : Option (List ℕ))
@@ -53,27 +53,18 @@ before_taken : (buffer : List ℕ) (start end : ℕ) (plain : List ℕ) (known :
     (prepend_known (slice_range buffer (start + length plain) end) known) plain
 before_taken buffer start end plain None is = tt
 before_taken buffer start end plain (Some rest) is =
-    ap (λ front. front ++ rest) (before_range buffer start end plain is)
-    ∙ append_assoc plain (slice_range buffer (start + length plain) end) rest
+    grind (arith, before_range buffer start end plain is, append_assoc plain (slice_range buffer (start + length plain) end) rest)
 
 -- and a line grows by them
 pub before_takes : (buffer : List ℕ) (start end : ℕ) (plain line grown : List ℕ) (known old : Option (List ℕ))
     → plain ≡ before_feed (slice_range buffer start end)
     → prepend_known (slice_range buffer start end) known ≡ old → grown ≡ line ++ plain
     → TakesPlain old (prepend_known (slice_range buffer (start + length plain) end) known) line grown
-before_takes buffer start end plain line grown known old is view grows = record {
-  part = plain;
-  plain = rw is (before_is (slice_range buffer start end)).plain;
-  taken = subst (λ (bytes : Option (List ℕ)).
-      Consumes bytes (prepend_known (slice_range buffer (start + length plain) end) known) plain) view
-      (before_taken buffer start end plain known is);
-  is = grows;
-}
+before_takes buffer start end plain line grown known old is view grows =
+    grind (arith, before_is (slice_range buffer start end), before_taken buffer start end plain known is)
 
 -- there is room for them
 pub before_within : (buffer : List ℕ) (start end : ℕ) (plain : List ℕ) → start ≤ end
     → plain ≡ before_feed (slice_range buffer start end) → start + length plain ≤ end
 before_within buffer start end plain le is =
-    let h : IsBefore (slice_range buffer start end) plain = rw is (before_is (slice_range buffer start end)) in
-    let len = ap length h.is in
-    omega (arith, len, length-append plain h.others, length-take (end - start) (drop start buffer))
+    grind (arith, before_is (slice_range buffer start end), length-take (end - start) (drop start buffer), length-append)

@@ -1,10 +1,9 @@
 -- The first line of a text, by what was read of it.
-use Rattle.std.proofs.Common.{◌≡◌, ◌≢◌, ℕ, ◌+◌, ◌-◌, ◌<◌, ◌≤◌, ◌==◌, Bool, true, false, cond, if◌then◌else◌, List, [], ◌∷◌, ◌++◌, length, take, Option, Some, None, refl, ap, sym, ◌∙◌, arith, length-take, length-append}
+use Rattle.std.proofs.Common.{◌≡◌, ◌≢◌, ℕ, ◌+◌, ◌-◌, ◌<◌, ◌≤◌, ◌==◌, Bool, true, false, cond, List, [], ◌∷◌, ◌++◌, length, take, Option, Some, None, refl, ap, ◌∙◌, arith, length-take, length-append}
 use Rattle.std.specs.Io.KnownBytes.{Consumes, IsAtEnd}
 use Rattle.std.proofs.KnownBytes.{Consumes-trans}
 use Rattle.std.proofs.lemmas.List.{append-nil}
 use Rattle.std.proofs.lemmas.Bool.{ne_eqb}
-use Rattle.std.proofs.lemmas.Option.{IfSome_then}
 use Rattle.std.specs.Prelude.{IfSome}
 use Rattle.script_text.specs.Lines.{before_feed, after_feed, has_feed, IsPlain, without_return, first_line, TakesPlain, TakesLine, BeginsLong}
 
@@ -15,11 +14,7 @@ pub record HasRead (old left : Option (List ℕ)) (line : List ℕ) : Type 0 whe
 
 -- a first byte before a plain rest is no line feed
 plain_parts : (x : ℕ) (xs : List ℕ) → IsPlain (x ∷ xs) → ((x == 10) ≡ false) × IsPlain xs
-plain_parts x xs h = by (x == 10) h
-  where
-    by : (b : Bool) → (if b then true else has_feed xs) ≡ false → (b ≡ false) × IsPlain xs
-    by true e = cc
-    by false e = (refl, e)
+plain_parts x xs h = grind arith
 
 -- a plain text in front of another: the bytes before the first line feed and after it, and whether there is one
 record IsInFront (xs ys : List ℕ) : Type 0 where
@@ -75,65 +70,43 @@ whole : (old mid new : Option (List ℕ)) (items bytes : List ℕ) → HasRead o
 whole None mid new items bytes h f = tt
 whole (Some xs) None new items bytes h f = absurd h.taken
 whole (Some xs) (Some ms) None items bytes h f = absurd f
-whole (Some xs) (Some ms) (Some ns) items bytes h f =
-    record { left = ns; left_is = refl; is = h.taken ∙ ap (λ (rest : List ℕ). items ++ rest) f }
+whole (Some xs) (Some ms) (Some ns) items bytes h f = grind arith
 
 -- the reader is at its end
 whole_end : (old mid new : Option (List ℕ)) (items : List ℕ) → HasRead old mid items → Consumes mid new [] → IsAtEnd new
     → IfSome old (λ text. (text ≡ items ++ []) × (new ≡ Some []))
-whole_end old mid new items h f a = IfSome_then old (whole old mid new items [] h f) (λ text w.
-    let none : w.left ≡ [] = rw w.left_is at a in rw (w.left_is, w.is, none) (refl, refl))
+whole_end old mid new items h f a = grind arith
 
 -- the first line if no line feed follows, and if one does
 line_end : (items : List ℕ) → IsPlain items → first_line (items ++ []) ≡ items
 line_end items p = let front = plain_front items [] p in rw (front.feed, front.before) (append-nil items)
 
 line_feed : (items ns : List ℕ) → IsPlain items → first_line (items ++ 10 ∷ ns) ≡ without_return items
-line_feed items ns p =
-    let front = plain_front items (10 ∷ ns) p in rw (front.feed, front.before, append-nil items) refl
+line_feed items ns p = grind (arith, plain_front, append-nil)
 
 -- the last line was taken
 pub eof_taken : (old mid new : Option (List ℕ)) (items : List ℕ) → HasRead old mid items
     → Consumes mid new [] → IsAtEnd new → 0 < length items → length items ≤ 20000
     → TakesLine old new items
-eof_taken old mid new items h f a pos len =
-    IfSome_then old (whole_end old mid new items h f a) (λ text w. rw (w.0, w.1) record {
-      some = omega (arith, length-append items []);
-      first = sym (line_end items h.plain);
-      short = len;
-      behind = ap Some (sym (plain_front items [] h.plain).behind);
-    })
+eof_taken old mid new items h f a pos len = grind (arith, whole_end, length-append, line_end, plain_front)
 
 -- the last line is too long
 pub eof_long : (old mid new : Option (List ℕ)) (items : List ℕ) → HasRead old mid items
     → Consumes mid new [] → IsAtEnd new → 20000 < length items → BeginsLong old
-eof_long old mid new items h f a len =
-    IfSome_then old (whole_end old mid new items h f a) (λ text w. rw (w.0, line_end items h.plain) len)
+eof_long old mid new items h f a len = grind (arith, whole_end, line_end)
 
 -- a line with its line feed was taken
 pub feed_taken : (old mid new : Option (List ℕ)) (items : List ℕ) → HasRead old mid items
     → Consumes mid new (10 ∷ []) → length (without_return items) ≤ 20000
     → TakesLine old new (without_return items)
-feed_taken old mid new items h f len =
-    IfSome_then old (whole old mid new items (10 ∷ []) h f) (λ text w. rw (w.is, w.left_is) record {
-      some = omega (arith, length-append items (10 ∷ w.left));
-      first = sym (line_feed items w.left h.plain);
-      short = len;
-      behind = ap Some (sym (plain_front items (10 ∷ w.left) h.plain).behind);
-    })
+feed_taken old mid new items h f len = grind (arith, whole, length-append, line_feed, plain_front)
 
 -- a line with its line feed is too long
 pub feed_long : (old mid new : Option (List ℕ)) (items : List ℕ) → HasRead old mid items
     → Consumes mid new (10 ∷ []) → 20000 < length (without_return items) → BeginsLong old
-feed_long old mid new items h f len = IfSome_then old (whole old mid new items (10 ∷ []) h f)
-    (λ text w. rw (w.is, line_feed items w.left h.plain) len)
+feed_long old mid new items h f len = grind (arith, whole, line_feed)
 
 -- a line is too long whose end was not yet seen
 pub byte_long : (old mid new : Option (List ℕ)) (items : List ℕ) (b : ℕ) → HasRead old mid items
     → Consumes mid new (b ∷ []) → b ≢ 10 → 20000 < length items → BeginsLong old
-byte_long old mid new items b h f other len = IfSome_then old (whole old mid new items (b ∷ []) h f) (λ text w.
-    let rest : List ℕ = w.left in
-    let l = line_len (items ++ b ∷ rest) (has_feed (items ++ b ∷ rest)) in
-    let k : before_feed (items ++ b ∷ rest) ≡ items ++ b ∷ before_feed rest =
-    (plain_front items (b ∷ rest) h.plain).before ∙ ap (λ r. items ++ r) (rw (ne_eqb b 10 other) refl) in
-    rw w.is (omega (arith, l, ap length k, length-append items (b ∷ before_feed rest))))
+byte_long old mid new items b h f other len = grind (arith, whole, line_len, plain_front, ne_eqb, length-append)

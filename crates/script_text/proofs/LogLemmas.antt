@@ -1,5 +1,5 @@
 -- What a log of frames holds after one more, and without its first.
-use Rattle.std.proofs.Common.{◌≡◌, ℕ, ◌+◌, ◌<◌, ◌≤◌, inl, inr, List, [], ◌∷◌, ◌++◌, length, take, drop, refl, ap, arith, length-drop, suc}
+use Rattle.std.proofs.Common.{◌≡◌, ℕ, ◌+◌, ◌<◌, ◌≤◌, List, [], ◌∷◌, ◌++◌, length, take, drop, refl, ap, arith, length-drop, suc}
 use Rattle.std.specs.List.{sum_by}
 use Rattle.std.proofs.lemmas.List.{take_all, take-append-le, drop-append-le, length-take-le}
 use Rattle.std.proofs.lemmas.List.Sums.{sum_by-cons}
@@ -59,7 +59,5 @@ pub lacks_room : (marks : List Mark) (bytes : List ℕ) (frames_capacity bytes_c
       bytes_capacity = bytes_capacity;
       failures = failures;
     }) size
-lacks_room marks bytes frames_capacity bytes_capacity failures size kept full = elim (cases_lt (length marks) frames_capacity) [
-  | inl some ↦ inr (omega (arith, full some, spelled_bytes marks bytes kept.all))
-  | inr none ↦ inl (omega (arith, none, spelled_count marks bytes))
-]
+lacks_room marks bytes frames_capacity bytes_capacity failures size kept full =
+    grind (arith, cases_lt, spelled_bytes, spelled_count)

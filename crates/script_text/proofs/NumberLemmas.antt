@@ -2,7 +2,7 @@
 use Rattle.std.proofs.Common.{◌≡◌, ℕ, ◌+◌, ◌-◌, ◌*◌, ◌≤◌, ◌<◌, List, [], ◌∷◌, length, get_or, drop, arith, true, refl}
 use Rattle.std.proofs.lemmas.List.{drop_more, drop_all}
 use Rattle.std.specs.Prelude.{Some, None}
-use Rattle.std.proofs.lemmas.Bool.{le-leb, lt-leb}
+use Rattle.std.proofs.lemmas.Bool.{lt-leb}
 use Rattle.script_text.specs.Numbers.{read_on, number_of, is_numeral}
 
 -- more digits
@@ -21,9 +21,7 @@ too_great n most w i h great = rw (read_on_next n w i h) (omega (arith, great, r
 -- a numeral in range
 pub number_some : (most : ℕ) (w : List ℕ) (n : ℕ) → is_numeral w ≡ true → n ≡ read_on 0 w → n ≤ most → Some n ≡ number_of most w
 unfolding number_of
-number_some most w n is e h =
-    let fits : read_on 0 w ≤ most = rw (← e) h in
-    rw (is, le-leb (read_on 0 w) most fits, e) refl
+number_some most w n is e h = grind arith
 
 -- one that is too great
 pub number_none : (most : ℕ) (w : List ℕ) → is_numeral w ≡ true → most < read_on 0 w → None ≡ number_of most w

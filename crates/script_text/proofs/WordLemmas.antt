@@ -1,7 +1,6 @@
 -- Words, and the blanks between them.
-use Rattle.std.proofs.Common.{◌≡◌, ℕ, ◌<◌, ◌≤◌, true, false, List, [], ◌∷◌, length, take, drop, get_or, refl, ap, suc, zero, ◌∙◌, arith, filter, ◌==◌, length-take, length-drop, add-zero}
+use Rattle.std.proofs.Common.{◌≡◌, ℕ, ◌<◌, ◌≤◌, true, false, List, [], ◌∷◌, length, take, drop, get_or, refl, ap, suc, zero, ◌∙◌, arith, filter, length-take, length-drop, add-zero}
 use Rattle.std.specs.List.{slice_split, onto_first}
-use Rattle.std.proofs.lemmas.Bool.{ne_eqb}
 use Rattle.std.proofs.lemmas.List.{get_or-drop}
 use Rattle.script_text.specs.Words.{is_blank, is_some_text, words_of}
 
@@ -36,8 +35,7 @@ first_part (x ∷ xs) (suc m) le h gap =
 
 word_counts : (word : List ℕ) (parts : List (List ℕ)) → 0 < length word
     → filter is_some_text (word ∷ parts) ≡ word ∷ filter is_some_text parts
-word_counts word parts h =
-    let some : (length word == 0) ≡ false = ne_eqb (length word) 0 (λ e. absurd (omega arith)) in rw some refl
+word_counts word parts h = grind arith
 
 -- nothing but blanks
 pub next_none : (line text : List ℕ) (n : ℕ) → text ≡ drop n line
@@ -57,21 +55,13 @@ pub next_some : (line text word rest : List ℕ) (n m : ℕ) → text ≡ drop n
     → (m < length text → is_blank (get_or text m 0) ≡ true) → 0 < length text → words_of line ≡ word ∷ words_of rest
 unfolding words_of
 next_some line text word rest n m is blank found word_is rest_is le inside gap long =
-    let first = first_part text m le inside gap in
-    let starts : is_blank (get_or text 0 0) ≡ false =
-    rw (is, get_or-drop n line 0 0, add-zero n) (found (omega (arith, ap length is, length-drop n line))) in
-    skip_front line n blank
-    ∙ rw (
-      ← is,
-      first.is,
-      word_counts (take m text) first.others (omega (arith, length-take m text, at_least m starts gap)),
-      word_is,
-      rest_is,
+    grind (
+      arith,
+      first_part text m le inside gap,
+      get_or-drop n line 0 0,
+      add-zero n,
+      length-drop n line,
+      length-take m text,
+      skip_front,
+      word_counts,
     )
-    (ap (λ words. take m text ∷ words) first.words)
-  where
-    at_least : (many : ℕ) → is_blank (get_or text 0 0) ≡ false
-        → (many < length text → is_blank (get_or text many 0) ≡ true)
-        → 0 < many
-    at_least zero starts ends = let blank = ends long in cc
-    at_least (suc many) starts ends = omega arith

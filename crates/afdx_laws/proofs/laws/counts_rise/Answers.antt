@@ -1,20 +1,11 @@
-use Rattle.afdx_laws.proofs.Names.{refl, arith, checksum, addresses, header_front, internet_header, link_header, udp_header, datagram, unnumbered}
+use Rattle.afdx_laws.proofs.Names.{arith, checksum, addresses, header_front, internet_header, link_header, udp_header, datagram, unnumbered}
 use Rattle.afdx_legal.proofs.CountingLemmas.{counts_more}
 use Rattle.afdx_laws.specs.Counted.{CountsTwo}
 use Rattle.afdx_laws.proofs.laws.counts_rise.Goals as goal
 
 counts_two : CountsTwo
 unfolding checksum addresses header_front internet_header link_header udp_header datagram unnumbered
-counts_two = record {
-  nothing = refl;
-  first = refl;
-  both = refl;
-  spaced = omega arith;
-  rise = omega arith;
-  whole = refl;
-  back = refl;
-  at_most = refl;
-}
+counts_two = grind arith
 
 pub returns : goal.returns
 returns c = record { rise = counts_more; worked = counts_two }

@@ -4,9 +4,7 @@ use Rattle.script_text.proofs.FeedLemmas.{before_at}
 use Rattle.script_text.proofs.bytes.until_feed.Goals as goal
 
 pub returns-in-Some : goal.returns-in-Some
-returns-in-Some c =
-    let first = c.in-Some.ensures in
-    before_at c.args.text.now c.in-Some.place (λ k lt. first.0.before k (omega arith) lt) (λ within. first.1)
+returns-in-Some c = grind (arith, before_at)
 
 pub returns-in-None : goal.returns-in-None
 returns-in-None c =

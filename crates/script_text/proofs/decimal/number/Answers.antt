@@ -1,4 +1,4 @@
-use Rattle.std.proofs.Common.{◌<◌, ◌∙◌, ◌+◌, ◌*◌, ◌-◌, sym, arith, get_or}
+use Rattle.std.proofs.Common.{◌<◌, ◌+◌, ◌*◌, ◌-◌, sym, arith, get_or}
 use Rattle.script_text.proofs.NumberLemmas.{number_none, number_some, too_great, read_on_end}
 use Rattle.script_text.proofs.decimal.number.Goals as goal
 
@@ -10,6 +10,4 @@ returns-in-None-clause-value c =
     number_none c.args.most c.args.word.now (sym c.if-not-is_numeral.ensures) (rw c.loop-digit.invariant at great)
 
 pub returns-then-value-most-clause-value : goal.returns-then-value-most-clause-value
-returns-then-value-most-clause-value c =
-    number_some c.args.most c.args.word.now c.loop-digit.value (sym c.if-not-is_numeral.ensures)
-    (sym (read_on_end c.loop-digit.value c.args.word.now c.loop-digit.digit-index c.loop-digit-test.false) ∙ c.loop-digit.invariant) c.if-value-most.true
+returns-then-value-most-clause-value c = grind (arith, number_some, read_on_end)

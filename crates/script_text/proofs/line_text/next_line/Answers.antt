@@ -1,14 +1,10 @@
-use Rattle.std.proofs.Common.{◌<◌, ◌≤◌, length, arith}
-use Rattle.std.proofs.lemmas.Bool.Decides.{nat_tests}
+use Rattle.std.proofs.Common.{◌<◌, length, arith}
 use Rattle.script_text.proofs.LineLemmas.{read_plain, read_byte, eof_taken, eof_long, feed_taken, feed_long, byte_long}
 use Rattle.script_text.proofs.line_text.next_line.Goals as goal
 
 pub returns-in-Ok-None-2-clause-taken : goal.returns-in-Ok-None-2-clause-taken
 returns-in-Ok-None-2-clause-taken g c line =
-    let taken = rw c.in-Ok-None.field-0-is at c.in-Ok-None.ensures.taken in
-    let short = c.of_len.ensures.line line in
-    eof_taken _ _ _ _ (read_plain _ _ _ _ _ c.loop-bytes.invariant c.in_ok-take_plain.ensures) taken
-    (c.in-Ok-None.ensures.ended c.in-Ok-None.field-0-is) (grind (arith, nat_tests)) (omega (arith, short))
+    grind (arith, read_plain _ _ _ _ _ c.loop-bytes.invariant c.in_ok-take_plain.ensures, eof_taken)
 
 pub returns-in-Ok-None-2-clause-long : goal.returns-in-Ok-None-2-clause-long
 returns-in-Ok-None-2-clause-long g c line =
@@ -19,12 +15,7 @@ returns-in-Ok-None-2-clause-long g c line =
 
 pub returns-in-Ok-Some-eq10-clause-taken : goal.returns-in-Ok-Some-eq10-clause-taken
 returns-in-Ok-Some-eq10-clause-taken g c line =
-    let some = rw c.in-Ok-Some-eq10.field-0-is at c.in-Ok-Some-eq10.ensures.taken in
-    let taken = rw c.in-Ok-Some-eq10.field-0-0-test at some in
-    let short = c.of_len-in-Ok-Some-eq10.ensures.line line in
-    let len : length c.drop_return.new.line.items ≤ 20000 = omega (arith, short, c.len-in-Ok-Some-eq10.ensures) in
-    rw c.drop_return.ensures (feed_taken _ _ _ _ (read_plain _ _ _ _ _ c.loop-bytes.invariant
-    c.in_ok-take_plain.ensures) taken (rw c.drop_return.ensures at len))
+    grind (arith, read_plain _ _ _ _ _ c.loop-bytes.invariant c.in_ok-take_plain.ensures, feed_taken)
 
 pub returns-in-Ok-Some-eq10-clause-long : goal.returns-in-Ok-Some-eq10-clause-long
 returns-in-Ok-Some-eq10-clause-long g c line =
@@ -36,9 +27,7 @@ returns-in-Ok-Some-eq10-clause-long g c line =
 
 pub returns-in-Ok-Some-clause-long : goal.returns-in-Ok-Some-clause-long
 returns-in-Ok-Some-clause-long g c line =
-    let taken = rw c.in-Ok-Some.field-0-is at c.in-Ok-Some.ensures.taken in
-    byte_long _ _ _ _ c.in-Ok-Some.field-0-0 (read_plain _ _ _ _ _ c.loop-bytes.invariant
-    c.in_ok-take_plain.ensures) taken c.in-Ok-Some.field-0-0-test.1 (omega arith)
+    grind (arith, read_plain _ _ _ _ _ c.loop-bytes.invariant c.in_ok-take_plain.ensures, byte_long)
 
 pub loop-bytes-preserved : goal.loop-bytes-preserved
 loop-bytes-preserved g c =

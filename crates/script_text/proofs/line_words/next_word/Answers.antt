@@ -4,8 +4,7 @@ use Rattle.script_text.proofs.WordLemmas.{next_none, next_some}
 use Rattle.script_text.proofs.line_words.next_word.Goals as goal
 
 pub returns-then-is_empty : goal.returns-then-is_empty
-returns-then-is_empty c = next_none _ _ _ c.split_at.ensures.back c.text_at.ensures.before
-    (grind (arith, nat_tests, c.if-is_empty.ensures))
+returns-then-is_empty c = grind (arith, next_none)
 
 pub returns : goal.returns
 returns c =
