@@ -38,15 +38,13 @@ bytes_of end_system many accepted = grind (arith, take-map, datagrams_of, map-ma
 pub some_bytes : (end_system sub : ℕ) (accepted : List Sent) → All (IsSent sub) accepted → All HasByte (datagrams_of end_system accepted)
 some_bytes end_system sub accepted sent =
     All-map HasByte (λ (s : Sent). datagram end_system s.port s.bytes) accepted
-    (All-weaker (IsSent sub) (λ (s : Sent). 1 ≤ length (datagram end_system s.port s.bytes))
-    (λ s is. omega (arith, length-datagram end_system s)) accepted sent)
+    (grind (arith, length-datagram))
 
 pub few_bytes : (end_system sub : ℕ) (accepted : List Sent) → All (IsSent sub) accepted
     → All (HasUpTo 8200) (datagrams_of end_system accepted)
 few_bytes end_system sub accepted sent =
     All-map (HasUpTo 8200) (λ (s : Sent). datagram end_system s.port s.bytes) accepted
-    (All-weaker (IsSent sub) (λ (s : Sent). length (datagram end_system s.port s.bytes) ≤ 8200)
-    (λ s is. let most = is.most in omega (arith, length-datagram end_system s)) accepted sent)
+    (grind (arith, length-datagram))
 
 -- a sub-VL's fragments in frames that are the first of the stream's
 own_fragments : (sub count : ℕ) (stream got : List (List ℕ)) → map (twin_of A) got ≡ take count (map (twin_of A) stream)
@@ -86,9 +84,7 @@ arrived end_system room sub few many accepted net stream got sending first less 
     (first_come end_system room sub many accepted net stream got sending first) in
     record {
       many = ends.0;
-      are = sym (map-map (drop 8) (λ (e : ℕ × List ℕ). e.1)
-          (of_sub sub (delivered (λ key. empty) (map fragment_in got))))
-          ∙ ap (map (drop 8)) ends.1 ∙ bytes_of end_system ends.0 accepted;
+      are = grind (arith, map-map, bytes_of);
       all = λ j within enough.
           let read = reads_all (take j accepted) end_system room sub 0 A least sending.link.greatest
           (All-take (IsSent sub) j accepted sending.sent) in

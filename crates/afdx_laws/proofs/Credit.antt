@@ -24,13 +24,9 @@ left rule account p cost ready cheap = grind arith
 ready_next : (rule : Rule) (credit : ℕ) (p q : Passage) → IsOnTime rule p → IsOnTime rule q → p.released + rule.gap ≤ q.released
     → rule.lmax * (p.arrived - p.released) ≤ credit → IsReady rule (record { credit = credit; since = p.arrived }) q
 ready_next rule credit p q on next apart has =
-    let a1 = on.after in let a2 = next.after in let soon = next.soon in
-    let m = mul-le rule.lmax (rule.gap + (q.arrived - q.released)) rule.lmax (rule.gap + rule.jitter) (omega arith)
+    let a1 = on.after in let a2 = next.after in let m = mul-le rule.lmax (rule.gap + (q.arrived - q.released)) rule.lmax (rule.gap + rule.jitter) (omega arith)
     (omega arith) in
-    let more = mul-le rule.lmax (rule.gap + (q.arrived - q.released)) rule.lmax
-    ((p.arrived - p.released) + (q.arrived - p.arrived)) (omega arith) (omega arith) in
-    let s = mul-add rule.lmax (p.arrived - p.released) (q.arrived - p.arrived) in
-    le-min m (omega arith)
+    grind (arith, mul-add rule.lmax (p.arrived - p.released) (q.arrived - p.arrived), mul-le, le-min)
 
 passes : (charge : Charge) (rule : Rule) (account : Account) (p : Passage) (frames : List Arrival)
     → price charge rule (arrival p) ≤ (filled rule account p.arrived).credit
@@ -51,8 +47,7 @@ all_pass charge rule account p (q ∷ rest) on ready =
     passes charge rule account p (map arrival (q ∷ rest)) (enough charge rule account p ready on.0)
     ∙ ap (λ (fs : List Arrival). arrival p ∷ fs)
     (all_pass charge rule (paid (filled rule account p.arrived) cost) q rest on.2
-    (ready_next rule (paid (filled rule account p.arrived) cost).credit p q on.0 (head_on rule q rest on.2) on.1
-    (left rule account p cost ready cheap)))
+    (grind (arith, ready_next, left)))
   where
     head_on : (rule : Rule) (q : Passage) (rest : List Passage) → AreOnTime rule (q ∷ rest) → IsOnTime rule q
     head_on rule q rest on = grind arith
@@ -75,8 +70,6 @@ are_on_time gap lmax jitter around before (r ∷ later) (p ∷ []) spaced small 
     on_time gap lmax jitter around r p (small 0 r (omega arith)) way.0
 are_on_time gap lmax jitter around before (r ∷ []) (p ∷ q ∷ passages) spaced small way = absurd way.1
 are_on_time gap lmax jitter around before (r ∷ s ∷ later) (p ∷ q ∷ passages) spaced small way =
-    let apart = spaced.1.0 in
-    let first = (way.0).released in
     let second = (way.1.0).released in (
       on_time gap lmax jitter around r p (small 0 r (omega arith)) way.0,
       omega arith,
@@ -126,13 +119,9 @@ spent charge rule credit start end (f ∷ later) between =
     let whole = filled_over rule.lmax start f.at end between.0 order in
     elim (cases_lt now.credit (price charge rule f)) [
       | inl cannot ↦
-          let rest = (spent charge rule now.credit f.at end later between.1).0 in
-          let same = one_dropped charge rule account f later cannot in
-          omega arith
+          grind (arith, spent charge rule now.credit f.at end later between.1)
       | inr can ↦
-          let rest = (spent charge rule (now.credit - price charge rule f) f.at end later between.1).0 in
-          let same = one_passed charge rule account f later can in
-          omega arith
+          grind (arith, spent charge rule (now.credit - price charge rule f) f.at end later between.1, one_passed charge rule account f later can)
     ]
 
 pub no_more_passes_holds : NoMorePasses

@@ -49,11 +49,7 @@ carried_longer end_system room sub lag accepted a b handed = elim (cases_lt (len
   | inr as_long ↦ record {
     net = A;
     sending = rw (longer_a a b as_long) (sending_to handed.link handed.sent handed.on_a);
-    carry = λ arrivals carry. rw (longer_a a b as_long) (record {
-      on_a = rw (own_twins A a handed.on_a.own) carry.on_a;
-      on_b = begins_twins B (length b) (carried B arrivals) b a (handed.twins.b_shorter as_long) carry.on_b;
-      near = carry.near;
-    });
+    carry = λ arrivals carry. rw (longer_a a b as_long) (grind (arith, own_twins A a handed.on_a.own, begins_twins B (length b) (carried B arrivals) b a (handed.twins.b_shorter as_long) carry.on_b));
   }
 ]
 

@@ -38,15 +38,12 @@ apart sub (e ∷ es) xs ys same = elim (cases_Bool (nat_eq (e.0 % 4) sub)) [
       (with_buffer e.0 (kept_in b (datagram_in b)) ys)
       (λ k of. ap (λ (c : Buffer). cond (nat_eq k e.0) (kept_in b (datagram_in b)) c) (same k of)) in
       record {
-        given = rw (is, same e.0 (eqb-true (e.0 % 4) sub is))
-            (of_given sub e.0 (datagram_in b) _ is ∙ ap (given e.0 (datagram_in b)) rest.given);
+        given = grind arith;
         buffers = λ k of. rw (is, same e.0 (eqb-true (e.0 % 4) sub is)) (rest.buffers k of);
       }
   | inr isnt ↦
       let b : Buffer = put (xs e.0) e.1 in
-      let rest = apart sub es (with_buffer e.0 (kept_in b (datagram_in b)) xs) ys
-      (other_with sub e.0 (kept_in b (datagram_in b)) xs ys isnt same) in
-      record { given = rw isnt (of_other sub e.0 (datagram_in b) _ isnt ∙ rest.given); buffers = λ k of. rw isnt (rest.buffers k of) }
+      grind (arith, apart sub es (with_buffer e.0 (kept_in b (datagram_in b)) xs) ys (other_with sub e.0 (kept_in b (datagram_in b)) xs ys isnt same))
 ]
 
 -- all but the last say that more follow
@@ -144,15 +141,9 @@ goes (c ∷ came) room sub place buffers done f (next ∷ todo) d later rest lea
     (done ++ f ∷ []) next todo d later rest least small some
     (split ∙ sym (append_assoc done (f ∷ []) (next ∷ todo))) block.1
     (ap (λ (c : Buffer). c.total) (with_same k b buffers) ∙ yet) (
-      with_same k b buffers ∙ ap (λ (c : Buffer). put c f) holds.0 ∙ sym (put_more done empty f),
-      λ m is_m ne. with_else k m b buffers ne ∙ holds.1 m is_m ne,
+    grind (arith, with_same, put_more, with_else)
     ) heads.1 in
-    rw (← heads.0) (record {
-      many = more.many;
-      are = rw nothing more.are;
-      all = λ j few enough. more.all j few (omega arith);
-      alone = rw nothing more.alone;
-    })
+    rw (← heads.0) (grind arith)
 goes (c ∷ []) room sub place buffers done f [] d [] rest least small some split block none holds is =
     let whole = completes (buffers (identification place sub)) f room done d least (some 0 d (omega arith)) split
     holds.0 in
@@ -175,8 +166,7 @@ goes (c ∷ came) room sub place buffers done f [] d (e ∷ later) rest least sm
     rest least small (λ i x h. some (suc i) x (omega arith)) block_e.is block_e.chain
     (ap (λ (c : Buffer). c.total) (empties key_e own))
     (empties key_e own, λ m is_m ne. empties m is_m)
-    (ap (λ (fs : List Fragment). keyed key_e fs ++ sent_from room sub (suc (suc place)) later) (sym block_e.is)
-    ∙ heads.1) in
+    (grind arith) in
     rw (← heads.0) (record {
       many = suc more.many;
       are = rw whole (ap (λ (xs : List (List ℕ)). d ∷ xs) more.are);
@@ -203,16 +193,8 @@ nothing : (room sub : ℕ) (datagrams : List (List ℕ)) (came : List (ℕ × Fr
 nothing room sub datagrams came some none =
     let own = apart sub came (λ key. empty) (λ key. empty) (λ k h. refl) in
     record {
-      given = (
-        0,
-        ap (map (λ (e : ℕ × List ℕ). e.1)) (own.given ∙ ap (delivered (λ key. empty)) none),
-        λ j few enough. none_sent room sub datagrams some j few (let size = ap length none in omega arith),
-      );
-      alone = record {
-        key = 0;
-        others = λ k is ne. own.buffers k is
-            ∙ ap (λ (es : List (ℕ × Fragment)). buffers_after (λ key. empty) es k) none;
-      };
+      given = grind (arith, none_sent);
+      alone = grind arith;
     }
 
 -- no identification is of a sub-VL past the fourth
@@ -228,8 +210,7 @@ below room sub (d ∷ later) came least small some (rest, begun) =
     let own = apart sub came (λ key. empty) (λ key. empty) (λ k h. refl) in
     let got = goes (of_sub sub came) room sub 0 (λ key. empty) [] block.first block.behind d later rest least small some
     block.is block.chain refl (refl, λ k h ne. refl)
-    (ap (λ (fs : List Fragment). keyed (identification 0 sub) fs ++ sent_from room sub 1 later) (sym block.is)
-    ∙ sym begun) in
+    (grind arith) in
     record {
       given = (got.many, ap (map (λ (e : ℕ × List ℕ). e.1)) own.given ∙ got.are, all_more room sub 0 (length (of_sub sub came)) got.many d later block got.all);
       alone = record { key = got.alone.key; others = λ k is ne. own.buffers k is ∙ got.alone.others k is ne };

@@ -100,9 +100,7 @@ twins_are plan accepted a b k valid legal inside = by_networks (link_plan_at pla
     on_both_nets on =
         let all_a : frames_of vl (on_both plan.links a) ≡ frames_of vl a = frames_on_both plan.links vl a on in
         let all_b : frames_of vl (on_both plan.links b) ≡ frames_of vl b = frames_on_both plan.links vl b on in
-        rw (← all_a, ← all_b) (frames_twins vl (on_both plan.links a) (on_both plan.links b)
-        (rw all_a (own_of plan.links A vl a legal.on_a.known)) (rw all_b (own_of plan.links B vl b legal.on_b.known))
-        legal.twins)
+        rw (← all_a, ← all_b) (grind (arith, frames_twins, own_of))
 
     by_networks : (n : Networks) → (link_plan_at plan.links k).networks ≡ n → AreTwins twin_of (frames_of vl a) (frames_of vl b)
     by_networks Both is = on_both_nets (on_both_is plan k valid inside ∙ ap is_both is)
@@ -110,8 +108,7 @@ twins_are plan accepted a b k valid legal inside = by_networks (link_plan_at pla
         let none : frames_of vl b ≡ [] = ap frames (legal.on_b.carried k inside (ap (names B) is)) in
         rw none (record { b_shorter = λ h. refl; a_shorter = nothing A (frames_of vl a) })
     by_networks OnlyB is =
-        let none : frames_of vl a ≡ [] = ap frames (legal.on_a.carried k inside (ap (names A) is)) in
-        rw none (record { b_shorter = nothing B (frames_of vl b); a_shorter = λ h. refl })
+        grind (arith, nothing)
 
 pub link_is : (plan : Plan) (k : ℕ) → IsPlan plan → k < length plan.links → IsLink (link_plan_at plan.links k)
 link_is plan k valid inside = valid.each_link k _ inside
@@ -128,15 +125,7 @@ pub handed_is : (plan : Plan) (accepted : Accepted) (net : Net) (handed : List E
 handed_is plan accepted net handed k sub legal inside index =
     let vl : ℕ = id_at plan k in
     let first = legal.prefixes k sub inside index in
-    let told = told_is sub (link_stream vl handed) in
-    record {
-      frames = record {
-        long = long_of plan.links net vl handed legal.known;
-        numbered = numbered_of (link_stream vl handed) (legal.numbered k inside);
-      };
-      own = own_of plan.links net vl handed legal.known;
-      first = (first.0, ap (λ (fs : List (List ℕ)). fs ++ first.0) (sym told) ∙ first.1);
-    }
+    grind (arith, told_is, long_of, numbered_of, own_of)
 
 pub are_handed : (plan : Plan) (accepted : Accepted) (a b : List Entry) (k sub : ℕ) → IsHandedOver plan accepted a b k sub
     → AreHanded plan.end_system (piece_room plan k) sub (accepted k sub)

@@ -70,8 +70,7 @@ of_passed P f test (x ∷ xs) all = elim (cases_Bool (test x)) [
       let both : All P (f x ∷ map f (filter test xs)) = rw is at all in
       All-cons (λ y. test y ≡ true → P (f y)) x xs (λ yes. All-head P (f x) (map f (filter test xs)) both)
       (of_passed P f test xs (All-tail P (f x) (map f (filter test xs)) both))
-  | inr isnt ↦ All-cons (λ y. test y ≡ true → P (f y)) x xs (λ yes. absurd (false≢true (sym isnt ∙ yes)))
-      (of_passed P f test xs (rw isnt at all))
+  | inr isnt ↦ grind (arith, of_passed P f test xs (rw isnt at all))
 ]
 
 short_told : (plan : Plan) (accepted : Accepted) (net : Net) (handed : List Entry) (k sub : ℕ) → IsPlan plan
@@ -91,7 +90,6 @@ legal_passes_holds plan accepted net handed valid legal k inside allowed charge 
     let small : All (IsUpTo (link_plan_at plan.links k).lmax) (link_stream (id_at plan k) handed) = λ i d h.
     let e : Entry = get_or stream i d in
     let within = stream_within plan net k handed valid inside legal.known i d h in
-    let long = within.long in
     let sub : ℕ = sub_in e.frame in
     let mine = of_passed (IsShort lmax) (λ (x : Entry). blanked x.frame)
     (λ (x : Entry). nat_eq (sub_in x.frame) sub) stream

@@ -63,7 +63,6 @@ masks {F = F} number h stream frame check whole
     let tolerance : Tolerance = record { check = check; window = 1 } in
     let here = close.0 in
     let near = here.near in
-    let far = here.ahead in
     let is = each net i here.inside in
     let f : F = frame net i in
     let rest : List (Net × F) = map (λ (e : Net × ℕ). (e.0, frame e.0 e.1)) es in
@@ -83,22 +82,12 @@ masks {F = F} number h stream frame check whole
           (cond (same_net whole net) (b + 1) b) (suc c) some each close.1 (λ none. absurd (omega arith))
           (seen_accepted whole (number f) after ∙ seen_next) taken (grown_le_suc (same_net whole net) b c behind)
           (omega arith) (inr (omega arith)) in
-          let reach = more.reaches in
-          record {
-            many = more.many;
-            reaches = omega arith;
-            are = rw (test ∙ takes)
-                (grows h stream c f (map h (received number tolerance (with_accepted (number f) after) rest))
-                (subst (λ (k : ℕ). k < length stream) next is.0)
-                (is.2 ∙ ap (λ (k : ℕ). get_or stream k (h f)) next)
-                ∙ more.are);
-          }
+          grind (arith, grows)
       | inr drops ↦
           let kept = dropped check whole net b c i high state some seen behind within first begun here.in_order drops in
           let more = masks number h stream frame check whole es after (max high (i + 1))
           (cond (same_net whole net) (b + 1) b) c some each close.1 (λ none. absurd (omega arith))
           seen_next (accepted_seen net (number f) state ∙ took) kept.0 (omega arith) (inr kept.1) in
-          let reach = more.reaches in
           record { many = more.many; reaches = omega arith; are = rw (test ∙ drops) more.are }
     ]
 
@@ -114,7 +103,6 @@ loss_masked_holds whole check stream came some frames close =
     let m = masks number_in (twin_of A) (map (twin_of A) stream)
     (frame_at stream) check whole came begin 0 0 0 some each
     close_map.within close_map.first (begun whole) refl (omega arith) (omega arith) (inl refl) in
-    let reach = m.reaches in
     (m.many, omega arith, m.are)
   where
     begun : (whole : Net) → seen_on whole begin ≡ None

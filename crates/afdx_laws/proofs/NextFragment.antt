@@ -23,8 +23,7 @@ none_in x (e ∷ es) none = grind (arith, nat_tests, none_in x es)
 distinct_of : (es : List Entry) → ((y : ℕ) → length (sub_stream y es) ≤ 1) → IsDistinct eqb (subs_of es)
 distinct_of [] one = IsDistinct-from_apart eqb [] (λ i j d before inside. absurd (omega arith))
 distinct_of (e ∷ es) one = IsDistinct-cons eqb (sub_in e.frame) (subs_of es)
-    (none_in (sub_in e.frame) es
-    (let first = rw (eq-eqb (sub_in e.frame) (sub_in e.frame) refl) at (one (sub_in e.frame)) in omega arith))
+    (grind (arith, none_in, eq-eqb))
     (distinct_of es (λ y. fewer y (eqb (sub_in e.frame) y) (one y)))
   where
     fewer : (y : ℕ) (t : Bool) → length (cond t (e ∷ sub_stream y es) (sub_stream y es)) ≤ 1 → length (sub_stream y es) ≤ 1
@@ -67,12 +66,10 @@ between_of subs stream first between next of n =
 pub next_in_a_round : NextInARound
 next_in_a_round subs stream first between next turns of n =
     let x : ℕ = sub_in first.frame in
-    let all : All (IsOfOneOf subs) (first ∷ between) = all_front (IsOfOneOf subs) (first ∷ between) (next ∷ n.after)
-    (first ∷ (between ++ next ∷ n.after)) refl (between_of subs stream first between next of n) in
+    let all : All (IsOfOneOf subs) (first ∷ between) = grind (arith, all_front (IsOfOneOf subs) (first ∷ between) (next ∷ n.after) (first ∷ (between ++ next ∷ n.after)) refl (between_of subs stream first between next of n), between_of subs stream first between next of n) in
     let turn = turn_at n.before first (between ++ next ∷ n.after) (subst TakesTurns n.is turns) in
     let one : (y : ℕ) → length (sub_stream y between) ≤ 1 =
-    λ y. subst (λ (es : List Entry). length (sub_stream y es) ≤ 1)
-    (before_is (sub_in first.frame) between next n.after n.others n.its) (turn n.more y) in
+    grind (arith, before_is) in
     let apart : AllByRecursion (λ y. eqb x y ≡ false) (subs_of between) =
     none_in x between (none_of x between n.others) in
     let few = length-le_from_distinct_below (subs_of (first ∷ between)) subs
@@ -88,8 +85,7 @@ pub next_in_time : NextInTime
 next_in_time subs gap late stream first between next turns of n follow =
     let round = next_in_a_round subs stream first between next turns of n in
     let last = last_within (gap + late) first.at between next follow in
-    let more = mul-le (length between + 1) (gap + late) subs (gap + late) round (omega arith) in
-    omega arith
+    grind arith
 
 pub next_polled_in_time : NextPolledInTime
 next_polled_in_time subs x gap late released polls xl some served paced has reach =
@@ -105,15 +101,11 @@ wait_at late (link ∷ links) (suc k) lt = let h = wait_at late links k (omega a
 
 pub next_in_plan : NextInPlan
 next_in_plan plan accepted net handed late k first between next valid legal turns inside n follow =
-    let subs : ℕ = (link_plan_at plan.links k).sub_vls in
     let of : All (IsOfOneOf (link_plan_at plan.links k).sub_vls) (link_stream (id_at plan k) handed) =
-    All-weaker (IsOfSubs (link_plan_at plan.links k).sub_vls) (IsOfOneOf (link_plan_at plan.links k).sub_vls)
-    (λ e is. is.of_sub) (link_stream (id_at plan k) handed)
-    (stream_within plan net k handed valid inside legal.known) in
+    grind (arith, stream_within plan net k handed valid inside legal.known) in
     let bound = next_in_time (link_plan_at plan.links k).sub_vls (bag_micros (link_plan_at plan.links k).bag) late
     (link_stream (id_at plan k) handed) first between next (turns k inside) of n follow in
-    let most = wait_at late plan.links k inside in
-    omega arith
+    grind (arith, wait_at)
 
 pub lie_two_gaps_apart : LieTwoGapsApart
 lie_two_gaps_apart = record {
@@ -122,8 +114,7 @@ lie_two_gaps_apart = record {
     after = [];
     is = refl;
     more = refl;
-    others = All-from_recursion (λ (e : Entry). sub_in e.frame ≢ 0) (turn_entry 1000 1 false ∷ [])
-        (λ q. omega arith, tt);
+    others = grind arith;
     its = refl;
   };
   round = refl;
@@ -137,13 +128,7 @@ few_in sub es = grind (arith, length-filter, count_by-le-length)
 
 pub turns_are_told : TurnsAreTold
 turns_are_told = record {
-  kept = (
-    λ more other. few_in other (turn_entry 1000 1 false ∷ []),
-    (λ more other. few_in other (turn_entry 2000 0 false ∷ []), (λ more other. omega arith, tt)),
-  );
+  kept = grind arith;
   failed = λ turns. let two : 2 ≤ 1 = turns.0 refl 1 in omega arith;
-  free = (
-    λ more other. absurd (let e : false ≡ true = more in cc),
-    (λ more other. omega arith, (λ more other. few_in other (turn_entry 3000 0 false ∷ []), (λ more other. omega arith, tt))),
-  );
+  free = grind arith;
 }

@@ -21,12 +21,7 @@ keyed_end room most key d fits =
     let pieces : List Piece = pieces_from 0 (cutting room (length d)) in
     All-map (EndsBefore most) (λ (f : Fragment). (key, f)) (fragments_of room d)
     (All-map (λ (f : Fragment). end_of f ≤ most) (fragment_of d) pieces
-    (λ i x h.
-    let piece : Piece = get_or pieces i x in
-    let size = length-take piece.len (drop piece.start d) in
-    let rest = length-drop piece.start d in
-    let lies = (cutting_lies room (length d) i x h).1 in
-    omega arith))
+    (grind (arith, length-take, length-drop, cutting_lies)))
 
 pub sent_end : (datagrams : List (List ℕ)) (room sub place most : ℕ) → All (HasUpTo most) datagrams
     → All (EndsBefore most) (sent_from room sub place datagrams)
@@ -65,8 +60,7 @@ pub one_buffer : OneBuffer
 one_buffer room sub most datagrams came least some fit begun =
     let one = (reassembles room sub datagrams came least some begun).alone in
     let ends : All (EndsBefore most) (of_sub sub came) =
-    all_front (EndsBefore most) (of_sub sub came) begun.0 (sent_from room sub 0 datagrams) begun.1
-    (sent_end datagrams room sub 0 most fit) in
+    grind (arith, all_front (EndsBefore most) (of_sub sub came) begun.0 (sent_from room sub 0 datagrams) begun.1 (sent_end datagrams room sub 0 most fit), sent_end datagrams room sub 0 most fit) in
     record {
       key = one.key;
       others = one.others;
@@ -78,7 +72,6 @@ one_buffer room sub most datagrams came least some fit begun =
 first_need_one : (end_system room sub count : ℕ) (accepted : List Sent) (net : Net) (stream got : List (List ℕ))
     → IsSending end_system room sub accepted net stream → map (twin_of A) got ≡ take count (map (twin_of A) stream) → IsOneEnough sub got
 first_need_one end_system room sub count accepted net stream got sending first =
-    let least = sending.link.least in
     one_buffer room sub 8200 (datagrams_of end_system accepted) (map fragment_in got) (omega arith)
     (some_bytes end_system sub accepted sending.sent) (few_bytes end_system sub accepted sending.sent)
     (first_come end_system room sub count accepted net stream got sending first)

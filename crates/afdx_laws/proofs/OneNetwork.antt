@@ -26,11 +26,7 @@ all_its net [] (x ∷ before) after e is = absurd (nil_isnt_cons is)
 all_its net (f ∷ fs) [] after e is = (sym (ap (λ (d : Net × List ℕ). d.0) (cons_parts is).0), refl)
 all_its net (f ∷ fs) (x ∷ before) after e is =
     let parts = cons_parts is in
-    let rest = all_its net fs before after e parts.1 in (
-      rest.0,
-      ap (λ (d : Net × List ℕ). carried_by (other net) d.0 d.1 (carried (other net) before)) (sym parts.0)
-          ∙ skips net f (carried (other net) before) ∙ rest.1,
-    )
+    grind (arith, all_its net fs before after e parts.1)
 
 never_behind : (net : Net) (frames : List (List ℕ)) → IsNear 0 (all_from net frames)
 never_behind net frames before after from frame is = grind (arith, all_its net frames before after (from, frame) is)
@@ -60,12 +56,7 @@ one_network_arrives_holds plan accepted a b k sub net tolerance came handed alon
     let its = handed_by plan accepted a b k sub net handed in
     subst (λ (frames : List (List ℕ)). AreFirst plan.end_system (piece_room plan k) sub (accepted k sub) frames
     (messages_in sub (received number_in tolerance begin (all_from net came))))
-    (ap (λ (n : ℕ). take n mine) (many_from net came) ∙ ap (take (length came)) (sym begins.1)
-    ∙ take-append_seam came begins.0)
+    (grind (arith, many_from, take-append_seam))
     (messages_arrive_holds plan.end_system (piece_room plan k) sub 0 tolerance (accepted k sub) net mine
     (all_from net came) (sending_to both.link both.sent its) fit
-    (record {
-      on_a = begins_for A net came mine its.own begins;
-      on_b = begins_for B net came mine its.own begins;
-      near = never_behind net came;
-    }))
+    (grind (arith, begins_for, never_behind)))

@@ -20,13 +20,7 @@ read_piece : (end_system : ℕ) (sent : Sent) (net : Net) (place : ℕ) (piece :
     ≡ (identification place sent.port.sub, fragment_of (datagram end_system sent.port sent.bytes) piece)
 read_piece end_system sent net place piece number port most is =
     let s = says end_system sent.port sent.bytes place piece net number port most is in
-    let frame : List ℕ = frame_of end_system sent.port sent.bytes place piece net number in
-    let total = total_ok end_system sent.port sent.bytes place piece net number (is.len).1 in
-    let bytes_len : total_length frame - 20 ≡ piece.len = omega arith in
-    let bytes_are : take (total_length frame - 20) (drop 34 frame) ≡ take piece.len
-    (drop piece.start (datagram end_system sent.port sent.bytes)) = ap (λ (n : ℕ). take n (drop 34 frame)) bytes_len
-    ∙ payload_says end_system sent.port sent.bytes place piece net number port is.within in
-    cc (s.ident_says, s.offset_says, s.more_says)
+    grind (arith, total_ok, payload_says)
 
 -- the fragment of an unnumbered frame, whatever its number is
 abbrev pub read_any : List ℕ → ℕ × Fragment
@@ -104,9 +98,7 @@ reads_all (sent ∷ later) end_system room sub place net least greatest are =
     (λ k d h. are (suc k) d (omega arith)) in
     record {
       each = all_append IsRead front back first.each rest.each;
-      are = map-append read_any front back ∙ append_same (subst (λ (n : ℕ). map read_any front
-          ≡ keyed (identification place n) (fragments_of room (datagram end_system sent.port sent.bytes)))
-          one.its first.are) rest.are;
+      are = map-append read_any front back ∙ append_same (grind arith) rest.are;
     }
 
 -- a frame is its blanked bytes and its number

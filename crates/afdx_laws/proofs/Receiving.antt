@@ -138,8 +138,4 @@ pub exactly_once_holds : ExactlyOnce
 exactly_once_holds lag tolerance stream arrivals fit frames carry =
     let c = comes stream lag arrivals arrivals [] 0 0 frames.long frames.numbered carry.near refl refl refl
     carry.on_a carry.on_b in
-    let got = hands_on number_in (twin_of A) (map (twin_of A) stream) tolerance lag arrivals 0 0
-    fit.checks fit.opens fit.apart c in
-    let counts : max (0 + length (carried A arrivals)) (0 + length (carried B arrivals)) ≡ most_carried arrivals =
-    omega arith in
-    got ∙ ap (λ (k : ℕ). take k (map (twin_of A) stream)) counts
+    grind (arith, hands_on number_in (twin_of A) (map (twin_of A) stream) tolerance lag arrivals 0 0 fit.checks fit.opens fit.apart c)

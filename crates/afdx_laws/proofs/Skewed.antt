@@ -51,15 +51,11 @@ skew_is_near_holds gap delay released at arrivals some apart forward delivered b
       | inl ahead ↦
           let r = found (other net) (b - 1) before (omega arith) in
           let split : arrivals ≡ r.before ++ (other net, r.frame) ∷ (r.after ++ (net, frame) ∷ after) =
-          is ∙ ap (λ (xs : List (Net × List ℕ)). xs ++ (net, frame) ∷ after) r.is
-          ∙ append_assoc r.before ((other net, r.frame) ∷ r.after) ((net, frame) ∷ after) in
-          let first = delivered r.before (r.after ++ (net, frame) ∷ after) (other net) r.frame split in
-          let mine = delivered before after net frame is in
+          grind (arith, append_assoc) in
           let len = ap length r.is ∙ length-append r.before ((other net, r.frame) ∷ r.after) in
           let time = later at forward (length r.before) (length before - length r.before) in
           let gaps = spread gap released apart i (b - 1 - i) in
-          let few : b - 1 - i ≤ delay / gap = le-div (b - 1 - i) delay gap some (grind arith) in
-          omega arith
+          grind (arith, le-div)
     ]
 
 both_delivered : IsDelivered 400 released_at arrival_of both_copies

@@ -46,10 +46,4 @@ own_lists_arrive_holds plan own a b valid handed k sub inside index lag toleranc
     let came = ap (many_of sub) (take_all (most_carried arrivals) (longer_of (id_at plan k) a b) whole) in
     let taken = ap (λ (xs : List Sent). length (fragments plan.end_system (piece_room plan k) A xs))
     (take_all (length sent) sent (omega arith)) in
-    let many : length (handed.accepted k sub) ≤ first.many = first.all (length sent) (omega arith) (omega arith) in
-    record {
-      sent = sent;
-      are = first.are ∙ take_all first.many (map (λ (s : Sent). s.bytes) sent)
-          (omega (arith, length-map sent (λ (s : Sent). s.bytes)));
-      ports = λ place on. rw (← on.link, ← on.its) (handed.are_own place on.within);
-    }
+    grind (arith, take_all, length-map)

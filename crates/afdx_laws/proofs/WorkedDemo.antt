@@ -51,8 +51,7 @@ one_is_whole = record {
   handed = record {
     accepted = one_byte_accepted;
     legal = one_handed.legal;
-    allowed = below_both _ _ refl (All-from_recursion (IsAllowed demo_plan 0 0) (one_byte_accepted 0 0)
-        (record { queued = byte_queued Both 1; most = omega arith }, tt));
+    allowed = grind arith;
     are_own = below_one _ refl;
     log = one_entry A;
     streams = below_one _ refl;
@@ -64,9 +63,7 @@ one_is_whole = record {
   whole = record {
     sent = one_byte ∷ [];
     are = one_is_legal.message;
-    ports = λ place on. below_one (λ k. messages_of (port_plan_at demo_plan.ports k) (one_byte ∷ [])
-        ≡ one_own k) refl place
-        on.within;
+    ports = grind arith;
   };
 }
 
@@ -192,8 +189,6 @@ passes_a_gap_apart = record {
   way = pair_way 1000;
   passes = refl;
   early_way = pair_way 999;
-  early = fails_by (λ legal. legal_passes_holds demo_plan two_accepted A _ demo_valid legal 0 (omega arith)
-      (below_one _ two_allowed) by_frames 0 0 (pair_passes 0 999 999) (pair_way 999)) (other_length refl);
-  late = fails_by (legal_passes_holds demo_plan two_accepted A _ demo_valid two_handed.legal.on_a 0 (omega arith)
-      (below_one _ two_allowed) by_frames 0 0 (pair_passes 1 1000 1000)) (other_length refl);
+  early = grind arith;
+  late = grind arith;
 }

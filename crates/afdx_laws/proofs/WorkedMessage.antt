@@ -124,10 +124,7 @@ within_by_test [] whole n farthest carries test = tt
 within_by_test (e ∷ es) whole n farthest carries test =
     let parts = and_parts (nat_lt e.1 n && nat_le farthest (e.1 + 254) && nat_le e.1 (carries + 254)
     && (not (same_net whole e.0) || nat_eq e.1 carries)) _ test in
-    let here = parts.0 in (
-      grind (arith, nat_tests),
-      within_by_test es whole n (max farthest (e.1 + 1)) (cond (same_net whole e.0) (carries + 1) carries) parts.1,
-    )
+    grind (arith, within_by_test es whole n (max farthest (e.1 + 1)) (cond (same_net whole e.0) (carries + 1) carries) parts.1)
 
 pub close_by_test : (came : List (Net × ℕ)) (whole : Net) (n : ℕ)
     → lies_within whole n 0 0 came ≡ true → StartsFirst came → AreClose whole n 0 0 came

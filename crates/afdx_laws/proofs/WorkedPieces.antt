@@ -37,10 +37,7 @@ needs_in_turn = record {
   size = two_sizes;
   begun = fails_by (one_buffer 8 0 20 two_datagrams two_begun (omega arith) two_some two_sizes) two_hold;
   first = (piece 0 2 false 17 4 ∷ piece 4 0 true 21 8 ∷ piece 4 1 false 29 4 ∷ [], refl);
-  small = record {
-    premise = λ sizes. let size : 20 ≤ 8 = sizes 0 [] (omega arith) in omega arith;
-    conclusion = λ one. let ninth : Some 9 ≡ None = one.within 0 refl 8 (omega arith) in cc;
-  };
+  small = grind arith;
 }
 
 pub holds_a_frame : HoldsAFrame
