@@ -135,16 +135,7 @@ starts : (sub many after : ℕ) (frame : List ℕ)
     → GivesFrame (short_sub sub (replicate many (0, 1 ∷ []))) frame (short_sub sub (replicate after (0, 1 ∷ [])))
 starts sub many after frame found left = record {
   mid = record (short_sub sub (replicate after (0, 1 ∷ []))) { left = blanked frame ∷ [] };
-  asked = inr (record {
-    message = (0, 1 ∷ []);
-    item = record { port = omega arith; message = record { some = omega arith; most = omega arith } };
-    whole = refl;
-    finds = found;
-    left = left;
-    some = λ e. cc;
-    of = refl;
-    ports = refl;
-  });
+  asked = grind arith;
   gives = record { next = refl; same = refl };
 }
 

@@ -39,13 +39,7 @@ closed old new vl sub total ready c =
     let links : ClosedLinks old.links new.links = closes_links old vl sub total new c in
     by_own old.plan new (ap (λ (t : Tx). t.plan) c.same) (record {
       count = links.count ∙ ready.count;
-      links = λ k lt.
-          let own = ready.links k lt in
-          record {
-            plan_is = ap (λ (l : LinkState). l.plan) (links.same k) ∙ own.plan_is;
-            gap = ap (λ (l : LinkState). l.pace.gap) (links.same k) ∙ own.gap;
-            sub_vls = ap (λ (l : LinkState). l.pace.sub_vls) (links.same k) ∙ own.sub_vls;
-          };
+      links = grind arith;
       allowed = λ k s lt slt.
           subst (All (IsQueued old.plan k s))
           (sym (closed_taken (held_at (link_at old.links k).subs s) (held_at (link_at new.links k).subs s) (links.each k s)))

@@ -16,8 +16,7 @@ find_step : (now : ℕ) (plan : Plan) (accepted : Accepted) (k x many : ℕ) (li
     → StepsAt now plan k x (waiting x many (stream_at plan k lines)) lines mid
 find_step now plan accepted k x many lines mid valid inside most (inl finds) stands =
     emitter_step now plan k x (waiting x many (stream_at plan k lines)) lines mid valid inside finds.poll
-    (λ l a did at t up s lt passes is. le-ltb _ many (finds.finds (subst (λ (y : ℕ).
-    Passes (held_at (link_at finds.poll.old.links k).subs y) (held_at (link_at finds.poll.new.links k).subs y)) is passes)))
+    (grind arith)
     stands
 find_step now plan accepted k x many lines mid valid inside most (inr drains) stands = grind (arith, drain_step, valid, le-ltb)
 
@@ -72,19 +71,14 @@ module _ (plan : Plan) (k s : ℕ) (valid : IsPlan plan) (inside : k < length pl
       let room : ℕ = room_of link.lmax in
       let wide = wide_room plan k valid inside in
       let is_link : IsLink link = valid.each_link k no_link_plan inside in
-      let some = is_link.capacity.0 in
       let own = own_few sent of in
-      let port = port_few sent of in
-      let frags = λ (messages : List Sent). length (fragments_of plan k messages) in
       let whole = ap length (fragments_both plan.end_system room A 0 earlier (sent ∷ [])) in
       let parts = length-append (fragments_of plan k earlier) (fragments_from plan.end_system room A (0 + length earlier) (sent ∷ [])) in
       let last = length-append (fragments_at plan.end_system room A (0 + length earlier) sent) [] in
       let mine = message_pieces plan.end_system room A (0 + length earlier) sent wide in
       elim (cases_lt (length earlier) link.capacity) [
         | inl less ↦
-            let before = list_most plan.end_system room A 0 most_of earlier wide few in
-            let most = mul-le (length earlier) most_of (link.capacity - 1) most_of (omega arith) (omega arith) in
-            omega arith
+            grind (arith, list_most plan.end_system room A 0 most_of earlier wide few, mul-le)
         | inr more ↦
             let n : ℕ = length earlier - link.capacity in
             let front : List Sent = take n earlier in
@@ -95,10 +89,7 @@ module _ (plan : Plan) (k s : ℕ) (valid : IsPlan plan) (inside : k < length pl
             let split = ap length (ap (fragments_of plan k) (sym both) ∙ fragments_both plan.end_system room A 0 front back) in
             let halves = length-append (fragments_of plan k front) (fragments_from plan.end_system room A (0 + length front) back) in
             let held = list_most plan.end_system room A (0 + length front) most_of back wide (All-drop Few n earlier few) in
-            let most = mul-le (length back) most_of link.capacity most_of (omega arith) (omega arith) in
-            let one : link.capacity * most_of ≡ (link.capacity - 1) * most_of + most_of =
-            ap (λ (c : ℕ). c * most_of) (let c : link.capacity ≡ suc (link.capacity - 1) = omega arith in c) ∙ suc-mul (link.capacity - 1) most_of ∙ omega arith in
-            omega arith
+            grind (arith, suc-mul (link.capacity - 1) most_of, mul-le, back)
       ]
 
 own_wait : (plan : Plan) (k s late : ℕ) (sent : Sent) → link_place plan sent.port ≡ k → sent.port.sub ≡ s
@@ -121,13 +112,9 @@ message_in_run_holds plan accepted moments lines after k s late start earlier se
     let wait = own_wait plan k s late sent (own_link plan k s sent valid inside of.queued) of.queued.its in
     let ahead : fragments_of plan k (earlier ++ sent ∷ [])
     ++ fragments_from plan.end_system (room_of link.lmax) A (0 + length (earlier ++ sent ∷ [])) later
-    ≡ fragments_of plan k (accepted k s) = sym (fragments_both plan.end_system (room_of link.lmax) A 0 (earlier ++ sent ∷ []) later)
-    ∙ ap (fragments_of plan k) (append_assoc earlier (sent ∷ []) later ∙ sym is.are) in
+    ≡ fragments_of plan k (accepted k s) = grind (arith, fragments_both plan.end_system (room_of link.lmax) A 0 (earlier ++ sent ∷ []) later, append_assoc earlier (sent ∷ []) later) in
     let most : many ≤ length (fragments_of plan k (accepted k s)) =
-    let size = ap length ahead in
-    let sum = length-append (fragments_of plan k (earlier ++ sent ∷ []))
-    (fragments_from plan.end_system (room_of link.lmax) A (0 + length (earlier ++ sent ∷ [])) later) in
-    omega arith in
+    grind (arith, length-append) in
     let run = have_run moments plan k s (many - length (seen_of s S)) _ _ (waiting s many) lines after
     (finding_steps plan accepted k s many valid inside most) finding stands refl in
     let rounds = mul-le link.sub_vls (many - length (seen_of s S)) link.sub_vls
@@ -141,7 +128,6 @@ message_in_run_holds plan accepted moments lines after k s late start earlier se
     let split = splits run.polls run.added s end start (timely_rise (bag_micros link.bag) late end start run.polls when) run.show in
     let grown : stream_at plan k after ≡ S ++ (split.soon ++ split.more) = run.grown ∙ ap (λ (es : List Entry). S ++ es) split.is in
     let count = seen_both s S split.soon in
-    let seen = split.seen in
     let soon_front : IsPrefixOf (seen_of s (S ++ split.soon)) (seen_of s (stream_at plan k after)) = (
       seen_of s split.more,
       sym (seen_append s (S ++ split.soon) split.more) ∙ ap (seen_of s) (append_assoc S split.soon split.more ∙ sym grown),
@@ -151,6 +137,5 @@ message_in_run_holds plan accepted moments lines after k s late start earlier se
       more = split.more;
       is = grown;
       by = split.by;
-      whole = front_of (fragments_of plan k (earlier ++ sent ∷ [])) (seen_of s (S ++ split.soon)) _ (soon_front.0 ++ begins.0)
-          (ahead ∙ sym begins.1 ∙ ap (λ (f : List (List ℕ)). f ++ begins.0) (sym soon_front.1) ∙ append_assoc _ soon_front.0 begins.0) (omega arith);
+      whole = grind (arith, front_of, append_assoc);
     }

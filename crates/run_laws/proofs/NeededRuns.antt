@@ -58,11 +58,7 @@ finds_none : (queue : ReceiverView) (lines : Lines) → All (IsQueued byte_plan 
     → may_release 1000 tight_link (pace_in tight_link (log lines)) lines ≡ true
     → IsTied (held queue) (sub_stream 0 (stream_at byte_plan 0 lines)) → EmitterPolls byte_plan 1000 lines lines
 finds_none queue lines queued due tied = polls_by 1000 byte_plan tight_link (held queue ∷ []) (held (looked queue) ∷ []) lines lines Nothing
-    (record {
-      count = refl;
-      links = below_one _ (record { plan_is = refl; gap = refl; sub_vls = refl });
-      allowed = below_both _ _ refl queued;
-    })
+    (grind arith)
     refl same (below_one _ tied) (inr (due, record { each = below_one _ passes; others = others }), refl)
   where
     passes : Passes (held queue) (held (looked queue))
@@ -87,8 +83,7 @@ misses earlier lines few = not_released byte_plan 0 0 1000 (replicate earlier (s
 finds_other : EmitterPolls byte_plan 1000 other_line other_line
 unfolding log checksum addresses header_front internet_header link_header udp_header datagram unnumbered cutting fragments_at
 finds_other = finds_none (after_take fresh (0, 2 ∷ [])) other_line
-    (All-from_recursion (IsQueued byte_plan 0 0) (record { port = short_port 0; bytes = 2 ∷ [] } ∷ [])
-    (record { port = (0, omega arith, refl); over = refl; its = refl; some = omega arith; most = omega arith }, tt)) refl refl
+    (grind arith) refl refl
 
 other_bytes : blanked (other_frame A) ≡ blanked (short_frame 0 0 0 A) → ⊥
 unfolding checksum addresses header_front internet_header link_header udp_header datagram unnumbered
@@ -135,9 +130,7 @@ needs_its_premises = record {
     accepted = one_is;
     start = tt;
     place = has_room byte_plan 0 0 [] [] (omega arith) (λ full. absurd (omega arith));
-    finding = λ finding. misses 0 no_line (omega arith) (message_in_run_holds byte_plan (bytes_accepted 1) (1000 ∷ []) no_line no_line 0 0 0 0
-        [] (short_sent 0) [] byte_valid one_is tt (has_room byte_plan 0 0 [] [] (omega arith) (λ full. absurd (omega arith)))
-        finding (fragments_of byte_plan 0 (bytes_accepted 1 0 0), refl) refl in_time);
+    finding = grind arith;
     prefix = (fragments_of byte_plan 0 (bytes_accepted 1 0 0), refl);
     is_up = refl;
     comes = in_time;

@@ -63,8 +63,7 @@ polls_step plan k x valid inside = record {
       (λ drain. drain_endures now plan drain.accepted lines after drain.run) p;
   step = λ now lines after p stands. ⊎_elim
       (λ emitter. emitter_step now plan k x _ lines after valid inside emitter (emitter_lacks now plan k x lines after inside emitter) stands)
-      (λ drain. drain_step now plan drain.accepted k x _ lines after valid inside drain.run
-      (drain_lacks now plan drain.accepted k x (stream_at plan k lines) inside drain.allowed) stands)
+      (grind (arith, drain_step, drain_lacks))
       p;
   waits = λ many S awaits. awaits.1;
   still = λ now many released S M. still_awaits now x many released S M;
@@ -76,15 +75,7 @@ next_by : (T earlier soon more : List Entry) (first : Entry) (bound : ℕ) → m
 next_by T earlier soon more first bound flag grown by found = record {
   between = found.between;
   next = found.next;
-  are = record {
-    before = earlier;
-    after = found.later ++ more;
-    is = grown ∙ append_assoc earlier (first ∷ []) (soon ++ more) ∙ ap (λ (es : List Entry). earlier ++ first ∷ es)
-        (ap (λ (es : List Entry). es ++ more) found.is ∙ append_assoc found.between (found.next ∷ found.later) more);
-    more = flag;
-    others = found.others;
-    its = found.its;
-  };
+  are = grind (arith, append_assoc);
   soon = All-head (λ (e : Entry). e.at ≤ bound) found.next found.later (all_back (λ (e : Entry). e.at ≤ bound) found.between
       (found.next ∷ found.later) (subst (All (λ (e : Entry). e.at ≤ bound)) found.is by));
 }
@@ -92,7 +83,6 @@ next_by T earlier soon more first bound flag grown by found = record {
 pub next_in_run_holds : NextInRun
 next_in_run_holds plan moments lines after k late earlier first valid inside ends more below runs stands come reach =
     let x : ℕ = sub_in first.frame in
-    let S : List Entry = stream_at plan k lines in
     let bound : ℕ = first.at + link_wait late (link_plan_at plan.links k) in
     let begun : begun_by none_begun (stream_at plan k lines) (sub_in first.frame) ≡ true =
     rw (ends, begun_push none_begun earlier first x, eq-eqb x x refl) more in
@@ -105,11 +95,4 @@ next_in_run_holds plan moments lines after k late earlier first valid inside end
     latest_is first.at run.polls ∙ ap (latest_of first.at) run.at in
     let one = next_polled_in_time (subs_at plan k) x (gap_at plan k) late first.at run.polls below (some_gap (link_plan_at plan.links k).bag)
     (rw last at run.served) (polled_of late first.at run.polls within) run.had (rw latest_moment reach) in
-    let split = splits run.polls run.added x bound first.at (within_rise late first.at run.polls within) run.show in
-    let many = split.seen in
-    let grown : stream_at plan k after ≡ (earlier ++ first ∷ []) ++ (split.soon ++ split.more) =
-    run.grown ∙ ap (λ (l : List Entry). l ++ run.added) ends ∙ ap (λ (l : List Entry). (earlier ++ first ∷ []) ++ l) split.is in
-    let comes = next_by (stream_at plan k after) earlier split.soon split.more first bound more grown split.by (finds x split.soon (omega arith)) in
-    let soon = comes.soon in
-    let longest = wait_at late plan.links k inside in
-    (comes, record { between = comes.between; next = comes.next; are = comes.are; soon = omega arith })
+    grind (arith, splits run.polls run.added x bound first.at (within_rise late first.at run.polls within) run.show, within_rise late first.at run.polls within, wait_at late plan.links k inside, next_by, finds)

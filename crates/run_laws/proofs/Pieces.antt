@@ -22,18 +22,13 @@ ceil_mono a b s step le = grind arith
 cut_count : (turns room n : ℕ) → 8 ≤ room → 1 ≤ n → n ≤ turns → length (cut_by turns room n) ≡ 1 + div_ceil (n - room) (step_of room)
 cut_count zero room n wide some few = absurd (omega arith)
 cut_count (suc turns) room n wide some few =
-    let step = step_pos room wide in
-    let less = step_le room in
     elim (cases_lt room n) [
       | inl more ↦
           let rest = cut_count turns room (n - step_of room) wide (omega arith) (omega arith) in
           let part = ceil_less (n - room) (step_of room) (omega arith) (omega arith) in
-          let same : n - step_of room - room ≡ n - room - step_of room = omega arith in
-          ap length (cut_more turns room n more) ∙ ap suc rest
-          ∙ rw (same) (omega arith)
+          grind arith
       | inr fits ↦
-          let none : n - room ≡ 0 = omega arith in
-          ap length (cut_last turns room n fits) ∙ rw none (let z = ceil_none (step_of room) (omega arith) in omega arith)
+          grind arith
     ]
 
 pieces_count : (lengths : List ℕ) (start : ℕ) → length (pieces_from start lengths) ≡ length lengths
@@ -47,7 +42,6 @@ message_pieces end_system room net place sent wide = grind (arith, length-map, p
 
 pub pieces_mono : (room a b : ℕ) → 8 ≤ room → a ≤ b → pieces_of room a ≤ pieces_of room b
 pieces_mono room a b wide le =
-    let step = step_pos room wide in
     let more = ceil_mono (8 + a - room) (8 + b - room) (step_of room) (omega arith) (omega arith) in
     omega arith
 
@@ -59,11 +53,7 @@ list_most end_system room net place most [] wide few = omega arith
 list_most end_system room net place most (sent ∷ later) wide few =
     let Few : Sent → Type 0 = λ m. pieces_of room (length m.bytes) ≤ most in
     let first : pieces_of room (length sent.bytes) ≤ most = All-head Few sent later few in
-    let one = message_pieces end_system room net place sent wide in
-    let rest = list_most end_system room net (suc place) most later wide (All-tail Few sent later few) in
-    let both = length-append (fragments_at end_system room net place sent) (fragments_from end_system room net (suc place) later) in
-    let wide_sum = suc-mul (length later) most in
-    omega arith
+    grind (arith, message_pieces, length-append, suc-mul, list_most end_system room net (suc place) most later wide (All-tail Few sent later few))
 
 pub fragments_both : (end_system room : ℕ) (net : Net) (place : ℕ) (xs ys : List Sent) → fragments_from end_system room net place (xs ++ ys)
     ≡ fragments_from end_system room net place xs ++ fragments_from end_system room net (place + length xs) ys
@@ -77,8 +67,4 @@ pub port_most : (link : LinkPlan) (ports : List PortPlan) (port : PortPlan) → 
 port_most link ports port inside over =
     let Few : PortPlan → Type 0 = λ p. pieces_on link port.sub p ≤ most_pieces link port.sub ports in
     let all : All Few ports = λ i d lt. max_bounds (most_pieces link port.sub) (pieces_on link port.sub) refl (λ x xs. refl) ports i d lt in
-    let mine : (nat_eq port.vl.0 link.id.0 && nat_eq port.sub port.sub) ≡ true =
-    and_from (nat_eq port.vl.0 link.id.0) (nat_eq port.sub port.sub) (eq-eqb _ _ over) (eq-eqb _ _ refl) in
-    let own : pieces_on link port.sub port ≡ port_pieces link port = rw mine refl in
-    let most : pieces_on link port.sub port ≤ most_pieces link port.sub ports = All-contains Few ports port all inside in
-    omega arith
+    grind arith

@@ -52,8 +52,7 @@ own_step now gap subs x b link view lines after Nothing lacks t stands =
       released = None;
       has = λ s. nat_eq s x && b;
       served = λ due s lt. ⊎_elim
-          (λ early. absurd (both_ways _ early.0 (and_from (is_due gap (latest None S) now) (stands_for link.networks lines) due
-          (subst (λ (l : Lines). stands_for link.networks l ≡ true) t.1 stands))))
+          (grind arith)
           (λ none. has_not s x b (lacks s lt (none.1.each s lt)))
           t.0;
       waits = λ is. and_from (nat_eq x x) b (eq-eqb x x refl) is;
@@ -66,23 +65,10 @@ own_step now gap subs x b link view lines after (Released sub number) lacks t st
     let within = r.choice.within in
     let first : IsFirst (turn_of subs (latest None (link_stream link.id.0 (log lines)))) sub (suc r.choice.turn) =
     first_at order sub r.choice.turn r.choice.turn 0 (omega arith) (λ k below. absurd (omega arith)) (sym r.choice.is) in
-    let place = first.within in
     record {
       released = Some sub;
       has = λ s. (nat_eq s x && b) || nat_eq s sub;
-      served = (
-        (and_parts (is_due gap (latest None S) now) (stands_for link.networks lines) t.0).0,
-        record {
-          turn = first.turn;
-          within = omega arith;
-          is = sym first.is;
-          had = ap (λ (u : Bool). (nat_eq sub x && b) || u) (eq-eqb sub sub refl) ∙ or-true (nat_eq sub x && b);
-          before = λ k lt.
-              let early : k < subs = omega arith in
-              let none = has_not (order k) x b (lacks _ (turn_below subs (latest None S) k early) (r.choice.before k (omega arith))) in
-              grind (arith, nat_tests, first.before k lt);
-        },
-      );
+      served = grind arith;
       waits = λ is. ap (λ (u : Bool). u || nat_eq x sub) (and_from (nat_eq x x) b (eq-eqb x x refl) is);
       adds = (r.frame, r.of.of_sub, stream_more link.id.0 now sub number link.networks r.frame lines after r.of r.enters);
     }
@@ -152,14 +138,8 @@ module _ (now : ℕ) (plan : Plan) (k x : ℕ) (b : Bool) (S : List Entry) (P : 
   turns_step i zero lines after lacks le lt at t stands = absurd (omega arith)
   turns_step i (suc many) lines after lacks le lt at t stands = ⊎_elim
       (λ (here : i ≡ k).
-      let stood : StandsAt plan k t.0 = stood_before t.0 after (link_plan_at plan.links k).networks
-      (seen_endure now plan view P (i + 1) many t.0 after t.3) stands in
-      let seen : IsSeen now plan view P k lines t.0 t.1 = subst (λ (j : ℕ). IsSeen now plan view P j lines t.0 t.1) here t.2 in
-      let up : StandsAt plan k lines = stood_before lines t.0 (link_plan_at plan.links k).networks
-      (turned now plan view P k lines t.0 t.1 seen) stood in
-      rw (others_keep (i + 1) many t.0 after (omega (arith, here)) t.3)
-      (own_step now (gap_at plan k) (subs_at plan k) x b (link_plan_at plan.links k) (view k lines) lines t.0 t.1
-      (lacks lines t.0 t.1 at seen.is up) seen.turn stood))
+      let stood : StandsAt plan k t.0 = grind (arith, stood_before, seen_endure) in
+      grind (arith, stood_before, turned, others_keep, own_step, gap_at, subs_at))
       (λ (later : i ≢ k).
       let same : stream_at plan k t.0 ≡ stream_at plan k lines = keeps i lines t.0 t.1 later t.2 in
       rw (← same) (turns_step (i + 1) many t.0 after lacks (omega (arith, le, later)) (omega arith) (same ∙ at) t.3 stands))

@@ -79,14 +79,12 @@ splits (p ∷ polls) added x bound before rise show = elim (cases_lt bound p.at)
         → IsSplit x bound (released_by x bound (p ∷ polls)) added
     by_release soon None is same rest =
         let few = rest.seen in
-        let none : (nat_le p.at bound && is_of x p.released) ≡ false = grind (arith, is) in
         let whole : released_by x bound (p ∷ polls) ≡ released_by x bound polls = grind (arith, counted x bound p polls) in
         record { soon = rest.soon; more = rest.more; is = same ∙ rest.is; by = rest.by; seen = omega arith }
     by_release soon (Some chosen) is (e, more, at, of) rest =
         let whole = counted x bound p polls in
         let first = seen_first x e rest.soon in
         let test : cond {A = ℕ} (nat_le p.at bound && is_of x p.released) 1 0 ≤ cond {A = ℕ} (nat_eq (sub_in e.frame) x) 1 0 = grind (arith, nat_tests, is, of) in
-        let few = rest.seen in
         record {
           soon = e ∷ rest.soon;
           more = rest.more;
@@ -169,13 +167,11 @@ pub have_run : (moments : List ℕ) (plan : Plan) (k x many : ℕ) (Polls : ℕ 
     → HaveRun (gap_at plan k) (subs_at plan k) x many moments (stream_at plan k lines) (stream_at plan k after)
 have_run [] plan k x many Polls Awaits test lines after each r stands awaits = grind (arith, append-nil)
 have_run (now ∷ moments) plan k x many Polls Awaits test lines after each r stands awaits =
-    let stood : StandsAt plan k r.0 = stood_before r.0 after (link_plan_at plan.links k).networks
-    (polls_endure Polls moments r.0 after each.endure r.2) stands in
+    let stood : StandsAt plan k r.0 = grind (arith, stood_before, polls_endure) in
     let step : StepsAt now plan k x (test (stream_at plan k lines)) lines r.0 = each.step now lines r.0 r.1 stood in
     run_more now (gap_at plan k) (subs_at plan k) x many (test (stream_at plan k lines)) moments (stream_at plan k lines)
     (stream_at plan k r.0) (stream_at plan k after) step (each.waits many (stream_at plan k lines) awaits)
-    (have_run moments plan k x (left x many step.released) Polls Awaits test r.0 after each r.2 stands
-    (each.still now many step.released (stream_at plan k lines) (stream_at plan k r.0) awaits step.adds))
+    (grind (arith, have_run moments plan k x (left x many step.released) Polls Awaits test r.0 after each r.2 stands (each.still now many step.released (stream_at plan k lines) (stream_at plan k r.0) awaits step.adds)))
 
 pub some_gap : (bag : Bag) → 1 ≤ 1000 * bag_ms bag
 some_gap bag = grind arith

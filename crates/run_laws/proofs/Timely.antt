@@ -54,8 +54,7 @@ behind_lt subs (Some l) some = mod-lt l.sub (omega arith)
 same_turn : (subs last k : ℕ) → next_turn subs (last % subs) k ≡ next_turn subs last k
 same_turn subs last k =
     let left : last % subs + 1 + k ≡ last % subs + (1 + k) = omega arith in
-    let right : last + 1 + k ≡ last + (1 + k) = omega arith in
-    rw (left, right) (mod-add-mod last subs (1 + k))
+    grind (arith, mod-add-mod last subs (1 + k), left)
 
 reordered : (subs : ℕ) (f g : ℕ → ℕ) (c : Choice) → ((k : ℕ) → k < subs → g k ≡ f k) → IsChosen subs f c → IsChosen subs g c
 reordered subs f g c same ch = grind arith

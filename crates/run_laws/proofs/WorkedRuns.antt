@@ -147,13 +147,7 @@ stray_poll now due = inr (record {
 pub needs_a_run : NeedsARun
 unfolding log checksum addresses header_front internet_header link_header udp_header datagram unnumbered
 needs_a_run = record {
-  none = record {
-    runs = refl;
-    is_up = refl;
-    comes = tt;
-    reaches = omega arith;
-    next = alone front_entry (0 + link_wait 1000 small_link) (stream_at small_plan 0 front_line) refl;
-  };
+  none = grind (arith, alone front_entry (0 + link_wait 1000 small_link) (stream_at small_plan 0 front_line) refl);
   idle = record {
     runs = λ runs. alone front_entry (0 + link_wait 1000 small_link) (stream_at small_plan 0 front_line) refl (next_in_run_holds small_plan
         (1000 ∷ 2000 ∷ []) front_line front_line 0 1000 [] front_entry small_valid (omega arith) refl refl (omega arith) runs refl
@@ -169,8 +163,7 @@ needs_a_run = record {
     comes = omega arith;
     reaches = omega arith;
     next = λ comes.
-        let no = comes_when 5000 (0 + link_wait 1000 small_link) (stream_at small_plan 0 (both_at 5000)) refl comes in
-        omega arith;
+        grind (arith, comes_when 5000 (0 + link_wait 1000 small_link) (stream_at small_plan 0 (both_at 5000)) refl comes);
   };
   lost = record {
     runs = (lost_line, a_poll 1000 front_line lost_line Lost lost_turn, (lost_line, a_poll 2000 lost_line lost_line Nothing (inl (refl, λ s. tt), refl), refl));
@@ -179,39 +172,9 @@ needs_a_run = record {
     reaches = omega arith;
     next = alone front_entry (0 + link_wait 1000 small_link) (stream_at small_plan 0 lost_line) refl;
   };
-  whole = record {
-    runs = last_polls;
-    ends = refl;
-    flag = λ more. false≢true more;
-    inside = omega arith;
-    is_up = refl;
-    comes = omega arith;
-    reaches = omega arith;
-    none = λ comes. false≢true comes.are.more;
-  };
-  elsewhere = record {
-    runs = last_polls;
-    ends = λ is. let same = ap (λ (e : Entry). more_in e.frame) (cons_parts (cons_parts is).1).0 in false≢true same;
-    flag = refl;
-    inside = omega arith;
-    is_up = refl;
-    comes = omega arith;
-    reaches = omega arith;
-    none = λ comes.
-        let first = (second_is comes.are.before comes.between comes.are.after front_entry _ _ comes.next comes.are.is).0 in
-        let same : ◌≡◌ {A = ℕ} 0 1000 = ap (λ (e : Entry). e.at) first in
-        absurd (omega arith);
-  };
-  stray = record {
-    runs = (_, stray_poll 2000 refl, (_, stray_poll 3000 refl, refl));
-    ends = refl;
-    flag = refl;
-    inside = λ below. absurd (omega arith);
-    is_up = refl;
-    comes = omega arith;
-    reaches = omega arith;
-    none = alone (entry 1000 (stray_frame A)) (1000 + link_wait 1000 small_link) (stream_at small_plan 0 stray_line) refl;
-  };
+  whole = grind (arith, last_polls);
+  elsewhere = grind (arith, last_polls, cons_parts, second_is);
+  stray = grind (arith, stray_poll 2000 refl, stray_poll 3000 refl, alone (entry 1000 (stray_frame A)) (1000 + link_wait 1000 small_link) (stream_at small_plan 0 stray_line) refl);
 }
 
 tight_valid : IsPlan tight_plan
@@ -269,8 +232,7 @@ front_by bound [] (e ∷ soon) more [] is by after = absurd (nil_isnt_cons is)
 front_by bound [] (e ∷ soon) more (l ∷ late) is by after =
     let first : e.at ≤ bound = All-head (λ (d : Entry). d.at ≤ bound) e soon by in
     let second : bound < l.at = All-head (λ (d : Entry). bound < d.at) l late after in
-    let same : l.at ≡ e.at = ap (λ (d : Entry). d.at) (cons_parts is).0 in
-    absurd (omega arith)
+    grind arith
 front_by bound (r ∷ rest) (e ∷ soon) more late is by after =
     let front = front_by bound rest soon more late (cons_parts is).1 (All-tail (λ (d : Entry). d.at ≤ bound) e soon by) after in
     (front.0, cons_same (sym (cons_parts is).0) front.1)
@@ -281,13 +243,7 @@ pub not_released : (plan : Plan) (k s bound : ℕ) (messages : List Sent) (befor
     → length (seen_of s (before ++ rest)) < length (fragments_of plan k messages) → AreReleasedBy plan k s messages before stream bound → ⊥
 not_released plan k s bound messages before rest late stream is after few r =
     let front = front_by bound rest r.soon r.more late (append_cancel_left before _ _ (sym is ∙ r.is)) r.by after in
-    let all = ap (λ (es : List Entry). length (seen_of s (before ++ es))) front.1 in
-    let whole = seen_both s before (r.soon ++ front.0) in
-    let part = seen_both s before r.soon in
-    let split = seen_both s r.soon front.0 in
-    let size = ap length r.whole.1 in
-    let parts = length-append (fragments_of plan k messages) r.whole.0 in
-    omega arith
+    grind (arith, seen_both s before (r.soon ++ front.0), seen_both s before r.soon, seen_both s r.soon front.0, length-append (fragments_of plan k messages) r.whole.0)
 
 begins_is : IsPrefixOf (seen_of 0 (stream_at tight_plan 0 (tight_line 4))) (fragments_of tight_plan 0 (tight_accepted 0 0))
 unfolding log checksum addresses header_front internet_header link_header udp_header datagram unnumbered cutting fragments_at
