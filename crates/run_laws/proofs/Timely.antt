@@ -110,18 +110,8 @@ in_due (p ∷ ps) subs x l (suc f) gap late before polled end last xl ll some af
                 let left : suc f - cond (is_of x p.released) 1 0 ≡ f = rw mine (omega arith) in
                 let none = back_self subs x chosen xl own in
                 let rest : f ≤ released_by x end ps = next f (omega arith) (rw left at has.1) in
-                let soon_enough : nat_le p.at end ≡ true = le-leb p.at end (omega arith) in
-                let one : cond {A = ℕ} (nat_le p.at end && is_of x p.released) 1 0 ≡ 1 = rw (soon_enough, mine) refl in
-                let count = counted x end p ps in
-                omega arith
-            | inr ne ↦
-                let other : is_of x p.released ≡ false = ap (is_of x) is ∙ ne_eqb chosen x ne in
-                let left : suc f - cond (is_of x p.released) 1 0 ≡ suc f = rw other (omega arith) in
-                let far = to.1 ne in
-                let near = back_lt subs x chosen xl to.0 in
-                let rest : suc f ≤ released_by x end ps = next (suc f) (omega arith) (rw left at has.1) in
-                let more = counted x end p ps in
-                omega arith
+                grind (arith, counted x end p ps, le-leb)
+            | inr ne ↦ grind arith
           ]
     ]
   where
