@@ -75,8 +75,7 @@ closes_matches es old vl sub total new c m = record {
 -- one link of a valid plan has an identifier
 same_place : (plan : Plan) (vl sub place k : ℕ) → IsPlan plan → IsSubAt plan vl sub place → k < length plan.links
     → (link_plan_at plan.links k).id.0 ≡ vl → k ≡ place
-same_place plan vl sub place k valid at lt id =
-    valid.links_apart k place lt at.within (ap (λ (n : ℕ). let made : VlId = record { 0 = n } in made) (id ∙ sym at.id))
+same_place plan vl sub place k valid at lt id = grind arith
 
 -- the outcome of the close of a sub-VL that is there
 closed_there : (plan : Plan) (vl sub place : ℕ) (answer : Answer) → IsPlan plan → IsSubAt plan vl sub place
@@ -134,10 +133,4 @@ obeys_close old ports vl sub total new h c = record {
 -- The close of one that isn't.
 pub obeys_lack : (bench : AtBench) (vl sub : ℕ) → LacksSub bench.tx.plan vl sub
     → Obeys (Close vl sub) bench bench (Became.Refused NoSub)
-obeys_lack bench vl sub lacks = obeys_still (Close vl sub) bench (Became.Refused NoSub) tt (λ accepted es m. record {
-  answer = fills;
-  may = tt;
-  is = sym (rw (← m.emitter.plan) (closed_nowhere bench.tx.plan vl sub fills lacks));
-  told = λ place index its. absurd (lacks place (rw its.1 at its.0));
-  matches = m;
-})
+obeys_lack bench vl sub lacks = grind (arith, obeys_still, closed_nowhere)

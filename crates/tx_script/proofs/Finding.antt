@@ -66,10 +66,7 @@ module _ (plan : Plan) (vl sub : ℕ) where
   -- of no messages there are none
   among_none : (many : ℕ) → accepted_among plan (each_port plan []) vl sub many ≡ 0
   among_none zero = refl
-  among_none (suc k) =
-      let last = elim (is_on vl sub (port_plan_at plan.ports k)) as
-      (λ on. ◌≡◌ {A = ℕ} (if on then 0 else 0) 0) [ true ↦ refl | false ↦ refl ] in
-      rw (among_none k, last) refl
+  among_none (suc k) = grind (arith, among_none k)
 
 -- The messages of a sub-VL are those of its ports.
 pub counted : (plan : Plan) (k sub : ℕ) (sents : List Sent) → IsPlan plan → All (IsAllowed plan k sub) sents
@@ -140,14 +137,7 @@ all_first P xs ys h = λ k d lt. rw (← get_or_append_left xs ys d k lt) (h k d
 messages_more : (port : PortPlan) (xs ys : List Sent) → messages_of port (xs ++ ys)
     ≡ messages_of port xs ++ messages_of port ys
 messages_more port [] ys = refl
-messages_more port (x ∷ xs) ys =
-    rw (messages_more port xs ys) (by (nat_eq x.port.id.0 port.id.0) (messages_of port xs))
-  where
-    by : (b : Bool) (front : List (List ℕ))
-        → (if b then x.bytes ∷ (front ++ messages_of port ys) else front ++ messages_of port ys)
-        ≡ (if b then x.bytes ∷ front else front) ++ messages_of port ys
-    by true front = refl
-    by false front = refl
+messages_more port (x ∷ xs) ys = grind (arith, messages_more port xs ys)
 
 -- a line closes a sub-VL of the plan
 closes_sub : (plan : Plan) (line : Line) (place sub : ℕ) → ClosesAt plan line place sub → (vl : ℕ) × IsSubAt plan vl sub place
@@ -213,13 +203,7 @@ module _ (st : Play) (before bench : AtBench) (m : Matches st.accepted st.es bef
   sent_on : (place sub k : ℕ) → place < length st.es.plan.links → k < length st.es.plan.ports
       → is_on (link_plan_at st.es.plan.links place).id.0 sub (port_plan_at st.es.plan.ports k) ≡ true
       → each_port st.es.plan (accepted_in g.drain.links place sub) k ≡ st.accepted k
-  sent_on place sub k within lt on =
-      let port : PortPlan = port_plan_at st.es.plan.ports k in
-      let both = and_parts (nat_eq port.vl.0 (link_plan_at st.es.plan.links place).id.0) (nat_eq port.sub sub) on in
-      let link = link_within st.es.plan port valid (valid.linked k (port_plan_at [] 0) lt) in
-      let here : link_place st.es.plan port ≡ place = valid.links_apart _ _ link.0 within
-      (link.1.id ∙ ap (λ (n : ℕ). let made : VlId = record { 0 = n } in made) (eqb-true _ _ both.0)) in
-      rw (← here, ← eqb-true _ _ both.1) (sym (own_messages k lt))
+  sent_on place sub k within lt on = grind (arith, and_parts, link_within, valid, eqb-true, own_messages)
 
   -- Closes reported the totals.
   pub totals_are : (turns : List AnsweredLine) → AreTold bench.tx turns → AreTotals st turns

@@ -27,72 +27,34 @@ same_totals line old new plan same = record { plan = plan; kept = λ k s t is. s
 -- a fresh link is the planned one
 link_fresh : (own : ℕ) (ports : List PortPlan) (planned : LinkPlan) (link : LinkState)
     → IsOpenedLink own ports ports planned link → IsPlannedLink own planned link
-link_fresh own ports planned link f = record {
-  plan = f.plan;
-  of = rw f.pace (record {
-    count = f.subs.count;
-    sub_vls = refl;
-    gap = refl;
-    named = λ s lt. (f.subs.each s (omega (arith, f.subs.count))).of;
-  });
-}
+link_fresh own ports planned link f = grind arith
 
 -- Of no sub-VL anything was taken or is left, and no queue is closed.
 pub each_fresh : (plan : Plan) (tx : Tx) → IsFreshTx plan tx → (k s : ℕ)
     → (no_progress ≡ progress_of (held_at (link_at tx.links k).subs s)) × (total_in tx.links k s ≡ None)
-each_fresh plan tx f k s = elim (cases_lt k (length tx.links)) [
-  | inl within ↦
-      let link = f.links.each k (omega (arith, f.links.count)) in elim (cases_lt s (length (link_at tx.links k).subs)) [
-        | inl below ↦
-            let sub = link.subs.each s (omega (arith, link.subs.count)) in (rw (sub.seen, sub.left) refl, ap total_of sub.seen)
-        | inr past ↦ rw (get_or_past (link_at tx.links k).subs s nothing_held past) (refl, refl)
-      ]
-  | inr past ↦ rw (get_or_past tx.links k no_link past) (refl, refl)
-]
+each_fresh plan tx f k s = grind (arith, cases_lt, get_or_past)
 
 -- An emitter to which nothing was sent.
 pub fresh_matches : (plan : Plan) (tx : Tx) → IsFreshTx plan tx → MatchesTx (fresh plan) tx
-fresh_matches plan tx f = record {
-  plan = f.plan;
-  count = f.links.count;
-  planned = λ k lt. link_fresh plan.end_system plan.ports (link_plan_at plan.links k) (link_at tx.links k) (f.links.each k lt);
-  subs = λ i k s. (each_fresh plan tx f k s).0 i;
-  logged = f.logged;
-  a = f.a;
-  b = f.b;
-  moment = f.moment;
-}
+fresh_matches plan tx f = grind (arith, link_fresh, each_fresh)
 
 -- A link is still the planned one.
 pub still_planned : {own : ℕ} {planned : LinkPlan} {old new : LinkState} → new.plan ≡ old.plan
     → new.pace.gap ≡ old.pace.gap → new.pace.sub_vls ≡ old.pace.sub_vls → length new.subs ≡ length old.subs
     → ((s : ℕ) → (held_at new.subs s).of ≡ (held_at old.subs s).of) → IsPlannedLink own planned old
     → IsPlannedLink own planned new
-still_planned plan gap sub_vls count of m = record {
-  plan = plan ∙ m.plan;
-  of = record {
-    count = count ∙ m.of.count ∙ sym sub_vls;
-    sub_vls = sub_vls ∙ m.of.sub_vls;
-    gap = gap ∙ m.of.gap;
-    named = λ s lt. of s ∙ m.of.named s (omega arith);
-  };
-}
+still_planned plan gap sub_vls count of m = grind arith
 
 -- None of them requested a slot or sent.
 pub fresh_asked : (tx : Tx) (ports : List PortView) → AreFreshPorts tx ports → HaveAsked 0 ports
-fresh_asked tx ports f = λ k d lt.
-    let here = f.each k d (omega (arith, f.count)) in
-    let none : (get_or ports k d).sender.asks ≡ 0 = ap (λ (sender : SenderView). sender.asks) here.sender.is in
-    omega arith
+fresh_asked tx ports f = grind arith
 
 pub fresh_sent : (tx : Tx) (ports : List PortView) → AreFreshPorts tx ports → HaveSent (λ place. []) ports
-fresh_sent tx ports f = λ k d lt.
-    ap (λ (sender : SenderView). sender.own) (f.each k d (omega (arith, f.count))).sender.is
+fresh_sent tx ports f = grind arith
 
 -- A greater bound on requests holds.
 pub asked_on : (count more : ℕ) (ports : List PortView) → count ≤ more → HaveAsked count ports → HaveAsked more ports
-asked_on count more ports le h =
-    λ k d inside. let before : (get_or ports k d).sender.asks ≤ count = h k d inside in omega arith
+asked_on count more ports le h = grind arith
 
 -- A port sent a message.
 module _ (ports : List PortView) (i : ℕ) (d new : PortView) (bytes : List ℕ) (outcome : Outcome)

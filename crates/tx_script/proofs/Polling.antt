@@ -39,20 +39,11 @@ log_many lines = length-map lines.logged (λ (l : Logged). l.entry)
 -- A poll released as many frames as its report names.
 pub released_many : (old new : Lines) (now : ℕ) (released : List Release) → IsTold now released old new
     → length released ≡ length new.logged - length old.logged
-released_many old new now released told =
-    let named : length released ≡ length told.entries = ap length (sym told.named) ∙ length-map told.entries release_of in
-    let grown = ap length told.grown ∙ length-append (log old) told.entries in
-    omega (arith, grown, log_many old, log_many new)
+released_many old new now released told = grind (arith, length-map, length-append, log_many)
 
 -- a sub-VL that found a message has taken it after those before it
 started_is : (old mid : Held) (p : Starts old mid) → progress_of mid ≡ started old.of (progress_of old) (sent_of old.ports p.message)
-started_is old mid p = rw (
-  p.ports,
-  taken_finds old.seen p.message mid.seen p.finds,
-  map-append (sent_of old.ports) (taken_of old.seen) (p.message ∷ []),
-  p.left,
-  length-map (taken_of old.seen) (sent_of old.ports),
-) refl
+started_is old mid p = grind (arith, taken_finds, map-append, length-map)
 
 -- a sub-VL that gives a frame gives it without its queue
 shows_plain : (old : Held) (frame : List ℕ) (new : Held) → GivesFrame old frame new
@@ -93,8 +84,7 @@ turn_plain now own plan link new lines after did m t =
 -- what both networks hold if both are up
 all_kept : (net : Net) (stands : Bool) (handed : List Entry) (logged : List Logged) → Keeps net stands handed logged
     → stands ≡ true → handed ≡ sent_to net logged
-all_kept net stands handed logged k up = k.got
-    ∙ ap (sent_to net) (sym (k.whole ∙ ap (λ (missed : List Logged). k.seen ++ missed) (k.all up) ∙ append-nil k.seen))
+all_kept net stands handed logged k up = grind (arith, append-nil)
 
 -- the end system that matches an emitter after a poll
 abbrev pub left_at : EndSystem → ℕ → Tx → EndSystem
@@ -160,10 +150,7 @@ grows_not : (old new : List Sent) → new ≡ old → Grows old new
 grows_not old new same = ([], same ∙ sym (append-nil old))
 
 grows_sent : (old : Held) (frame : List ℕ) (new : Held) → GivesFrame old frame new → Grows (taken_by old) (taken_by new)
-grows_sent old frame new g = let sends = shows_plain old frame new g in ⊎_elim
-    (λ same. grows_not (taken_by old) (taken_by new) (sends.taken ∙ ap (λ (p : Progress). p.taken) same.1))
-    (λ found. (found.0 ∷ [], sends.taken ∙ ap (λ (p : Progress). p.taken) found.2))
-    sends.asked
+grows_sent old frame new g = grind (arith, shows_plain old frame new g, grows_not)
 
 -- what is shown by each part of a turn holds of each sub-VL
 each_chosen : (P : ℕ → Type 0) (pace : Pace) (sub : ℕ) → IsChoice pace P P P sub → (s : ℕ) → P s
@@ -174,10 +161,7 @@ each_chosen P pace sub c s = ⊎_elim
 
 each_turn : (P : ℕ → Type 0) (now : ℕ) (plan : LinkPlan) (pace : Pace) (lines after : Lines) (did : Served)
     → Turn now plan pace (record { lacks = P; rests = P; gives = λ s frame. P s }) lines after did → (s : ℕ) → P s
-each_turn P now plan pace lines after Nothing t s = ⊎_elim
-    (λ rests. rests.1 s)
-    (λ none. ⊎_elim (none.1.each s) (none.1.others s) (cases_lt s pace.sub_vls))
-    t.0
+each_turn P now plan pace lines after Nothing t s = grind arith
 each_turn P now plan pace lines after (Released sub number) t s = each_chosen P pace sub t.2.choice s
 each_turn P now plan pace lines after Lost t s = each_chosen P pace t.1.sub t.1.choice s
 

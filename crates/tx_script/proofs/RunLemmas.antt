@@ -80,16 +80,11 @@ running_none plan (Some text) old bench is_fresh = record {
 -- What closes reported stays so.
 pub told_still : (line : Said) (old new : Tx) (turns : List AnsweredLine) → ClosesOnly line old new → AreTold old turns
     → AreTold new turns
-told_still line old new turns closes told = λ k d lt place sub its.
-    closes.kept place sub _ (told k d lt place sub (rw closes.plan at its))
+told_still line old new turns closes told = grind arith
 
 -- A bench that stays as it is.
 pub stays : (bench : AtBench) → OnlyTakes bench bench
-stays bench = record {
-  ports = refl;
-  closes = same_totals Nothing bench.tx bench.tx refl (λ k s. refl);
-  grown = λ k s lt. ([], sym (append-nil (taken_in bench.tx.links k s)));
-}
+stays bench = grind (arith, same_totals, append-nil)
 
 -- Some lines were run.
 module _ (plan : Plan) (bytes left old mid : Option (List ℕ)) (bench : AtBench) (count : ℕ) (sums : Sums)
@@ -129,40 +124,18 @@ module _ (plan : Plan) (bytes left old mid : Option (List ℕ)) (bench : AtBench
 
   -- an allocation failed at a line
   pub stop_memory : (bench2 : AtBench) → OnlyTakes bench bench2 → IfSome bytes (λ text. Halted plan text old mid bench2)
-  stop_memory bench2 since = IfSome_then bytes goes
-      (λ text known. record { before = bench; turns = known.turns; ran = known.ran; since = since })
+  stop_memory bench2 since = grind arith
 
   -- the next line has a fault, or could not be read
   pub stop_fault : (new : Option (List ℕ)) (fault : RunFault) → count < 1000000
       → IfSome left (λ known. ReadsLine known new (count + 1) (Err fault))
       → IfSome bytes (λ text. Stops plan text old mid bench (Err fault))
-  stop_fault new fault few reads = IfSome_then bytes goes (λ text known. by text fault known (rw known.left_is at reads))
-    where
-      by : (text : List ℕ) (fault : RunFault) (known : Goes plan text left old mid bench count sums)
-          → ReadsLine (left_after text known.turns) new (count + 1) (Err fault) → Stops plan text old mid bench (Err fault)
-      by text (Fault.Line number fault) known reads = record {
-        turns = known.turns;
-        ran = known.ran;
-        at = (reads.0, omega (arith, reads.1, known.count_is), omega (arith, reads.1), reads.2);
-      }
-      by text Fault.Lines known reads = absurd reads
-      by text Fault.Read known reads = record { turns = known.turns; ran = known.ran; at = omega (arith, known.count_is) }
-      by text Fault.Write known reads = tt
-      by text Fault.Memory known reads =
-          record { before = bench; turns = known.turns; ran = known.ran; since = stays bench }
+  stop_fault new fault few reads = grind (arith, stays bench)
 
   -- there is a line too many
   pub stop_lines : (new : Option (List ℕ)) (byte : ℕ) → count ≡ 1000000 → Consumes left new (byte ∷ [])
       → IfSome bytes (λ text. Stops plan text old mid bench (Err Fault.Lines))
-  stop_lines new byte all taken = IfSome_then bytes goes (λ text known. record {
-    turns = known.turns;
-    ran = known.ran;
-    at = (some_left (left_after text known.turns) new (rw known.left_is at taken), known.count_is ∙ all);
-  })
-    where
-      some_left : (rest : List ℕ) (after : Option (List ℕ)) → Consumes (Some rest) after (byte ∷ []) → 0 < length rest
-      some_left rest None h = absurd h
-      some_left rest (Some xs) h = omega (arith, ap length h)
+  stop_lines new byte all taken = grind arith
 
 -- what is known of the lines that were run is known at the end
 ends_more : (plan : Plan) (text : List ℕ) (Ran More : List AnsweredLine → Type 0) (Halts Begun : Type 0)
@@ -170,20 +143,17 @@ ends_more : (plan : Plan) (text : List ℕ) (Ran More : List AnsweredLine → Ty
     → (result ≡ Err Fault.Memory → Begun) → Ends plan text Ran Halts result → Ends plan text More Begun result
 ends_more plan text Ran More Halts Begun more (Err Fault.Write) begun h = tt
 ends_more plan text Ran More Halts Begun more (Err Fault.Memory) begun h = begun refl
-ends_more plan text Ran More Halts Begun more _ begun h =
-    record { turns = h.turns; ran = more h.turns h.ran; at = h.at }
+ends_more plan text Ran More Halts Begun more _ begun h = grind arith
 
 -- The lines of a text stopped, and its streams may have been written.
 module _ (plan : Plan) (text : List ℕ) (old mid fin : Option (List ℕ)) (bench : AtBench) where
   -- the ports were taken back after some lines were run
   are_run : (before : AtBench) (turns : List AnsweredLine) → Running plan text old mid before turns
       → OnlyTakes before bench → IsGathered bench → AreRun plan text turns
-  are_run before turns ran since gathered = record {
-    lines = ran.lines;
-    finds = finds_first (play plan turns) before bench ran.matches since gathered;
-    totals = totals_are (play plan turns) before bench ran.matches since gathered turns
-        (told_still _ before.tx bench.tx turns since.closes ran.told);
-  }
+  are_run before turns ran since gathered =
+      grind (arith, finds_first (play plan turns) before bench ran.matches since gathered,
+      totals_are (play plan turns) before bench ran.matches since gathered turns (told_still _ before.tx bench.tx turns since.closes ran.told),
+      told_still _ before.tx bench.tx turns since.closes ran.told)
 
   -- the streams follow the notes
   has_played : (a b : FrameLog) (turns : List AnsweredLine) → Running plan text old mid bench turns
@@ -239,8 +209,7 @@ pub plays_by : (plan own : Plan) (bytes given old mid fin : Option (List ℕ)) (
     → IfSome bytes (λ text. Stops own text old mid bench ended)
     → ((text : List ℕ) → Stops own text old mid bench ended → Plays own text old fin played)
     → IfSome given (λ text. Plays plan text old fin played)
-plays_by plan own bytes given old mid fin bench ended played same is stops plays =
-    rw (← same, ← is) (IfSome_then bytes stops plays)
+plays_by plan own bytes given old mid fin bench ended played same is stops plays = grind arith
 
 -- An allocation failed before the first line.
 pub plays_none : (plan : Plan) (bytes old : Option (List ℕ))

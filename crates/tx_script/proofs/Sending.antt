@@ -26,23 +26,12 @@ use Rattle.tx_script.proofs.Matched.{asked_on, sent_at_hand, asked_more, have_se
 
 -- a message that the port may send
 may_pass : (port : PortPlan) (size : ℕ) → MaySend port size → length_refusal port size ≡ None
-may_pass port size may =
-    rw (ne_eqb size 0 (λ e. absurd (let some = may.some in omega arith)), le-ltb port.max size may.most) refl
+may_pass port size may = grind arith
 
 -- A port accepted a message.
 pub sends_accepted : (old new : PortView) (bytes : List ℕ) → MaySend old.plan (length bytes) → Accepts old bytes new
     → Sends old bytes new Became.Accepted
-sends_accepted old new bytes may a = rw (a.1, a.0.2.1) (record {
-  answer = takes;
-  is = rw (may_pass old.plan (length bytes) may) refl;
-  own = refl;
-  place = refl;
-  plan = refl;
-  queue = refl;
-  index = refl;
-  calls = refl;
-  asks = omega arith;
-})
+sends_accepted old new bytes may a = grind arith
 
 -- a sender but for its counts of requests and of loads of the closed flag, and what it found
 abbrev asked_so : SenderView → SenderView → SenderView
@@ -53,17 +42,7 @@ refused_by : (old : PortView) (sender : SenderView) (bytes : List ℕ) (answer :
     → passed_on (length_refusal old.plan (length bytes)) answer ≡ Became.Refused refusal
     → sender ≡ asked_so old.sender sender → sender.asks ≤ old.sender.asks + 1
     → Sends old bytes (record old { sender = sender }) (Became.Refused refusal)
-refused_by old sender bytes answer refusal is same asks = record {
-  answer = answer;
-  is = sym is;
-  own = ap (λ (s : SenderView). s.own) same ∙ sym (append-nil old.sender.own);
-  place = refl;
-  plan = refl;
-  queue = ap (λ (s : SenderView). s.queue) same;
-  index = ap (λ (s : SenderView). s.port) same;
-  calls = ap (λ (s : SenderView). s.calls) same;
-  asks = asks;
-}
+refused_by old sender bytes answer refusal is same asks = grind (arith, append-nil)
 
 queue_refused : (old new : PortView) (bytes : List ℕ) (why : QueueWhy) (answer : Answer) (refusal : Refusal)
     → QueueRefuses old (length bytes) why new → queued answer ≡ Became.Refused refusal
@@ -96,12 +75,7 @@ sends_refused old new bytes Why.Full some r = queue_refused old new bytes Queue.
 pub obeys_still : (line : Line) (bench : AtBench) (outcome : Outcome) → HasFew outcome
     → ((accepted : Messages) (es : EndSystem) → Matches accepted es bench → ObeysAt line accepted es bench outcome)
     → Obeys line bench bench outcome
-obeys_still line bench outcome few ok = record {
-  ok = ok;
-  few = few;
-  asked = λ count h. asked_on count (count + 1) bench.ports (omega arith) h;
-  closes = same_totals line bench.tx bench.tx refl (λ k s. refl);
-}
+obeys_still line bench outcome few ok = grind arith
 
 -- The same of a bench that is this one.
 pub at_bench : {line : Line} {old bench new : AtBench} {outcome : Outcome} → old ≡ bench → Obeys line old new outcome
@@ -111,15 +85,7 @@ at_bench same obeys = rw (← same) obeys
 -- A message for no port.
 pub obeys_nowhere : (bench : AtBench) (id : ℕ) (bytes : List ℕ) → place_of bench.tx.plan id ≡ None
     → Obeys (Send id bytes) bench bench (Became.Refused NoPort)
-obeys_nowhere bench id bytes none = obeys_still (Send id bytes) bench (Became.Refused NoPort) tt (λ accepted es m.
-    let here : place_of es.plan id ≡ None = rw (← m.emitter.plan) none in
-    record {
-      answer = fills;
-      may = tt;
-      is = rw here refl;
-      told = λ place sub at. absurd at;
-      matches = rw here m;
-    })
+obeys_nowhere bench id bytes none = grind arith
 
 -- a message for the port at a place
 obeys_send : (tx : Tx) (ports : List PortView) (id place : ℕ) (d new : PortView) (bytes : List ℕ) (outcome : Outcome)

@@ -5,11 +5,7 @@ use Rattle.tx_script.proofs.RunLemmas.{running_none, running_turn, within_more, 
 use Rattle.tx_script.proofs.obey_lines.obey_lines.Goals as goal
 
 pub loop-count-init : goal.loop-count-init
-loop-count-init g c = record {
-  asked = fresh_asked c.args.bench.now.tx c.args.bench.now.ports c.requires.ports;
-  running = running_none _ _ _ _ c.requires;
-  within = record { accepted = omega arith; refused = omega arith; frames = omega arith };
-}
+loop-count-init g c = grind (arith, fresh_asked, running_none)
 
 pub returns-in_err-said : goal.returns-in_err-said
 returns-in_err-said g c =
@@ -19,11 +15,8 @@ returns-in_err-said g c =
 
 pub returns-in_err-outcome : goal.returns-in_err-outcome
 returns-in_err-outcome g c =
-    let told =
-    err_from_is_err_and c.from_residual-in_err-outcome.result c.from_residual-in_err-outcome.ensures.1 in
-    rw (told.1, told.2, c.in_err-outcome.ensures.err)
-    (stop_memory _ _ c.loop-count.bytes _ _ c.loop-count.bench c.loop-count.count c.loop-count.sums
-    c.loop-count.invariant.running c.obey.new.bench c.in_err-outcome.ensures.halted)
+    grind (arith, err_from_is_err_and c.from_residual-in_err-outcome.result c.from_residual-in_err-outcome.ensures.1,
+    stop_memory _ _ c.loop-count.bytes _ _ c.loop-count.bench c.loop-count.count c.loop-count.sums c.loop-count.invariant.running c.obey.new.bench c.in_err-outcome.ensures.halted)
 
 pub loop-count-preserved : goal.loop-count-preserved
 loop-count-preserved g c =
@@ -38,11 +31,7 @@ loop-count-preserved g c =
     })
 
 pub returns-in-Ok-Some : goal.returns-in-Ok-Some
-returns-in-Ok-Some g c =
-    let all : c.loop-count.count ≡ 1000000 = omega arith in
-    let taken = rw c.in-Ok-Some.field-0-is at c.in-Ok-Some.ensures.taken in
-    stop_lines _ _ c.loop-count.bytes _ _ c.loop-count.bench c.loop-count.count c.loop-count.sums
-    c.loop-count.invariant.running c.next.new.self _ all taken
+returns-in-Ok-Some g c = grind arith
 
 pub obey-requires : goal.obey-requires
 obey-requires g c = asked_on c.loop-count.count _ _ (omega arith) c.loop-count.invariant.asked
