@@ -17,10 +17,6 @@ IsReady rule account p = rule.lmax * (rule.gap + (p.arrived - p.released)) ≤ (
 ready_first : (rule : Rule) (p : Passage) → IsOnTime rule p → IsReady rule (full rule) p
 ready_first rule p on = grind arith
 
-left : (rule : Rule) (account : Account) (p : Passage) (cost : ℕ) → IsReady rule account p → cost ≤ rule.lmax * rule.gap
-    → rule.lmax * (p.arrived - p.released) ≤ (paid (filled rule account p.arrived) cost).credit
-left rule account p cost ready cheap = grind arith
-
 ready_next : (rule : Rule) (credit : ℕ) (p q : Passage) → IsOnTime rule p → IsOnTime rule q → p.released + rule.gap ≤ q.released
     → rule.lmax * (p.arrived - p.released) ≤ credit → IsReady rule (record { credit = credit; since = p.arrived }) q
 ready_next rule credit p q on next apart has =
@@ -47,7 +43,7 @@ all_pass charge rule account p (q ∷ rest) on ready =
     passes charge rule account p (map arrival (q ∷ rest)) (enough charge rule account p ready on.0)
     ∙ ap (λ (fs : List Arrival). arrival p ∷ fs)
     (all_pass charge rule (paid (filled rule account p.arrived) cost) q rest on.2
-    (grind (arith, ready_next, left)))
+    (grind (arith, ready_next)))
   where
     head_on : (rule : Rule) (q : Passage) (rest : List Passage) → AreOnTime rule (q ∷ rest) → IsOnTime rule q
     head_on rule q rest on = grind arith
@@ -92,11 +88,6 @@ one_passed charge rule account f later can =
       le-leb _ _ can,
       sum_by-cons (price charge rule) f (passed charge rule (paid (filled rule account f.at) (price charge rule f)) later),
     )
-
-one_dropped : (charge : Charge) (rule : Rule) (account : Account) (f : Arrival) (later : List Arrival)
-    → (filled rule account f.at).credit < price charge rule f → cost charge rule (passed charge rule account (f ∷ later))
-    ≡ cost charge rule (passed charge rule (filled rule account f.at) later)
-one_dropped charge rule account f later cannot = grind arith
 
 filled_over : (l since now end : ℕ) → since ≤ now → now ≤ end → l * (now - since) + l * (end - now) ≡ l * (end - since)
 filled_over l since now end first second = grind arith

@@ -15,15 +15,6 @@ other_with : (sub key : ℕ) (b : Buffer) (xs ys : ℕ → Buffer) → nat_eq (k
     → AreSame sub (with_buffer key b xs) ys
 other_with sub key b xs ys isnt same k is = let mine = same k is in grind (arith, nat_tests)
 
--- a datagram given under a key of this sub-VL is one of its datagrams; under another key it isn't
-of_given : (sub key : ℕ) (o : Option (List ℕ)) (rest : List (ℕ × List ℕ)) → nat_eq (key % 4) sub ≡ true
-    → of_sub sub (given key o rest) ≡ given key o (of_sub sub rest)
-of_given sub key o rest is = grind arith
-
-of_other : (sub key : ℕ) (o : Option (List ℕ)) (rest : List (ℕ × List ℕ)) → nat_eq (key % 4) sub ≡ false
-    → of_sub sub (given key o rest) ≡ of_sub sub rest
-of_other sub key o rest isnt = grind arith
-
 -- a sub-VL's datagrams and buffers are those of its fragments alone
 pub record IsApart (sub : ℕ) (es : List (ℕ × Fragment)) (xs ys : ℕ → Buffer) : Type 0 where
   pub given : of_sub sub (delivered xs es) ≡ delivered ys (of_sub sub es)
@@ -98,9 +89,6 @@ HoldsSoFar sub key buffers done = (buffers key ≡ put_all empty done)
 with_same : (key : ℕ) (b : Buffer) (buffers : ℕ → Buffer) → with_buffer key b buffers key ≡ b
 with_same key b buffers = grind (arith, nat_tests)
 
-with_else : (key k : ℕ) (b : Buffer) (buffers : ℕ → Buffer) → (k ≡ key → ⊥) → with_buffer key b buffers k ≡ buffers k
-with_else key k b buffers ne = grind (arith, nat_tests)
-
 all_empty : (sub key : ℕ) (buffers : ℕ → Buffer) → ((k : ℕ) → k % 4 ≡ sub → (k ≡ key → ⊥) → buffers k ≡ empty)
     → (k : ℕ) → k % 4 ≡ sub → with_buffer key empty buffers k ≡ empty
 all_empty sub key buffers others k is = grind (arith, nat_tests)
@@ -141,7 +129,7 @@ goes (c ∷ came) room sub place buffers done f (next ∷ todo) d later rest lea
     (done ++ f ∷ []) next todo d later rest least small some
     (split ∙ sym (append_assoc done (f ∷ []) (next ∷ todo))) block.1
     (ap (λ (c : Buffer). c.total) (with_same k b buffers) ∙ yet) (
-    grind (arith, with_same, put_more, with_else)
+    grind (arith, with_same, put_more, nat_tests)
     ) heads.1 in
     rw (← heads.0) (grind arith)
 goes (c ∷ []) room sub place buffers done f [] d [] rest least small some split block none holds is =

@@ -73,11 +73,6 @@ filter_twice : {X : Type 0} (p q : X → Bool) → ((x : X) → p x ≡ true →
 filter_twice p q each [] = refl
 filter_twice p q each (x ∷ xs) = grind (arith, filter_twice p q each xs, each x)
 
--- a link on both networks has all its frames among the entries of such links
-frames_on_both : (links : List LinkPlan) (vl : ℕ) (es : List Entry) → is_on_both links vl ≡ true
-    → frames_of vl (on_both links es) ≡ frames_of vl es
-frames_on_both links vl es on = grind (arith, filter_twice, eqb-true)
-
 frames_twins : (vl : ℕ) (a b : List Entry) → All (IsOfNet A) (frames_of vl a) → All (IsOfNet B) (frames_of vl b)
     → AreTwins side a b → AreTwins twin_of (frames_of vl a) (frames_of vl b)
 frames_twins vl a b own_a own_b twins = grind (arith, cases_lt, twins_by_a, frames_front, twins_by_b)
@@ -98,8 +93,8 @@ twins_are plan accepted a b k valid legal inside = by_networks (link_plan_at pla
 
     on_both_nets : is_on_both plan.links vl ≡ true → AreTwins twin_of (frames_of vl a) (frames_of vl b)
     on_both_nets on =
-        let all_a : frames_of vl (on_both plan.links a) ≡ frames_of vl a = frames_on_both plan.links vl a on in
-        let all_b : frames_of vl (on_both plan.links b) ≡ frames_of vl b = frames_on_both plan.links vl b on in
+        let all_a : frames_of vl (on_both plan.links a) ≡ frames_of vl a = grind (arith, filter_twice, eqb-true) in
+        let all_b : frames_of vl (on_both plan.links b) ≡ frames_of vl b = grind (arith, filter_twice, eqb-true) in
         rw (← all_a, ← all_b) (grind (arith, frames_twins, own_of))
 
     by_networks : (n : Networks) → (link_plan_at plan.links k).networks ≡ n → AreTwins twin_of (frames_of vl a) (frames_of vl b)
@@ -112,9 +107,6 @@ twins_are plan accepted a b k valid legal inside = by_networks (link_plan_at pla
 
 pub link_is : (plan : Plan) (k : ℕ) → IsPlan plan → k < length plan.links → IsLink (link_plan_at plan.links k)
 link_is plan k valid inside = valid.each_link k _ inside
-
-room_is : (plan : Plan) (k : ℕ) → IsPlan plan → k < length plan.links → IsLinkOf plan.end_system (piece_room plan k)
-room_is plan k valid inside = grind arith
 
 pub sent_is : (plan : Plan) (k sub : ℕ) (sent : Sent) → IsPlan plan → IsQueued plan k sub sent → IsSent sub sent
 sent_is plan k sub sent valid allowed = grind arith
@@ -133,7 +125,6 @@ pub are_handed : (plan : Plan) (accepted : Accepted) (a b : List Entry) (k sub :
 are_handed plan accepted a b k sub h =
     grind (
       arith,
-      room_is plan k h.valid h.inside,
       handed_is plan accepted A a k sub h.legal.on_a h.inside h.index,
       handed_is plan accepted B b k sub h.legal.on_b h.inside h.index,
       twins_are plan accepted a b k h.valid h.legal h.inside,

@@ -7,26 +7,9 @@ use Rattle.afdx_laws.proofs.Names.{FirstComes, MaskedFromFirst, NumbersClash}
 use Rattle.afdx_laws.proofs.NumberLemmas.{last, new_next, valid_next, old_copy, old_is_ahead, next_is, differ}
 use Rattle.afdx_laws.proofs.Receiving.{IsPlaced, grows, placed}
 
--- a number too far ahead isn't the next one
-too_far : (c i : ℕ) → 1 ≤ c → c < i → i < c + 255 → is_ahead 1 (last c) (sequence_number i) ≡ false
-too_far c i some far near = grind (arith, next_is, differ)
-
 is_next : (c i high : ℕ) → high ≤ i + 254 → c ≤ high → i < c + 255 → (high ≡ 0 → i ≡ 0) → (high ≡ 0) ⊎ (1 ≤ c)
     → is_ahead 1 (last c) (sequence_number i) ≡ true → i ≡ c
-is_next c i high near within far first begun new = grind (arith, old_copy, too_far)
-
-accepted_seen : (net : Net) (n : ℕ) (state : State) → (with_seen net n state).accepted ≡ state.accepted
-accepted_seen net n state = grind arith
-
-seen_accepted : (net : Net) (n : ℕ) (state : State) → seen_on net (with_accepted n state) ≡ seen_on net state
-seen_accepted net n state = grind arith
-
-seen_after : (whole net : Net) (b i : ℕ) (state : State) → seen_on whole state ≡ last b → (same_net whole net ≡ true → i ≡ b)
-    → seen_on whole (with_seen net (sequence_number i) state) ≡ last (cond (same_net whole net) (b + 1) b)
-seen_after whole net b i state seen own = grind arith
-
-seen_own : (whole net : Net) (state : State) → same_net whole net ≡ true → seen_on net state ≡ seen_on whole state
-seen_own whole net state same = grind arith
+is_next c i high near within far first begun new = grind (arith, old_copy, next_is, differ)
 
 count_whole : {F : Type 0} (whole net : Net) (frame : F) (b : ℕ) (es : List (Net × F))
     → cond (same_net whole net) (b + 1) b + length (carried whole es) ≡ b + length
@@ -38,10 +21,7 @@ dropped : (check : ℕ) (whole net : Net) (b c i high : ℕ) (state : State) →
     → b ≤ c → c ≤ high → (high ≡ 0 → i ≡ 0) → (high ≡ 0) ⊎ (1 ≤ c) → (same_net whole net ≡ true → i ≡ b)
     → (is_valid check (seen_on net state) (sequence_number i) && is_ahead 1 (last c) (sequence_number i)) ≡ false
     → (cond (same_net whole net) (b + 1) b ≤ c) × (1 ≤ c)
-dropped check whole net b c i high state some seen behind within first begun own drops = grind (arith, valid_next, new_next, seen_own)
-
-grown_le_suc : (t : Bool) (b c : ℕ) → b ≤ c → cond t (b + 1) b ≤ suc c
-grown_le_suc t b c le = grind arith
+dropped check whole net b c i high state some seen behind within first begun own drops = grind (arith, valid_next, new_next)
 
 -- the stream is accepted in order, at least as far as a place
 pub record Masks {F : Type 0} (h : F → F) (stream got : List F) (c reach : ℕ) : Type 0 where
@@ -68,7 +48,7 @@ masks {F = F} number h stream frame check whole
     let rest : List (Net × F) = map (λ (e : Net × ℕ). (e.0, frame e.0 e.1)) es in
     let after : State = with_seen net (number f) state in
     let seen_next : seen_on whole after ≡ last (cond (same_net whole net) (b + 1) b) =
-    ap (λ (n : ℕ). seen_on whole (with_seen net n state)) is.1 ∙ seen_after whole net b i state seen here.in_order in
+    ap (λ (n : ℕ). seen_on whole (with_seen net n state)) is.1 ∙ (grind arith) in
     let total = count_whole whole net i b es in
     let valid : Bool = is_valid check (seen_on net state) (sequence_number i) in
     let new : Bool = is_ahead 1 (last c) (sequence_number i) in
@@ -80,14 +60,14 @@ masks {F = F} number h stream frame check whole
           ap Some (is.1 ∙ ap sequence_number next) in
           let more = masks number h stream frame check whole es (with_accepted (number f) after) (max high (i + 1))
           (cond (same_net whole net) (b + 1) b) (suc c) some each close.1 (λ none. absurd (omega arith))
-          (seen_accepted whole (number f) after ∙ seen_next) taken (grown_le_suc (same_net whole net) b c behind)
+          ((grind arith) ∙ seen_next) taken (grind arith)
           (omega arith) (inr (omega arith)) in
           grind (arith, grows)
       | inr drops ↦
           let kept = dropped check whole net b c i high state some seen behind within first begun here.in_order drops in
           let more = masks number h stream frame check whole es after (max high (i + 1))
           (cond (same_net whole net) (b + 1) b) c some each close.1 (λ none. absurd (omega arith))
-          seen_next (accepted_seen net (number f) state ∙ took) kept.0 (omega arith) (inr kept.1) in
+          seen_next ((grind arith) ∙ took) kept.0 (omega arith) (inr kept.1) in
           record { many = more.many; reaches = omega arith; are = rw (test ∙ drops) more.are }
     ]
 

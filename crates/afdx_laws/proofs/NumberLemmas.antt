@@ -2,15 +2,12 @@
 use Rattle.afdx_laws.proofs.Names.{◌≡◌, ℕ, zero, suc, ◌+◌, ◌-◌, ◌%◌, ◌≤◌, ◌<◌, true, false, refl, arith, Option, Some, None, sequence_number, next_number}
 use Rattle.afdx_laws.proofs.Names.{ahead, is_ahead, is_valid}
 
-number_is : (i : ℕ) → sequence_number (suc i) ≡ i % 255 + 1
-number_is i = grind arith
-
 pub next_is : (i : ℕ) → next_number (sequence_number i) ≡ sequence_number (suc i)
-next_is i = grind (arith, number_is)
+next_is i = grind arith
 
 -- numbers differ within 255 places
 pub differ : (a k : ℕ) → a < k → k < a + 255 → sequence_number a ≡ sequence_number k → ⊥
-differ a k later near same = grind (arith, number_is)
+differ a k later near same = grind arith
 
 ahead_next : (many j n : ℕ) → 1 ≤ many → n ≡ next_number j → ahead many j n ≡ true
 ahead_next many j n some e = grind arith
@@ -34,10 +31,6 @@ valid_next many a some = grind (arith, new_next)
 pub old_copy : (many a b : ℕ) → a < b → b + many ≤ a + 255 → is_ahead many (last b) (sequence_number a) ≡ false
 old_copy many a b older near = grind (arith, ahead_old)
 
--- 255 places on, the same number comes again
-same_again : (i : ℕ) → 1 ≤ i → sequence_number (i + 255) ≡ sequence_number i
-same_again i some = grind (arith, number_is)
-
 ahead_last : (many j : ℕ) → ahead (suc many) (sequence_number j) (sequence_number (suc j + many)) ≡ true
 ahead_last zero j = grind (arith, next_is j)
 ahead_last (suc many) j = grind (arith, ahead_last many (suc j), next_is j)
@@ -45,4 +38,4 @@ ahead_last (suc many) j = grind (arith, ahead_last many (suc j), next_is j)
 -- an old frame whose number is in the window
 pub old_is_ahead : (window j place : ℕ) → 1 ≤ window → 1 ≤ place → place + 255 ≡ j + window
     → ahead window (sequence_number j) (sequence_number place) ≡ true
-old_is_ahead window j place some old is = grind (arith, ahead_last (window - 1) j, same_again place old)
+old_is_ahead window j place some old is = grind (arith, ahead_last (window - 1) j)

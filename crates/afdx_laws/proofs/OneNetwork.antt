@@ -15,9 +15,6 @@ carried_none : (net : Net) (frames : List (List ℕ)) → carried (other net) (a
 carried_none net [] = refl
 carried_none net (f ∷ fs) = grind (arith, carried_none net fs)
 
-skips : (net : Net) (frame : List ℕ) (later : List (List ℕ)) → carried_by (other net) net frame later ≡ later
-skips net frame later = grind arith
-
 -- each frame that comes is the network's, and before it nothing came from the other
 all_its : (net : Net) (frames : List (List ℕ)) (before after : List (Net × List ℕ)) (e : Net × List ℕ)
     → all_from net frames ≡ before ++ e ∷ after → (e.0 ≡ net) × (carried (other net) before ≡ [])

@@ -101,10 +101,6 @@ reads_all (sent ∷ later) end_system room sub place net least greatest are =
       are = map-append read_any front back ∙ append_same (grind arith) rest.are;
     }
 
--- a frame is its blanked bytes and its number
-with_last : (frame : List ℕ) → 1 ≤ length frame → frame ≡ blanked frame ++ get_or frame (length frame - 1) 0 ∷ []
-with_last frame some = grind (arith, take_all, take_more)
-
 -- frames that are the first of these fragments are read as the first of these
 pub reads_frames : (frames us rest : List (List ℕ)) → AllByRecursion IsRead us → All IsLong frames → us ≡ map blanked frames ++ rest
     → map read_any us ≡ map fragment_in frames ++ map read_any rest
@@ -112,7 +108,7 @@ reads_frames [] us rest each long is = ap (map read_any) is
 reads_frames (f ∷ frames) [] rest each long is = absurd (nil_isnt_cons is)
 reads_frames (f ∷ frames) (u ∷ us) rest each long is = grind (
   arith,
-  with_last f,
+  take_all, take_more,
   long 0 f (omega arith),
   each.0 (get_or f (length f - 1) 0),
   reads_frames frames us rest each.1 (λ k d h. long (suc k) d (omega arith)) (cons_parts is).1,

@@ -22,17 +22,6 @@ Comes number h stream lag a b ((A, frame) ∷ es) = IsPlaced number h stream a f
 Comes number h stream lag a b ((B, frame) ∷ es) = IsPlaced number h stream b frame × (a ≤ b + lag)
     × Comes number h stream lag a (suc b) es
 
-pub takes_it : {F : Type 0} (number : F → ℕ) (tolerance : Tolerance) (state after : State) (net : Net) (frame : F)
-    (es : List (Net × F)) (n : ℕ) → number frame ≡ n → is_valid tolerance.check (seen_on net state) n ≡ true
-    → is_ahead tolerance.window state.accepted n ≡ true → with_accepted n (with_seen net n state) ≡ after
-    → received number tolerance state ((net, frame) ∷ es) ≡ frame ∷ received number tolerance after es
-takes_it number tolerance state after net frame es n is valid new then_is = grind arith
-
-pub drops_it : {F : Type 0} (number : F → ℕ) (tolerance : Tolerance) (state after : State) (net : Net) (frame : F)
-    (es : List (Net × F)) (n : ℕ) → number frame ≡ n → is_ahead tolerance.window state.accepted n ≡ false → with_seen net n state ≡ after
-    → received number tolerance state ((net, frame) ∷ es) ≡ received number tolerance after es
-drops_it number tolerance state after net frame es n is old then_is = grind arith
-
 pub grows : {F : Type 0} (h : F → F) (stream : List F) (i : ℕ) (frame : F) (rest : List F) → i < length stream
     → h frame ≡ get_or stream i (h frame) → take i stream ++ (h frame ∷ rest) ≡ take (suc i) stream ++ rest
 grows h stream i frame rest inside is = grind (arith, take_more stream i (h frame) inside, append_assoc (take i stream) (h frame ∷ []) rest)
@@ -49,7 +38,7 @@ one_more : {F : Type 0} (number : F → ℕ) (h : F → F) (stream : List F) (to
     ≡ take next stream ++ map h (received number tolerance (to (last next)) es)
 one_more {F = F} number h stream tolerance lag net from to frame es a b m next
     check window near placed close m_is next_is seen took then_seen then_took =
-    grind (arith, cases_lt, old_copy, new_next, valid_next, last, drops_it, takes_it, grows)
+    grind (arith, cases_lt, old_copy, new_next, valid_next, last, grows)
 
 -- what is accepted continues the stream
 pub hands_on : {F : Type 0} (number : F → ℕ) (h : F → F) (stream : List F)
@@ -71,14 +60,10 @@ hands_on number h stream tolerance lag ((B, frame) ∷ es) a b check window near
     ∙ hands_on number h stream tolerance lag es a (suc b) check window near comes.2
     ∙ ap (λ (k : ℕ). take k stream) (omega arith)
 
-len_by : {F : Type 0} (net from : Net) (frame : F) (rest : List F)
-    → length (carried_by net from frame rest) ≡ length (carried_by net from frame []) + length rest
-len_by net from frame rest = grind arith
-
 count_more : {F : Type 0} (net : Net) (before : List (Net × F)) (e : Net × F)
     → length (carried net (before ++ e ∷ [])) ≡ length (carried net before) + length (carried net (e ∷ []))
 count_more net [] e = omega arith
-count_more net (x ∷ before) e = grind (arith, count_more net before e, len_by net x.0 x.1)
+count_more net (x ∷ before) e = grind (arith, count_more net before e)
 
 pub first_of_rest : {X : Type 0} (xs : List X) (i : ℕ) (y : X) (ys : List X) → y ∷ ys ≡ drop i xs → (i < length xs)
     × (y ≡ get_or xs i y) × (ys ≡ drop (suc i) xs)

@@ -16,18 +16,13 @@ longer_frames : (xs ys : List Entry) → map (λ (e : Entry). e.frame) (longer_s
     ≡ longer (map (λ (e : Entry). e.frame) xs) (map (λ (e : Entry). e.frame) ys)
 longer_frames xs ys = grind (arith, length-map)
 
--- a link's own stream has as many frames of a sub-VL as the longer of its two lists
-many_own : (sub vl : ℕ) (a b : List Entry)
-    → many_of sub (map (λ (e : Entry). e.frame) (own_stream vl a b)) ≡ many_of sub (longer (frames_of vl a) (frames_of vl b))
-many_own sub vl a b = grind (arith, frames_side, many_twins, longer_frames)
-
 -- of a sub-VL that is wholly released, all fragments are in the longer list
 all_handed : (plan : Plan) (accepted : Accepted) (log a b : List Entry) (k sub : ℕ)
     → link_stream (id_at plan k) log ≡ own_stream (id_at plan k) a b
     → IsReleased plan.end_system (link_plan_at plan.links k) (accepted k) log sub
     → length (fragments plan.end_system (piece_room plan k) A (accepted k sub))
     ≡ many_of sub (longer (frames_of (id_at plan k) a) (frames_of (id_at plan k) b))
-all_handed plan accepted log a b k sub own released = grind (arith, told_is, length-map, many_own)
+all_handed plan accepted log a b k sub own released = grind (arith, told_is, length-map, frames_side, many_twins, longer_frames)
 
 pub own_lists_arrive_holds : OwnListsArrive
 own_lists_arrive_holds plan own a b valid handed k sub inside index lag tolerance arrivals fit carry whole =

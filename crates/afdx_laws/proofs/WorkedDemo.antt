@@ -14,21 +14,12 @@ use Rattle.afdx_laws.proofs.ListLemmas.{below_one, below_both, nil_isnt_cons, ot
 use Rattle.afdx_laws.proofs.WholeHanded.{own_lists_arrive_holds}
 use Rattle.afdx_laws.proofs.WorkedMessage.{few_are_near, not_first, too_few, close_by_test}
 
-one_known : (carriers : Networks) (net : Net) → IsKnown (demo_on carriers).links net (one_frame net)
-unfolding checksum addresses header_front internet_header link_header udp_header datagram unnumbered
-one_known carriers net = record { size = omega arith; k = 0; within = omega arith; link = refl; of_sub = omega arith; interface = refl }
-
-legal_on : (carriers : Networks) (net : Net) → names net carriers ≡ true
-    → IsLegalOn (demo_on carriers) one_byte_accepted net (one_entry net)
-unfolding checksum addresses header_front internet_header link_header udp_header datagram unnumbered cutting fragments_at
-legal_on carriers net named = grind arith
-
 byte_queued : (carriers : Networks) (byte : ℕ) → IsQueued (demo_on carriers) 0 0 (record { port = demo_port; bytes = byte ∷ [] })
 byte_queued carriers byte = record { port = (0, omega arith, refl); over = refl; its = refl; some = omega arith; most = omega arith }
 
 one_handed : IsHandedOver demo_plan one_byte_accepted (one_entry A) (one_entry B) 0 0
-unfolding checksum addresses header_front internet_header link_header udp_header datagram unnumbered
-one_handed = grind (arith, legal_on Both A refl, legal_on Both B refl, byte_queued Both 1, demo_valid)
+unfolding checksum addresses header_front internet_header link_header udp_header datagram unnumbered cutting fragments_at
+one_handed = grind (arith, byte_queued Both 1, demo_valid)
 
 pub one_is_legal : OneIsLegal
 unfolding checksum addresses header_front internet_header link_header udp_header datagram unnumbered
@@ -108,8 +99,8 @@ pub demo_with_valid : (carriers : Networks) (most : ℕ) → 64 ≤ most → mos
 demo_with_valid carriers most least greatest = grind arith
 
 pub comes_from_one : ComesFromOne
-unfolding checksum addresses header_front internet_header link_header udp_header datagram unnumbered
-comes_from_one = grind (arith, legal_on OnlyA A refl, byte_queued OnlyA 1, demo_with_valid, nil_isnt_cons)
+unfolding checksum addresses header_front internet_header link_header udp_header datagram unnumbered cutting fragments_at
+comes_from_one = grind (arith, byte_queued OnlyA 1, demo_with_valid, nil_isnt_cons)
 
 one_on_both : All IsOnBoth (demo_on Both).links
 one_on_both = All-from_recursion IsOnBoth (demo_on Both).links (refl, tt)
@@ -125,10 +116,6 @@ are_twins_of_one = record {
   cut = refl;
 }
 
-pair_legal_on : (net : Net) → IsLegalOn demo_plan two_accepted net (two_entries net)
-unfolding checksum addresses header_front internet_header link_header udp_header datagram unnumbered cutting fragments_at
-pair_legal_on net = grind arith
-
 two_allowed : All (IsQueued demo_plan 0 0) (two_accepted 0 0)
 two_allowed = All-from_recursion (IsQueued demo_plan 0 0) (two_accepted 0 0) (byte_queued Both 1, (byte_queued Both 2, tt))
 
@@ -140,8 +127,8 @@ handed_pair : (accepted : Accepted) → All (IsQueued demo_plan 0 0) (accepted 0
 handed_pair accepted allowed legal = grind arith
 
 two_handed : PairHanded two_accepted
-unfolding checksum addresses header_front internet_header link_header udp_header datagram unnumbered
-two_handed = grind (arith, pair_legal_on A, pair_legal_on B, handed_pair, two_allowed)
+unfolding checksum addresses header_front internet_header link_header udp_header datagram unnumbered cutting fragments_at
+two_handed = grind (arith, handed_pair, two_allowed)
 
 pair_carried : AreCarriedOf 3 (frames_of 1 (two_entries A)) (frames_of 1 (two_entries B)) both_arrive
 unfolding checksum addresses header_front internet_header link_header udp_header datagram unnumbered
@@ -177,18 +164,15 @@ needs_close = record {
       two_handed (omega arith) (close_by_test both_from_b B 2 refl refl) (not_first refl refl) (too_few 2 refl (omega arith) (omega arith) (omega arith)) (not_first refl refl);
 }
 
-pair_way : (now : ℕ) → AllZip (IsOnItsWay 0 0) (link_stream 1 (pair_at now A)) (pair_passes 0 now now)
-unfolding checksum addresses header_front internet_header link_header udp_header datagram unnumbered
-pair_way now = omega arith
-
 pub passes_a_gap_apart : PassesAGapApart
+unfolding checksum addresses header_front internet_header link_header udp_header datagram unnumbered
 passes_a_gap_apart = record {
   valid = demo_valid;
   legal = two_handed.legal.on_a;
   allowed = two_allowed;
-  way = pair_way 1000;
+  way = omega arith;
   passes = refl;
-  early_way = pair_way 999;
+  early_way = omega arith;
   early = grind arith;
   late = grind arith;
 }

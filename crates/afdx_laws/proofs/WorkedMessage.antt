@@ -12,13 +12,9 @@ use Rattle.afdx_laws.proofs.Receiving.{exactly_once_holds}
 use Rattle.afdx_laws.proofs.Arriving.{messages_arrive_holds, despite_loss_holds}
 use Rattle.afdx_laws.proofs.HandedOver.{sending_to, handed_arrive_holds, handed_despite_loss_holds}
 
-handed_to : (net : Net) → IsHanded 1 25 0 one_accepted net (both_frames net)
-unfolding checksum addresses header_front internet_header link_header udp_header datagram unnumbered cutting fragments_at
-handed_to net = grind arith
-
 pub both_handed : AreHanded 1 25 0 one_accepted (both_frames A) (both_frames B)
-unfolding checksum addresses header_front internet_header link_header udp_header datagram unnumbered
-both_handed = grind (arith, handed_to A, handed_to B, demo_port_is)
+unfolding checksum addresses header_front internet_header link_header udp_header datagram unnumbered cutting fragments_at
+both_handed = grind (arith, demo_port_is)
 
 are_sent : IsSending 1 25 0 one_accepted A (both_frames A)
 are_sent = sending_to both_handed.link both_handed.sent both_handed.on_a
@@ -37,10 +33,6 @@ one_message_arrives = record { accepts = refl; message = refl }
 abbrev pub first_of : (List ℕ → ℕ) → List (List ℕ) → ℕ
 first_of read [] = 0
 first_of read (x ∷ later) = read x
-
-pub not_front : (read : List ℕ → ℕ) {m : List ℕ} {later : List (List ℕ)} (xs : List (List ℕ)) (many : ℕ)
-    → nat_eq (read m) (first_of read xs) ≡ false → m ∷ later ≡ take many xs → ⊥
-not_front read xs many other is = grind arith
 
 abbrev pub first_byte : List ℕ → ℕ
 first_byte message = slice_index message 0
@@ -136,9 +128,6 @@ second_is_close = close_by_test second_lost B 2 refl refl
 pub masks_one_loss : MasksOneLoss
 unfolding checksum addresses header_front internet_header link_header udp_header datagram unnumbered
 masks_one_loss = grind arith
-
-pub not_close : {n i : ℕ} {es : List (Net × ℕ)} → AreClose B n 0 0 ((A, suc i) ∷ es) → ⊥
-not_close close = let first = close.first refl in omega arith
 
 pub needs_the_first : NeedsTheFirst
 unfolding checksum addresses header_front internet_header link_header udp_header datagram unnumbered
