@@ -25,12 +25,6 @@ by_three P first second third (suc zero) lt = second
 by_three P first second third (suc (suc zero)) lt = third
 by_three P first second third (suc (suc (suc s))) lt = absurd (omega arith)
 
-three_valid : IsPlan three_plan
-three_valid = grind arith
-
-long_allowed : IsAllowed three_plan 0 0 long_sent
-long_allowed = grind arith
-
 short_allowed : (sub : ℕ) → Contains three_plan.ports (short_port sub) → IsAllowed three_plan 0 sub (short_sent sub)
 short_allowed sub port = grind arith
 
@@ -54,7 +48,7 @@ ready left first second lines = record {
   where
     by_link : (k : ℕ) → k < 1 → (s : ℕ) → s < (link_plan_at three_plan.links k).sub_vls
         → All (IsQueued three_plan k s) (taken_in (tx_of three_plan three_link (subs_of left first second) lines).links k s)
-    by_link = below_one _ (by_three _ (All-from_recursion (IsQueued three_plan 0 0) (long_sent ∷ []) (long_allowed.queued, tt))
+    by_link = below_one _ (by_three _ (All-from_recursion (IsQueued three_plan 0 0) (long_sent ∷ []) (grind arith, tt))
         (queued 1 first first_allowed.queued) (queued 2 second second_allowed.queued))
 
 -- Whatever sub-VL 1 takes, its poll isn't one that finds nothing.
@@ -189,7 +183,7 @@ polls = grind (arith, each_poll, first_poll, finding)
 pub comes_in_turn : ComesInTurn
 unfolding log checksum addresses header_front internet_header link_header udp_header datagram unnumbered
 comes_in_turn = record {
-  valid = three_valid;
+  valid = grind arith;
   ends = refl;
   more = refl;
   below = omega arith;
@@ -198,13 +192,10 @@ comes_in_turn = record {
   within = omega arith;
   wait = refl;
   next = (next_in_run_holds three_plan (3000 ∷ 6000 ∷ 9000 ∷ 12000 ∷ []) (line_after 1) (line_after 5) 0 3000 [] front_entry
-      three_valid (omega arith) refl refl (omega arith)
+      (grind arith) (omega arith) refl refl (omega arith)
       (each_poll {P = EmitterPolls three_plan} {Q = λ now lines after. EmitterPolls three_plan now lines after ⊎ DrainPolls three_plan now lines after} (λ now lines after p. inl p) (3000 ∷ 6000 ∷ 9000 ∷ 12000 ∷ []) (line_after 1) (line_after 5) polls)
       refl (omega arith) (omega arith)).0;
 }
-
-accepted_is : IsAccepted three_plan three_accepted 0 1 (short_sent 1 ∷ []) (short_sent 1) []
-accepted_is = grind arith
 
 start_is : IsLater (latest None (stream_at three_plan 0 (line_after 2))) 3000
 unfolding log checksum addresses header_front internet_header link_header udp_header datagram unnumbered
@@ -221,9 +212,6 @@ begins_is : IsPrefixOf (seen_of 1 (stream_at three_plan 0 (line_after 5))) (frag
 unfolding log checksum addresses header_front internet_header link_header udp_header datagram unnumbered cutting fragments_at
 begins_is = ([], refl)
 
-timely_is : AreTimely 1000 2000 12000 3000 (6000 ∷ 9000 ∷ 12000 ∷ [])
-timely_is = grind arith
-
 sooner_is : ThirdReleased 11999 → ⊥
 unfolding log checksum addresses header_front internet_header link_header udp_header datagram unnumbered cutting fragments_at
 sooner_is = not_released three_plan 0 1 11999 (three_accepted 0 1) (stream_at three_plan 0 (line_after 2))
@@ -234,16 +222,16 @@ pub waits_its_turn : WaitsItsTurn
 unfolding cutting fragments_at
 waits_its_turn = record {
   wait = refl;
-  accepted = accepted_is;
+  accepted = grind arith;
   start = start_is;
   place = place_is;
   finding = finding;
   begins = begins_is;
   is_up = refl;
-  timely = timely_is;
+  timely = grind arith;
   released = message_in_run_holds three_plan three_accepted (6000 ∷ 9000 ∷ 12000 ∷ []) (line_after 2) (line_after 5) 0 1 2000 3000
-      (short_sent 1 ∷ []) (short_sent 1) [] three_valid accepted_is start_is place_is
+      (short_sent 1 ∷ []) (short_sent 1) [] (grind arith) (grind arith) start_is place_is
       (each_poll {P = FindsIt three_plan 0 1 2} {Q = λ now lines after. FindsIt three_plan 0 1 2 now lines after ⊎ IsDrained now three_plan three_accepted lines after} (λ now lines after f. inl f) (6000 ∷ 9000 ∷ 12000 ∷ []) (line_after 2) (line_after 5) finding)
-      begins_is refl timely_is;
+      begins_is refl (grind arith);
   sooner = sooner_is;
 }

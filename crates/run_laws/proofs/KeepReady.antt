@@ -9,9 +9,6 @@ use Rattle.afdx_tx.proofs.ClosedEmitter.{ClosedSub, ClosedLinks, closes_links}
 by_own : (plan : Plan) (tx : Tx) → tx.plan ≡ plan → IsReadyFor plan tx → IsReady tx
 by_own plan tx of ready = subst (λ (p : Plan). IsReadyFor p tx) (sym of) ready
 
-opened_taken : (own : SubVl) (ports : List PortPlan) (senders : ℕ) (held : Held) → IsOpenedSub own ports senders held → taken_by held ≡ []
-opened_taken own ports senders held f = ap (λ (seen : Seen). sent_by held.ports (taken_of seen)) f.seen
-
 opened : (config : Plan) (tx : Tx) → IsFreshTx config tx → IsReady tx
 opened config tx f = grind arith
 
@@ -31,9 +28,6 @@ polled now old new ready plan run allowed = by_own old.plan new plan (record {
     same k lt = turns_each (IsTurnAt now old.links new.links) (λ (i : ℕ). IsSameLink (link_at old.links i) (link_at new.links i))
         0 (length old.links) old.lines new.lines (λ i before behind did t. t.same) run.turns k (omega arith) (omega arith)
 
-closed_taken : (old new : Held) → ClosedSub old new → taken_by new ≡ taken_by old
-closed_taken old new c = grind arith
-
 closed : (old new : Tx) (vl sub total : ℕ) → IsReady old → ClosesTx old vl sub total new → IsReady new
 closed old new vl sub total ready c =
     let links : ClosedLinks old.links new.links = closes_links old vl sub total new c in
@@ -42,7 +36,7 @@ closed old new vl sub total ready c =
       links = grind arith;
       allowed = λ k s lt slt.
           subst (All (IsQueued old.plan k s))
-          (sym (closed_taken (held_at (link_at old.links k).subs s) (held_at (link_at new.links k).subs s) (links.each k s)))
+          (sym (grind arith))
           (ready.allowed k s lt slt);
     })
 

@@ -55,11 +55,8 @@ module _ (plan : Plan) (k s : ℕ) (valid : IsPlan plan) (inside : k < length pl
       → pieces_of (room_of (link_plan_at plan.links k).lmax) (length m.bytes) ≤ port_pieces (link_plan_at plan.links k) m.port
   own_few m of = pieces_mono _ (length m.bytes) m.port.max (wide_room plan k valid inside) of.most
 
-  port_few : (m : Sent) → IsAllowed plan k s m → port_pieces (link_plan_at plan.links k) m.port ≤ most_of
-  port_few m of = grind (arith, port_most)
-
   all_few : (messages : List Sent) → All (IsAllowed plan k s) messages → All Few messages
-  all_few messages of i d lt = grind (arith, own_few, port_few)
+  all_few messages of i d lt = grind (arith, own_few, port_most)
 
   -- How many fragments up to the message's last can be missing if its queue had room for it.
   missing : (earlier : List Sent) (sent : Sent) (stream : List Entry) → All Few earlier

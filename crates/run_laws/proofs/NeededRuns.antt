@@ -18,22 +18,16 @@ use Rattle.run_laws.proofs.WorkedRuns.{takes, releases, has_room, not_released}
 use Rattle.run_laws.proofs.Ran.{seen_append}
 use Rattle.run_laws.proofs.MessageRun.{message_in_run_holds}
 
-byte_valid : IsPlan byte_plan
-byte_valid = grind arith
-
-may_send : IsAllowed byte_plan 0 0 (short_sent 0)
-may_send = grind arith
-
 accepted_are : (earlier : ℕ) → bytes_accepted (suc earlier) 0 0 ≡ replicate earlier (short_sent 0) ++ short_sent 0 ∷ []
     → All (IsAllowed byte_plan 0 0) (bytes_accepted (suc earlier) 0 0)
     → IsAccepted byte_plan (bytes_accepted (suc earlier)) 0 0 (replicate earlier (short_sent 0)) (short_sent 0) []
 accepted_are earlier are all = record { link = omega arith; sub = omega arith; are = are; allowed = below_both _ _ refl all }
 
 one_is : IsAccepted byte_plan (bytes_accepted 1) 0 0 [] (short_sent 0) []
-one_is = accepted_are 0 refl (All-from_recursion (IsAllowed byte_plan 0 0) (short_sent 0 ∷ []) (may_send, tt))
+one_is = accepted_are 0 refl (All-from_recursion (IsAllowed byte_plan 0 0) (short_sent 0 ∷ []) ((grind arith), tt))
 
 two_are : IsAccepted byte_plan (bytes_accepted 2) 0 0 (short_sent 0 ∷ []) (short_sent 0) []
-two_are = accepted_are 1 refl (All-from_recursion (IsAllowed byte_plan 0 0) (short_sent 0 ∷ short_sent 0 ∷ []) (may_send, (may_send, tt)))
+two_are = accepted_are 1 refl (All-from_recursion (IsAllowed byte_plan 0 0) (short_sent 0 ∷ short_sent 0 ∷ []) ((grind arith), ((grind arith), tt)))
 
 -- a poll that transmits the first of one or two messages
 sends : (now more : ℕ) → Drains now 1 tight_link (bytes_accepted (suc more) 0) no_line (byte_line now) (Released 0 0)
@@ -92,7 +86,7 @@ other_bytes is = let same : ◌≡◌ {A = ℕ} 2 1 = ap (λ (f : List ℕ). sli
 pub needs_its_premises : NeedsItsPremises
 unfolding log checksum addresses header_front internet_header link_header udp_header datagram unnumbered cutting fragments_at
 needs_its_premises = record {
-  valid = byte_valid;
+  valid = grind arith;
   wait = refl;
   unaccepted = record {
     accepted = λ is. nil_isnt_cons is.are;

@@ -6,12 +6,6 @@ use Rattle.std.proofs.lemmas.List.Recursion.{max_bounds}
 use Rattle.afdx_frame.specs.declared.net.Net.{Net}
 use Rattle.afdx_frame.proofs.CuttingLemmas.{cut_last, cut_more, step_pos, step_le}
 
-one_quotient : (a s c d : ℕ) → a ≤ c * s → c * s < a + s → a ≤ d * s → d * s < a + s → c ≡ d
-one_quotient a s c d c_most c_least d_most d_least = grind arith
-
-ceil_none : (s : ℕ) → 1 ≤ s → div_ceil 0 s ≡ 0
-ceil_none s step = grind (arith, div_ceil_times 0 s)
-
 ceil_less : (a s : ℕ) → 1 ≤ a → 1 ≤ s → div_ceil a s ≡ 1 + div_ceil (a - s) s
 ceil_less a s some step = grind arith
 

@@ -109,27 +109,18 @@ abbrev pub LacksNone : Plan → ℕ → ℕ → Bool → List Entry → (ℕ →
 LacksNone plan k x b S P view = (lines after : Lines) (did : Served) → stream_at plan k lines ≡ S → P k lines after did
     → StandsAt plan k lines → (s : ℕ) → s < subs_at plan k → (view lines).lacks s → s ≡ x → b ≡ false
 
--- turns never bring a network up
-turned : (now : ℕ) (plan : Plan) (view : ℕ → Lines → TurnView) (P : ℕ → Lines → Lines → Served → Type 0) (j : ℕ)
-    (lines after : Lines) (did : Served) → IsSeen now plan view P j lines after did → BothEndure lines after
-turned now plan view P j lines after did t = grind arith
-
 pub seen_endure : (now : ℕ) (plan : Plan) (view : ℕ → Lines → TurnView) (P : ℕ → Lines → Lines → Served → Type 0) (i many : ℕ)
     (lines after : Lines) → AreTurns (IsSeen now plan view P) i many lines after → BothEndure lines after
 seen_endure now plan view P i many lines after turns = turns_endure (IsSeen now plan view P) i many lines after
-    (λ j before behind did t. turned now plan view P j before behind did t) turns
+    (λ j before behind did t. (grind arith)) turns
 
 module _ (now : ℕ) (plan : Plan) (k x : ℕ) (b : Bool) (S : List Entry) (P : ℕ → Lines → Lines → Served → Type 0)
     (view : ℕ → Lines → TurnView) (valid : IsPlan plan) (inside : k < length plan.links) where
-  keeps : (j : ℕ) (lines after : Lines) (did : Served) → j ≢ k → IsSeen now plan view P j lines after did
-      → stream_at plan k after ≡ stream_at plan k lines
-  keeps j lines after did ne t = grind (arith, other_turn, gap_at, subs_at)
-
   others_keep : (i many : ℕ) (lines after : Lines) → k < i → AreTurns (IsSeen now plan view P) i many lines after
       → stream_at plan k after ≡ stream_at plan k lines
   others_keep i zero lines after past t = ap (stream_at plan k) t
   others_keep i (suc many) lines after past t =
-      others_keep (i + 1) many t.0 after (omega arith) t.3 ∙ keeps i lines t.0 t.1 (λ e. absurd (omega (arith, e, past))) t.2
+      others_keep (i + 1) many t.0 after (omega arith) t.3 ∙ (grind (arith, other_turn, gap_at, subs_at))
 
   -- the turns of all links, that of the link among them
   turns_step : (i many : ℕ) (lines after : Lines) → LacksNone plan k x b S P (view k) → i ≤ k → k < i + many
@@ -139,9 +130,9 @@ module _ (now : ℕ) (plan : Plan) (k x : ℕ) (b : Bool) (S : List Entry) (P : 
   turns_step i (suc many) lines after lacks le lt at t stands = ⊎_elim
       (λ (here : i ≡ k).
       let stood : StandsAt plan k t.0 = grind (arith, stood_before, seen_endure) in
-      grind (arith, stood_before, turned, others_keep, own_step, gap_at, subs_at))
+      grind (arith, stood_before, others_keep, own_step, gap_at, subs_at))
       (λ (later : i ≢ k).
-      let same : stream_at plan k t.0 ≡ stream_at plan k lines = keeps i lines t.0 t.1 later t.2 in
+      let same : stream_at plan k t.0 ≡ stream_at plan k lines = grind (arith, other_turn, gap_at, subs_at) in
       rw (← same) (turns_step (i + 1) many t.0 after lacks (omega (arith, le, later)) (omega arith) (same ∙ at) t.3 stands))
       (cases_eq i k)
 

@@ -25,16 +25,6 @@ by_release : (o : Option ℕ) → (o ≡ None) ⊎ ((chosen : ℕ) × (o ≡ Som
 by_release None = inl refl
 by_release (Some chosen) = inr (chosen, refl)
 
--- a link is due a gap after a time that isn't before its last release
-due_then : (gap before moment : ℕ) (last : Option Stamp) → IsLater last before → before + gap ≤ moment → is_due gap last moment ≡ true
-due_then gap before moment None after late = refl
-due_then gap before moment (Some l) after late = le-leb gap (moment - l.at) (omega arith)
-
--- a poll that released none, though a sub-VL had something, came before the link was due
-not_due : (gap subs before x : ℕ) (last : Option Stamp) (p : Poll) → x < subs → IsLater last before
-    → IsServed gap subs last p None → p.has x ≡ true → p.at < before + gap
-not_due gap subs before x last p xl after idle had = grind arith
-
 -- the cyclic order of the sub-VLs starts after `l`
 abbrev pub IsBehind : ℕ → ℕ → Option Stamp → Type 0
 IsBehind subs l last = (c : Choice) → IsChosen subs (turn_of subs last) c → IsChosen subs (next_turn subs l) c
@@ -86,7 +76,7 @@ in_due (p ∷ ps) subs x l (suc f) gap late before polled end last xl ll some af
     let comes : ComesIn (before + gap) (before + (gap + late)) (map at_of (p ∷ ps)) = span (omega arith) in
     elim (by_release p.released) [
       | inl is ↦
-          let early : p.at < before + gap = not_due gap subs before x last p xl after (rw is at served.0) had in
+          let early : p.at < before + gap = grind arith in
           let left : suc f - cond (is_of x p.released) 1 0 ≡ suc f = rw is (omega arith) in
           let later : ComesIn (before + gap) (before + (gap + late)) (map at_of ps) = after_early p.at before (map at_of ps) early comes in
           let rest : suc f ≤ released_by x end ps =

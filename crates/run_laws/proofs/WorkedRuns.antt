@@ -16,14 +16,8 @@ use Rattle.run_laws.specs.MessageInRun.{AreReleasedBy}
 use Rattle.run_laws.proofs.NextRun.{next_in_run_holds}
 use Rattle.run_laws.proofs.MessageRun.{message_in_run_holds}
 
-each_queued : AreQueued small_plan message_accepted
-each_queued = grind arith
-
 pub takes : (old new : List Entry) → Endures true true old new 0 0
 takes old new = grind arith
-
-fails : (handed : List Entry) → Endures true false handed handed 0 1
-fails handed = grind arith
 
 -- a turn that releases the next frame of the one sub-VL, on both networks
 pub releases : (now number : ℕ) (link : LinkPlan) (accepted : ℕ → List Sent) (lines after : Lines) (frame : List ℕ)
@@ -63,13 +57,13 @@ lost_turn = (
     choice = (back_turn 1000 refl).2.choice;
     same = refl;
     down = refl;
-    endure = record { a = fails _; b = fails _ };
+    endure = record { a = grind arith; b = (grind arith) };
   },
 )
 
 a_poll : (now : ℕ) (lines after : Lines) (did : Served) → Drains now 1 small_link (message_accepted 0) lines after did
     → EmitterPolls small_plan now lines after ⊎ DrainPolls small_plan now lines after
-a_poll now lines after did turn = inr (record { accepted = message_accepted; allowed = each_queued; run = (after, did, turn, refl) })
+a_poll now lines after did turn = inr (record { accepted = message_accepted; allowed = grind arith; run = (after, did, turn, refl) })
 
 -- polls after the last fragment transmit nothing
 after_both : (now : ℕ) → is_due 1000 (Some (record { at = 1000; sub = 0 })) now ≡ true → Drains now 1 small_link (message_accepted 0) both_lines both_lines Nothing
@@ -98,10 +92,6 @@ second_is [] [] after first second e next is = ((cons_parts is).0, (cons_parts (
 second_is [] (x ∷ xs) after first second e next is = grind (arith, length-append xs (next ∷ after))
 second_is (x ∷ xs) between after first second e next is =
     grind (arith, length-append xs (e ∷ (between ++ next ∷ after)), length-append between (next ∷ after))
-
-comes_when : (now bound : ℕ) (stream : List Entry) → stream ≡ front_entry ∷ entry now (back_frame A) ∷ []
-    → ComesBy stream front_entry bound → now ≤ bound
-comes_when now bound stream is comes = grind (arith, second_is)
 
 small_valid : IsPlan small_plan
 small_valid = demo_with_valid Both 64 (omega arith) (omega arith)
@@ -163,7 +153,7 @@ needs_a_run = record {
     comes = omega arith;
     reaches = omega arith;
     next = λ comes.
-        grind (arith, comes_when 5000 (0 + link_wait 1000 small_link) (stream_at small_plan 0 (both_at 5000)) refl comes);
+        grind (arith, second_is);
   };
   lost = record {
     runs = (lost_line, a_poll 1000 front_line lost_line Lost lost_turn, (lost_line, a_poll 2000 lost_line lost_line Nothing (inl (refl, λ s. tt), refl), refl));
@@ -179,12 +169,6 @@ needs_a_run = record {
 
 tight_valid : IsPlan tight_plan
 tight_valid = grind arith
-
-may_send : IsAllowed tight_plan 0 0 tight_sent
-may_send = grind arith
-
-both_allowed : AreAllowed tight_plan tight_accepted
-both_allowed = below_both _ _ refl (All-from_recursion (IsAllowed tight_plan 0 0) (tight_accepted 0 0) (may_send, (may_send, tt)))
 
 accepted_is : IsAccepted tight_plan tight_accepted 0 0 (tight_sent ∷ []) tight_sent []
 accepted_is = grind arith
@@ -257,9 +241,6 @@ place_is : HasPlace tight_plan 0 0 (tight_sent ∷ []) (stream_at tight_plan 0 (
 unfolding log checksum addresses header_front internet_header link_header udp_header datagram unnumbered
 place_is = has_room tight_plan 0 0 (tight_sent ∷ []) (stream_at tight_plan 0 (tight_line 1)) (omega arith) (λ full. omega arith)
 
-timely_is : AreTimely 1000 0 3000 0 (1000 ∷ 2000 ∷ 3000 ∷ [])
-timely_is = grind arith
-
 -- without the last frame the second message is incomplete
 not_sooner : TightReleased 2999 → ⊥
 unfolding log checksum addresses header_front internet_header link_header udp_header datagram unnumbered cutting fragments_at
@@ -279,8 +260,8 @@ meets_the_wait = record {
   finding = finding_is;
   begins = begins_is;
   is_up = refl;
-  comes = timely_is;
+  comes = grind arith;
   met = message_in_run_holds tight_plan tight_accepted (1000 ∷ 2000 ∷ 3000 ∷ []) (tight_line 1) (tight_line 4) 0 0 0 0
-      (tight_sent ∷ []) tight_sent [] tight_valid accepted_is start_is place_is finding_is begins_is refl timely_is;
+      (tight_sent ∷ []) tight_sent [] tight_valid accepted_is start_is place_is finding_is begins_is refl (grind arith);
   sooner = not_sooner;
 }
