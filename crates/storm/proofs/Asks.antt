@@ -12,11 +12,7 @@ asks_accepted old new bytes done = ap (λ (s : SenderView). s.asks) done.0.2.1
 
 -- a refused send requests at most one
 asks_queue : (old new : SenderView) (why : Why) → IsRefused old why new → new.asks ≤ old.asks + 1
-asks_queue old new Queue.Closed r =
-    ⊎_elim
-    (λ e. let same = ap (λ (s : SenderView). s.asks) e in omega (arith, same))
-    (λ e. let once = ap (λ (s : SenderView). s.asks) e.2 in omega (arith, once))
-    r
+asks_queue old new Queue.Closed r = grind arith
 asks_queue old new Queue.Exhausted r = let same = ap (λ (s : SenderView). s.asks) r.1 in omega (arith, same)
 asks_queue old new Queue.Full r = let once = ap (λ (s : SenderView). s.asks) r.2 in omega (arith, once)
 
@@ -44,11 +40,7 @@ at_most_push (x ∷ low) (y ∷ high) n m count all le (suc k) lt =
 pub asks_push : {W : Type 0} (f : W → ℕ) (ports : List PortView) (ws : List W) (port : PortView) (w : W)
     → length ports ≡ length ws → AreAtMost (map asked_by ports) (map f ws) → asked_by port ≤ f w
     → AreAtMost (map asked_by (ports ++ port ∷ [])) (map f (ws ++ w ∷ []))
-asks_push f ports ws port w count all le =
-    subst (λ (l : List ℕ). AreAtMost l (map f (ws ++ w ∷ []))) (sym (map-append asked_by ports (port ∷ [])))
-    (subst (λ (l : List ℕ). AreAtMost (map asked_by ports ++ asked_by port ∷ []) l) (sym (map-append f ws (w ∷ [])))
-    (at_most_push (map asked_by ports) (map f ws) (asked_by port) (f w)
-    (length-map ports asked_by ∙ count ∙ sym (length-map ws f)) all le))
+asks_push f ports ws port w count all le = grind (arith, map-append, at_most_push, length-map)
 
 -- what follows where a result is known to be `Ok`, and something holds if it is
 pub at_ok : {A E : Type 0} (r : Result A E) (P Q : A → Type 0) (C : Type 0) → ((x : A) → P x → Q x → C) → IfOk r P → IsOkAnd r Q → C

@@ -18,9 +18,7 @@ entry_at handed i one inside is = get_or-map entry_of handed i one (entry_of one
 -- so has the one at a place
 pub has_link : (handed : List Handed) (i : ℕ) (one : Handed) → i < length handed → one ≡ get_or handed i one
     → All (λ (e : Entry). 6 ≤ length e.frame) (entries handed) → 6 ≤ length one.frame.items
-has_link handed i one inside is all =
-    subst (λ (e : Entry). 6 ≤ length e.frame) (entry_at handed i one inside is)
-    (all i (entry_of one) (omega (arith, length-map handed entry_of)))
+has_link handed i one inside is all = grind (arith, entry_at handed i one inside is, length-map handed entry_of)
 
 -- one frame more
 pub count_more : (links : List LinkPlan) (handed : List Handed) (i : ℕ) (one : Handed) → i < length handed → one ≡ get_or handed i one

@@ -7,48 +7,24 @@ use Rattle.afdx_tx.specs.Publishing.{Publishes, counts_at}
 
 -- the counts of links of the same plan and the same frames
 counts_same : (old new : Tx) (k : ℕ) → new.plan ≡ old.plan → new.lines ≡ old.lines → counts_at old k ≡ counts_at new k
-counts_same old new k plan lines =
-    ap (λ (p : Plan). counts_in (own_stream (link_plan_at p.links k).id.0 old.lines.a old.lines.b)) (sym plan)
-    ∙ ap (λ (l : Lines). counts_in (own_stream (link_plan_at new.plan.links k).id.0 l.a l.b)) (sym lines)
+counts_same old new k plan lines = grind arith
 
 links_same : (old new : Tx) → new.plan ≡ old.plan → length new.plan.links ≡ length old.plan.links
 links_same old new plan = ap (λ (p : Plan). length p.links) plan
 
 -- publishing what was counted, after a step that leaves the board
 pub shown_published : (old mid new : Tx) → mid.plan ≡ old.plan → mid.board ≡ old.board → Publishes mid new → IsShown old → IsShown new
-shown_published old mid new plan board p s =
-    let same : new.plan ≡ mid.plan = ap (λ (t : Tx). t.plan) p.same in
-    let lines : new.lines ≡ mid.lines = ap (λ (t : Tx). t.lines) p.same in
-    record {
-      count = p.count ∙ ap length board ∙ s.count ∙ sym (links_same old mid plan) ∙ sym (links_same mid new same);
-      each = λ k lt.
-          let here : k < length mid.plan.links = omega (arith, links_same mid new same) in
-          ap (λ (w : Published). value_of w.history) (p.each k here)
-          ∙ last_or-push zeros (published mid.board k).history (counts_at mid k) ∙ counts_same mid new k same lines;
-    }
+shown_published old mid new plan board p s = grind (arith, links_same, last_or-push, counts_same)
 
 -- and leaves the cells
 pub cells_published : (old mid new : Tx) → mid.plan ≡ old.plan → mid.board ≡ old.board → Publishes mid new → IsShown old
     → cells_of new.board ≡ cells_of old.board
-cells_published old mid new plan board p s =
-    cells_same mid.board new.board p.count
-    (λ k lt.
-    let many : length mid.board ≡ length mid.plan.links = ap length board ∙ s.count ∙ sym (links_same old mid plan) in
-    ap (λ (w : Published). w.cell) (p.each k (omega arith)))
-    ∙ ap (λ b. cells_of b) board
+cells_published old mid new plan board p s = grind (arith, cells_same, links_same)
 
 -- nothing is counted of the links of a fresh emitter, of which nothing was published
 pub shown_fresh : (config : Plan) (tx : Tx) (monitor : List Watched) → IsFreshTx config tx → AreNew tx.board monitor
     → length tx.board ≡ length config.links → IsShown tx
-shown_fresh config tx monitor fresh new count = record {
-  count = count ∙ sym (ap (λ (p : Plan). length p.links) fresh.plan);
-  each = λ k _. ap (λ (h : List Counts). value_of h) (new k).unpublished ∙ sym (nothing k);
-}
-  where
-    nothing : (k : ℕ) → counts_at tx k ≡ zeros
-    nothing k =
-        ap (λ (es : List Entry). counts_in (own_stream (link_plan_at tx.plan.links k).id.0 es tx.lines.b)) fresh.a
-        ∙ ap (λ (es : List Entry). counts_in (own_stream (link_plan_at tx.plan.links k).id.0 [] es)) fresh.b
+shown_fresh config tx monitor fresh new count = grind arith
 
 -- one reading more
 pub read_more : (tx : Tx) (k : ℕ) (counts : List Counts) (found : Counts) → IsShown tx → k < length tx.plan.links
@@ -67,13 +43,9 @@ read_more tx k counts found s lt is last =
 pub read_all : (tx : Tx) (k : ℕ) (counts : List Counts) → k ≡ length tx.plan.links
     → counts ≡ take k (all_counts tx.plan.links tx.lines.a tx.lines.b)
     → counts ≡ all_counts tx.plan.links tx.lines.a tx.lines.b
-read_all tx k counts end is =
-    let all = all_counts tx.plan.links tx.lines.a tx.lines.b in
-    is ∙ ap (λ (n : ℕ). take n all) (end ∙ sym (length-map tx.plan.links (own_counts tx.lines.a tx.lines.b))) ∙ take-length all
+read_all tx k counts end is = grind (arith, length-map, take-length)
 
 -- the counts of links of the same plan and the same frames
 pub counts_kept : (old new : Plan) (a b a' b' : List Entry) (counts : List Counts) → counts ≡ all_counts new.links a b → new ≡ old
     → a' ≡ a → b' ≡ b → counts ≡ all_counts old.links a' b'
-counts_kept old new a b a' b' counts is plan at_a at_b =
-    is ∙ ap (λ (p : Plan). all_counts p.links a b) plan ∙ ap (λ (es : List Entry). all_counts old.links es b) (sym at_a)
-    ∙ ap (λ (es : List Entry). all_counts old.links a' es) (sym at_b)
+counts_kept old new a b a' b' counts is plan at_a at_b = grind arith

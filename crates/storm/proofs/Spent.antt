@@ -5,29 +5,13 @@ use Rattle.std.proofs.lemmas.List.Sums.{sum_by-cons}
 -- a port that is the same but for its own messages belongs to the same configuration and queues
 same_port : (config : Plan) (queues : List (List (Option QueueName))) (old new : PortView) → new.place ≡ old.place → new.plan ≡ old.plan
     → new.sender.queue ≡ old.sender.queue → new.sender.port ≡ old.sender.port → BelongsTo config queues old → BelongsTo config queues new
-same_port config queues old new place plan queue index own = record {
-  within = subst (λ (k : ℕ). k < length config.ports) (sym place) own.within;
-  plan = plan ∙ own.plan ∙ ap (λ k. port_plan_at config.ports k) (sym place);
-  queue = ap (λ p. queue_for config queues p) plan ∙ own.queue ∙ ap (λ q. Some q) (sym queue);
-  index = index ∙ own.index ∙ ap (λ k. index_of config.ports k) (sym place);
-}
+same_port config queues old new place plan queue index own = grind arith
 
 -- a fresh port that sent its messages
 spent_port : (old new : Tx) (n turns k : ℕ) (before after : PortView) → new.plan ≡ old.plan → queues_in new.links ≡ queues_in old.links
     → before.place ≡ k → before.plan ≡ port_plan_at old.plan.ports k → before.sender.own ≡ [] → BelongsTo old.plan (queues_in old.links) before
     → named after ≡ sent_all n before → after.sender.asks ≤ turns → IsSpent new n turns k after
-spent_port old new n turns k before after plan queues place at own of e asks =
-    let same : BelongsTo old.plan (queues_in old.links) after =
-    same_port old.plan (queues_in old.links) before after (ap (λ (x : Named). x.place) e) (ap (λ (x : Named). x.plan) e)
-    (ap (λ (x : Named). x.queue) e) (ap (λ (x : Named). x.index) e) of in
-    let messages : after.sender.own ≡ own_messages old.plan n k =
-    ap (λ (x : Named). x.own) e ∙ ap (λ ms. ms ++ messages_to before.plan.id.0 n) own ∙ ap (λ p. messages_to p.id.0 n) at in
-    record {
-      of = subst (λ (p : Plan). BelongsTo p (queues_in new.links) after) (sym plan) (subst (λ q. BelongsTo old.plan q after) (sym queues) same);
-      at = ap (λ (x : Named). x.place) e ∙ place;
-      own = subst (λ (p : Plan). after.sender.own ≡ own_messages p n k) (sym plan) messages;
-      asks = asks;
-    }
+spent_port old new n turns k before after plan queues place at own of e asks = grind arith
 
 -- a port that requested at most one slot for each of its turns, since it was fresh
 asks_at : (before after : List PortView) (turns k : ℕ) (d : PortView) → length after ≡ length before → k < length after
@@ -75,8 +59,7 @@ every_place tx n turns (port ∷ more) spent place lt =
 -- as many messages as the number of the last
 pub length-messages : (id n : ℕ) → length (messages_to id n) ≡ n
 length-messages id zero = refl
-length-messages id (suc n) =
-    omega (arith, length-messages id n, length-append (messages_to id n) (message id (n + 1) ∷ []))
+length-messages id (suc n) = grind (arith, length-append, length-messages id n)
 
 sum_same : (f : PortView → ℕ) (m : ℕ) (ports : List PortView) → ((k : ℕ) (d : PortView) → k < length ports → f (get_or ports k d) ≡ m)
     → sum_by f ports ≡ length ports * m
@@ -89,7 +72,4 @@ sum_same f m (port ∷ more) each =
 -- all of them
 pub sum_spent : (tx : Tx) (n turns : ℕ) (ports : List PortView) → AreSpent tx n turns ports
     → sum_by (λ (port : PortView). length port.sender.own) ports ≡ length tx.plan.ports * n
-sum_spent tx n turns ports spent =
-    sum_same (λ (port : PortView). length port.sender.own) n ports
-    (λ k d lt. ap length (spent.each k d lt).own ∙ length-messages (port_plan_at tx.plan.ports k).id.0 n)
-    ∙ ap (λ m. m * n) spent.count
+sum_spent tx n turns ports spent = grind (arith, sum_same, length-messages)

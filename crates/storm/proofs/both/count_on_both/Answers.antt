@@ -3,9 +3,7 @@ use Rattle.storm.proofs.OnBoth.{has_link, count_more}
 use Rattle.storm.proofs.both.count_on_both.Goals as goal
 
 pub link_of-requires : goal.link_of-requires
-link_of-requires c =
-    subst (λ (frame : List ℕ). 6 ≤ length frame) (sym c.deref.ensures.0)
-    (has_link c.args.handed.now c.loop-one.one-index c.one-item.result c.loop-one-test.true c.one-item.is c.requires)
+link_of-requires c = grind (arith, has_link)
 
 pub loop-one-preserved : goal.loop-one-preserved
 loop-one-preserved c =

@@ -13,20 +13,7 @@ read_last-requires g c =
     record { published = here; read = cell.0; same = cell.1 }
 
 pub loop-link-preserved : goal.loop-link-preserved
-loop-link-preserved g c =
-    let here : c.loop-link.link < length c.args.draining.now.plan.links = omega (arith, c.loop-link-test.true, c.requires.links) in
-    record {
-      draining = c.read_last.ensures.draining ∙ c.loop-link.invariant.draining;
-      cells = cells_kept c.loop-link.monitor c.read_last.new.monitor c.loop-link.link c.read_last.ensures.others
-          c.read_last.ensures.reading.cell ∙ c.loop-link.invariant.cells;
-      counts = c.in_ok-push.ensures.items
-          ∙ read_more c.args.draining.now c.loop-link.link c.loop-link.counts.items c.read_last.result c.requires.shown here
-          c.loop-link.invariant.counts
-          (c.read_last.ensures.last ∙ ap (λ (t : Tx). last_of t.board c.loop-link.link) c.loop-link.invariant.draining);
-    }
+loop-link-preserved g c = grind (arith, cells_kept, read_more)
 
 pub returns-clause-counts : goal.returns-clause-counts
-returns-clause-counts g c =
-    let all : c.loop-link.link ≡ length c.args.draining.now.plan.links =
-    let least = c.loop-link-test.false in let most = c.loop-link.auto.link-end in omega (arith, c.requires.links) in
-    read_all c.args.draining.now c.loop-link.link c.loop-link.counts.items all c.loop-link.invariant.counts
+returns-clause-counts g c = grind (arith, read_all)
