@@ -2,7 +2,6 @@
 use Rattle.std.proofs.Common.{ℕ, ◌≡◌, ◌<◌, ◌+◌, List, length, arith, refl, ap, ◌∙◌, sym, subst, inl, inr, Option, Some, None}
 use Rattle.std.proofs.lemmas.Bool.{cases_lt, lt-ltb, le-ltb}
 use Rattle.afdx_plan.specs.Config.{Plan, IsPlan, link_plan_at}
-use Rattle.afdx_plan.specs.declared.identifiers.VlId.{VlId}
 use Rattle.vl_link.specs.Closing.{Closes}
 use Rattle.vl_link.specs.Links.{Held, LinkState, held_at, link_at, nothing_held, no_link}
 use Rattle.vl_link.specs.Seen.{Seen, receiving, gathered, total_of}
@@ -12,13 +11,12 @@ use Rattle.afdx_tx.specs.Emitter.{Tx, total_in}
 use Rattle.afdx_tx.specs.Ports.{PortView}
 use Rattle.afdx_tx.proofs.PortLink.{none_has, found_at}
 use Rattle.afdx_tx.proofs.ClosedEmitter.{ClosedLinks, closes_within, closes_links}
-use Rattle.afdx_tx.proofs.ClosedTotals.{closes_total}
 use Rattle.script_text.specs.declared.line.Line.TheVariants.{Close}
 use Rattle.script_text.specs.declared.outcome.Outcome.TheVariants as Became
 use Rattle.script_text.specs.declared.refusal.Refusal.TheVariants.{NoSub}
 use Rattle.tx_script.specs.AtBench.{AtBench, IsAtHand, Obeys, progress_of, MatchesTx}
 use Rattle.tx_script.specs.EndSystem.{EndSystem}
-use Rattle.tx_script.specs.Play.{Answer, tells, fills, told_by, closed_at, link_of, ClosesAt}
+use Rattle.tx_script.specs.Play.{Answer, tells, told_by, closed_at, link_of, ClosesAt}
 use Rattle.tx_script.proofs.Matched.{asked_on, still_planned}
 use Rattle.tx_script.proofs.Sending.{obeys_still}
 
@@ -112,10 +110,7 @@ obeys_close old ports vl sub total new h c = record {
     answer = tells total;
     may = tt;
     is = sym (rw (← m.emitter.plan) (closed_there old.plan vl sub c.place (tells total) h.valid c.at));
-    told = λ place index its.
-        let here = rw plan at its.0 in
-        rw (its.1, same_place old.plan vl sub c.place place h.valid c.at here.within here.id)
-        (closes_total old vl sub total new c);
+    told = grind arith;
     matches = record { emitter = closes_matches es old vl sub total new c m.emitter; own = m.own };
   };
   few = tt;

@@ -1,21 +1,19 @@
 -- What is known of a run once its ports are taken back: polls found the first of what was sent, and closes reported
 -- the totals.
-use Rattle.std.proofs.Common.{ℕ, zero, suc, ◌≡◌, ◌≢◌, ◌+◌, ◌<◌, Bool, true, false, if◌then◌else◌, List, [], ◌∷◌, length, arith, refl, ap, ◌∙◌, sym, ⊎_elim, ◌++◌, nat_eq, get_or, append_assoc, subst, inl, inr}
+use Rattle.std.proofs.Common.{ℕ, zero, suc, ◌≡◌, ◌≢◌, ◌+◌, ◌<◌, Bool, true, false, if◌then◌else◌, List, [], ◌∷◌, length, arith, refl, ap, ◌∙◌, sym, ⊎_elim, ◌++◌, get_or, append_assoc, subst, inl, inr}
 use Rattle.std.specs.Prelude.{All}
 use Rattle.std.specs.Cmp.Derive.{both_true}
-use Rattle.std.proofs.lemmas.Bool.{cases_eq, eq-eqb, ne_eqb, cases_lt, eqb-true, and_parts}
+use Rattle.std.proofs.lemmas.Bool.{cases_eq, eq-eqb, cases_lt, eqb-true, and_parts}
 use Rattle.std.proofs.lemmas.List.{get_or_default, get_or_past, get_or_append_left, length-append, map-append}
 use Rattle.std.proofs.lemmas.List.Elements.{All-tail, All-weaker, Contains-get_or}
 use Rattle.afdx_plan.specs.Config.{Plan, IsPlan, link_plan_at, port_plan_at}
-use Rattle.afdx_plan.specs.declared.identifiers.PortId.{PortId}
 use Rattle.afdx_plan.specs.declared.port_plan.PortPlan.{PortPlan}
 use Rattle.afdx_frame.specs.Fragments.{Sent}
 use Rattle.afdx_legal.specs.Allowed.{IsAllowed, messages_of, AreAllowed, port_messages}
 use Rattle.tx_script.specs.Play.{Messages, is_on, accepted_among, AnsweredLine, Play, FindsFirst, IsTotal, AreTotals, ClosesAt, found}
 use Rattle.afdx_plan.specs.Places.{link_place}
-use Rattle.afdx_plan.specs.declared.identifiers.VlId.{VlId}
 use Rattle.vl_link.specs.LinkGathering.{BecomesWhole}
-use Rattle.vl_link.specs.Links.{nothing_held, no_link, Held, held_at, link_at, sent_of, sent_by}
+use Rattle.vl_link.specs.Links.{no_link, Held, held_at, link_at, sent_of, sent_by}
 use Rattle.vl_link.specs.Seen.{Seen, receiving, gathered, taken_of, known_of}
 use Rattle.afdx_tx.specs.Closing.{IsSubAt}
 use Rattle.afdx_tx.specs.Drain.{accepted_in}
@@ -55,9 +53,7 @@ module _ (plan : Plan) (vl sub : ℕ) where
       → accepted_among plan a vl sub many ≡ accepted_among plan b vl sub many + 1
   among_more a b at zero on one others lt = absurd (omega arith)
   among_more a b at (suc k) on one others lt = ⊎_elim
-      (λ (e : k ≡ at).
-      let front = among_same a b k (λ j less its. others j (omega arith) (λ is. absurd (omega arith))) in
-      rw (e, on) (rw (← e) (omega (arith, rw (← e) at one))))
+      (grind (arith, among_same))
       (λ (ne : k ≢ at).
       let front = among_more a b at k on one (λ j less. others j (omega arith)) (omega arith) in
       rw (others k (omega arith) ne) (omega arith))
@@ -83,9 +79,7 @@ counted plan k sub (sent ∷ more) valid all =
     both_true (eq-eqb _ _ first.over) (eq-eqb _ _ first.its) in
     among_more plan (link_plan_at plan.links k).id.0 sub (each_port plan (sent ∷ more)) (each_port plan more) at
     (length plan.ports) (rw port on) (rw (eq-eqb _ _ (sym number)) (omega arith))
-    (λ j less ne. rw (ne_eqb sent.port.id.0 (port_plan_at plan.ports j).id.0
-    (λ e. ne (valid.ports_apart j at less first.port.1
-    (ap (λ (n : ℕ). let made : PortId = record { 0 = n } in made) (sym e ∙ sym number))))) refl)
+    (grind arith)
     first.port.1
     ∙ rw (counted plan k sub more valid (All-tail (IsAllowed plan k sub) sent more all)) (omega arith)
 
@@ -109,13 +103,7 @@ accepted_first tx drain ports k s g = elim (cases_lt k (length tx.links)) [
         | inl below ↦
             let sub = link.each s below in
             rw (ap (λ (held : Held). held.ports) sub.same) (whole (held_at (link_at tx.links k).subs s).ports _ _ sub.queue)
-        | inr past ↦ (
-          [],
-          rw (
-            get_or_past (link_at tx.links k).subs s nothing_held past,
-            get_or_past (link_at drain.links k).subs s nothing_held (omega (arith, link.count)),
-          ) refl,
-        )
+        | inr past ↦ grind (arith, get_or_past)
       ]
   | inr past ↦ ([], rw (get_or_past tx.links k no_link past, get_or_past drain.links k no_link (omega (arith, g.count))) refl)
 ]
@@ -123,9 +111,8 @@ accepted_first tx drain ports k s g = elim (cases_lt k (length tx.links)) [
     whole : (senders : List PortPlan) (old new : Seen) → BecomesWhole old new
         → (left : List Sent) × (sent_by senders (known_of new) ≡ sent_by senders (taken_of old) ++ left)
     whole senders (receiving r) (gathered h) b = (
-      sent_by senders h.left,
-      ap (λ (taken : List (ℕ × List ℕ)). sent_by senders (taken ++ h.left)) b.0 ∙ map-append (sent_of senders) r.taken h.left,
-    )
+        grind (arith, map-append (sent_of senders) r.taken h.left)
+        )
     whole senders (gathered i) (gathered h) b = absurd b
     whole senders old new b = absurd b
 
@@ -162,14 +149,7 @@ module _ (st : Play) (before bench : AtBench) (m : Matches st.accepted st.es bef
   own_messages place lt =
       let part : HasOwnPart g.drain bench.ports place =
       g.gathers.own place (omega (arith, ap (λ (plan : Plan). length plan.ports) same)) in
-      let at : part.inside.0 ≡ place =
-      sym (g.hand.placed part.inside.0 part.port part.inside.1) ∙ ap (λ (p : PortView). p.place) part.inside.2 ∙ part.at in
-      let port : get_or before.ports place part.port ≡ part.port =
-      ap (λ (ports : List PortView). get_or ports place part.port) (sym f.ports)
-      ∙ ap (λ (k : ℕ). get_or bench.ports k part.port) (sym at) ∙ part.inside.2 in
-      sym (m.own place part.port (omega (arith, part.inside.1, at, ap length f.ports)))
-      ∙ ap (λ (p : PortView). p.sender.own) port ∙ sym part.accepted
-      ∙ ap (λ (plan : Plan). port_messages plan (accepted_in g.drain.links) place) (g.gathers.plan ∙ same)
+      grind arith
 
   -- what a sub-VL accepted begins with what polls found of it
   found_first : (k s : ℕ) → k < length st.es.plan.links
@@ -192,11 +172,7 @@ module _ (st : Play) (before bench : AtBench) (m : Matches st.accepted st.es bef
     first = λ place lt.
         let port : PortPlan = port_plan_at st.es.plan.ports place in
         let link = link_within st.es.plan port valid (valid.linked place (port_plan_at [] 0) lt) in
-        let first = found_first (link_place st.es.plan port) port.sub link.0 in (
-          messages_of port first.0,
-          own_messages place lt ∙ ap (messages_of port) first.1
-              ∙ messages_more port (found st.es (link_place st.es.plan port) port.sub) first.0,
-        );
+        grind (arith, found_first (link_place st.es.plan port) port.sub link.0, own_messages place lt, messages_more);
   }
 
   -- the messages of a port on a sub-VL are those that the sub-VL accepted

@@ -1,22 +1,20 @@
 -- A bench that matches an end system: at the beginning, and after a change.
-use Rattle.std.proofs.Common.{ℕ, ◌≡◌, List, length, arith, refl, ap, ◌∙◌, sym, inl, inr, None, ◌≤◌, ◌<◌, ◌+◌, if◌then◌else◌, [], ◌++◌, set, get_or, nat_eq, subst, append-nil, Some}
+use Rattle.std.proofs.Common.{ℕ, ◌≡◌, List, length, arith, refl, ap, ◌∙◌, sym, None, ◌≤◌, ◌<◌, ◌+◌, if◌then◌else◌, [], ◌++◌, set, get_or, nat_eq, subst, append-nil, Some}
 use Rattle.std.proofs.lemmas.Bool.{cases_lt, eq-eqb, ne_eqb}
 use Rattle.std.proofs.lemmas.List.{get_or_past, length-set}
-use Rattle.afdx_plan.specs.Config.{Plan, link_plan_at, port_plan_at}
+use Rattle.afdx_plan.specs.Config.{Plan, port_plan_at}
 use Rattle.afdx_plan.specs.declared.link_plan.LinkPlan.{LinkPlan}
 use Rattle.afdx_plan.specs.declared.port_plan.PortPlan.{PortPlan}
-use Rattle.vl_link.specs.Seen.{total_of}
-use Rattle.vl_link.specs.Links.{LinkState, held_at, nothing_held, link_at, no_link}
+use Rattle.vl_link.specs.Links.{LinkState, held_at, link_at}
 use Rattle.afdx_tx.specs.Emitter.{Tx, IsFreshTx, IsOpenedLink, total_in, queues_in}
 use Rattle.script_text.specs.declared.line.Line.{Line}
 use Rattle.tx_script.specs.EndSystem.{no_progress, fresh}
 use Rattle.tx_script.specs.AtBench.{IsPlannedLink, progress_of, MatchesTx, ClosesOnly, IsAtHand, HaveAsked, HaveSent, Sends}
 use Rattle.std.proofs.lemmas.List.Elements.{All-set}
 use Rattle.subvl_queue.specs.Messages.{most_calls}
-use Rattle.subvl_queue.specs.Views.{QueueName, SenderView}
 use Rattle.vl_link.proofs.Choosing.{each_set}
 use Rattle.script_text.specs.declared.outcome.Outcome.{Outcome}
-use Rattle.afdx_tx.specs.Ports.{PortView, BelongsTo, AreFreshPorts, queue_for, index_of}
+use Rattle.afdx_tx.specs.Ports.{PortView, BelongsTo, AreFreshPorts, index_of}
 use Rattle.tx_script.specs.Play.{Messages, added, with_messages}
 
 -- No total has changed.
@@ -81,8 +79,7 @@ module _ (ports : List PortView) (i : ℕ) (d new : PortView) (bytes : List ℕ)
       belongs b = record {
         within = subst (λ (place : ℕ). place < length tx.plan.ports) (sym s.place) b.within;
         plan = s.plan ∙ b.plan ∙ ap (port_plan_at tx.plan.ports) (sym s.place);
-        queue = ap (queue_for tx.plan (queues_in tx.links)) s.plan ∙ b.queue
-            ∙ ap (λ (queue : QueueName). Some queue) (sym s.queue);
+        queue = grind arith;
         index = s.index ∙ b.index ∙ ap (index_of tx.plan.ports) (sym s.place);
       }
 

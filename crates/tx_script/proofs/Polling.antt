@@ -1,6 +1,6 @@
 -- A poll of an emitter, over what was taken of its sub-VLs and what is left.
-use Rattle.std.proofs.Common.{ℕ, ◌≡◌, ◌≢◌, ◌-◌, ◌+◌, ◌<◌, ◌≤◌, List, [], ◌∷◌, ◌++◌, Bool, true, false, nat_lt, length, append-nil, arith, refl, ap, ◌∙◌, sym, subst, inl, inr, ⊎_elim, Result, Ok, Err, OnOk, OnErr}
-use Rattle.std.proofs.lemmas.Bool.{cases_eq, cases_lt, le-ltb}
+use Rattle.std.proofs.Common.{ℕ, ◌≡◌, ◌≢◌, ◌-◌, ◌+◌, ◌<◌, ◌≤◌, List, [], ◌++◌, Bool, true, false, nat_lt, length, append-nil, arith, refl, ap, ◌∙◌, sym, subst, inl, inr, ⊎_elim, Result, Ok, Err, OnOk, OnErr}
+use Rattle.std.proofs.lemmas.Bool.{cases_eq, le-ltb}
 use Rattle.std.proofs.lemmas.List.{length-append, length-map, map-append}
 use Rattle.afdx_plan.specs.Config.{link_plan_at}
 use Rattle.afdx_plan.specs.declared.link_plan.LinkPlan.{LinkPlan}
@@ -13,7 +13,6 @@ use Rattle.redundant_mux.specs.Lines.{Lines, log, Keeps, IsMirrored}
 use Rattle.vl_shaper.specs.Pace.{Pace}
 use Rattle.vl_link.specs.declared.served.Served.{Served}
 use Rattle.vl_link.specs.declared.served.Served.TheVariants.{Nothing, Released, Lost}
-use Rattle.vl_link.specs.Seen.{taken_of}
 use Rattle.vl_link.specs.Turn.{Turn, AreTurns, IsChoice}
 use Rattle.vl_link.specs.Links.{Held, LinkState, held_at, link_at, GoesOn, Starts, Passes, GivesFrame, held_view, sent_of, IsSameLink, taken_by}
 use Rattle.vl_link.proofs.QueueLooks.{taken_nothing, taken_finds}
@@ -22,7 +21,7 @@ use Rattle.afdx_tx.specs.declared.report.Release.{Release}
 use Rattle.afdx_tx.specs.Drain.{pace_in}
 use Rattle.afdx_tx.specs.Emitter.{Tx, taken_in, total_in}
 use Rattle.afdx_tx.specs.Ports.{PortView}
-use Rattle.afdx_tx.specs.Report.{IsTold, release_of}
+use Rattle.afdx_tx.specs.Report.{IsTold}
 use Rattle.afdx_tx.specs.Run.{IsTurn, IsTurnAt, IsRun}
 use Rattle.script_text.specs.declared.line.Line.TheVariants as Said
 use Rattle.script_text.specs.declared.outcome.Outcome.TheVariants as Became

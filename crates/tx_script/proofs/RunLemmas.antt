@@ -1,24 +1,23 @@
 -- How a run goes on, how its lines end, and how it ends once its streams are written.
-use Rattle.std.proofs.Common.{◌≡◌, ℕ, ◌+◌, ◌*◌, ◌<◌, ◌≤◌, List, [], ◌∷◌, length, append-nil, Option, Some, None, refl, ap, sym, ◌∙◌, subst, arith, true, inl, inr, ◌++◌}
+use Rattle.std.proofs.Common.{◌≡◌, ℕ, ◌+◌, ◌*◌, ◌<◌, ◌≤◌, List, [], ◌∷◌, append-nil, Option, Some, None, refl, ap, sym, ◌∙◌, subst, arith, true, inl, inr, ◌++◌}
 use Rattle.std.specs.Prelude.{IfSome, Ok, Err, Result}
 use Rattle.std.specs.Io.KnownBytes.{Appends, Consumes}
 use Rattle.std.proofs.KnownBytes.{Appends-nil, Appends-trans, Appends-kept}
-use Rattle.std.proofs.lemmas.List.Elements.{All-cons, All-head, All-tail}
+use Rattle.std.proofs.lemmas.List.Elements.{All-head, All-tail}
 use Rattle.std.proofs.lemmas.Option.{IfSome_then}
 use Rattle.afdx_plan.specs.Config.{Plan}
-use Rattle.afdx_tx.specs.Emitter.{Tx, taken_in}
+use Rattle.afdx_tx.specs.Emitter.{Tx}
 use Rattle.script_text.specs.Lines.{first_line}
 use Rattle.script_text.specs.Meaning.{meaning_of}
 use Rattle.script_text.specs.Summary.{counted, HasFew}
 use Rattle.script_text.specs.Transcript.{note_of, streams, ends_writing}
 use Rattle.script_text.specs.declared.line.Line.{Line as Said}
-use Rattle.script_text.specs.declared.line.Line.TheVariants.{Nothing}
 use Rattle.script_text.specs.declared.outcome.Outcome.{Outcome}
 use Rattle.script_text.specs.declared.outcome.Outcome.TheVariants.{Quiet}
 use Rattle.script_text.specs.declared.run_fault.RunFault.{RunFault}
 use Rattle.script_text.specs.declared.run_fault.RunFault.TheVariants as Fault
 use Rattle.script_text.specs.declared.summary.Summary.{Summary as Sums}
-use Rattle.tx_script.specs.AtBench.{AtBench, IsFreshBench, Obeys, OnlyTakes, ClosesOnly, TellsTotal, AreTold, IsGathered}
+use Rattle.tx_script.specs.AtBench.{AtBench, IsFreshBench, Obeys, OnlyTakes, ClosesOnly, AreTold, IsGathered}
 use Rattle.tx_script.specs.Play.{AnsweredLine, Play, play, ClosesAt, transcript}
 use Rattle.tx_script.specs.Run.{left_after, AreRun, HasPlayed, IsWhole, Plays, Ends, Leaves}
 use Rattle.tx_script.specs.Running.{SaysLine, ReadsLine, Running, Halted, Stops, HandsOver, Finishes, EndsEarly}
@@ -67,10 +66,7 @@ running_none plan (Some text) old bench is_fresh = record {
   sums_are = refl;
   ran = record {
     lines = tt;
-    matches = record {
-      emitter = fresh_matches plan bench.tx is_fresh.tx;
-      own = fresh_sent bench.tx bench.ports is_fresh.ports;
-    };
+    matches = grind (arith, fresh_matches, fresh_sent);
     told = λ k d lt. absurd (omega arith);
     others = λ place sub none. (each_fresh plan bench.tx is_fresh.tx place sub).1;
     wrote = Appends-nil old;
@@ -110,8 +106,7 @@ module _ (plan : Plan) (bytes left old mid : Option (List ℕ)) (bench : AtBench
         ran = record {
           lines = (record { some = says.some; first = refl; faultless = says.faultless; may = ran.may }, known.ran.lines);
           matches = ran.matches;
-          told = All-cons (λ (t : AnsweredLine). TellsTotal bench2.tx (meaning_of t.line) t.answer) turn known.turns ran.told
-              (told_still (meaning_of line) bench.tx bench2.tx known.turns obeyed.closes known.ran.told);
+          told = grind arith;
           others = λ place sub none.
               let mine = rw obeyed.closes.plan at none in
               let not = λ (t : AnsweredLine). ClosesAt bench.tx.plan (meaning_of t.line) place sub → ⊥ in
@@ -151,9 +146,12 @@ module _ (plan : Plan) (text : List ℕ) (old mid fin : Option (List ℕ)) (benc
   are_run : (before : AtBench) (turns : List AnsweredLine) → Running plan text old mid before turns
       → OnlyTakes before bench → IsGathered bench → AreRun plan text turns
   are_run before turns ran since gathered =
-      grind (arith, finds_first (play plan turns) before bench ran.matches since gathered,
-      totals_are (play plan turns) before bench ran.matches since gathered turns (told_still _ before.tx bench.tx turns since.closes ran.told),
-      told_still _ before.tx bench.tx turns since.closes ran.told)
+      grind (
+        arith,
+        finds_first (play plan turns) before bench ran.matches since gathered,
+        totals_are (play plan turns) before bench ran.matches since gathered turns (told_still _ before.tx bench.tx turns since.closes ran.told),
+        told_still _ before.tx bench.tx turns since.closes ran.told,
+      )
 
   -- the streams follow the notes
   has_played : (a b : FrameLog) (turns : List AnsweredLine) → Running plan text old mid bench turns
@@ -219,11 +217,7 @@ plays_none plan (Some text) old = (
   refl,
   record {
     turns = [];
-    run = record {
-      lines = tt;
-      finds = record { own = λ k s lt below i d none. absurd (omega arith); first = λ place lt. ([], refl) };
-      totals = λ k d none. absurd (omega arith);
-    };
+    run = grind arith;
     written = [];
     unwritten = transcript (play plan []);
     begins = refl;

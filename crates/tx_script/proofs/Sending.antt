@@ -1,6 +1,6 @@
 -- Obeying a line that sends a message.
 use Rattle.std.proofs.Common.{ℕ, ◌≡◌, ◌≢◌, ◌≤◌, ◌<◌, ◌+◌, ◌==◌, inl, inr, List, [], length, set, get_or, refl, ap, ◌∙◌, sym, arith, append-nil, Option, Some, None}
-use Rattle.std.proofs.lemmas.Bool.{eq-eqb, ne_eqb, lt-ltb, le-ltb}
+use Rattle.std.proofs.lemmas.Bool.{eq-eqb, ne_eqb, lt-ltb}
 use Rattle.std.proofs.lemmas.List.Quantifiers.{position-Some}
 use Rattle.afdx_plan.specs.Config.{Plan, port_plan_at}
 use Rattle.afdx_plan.specs.declared.port_plan.PortPlan.{PortPlan}
@@ -22,7 +22,7 @@ use Rattle.script_text.specs.Summary.{HasFew}
 use Rattle.tx_script.specs.AtBench.{AtBench, IsAtHand, Matches, Sends, Obeys, ObeysAt}
 use Rattle.tx_script.specs.EndSystem.{EndSystem}
 use Rattle.tx_script.specs.Play.{Answer, Messages, takes, closes, fills, place_of, passed_on, queued, sent_to, script_refusal, outcome_of}
-use Rattle.tx_script.proofs.Matched.{asked_on, sent_at_hand, asked_more, have_sent, same_totals}
+use Rattle.tx_script.proofs.Matched.{sent_at_hand, asked_more, have_sent, same_totals}
 
 -- a message that the port may send
 may_pass : (port : PortPlan) (size : ℕ) → MaySend port size → length_refusal port size ≡ None

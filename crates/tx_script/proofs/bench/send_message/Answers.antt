@@ -1,6 +1,5 @@
-use Rattle.std.proofs.Common.{◌≢◌, arith}
-use Rattle.afdx_tx.specs.declared.fault.Refusal.TheVariants as Why
-use Rattle.tx_script.proofs.Sending.{sends_accepted, sends_refused}
+use Rattle.std.proofs.Common.{arith}
+use Rattle.tx_script.proofs.Sending.{sends_refused}
 use Rattle.tx_script.proofs.bench.send_message.Goals as goal
 
 pub returns-in-Ok : goal.returns-in-Ok

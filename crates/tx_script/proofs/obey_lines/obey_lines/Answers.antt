@@ -1,7 +1,7 @@
-use Rattle.std.proofs.Common.{◌≡◌, arith}
+use Rattle.std.proofs.Common.{arith}
 use Rattle.std.proofs.lemmas.Result.{err_from_is_err_and}
 use Rattle.tx_script.proofs.Matched.{fresh_asked, asked_on}
-use Rattle.tx_script.proofs.RunLemmas.{running_none, running_turn, within_more, stop_memory, stop_fault, stop_lines}
+use Rattle.tx_script.proofs.RunLemmas.{running_none, running_turn, within_more, stop_memory, stop_fault}
 use Rattle.tx_script.proofs.obey_lines.obey_lines.Goals as goal
 
 pub loop-count-init : goal.loop-count-init
@@ -15,8 +15,11 @@ returns-in_err-said g c =
 
 pub returns-in_err-outcome : goal.returns-in_err-outcome
 returns-in_err-outcome g c =
-    grind (arith, err_from_is_err_and c.from_residual-in_err-outcome.result c.from_residual-in_err-outcome.ensures.1,
-    stop_memory _ _ c.loop-count.bytes _ _ c.loop-count.bench c.loop-count.count c.loop-count.sums c.loop-count.invariant.running c.obey.new.bench c.in_err-outcome.ensures.halted)
+    grind (
+      arith,
+      err_from_is_err_and c.from_residual-in_err-outcome.result c.from_residual-in_err-outcome.ensures.1,
+      stop_memory _ _ c.loop-count.bytes _ _ c.loop-count.bench c.loop-count.count c.loop-count.sums c.loop-count.invariant.running c.obey.new.bench c.in_err-outcome.ensures.halted,
+    )
 
 pub loop-count-preserved : goal.loop-count-preserved
 loop-count-preserved g c =
