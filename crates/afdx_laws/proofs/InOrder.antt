@@ -1,8 +1,8 @@
 -- Fragments in order complete their datagrams in order, and need one buffer.
 use Rattle.afdx_laws.proofs.Names.{◌≡◌, ℕ, zero, suc, ◌+◌, ◌%◌, ◌≤◌, ◌<◌, inl, inr, true, false, nat_eq, cond, List, [], ◌∷◌, ◌++◌, length, map, take, refl, ap}
-use Rattle.afdx_laws.proofs.Names.{sym, ◌∙◌, arith, All, Option, Some, None, nat_tests, cases_lt, cases_Bool, eqb-true, append_assoc, length-append, length-map}
+use Rattle.afdx_laws.proofs.Names.{sym, ◌∙◌, arith, All, Some, None, nat_tests, cases_lt, cases_Bool, eqb-true, append_assoc, length-append, length-map}
 use Rattle.afdx_laws.proofs.Names.{identification, cutting, pieces_from, cutting_some, Fragment, Buffer, empty, put, put_all, bytes_to, datagram_in}
-use Rattle.afdx_laws.proofs.Names.{fragment_of, fragments_of, IsPrefixOf, with_buffer, kept_in, given, delivered, of_sub, keyed, sent_from, HasByte, AreGiven}
+use Rattle.afdx_laws.proofs.Names.{fragment_of, fragments_of, IsPrefixOf, with_buffer, kept_in, delivered, of_sub, keyed, sent_from, HasByte, AreGiven}
 use Rattle.afdx_laws.proofs.Names.{InOrder, buffers_after}
 use Rattle.afdx_frame.proofs.Buffers.{any_order_holds}
 use Rattle.afdx_laws.proofs.ListLemmas.{cons_parts, nil_begins}

@@ -1,11 +1,11 @@
 -- Each link of a plan, by what was transmitted legally.
-use Rattle.afdx_laws.proofs.Names.{◌≡◌, ℕ, ◌≤◌, nat_eq, List, ◌++◌, length, map, take, drop, refl, ap, sym, ◌∙◌, arith, ◌<◌, Bool, true, [], ◌∷◌, All}
+use Rattle.afdx_laws.proofs.Names.{◌≡◌, ℕ, ◌≤◌, nat_eq, List, length, map, take, drop, refl, ap, sym, ◌∙◌, arith, ◌<◌, Bool, true, [], ◌∷◌, All}
 use Rattle.afdx_laws.proofs.Names.{filter, take-append_seam, take-append-drop, length-map, length-take, take_all, take-map, All-weaker, All-map, All-filter}
 use Rattle.afdx_laws.proofs.Names.{map-map, LinkPlan, Net, A, B, blanked, Sent, link_in, sub_in, number_in, twin_of, twin_same, twin_link, Entry}
 use Rattle.afdx_laws.proofs.Names.{side, names, those_with, link_stream, sub_stream, told, entry_number, IsNumbered, IsKnown, AreKnown, AreTwins, Accepted}
 use Rattle.afdx_laws.proofs.Names.{is_on_both, on_both, IsLegal, IsLegalOn, known_all, with_append, with_map, numbered_map, IsLong, IsOfNet, IsHanded}
 use Rattle.afdx_laws.proofs.Names.{AreHanded, frames_of, id_at, piece_room, IsHandedOver, LegalArrive, LegalDespiteLoss, cases_lt, eqb-true, Plan, IsPlan}
-use Rattle.afdx_laws.proofs.Names.{link_plan_at, is_both, Networks, Both, OnlyA, OnlyB, IsLink, IsSent, IsLinkOf, IsQueued}
+use Rattle.afdx_laws.proofs.Names.{link_plan_at, is_both, Networks, Both, OnlyA, OnlyB, IsLink, IsSent, IsQueued}
 use Rattle.afdx_legal.proofs.OnBoth.{on_both_is}
 use Rattle.afdx_laws.proofs.HandedOver.{own_twins, twin_twin, handed_arrive_holds, handed_despite_loss_holds}
 

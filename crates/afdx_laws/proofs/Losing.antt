@@ -1,6 +1,6 @@
 -- The whole network makes good what the other one loses.
 use Rattle.afdx_laws.proofs.Names.{◌&&◌, ◌≡◌, ℕ, suc, ◌+◌, ◌-◌, ◌≤◌, ◌<◌, ◌⊎◌, inl, inr, Bool, true, false, cond, max, List, [], ◌∷◌, ◌++◌, length, map, take}
-use Rattle.afdx_laws.proofs.Names.{get_or, refl, ap, sym, ◌∙◌, subst, arith, Some, None, cases_Bool, and_parts, append-nil, get_or-map, length-map}
+use Rattle.afdx_laws.proofs.Names.{refl, ap, sym, ◌∙◌, arith, Some, None, cases_Bool, and_parts, append-nil, get_or-map, length-map}
 use Rattle.afdx_laws.proofs.Names.{sequence_number, Net, A, twin_of, Tolerance, State, other, begin, is_accepted, is_valid, is_ahead, received, carried}
 use Rattle.afdx_laws.proofs.Names.{with_seen, with_accepted, seen_on, number_in, same_net, AreWithin, StartsFirst, AreClose, BeginsFirst, frame_at, LossMasked}
 use Rattle.afdx_laws.proofs.Names.{FirstComes, MaskedFromFirst, NumbersClash}

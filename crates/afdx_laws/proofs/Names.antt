@@ -1,22 +1,21 @@
 -- The names of other crates, and of this one's definitions, that the proofs here use.
-pub use Rattle.std.proofs.Common.{Bool, List, [], ap, arith, cond, drop, eqb, false, get_or, inl, inr, length, map, max}
-pub use Rattle.std.proofs.Common.{nat_eq, nat_le, nat_lt, not, refl, rules, subst, suc, sym, take, true, zero, ℕ, ◌%◌}
-pub use Rattle.std.proofs.Common.{◌&&◌, ◌*◌, ◌++◌, ◌+◌, ◌-◌, ◌/◌, ◌<◌, ◌||◌, ◌∙◌, ◌∷◌, ◌≡◌, ◌≢◌, ◌≤◌, ◌⊎◌}
+pub use Rattle.std.proofs.Common.{Bool, List, [], ap, arith, cond, drop, eqb, false, get_or, inl, inr, length, map, max, nat_eq, nat_le, nat_lt, not, refl}
+pub use Rattle.std.proofs.Common.{rules, subst, suc, sym, take, true, zero, ℕ, ◌%◌, ◌&&◌, ◌*◌, ◌++◌, ◌+◌, ◌-◌, ◌<◌, ◌||◌, ◌∙◌, ◌∷◌, ◌≡◌, ◌≢◌, ◌≤◌, ◌⊎◌}
 pub use Rattle.std.proofs.Math.Seq.{take-append_seam}
 pub use Rattle.std.proofs.lemmas.Bool.{and_parts, cases_Bool, cases_eq, cases_lt, eq-eqb, eqb-true, false≢true, le-leb, le-ltb, lt-ltb, ne_eqb}
 pub use Rattle.std.proofs.lemmas.Bool.Decides.{nat_tests}
 pub use Rattle.std.proofs.lemmas.Grind.{common_steps}
-pub use Rattle.std.proofs.lemmas.List.{append-nil, append_assoc, drop-set-lt, drop_all, drop_at, drop_more, get_or-map}
+pub use Rattle.std.proofs.lemmas.List.{append-nil, append_assoc, drop_all, drop_at, drop_more, get_or-map}
 pub use Rattle.std.proofs.lemmas.List.{length-append, length-drop, length-map, length-take, map-append, set-set, take-append-drop, take-map, take-take, take_all, take_more}
-pub use Rattle.std.proofs.lemmas.List.Elements.{All-append, All-cons, All-contains, All-filter, All-from_recursion, All-head, All-map, All-nil, All-tail, All-take, All-weaker}
+pub use Rattle.std.proofs.lemmas.List.Elements.{All-append, All-cons, All-filter, All-from_recursion, All-head, All-map, All-nil, All-tail, All-take, All-weaker}
 pub use Rattle.std.proofs.lemmas.List.Elements.{filter_passes}
 pub use Rattle.std.proofs.lemmas.List.Sums.{count_by-le-length, length-filter, sum_by-cons}
 pub use Rattle.std.proofs.lemmas.Nat.{le-div, mul-le}
 pub use Rattle.std.proofs.lemmas.Simd.{map-map}
 pub use Rattle.std.specs.List.{AllByRecursion, AllZip, IsDistinct, list_any}
-pub use Rattle.std.specs.Prelude.{All, Contains, None, Option, Some, filter, if◌then◌else◌, slice_index}
+pub use Rattle.std.specs.Prelude.{All, None, Option, Some, filter, if◌then◌else◌, slice_index}
 pub use Rattle.afdx_plan.proofs.DemoPlan.{demo_port_is, demo_valid}
-pub use Rattle.afdx_plan.specs.Config.{HasLink, IsPlan, Plan, link_plan_at, port_plan_at}
+pub use Rattle.afdx_plan.specs.Config.{IsPlan, Plan, link_plan_at}
 pub use Rattle.afdx_plan.specs.Networks.{is_both}
 pub use Rattle.afdx_plan.specs.Numbers.{identification, sequence_number}
 pub use Rattle.afdx_plan.specs.Plan.{IsLink, IsPort, bag_micros}
@@ -26,17 +25,16 @@ pub use Rattle.afdx_plan.specs.declared.networks.Networks.{Networks}
 pub use Rattle.afdx_plan.specs.declared.networks.Networks.TheVariants.{Both, OnlyA, OnlyB}
 pub use Rattle.afdx_frame.proofs.CuttingLemmas.{cut_last, cut_more, cutting_some, step_le}
 pub use Rattle.afdx_frame.proofs.Says.{length-frame, payload_says, says, total_ok}
-pub use Rattle.afdx_frame.proofs.Twins.{twin_link, twin_number, twin_same, twin_sub, twin_twice, twin_word}
+pub use Rattle.afdx_frame.proofs.Twins.{twin_link, twin_number, twin_same, twin_sub, twin_twice}
 unfoldable pub use Rattle.afdx_frame.specs.Checksum.{checksum}
 pub use Rattle.afdx_frame.specs.Cutting.{cut_by, pieces_from}
 unfoldable pub use Rattle.afdx_frame.specs.Cutting.{cutting}
 pub use Rattle.afdx_frame.specs.Fragments.{Sent, blanked, fragments, fragments_from}
 unfoldable pub use Rattle.afdx_frame.specs.Fragments.{fragments_at}
-pub use Rattle.afdx_frame.specs.Frame.{frame_of, interface_byte}
-unfoldable pub use Rattle.afdx_frame.specs.Frame.{addresses, datagram, header_front, internet_header, link_header}
-unfoldable pub use Rattle.afdx_frame.specs.Frame.{udp_header, unnumbered}
+pub use Rattle.afdx_frame.specs.Frame.{interface_byte}
+unfoldable pub use Rattle.afdx_frame.specs.Frame.{addresses, datagram, header_front, internet_header, link_header, udp_header, unnumbered}
 pub use Rattle.afdx_frame.specs.Header.{link_in, number_in, sub_in}
-pub use Rattle.afdx_frame.specs.Profile.{total_length, word_at}
+pub use Rattle.afdx_frame.specs.Profile.{word_at}
 pub use Rattle.afdx_frame.specs.ReadBack.{IsPiece}
 pub use Rattle.afdx_frame.specs.Reassembly.{Buffer, Fragment, bytes_to, datagram_in, empty, end_of, fragment_of, fragments_of, put, put_all}
 pub use Rattle.afdx_frame.specs.Twin.{twin_of}
@@ -50,22 +48,20 @@ pub use Rattle.afdx_legal.specs.Allowed.{IsAllowed, IsQueued, messages_of}
 pub use Rattle.afdx_legal.specs.Legal.{Accepted, AreKnown, AreTwins, IsKnown, IsLegal, IsLegalOn, is_on_both, on_both}
 pub use Rattle.afdx_legal.specs.Own.{own_stream}
 pub use Rattle.afdx_legal.specs.Streams.{IsNumbered, IsPrefixOf, IsSpaced, entry_number, link_stream, stamp_of, sub_stream, those_with, told, told_of}
-pub use Rattle.afdx_laws.specs.Buffers.{FirstIsGiven, HandedNeedOne, HasUpTo, HoldsAFrame, HoldsOne, IsOneEnough}
-pub use Rattle.afdx_laws.specs.Buffers.{LegalNeedOne, LegalNeedOneDespite, NeedsInTurn, NeedsOrder, OneBuffer}
-pub use Rattle.afdx_laws.specs.Buffers.{buffers_after, eight_bytes, one_without_bytes, piece, second_came, two_begun, two_datagrams}
+pub use Rattle.afdx_laws.specs.Buffers.{FirstIsGiven, HandedNeedOne, HasUpTo, HoldsAFrame, HoldsOne, IsOneEnough, LegalNeedOne, LegalNeedOneDespite}
+pub use Rattle.afdx_laws.specs.Buffers.{NeedsInTurn, NeedsOrder, OneBuffer, buffers_after, piece, two_begun, two_datagrams}
 pub use Rattle.afdx_laws.specs.Delivery.{AreCarriedOf, AreFirst, AreGiven, AreHanded, DespiteLoss, HandedArrive}
 pub use Rattle.afdx_laws.specs.Delivery.{HandedDespiteLoss, HasByte, InOrder, IsHanded, IsLinkOf, IsOfNet, IsSending}
-pub use Rattle.afdx_laws.specs.Delivery.{IsSent, MessagesArrive, delivered, fragment_in, given, kept_in, keyed, longer, messages_in, of_sub, sent_from, with_buffer}
+pub use Rattle.afdx_laws.specs.Delivery.{IsSent, MessagesArrive, delivered, fragment_in, kept_in, keyed, longer, messages_in, of_sub, sent_from, with_buffer}
 pub use Rattle.afdx_laws.specs.Loss.{AreClose, AreWithin, BeginsFirst, FirstComes, LossMasked, MaskedFromFirst}
-pub use Rattle.afdx_laws.specs.Loss.{NumbersClash, StartsFirst, frame_at, frames_at, next_alone, one_lost, same_net}
+pub use Rattle.afdx_laws.specs.Loss.{NumbersClash, StartsFirst, frame_at, frames_at, next_alone, same_net}
 pub use Rattle.afdx_laws.specs.Plans.{AllOnBoth, IsHandedOver, IsOn, IsOnBoth, LegalArrive, LegalDespiteLoss}
 pub use Rattle.afdx_laws.specs.Plans.{LegalPasses, OneNetworkArrives, OwnListsArrive, all_from, frames_of, handed_to, id_at, longer_of, piece_room}
 pub use Rattle.afdx_laws.specs.Policer.{Account, AreBetween, AreOnTime, Arrival, Charge, IsOnItsWay, IsOnTime, IsUpTo}
 pub use Rattle.afdx_laws.specs.Policer.{NeedsTheGreatest, NoMorePasses, NoneDropped, Passage, Rule, StreamPasses}
 pub use Rattle.afdx_laws.specs.Policer.{arrival, by_bytes, by_frames, cost, filled, full, limit, paid, passed, price, rule_around}
 pub use Rattle.afdx_laws.specs.Receiver.{AreCarried, ExactlyOnce, IsLong, IsNear, IsStream, State, Tolerance, ahead}
-pub use Rattle.afdx_laws.specs.Receiver.{begin, carried, carried_by, is_accepted, is_ahead, is_valid, most_carried, next_number, other, received, seen_on, with_accepted, with_seen}
-pub use Rattle.afdx_laws.specs.WorkedDelivery.{AcceptsEachOnce, BeginsOnBoth, ComesDespiteLoss, MasksOneLoss, NeedsALag}
-pub use Rattle.afdx_laws.specs.WorkedDelivery.{NeedsAStream, NeedsAWholeNetwork, NeedsHanding, NeedsNumbers}
-pub use Rattle.afdx_laws.specs.WorkedDelivery.{NeedsOneWhole, NeedsTheFirst, OneMessageArrives, bare_frame, bare_stream}
-pub use Rattle.afdx_laws.specs.WorkedDelivery.{both_frames, far_behind, first_lost, four_arrivals, one_accepted, plain_receiver, same_twice, second_lost, wide_receiver}
+pub use Rattle.afdx_laws.specs.Receiver.{begin, carried, is_accepted, is_ahead, is_valid, most_carried, next_number, other, received, seen_on, with_accepted, with_seen}
+pub use Rattle.afdx_laws.specs.WorkedDelivery.{AcceptsEachOnce, BeginsOnBoth, ComesDespiteLoss, MasksOneLoss, NeedsALag, NeedsAStream, NeedsAWholeNetwork}
+pub use Rattle.afdx_laws.specs.WorkedDelivery.{NeedsHanding, NeedsNumbers, NeedsOneWhole, NeedsTheFirst, OneMessageArrives, bare_frame, bare_stream}
+pub use Rattle.afdx_laws.specs.WorkedDelivery.{both_frames, far_behind, four_arrivals, one_accepted, plain_receiver, same_twice, second_lost, wide_receiver}

@@ -1,17 +1,16 @@
 -- The next fragment of a message comes within a round of the sub-VLs.
-use Rattle.afdx_laws.proofs.Names.{◌≡◌, ◌≢◌, ℕ, zero, suc, ◌+◌, ◌*◌, ◌≤◌, ◌<◌, Bool, true, false, eqb, cond, List, [], ◌∷◌, ◌++◌, length, map, refl}
-use Rattle.afdx_laws.proofs.Names.{subst, arith, All, AllByRecursion, IsDistinct, list_any, nat_tests, eq-eqb, ne_eqb, false≢true, length-map, length-filter}
-use Rattle.afdx_laws.proofs.Names.{count_by-le-length, All-tail, All-weaker, All-from_recursion, link_plan_at, bag_micros, LinkPlan, sub_in, Entry, mul-le}
-use Rattle.afdx_laws.proofs.Names.{sub_stream, link_stream, id_at}
+use Rattle.afdx_laws.proofs.Names.{◌≡◌, ◌≢◌, ℕ, zero, suc, ◌+◌, ◌*◌, ◌≤◌, ◌<◌, Bool, true, false, eqb, cond, List, [], ◌∷◌, ◌++◌, length, map, refl, subst}
+use Rattle.afdx_laws.proofs.Names.{arith, All, AllByRecursion, IsDistinct, list_any, nat_tests, eq-eqb, ne_eqb, false≢true, length-map, length-filter}
+use Rattle.afdx_laws.proofs.Names.{count_by-le-length, All-tail, link_plan_at, bag_micros, LinkPlan, sub_in, Entry, sub_stream, link_stream, id_at}
 use Rattle.std.proofs.Common.{Some}
 use Rattle.std.proofs.lemmas.Map.Keys.{IsDistinct-cons, IsDistinct-from_apart}
 use Rattle.std.proofs.lemmas.Map.Steps.{length-le_from_distinct_below}
 use Rattle.vl_shaper.proofs.Polled.{polled_in_time_holds}
 use Rattle.afdx_legal.specs.Turns.{before_next, IsFollowedInTurn, TakesTurns}
 use Rattle.afdx_laws.specs.NextFragment.{AreNeighbours, IsOfOneOf, NextInARound, FollowWithin, NextInTime, NextPolledInTime, link_wait, longest_wait, NextInPlan, LieTwoGapsApart}
-use Rattle.afdx_legal.specs.WorkedTurns.{turn_entry, TurnsAreTold}
+use Rattle.afdx_legal.specs.WorkedTurns.{TurnsAreTold}
 use Rattle.afdx_laws.proofs.ListLemmas.{all_front}
-use Rattle.afdx_laws.proofs.LegalSpacing.{IsOfSubs, stream_within}
+use Rattle.afdx_laws.proofs.LegalSpacing.{stream_within}
 
 abbrev subs_of : List Entry → List ℕ
 subs_of es = map (λ (e : Entry). sub_in e.frame) es

@@ -1,5 +1,5 @@
 -- Numbers that differ.
-use Rattle.afdx_laws.proofs.Names.{◌≡◌, ℕ, zero, suc, ◌+◌, ◌-◌, ◌%◌, ◌≤◌, ◌<◌, true, false, refl, arith, Option, Some, None, sequence_number, next_number}
+use Rattle.afdx_laws.proofs.Names.{◌≡◌, ℕ, zero, suc, ◌+◌, ◌-◌, ◌≤◌, ◌<◌, true, false, refl, arith, Option, Some, None, sequence_number, next_number}
 use Rattle.afdx_laws.proofs.Names.{ahead, is_ahead, is_valid}
 
 pub next_is : (i : ℕ) → next_number (sequence_number i) ≡ sequence_number (suc i)

@@ -1,6 +1,6 @@
 -- What is transmitted of a link on one network arrives from that network.
-use Rattle.afdx_laws.proofs.Names.{◌≡◌, ℕ, List, [], ◌∷◌, ◌++◌, length, map, take, refl, ap, sym, ◌∙◌, subst, arith, All, take-append_seam, Plan, Net, A, B}
-use Rattle.afdx_laws.proofs.Names.{number_in, twin_of, Entry, IsPrefixOf, Accepted, begin, received, other, carried_by, carried, IsNear, most_carried}
+use Rattle.afdx_laws.proofs.Names.{◌≡◌, ℕ, List, [], ◌∷◌, ◌++◌, length, map, refl, ap, sym, subst, arith, All, take-append_seam, Plan, Net, A, B}
+use Rattle.afdx_laws.proofs.Names.{number_in, twin_of, Entry, IsPrefixOf, Accepted, begin, received, other, carried, IsNear, most_carried}
 use Rattle.afdx_laws.proofs.Names.{messages_in, AreFirst, IsOfNet, IsHanded, id_at, piece_room, frames_of, handed_to, all_from, IsHandedOver, OneNetworkArrives}
 use Rattle.afdx_laws.proofs.ListLemmas.{cons_parts, nil_isnt_cons}
 use Rattle.afdx_laws.proofs.Arriving.{messages_arrive_holds}

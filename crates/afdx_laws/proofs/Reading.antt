@@ -1,10 +1,9 @@
 -- What is read of a frame is what went in.
-use Rattle.afdx_laws.proofs.Names.{◌≡◌, ℕ, zero, suc, inl, inr, ◌+◌, ◌-◌, ◌%◌, ◌≤◌, List, [], ◌∷◌, ◌++◌, length, map, take, drop, get_or, refl, ap, ◌∙◌}
-use Rattle.afdx_laws.proofs.Names.{subst, arith, All, AllByRecursion, cases_lt, All-from_recursion, map-append, length-append, drop_at, take_more}
-use Rattle.afdx_laws.proofs.Names.{take_all, IsPort, identification, Net, Piece, step_of, cut_by, pieces_from, step_le, cut_last, cut_more}
-use Rattle.afdx_laws.proofs.Names.{udp_header, unnumbered, frame_of, twin_of, total_length, Sent, blanked, fragments_from, IsPiece, says, total_ok}
-use Rattle.afdx_laws.proofs.Names.{payload_says, Fragment, fragment_of, fragments_of, sub_in, those_with, with_map, of_sub, keyed, sent_from, IsLong}
-use Rattle.afdx_laws.proofs.Names.{fragment_in, IsSent, cutting, datagram, fragments_at}
+use Rattle.afdx_laws.proofs.Names.{◌≡◌, ℕ, zero, suc, inl, inr, ◌+◌, ◌-◌, ◌%◌, ◌≤◌, List, [], ◌∷◌, ◌++◌, length, map, drop, get_or, refl, ap, ◌∙◌, subst, arith}
+use Rattle.afdx_laws.proofs.Names.{All, AllByRecursion, cases_lt, All-from_recursion, map-append, length-append, drop_at, take_more, take_all, IsPort}
+use Rattle.afdx_laws.proofs.Names.{identification, Net, Piece, step_of, cut_by, pieces_from, step_le, cut_last, cut_more, udp_header, unnumbered, twin_of, Sent}
+use Rattle.afdx_laws.proofs.Names.{blanked, fragments_from, IsPiece, says, total_ok, payload_says, Fragment, fragment_of, fragments_of, sub_in, those_with}
+use Rattle.afdx_laws.proofs.Names.{with_map, of_sub, keyed, sent_from, IsLong, fragment_in, IsSent, cutting, datagram, fragments_at}
 use Rattle.afdx_frame.proofs.PiecesAre.{pieces_are}
 use Rattle.afdx_frame.proofs.Datagram.{length-udp_header}
 use Rattle.afdx_laws.proofs.ListLemmas.{cons_parts, cons_same, append_same, nil_isnt_cons}
@@ -108,7 +107,8 @@ reads_frames [] us rest each long is = ap (map read_any) is
 reads_frames (f ∷ frames) [] rest each long is = absurd (nil_isnt_cons is)
 reads_frames (f ∷ frames) (u ∷ us) rest each long is = grind (
   arith,
-  take_all, take_more,
+  take_all,
+  take_more,
   long 0 f (omega arith),
   each.0 (get_or f (length f - 1) 0),
   reads_frames frames us rest each.1 (λ k d h. long (suc k) d (omega arith)) (cons_parts is).1,

@@ -1,5 +1,5 @@
 -- All that was accepted was transmitted, and arrives.
-use Rattle.afdx_laws.proofs.Names.{◌≡◌, ℕ, ◌≤◌, List, length, map, ap, ◌∙◌, arith, All-weaker, take_all, length-map, Plan, link_plan_at, Net, A, Sent, fragments, sub_in}
+use Rattle.afdx_laws.proofs.Names.{◌≡◌, ℕ, List, length, map, ap, arith, All-weaker, take_all, length-map, Plan, link_plan_at, Net, A, Sent, fragments, sub_in}
 use Rattle.afdx_laws.proofs.Names.{twin_of, twin_sub, Entry, those_with, link_stream, Accepted, own_stream, with_map, most_carried, longer, id_at, piece_room}
 use Rattle.afdx_laws.proofs.Names.{frames_of, longer_of, IsAllowed, IsQueued, OwnListsArrive}
 use Rattle.afdx_legal.specs.Own.{longer as longer_stream}

@@ -1,16 +1,14 @@
 -- The worked transmissions of a plan, by computation: of one message, also complete and on one network, and of two.
-use Rattle.afdx_laws.proofs.Names.{◌≡◌, ℕ, true, [], ◌∷◌, refl, sym, ◌∙◌, arith, ◌≤◌, Bool, nat_eq, List, length, map, ap}
-use Rattle.afdx_laws.proofs.Names.{All-from_recursion, if◌then◌else◌, All, AllZip, port_plan_at, IsPlan, Networks}
-use Rattle.afdx_laws.proofs.Names.{Both, OnlyA, demo_valid, Net, A, B, Sent, names, link_stream, Accepted, IsKnown, IsLegalOn, IsLegal, IsAllowed, IsQueued, messages_of}
-use Rattle.afdx_laws.proofs.Names.{by_frames, IsOnItsWay, AreCarriedOf, frames_of, IsOn, IsOnBoth, IsHandedOver, plain_receiver, checksum, cutting}
-use Rattle.afdx_laws.proofs.Names.{fragments_at, addresses, header_front, internet_header, link_header, udp_header, datagram, unnumbered}
+use Rattle.afdx_laws.proofs.Names.{◌≡◌, ℕ, [], ◌∷◌, refl, sym, ◌∙◌, arith, ◌≤◌, Bool, nat_eq, List, length, map, ap, All-from_recursion, if◌then◌else◌, All}
+use Rattle.afdx_laws.proofs.Names.{IsPlan, Networks, Both, OnlyA, demo_valid, A, B, Sent, Accepted, IsLegal, IsQueued, messages_of, AreCarriedOf, frames_of}
+use Rattle.afdx_laws.proofs.Names.{IsOn, IsOnBoth, IsHandedOver, plain_receiver, checksum, cutting, fragments_at, addresses, header_front, internet_header}
+use Rattle.afdx_laws.proofs.Names.{link_header, udp_header, datagram, unnumbered}
 use Rattle.afdx_plan.specs.Demo.{demo_plan, demo_port, demo_link}
-use Rattle.afdx_legal.specs.WorkedMessage.{one_byte_accepted, one_frame, one_byte}
-use Rattle.afdx_laws.specs.WorkedPlan.{one_entry, two_arrivals, OneIsLegal, LegalDespiteOneLoss, one_own, other_own, OwnComes, OneIsWhole, NeedsAll, demo_on, ComesFromOne, AreTwinsOfOne, two_accepted, swapped_accepted, pair_at, two_entries, PairHanded, AreSwapped, both_arrive, PairArrives, NeedsLegal, both_from_b, NeedsClose, pair_passes, PassesAGapApart}
+use Rattle.afdx_legal.specs.WorkedMessage.{one_byte_accepted, one_byte}
+use Rattle.afdx_laws.specs.WorkedPlan.{one_entry, two_arrivals, OneIsLegal, LegalDespiteOneLoss, one_own, other_own, OwnComes, OneIsWhole, NeedsAll, demo_on, ComesFromOne, AreTwinsOfOne, two_accepted, swapped_accepted, two_entries, PairHanded, AreSwapped, both_arrive, PairArrives, NeedsLegal, both_from_b, NeedsClose, PassesAGapApart}
 use Rattle.afdx_laws.proofs.AllOnBoth.{all_on_both_holds}
 use Rattle.afdx_laws.proofs.LegalLinks.{legal_arrive_holds, legal_despite_loss_holds}
-use Rattle.afdx_laws.proofs.LegalSpacing.{legal_passes_holds}
-use Rattle.afdx_laws.proofs.ListLemmas.{below_one, below_both, nil_isnt_cons, other_length, fails_by, needs_each}
+use Rattle.afdx_laws.proofs.ListLemmas.{below_one, nil_isnt_cons, fails_by, needs_each}
 use Rattle.afdx_laws.proofs.WholeHanded.{own_lists_arrive_holds}
 use Rattle.afdx_laws.proofs.WorkedMessage.{few_are_near, not_first, too_few, close_by_test}
 

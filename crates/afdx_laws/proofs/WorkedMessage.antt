@@ -1,12 +1,11 @@
 -- The worked delivery, the worked runs of a receiver and the worked losses, by computation.
-use Rattle.afdx_laws.proofs.Names.{◌≡◌, ◌≤◌, ◌<◌, List, [], ◌∷◌, length, map, take, ◌+◌, ℕ, suc, false, nat_eq, refl, ap, arith, max, Bool, true, not}
-use Rattle.afdx_laws.proofs.Names.{◌&&◌, ◌||◌, nat_lt, nat_le, cond, and_parts, nat_tests, slice_index, length-append, length-take, length-map}
-use Rattle.afdx_laws.proofs.Names.{All-from_recursion, demo_port_is, Net, A, B, Sent, fragments, sub_in, twin_of, those_with, carried, other}
-use Rattle.afdx_laws.proofs.Names.{IsNear, IsLong, IsStream, AreCarried, AreWithin, StartsFirst, AreClose, same_net, IsSending, AreFirst}
-use Rattle.afdx_laws.proofs.Names.{IsHanded, AreHanded, one_accepted, both_frames, four_arrivals, OneMessageArrives, NeedsHanding, bare_frame}
-use Rattle.afdx_laws.proofs.Names.{bare_stream, same_twice, far_behind, wide_receiver, AcceptsEachOnce, NeedsNumbers, NeedsALag, NeedsAStream, second_lost}
-use Rattle.afdx_laws.proofs.Names.{MasksOneLoss, NeedsTheFirst, BeginsOnBoth, ComesDespiteLoss, NeedsAWholeNetwork, NeedsOneWhole, checksum}
-use Rattle.afdx_laws.proofs.Names.{cutting, addresses, header_front, internet_header, link_header, udp_header, datagram, unnumbered, fragments_at}
+use Rattle.afdx_laws.proofs.Names.{◌≡◌, ◌≤◌, ◌<◌, List, [], ◌∷◌, length, map, take, ◌+◌, ℕ, false, nat_eq, refl, ap, arith, max, Bool, true, not, ◌&&◌, ◌||◌}
+use Rattle.afdx_laws.proofs.Names.{nat_lt, nat_le, cond, and_parts, slice_index, length-append, length-take, length-map, All-from_recursion, demo_port_is, Net}
+use Rattle.afdx_laws.proofs.Names.{A, B, Sent, fragments, sub_in, twin_of, those_with, carried, other, IsNear, IsLong, IsStream, AreCarried, AreWithin}
+use Rattle.afdx_laws.proofs.Names.{StartsFirst, AreClose, same_net, IsSending, AreFirst, AreHanded, one_accepted, both_frames, four_arrivals, OneMessageArrives}
+use Rattle.afdx_laws.proofs.Names.{NeedsHanding, bare_frame, bare_stream, same_twice, far_behind, wide_receiver, AcceptsEachOnce, NeedsNumbers, NeedsALag}
+use Rattle.afdx_laws.proofs.Names.{NeedsAStream, second_lost, MasksOneLoss, NeedsTheFirst, BeginsOnBoth, ComesDespiteLoss, NeedsAWholeNetwork, NeedsOneWhole}
+use Rattle.afdx_laws.proofs.Names.{checksum, cutting, addresses, header_front, internet_header, link_header, udp_header, datagram, unnumbered, fragments_at}
 use Rattle.afdx_laws.proofs.ListLemmas.{cons_parts, other_length, fails_by, needs_each}
 use Rattle.afdx_laws.proofs.Receiving.{exactly_once_holds}
 use Rattle.afdx_laws.proofs.Arriving.{messages_arrive_holds, despite_loss_holds}

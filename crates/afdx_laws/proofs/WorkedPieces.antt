@@ -1,8 +1,7 @@
 -- The worked reassembly and its buffers, by computation.
-use Rattle.afdx_laws.proofs.Names.{ℕ, ◌≤◌, false, [], ◌∷◌, refl, arith, ◌≡◌, inl, inr, ap, sym, true, All, Some, None, cases_eq, All-from_recursion}
-use Rattle.afdx_laws.proofs.Names.{Buffer, empty, HasByte, buffers_after, HoldsOne, HasUpTo}
-use Rattle.afdx_laws.proofs.Names.{checksum, cutting, addresses, header_front, internet_header, link_header, udp_header, datagram, unnumbered, two_datagrams}
-use Rattle.afdx_laws.proofs.Names.{piece, FirstIsGiven, NeedsOrder, two_begun, NeedsInTurn, HoldsAFrame}
+use Rattle.afdx_laws.proofs.Names.{ℕ, false, [], ◌∷◌, refl, arith, ◌≡◌, inl, inr, ap, sym, true, All, Some, cases_eq, All-from_recursion, Buffer, empty}
+use Rattle.afdx_laws.proofs.Names.{HasByte, buffers_after, HoldsOne, HasUpTo, checksum, cutting, addresses, header_front, internet_header, link_header}
+use Rattle.afdx_laws.proofs.Names.{udp_header, datagram, unnumbered, two_datagrams, piece, FirstIsGiven, NeedsOrder, two_begun, NeedsInTurn, HoldsAFrame}
 use Rattle.afdx_laws.proofs.ListLemmas.{fails_by}
 use Rattle.afdx_laws.proofs.OneBuffer.{one_buffer}
 

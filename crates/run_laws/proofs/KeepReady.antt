@@ -1,10 +1,8 @@
 -- An emitter stays ready.
-use Rattle.run_laws.proofs.Names.{ℕ, ◌≡◌, ◌<◌, List, [], length, arith, ap, ◌∙◌, sym, subst, All, Plan, PortPlan, Held, LinkState, held_at, link_at, sent_by, taken_by, IsSameLink, turns_each, IsQueued, AreQueued, Tx, taken_in, IsOpenedSub, IsFreshTx, IsRun, IsTurnAt, IsPlanned, IsReadyFor, IsReady, KeptReady}
-use Rattle.vl_link.specs.declared.sub_vl.SubVl.{SubVl}
-use Rattle.vl_link.specs.Seen.{Seen, taken_of}
+use Rattle.run_laws.proofs.Names.{ℕ, ◌≡◌, ◌<◌, List, length, arith, ap, ◌∙◌, sym, subst, All, Plan, LinkState, link_at, IsSameLink, turns_each, IsQueued, AreQueued, Tx, taken_in, IsFreshTx, IsRun, IsTurnAt, IsPlanned, IsReadyFor, IsReady, KeptReady}
 use Rattle.afdx_tx.specs.Closing.{ClosesTx}
 use Rattle.afdx_tx.specs.Publishing.{Publishes}
-use Rattle.afdx_tx.proofs.ClosedEmitter.{ClosedSub, ClosedLinks, closes_links}
+use Rattle.afdx_tx.proofs.ClosedEmitter.{ClosedLinks, closes_links}
 
 by_own : (plan : Plan) (tx : Tx) → tx.plan ≡ plan → IsReadyFor plan tx → IsReady tx
 by_own plan tx of ready = subst (λ (p : Plan). IsReadyFor p tx) (sym of) ready

@@ -1,16 +1,16 @@
 -- The names of other crates, and of this one's definitions, that the proofs here use.
-pub use Rattle.std.proofs.Common.{Bool, List, None, Option, Some, [], ap, arith, cond, drop, false, get_or, if◌then◌else◌, inl, inr, length, map, nat_eq, nat_le, nat_lt, refl, subst, suc, sym, take, true, zero, ℕ, ⊎_elim, ◌%◌, ◌&&◌, ◌*◌, ◌++◌, ◌+◌, ◌-◌, ◌<◌, ◌||◌, ◌∙◌, ◌∷◌, ◌≡◌, ◌≢◌, ◌≤◌, ◌⊎◌}
-pub use Rattle.std.proofs.lemmas.Bool.{and_from, and_parts, both_ways, cases_eq, cases_lt, eq-eqb, false≢true, le-leb, le-ltb, lt-ltb, ne_eqb}
+pub use Rattle.std.proofs.Common.{Bool, List, None, Option, Some, [], ap, arith, cond, drop, false, inl, inr, length, map, nat_eq, nat_le, nat_lt, refl, subst, suc, sym, take, true, zero, ℕ, ⊎_elim, ◌%◌, ◌&&◌, ◌*◌, ◌++◌, ◌+◌, ◌-◌, ◌<◌, ◌||◌, ◌∙◌, ◌∷◌, ◌≡◌, ◌≢◌, ◌≤◌, ◌⊎◌}
+pub use Rattle.std.proofs.lemmas.Bool.{and_from, both_ways, cases_eq, cases_lt, eq-eqb, false≢true, le-leb, le-ltb, lt-ltb}
 pub use Rattle.std.proofs.lemmas.Bool.Decides.{nat_tests}
-pub use Rattle.std.proofs.lemmas.List.{append-nil, append_assoc, get_or_default, length-append, length-drop, length-map, map-append, take-append-drop}
-pub use Rattle.std.proofs.lemmas.List.Elements.{All-cons, All-contains, All-drop, All-from_recursion, All-head, All-nil, All-tail, All-weaker, filter-append}
+pub use Rattle.std.proofs.lemmas.List.{append-nil, append_assoc, length-append, length-drop, length-map, map-append, take-append-drop}
+pub use Rattle.std.proofs.lemmas.List.Elements.{All-cons, All-drop, All-from_recursion, All-head, All-nil, All-tail, All-weaker, filter-append}
 pub use Rattle.std.proofs.lemmas.Nat.{mul-le}
 pub use Rattle.std.proofs.lemmas.Result.{on_ok_weaker}
 pub use Rattle.std.specs.Prelude.{All, Contains, slice_index}
 pub use native.Mathlib.Nat.{mul-suc, suc-mul}
-pub use Rattle.afdx_plan.specs.Config.{HasLink, IsPlan, Plan, link_plan_at, port_plan_at}
+pub use Rattle.afdx_plan.specs.Config.{IsPlan, Plan, link_plan_at}
 pub use Rattle.afdx_plan.specs.Places.{link_place}
-pub use Rattle.afdx_plan.specs.Plan.{IsLink, IsPort, bag_micros, bag_ms}
+pub use Rattle.afdx_plan.specs.Plan.{IsLink, bag_micros, bag_ms}
 pub use Rattle.afdx_plan.specs.Room.{room_of, step_of}
 pub use Rattle.afdx_plan.specs.declared.link_plan.LinkPlan.{LinkPlan}
 pub use Rattle.afdx_plan.specs.declared.port_plan.PortPlan.{PortPlan}
@@ -19,11 +19,10 @@ unfoldable pub use Rattle.afdx_frame.specs.Cutting.{cutting}
 pub use Rattle.afdx_frame.specs.Fragments.{Sent, blanked, fragments_from}
 unfoldable pub use Rattle.afdx_frame.specs.Fragments.{fragments_at}
 pub use Rattle.afdx_frame.specs.Frame.{interface_byte}
-unfoldable pub use Rattle.afdx_frame.specs.Frame.{addresses, datagram, header_front, internet_header, link_header}
-unfoldable pub use Rattle.afdx_frame.specs.Frame.{udp_header, unnumbered}
+unfoldable pub use Rattle.afdx_frame.specs.Frame.{addresses, datagram, header_front, internet_header, link_header, udp_header, unnumbered}
 pub use Rattle.afdx_frame.specs.Header.{link_in, number_in, sub_in}
 pub use Rattle.afdx_frame.specs.declared.net.Net.TheVariants.{A}
-pub use Rattle.redundant_mux.proofs.Enduring.{both_none, both_on, stood_before}
+pub use Rattle.redundant_mux.proofs.Enduring.{both_none, stood_before}
 pub use Rattle.redundant_mux.specs.Entry.{Entry, entry}
 pub use Rattle.redundant_mux.specs.Lines.{BothEndure, Endures, Lines, stands_for}
 unfoldable pub use Rattle.redundant_mux.specs.Lines.{log}
@@ -33,19 +32,19 @@ pub use Rattle.afdx_legal.proofs.LongerStream.{latest_push}
 pub use Rattle.afdx_legal.specs.Allowed.{AreAllowed, AreQueued, IsAllowed, IsQueued}
 pub use Rattle.afdx_legal.specs.Legal.{Accepted}
 pub use Rattle.afdx_legal.specs.Streams.{IsPrefixOf, latest, link_stream, stamp_of, sub_stream, told}
-pub use Rattle.vl_link.proofs.TurnLaws.{turn_endures, turns_each, turns_endure, turns_seen}
-pub use Rattle.vl_link.specs.Links.{Held, IsSameLink, LinkState, Passes, held_at, held_view, link_at, no_link_plan, pace_of, sent_by, taken_by}
+pub use Rattle.vl_link.proofs.TurnLaws.{turns_each, turns_endure, turns_seen}
+pub use Rattle.vl_link.specs.Links.{Held, IsSameLink, LinkState, Passes, held_at, held_view, link_at, no_link_plan, pace_of, taken_by}
 pub use Rattle.vl_link.specs.Shown.{begun_after, begun_by, none_begun}
 pub use Rattle.vl_link.specs.Turn.{AreTurns, Turn, TurnView, may_release}
 pub use Rattle.vl_link.specs.declared.served.Served.{Served}
 pub use Rattle.vl_link.specs.declared.served.Served.TheVariants.{Lost, Nothing, Released}
 pub use Rattle.afdx_tx.specs.Drain.{Drains, DrainsAt, IsDrained, accepted_in, accepted_view, pace_in}
 pub use Rattle.afdx_tx.specs.DrainEnds.{stream_at}
-pub use Rattle.afdx_tx.specs.Emitter.{IsFreshTx, IsOpenedSub, Tx, taken_in}
+pub use Rattle.afdx_tx.specs.Emitter.{IsFreshTx, Tx, taken_in}
 pub use Rattle.afdx_tx.specs.Run.{IsRun, IsTurnAt}
 pub use Rattle.plan_analysis.specs.Wait.{message_wait, most_pieces, pieces_of, pieces_on, port_pieces, queued_before, worst_wait}
 pub use Rattle.afdx_laws.proofs.ListLemmas.{all_front, below_both, below_one, cons_parts, cons_same}
-pub use Rattle.afdx_laws.proofs.NextFragment.{few_in, next_polled_in_time, wait_at}
+pub use Rattle.afdx_laws.proofs.NextFragment.{next_polled_in_time, wait_at}
 pub use Rattle.afdx_laws.specs.NextFragment.{link_wait}
 pub use Rattle.run_laws.specs.MessageInRun.{ApartAreTimely, AreFinding, AreTimely, ComesIn, FindsIt, HasPlace, IsAccepted, MessageInRun, fragments_of, seen_of}
 pub use Rattle.run_laws.specs.Runs.{ArePolls, AreRuns, ComeWithin, ComesBy, DrainPolls, EmitterPolls, IsPlanned, IsReady, IsReadyFor, KeptReady, NextInRun, latest_of}

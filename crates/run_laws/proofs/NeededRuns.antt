@@ -1,5 +1,5 @@
 -- The cases in which a premise of the law of a message in a run fails, by computation.
-use Rattle.run_laws.proofs.Names.{List, blanked, ap, ◌∙◌, cons_parts, slice_index, true, Served, sym, append-nil, drop, IsQueued, All, ◌≡◌, ℕ, zero, suc, ◌<◌, ◌≤◌, [], ◌∷◌, ◌++◌, length, refl, arith, inl, inr, All-nil, All-from_recursion, ⊎_elim, below_one, below_both, false≢true, A, cutting, fragments_at, addresses, header_front, internet_header, link_header, udp_header, datagram, unnumbered, Entry, entry, Lines, log, Nothing, Released, Drains, Held, Passes, held_at, IsAllowed, stream_at, EmitterPolls, AreTimely, AreFinding, IsAccepted, fragments_of, seen_of, IsPlan}
+use Rattle.run_laws.proofs.Names.{List, blanked, ap, ◌∙◌, cons_parts, slice_index, true, Served, sym, append-nil, drop, IsQueued, All, ◌≡◌, ℕ, zero, suc, ◌<◌, ◌≤◌, [], ◌∷◌, ◌++◌, length, refl, arith, inl, inr, All-nil, All-from_recursion, ⊎_elim, below_one, below_both, false≢true, A, cutting, fragments_at, addresses, header_front, internet_header, link_header, udp_header, datagram, unnumbered, Entry, entry, Lines, log, Nothing, Released, Drains, Held, Passes, held_at, IsAllowed, stream_at, EmitterPolls, AreTimely, AreFinding, IsAccepted, fragments_of, seen_of}
 use Rattle.std.specs.Prelude.{replicate}
 use Rattle.afdx_frame.specs.Checksum.{checksum}
 use Rattle.subvl_queue.specs.Views.{after_take, ReceiverView, looked}
@@ -16,7 +16,6 @@ use Rattle.run_laws.specs.EmitterRun.{fresh, sub_of}
 use Rattle.run_laws.specs.WorkedRun.{other_frame, other_line, tight_link, short_port, byte_plan, short_sent, bytes_accepted, short_frame, no_line, byte_line, failed_line, NeedsItsPremises}
 use Rattle.run_laws.proofs.WorkedRuns.{takes, releases, has_room, not_released}
 use Rattle.run_laws.proofs.Ran.{seen_append}
-use Rattle.run_laws.proofs.MessageRun.{message_in_run_holds}
 
 accepted_are : (earlier : ℕ) → bytes_accepted (suc earlier) 0 0 ≡ replicate earlier (short_sent 0) ++ short_sent 0 ∷ []
     → All (IsAllowed byte_plan 0 0) (bytes_accepted (suc earlier) 0 0)

@@ -1,10 +1,8 @@
 -- How many fragments messages have.
-use Rattle.run_laws.proofs.Names.{ℕ, suc, zero, ◌≡◌, ◌+◌, ◌-◌, ◌*◌, ◌<◌, ◌≤◌, true, ◌&&◌, nat_eq, List, [], ◌∷◌, ◌++◌, length, arith, refl, ap, ◌∙◌, inl, inr, All, Contains, cases_lt, and_from, eq-eqb, length-append, length-map, append_assoc, All-head, All-tail, All-contains, suc-mul, step_of, cutting, cut_by, pieces_from, Sent, fragments_at, fragments_from, LinkPlan, PortPlan, pieces_of, port_pieces, pieces_on, most_pieces}
+use Rattle.run_laws.proofs.Names.{ℕ, suc, zero, ◌≡◌, ◌+◌, ◌-◌, ◌*◌, ◌≤◌, List, [], ◌∷◌, ◌++◌, length, arith, refl, ap, inl, inr, All, Contains, cases_lt, length-append, length-map, append_assoc, All-head, All-tail, suc-mul, step_of, cutting, cut_by, pieces_from, Sent, fragments_at, fragments_from, LinkPlan, PortPlan, pieces_of, port_pieces, pieces_on, most_pieces}
 use Rattle.std.specs.Int.{div_ceil}
-use Rattle.std.proofs.lemmas.Grind.{div_ceil_times}
 use Rattle.std.proofs.lemmas.List.Recursion.{max_bounds}
 use Rattle.afdx_frame.specs.declared.net.Net.{Net}
-use Rattle.afdx_frame.proofs.CuttingLemmas.{cut_last, cut_more, step_pos, step_le}
 
 ceil_less : (a s : ℕ) → 1 ≤ a → 1 ≤ s → div_ceil a s ≡ 1 + div_ceil (a - s) s
 ceil_less a s some step = grind arith

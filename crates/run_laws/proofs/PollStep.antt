@@ -1,9 +1,7 @@
 -- What a turn of a link, and a poll of all links, does to the stream of one of them.
-use Rattle.run_laws.proofs.Names.{ℕ, zero, suc, ◌≡◌, ◌≢◌, ◌+◌, ◌<◌, List, [], ◌∷◌, ◌++◌, Bool, true, false, ◌&&◌, ◌||◌, nat_eq, arith, refl, ap, ◌∙◌, sym, subst, Option, Some, None, inl, inr, ⊎_elim, ◌≤◌, length, nat_tests, both_ways, cases_eq, and_from, and_parts, eq-eqb, LinkPlan, sub_in, Entry, entry, Lines, stands_for, log, BothEndure, Pace, is_due, turn_of, IsServed, Served, Nothing, Released, Lost, TurnView, Turn, AreTurns, pace_of, Held, LinkState, held_at, link_at, taken_by, held_view, Passes, none_begun, begun_by, latest, link_stream, sub_stream, told, All, append-nil, All-weaker, Plan, IsPlan, link_plan_at, bag_micros, room_of, A, Sent, stood_before, turns_endure, turns_seen, Accepted, IsQueued, AreQueued, Tx, IsTurnAt, DrainsAt, IsDrained, accepted_view, stream_at, IsReadyFor, EmitterPolls}
+use Rattle.run_laws.proofs.Names.{ℕ, zero, suc, ◌≡◌, ◌≢◌, ◌+◌, ◌<◌, List, [], ◌∷◌, ◌++◌, Bool, true, false, ◌&&◌, ◌||◌, nat_eq, arith, refl, ap, ◌∙◌, sym, subst, Option, Some, None, inl, inr, ⊎_elim, ◌≤◌, length, nat_tests, both_ways, cases_eq, and_from, eq-eqb, LinkPlan, sub_in, Entry, entry, Lines, stands_for, log, BothEndure, Pace, turn_of, IsServed, Served, Nothing, Released, Lost, TurnView, Turn, AreTurns, pace_of, Held, LinkState, held_at, link_at, taken_by, held_view, Passes, none_begun, begun_by, latest, link_stream, sub_stream, told, All, append-nil, All-weaker, Plan, IsPlan, link_plan_at, bag_micros, room_of, A, Sent, stood_before, turns_endure, turns_seen, Accepted, IsQueued, AreQueued, Tx, IsTurnAt, DrainsAt, IsDrained, accepted_view, stream_at, IsReadyFor, EmitterPolls}
 use borrow.Author.Count.{below_more}
-use Rattle.std.proofs.Math.Bool.{or-true}
 use Rattle.redundant_mux.proofs.MirroredLines.{log_same}
-use Rattle.vl_shaper.proofs.Turns.{turn_below}
 use Rattle.vl_link.proofs.PaceOfStream.{stream_more, stream_same}
 use Rattle.vl_link.specs.Kept.{IsLinkTied}
 use Rattle.vl_link.proofs.MessageEnds.{IsShort, not_begun}
