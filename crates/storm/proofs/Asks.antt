@@ -1,29 +1,6 @@
 -- How many slots a worker's port requested.
-use Rattle.storm.proofs.Names.{◌≡◌, ℕ, zero, suc, ◌+◌, ◌<◌, ◌≤◌, List, [], ◌∷◌, ◌++◌, length, get_or, map, ap, sym, ◌∙◌, subst, ⊎_elim, arith, length-map, map-append, SenderView, IsRefused, PortView, Accepts, Refuses, asked_by, AreAtMost}
-use Rattle.subvl_queue.specs.declared.refused.Why.{Why}
-use Rattle.afdx_tx.specs.declared.fault.Refusal.{Refusal}
-use Rattle.afdx_tx.specs.declared.fault.Refusal.TheVariants.{Empty, TooLong, Closed, Exhausted, Full}
-use Rattle.subvl_queue.specs.declared.refused.Why.TheVariants as Queue
+use Rattle.storm.proofs.Names.{◌≡◌, ℕ, zero, suc, ◌<◌, ◌≤◌, List, [], ◌∷◌, ◌++◌, length, get_or, map, arith, length-map, map-append, PortView, asked_by, AreAtMost}
 use Rattle.std.proofs.Common.{Result, Ok, Err, IfOk, IsOkAnd}
-
--- an accepted send requests one slot
-pub asks_accepted : (old new : PortView) (bytes : List ℕ) → Accepts old bytes new → new.sender.asks ≡ old.sender.asks + 1
-asks_accepted old new bytes done = ap (λ (s : SenderView). s.asks) done.0.2.1
-
--- a refused send requests at most one
-asks_queue : (old new : SenderView) (why : Why) → IsRefused old why new → new.asks ≤ old.asks + 1
-asks_queue old new Queue.Closed r = grind arith
-asks_queue old new Queue.Exhausted r = let same = ap (λ (s : SenderView). s.asks) r.1 in omega (arith, same)
-asks_queue old new Queue.Full r = let once = ap (λ (s : SenderView). s.asks) r.2 in omega (arith, once)
-
--- a refused port requests at most one
-pub asks_refused : (old new : PortView) (size : ℕ) (why : Refusal) → Refuses old size why new
-    → new.sender.asks ≤ old.sender.asks + 1
-asks_refused old new size Empty r = let same = ap (λ (p : PortView). p.sender.asks) r.1 in omega (arith, same)
-asks_refused old new size TooLong r = let same = ap (λ (p : PortView). p.sender.asks) r.1 in omega (arith, same)
-asks_refused old new size Closed r = asks_queue old.sender new.sender Queue.Closed r.queue
-asks_refused old new size Exhausted r = asks_queue old.sender new.sender Queue.Exhausted r.queue
-asks_refused old new size Full r = asks_queue old.sender new.sender Queue.Full r.queue
 
 -- one number more, which isn't above the other
 pub at_most_push : (low high : List ℕ) (n m : ℕ) → length low ≡ length high → AreAtMost low high → n ≤ m

@@ -1,5 +1,5 @@
 -- The frames of links on both networks, counted.
-use Rattle.storm.proofs.Names.{ℕ, ◌≡◌, ◌+◌, ◌<◌, ◌≤◌, List, cond, length, take, get_or, All, arith, ap, subst, sym, ◌∙◌, length-map, get_or-map, LinkPlan, Entry, entry_of, entries, AreKnown, is_on_both, on_both}
+use Rattle.storm.proofs.Names.{ℕ, ◌≡◌, ◌+◌, ◌<◌, ◌≤◌, List, cond, length, take, get_or, All, arith, ap, sym, ◌∙◌, length-map, get_or-map, LinkPlan, Entry, entry_of, entries, AreKnown, is_on_both, on_both}
 use Rattle.std.proofs.lemmas.List.Filters.{length-filter_more}
 use Rattle.afdx_frame.specs.Header.{link_in}
 use Rattle.afdx_frame.specs.declared.net.Net.{Net}

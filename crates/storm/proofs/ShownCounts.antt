@@ -1,8 +1,7 @@
 -- What was published of the links of an emitter.
-use Rattle.storm.proofs.Names.{◌≡◌, ◌∙◌, ℕ, ◌+◌, ◌<◌, List, [], ◌∷◌, ◌++◌, length, take, sym, ap, add-one, arith, get_or-map, length-map, take-suc, take-length, Plan, link_plan_at, Entry, Lines, Counts, zeros, value_of, Published, Watched, published, last_of, AreNew, cells_of, IsShown, own_counts, all_counts, own_stream, Tx, IsFreshTx}
+use Rattle.storm.proofs.Names.{◌≡◌, ◌∙◌, ℕ, ◌+◌, ◌<◌, List, [], ◌∷◌, ◌++◌, length, take, sym, ap, add-one, arith, get_or-map, length-map, take-suc, take-length, Plan, link_plan_at, Entry, Counts, zeros, Watched, last_of, AreNew, cells_of, IsShown, own_counts, all_counts, Tx, IsFreshTx}
 use Rattle.storm.proofs.SameCells.{cells_same}
 use Rattle.status_board.proofs.Histories.{last_or-push}
-use Rattle.afdx_legal.specs.Counting.{counts_in}
 use Rattle.afdx_tx.specs.Publishing.{Publishes, counts_at}
 
 -- the counts of links of the same plan and the same frames

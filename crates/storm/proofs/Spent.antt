@@ -1,11 +1,6 @@
 -- The ports of an emitter, once each of them sent its messages.
-use Rattle.storm.proofs.Names.{◌≡◌, ◌∙◌, ℕ, zero, suc, ◌+◌, ◌*◌, ◌<◌, ◌≤◌, List, [], ◌∷◌, ◌++◌, length, map, get_or, Option, Some, refl, ap, sym, subst, arith, sum_by, get_or-map, length-map, length-append, Contains-get_or, Plan, port_plan_at, QueueName, SenderView, Tx, queues_in, PortView, BelongsTo, AreOpenedWith, AreFreshPorts, HasEveryPlace, index_of, queue_for, message, messages_to, own_messages, Named, named, sent_all, asked_by, asked_after, AreAtMost, IsSpent, AreSpent}
+use Rattle.storm.proofs.Names.{◌≡◌, ◌∙◌, ℕ, zero, suc, ◌+◌, ◌*◌, ◌<◌, ◌≤◌, List, [], ◌∷◌, length, map, get_or, refl, ap, sym, arith, sum_by, get_or-map, length-map, length-append, Contains-get_or, Plan, port_plan_at, SenderView, Tx, queues_in, PortView, BelongsTo, AreOpenedWith, AreFreshPorts, HasEveryPlace, messages_to, named, sent_all, asked_by, asked_after, AreAtMost, IsSpent, AreSpent}
 use Rattle.std.proofs.lemmas.List.Sums.{sum_by-cons}
-
--- a port that is the same but for its own messages belongs to the same configuration and queues
-same_port : (config : Plan) (queues : List (List (Option QueueName))) (old new : PortView) → new.place ≡ old.place → new.plan ≡ old.plan
-    → new.sender.queue ≡ old.sender.queue → new.sender.port ≡ old.sender.port → BelongsTo config queues old → BelongsTo config queues new
-same_port config queues old new place plan queue index own = grind arith
 
 -- a fresh port that sent its messages
 spent_port : (old new : Tx) (n turns k : ℕ) (before after : PortView) → new.plan ≡ old.plan → queues_in new.links ≡ queues_in old.links

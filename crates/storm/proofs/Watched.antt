@@ -1,5 +1,5 @@
 -- What a watcher does to its monitor.
-use Rattle.storm.proofs.Names.{◌≡◌, ℕ, ◌+◌, ◌<◌, ◌≤◌, ◌⊎◌, inl, inr, List, set, refl, sym, ap, ◌∙◌, subst, arith, get_or-set_other, eq-or-lt_of_le, Counts, Watched, seen, IsReading, ReadsOnly, ReadsFirst}
+use Rattle.storm.proofs.Names.{◌≡◌, ℕ, ◌+◌, List, set, refl, arith, get_or-set_other, Counts, Watched, seen, IsReading, ReadsOnly, ReadsFirst}
 use Rattle.storm.proofs.SameCells.{cells_kept, no_seen}
 
 pub only_none : (monitor : List Watched) (link : ℕ) → ReadsOnly monitor monitor link 0
@@ -13,8 +13,3 @@ only_more old mid new link times found before reading is = grind (arith, cells_k
 
 pub first_none : (monitor : List Watched) (times : ℕ) → ReadsFirst monitor monitor 0 times
 first_none monitor times = record { cells = refl; first = λ k below. absurd (omega arith); rest = λ k _. refl }
-
--- one link more
-pub first_more : (old mid new : List Watched) (many times : ℕ) → ReadsFirst old mid many times → ReadsOnly mid new many times
-    → ReadsFirst old new (many + 1) times
-first_more old mid new many times before only = grind arith

@@ -1,4 +1,4 @@
-use Rattle.storm.proofs.Names.{length, arith, sym, subst, ◌≤◌, List, ℕ, common_steps}
+use Rattle.storm.proofs.Names.{arith, common_steps}
 use Rattle.storm.proofs.OnBoth.{has_link, count_more}
 use Rattle.storm.proofs.both.count_on_both.Goals as goal
 

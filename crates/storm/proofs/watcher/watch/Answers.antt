@@ -1,5 +1,5 @@
-use Rattle.storm.proofs.Names.{◌≡◌, ℕ, arith, rules, refl, subst, links_of, ReadsFirst}
-use Rattle.storm.proofs.Watched.{first_none, first_more}
+use Rattle.storm.proofs.Names.{arith, rules, refl}
+use Rattle.storm.proofs.Watched.{first_none}
 use Rattle.storm.proofs.watcher.watch.Goals as goal
 
 pub loop-link-init : goal.loop-link-init

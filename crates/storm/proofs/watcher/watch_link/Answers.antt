@@ -1,4 +1,4 @@
-use Rattle.storm.proofs.Names.{◌≡◌, ℕ, arith, rules, refl, subst, common_steps, ReadsOnly}
+use Rattle.storm.proofs.Names.{arith, rules, refl}
 use Rattle.storm.proofs.Watched.{only_none, only_more}
 use Rattle.storm.proofs.watcher.watch_link.Goals as goal
 

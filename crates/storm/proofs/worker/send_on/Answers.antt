@@ -1,5 +1,4 @@
-use Rattle.storm.proofs.Names.{◌≡◌, ◌+◌, ◌≤◌, length, arith, common_steps}
-use Rattle.storm.proofs.Asks.{asks_accepted, asks_refused}
+use Rattle.storm.proofs.Names.{arith}
 use Rattle.storm.proofs.worker.send_on.Goals as goal
 
 pub returns-in-Ok-clause-asks : goal.returns-in-Ok-clause-asks
