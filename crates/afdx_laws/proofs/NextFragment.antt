@@ -1,7 +1,7 @@
 -- The next fragment of a message comes within a round of the sub-VLs.
 use Rattle.afdx_laws.proofs.Names.{◌≡◌, ◌≢◌, ℕ, zero, suc, ◌+◌, ◌*◌, ◌≤◌, ◌<◌, Bool, true, false, eqb, cond, List, [], ◌∷◌, ◌++◌, length, map, refl, subst}
-use Rattle.afdx_laws.proofs.Names.{arith, All, AllByRecursion, IsDistinct, list_any, nat_tests, eq-eqb, ne_eqb, false≢true, length-map, length-filter}
-use Rattle.afdx_laws.proofs.Names.{count_by-le-length, All-tail, link_plan_at, bag_micros, LinkPlan, sub_in, Entry, sub_stream, link_stream, id_at}
+use Rattle.afdx_laws.proofs.Names.{arith, All, AllByRecursion, IsDistinct, list_any, nat_tests, eq-eqb, ne_eqb, false≢true, length-map}
+use Rattle.afdx_laws.proofs.Names.{All-tail, link_plan_at, bag_micros, LinkPlan, sub_in, Entry, sub_stream, link_stream, id_at}
 use Rattle.std.proofs.Common.{Some}
 use Rattle.std.proofs.lemmas.Map.Keys.{IsDistinct-cons, IsDistinct-from_apart}
 use Rattle.std.proofs.lemmas.Map.Steps.{length-le_from_distinct_below}
@@ -121,9 +121,6 @@ lie_two_gaps_apart = record {
   most = refl;
   number = refl;
 }
-
-pub few_in : (sub : ℕ) (es : List Entry) → length (sub_stream sub es) ≤ length es
-few_in sub es = grind (arith, length-filter, count_by-le-length)
 
 pub turns_are_told : TurnsAreTold
 turns_are_told = record {

@@ -1,7 +1,7 @@
 -- How a run goes on, how its lines end, and how it ends once its streams are written.
 use Rattle.std.proofs.Common.{◌≡◌, ℕ, ◌+◌, ◌*◌, ◌<◌, ◌≤◌, List, [], ◌∷◌, append-nil, Option, Some, None, refl, ap, sym, ◌∙◌, subst, arith, true, inl, inr, ◌++◌}
 use Rattle.std.specs.Prelude.{IfSome, Ok, Err, Result}
-use Rattle.std.specs.Io.KnownBytes.{Appends, Consumes}
+use Rattle.std.specs.Io.KnownBytes.{Appends}
 use Rattle.std.proofs.KnownBytes.{Appends-nil, Appends-trans, Appends-kept}
 use Rattle.std.proofs.lemmas.List.Elements.{All-head, All-tail}
 use Rattle.std.proofs.lemmas.Option.{IfSome_then}
@@ -126,11 +126,6 @@ module _ (plan : Plan) (bytes left old mid : Option (List ℕ)) (bench : AtBench
       → IfSome left (λ known. ReadsLine known new (count + 1) (Err fault))
       → IfSome bytes (λ text. Stops plan text old mid bench (Err fault))
   stop_fault new fault few reads = grind (arith, stays bench)
-
-  -- there is a line too many
-  pub stop_lines : (new : Option (List ℕ)) (byte : ℕ) → count ≡ 1000000 → Consumes left new (byte ∷ [])
-      → IfSome bytes (λ text. Stops plan text old mid bench (Err Fault.Lines))
-  stop_lines new byte all taken = grind arith
 
 -- what is known of the lines that were run is known at the end
 ends_more : (plan : Plan) (text : List ℕ) (Ran More : List AnsweredLine → Type 0) (Halts Begun : Type 0)

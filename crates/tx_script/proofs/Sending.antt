@@ -10,7 +10,7 @@ use Rattle.subvl_queue.specs.declared.refused.Why.TheVariants as Queue
 use Rattle.afdx_tx.specs.declared.fault.Refusal.{Refusal as SendRefusal}
 use Rattle.afdx_tx.specs.declared.fault.Refusal.TheVariants as Why
 use Rattle.afdx_tx.specs.Emitter.{Tx}
-use Rattle.afdx_tx.specs.Ports.{PortView, MaySend, Accepts, Refuses, QueueRefuses}
+use Rattle.afdx_tx.specs.Ports.{PortView, MaySend, Refuses, QueueRefuses}
 use Rattle.afdx_tx.specs.Sending.{length_refusal}
 use Rattle.script_text.specs.declared.line.Line.{Line}
 use Rattle.script_text.specs.declared.line.Line.TheVariants.{Send}
@@ -27,11 +27,6 @@ use Rattle.tx_script.proofs.Matched.{sent_at_hand, asked_more, have_sent, same_t
 -- a message that the port may send
 may_pass : (port : PortPlan) (size : ℕ) → MaySend port size → length_refusal port size ≡ None
 may_pass port size may = grind arith
-
--- A port accepted a message.
-pub sends_accepted : (old new : PortView) (bytes : List ℕ) → MaySend old.plan (length bytes) → Accepts old bytes new
-    → Sends old bytes new Became.Accepted
-sends_accepted old new bytes may a = grind arith
 
 -- a sender but for its counts of requests and of loads of the closed flag, and what it found
 abbrev asked_so : SenderView → SenderView → SenderView
