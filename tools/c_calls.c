@@ -81,13 +81,13 @@ static void let_go(struct opened *these) {
     if (these->it.held) CHECK(afdx_free(&these->it) == 0);
 }
 
-static uint64_t accepted(afdx_port *port) {
+static uint64_t accepted(const afdx_port *port) {
     uint64_t count = 77;
     CHECK(afdx_accepted(port, &count) == 0);
     return count;
 }
 
-static size_t frames(afdx_end_system *it, uint8_t network) {
+static size_t frames(const afdx_end_system *it, uint8_t network) {
     size_t count = 77;
     CHECK(afdx_frames(it, network, &count) == 0);
     return count;

@@ -15,15 +15,15 @@
      it is moved, as a struct that is returned or assigned, the old one is not used again. A call sees only the bytes
      of a handle: a copy of a freed one looks like one in use, and points to memory that is gone. C++ and Python have
      handles that can't be copied.
-   - One call at a time uses a handle. Different threads may use different handles at the same time. A handle moves
-     from one thread to another as any data does, by a lock or by a thread's start or end.
+   - One call at a time uses a handle, also if it takes a pointer to const. Different threads may use different handles
+     at the same time. A handle moves from one thread to another as any data does, by a lock or by a thread's start or
+     end.
    - A pointer leads to as many bytes as the call states, and may be NULL only for 0 bytes. Nobody else writes there
      during the call. What is written lies apart from what is read and from everything else that is written.
    - The two handles of one call are different.
    - malloc, realloc and free come from one allocator. No call is made from a signal handler, or in the forked child
      of a process with threads.
-   No call takes a pointer to const for a handle, even if it changes nothing of the end system: each takes the
-   content out of the handle and puts it back before it returns.
+   A call that takes a pointer to const for a handle changes neither the handle nor the end system or port in it.
 
    Calls detect, and report by their numbers: a call after afdx_free, a port that is taken twice, a port of another
    end system, a time that goes back, an unknown identifier, and a buffer that is too small. */
@@ -145,8 +145,8 @@ uint8_t afdx_port_of(afdx_end_system *it, uint16_t id, afdx_port *out);
    is out: writes them into `ids`, which has room for `room` of them, and their number. Refused: AFDX_NOT_HELD,
    AFDX_WRONG_HANDLE, with nothing written; AFDX_SMALL_BUFFER: `room` is less than their number, and only `count` is
    written. So NULL and 0 give the number: at most AFDX_MOST_PORTS and AFDX_MOST_LINKS. */
-uint8_t afdx_ports(afdx_end_system *it, uint16_t *ids, size_t room, size_t *count);
-uint8_t afdx_links(afdx_end_system *it, uint16_t *ids, size_t room, size_t *count);
+uint8_t afdx_ports(const afdx_end_system *it, uint16_t *ids, size_t room, size_t *count);
+uint8_t afdx_links(const afdx_end_system *it, uint16_t *ids, size_t room, size_t *count);
 
 /* Copies a message in, at the end of the queue of the port's sub-VL. Called by the thread that has the port. Never
    waits, unless malloc does: the copy comes from malloc, and a later afdx_poll frees it, so either may meet a lock
@@ -157,7 +157,7 @@ uint8_t afdx_send(afdx_port *port, const uint8_t *message, size_t length);
 
 /* Writes the number of a port's accepted messages. Called by the thread that has the port. Refused: AFDX_NOT_HELD,
    AFDX_WRONG_HANDLE, with nothing written. */
-uint8_t afdx_accepted(afdx_port *port, uint64_t *count);
+uint8_t afdx_accepted(const afdx_port *port, uint64_t *count);
 
 /* Gives each virtual link its turn at `now`, in microseconds: one that is due and has something to send makes
    exactly one frame. Writes which networks are up afterwards. The frames of the poll before are gone. Called by one
@@ -175,24 +175,24 @@ uint8_t afdx_poll(afdx_end_system *it, uint64_t now, uint8_t *standing);
    had nothing to send then. So sleep until that time, or until a port has sent, which no call reports. Whether the
    link has something to send isn't known before it is polled. Refused: AFDX_NOT_HELD, AFDX_WRONG_HANDLE, with
    nothing written. */
-uint8_t afdx_next_due(afdx_end_system *it, uint64_t *at);
+uint8_t afdx_next_due(const afdx_end_system *it, uint64_t *at);
 
 /* Writes the number of frames that the last poll made for a network. Refused: AFDX_NOT_HELD, AFDX_WRONG_HANDLE,
    AFDX_NO_NETWORK, with nothing written. */
-uint8_t afdx_frames(afdx_end_system *it, uint8_t network, size_t *count);
+uint8_t afdx_frames(const afdx_end_system *it, uint8_t network, size_t *count);
 
 /* Copies frame k, from 0, that the last poll made for a network into a buffer, and writes its length: at most
    AFDX_GREATEST_FRAME. Nothing is written after those bytes. `length` doesn't lie in `buffer`. Refused:
    AFDX_NOT_HELD, AFDX_WRONG_HANDLE, AFDX_NO_NETWORK, AFDX_NO_FRAME, AFDX_SMALL_BUFFER, with nothing written. */
-uint8_t afdx_frame(afdx_end_system *it, uint8_t network, size_t k, uint8_t *buffer, size_t size, size_t *length);
+uint8_t afdx_frame(const afdx_end_system *it, uint8_t network, size_t k, uint8_t *buffer, size_t size, size_t *length);
 
 /* Copies all frames that the last poll made for a network into a buffer, one after the other without gaps, writes
    their lengths into `lengths`, which has room for `room` of them, and their number. Frame k begins after the bytes
    of the k frames before it. Refused: AFDX_NOT_HELD, AFDX_WRONG_HANDLE, AFDX_NO_NETWORK, with nothing written;
    AFDX_SMALL_BUFFER: they have more bytes than `size`, or are more than `room`, and only `count` is written.
    AFDX_MOST_FRAMES * AFDX_GREATEST_FRAME bytes and AFDX_MOST_FRAMES lengths are always enough. */
-uint8_t afdx_all_frames(afdx_end_system *it, uint8_t network, uint8_t *buffer, size_t size, size_t *lengths, size_t room,
-                        size_t *count);
+uint8_t afdx_all_frames(const afdx_end_system *it, uint8_t network, uint8_t *buffer, size_t size, size_t *lengths,
+                        size_t room, size_t *count);
 
 /* Makes a network fail: its next frame fails, and it gets none afterwards. Refused: AFDX_NOT_HELD,
    AFDX_WRONG_HANDLE, AFDX_NO_NETWORK. */
@@ -205,7 +205,7 @@ uint8_t afdx_close(afdx_end_system *it, uint16_t vl, uint8_t sub, uint64_t *tota
 
 /* Writes the counts of a virtual link so far. Refused: AFDX_NOT_HELD, AFDX_WRONG_HANDLE, AFDX_NO_LINK, with nothing
    written. */
-uint8_t afdx_link_counts(afdx_end_system *it, uint16_t vl, afdx_counts *counts);
+uint8_t afdx_link_counts(const afdx_end_system *it, uint16_t vl, afdx_counts *counts);
 
 /* Gives a port back to the end system that it was taken from. It can be taken again. Its handle is empty then.
    Allocates nothing. Refused: AFDX_NOT_HELD, AFDX_WRONG_HANDLE (of either), AFDX_GATHERED, AFDX_NO_PORT: it isn't of
@@ -219,7 +219,7 @@ uint8_t afdx_gather(afdx_end_system *it);
 /* Writes 1 if at least one network accepted each fragment of each accepted message, otherwise 0. After a frame was
    lost with the last network that carries its link it stays 0. Refused: AFDX_NOT_HELD, AFDX_WRONG_HANDLE,
    AFDX_NOT_GATHERED, with nothing written. */
-uint8_t afdx_is_done(afdx_end_system *it, uint8_t *done);
+uint8_t afdx_is_done(const afdx_end_system *it, uint8_t *done);
 
 /* Frees an end system; its handle is empty then. Ports that are out stay usable: their sends are accepted up to the
    room that is left, and then AFDX_FULL. Refused: AFDX_NOT_HELD, AFDX_WRONG_HANDLE. */

@@ -129,6 +129,10 @@ public:
         if (!at_) throw Misuse(AFDX_CALL_OTHER, AFDX_NOT_HELD);
         return at_.get();
     }
+    const Kind *get() const {
+        if (!at_) throw Misuse(AFDX_CALL_OTHER, AFDX_NOT_HELD);
+        return at_.get();
+    }
 
 private:
     std::unique_ptr<Kind, Free> at_;
@@ -172,7 +176,7 @@ public:
     }
 
     /* The number of accepted messages. */
-    std::uint64_t accepted() {
+    std::uint64_t accepted() const {
         std::uint64_t count = 0;
         detail::want(afdx_accepted(handle_.get(), &count));
         return count;
@@ -213,14 +217,14 @@ public:
     }
 
     /* The number of frames that the last poll made for a network. */
-    std::size_t frames(Network network) {
+    std::size_t frames(Network network) const {
         std::size_t count = 0;
         detail::want(afdx_frames(handle_.get(), static_cast<std::uint8_t>(network), &count));
         return count;
     }
 
     /* Copies frame k of the last poll into a buffer, and returns its length. Throws Misuse (NoFrame, SmallBuffer). */
-    std::size_t frame(Network network, std::size_t k, std::uint8_t *buffer, std::size_t size) {
+    std::size_t frame(Network network, std::size_t k, std::uint8_t *buffer, std::size_t size) const {
         std::size_t length = 0;
         detail::want(afdx_frame(handle_.get(), static_cast<std::uint8_t>(network), k, buffer, size, &length));
         return length;
@@ -228,14 +232,15 @@ public:
 
     /* Copies all frames of the last poll into a buffer, one after the other, and their lengths, and returns their
        number. Throws Misuse (SmallBuffer: there is room for fewer). */
-    std::size_t all_frames(Network network, std::uint8_t *buffer, std::size_t size, std::size_t *lengths, std::size_t room) {
+    std::size_t all_frames(Network network, std::uint8_t *buffer, std::size_t size, std::size_t *lengths,
+                           std::size_t room) const {
         std::size_t count = 0;
         detail::want(afdx_all_frames(handle_.get(), static_cast<std::uint8_t>(network), buffer, size, lengths, room, &count));
         return count;
     }
 
     /* Calls `sink` with the bytes and the length of each frame that the last poll made for a network. */
-    template <typename Sink> void each_frame(Network network, Sink &&sink) {
+    template <typename Sink> void each_frame(Network network, Sink &&sink) const {
         std::uint8_t buffer[AFDX_GREATEST_FRAME];
         const std::size_t count = frames(network);
         for (std::size_t k = 0; k < count; k++) {
@@ -246,17 +251,17 @@ public:
 
     /* The first time after the last poll at which a virtual link becomes due that wasn't due then, or AFDX_NEVER: a
        poller may sleep until it, or until a port has sent. */
-    std::uint64_t next_due() {
+    std::uint64_t next_due() const {
         std::uint64_t at = 0;
         detail::want(afdx_next_due(handle_.get(), &at));
         return at;
     }
 
     /* The identifiers of all ports, whether or not a port is out, in the order of the configuration. */
-    std::vector<std::uint16_t> ports() { return listed(afdx_ports); }
+    std::vector<std::uint16_t> ports() const { return listed(afdx_ports); }
 
     /* The identifiers of all virtual links, in the order of the configuration. */
-    std::vector<std::uint16_t> links() { return listed(afdx_links); }
+    std::vector<std::uint16_t> links() const { return listed(afdx_links); }
 
     /* Makes a network fail: its next frame fails, and it gets none afterwards. */
     void fail(Network network) { detail::want(afdx_fail(handle_.get(), static_cast<std::uint8_t>(network))); }
@@ -269,7 +274,7 @@ public:
     }
 
     /* The counts of a virtual link. Throws Misuse (NoLink). */
-    afdx_counts counts(std::uint16_t vl) {
+    afdx_counts counts(std::uint16_t vl) const {
         afdx_counts counts = afdx_counts();
         detail::want(afdx_link_counts(handle_.get(), vl, &counts));
         return counts;
@@ -283,14 +288,14 @@ public:
     void gather() { detail::want(afdx_gather(handle_.get())); }
 
     /* Whether all accepted messages were transmitted. Throws Misuse (NotGathered). */
-    bool is_done() {
+    bool is_done() const {
         std::uint8_t done = 0;
         detail::want(afdx_is_done(handle_.get(), &done));
         return done != 0;
     }
 
 private:
-    template <typename Call> std::vector<std::uint16_t> listed(Call call) {
+    template <typename Call> std::vector<std::uint16_t> listed(Call call) const {
         std::vector<std::uint16_t> ids(AFDX_MOST_PORTS);
         std::size_t count = 0;
         detail::want(call(handle_.get(), ids.data(), ids.size(), &count));

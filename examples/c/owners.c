@@ -74,7 +74,7 @@ static void open_plan(afdx_end_system *it, const char *text) {
     CHECK(afdx_open(it, (const uint8_t *)text, strlen(text)) == AFDX_OK && it->held && it->mark != 0);
 }
 
-static uint64_t accepted(afdx_port *port) {
+static uint64_t accepted(const afdx_port *port) {
     uint64_t count = 77;
     CHECK(afdx_accepted(port, &count) == AFDX_OK);
     return count;
@@ -157,7 +157,7 @@ static void check_lists(void) {
 }
 
 /* All frames of a poll in one call are those of the calls for each. */
-static void frames_are(afdx_end_system *it, uint8_t network, size_t wanted) {
+static void frames_are(const afdx_end_system *it, uint8_t network, size_t wanted) {
     static uint8_t all[AFDX_MOST_FRAMES * AFDX_GREATEST_FRAME], frame[AFDX_GREATEST_FRAME];
     size_t lengths[AFDX_MOST_FRAMES + 1], count = 7, length = 0, at = 0;
     memset(all, 0x5a, sizeof all);
@@ -204,7 +204,7 @@ static void check_all_frames(void) {
 }
 
 /* When the next link becomes due: a gap after its last frame, for the links that sent and that a network carries. */
-static void next_is(afdx_end_system *it, uint64_t wanted) {
+static void next_is(const afdx_end_system *it, uint64_t wanted) {
     uint64_t at = 7;
     CHECK(afdx_next_due(it, &at) == AFDX_OK && at == wanted);
 }

@@ -11,7 +11,7 @@ static int is_ok(const char *name, afdx_call call, uint8_t answer) {
 }
 
 /* Prints the frames that the last poll made for a network. */
-static int print_frames(afdx_end_system *it, uint8_t network) {
+static int print_frames(const afdx_end_system *it, uint8_t network) {
     uint8_t frame[AFDX_GREATEST_FRAME];
     size_t count = 0, length = 0;
     if (!is_ok("afdx_frames", AFDX_CALL_OTHER, afdx_frames(it, network, &count))) return 0;

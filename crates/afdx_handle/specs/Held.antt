@@ -35,15 +35,21 @@ HoldsNothing held = IsNone (end_of held) × IsNone (port_of held)
 abbrev pub HoldsOne : Option Home → Type 0
 HoldsOne held = IsSome (end_of held) ⊎ IsSome (port_of held)
 
+-- it holds an end system, or a port, with this property
+abbrev pub HoldsEnd : Option Home → (EndView → Type 0) → Type 0
+HoldsEnd held Is = IsSomeAnd (end_of held) Is
+
+abbrev pub HoldsPort : Option Home → (PortView → Type 0) → Type 0
+HoldsPort held Is = IsSomeAnd (port_of held) Is
+
 -- both hold the same end system, the same port of the same end system, or neither
 abbrev pub HoldsSame : Option Home → Option Home → Type 0
 HoldsSame old new = (end_of new ≡ end_of old) × (port_of new ≡ port_of old) × (port_block new ≡ port_block old)
 
 -- the relation between the end system before and afterwards
 abbrev pub EndDoes : Option Home → Option Home → (EndView → EndView → Type 0) → Type 0
-EndDoes old new Does = IsSomeAnd (end_of old) (λ before. IsSomeAnd (end_of new) (Does before))
+EndDoes old new Does = HoldsEnd old (λ before. HoldsEnd new (Does before))
 
 -- the relation between the port before and afterwards, which is of the same end system
 abbrev pub PortDoes : Option Home → Option Home → (PortView → PortView → Type 0) → Type 0
-PortDoes old new Does =
-    IsSomeAnd (port_of old) (λ before. IsSomeAnd (port_of new) (Does before)) × (port_block new ≡ port_block old)
+PortDoes old new Does = HoldsPort old (λ before. HoldsPort new (Does before)) × (port_block new ≡ port_block old)

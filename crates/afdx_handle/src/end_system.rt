@@ -67,8 +67,7 @@ impl EndSystem {
     pub fn poll(&mut self, now: u64, standing: &mut u8) -> u8
         ensures answers { (result ≡ DONE) ⊎ ((result ≡ TIME_BACK) ⊎ (result ≡ BOTH_DOWN)) }
         ensures time_back { (result ≡ TIME_BACK) ↔ (now < self.old.tx.moment) }
-        ensures both_down { (result ≡ BOTH_DOWN) ↔
-            ((self.old.tx.moment ≤ now) × (is_alive self.old.tx.lines ≡ false)) }
+        ensures both_down { (result ≡ BOTH_DOWN) ↔ ((self.old.tx.moment ≤ now) × (is_alive self.old.tx.lines ≡ false)) }
         ensures polled { result ≡ DONE → PollsEnd now self.old self.new }
         ensures stand { result ≡ DONE → standing.new ≡
             standing_bits self.new.tx.lines.a_stands self.new.tx.lines.b_stands }
@@ -215,10 +214,8 @@ impl EndSystem {
         ensures answers { (result ≡ DONE) ⊎ (result ≡ SMALL_BUFFER) }
         ensures small { (result ≡ SMALL_BUFFER) ↔ ((length buffer.old < bytes_of (all_made net self.now))
             ⊎ (length lengths.old < made_for net self.now)) }
-        ensures copied { result ≡ DONE →
-            buffer.new ≡ with_front (concat (all_made net self.now)) buffer.old }
-        ensures lengths { result ≡ DONE →
-            lengths.new ≡ with_front (lengths_of (all_made net self.now)) lengths.old }
+        ensures copied { result ≡ DONE → buffer.new ≡ with_front (concat (all_made net self.now)) buffer.old }
+        ensures lengths { result ≡ DONE → lengths.new ≡ with_front (lengths_of (all_made net self.now)) lengths.old }
         ensures count { count.new ≡ made_for net self.now }
         ensures unwritten { result ≢ DONE → (buffer.new ≡ buffer.old) × (lengths.new ≡ lengths.old) }
     {
@@ -274,8 +271,7 @@ impl EndSystem {
     pub fn close(&mut self, vl: u16, sub: u8, total: &mut u64) -> u8
         ensures answers { (result ≡ DONE) ⊎ ((result ≡ GATHERED) ⊎ (result ≡ NO_SUB)) }
         ensures gathered { (result ≡ GATHERED) ↔ (self.old.gathered ≡ true) }
-        ensures no_sub { (result ≡ NO_SUB) ↔
-            ((self.old.gathered ≡ false) × LacksSub self.old.tx.plan vl sub) }
+        ensures no_sub { (result ≡ NO_SUB) ↔ ((self.old.gathered ≡ false) × LacksSub self.old.tx.plan vl sub) }
         ensures closed { result ≡ DONE → ClosesEnd self.old vl sub total.new self.new }
         ensures refused { result ≢ DONE → (self.new ≡ self.old) × (total.new ≡ total.old) }
     {

@@ -3,8 +3,6 @@ ghost use Rattle.std.specs.Prelude.{◌≡◌, ◌<◌, Option, Some, None, IsSo
 
 use crate::home::Home;
 use crate::seal::Sealed;
-use std::alloc::Global;
-use std::mem;
 
 /// A home, or nothing. In C a handle whose bytes are all zero holds nothing.
 #[repr(C)]
@@ -12,7 +10,6 @@ use std::mem;
 pub struct Handle {
     pub kept: Sealed,
     held: u8,
-    alloc: Global,
     ghost nothing: { held ≡ 0 → IsNone kept.home },
     ghost something: { 0 < held → IsSome kept.home },
 }
@@ -49,22 +46,11 @@ impl Handle {
         ensures taken { MatchOption result (self.old.kept.home ≡ None) (λ home. self.old.kept.home ≡ Some home.value) }
         ensures left { self.new.kept.home ≡ None }
     {
-        let alloc = self.alloc;
-        let empty = Handle {
-            kept: Sealed::empty(alloc),
-            held: 0,
-            alloc,
-        };
-        let Handle {
-            kept,
-            held,
-            alloc: _,
-        } = mem::replace(self, empty);
-        if held == 0 {
-            None
-        } else {
-            Some(kept.into_box())
+        if self.held == 0 {
+            return None;
         }
+        self.held = 0;
+        Some(self.kept.take())
     }
 
     /// Puts a home in.
@@ -72,10 +58,7 @@ impl Handle {
         requires { self.old.kept.home ≡ None }
         ensures { self.new.kept.home ≡ Some home.value }
     {
-        *self = Handle {
-            kept: Sealed::of(home),
-            held: 1,
-            alloc: self.alloc,
-        };
+        self.kept = Sealed::of(home);
+        self.held = 1;
     }
 }

@@ -21,6 +21,6 @@ pub use explaining::explain_into;
 pub use handle::{Handle, Marked, Opening};
 pub use home::{Home, OwnPort};
 pub use opening::open_home;
-pub use ports::{gather_in, give_in, send, take_port};
+pub use ports::{gather, give_to, is_nothing, send, take_port};
 pub use seal::Sealed;
 pub use stage::Stage;

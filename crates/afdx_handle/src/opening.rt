@@ -1,8 +1,8 @@
 //! Opening an end system.
-ghost use Rattle.std.specs.Prelude.{◌≡◌, ◌≢◌, Some, IfOk, IfErr, IsSomeAnd};
+ghost use Rattle.std.specs.Prelude.{◌≡◌, ◌≢◌, Some, IfOk, IfErr};
 ghost use Rattle.afdx_config.specs.Faults.{IsLeastFault};
 ghost use Rattle.afdx_handle.specs.EndSystem.{IsOpened};
-ghost use Rattle.afdx_handle.specs.Held.{end_of};
+ghost use Rattle.afdx_handle.specs.Held.{HoldsEnd};
 
 use crate::block::Block;
 use crate::end_system::{EndSystem, Side};
@@ -18,8 +18,7 @@ use std::alloc::Global;
 /// fails.
 fn open_end(alloc: Global, text: &[u8]) -> Result<EndSystem, ConfigFault>
     ensures opened { IfOk result (IsOpened text.now) }
-    ensures fault { IfErr result (λ fault.
-        fault ≢ ConfigFault.Memory → IsLeastFault text.now fault) }
+    ensures fault { IfErr result (λ fault. fault ≢ ConfigFault.Memory → IsLeastFault text.now fault) }
 {
     let config = read_config(alloc, text)?;
     let Ok(outbox_a) = Outbox::new(alloc) else {
@@ -47,12 +46,9 @@ fn open_end(alloc: Global, text: &[u8]) -> Result<EndSystem, ConfigFault>
 /// The content of a handle of an end system of a configuration, and the mark of the end system.
 /// Fails as `open_end` does.
 pub fn open_home(alloc: Global, text: &[u8]) -> Result<(Box<Home>, *const u8), ConfigFault>
-    ensures opened { IfOk result (λ made.
-        IsSomeAnd (end_of (Some made.0.value)) (IsOpened text.now)) }
-    ensures marked { IfOk result (λ made.
-        IsSomeAnd (end_of (Some made.0.value)) (λ end. made.1 ≡ end.block)) }
-    ensures fault { IfErr result (λ fault.
-        fault ≢ ConfigFault.Memory → IsLeastFault text.now fault) }
+    ensures opened { IfOk result (λ made. HoldsEnd (Some made.0.value) (IsOpened text.now)) }
+    ensures marked { IfOk result (λ made. HoldsEnd (Some made.0.value) (λ end. made.1 ≡ end.block)) }
+    ensures fault { IfErr result (λ fault. fault ≢ ConfigFault.Memory → IsLeastFault text.now fault) }
 {
     let end_system = open_end(alloc, text)?;
     let mark = end_system.block.address();

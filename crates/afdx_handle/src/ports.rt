@@ -1,10 +1,10 @@
 //! The ports of an end system: sending a message, and taking ports out, giving them back and
 //! gathering them.
-ghost use Rattle.std.specs.Prelude.{◌≡◌, ◌≢◌, ◌≤◌, ◌<◌, ◌⊎◌, ◌↔◌, ◌++◌, [], ◌∷◌, Option, Some, None, true, false, length, position, IfOk, IfErr, OnOk, OnErr, IsSome, IsSomeAnd, MatchBool};
+ghost use Rattle.std.specs.Prelude.{◌≡◌, ◌≢◌, ◌≤◌, ◌<◌, ◌⊎◌, ◌↔◌, ◌++◌, [], ◌∷◌, Option, Some, None, true, false, length, position, IfOk, IfErr, OnOk, OnErr, IsSome, MatchBool};
 ghost use Rattle.afdx_tx.specs.Ports.{PortView, MaySend, Accepts, Refuses, IsPortOfTx, LacksPlace};
 ghost use Rattle.afdx_tx.specs.declared.fault.Refusal.{Refusal};
-ghost use Rattle.afdx_handle.specs.EndSystem.{EndView, has_id, TakesPort, GivesBack, GathersEnd};
-ghost use Rattle.afdx_handle.specs.Held.{end_of, port_of, port_block, HoldsNothing, HoldsOne, HoldsSame, EndDoes};
+ghost use Rattle.afdx_handle.specs.EndSystem.{has_id, TakesPort, GivesBack, GathersEnd};
+ghost use Rattle.afdx_handle.specs.Held.{end_of, port_of, port_block, HoldsNothing, HoldsOne, HoldsPort};
 ghost use Rattle.afdx_handle.specs.Numbers.{IsOneOf, refusal_number};
 
 use crate::answer::{
@@ -67,35 +67,35 @@ fn take_at(it: &mut EndSystem, id: u16, at: usize) -> TxPort
     it.ports.swap_remove(at)
 }
 
-/// Puts a port back, or returns it with a number: `GATHERED` if the ports were gathered, `NO_PORT`
-/// if its mark is of another end system, or if every port is already back. A refusal changes
-/// nothing. Allocates nothing.
-fn give_back(it: &mut EndSystem, port: TxPort, own: bool) -> Result<(), (TxPort, u8)>
-    requires { own ≡ true → it.old.gathered ≡ false → IsPortOfTx it.old.tx port }
-    ensures given { OnOk result (GivesBack it.old port it.new) }
-    ensures refused { OnErr result (it.new ≡ it.old) }
-    ensures back { IfErr result (λ refused. refused.0 ≡ port) }
-    ensures gathered { IfErr result (λ refused. (refused.1 ≡ GATHERED) ↔ (it.old.gathered ≡ true)) }
-    ensures not_gathered { OnOk result (it.old.gathered ≡ false) }
-    ensures own { OnOk result (own ≡ true) }
-    ensures room { OnOk result (it.old.room ≢ length it.old.ports) }
-    ensures no_port { IfErr result (λ refused. (refused.1 ≡ NO_PORT) →
-        ((own ≡ false) ⊎ (it.old.room ≡ length it.old.ports))) }
-    ensures answers { IfErr result (λ refused. (refused.1 ≡ GATHERED) ⊎ (refused.1 ≡ NO_PORT)) }
+/// Whether a port can be put back: `GATHERED` if the ports were gathered, `NO_PORT` if its mark is of
+/// another end system, or if every port is already back.
+fn room_for(it: &EndSystem, own: bool) -> u8
+    ensures answers { (result ≡ DONE) ⊎ ((result ≡ GATHERED) ⊎ (result ≡ NO_PORT)) }
+    ensures gathered { (result ≡ GATHERED) ↔ (it.now.gathered ≡ true) }
+    ensures no_port { (result ≡ NO_PORT) ↔
+        ((it.now.gathered ≡ false) × ((own ≡ false) ⊎ (it.now.room ≡ length it.now.ports))) }
 {
     if let Stage::Draining(_) = &it.stage {
-        return Err((port, GATHERED));
+        return GATHERED;
     }
     if !own || it.ports.len() == it.ports.capacity() {
-        return Err((port, NO_PORT));
+        return NO_PORT;
     }
+    DONE
+}
+
+/// Puts a port back. Allocates nothing.
+fn give_back(it: &mut EndSystem, port: TxPort)
+    requires room { it.old.room ≢ length it.old.ports }
+    requires own { it.old.gathered ≡ false → IsPortOfTx it.old.tx port }
+    ensures { GivesBack it.old port it.new }
+{
     it.ports.push_reserved(port);
-    Ok(())
 }
 
 /// Starts draining. `GATHERED` if the ports were gathered before, `PORT_MISSING` if a port of the
 /// configuration is out; then nothing changes.
-fn gather(alloc: Global, it: EndSystem) -> (EndSystem, u8)
+pub fn gather(alloc: Global, it: EndSystem) -> (EndSystem, u8)
     ensures answers { (result.1 ≡ DONE) ⊎ ((result.1 ≡ GATHERED) ⊎ (result.1 ≡ PORT_MISSING)) }
     ensures gathered { (result.1 ≡ GATHERED) ↔ (it.gathered ≡ true) }
     ensures missing { (result.1 ≡ PORT_MISSING) ↔
@@ -150,27 +150,17 @@ fn gather(alloc: Global, it: EndSystem) -> (EndSystem, u8)
     }
 }
 
-/// Replaces a home. `drop` frees the old one in one step; an assignment takes it apart field by
-/// field.
-fn fill(place: &mut Home, home: Home)
-    ensures { place.new ≡ home }
-{
-    drop(mem::replace(place, home));
-}
-
 /// Takes out the port with this identifier, in a box that is allocated first. `GATHERED` if the
 /// ports were gathered, `NO_PORT` if no such port is in the end system, `MEMORY` if an allocation
 /// fails; then nothing changes.
 pub fn take_port(alloc: Global, it: &mut EndSystem, id: u16) -> Result<Box<Home>, u8>
-    ensures numbers { IfErr result (λ number.
-        (number ≡ GATHERED) ⊎ ((number ≡ NO_PORT) ⊎ (number ≡ MEMORY))) }
+    ensures numbers { IfErr result (λ number. (number ≡ GATHERED) ⊎ ((number ≡ NO_PORT) ⊎ (number ≡ MEMORY))) }
     ensures gathered { IfErr result (λ number. (number ≡ GATHERED) ↔ (it.old.gathered ≡ true)) }
     ensures no_port { IfErr result (λ number. (number ≡ NO_PORT) ↔
         ((it.old.gathered ≡ false) × (position (has_id id) it.old.ports ≡ None))) }
     ensures sending { OnOk result (it.old.gathered ≡ false) }
     ensures here { OnOk result (IsSome (position (has_id id) it.old.ports)) }
-    ensures taken { IfOk result (λ home. IsSomeAnd (port_of (Some home.value)) (λ port.
-        TakesPort it.old id port it.new)) }
+    ensures taken { IfOk result (λ home. HoldsPort (Some home.value) (λ port. TakesPort it.old id port it.new)) }
     ensures block { IfOk result (λ home. port_block (Some home.value) ≡ Some it.old.block) }
     ensures refused { OnErr result (it.new ≡ it.old) }
 {
@@ -187,12 +177,13 @@ pub fn take_port(alloc: Global, it: &mut EndSystem, id: u16) -> Result<Box<Home>
         return Err(MEMORY);
     };
     let port = take_at(it, id, at);
-    fill(&mut home, Home::Port(OwnPort { port, block }));
+    // `drop` frees the old content in one step; an assignment takes it apart field by field.
+    drop(mem::replace(&mut *home, Home::Port(OwnPort { port, block })));
     Ok(home)
 }
 
 /// Whether the home is empty.
-fn is_nothing(home: &Home) -> bool
+pub fn is_nothing(home: &Home) -> bool
     ensures { MatchBool result (HoldsNothing (Some home.now)) (HoldsOne (Some home.now)) }
 {
     match home {
@@ -202,108 +193,35 @@ fn is_nothing(home: &Home) -> bool
     }
 }
 
-/// Returns the port in `theirs` to the end system, leaving `theirs` empty. `NOT_HELD` if `theirs`
-/// is empty, `WRONG_HANDLE` if it is an end system, and the numbers of `give_back`; then nothing
-/// changes.
-fn give_to(it: &mut EndSystem, theirs: &mut Home, own: bool) -> u8
+/// Puts the port in `theirs` back into the end system, and leaves `theirs` empty. `NOT_HELD` if
+/// `theirs` is empty, `WRONG_HANDLE` if it is an end system, and the numbers of `room_for`; then
+/// nothing changes. Allocates nothing.
+pub fn give_to(it: &mut EndSystem, theirs: &mut Home, own: bool) -> u8
     requires own { (port : PortView) → port_of (Some theirs.old) ≡ Some port → own ≡ true
         → it.old.gathered ≡ false → IsPortOfTx it.old.tx port }
     ensures not_held { (result ≡ NOT_HELD) ↔ HoldsNothing (Some theirs.old) }
     ensures wrong_handle { (result ≡ WRONG_HANDLE) ↔ IsSome (end_of (Some theirs.old)) }
     ensures no_port { (result ≡ NO_PORT) ↔ (IsSome (port_of (Some theirs.old))
         × (it.old.gathered ≡ false) × ((own ≡ false) ⊎ (it.old.room ≡ length it.old.ports))) }
-    ensures answers { IsOneOf result
-        (DONE ∷ NOT_HELD ∷ WRONG_HANDLE ∷ GATHERED ∷ NO_PORT ∷ []) }
-    ensures gathered { (result ≡ GATHERED) ↔
-        (IsSome (port_of (Some theirs.old)) × (it.old.gathered ≡ true)) }
-    ensures given { result ≡ DONE →
-        IsSomeAnd (port_of (Some theirs.old)) (λ port. GivesBack it.old port it.new) }
-    ensures refused { result ≢ DONE → it.new ≡ it.old }
-    ensures kept { result ≢ DONE → HoldsSame (Some theirs.old) (Some theirs.new) }
+    ensures answers { IsOneOf result (DONE ∷ NOT_HELD ∷ WRONG_HANDLE ∷ GATHERED ∷ NO_PORT ∷ []) }
+    ensures gathered { (result ≡ GATHERED) ↔ (IsSome (port_of (Some theirs.old)) × (it.old.gathered ≡ true)) }
+    ensures given { result ≡ DONE → HoldsPort (Some theirs.old) (λ port. GivesBack it.old port it.new) }
+    ensures refused { result ≢ DONE → (it.new ≡ it.old) × (theirs.new ≡ theirs.old) }
 {
     if is_nothing(theirs) {
         return NOT_HELD;
     }
-    match mem::replace(theirs, Home::Nothing) {
-        Home::Port(OwnPort { port, block }) => match give_back(it, port, own) {
-            Ok(()) => DONE,
-            Err((port, number)) => {
-                fill(theirs, Home::Port(OwnPort { port, block }));
-                number
-            }
-        },
-        other => {
-            fill(theirs, other);
-            WRONG_HANDLE
-        }
-    }
-}
-
-/// Returns the port in `theirs` to the end system in `home`, leaving `theirs` empty. `NOT_HELD` if
-/// one of them is empty, `WRONG_HANDLE` if one is of the other kind, `GATHERED` if the ports were
-/// gathered, `NO_PORT` if the port's mark is of another end system, or if every port is already
-/// back; then nothing changes.
-pub fn give_in(home: &mut Home, theirs: &mut Home, own: bool) -> u8
-    requires own { (end : EndView) → (port : PortView) → end_of (Some home.old) ≡ Some end
-        → port_of (Some theirs.old) ≡ Some port → own ≡ true → end.gathered ≡ false
-        → IsPortOfTx end.tx port }
-    ensures not_held { (result ≡ NOT_HELD) ↔
-        (HoldsNothing (Some home.old) ⊎ HoldsNothing (Some theirs.old)) }
-    ensures wrong_handle { (result ≡ WRONG_HANDLE) ↔
-        ((IsSome (port_of (Some home.old)) × HoldsOne (Some theirs.old))
-        ⊎ (IsSome (end_of (Some home.old)) × IsSome (end_of (Some theirs.old)))) }
-    ensures no_port { (result ≡ NO_PORT) ↔ (IsSome (port_of (Some theirs.old))
-        × IsSomeAnd (end_of (Some home.old)) (λ end. (end.gathered ≡ false)
-        × ((own ≡ false) ⊎ (end.room ≡ length end.ports)))) }
-    ensures answers { IsOneOf result
-        (DONE ∷ NOT_HELD ∷ WRONG_HANDLE ∷ GATHERED ∷ NO_PORT ∷ []) }
-    ensures gathered { (result ≡ GATHERED) ↔ (IsSome (port_of (Some theirs.old))
-        × IsSomeAnd (end_of (Some home.old)) (λ end. end.gathered ≡ true)) }
-    ensures given { result ≡ DONE → IsSomeAnd (port_of (Some theirs.old)) (λ port.
-        EndDoes (Some home.old) (Some home.new) (λ old new. GivesBack old port new)) }
-    ensures refused { result ≢ DONE → HoldsSame (Some home.old) (Some home.new) }
-    ensures kept { result ≢ DONE → HoldsSame (Some theirs.old) (Some theirs.new) }
-{
-    match home {
-        Home::EndSystem(inside) => match &mut **inside {
-            Some(end_system) => give_to(end_system, theirs, own),
-            None => NOT_HELD,
-        },
-        Home::Port(_) => {
-            if is_nothing(theirs) {
-                NOT_HELD
-            } else {
-                WRONG_HANDLE
-            }
-        }
-        Home::Nothing => NOT_HELD,
-    }
-}
-
-/// Starts draining the end system in `home`. `NOT_HELD` if `home` is empty, `WRONG_HANDLE` if
-/// it is a port, `GATHERED` if the ports were gathered before, `PORT_MISSING` if one of them is
-/// out; then nothing changes.
-pub fn gather_in(alloc: Global, home: &mut Home) -> u8
-    ensures answers { IsOneOf result
-        (DONE ∷ NOT_HELD ∷ WRONG_HANDLE ∷ GATHERED ∷ PORT_MISSING ∷ []) }
-    ensures not_held { (result ≡ NOT_HELD) ↔ HoldsNothing (Some home.old) }
-    ensures wrong_handle { (result ≡ WRONG_HANDLE) ↔ IsSome (port_of (Some home.old)) }
-    ensures gathered { (result ≡ GATHERED) ↔
-        IsSomeAnd (end_of (Some home.old)) (λ end. end.gathered ≡ true) }
-    ensures missing { (result ≡ PORT_MISSING) ↔ IsSomeAnd (end_of (Some home.old)) (λ end.
-        (end.gathered ≡ false) × LacksPlace (length end.tx.plan.ports) end.ports) }
-    ensures gathers { result ≡ DONE → EndDoes (Some home.old) (Some home.new) GathersEnd }
-    ensures refused { result ≢ DONE → HoldsSame (Some home.old) (Some home.new) }
-{
-    let inside = match home {
-        Home::EndSystem(inside) => inside,
-        Home::Port(_) => return WRONG_HANDLE,
-        Home::Nothing => return NOT_HELD,
+    let Home::Port(_) = theirs else {
+        return WRONG_HANDLE;
     };
-    let Some(end_system) = mem::replace(&mut **inside, None) else {
-        return NOT_HELD;
+    let answer = room_for(it, own);
+    if answer != DONE {
+        return answer;
+    }
+    let Home::Port(OwnPort { port, block }) = mem::replace(theirs, Home::Nothing) else {
+        unreachable!();
     };
-    let (gathered, answer) = gather(alloc, end_system);
-    drop(mem::replace(&mut **inside, Some(gathered)));
-    answer
+    drop(block);
+    give_back(it, port);
+    DONE
 }

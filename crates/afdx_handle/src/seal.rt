@@ -9,7 +9,6 @@ use crate::home::Home;
 use parts::Parts;
 use std::alloc::Global;
 use std::marker::Model;
-use std::ptr::null_mut;
 
 /// A box whose type names no other type, or nothing. Dropping it frees nothing: its content is then
 /// C's.
@@ -26,15 +25,8 @@ impl Model for Sealed {
 }
 
 impl Sealed {
-    /// An empty seal.
-    pub fn empty(alloc: Global) -> Sealed
-        ensures { result.home ≡ None }
-    {
-        Sealed {
-            ptr: null_mut(),
-            alloc,
-        }
-    }
+    ghost use Rattle.std.specs.Borrow.{sem};
+    ghost use Rattle.afdx_handle.specs.Lending.{LendsHome};
 
     fn of_parts(parts: Parts<Home, Global>) -> Sealed
         ensures { result.home ≡ Some parts.value }
@@ -46,17 +38,6 @@ impl Sealed {
         }
     }
 
-    fn into_parts(self) -> Parts<Home, Global>
-        requires { IsSome self.home }
-        ensures { Some result.value ≡ self.home }
-    {
-        let Sealed { ptr, alloc } = self;
-        Parts {
-            ptr: ptr as *mut Home,
-            alloc,
-        }
-    }
-
     /// The seal of a box.
     pub fn of(home: Box<Home>) -> Sealed
         ensures { result.home ≡ Some home.value }
@@ -64,11 +45,21 @@ impl Sealed {
         Sealed::of_parts(Parts::of(home))
     }
 
-    /// The box again.
-    pub fn into_box(self) -> Box<Home>
-        requires { IsSome self.home }
-        ensures { Some result.value ≡ self.home }
+    /// Its content, which stays in place.
+    pub fn get_mut(&mut self) -> &mut Home
+        requires { IsSome self.old.home }
+        ensures* writes_back { sem 𝓛 (LendsHome self.entry result) }
+        ensures value { Some result.now ≡ self.old.home }
     {
-        self.into_parts().into_box()
+        unsafe { &mut *(self.ptr as *mut Home) }
+    }
+
+    /// Takes the box out, and leaves the seal empty.
+    pub fn take(&mut self) -> Box<Home>
+        requires { IsSome self.old.home }
+        ensures taken { Some result.value ≡ self.old.home }
+        ensures left { self.new.home ≡ None }
+    {
+        unsafe { Box::from_raw(self.alloc, self.ptr as *mut Home) }
     }
 }

@@ -4,13 +4,13 @@ use Rattle.afdx_handle.specs.declared.home.Home.{Home}
 use Rattle.afdx_handle.specs.Held.{end_of, port_of}
 use Rattle.afdx.proofs.calls.afdx_give_back.Goals as goal
 
-pub give_in-answer-requires : goal.give_in-answer-requires
-give_in-answer-requires c =
+pub give_to-requires : goal.give_to-requires
+give_to-requires c =
     let some : Home → Option Home = λ home. Some home in
     record {
-      own = λ end own is_end is_own marked sending.
-          c.requires.own end own
-          (ap end_of (c.in-Some.ensures.taken ∙ ap some (sym c.deref_mut.ensures.value)) ∙ is_end)
-          (ap port_of (c.in-Some-take.ensures.taken ∙ ap some (sym c.deref_mut-2.ensures.value)) ∙ is_own)
+      own = λ own is_own marked sending.
+          c.requires.own c.in-Some.end_system own
+          (ap end_of (sym c.get_mut.ensures.value ∙ ap some c.in-EndSystem.is) ∙ sym c.deref_mut.ensures.value ∙ c.in-Some.is)
+          (ap port_of (sym c.get_mut-theirs.ensures.value) ∙ is_own)
           (eqb-true c.args.it.now.mark c.args.port.now.mark marked) sending;
     }
