@@ -1,4 +1,5 @@
-//! The calls of `afdx.h`. Each borrows the content of its handle.
+//! The calls of `afdx.h`. Each borrows the content of its handle. No `&` to what owns memory can be taken from C, so
+//! each takes its handles by `&mut`; those that `afdx.h` declares with `const` write nothing there.
 ghost use Rattle.std.specs.Prelude.{◌≡◌, ◌≢◌, ◌⊎◌, ◌↔◌, ◌<◌, ◌≤◌, ◌++◌, [], ◌∷◌, ℕ, None, Some, IsSome, IsNone, IsSomeAnd, IsTrue, true, false, length, drop, position};
 ghost use Rattle.redundant_mux.specs.Lines.{is_alive};
 ghost use Rattle.afdx_config.specs.Faults.{IsLeastFault};
@@ -97,8 +98,7 @@ pub extern "C" fn afdx_open(alloc: Global, out: &mut Opening, text: &[u8]) -> u8
     }
 }
 
-/// Explains the faults of a configuration's text: writes as much of the explanation as fits, and
-/// its length.
+/// Explains the faults of a configuration's text: writes as much of the explanation as fits, and its length.
 #[unsafe(no_mangle)]
 pub extern "C" fn afdx_explain(
     alloc: Global,
@@ -275,8 +275,7 @@ pub extern "C" fn afdx_frames(it: &mut Handle, network: u8, count: &mut usize) -
     })
 }
 
-/// Copies frame `k`, from 0, that the last poll made for a network into a buffer, and writes its
-/// length.
+/// Copies frame `k`, from 0, that the last poll made for a network into a buffer, and writes its length.
 #[unsafe(no_mangle)]
 pub extern "C" fn afdx_frame(
     it: &mut Handle,

@@ -91,9 +91,8 @@ pub fn standing_bits(standing: Standing) -> u8
     }
 }
 
-/// The counts of a virtual link: the frames that at least one network accepted, the sum of their
-/// lengths in bytes, the messages whose last frame is among them, and the time of the last frame in
-/// microseconds.
+/// The counts of a virtual link: the frames that at least one network accepted, the sum of their lengths in bytes, the
+/// messages whose last frame is among them, and the time of the last frame in microseconds.
 #[repr(C)]
 #[derive(Clone, Copy)]
 pub struct LinkCounts {

@@ -90,8 +90,7 @@ impl EndSystem {
         DONE
     }
 
-    /// The number of the first frame that the last poll made for a network, and the number after
-    /// its last.
+    /// The number of the first frame that the last poll made for a network, and the number after its last.
     fn numbers(&self, net: Net) -> (u64, u64)
         ensures first { result.0 ≡ before_of net self.now }
         ensures end { result.1 ≡ length (line_of net self.now.tx.lines) }
@@ -265,9 +264,8 @@ impl EndSystem {
         }
     }
 
-    /// Closes a sub-VL, by its link and its index there, and writes the number of accepted
-    /// messages. `GATHERED` if the ports were gathered, `NO_SUB` if there is no such sub-VL; then
-    /// nothing changes.
+    /// Closes a sub-VL, by its link and its index there, and writes the number of accepted messages. `GATHERED` if the
+    /// ports were gathered, `NO_SUB` if there is no such sub-VL; then nothing changes.
     pub fn close(&mut self, vl: u16, sub: u8, total: &mut u64) -> u8
         ensures answers { (result ≡ DONE) ⊎ ((result ≡ GATHERED) ⊎ (result ≡ NO_SUB)) }
         ensures gathered { (result ≡ GATHERED) ↔ (self.old.gathered ≡ true) }

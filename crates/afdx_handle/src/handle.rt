@@ -14,9 +14,8 @@ pub struct Handle {
     ghost something: { 0 < held → IsSome kept.home },
 }
 
-/// A handle in the layout of C, with the mark of the end system that it holds or that its port is
-/// of: the address of a block, as a number. The mark means something only beside what `Handle`
-/// holds.
+/// A handle in the layout of C, with the mark of the end system that it holds or that its port is of: the address of a
+/// block, as a number. The mark means something only beside what `Handle` holds.
 #[repr(C)]
 #[derive(Drop)]
 pub struct Marked {

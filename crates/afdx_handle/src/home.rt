@@ -10,9 +10,8 @@ pub struct OwnPort {
     pub block: Block,
 }
 
-/// The content of a handle: an end system, a port, or nothing while the content changes its kind.
-/// An end system is in a block of its own, so that the block of a port is small. It is taken out of
-/// the block while its ports are gathered.
+/// The content of a handle: an end system, a port, or nothing while the content changes its kind. An end system is in a
+/// block of its own, so that the block of a port is small. It is taken out of the block while its ports are gathered.
 #[derive(Drop)]
 pub enum Home {
     EndSystem(Box<Option<EndSystem>>),

@@ -13,9 +13,8 @@ use afdx_tx::open_tx;
 use redundant_mux::Outbox;
 use std::alloc::Global;
 
-/// An end system of a configuration, with all its ports. Allocates all memory that polling, closing
-/// and gathering need. Fails with the fault of the least number, or with `Memory` if an allocation
-/// fails.
+/// An end system of a configuration, with all its ports. Allocates all memory that polling, closing and gathering need.
+/// Fails with the fault of the least number, or with `Memory` if an allocation fails.
 fn open_end(alloc: Global, text: &[u8]) -> Result<EndSystem, ConfigFault>
     ensures opened { IfOk result (IsOpened text.now) }
     ensures fault { IfErr result (λ fault. fault ≢ ConfigFault.Memory → IsLeastFault text.now fault) }

@@ -1,5 +1,4 @@
-//! The ports of an end system: sending a message, and taking ports out, giving them back and
-//! gathering them.
+//! The ports of an end system: sending a message, and taking ports out, giving them back and gathering them.
 ghost use Rattle.std.specs.Prelude.{◌≡◌, ◌≢◌, ◌≤◌, ◌<◌, ◌⊎◌, ◌↔◌, ◌++◌, [], ◌∷◌, Option, Some, None, true, false, length, position, IfOk, IfErr, OnOk, OnErr, IsSome, MatchBool};
 ghost use Rattle.afdx_tx.specs.Ports.{PortView, MaySend, Accepts, Refuses, IsPortOfTx, LacksPlace};
 ghost use Rattle.afdx_tx.specs.declared.fault.Refusal.{Refusal};
@@ -150,9 +149,8 @@ pub fn gather(alloc: Global, it: EndSystem) -> (EndSystem, u8)
     }
 }
 
-/// Takes out the port with this identifier, in a box that is allocated first. `GATHERED` if the
-/// ports were gathered, `NO_PORT` if no such port is in the end system, `MEMORY` if an allocation
-/// fails; then nothing changes.
+/// Takes out the port with this identifier, in a box that is allocated first. `GATHERED` if the ports were gathered,
+/// `NO_PORT` if no such port is in the end system, `MEMORY` if an allocation fails; then nothing changes.
 pub fn take_port(alloc: Global, it: &mut EndSystem, id: u16) -> Result<Box<Home>, u8>
     ensures numbers { IfErr result (λ number. (number ≡ GATHERED) ⊎ ((number ≡ NO_PORT) ⊎ (number ≡ MEMORY))) }
     ensures gathered { IfErr result (λ number. (number ≡ GATHERED) ↔ (it.old.gathered ≡ true)) }
@@ -193,9 +191,8 @@ pub fn is_nothing(home: &Home) -> bool
     }
 }
 
-/// Puts the port in `theirs` back into the end system, and leaves `theirs` empty. `NOT_HELD` if
-/// `theirs` is empty, `WRONG_HANDLE` if it is an end system, and the numbers of `room_for`; then
-/// nothing changes. Allocates nothing.
+/// Puts the port in `theirs` back into the end system, and leaves `theirs` empty. `NOT_HELD` if `theirs` is empty,
+/// `WRONG_HANDLE` if it is an end system, and the numbers of `room_for`; then nothing changes. Allocates nothing.
 pub fn give_to(it: &mut EndSystem, theirs: &mut Home, own: bool) -> u8
     requires own { (port : PortView) → port_of (Some theirs.old) ≡ Some port → own ≡ true
         → it.old.gathered ≡ false → IsPortOfTx it.old.tx port }

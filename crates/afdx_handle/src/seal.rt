@@ -10,8 +10,7 @@ use parts::Parts;
 use std::alloc::Global;
 use std::marker::Model;
 
-/// A box whose type names no other type, or nothing. Dropping it frees nothing: its content is then
-/// C's.
+/// A box whose type names no other type, or nothing. Dropping it frees nothing: its content is then C's.
 #[repr(C)]
 #[derive(Drop)]
 pub struct Sealed {
