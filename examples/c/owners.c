@@ -1,7 +1,7 @@
 /* Tests calls of afdx.h with two end systems side by side, no bytes, lists and the allocator: a port can be given back only
    to its own end system, NULL is legal for 0 bytes, all frames of a poll at once are those of the calls for one, the time
-   until which a poller may sleep is one at which a link becomes due, an explanation is cut to its buffer, and an end
-   system allocates as much memory as docs/guide/c.md says.
+   until which a poller may sleep is one at which a link becomes due, what is const isn't written, an explanation is cut
+   to its buffer, and an end system allocates as much memory as docs/guide/c.md says.
 
    tools/c_library.py builds and runs it. Allocations call `__wrap_malloc` and its kin below (by the linker's --wrap),
    which count their bytes. A failed check prints its line; the last line is 'N passed, M failed'. */
@@ -11,6 +11,7 @@
 #include <stdio.h>
 #include <stdlib.h>
 #include <string.h>
+#include <sys/mman.h>
 
 static unsigned passed, failed;
 
@@ -270,6 +271,36 @@ static void check_next_due(void) {
     CHECK(afdx_free(&it) == AFDX_OK && blocks == 0);
 }
 
+/* The calls that take a handle by a pointer to const write nothing to it: here it lies where nothing can be written. */
+static void check_const(void) {
+    static const afdx_end_system none;
+    struct {
+        afdx_end_system it;
+        afdx_port port;
+    } *held = mmap(NULL, sizeof *held, PROT_READ | PROT_WRITE, MAP_PRIVATE | MAP_ANONYMOUS, -1, 0);
+    uint8_t done = 7, frame[AFDX_GREATEST_FRAME];
+    uint16_t id = 7;
+    size_t count = 7, length = 0;
+    uint64_t many = 7;
+    afdx_counts counts;
+    CHECK(held != MAP_FAILED && afdx_ports(&none, &id, 1, &count) == AFDX_NOT_HELD);
+    if (held == MAP_FAILED) return;
+    open_plan(&held->it, plan(1, 1, 2, 1));
+    CHECK(afdx_port_of(&held->it, 0, &held->port) == AFDX_OK && afdx_send(&held->port, (const uint8_t *)"x", 1) == AFDX_OK);
+    poll_makes(&held->it, 0, 1);
+    CHECK(mprotect(held, sizeof *held, PROT_READ) == 0);
+    CHECK(afdx_ports(&held->it, &id, 1, &count) == AFDX_OK && id == 0 && afdx_links(&held->it, &id, 1, &count) == AFDX_OK);
+    CHECK(id == 900 && afdx_link_counts(&held->it, id, &counts) == AFDX_OK && counts.frames == 1);
+    CHECK(afdx_accepted(&held->port, &many) == AFDX_OK && many == 1);
+    CHECK(afdx_frame(&held->it, AFDX_A, 0, frame, sizeof frame, &length) == AFDX_OK && length == 60);
+    frames_are(&held->it, AFDX_B, 1);
+    next_is(&held->it, 1000);
+    CHECK(afdx_is_done(&held->it, &done) == AFDX_NOT_GATHERED && done == 7);
+    CHECK(mprotect(held, sizeof *held, PROT_READ | PROT_WRITE) == 0);
+    CHECK(afdx_free_port(&held->port) == AFDX_OK && afdx_free(&held->it) == AFDX_OK && blocks == 0);
+    CHECK(munmap(held, sizeof *held) == 0);
+}
+
 /* Checks the explanation of a text, in buffers of any size. */
 static void explains(const char *text, const char *told) {
     size_t all = strlen(told), length = 0;
@@ -331,6 +362,7 @@ int main(void) {
     check_lists();
     check_all_frames();
     check_next_due();
+    check_const();
     check_explain();
     check_memory();
     printf("%u passed, %u failed\n", passed, failed);
