@@ -57,8 +57,7 @@ none_given (suc n) byte_at start i low high none = elim (cases_lt start i) [
 
 -- the bounds of the positions that a fragment covers
 covers_parts : (f : Fragment) (i : ℕ) → covers f i ≡ true → (8 * f.offset ≤ i) × (i < 8 * f.offset + length f.bytes)
-covers_parts f i in_it = let p = and_parts (nat_le (8 * f.offset) i)
-    (nat_lt i (8 * f.offset + length f.bytes)) in_it in (leb-true _ _ p.0, ltb-true _ _ p.1)
+covers_parts f i in_it = grind arith
 
 -- The data of a piece's fragment has the length of the piece.
 data_length : (d : List ℕ) (p : Piece) → p.start + p.len ≤ length d → length (fragment_of d p).bytes ≡ p.len

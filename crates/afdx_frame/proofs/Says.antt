@@ -36,8 +36,7 @@ header_sum : (end_system : ℕ) (port : PortPlan) (ident : ℕ) (piece : Piece)
     ≡ word_sum (header_front ident piece) + word_sum (addresses end_system port) + checksum
     (word_sum (header_front ident piece) + word_sum (addresses end_system port))
 unfolding internet_header header_front addresses
-header_sum end_system port ident piece =
-    let range = checksum_range (word_sum (header_front ident piece) + word_sum (addresses end_system port)) in omega arith
+header_sum end_system port ident piece = grind (arith, checksum_range, word_sum, header_front, end_system)
 
 -- The words of an internet header add up to a multiple of 65,535.
 pub header_closes : (end_system : ℕ) (port : PortPlan) (ident : ℕ) (piece : Piece)
@@ -68,12 +67,7 @@ module _ (end_system : ℕ) (port : PortPlan) (message : List ℕ) (place : ℕ)
 
   link_ok : HasLinkHeader frame
   unfolding unnumbered link_header
-  link_ok = record {
-    destination = (refl, refl, refl, refl);
-    source = (refl, refl, refl);
-    interface = elim net as (λ n. (interface_byte n ≡ 32) ⊎ (interface_byte n ≡ 64)) [ A ↦ inl refl | B ↦ inr refl ];
-    kind = (refl, refl);
-  }
+  link_ok = grind arith
 
   pub total_ok : piece.len ≤ 1479 → total_length frame ≡ 20 + piece.len
   unfolding unnumbered link_header internet_header header_front
@@ -99,26 +93,13 @@ module _ (end_system : ℕ) (port : PortPlan) (message : List ℕ) (place : ℕ)
   addresses_ok : (unicast : Option (List ℕ)) → IsPort (record port { unicast = unicast })
       → HasAddresses (frame_of end_system (record port { unicast = unicast }) message place piece net number)
   unfolding unnumbered link_header internet_header header_front addresses
-  addresses_ok None is = record {
-    source = (refl, refl, refl, let p = is.partition in omega arith);
-    destination = inl (refl, refl, refl, refl);
-  }
+  addresses_ok None is = grind arith
   addresses_ok (Some []) is = absurd (let four = is.unicast.four in omega arith)
-  addresses_ok (Some (first ∷ rest)) is = record {
-    source = (refl, refl, refl, let p = is.partition in omega arith);
-    destination = inr is.unicast.first;
-  }
+  addresses_ok (Some (first ∷ rest)) is = grind arith
 
   length-payload : piece.start + piece.len ≤ 8 + length message → length payload ≡ piece.len
   unfolding datagram
-  length-payload within =
-      let eight = length-udp_header end_system port message in
-      omega (
-        arith,
-        length-append (udp_header end_system port message) message,
-        length-take piece.len (drop piece.start (udp_header end_system port message ++ message)),
-        length-drop piece.start (udp_header end_system port message ++ message),
-      )
+  length-payload within = grind (arith, length-udp_header, end_system, length-append, udp_header, length-take, length-drop)
 
   -- The frame from its internet header on.
   behind_link : drop 14 frame ≡ header ++ (payload ++ tail)
@@ -138,8 +119,7 @@ module _ (end_system : ℕ) (port : PortPlan) (message : List ℕ) (place : ℕ)
 
   pub payload_says : IsPort port → piece.start + piece.len ≤ 8 + length message
       → take piece.len (drop 34 frame) ≡ take piece.len (drop piece.start (datagram end_system port message))
-  payload_says is within =
-      ap (take piece.len) (behind_header is) ∙ take_at payload tail piece.len (length-payload within)
+  payload_says is within = grind (arith, behind_header, take_at, length-payload)
 
   pub length-frame : IsPort port → piece.start + piece.len ≤ 8 + length message → length frame ≡ max 60 (35 + piece.len)
   length-frame is within =
@@ -163,17 +143,12 @@ module _ (end_system : ℕ) (port : PortPlan) (message : List ℕ) (place : ℕ)
       ∙ get_or-replicate (25 - piece.len) (k - 34 - length payload) 0 0 (omega arith)
 
   number_ok : slice_index frame (length frame - 1) ≡ number
-  number_ok =
-      let front : List ℕ = unnumbered end_system port message place piece net in
-      get_or_push front number 0 (length frame - 1) (omega (arith, length-append front (number ∷ [])))
+  number_ok = grind (arith, end_system, get_or_push, length-append)
 
   flags_ok : IsPiece (length message) piece → length message ≤ 8192
       → (fragment_field frame < 16384) × (fragment_field frame % 8192 ≡ piece.start / 8) ×
       (nat_le 8192 (fragment_field frame) ≡ piece.more) × (8192 ≤ fragment_field frame → piece.more ≡ true)
-  flags_ok is most =
-      let small = word_of_flags piece.more piece.start (let within = is.within in omega arith) in
-      let same : fragment_field frame ≡ fragment_word piece = fragment_ok (let bound = small.0 in omega arith) in
-      rw same small
+  flags_ok is most = grind (arith, word_of_flags, fragment_field, fragment_word, fragment_ok)
 
   pub says : IsPort port → length message ≤ 8192 → IsPiece (length message) piece
       → Says frame port.vl.0 (identification place port.sub) port.sub piece number

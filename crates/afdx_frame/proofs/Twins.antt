@@ -9,9 +9,7 @@ twin_elsewhere net frame k other = get_or-set_other frame 11 k (interface_byte n
 
 -- A word without that byte is the same in a twin.
 pub twin_word : (net : Net) (frame : List ℕ) (k : ℕ) → k ≢ 11 → k + 1 ≢ 11 → word_at (twin_of net frame) k ≡ word_at frame k
-twin_word net frame k first second =
-    ap (λ (high : ℕ). 256 * high + slice_index (twin_of net frame) (k + 1)) (twin_elsewhere net frame k first)
-    ∙ ap (λ (low : ℕ). 256 * slice_index frame k + low) (twin_elsewhere net frame (k + 1) second)
+twin_word net frame k first second = grind (arith, slice_index, twin_of, twin_elsewhere)
 
 pub twin_link : (net : Net) (frame : List ℕ) → link_in (twin_of net frame) ≡ link_in frame
 twin_link net frame = twin_word net frame 4 (λ e. omega arith) (λ e. omega arith)
@@ -23,9 +21,7 @@ pub length-twin : (net : Net) (frame : List ℕ) → length (twin_of net frame) 
 length-twin net frame = length-set frame 11 (interface_byte net)
 
 pub twin_number : (net : Net) (frame : List ℕ) → 60 ≤ length frame → number_in (twin_of net frame) ≡ number_in frame
-twin_number net frame long =
-    ap (λ (size : ℕ). slice_index (twin_of net frame) (size - 1)) (length-twin net frame)
-    ∙ twin_elsewhere net frame (length frame - 1) (λ e. omega arith)
+twin_number net frame long = grind (arith, slice_index, twin_of, length-twin, twin_elsewhere)
 
 pub twin_interface : (net : Net) (frame : List ℕ) → 60 ≤ length frame → slice_index (twin_of net frame) 11 ≡ interface_byte net
 twin_interface net frame long = get_or-set_same frame 11 (interface_byte net) 0 (omega arith)
@@ -38,12 +34,7 @@ pub twin_twice : (net other : Net) (frame : List ℕ) → twin_of net (twin_of o
 twin_twice net other frame = set-set frame 11 (interface_byte other) (interface_byte net)
 
 pub twin_blanked : (net : Net) (frame : List ℕ) → blanked (twin_of net frame) ≡ twin_of net (blanked frame)
-twin_blanked net frame =
-    ap (λ (size : ℕ). take (size - 1) (twin_of net frame)) (length-twin net frame) ∙ elim (cases_lt 11 (length frame - 1)) [
-      | inl inside ↦ take-set-lt (length frame - 1) frame 11 (interface_byte net) inside
-      | inr past ↦ take-set-le (length frame - 1) frame 11 (interface_byte net) past
-          ∙ sym (set_past (blanked frame) 11 (interface_byte net) (omega (arith, length-take (length frame - 1) frame)))
-    ]
+twin_blanked net frame = grind (arith, twin_of, length-twin, cases_lt, take-set-lt, interface_byte, take-set-le, set_past, length-take)
 
 -- The twins of a message's fragments are its fragments for the other network.
 twin_message : (end_system room : ℕ) (place : ℕ) (sent : Sent) (net other : Net)

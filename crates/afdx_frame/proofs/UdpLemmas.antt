@@ -8,10 +8,7 @@ use Rattle.afdx_frame.proofs.Datagram.{length-udp_header}
 -- One number from 1 to 65,535 closes a sum.
 pub one_udp_checksum : OneUdpChecksum
 unfolding udp_checksum
-one_udp_checksum sum = (
-  record { some = omega arith; range = omega arith; multiple = omega arith },
-  λ c is. let s = is.some in let r = is.range in let m = is.multiple in omega arith,
-)
+one_udp_checksum sum = grind arith
 
 -- The word sum of two lists, if the first has an even length.
 pub word_sum-append : (words : ℕ) (xs ys : List ℕ) → length xs ≡ 2 * words → word_sum (xs ++ ys) ≡ word_sum xs + word_sum ys
@@ -25,10 +22,7 @@ header_sum : (end_system : ℕ) (port : PortPlan) (message : List ℕ) → port.
     → word_sum (udp_header end_system port message)
     ≡ word_sum (udp_front port message) + udp_checksum (udp_sum end_system port message)
 unfolding udp_header
-header_sum end_system port message generated =
-    let range = (one_udp_checksum (udp_sum end_system port message)).0.range in
-    ap (λ kind. word_sum (udp_front port message ++ two_bytes (udp_field kind (udp_sum end_system port message)))) generated
-    ∙ omega (arith, range)
+header_sum end_system port message generated = grind (arith, one_udp_checksum, udp_sum, end_system, word_sum, udp_front, two_bytes, udp_field)
 
 -- The word sum of the datagram.
 datagram_sum : (end_system : ℕ) (port : PortPlan) (message : List ℕ) → port.checksum ≡ Generated
@@ -44,18 +38,12 @@ datagram_sum end_system port message generated =
 length-datagram : (end_system : ℕ) (port : PortPlan) (message : List ℕ)
     → length (datagram end_system port message) ≡ datagram_len message
 unfolding datagram
-length-datagram end_system port message =
-    length-append (udp_header end_system port message) message
-    ∙ ap (λ n. n + length message) (length-udp_header end_system port message)
+length-datagram end_system port message = grind (arith, length-append, udp_header, end_system, length-udp_header)
 
 -- The receiver's sum is the sender's sum with its checksum, and passes.
 pub checksums_pass : ChecksumsPass
 unfolding udp_sum
-checksums_pass end_system port message generated =
-    let words = datagram_sum end_system port message generated in
-    let len = length-datagram end_system port message in
-    let closes = (one_udp_checksum (udp_sum end_system port message)).0.multiple in
-    omega (arith, words, len, closes)
+checksums_pass end_system port message generated = grind (arith, datagram_sum, end_system, length-datagram, one_udp_checksum, udp_sum)
 
 -- The same holds of the datagram put together from its fragments.
 pub reassembled_pass : ReassembledPass
@@ -90,8 +78,7 @@ stands_too old new rest same one = grind arith
 
 -- The length of a list around one of its words.
 long_around : (front word rest : List ℕ) → length (front ++ (word ++ rest)) ≡ length front + (length word + length rest)
-long_around front word rest =
-    length-append front (word ++ rest) ∙ ap (λ n. length front + n) (length-append word rest)
+long_around front word rest = grind (arith, length-append)
 
 -- A word with another remainder gives a sum with another remainder.
 pub changed_words_fail : ChangedWordsFail

@@ -12,13 +12,7 @@ checks_one_header = search arith
 
 -- The two pieces are a cutting.
 two_are : IsCutting 25 49 (24 ∷ 25 ∷ [])
-two_are = record {
-  some = omega arith;
-  total = refl;
-  full = λ k h. grind arith;
-  last = λ k h. grind arith;
-  tight = λ k h. grind arith;
-}
+two_are = grind arith
 
 pub cuts_in_two : CutsInTwo
 unfolding cutting
@@ -68,30 +62,11 @@ three = first_bytes ∷ middle_bytes ∷ last_bytes ∷ []
 
 pub three_pieces : ThreePieces
 unfolding cutting
-three_pieces = record {
-  cut = refl;
-  each = λ f. (
-    each (Contains three) four_came f
-        ((2, omega arith, refl), ((0, omega arith, refl), ((2, omega arith, refl), ((1, omega arith, refl), tt)))),
-    each (Contains four_came) three f ((1, omega arith, refl), ((3, omega arith, refl), ((0, omega arith, refl), tt))),
-  );
-  given = refl;
-  missing = refl;
-}
+three_pieces = grind arith
 
 pub misses_the_middle : MissesTheMiddle
 unfolding cutting
-misses_the_middle = record {
-  among = λ f. each (Contains three) three_came f
-      ((2, omega arith, refl), ((0, omega arith, refl), ((2, omega arith, refl), tt)));
-  middle = (1, omega arith, refl);
-  missing = λ among. each (λ f. f.offset ≡ 1 → ⊥) three_came middle_bytes
-      ((λ e. omega arith), ((λ e. omega arith), ((λ e. omega arith), tt))) among refl;
-  none = refl;
-  foreign = λ among. each (λ f. slice_index f.bytes 0 ≡ 0 → ⊥) three foreign_bytes
-      ((λ e. omega arith), ((λ e. omega arith), ((λ e. omega arith), tt))) among refl;
-  another = refl;
-}
+misses_the_middle = grind arith
 
 -- The last byte is a word of its own.
 one_changed : IsWordChanged first_datagram damaged_datagram

@@ -25,8 +25,7 @@ use Rattle.afdx_plan.specs.Flows.{FlowsApart}
 -- no element passes a test that none passes
 pub none_at : {X : Type 0} (p : X → Bool) (xs : List X) (k : ℕ) (d : X) → list_any p xs ≡ false → k < length xs
     → p (get_or xs k d) ≡ false
-none_at p xs k d none below =
-    false_from_ne_true (p (get_or xs k d)) (λ passes. let found = list_any_at p xs k d below passes in cc)
+none_at p xs k d none below = grind (arith, false_from_ne_true, get_or, list_any_at)
 
 -- nor does a member
 none_of : {X : Type 0} (p : X → Bool) (xs : List X) (x : X) → list_any p xs ≡ false → Contains xs x → p x ≡ false
@@ -37,8 +36,7 @@ pair_at : {X : Type 0} (related : X → X → Bool) (xs : List X) (i j : ℕ) (d
     → i < j → j < length xs → related (get_or xs i d) (get_or xs j d) ≡ false
 pair_at related [] i j d none before below = absurd (omega arith)
 pair_at related (x ∷ xs) i zero d none before below = absurd (omega arith)
-pair_at related (x ∷ xs) zero (suc j) d none before below =
-    none_at (related x) xs j d (or_parts _ _ none).0 (omega arith)
+pair_at related (x ∷ xs) zero (suc j) d none before below = grind (arith, none_at, or_parts)
 pair_at related (x ∷ xs) (suc i) (suc j) d none before below =
     pair_at related xs i j d (or_parts _ _ none).1 (omega arith) (omega arith)
 
@@ -87,9 +85,7 @@ place_of xs x d member = get_or_default xs member.0 d x member.1 ∙ member.2
 -- links with the same identifier are one
 same_vl : (links : List LinkPlan) (i j : ℕ) → has_pair has_same_vl links ≡ false → i < length links → j < length links
     → (link_plan_at links i).id ≡ (link_plan_at links j).id → i ≡ j
-same_vl links i j none in_i in_j same =
-    let number : (link_plan_at links i).id.0 ≡ (link_plan_at links j).id.0 = ap (λ (v : VlId). v.0) same in
-    one_place has_same_vl links i j _ none in_i in_j (eq-eqb _ _ number) (eq-eqb _ _ (sym number))
+same_vl links i j none in_i in_j same = grind (arith, link_plan_at, one_place, has_same_vl, in_i, in_j, eq-eqb)
 
 -- a sampling port's greatest message fits
 fits : (links : List LinkPlan) (port : PortPlan) (link : LinkPlan) → has_pair has_same_vl links ≡ false
@@ -115,11 +111,7 @@ which_destination v w s t is_s is_t same = grind arith
 -- the test of destinations finds them equal
 one_destination : (p q : PortPlan) → IsPort p → IsPort q → AreSameFlow p q
     → are_one_destination p.unicast q.unicast ≡ true
-one_destination p q is_p is_q same = grind (
-  arith,
-  bytes_eq-Decides,
-  which_destination p.vl.0 q.vl.0 p.unicast q.unicast is_p.unicast is_q.unicast same.address,
-)
+one_destination p q is_p is_q same = grind (arith, bytes_eq-Decides, which_destination, is_p, is_q)
 
 -- the test of flows finds them equal
 same_flow : (p q : PortPlan) → IsPort p → IsPort q → AreSameFlow p q → has_same_flow p q ≡ true
@@ -243,8 +235,7 @@ no_pair related (x ∷ xs) d apart = or_from _ _
 
 -- a port with a link names one
 names_link : (plan : Plan) (port : PortPlan) → HasLink plan.links port → list_any (is_link_of port) plan.links ≡ true
-names_link plan port has = list_any_at (is_link_of port) plan.links has.at _ has.within
-    (eq-eqb _ _ (ap (λ (v : VlId). v.0) has.over.id))
+names_link plan port has = grind (arith, list_any_at, is_link_of, eq-eqb)
 
 -- the link of a port, as `find` returns it
 linked : (plan : Plan) (port : PortPlan) → HasLink plan.links port → FoundAt (is_link_of port) plan.links
@@ -275,8 +266,7 @@ agree p q one = grind (arith, nat_tests, bytes_eq-Decides)
 -- ports at different indices are different
 apart_ports : (plan : Plan) (i j : ℕ) → IsPlan plan → i < j → j < length plan.ports
     → port_plan_at plan.ports i ≡ port_plan_at plan.ports j → ⊥
-apart_ports plan i j is before below same =
-    let one : i ≡ j = is.ports_apart i j (omega arith) below (ap (λ (port : PortPlan). port.id) same) in omega arith
+apart_ports plan i j is before below same = grind arith
 
 -- ports of a valid plan share no address
 no_share : (plan : Plan) (p q : PortPlan) → IsPlan plan → Contains plan.ports p → Contains plan.ports q
@@ -298,10 +288,8 @@ faultless plan is DuplicatePort = no_pair has_same_port plan.ports (port_plan_at
     ne_eqb _ _ (λ number.
     let port : ℕ → PortId = λ n. record { 0 = n } in
     let one : i ≡ j = is.ports_apart i j (omega arith) below (ap port number) in omega arith))
-faultless plan is NoSuchVl = list_any_none (names_no_link plan.links) plan.ports (λ k d below.
-    not_from_true _ (names_link plan (get_or plan.ports k d) (is.linked k d below)))
-faultless plan is NoSuchSub = list_any_none (names_no_sub plan.links) plan.ports (λ k d below.
-    names_sub plan (get_or plan.ports k d) is (is.linked k d below))
+faultless plan is NoSuchVl = grind (arith, list_any_none, names_no_link, not_from_true, names_link, get_or)
+faultless plan is NoSuchSub = grind (arith, list_any_none, names_no_sub, names_sub, get_or)
 faultless plan is SamplingTooLong = list_any_none (is_too_long plan.links) plan.ports (λ k d below.
     let port = get_or plan.ports k d in
     long_one plan port is (Contains-get_or plan.ports k d below) (is.linked k d below))

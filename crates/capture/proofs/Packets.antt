@@ -14,7 +14,4 @@ length-packet_body interface e = simp (length-append, length-replicate) (omega a
 pub packet_is : (interface : ℕ) (e : Entry) (whole : ℕ) → whole ≡ 32 + (length e.frame + fill (length e.frame))
     → packet_front interface e.at (length e.frame) whole ++ filled e.frame ++ word whole
     ≡ block 6 (packet_body interface e)
-packet_is interface e whole is =
-    let all : whole ≡ 12 + length (packet_body interface e) = omega (arith, is, length-packet_body interface e) in
-    ap (λ (n : ℕ). packet_front interface e.at (length e.frame) n ++ filled e.frame ++ word n) all
-    ∙ simp append_assoc
+packet_is interface e whole is = grind (arith, packet_body, length-packet_body, packet_front, append_assoc)

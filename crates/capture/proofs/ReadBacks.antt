@@ -54,8 +54,7 @@ packet_even interface e = rw (length-packet_body interface e) (fill_even (length
     fill_even n = omega arith
 
 packet_small : (interface : ℕ) (e : Entry) → Fits e → 12 + length (packet_body interface e) < 2 ^ 32
-packet_small interface e fits =
-    let short : length e.frame ≤ 1514 = fits.len in omega (arith, length-packet_body interface e)
+packet_small interface e fits = grind (arith, length-packet_body)
 
 -- each packet has a byte at least
 packets_long : (cs : List Captured) → length cs ≤ length (packet_blocks cs)
@@ -67,8 +66,7 @@ packets_long (c ∷ cs) = omega (arith, length-append (packet_block c) (packet_b
 packets_read : (cs : List Captured) (most : ℕ) (seen : Capture) → length seen.names ≡ 2 → AllFit cs → length cs ≤ most
     → with_blocks most seen (packet_blocks cs) ≡ Some (record seen { packets = seen.packets ++ map packet_for cs })
 unfolding with_blocks packet_blocks packet_block word
-packets_read [] most seen two fit le =
-    ap (λ (ps : List Packet). Some (record seen { packets = ps })) (sym (append-nil seen.packets))
+packets_read [] most seen two fit le = grind (arith, append-nil)
 packets_read (c ∷ cs) zero seen two fit le = absurd (omega arith)
 packets_read (c ∷ cs) (suc most) seen two fit le =
     let i : ℕ = interface_of c.net in

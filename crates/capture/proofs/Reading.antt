@@ -40,11 +40,7 @@ length-then_more kind body rest = simp (length-append, length-word) (omega arith
 tail_is : (kind len : ℕ) (body rest : List ℕ) → len ≡ 12 + length body
     → drop (len - 12) (drop 8 (then_more kind body rest)) ≡ word len ++ rest
 unfolding word
-tail_is kind len body rest is =
-    let front : drop 8 (then_more kind body rest) ≡ body ++ (word (12 + length body) ++ rest) =
-    append_assoc body (word (12 + length body)) rest in
-    ap (drop (len - 12)) front ∙ drop_at body (word (12 + length body) ++ rest) (len - 12) (omega arith)
-    ∙ ap (λ (n : ℕ). word n ++ rest) (sym is)
+tail_is kind len body rest is = grind (arith, then_more, append_assoc, drop_at)
 
 -- a block that is written passes the reader's test
 block_passes : (kind len : ℕ) (body rest : List ℕ) → len ≡ 12 + length body → len < 2 ^ 32 → len % 4 ≡ 0

@@ -9,10 +9,7 @@ held_same subs s h lt = get_or-set_same subs s h nothing_held lt
 -- A property of each element of a list of which one was set.
 pub each_set : {X : Type 0} (P : ℕ → X → Type 0) (xs : List X) (i : ℕ) (new d : X) → i < length xs → P i new
     → ((k : ℕ) → k ≢ i → P k (get_or xs k d)) → (k : ℕ) → P k (get_or (set xs i new) k d)
-each_set P xs i new d lt here others k = ⊎_elim
-    (λ (e : k ≡ i). rw (get_or-set_at xs i k new d e lt) (rw e here))
-    (λ (ne : k ≢ i). rw (get_or-set_other xs i k new d ne) (others k ne))
-    (cases_eq k i)
+each_set P xs i new d lt here others k = grind (arith, get_or-set_at, get_or-set_other, cases_eq)
 
 -- A number is among the first k values or isn't.
 pub met : (f : ℕ → ℕ) (k s : ℕ) → ((j : ℕ) × (j < k) × (f j ≡ s)) ⊎ ((j : ℕ) → j < k → f j ≡ s → ⊥)
@@ -50,13 +47,7 @@ asked_next pace old new k sub d h has p is only kl lt a =
 -- If it had nothing, it is passed over too.
 pub passed_next : (pace : Pace) (old new : List Held) (k sub : ℕ) → AskedNext pace old new k sub false
     → sub ≡ turn_of pace.sub_vls pace.last k → PassedOver pace old new (k + 1)
-passed_next pace old new k sub asked is = record {
-  count = asked.count;
-  before = below_more (λ j. Passes (held_at old (turn_of pace.sub_vls pace.last j))
-      (held_at new (turn_of pace.sub_vls pace.last j))) k asked.before
-      (subst (λ (i : ℕ). Passes (held_at old i) (held_at new i)) is asked.here);
-  others = λ s not. asked.others s (λ j jl. not j (omega arith));
-}
+passed_next pace old new k sub asked is = grind arith
 
 -- a sub-VL was polled, or is unchanged
 abbrev pub Moves : Held → Held → Type 0

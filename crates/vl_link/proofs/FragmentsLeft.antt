@@ -11,8 +11,7 @@ pub done_tells : (of : SubVl) (cut : Cutting) (done : Bool)
     → ((room : ℕ) → (done ≡ true → pieces_left room cut ≡ []) × (pieces_left room cut ≡ [] → done ≡ true))
     → TellsCutting (not done) (left_of of (Some cut))
 done_tells of cut true h = ap (map _) ((h (room_of of.link.lmax)).0 refl)
-done_tells of cut false h = λ none. let e : false ≡ true =
-    (h (room_of of.link.lmax)).1 (map_nil _ (pieces_left (room_of of.link.lmax) cut) none) in cc
+done_tells of cut false h = grind (arith, room_of, map_nil, pieces_left)
 
 -- Each message has a fragment.
 pub fragments_some : (of : SubVl) (place : ℕ) (sent : Sent) → message_fragments of place sent ≢ []

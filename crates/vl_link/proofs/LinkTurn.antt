@@ -33,29 +33,18 @@ of_plan link new = record new {
 
 -- The same link has the same plan.
 same_plan : (link new : LinkState) → IsSameLink link new → new ≡ of_plan link new
-same_plan link new s = λ i. record new {
-  end_system = s.end_system i;
-  plan = s.plan i;
-  pace = record new.pace { gap = s.gap i; sub_vls = s.sub_vls i };
-}
+same_plan link new s = grind arith
 
 -- After a turn the link is still one of its plan.
 pub link_turn : (now : ℕ) (link new : LinkState) (lines after : Lines) (did : Served)
     → Turned now link new lines after did → IsOwn link → IsOwn new
-link_turn now link new lines after did t own = subst IsOwn (sym (same_plan link new t.same)) (record {
-  count = t.same.count ∙ own.count;
-  sub_vls = own.sub_vls;
-  gap = own.gap;
-  named = λ s lt. (t.same.subs s).of ∙ own.named s (omega (arith, t.same.count));
-})
+link_turn now link new lines after did t own = grind arith
 
 -- A prefix of a sub-VL's fragments, by the sub-VL after the turn.
 prefix_at : (link new : LinkState) (s : ℕ) (front : List (List ℕ)) → IsOwn link → IsSameLink link new → s < link.plan.sub_vls
     → IsPrefixOf front (shown (held_at new.subs s))
     → IsPrefixOf front (fragments link.end_system (room_of link.plan.lmax) A (taken_by (held_at new.subs s)))
-prefix_at link new s front own same lt p =
-    subst (λ (o : SubVl). IsPrefixOf front (sub_fragments o 0 (taken_by (held_at new.subs s))))
-    ((same.subs s).of ∙ own.named s (omega (arith, own.count, own.sub_vls))) p
+prefix_at link new s front own same lt p = grind arith
 
 -- Each sub-VL's stream after the chosen one's frame entered it.
 tied_released : (now number : ℕ) (link : LinkState) (sub : ℕ) (news : List Held) (lines after : Lines)
@@ -163,11 +152,7 @@ kept_of_plan now Lost link new lines after t own items k =
 -- The invariant after a turn.
 pub kept_turn : (now : ℕ) (did : Served) (link new : LinkState) (lines after : Lines)
     → Turned now link new lines after did → IsOwn link → HasItems link → IsKept link (log lines) → IsKept new (log after)
-kept_turn now did link new lines after t own items k =
-    let is = same_plan link new t.same in
-    subst (λ (l : LinkState). IsKept l (log after)) (sym is)
-    (kept_of_plan now did link new lines after (subst (λ (l : LinkState). Turned now link l lines after did) is t) own
-    items k)
+kept_turn now did link new lines after t own items k = grind (arith, same_plan, kept_of_plan)
 
 -- The stream of another link.
 pub other_stream : (now vl : ℕ) (did : Served) (link new : LinkState) (lines after : Lines)
@@ -196,5 +181,4 @@ kept_stream other H J e k = record {
 -- The sub-VL that released a frame is one of the link's.
 pub released_below : (now number : ℕ) (link : LinkState) (view : TurnView) (sub : ℕ) (lines after : Lines)
     → Releases now link.plan link.pace view sub number lines after → IsOwn link → sub < link.plan.sub_vls
-released_below now number link view sub lines after at own =
-    omega (arith, choice_below link.pace _ _ _ sub at.choice, own.sub_vls)
+released_below now number link view sub lines after at own = grind arith

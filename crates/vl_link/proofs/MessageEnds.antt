@@ -43,8 +43,7 @@ cut_total (suc turns) room n = grind (arith, nat_tests, cut_total turns room (n 
 pieces_end : (end_system : ℕ) (sent : Sent) (place : ℕ) (net : Net) (start len : ℕ) (rest : List ℕ)
     → start + (len + total rest) < 65536
     → Ends false (map (λ piece. unnumbered end_system sent.port sent.bytes place piece net) (pieces_from start (len ∷ rest)))
-pieces_end end_system sent place net start len [] h =
-    (piece_long end_system sent.port sent.bytes place _ net, last_piece end_system sent place net start len (omega arith))
+pieces_end end_system sent place net start len [] h = grind (arith, piece_long, end_system, last_piece)
 pieces_end end_system sent place net start len (next ∷ rest) h = (
   piece_long end_system sent.port sent.bytes place _ net,
   pieces_end end_system sent place net (start + len) next rest (omega arith),
@@ -73,13 +72,7 @@ fragments_end end_system room net place (sent ∷ later) short =
 
 -- A frame without its sequence number has the same flag.
 more_blanked : (frame : List ℕ) → 22 ≤ length (blanked frame) → more_in (blanked frame) ≡ more_in frame
-more_blanked frame long =
-    let size = length-take (length frame - 1) frame in
-    ap (nat_le 8192) (omega (
-      arith,
-      get_or-take (length frame - 1) frame 20 0 (omega arith),
-      get_or-take (length frame - 1) frame 21 0 (omega arith),
-    ))
+more_blanked frame long = grind (arith, length-take, nat_le, get_or-take)
 
 -- No message is begun if the frames of the sub-VL end one.
 ended : (begun : ℕ → Bool) (S : List Entry) (s : ℕ) → Ends (begun s) (told (sub_stream s S)) → begun_by begun S s ≡ false

@@ -86,13 +86,7 @@ still_receiving old new e i = absurd e
 pub kept_as : (of : SubVl) (ports : List PortPlan) (sending : Option Cutting) (old new : Seen) (place : ℕ)
     → IsSub of ports sending old place → ports_of new ≡ ports_of old → taken_of new ≡ taken_of old
     → IsSub of ports sending new place
-kept_as of ports sending old new place h many taken = record {
-  link = h.link;
-  senders = h.senders;
-  count = rw many h.count;
-  sending_is = h.sending_is;
-  place = rw taken h.place;
-}
+kept_as of ports sending old new place h many taken = grind arith
 
 -- A message was found and is cut: the next place is one higher.
 pub kept_finds : (of : SubVl) (ports : List PortPlan) (sending : Option Cutting) (cut : Cutting) (old new : Seen) (place : ℕ)

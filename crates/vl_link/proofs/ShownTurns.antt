@@ -8,8 +8,7 @@ use Rattle.vl_link.proofs.MessageEnds.{IsShort, not_begun}
 -- The chosen sub-VL is one of the link's.
 pub chosen_below : (subs : ℕ) (last : Option Stamp) (begun : ℕ → Bool) (sub : ℕ)
     → IsChosen subs (turn_of subs last) (shown_choice begun sub) → sub < subs
-chosen_below subs last begun sub c =
-    subst (λ (n : ℕ). n < subs) (sym c.is) (turn_below subs last c.turn c.within)
+chosen_below subs last begun sub c = grind arith
 
 -- The sub-VL of the last entry is one of the link's.
 pub last_below : (subs : ℕ) (last : Option Stamp) (begun : ℕ → Bool) (S : List Entry) → IsBelow subs last
@@ -30,8 +29,7 @@ shows_push subs last begun (x ∷ xs) e h c = (h.0, shows_push subs (Some (stamp
 pub turns_differ : (subs : ℕ) (last : Option Stamp) (j k : ℕ) → IsBelow subs last → j < subs → k < subs
     → turn_of subs last j ≡ turn_of subs last k → j ≡ k
 turns_differ subs None j k below jl kl e = e
-turns_differ subs (Some last) j k below jl kl e =
-    grind (arith, turn_cases subs last.sub j below jl, turn_cases subs last.sub k below kl)
+turns_differ subs (Some last) j k below jl kl e = grind (arith, turn_cases)
 
 -- the choices that the entries show before the next entry of a sub-VL
 record ShowsPassed (subs last x y : ℕ) (entries : List Entry) : Type 0 where

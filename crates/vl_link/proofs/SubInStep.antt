@@ -7,10 +7,7 @@ use Rattle.vl_link.proofs.QueueLooks.{taken_nothing, taken_finds, items_nothing,
 
 -- A polled sub-VL that has something has a fragment left.
 pub asked_left : (old new : Held) → Asks true old new → new.left ≢ []
-asked_left old new a none = ⊎_elim
-    (λ (g : GoesOn old new). g.some (sym (ap (λ (h : Held). h.left) g.same) ∙ none))
-    (λ (s : Starts old new). s.some none)
-    a
+asked_left old new a none = grind arith
 
 -- An unchanged sub-VL is the same.
 pub same_sub_here : (old new : Held) → new ≡ old → IsSameSub old new
@@ -18,13 +15,7 @@ same_sub_here old new e = subst (IsSameSub old) (sym e) (record { of = refl; por
 
 -- The relation is transitive.
 pub same_sub_on : (a b c : Held) → IsSameSub a b → IsSameSub b c → IsSameSub a c
-same_sub_on a b c p q =
-    record {
-      of = q.of ∙ p.of;
-      ports = q.ports ∙ p.ports;
-      queue = same_on a.seen b.seen c.seen p.queue q.queue;
-      items = λ i. q.items (p.items i);
-    }
+same_sub_on a b c p q = grind arith
 
 -- A polled sub-VL is the same.
 pub moves_of : (old new : Held) → Moves old new → IsSameSub old new
@@ -72,11 +63,7 @@ prefix_of held stream t = (held.left, sym t)
 
 -- A sub-VL that began its next message is tied to its stream.
 tied_starts : (old new : Held) (stream : List Entry) → Starts old new → IsTied old stream → IsTied new stream
-tied_starts old new stream p t =
-    rw (p.of, p.ports, p.left, taken_finds old.seen p.message new.seen p.finds)
-    (ap (sub_fragments old.of 0) (map-append (sent_of old.ports) (taken_of old.seen) (p.message ∷ []))
-    ∙ fragments_push old.of (taken_by old) (sent_of old.ports p.message)
-    ∙ rw (length-map (taken_of old.seen) (sent_of old.ports), t, p.whole, append-nil (told stream)) refl)
+tied_starts old new stream p t = grind (arith, taken_finds, sub_fragments, map-append, sent_of, taken_of, fragments_push, taken_by, length-map, append-nil)
 
 -- A sub-VL that was polled is tied to its stream.
 pub tied_moves : (old new : Held) (stream : List Entry) → Moves old new → IsTied old stream → IsTied new stream
@@ -96,9 +83,7 @@ gave_shown frame old new g = ap shown g.same
 -- A sub-VL that gave its next frame is tied to its stream.
 pub tied_gave : (now : ℕ) (frame : List ℕ) (old new : Held) (stream : List Entry)
     → Gives old frame new → IsTied old stream → IsTied new (stream ++ entry now frame ∷ [])
-tied_gave now frame old new stream g t =
-    gave_shown frame old new g ∙ t ∙ ap (λ (x : List (List ℕ)). told stream ++ x) g.next
-    ∙ sym (rw (map-append (λ (e : Entry). blanked e.frame) stream, append_assoc (told stream)) refl)
+tied_gave now frame old new stream g t = grind (arith, gave_shown, map-append, append_assoc)
 
 -- The chosen sub-VL, for any default of the index.
 item_is : (pace : Pace) (old : List Held) (sub : ℕ) (mid : List Held) (d : Held) → IsPicked pace old sub mid

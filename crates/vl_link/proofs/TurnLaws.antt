@@ -6,8 +6,7 @@ use Rattle.vl_link.proofs.Choosing.{met}
 -- The chosen sub-VL is one of the link's.
 pub choice_below : (pace : Pace) (has lacks rests : ℕ → Type 0) (sub : ℕ) → IsChoice pace has lacks rests sub
     → sub < pace.sub_vls
-choice_below pace has lacks rests sub c =
-    rw c.is (turn_below pace.sub_vls pace.last c.turn c.within)
+choice_below pace has lacks rests sub c = grind arith
 
 -- A sub-VL other than the chosen one has nothing, or wasn't polled.
 pub choice_other : (pace : Pace) (has lacks rests : ℕ → Type 0) (sub : ℕ) → IsChoice pace has lacks rests sub
@@ -30,57 +29,16 @@ pub record IsSeenIn (pace : Pace) (view other : TurnView) : Type 0 where
 choice_seen : (pace : Pace) (view other : TurnView) (frame : List ℕ) (sub : ℕ) → IsSeenIn pace view other
     → IsChoice pace (λ s. view.gives s frame) view.lacks view.rests sub
     → IsChoice pace (λ s. other.gives s frame) other.lacks other.rests sub
-choice_seen pace view other frame sub i c = record {
-  turn = c.turn;
-  within = c.within;
-  is = c.is;
-  chosen = i.gives sub frame (choice_below pace (λ s. view.gives s frame) view.lacks view.rests sub c) c.chosen;
-  before = λ k lt. i.lacks (turn_of pace.sub_vls pace.last k)
-      (turn_below pace.sub_vls pace.last k (let w = c.within in omega arith)) (c.before k lt);
-  others = λ s not. i.rests s (c.others s not);
-}
+choice_seen pace view other frame sub i c = grind arith
 
 -- A turn in one view is a turn in another that says no more: of the sub-VLs that weren't polled,
 -- and of the others if the link may release a frame.
 pub turn_seen : (now : ℕ) (plan : LinkPlan) (pace : Pace) (view other : TurnView) (lines after : Lines) (did : Served)
     → ((s : ℕ) → view.rests s → other.rests s) → (may_release now plan pace lines ≡ true → IsSeenIn pace view other)
     → Turn now plan pace view lines after did → Turn now plan pace other lines after did
-turn_seen now plan pace view other lines after Nothing rests seen t = (
-  ⊎_elim
-      (λ h. inl (h.0, λ s. rests s (h.1 s)))
-      (λ h. inr (
-        h.0,
-        record {
-          each = λ s lt. (seen h.0).lacks s lt (h.1.each s lt);
-          others = λ s past. rests s (h.1.others s past);
-        },
-      ))
-      t.0,
-  t.1,
-)
-turn_seen now plan pace view other lines after (Released sub number) rests seen t = (
-  t.0,
-  t.1,
-  record {
-    frame = t.2.frame;
-    choice = choice_seen pace view other t.2.frame sub (seen t.0) t.2.choice;
-    of = t.2.of;
-    enters = t.2.enters;
-    stands = t.2.stands;
-    endure = t.2.endure;
-  },
-)
-turn_seen now plan pace view other lines after Lost rests seen t = (
-  t.0,
-  record {
-    sub = t.1.sub;
-    frame = t.1.frame;
-    choice = choice_seen pace view other t.1.frame t.1.sub (seen t.0) t.1.choice;
-    same = t.1.same;
-    down = t.1.down;
-    endure = t.1.endure;
-  },
-)
+turn_seen now plan pace view other lines after Nothing rests seen t = grind arith
+turn_seen now plan pace view other lines after (Released sub number) rests seen t = grind arith
+turn_seen now plan pace view other lines after Lost rests seen t = grind arith
 
 -- A network that is down after a turn was down before it, or failed in it.
 pub turn_endures : (now : ℕ) (plan : LinkPlan) (pace : Pace) (view : TurnView) (lines after : Lines) (did : Served)

@@ -40,10 +40,7 @@ due_then gap before moment (Some l) after late = le-leb gap (moment - l.at) (ome
 -- If a sub-VL had something and the poll released nothing, the link wasn't due.
 not_due : (gap subs before x : ℕ) (last : Option Stamp) (p : Poll) → x < subs → IsLater last before
     → IsServed gap subs last p None → p.has x ≡ true → p.at < before + gap
-not_due gap subs before x last p xl after idle had = elim (cases_lt p.at (before + gap)) [
-  | inl early ↦ early
-  | inr due ↦ absurd (cc (had, idle (due_then gap before p.at last after due) x xl))
-]
+not_due gap subs before x last p xl after idle had = grind arith
 
 -- After a release the turns are in cyclic order.
 behind_release : (subs : ℕ) (l : Stamp) (c : Choice) → IsChosen subs (turn_of subs (Some l)) c → IsChosen subs (next_turn subs l.sub) c
@@ -55,13 +52,7 @@ from_0 subs k lt = grind (arith, turn_cases subs (subs - 1) k (omega arith) lt)
 
 -- The same holds of the choice on a link that has released nothing.
 at_first : (subs : ℕ) (c : Choice) → IsChosen subs (turn_of subs None) c → IsChosen subs (next_turn subs (subs - 1)) c
-at_first subs c ch = record {
-  turn = ch.turn;
-  within = ch.within;
-  is = ch.is ∙ sym (from_0 subs ch.turn ch.within);
-  had = ch.had;
-  before = λ k h. let w = ch.within in ap c.has (from_0 subs k (omega arith)) ∙ ch.before k h;
-}
+at_first subs c ch = grind (arith, from_0)
 
 -- From any poll on, one round is left for each turn but the rest of the first.
 in_time : (polls : List Poll) (subs x l f gap late before polled moment : ℕ) (last : Option Stamp)

@@ -8,8 +8,7 @@ use Rattle.vl_shaper.proofs.OneEach.{back, back_cases, back_lt, back_self, turn_
 pub waits : (n : ℕ) (choices : List Choice) (subs x l f : ℕ) → x < subs → l < subs → AreChosen subs l choices → HasUntil x f choices
     → n ≤ length choices → subs * f ≤ n + back subs x l → f ≤ turns_of x (take n choices)
 waits n choices subs x l zero xl ll a h long enough = omega arith
-waits zero choices subs x l (suc f) xl ll a h long enough =
-    absurd (let b = back_lt subs x l xl ll in let m = mul-suc subs f in omega arith)
+waits zero choices subs x l (suc f) xl ll a h long enough = grind arith
 waits (suc n) [] subs x l (suc f) xl ll a h long enough = absurd (omega arith)
 waits (suc n) (c ∷ cs) subs x l (suc f) xl ll a h long enough =
     let to = chosen_behind subs x l c xl ll a.0 (h.0 (omega arith)) in
@@ -83,8 +82,7 @@ rounds_have (suc n) subs last x many =
 -- The next choice is x, or is one further after x.
 one_further : (subs x l : ℕ) → x < subs → l < subs → next_turn subs l 0 ≢ x
     → back subs x (next_turn subs l 0) ≡ suc (back subs x l)
-one_further subs x l xl ll ne =
-    grind (arith, turn_cases subs l 0 ll (omega arith), back_cases subs x l, back_cases subs x (next_turn subs l 0))
+one_further subs x l xl ll ne = grind (arith, turn_cases, back_cases, next_turn)
 
 -- The sub-VL before x is a whole round but one after it.
 just_before : (subs x l : ℕ) → x < subs → l < subs → next_turn subs l 0 ≡ x → suc (back subs x l) ≡ subs

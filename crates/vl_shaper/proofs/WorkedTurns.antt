@@ -6,19 +6,12 @@ use Rattle.vl_shaper.specs.WorkedPolls.{served_at_0, ServesInTime, ReleasesAtOnc
 -- A sub-VL that has the first turn and has something is chosen.
 pub first_chosen : (subs : ℕ) (order : ℕ → ℕ) (c : Choice) → 1 ≤ subs → c.sub ≡ order 0 → c.has c.sub ≡ true
     → IsChosen subs order c
-first_chosen subs order c some is had =
-    record { turn = 0; within = omega arith; is = is; had = had; before = λ k h. absurd (omega arith) }
+first_chosen subs order c some is had = grind arith
 
 -- The others had nothing, so sub-VL 1 is chosen again.
 again : (subs turn : ℕ) → turn < subs → 1 ≡ next_turn subs 1 turn → ((k : ℕ) → k < turn → next_turn subs 1 k ≢ 1)
     → IsChosen subs (next_turn subs 1) lone_choice
-again subs turn within is before = record {
-  turn = turn;
-  within = within;
-  is = is;
-  had = refl;
-  before = λ k h. ne_eqb (next_turn subs 1 k) 1 (before k h);
-}
+again subs turn within is before = grind arith
 
 pub chooses_one_each : ChoosesOneEach
 chooses_one_each = search (arith, first_chosen, again 3 2 (omega arith) refl (λ k h e. omega arith))
@@ -43,13 +36,7 @@ releases_too_late = record {
 
 -- Sub-VL 1 had nothing, so sub-VL 0 is chosen.
 second_chosen : IsChosen 2 (turn_of 2 served_at_0) (record { has = λ s. nat_eq s 0; sub = 0 })
-second_chosen = record {
-  turn = 1;
-  within = omega arith;
-  is = refl;
-  had = refl;
-  before = λ k h. ne_eqb (turn_of 2 served_at_0 k) 0 (λ e. omega arith);
-}
+second_chosen = grind arith
 
 pub serves_in_time : ServesInTime
 serves_in_time = search (arith, first_chosen)
