@@ -1,5 +1,5 @@
 -- Each step keeps the rule.
-use Rattle.subvl_queue.proofs.Names.{◌≡◌, ◌≢◌, ℕ, zero, suc, ◌+◌, ◌-◌, ◌*◌, ◌^◌, ◌%◌, ◌<◌, ◌≤◌, ◌⊎◌, inl, inr, Bool, true, false, List, [], ◌∷◌, ◌++◌, length, take, get_or, set, sym, refl, ap, ◌∙◌, subst, ⊎_elim, arith, mod-lt, suc-ne-zero, length-set, length-append, get_or-set_other, get_or-set_same, zero-add, lt_of_not-le, cases_Bool, none, some, add-mod_right, ℕ_discrete, dec_le, get_elem?, Option, Some, None, IfSome, bit_or, take-append-le, step, Act, keeps, takes, gives, Valid, carried_after, stepped, Allows, set_here, set_else, at_last, at_longer, one_turn, View, Role, Sender, Receiver, Spent, Stage, Idle, Asked, Refused, Drew, Late, Holding, owned, total, hand_of, found_of, wait_of, budget_of, shut_bit, in_hand, in_room, waiting, asks_of, budget, Totals, Gone, Whole, Collects, Busy, Phase, free, writing, full, reading, Cell, holder, shown, InPhase, CellOk, Knows, Fits, Queue, Seated, with_ask, idle, drawn, with_look, holding, freed_of, lated, with_glance, with_total, with_all, asks, gives_back, draws, readies, looks, frees, glances_at, closes, gathers}
+use Rattle.subvl_queue.proofs.Names.{◌≡◌, ◌≢◌, ℕ, zero, suc, ◌+◌, ◌-◌, ◌*◌, ◌^◌, ◌%◌, ◌<◌, ◌≤◌, ◌⊎◌, inl, inr, Bool, true, false, List, [], ◌∷◌, ◌++◌, length, take, get_or, set, sym, refl, ap, ◌∙◌, subst, ⊎_elim, arith, mod-lt, suc-ne-zero, length-set, length-append, get_or-set_other, get_or-set_same, zero-add, lt_of_not-le, cases_Bool, none, some, add-mod_right, ℕ_discrete, dec_le, get_elem?, Option, Some, None, IfSome, bit_or, take-append-le, step, Act, keeps, takes, gives, Valid, carried_after, stepped, Allows, set_here, set_else, at_last, at_longer, one_turn, View, Role, Sender, Receiver, Spent, Stage, Idle, Asked, Refused, Drew, Late, Holding, owned, total, hand_of, found_of, wait_of, budget_of, shut_bit, in_hand, in_room, waiting, asks_of, budget, Totals, Gone, Whole, Collects, Busy, Phase, free, writing, full, reading, Cell, holder, shown, InPhase, CellOk, Knows, Fits, Queue, Seated, with_ask, idle, drawn, with_look, holding, freed_of, lated, with_glance, with_total, with_all, reserves, unreserves, claims, publishes, finds_ready, takes_out, finds_closed, closes, gathers}
 use mathlib.Core.Logic.{dite}
 use mathlib.Core.Option as maybe
 use lib.Seq.{set-get_or}
@@ -123,9 +123,9 @@ module _ {T : Type 0} where
       → Queue record { words = set s.words k (get_or s.words k 0); homes = s.homes; views = set s.views id w }
   reads s k id w = subst (λ (ws : List ℕ). Queue record { words = ws; homes = s.homes; views = set s.views id w }) (sym (set-get_or s.words k 0))
 
-  pub asks_ok : (n id : ℕ) (me : Seated T) → me.0.role ≡ Sender → me.0.stage ≡ Idle → me.0.asks < 2 ^ 40
-      → Allows Queue n id me 0 (λ x. (x + (2 ^ 64 - 1)) % 2 ^ 64) (asks (step n 0 1 0 none) me)
-  asks_ok n id me is was few s r wide at small = go (dec_le (suc (2 ^ 32)) (get_or s.words 0 0))
+  pub reserves_ok : (n id : ℕ) (me : Seated T) → me.0.role ≡ Sender → me.0.stage ≡ Idle → me.0.asks < 2 ^ 40
+      → Allows Queue n id me 0 (λ x. (x + (2 ^ 64 - 1)) % 2 ^ 64) (reserves (step n 0 1 0 none) me)
+  reserves_ok n id me is was few s r wide at small = go (dec_le (suc (2 ^ 32)) (get_or s.words 0 0))
     where
       held : ℕ
       held = (length r.log - r.freed) + total in_hand s.views
@@ -148,7 +148,7 @@ module _ {T : Type 0} where
           (omega arith) (omega arith) (λ _. omega arith) knew
 
       go : Dec (suc (2 ^ 32) ≤ get_or s.words 0 0)
-          → Goes s 0 id me (asks (step n 0 1 0 none) me) ((get_or s.words 0 0 + (2 ^ 64 - 1)) % 2 ^ 64)
+          → Goes s 0 id me (reserves (step n 0 1 0 none) me) ((get_or s.words 0 0 + (2 ^ 64 - 1)) % 2 ^ 64)
       go (yes d) = (
         with_ask me.0 Asked held,
         keeps,
@@ -159,9 +159,9 @@ module _ {T : Type 0} where
       go (no d) = (with_ask me.0 Refused held, keeps, tt, went Refused refl refl tt (omega arith), (refl, counted, (λ more. absurd (d more)), λ _. refl))
 
   -- A slot request without room, or with a late place, is given back.
-  pub gives_ok : (n id : ℕ) (me : Seated T) → me.0.role ≡ Sender → (me.0.stage ≡ Refused) ⊎ (me.0.stage ≡ Late)
-      → Allows Queue n id me 0 (λ x. (x + 1) % 2 ^ 64) (gives_back (step n 0 1 0 none) me)
-  gives_ok n id me is was s r wide at small =
+  pub unreserves_ok : (n id : ℕ) (me : Seated T) → me.0.role ≡ Sender → (me.0.stage ≡ Refused) ⊎ (me.0.stage ≡ Late)
+      → Allows Queue n id me 0 (λ x. (x + 1) % 2 ^ 64) (unreserves (step n 0 1 0 none) me)
+  unreserves_ok n id me is was s r wide at small =
       (idle me.0, keeps, tt, ⊎_elim (λ e. given Refused e refl (λ z. z)) (λ e. given Late e refl (λ z. z)) was, (refl, refl))
     where
       given : (st : Stage) → me.0.stage ≡ st → hand_of st ≡ 1 → (Busy st → ⊥)
@@ -214,12 +214,12 @@ module _ {T : Type 0} where
   )
 
   -- Drawing a place: for the message, or a late one if the queue is closed.
-  pub draws_ok : (said : Option (ℕ × T)) (x : ℕ × T) (n id : ℕ) (me : Seated T) → said ≡ Some x → x.0 ≡ me.0.port → me.0.role ≡ Sender
+  pub claims_ok : (said : Option (ℕ × T)) (x : ℕ × T) (n id : ℕ) (me : Seated T) → said ≡ Some x → x.0 ≡ me.0.port → me.0.role ≡ Sender
       → me.0.stage ≡ Asked → me.1 ≡ []
-      → Allows Queue n id me 1 (λ y. (y + 1) % 2 ^ 64) (draws said (step n 1 1 0 none) me)
-  draws_ok said x n id me says mine is was bare s r wide at small = ⊎_elim too_late accepted (cases_Bool r.closed)
+      → Allows Queue n id me 1 (λ y. (y + 1) % 2 ^ 64) (claims said (step n 1 1 0 none) me)
+  claims_ok said x n id me says mine is was bare s r wide at small = ⊎_elim too_late accepted (cases_Bool r.closed)
     where
-      accepted : r.closed ≡ false → Goes s 1 id me (draws said (step n 1 1 0 none) me) ((get_or s.words 1 0 + 1) % 2 ^ 64)
+      accepted : r.closed ≡ false → Goes s 1 id me (claims said (step n 1 1 0 none) me) ((get_or s.words 1 0 + 1) % 2 ^ 64)
       accepted shut =
           let y : ℕ = get_or s.words 1 0 in
           let y' : ℕ = (y + 1) % 2 ^ 64 in
@@ -268,7 +268,7 @@ module _ {T : Type 0} where
             ((λ _. (x, says, ap (λ (k : ℕ). drawn me.0 k x) (sym tail), (λ k. ((sym tail k) % (wide k), None) ∷ bare k))), λ big. absurd (omega arith)),
           )
 
-      too_late : r.closed ≡ true → Goes s 1 id me (draws said (step n 1 1 0 none) me) ((get_or s.words 1 0 + 1) % 2 ^ 64)
+      too_late : r.closed ≡ true → Goes s 1 id me (claims said (step n 1 1 0 none) me) ((get_or s.words 1 0 + 1) % 2 ^ 64)
       too_late shut =
           let y : ℕ = get_or s.words 1 0 in
           let y' : ℕ = (y + 1) % 2 ^ 64 in
@@ -285,10 +285,10 @@ module _ {T : Type 0} where
             ((λ lt. absurd (omega arith)), λ _. (refl, bare)),
           )
 
-  pub readies_ok : (n id : ℕ) (me : Seated T) (k new : ℕ) → me.0.role ≡ Sender → me.0.stage ≡ Drew → me.1 ≡ (me.0.at % n, me.0.item) ∷ []
+  pub publishes_ok : (n id : ℕ) (me : Seated T) (k new : ℕ) → me.0.role ≡ Sender → me.0.stage ≡ Drew → me.1 ≡ (me.0.at % n, me.0.item) ∷ []
       → k ≡ me.0.at % n + 2 → new ≡ me.0.at + 1
-      → Allows Queue n id me k (λ _. new) (λ _ m. readies (step n k new 0 none) me new m)
-  readies_ok n id me k new is was has word next s r wide at small =
+      → Allows Queue n id me k (λ _. new) (λ _ m. publishes (step n k new 0 none) me new m)
+  publishes_ok n id me k new is was has word next s r wide at small =
       let F : ℕ = r.freed in let p : ℕ = me.0.at in let i : ℕ = p % length s.homes in
       let near = mod-lt p r.some_slot in
       let kn = knows s r id me.0 Drew at was in
@@ -300,7 +300,7 @@ module _ {T : Type 0} where
       let sum = sums s.views id me.0 w Drew Sender Sender at was is is in
       let keep0 = get_or-set_other s.words k 0 new 0 (λ e. omega arith) in
       let keep1 = get_or-set_other s.words k 1 new 0 (λ e. omega arith) in
-      subst (λ (cs : List (ℕ × Option (ℕ × T))). Goes s k id (me.0, cs) (λ _ u. readies (step n k new 0 none) (me.0, cs) new u) new)
+      subst (λ (cs : List (ℕ × Option (ℕ × T))). Goes s k id (me.0, cs) (λ _ u. publishes (step n k new 0 none) (me.0, cs) new u) new)
       (sym (has ∙ ap (λ (z : ℕ). (z, me.0.item) ∷ []) slot)) (
         w,
         gives,
@@ -355,9 +355,9 @@ module _ {T : Type 0} where
   none_busy s r v at calm gone i (suc j) near held = let b = r.busy i (suc j) near held in
       calm_at b.0.stage Idle (fits s r (suc j) b.0 Spent b.1 (gone j b.0 b.1)).1 (λ z. z) b.2
 
-  pub looks_ok : (n id : ℕ) (me : Seated T) (k p : ℕ) → me.0.role ≡ Receiver → me.0.stage ≡ Idle → me.1 ≡ [] → p ≡ length me.0.taken → k ≡ p % n + 2
-      → Allows Queue n id me k (λ x. x) (looks p (step n k 0 0 none) me)
-  looks_ok n id me k p is was bare count word s r wide at small =
+  pub finds_ready_ok : (n id : ℕ) (me : Seated T) (k p : ℕ) → me.0.role ≡ Receiver → me.0.stage ≡ Idle → me.1 ≡ [] → p ≡ length me.0.taken → k ≡ p % n + 2
+      → Allows Queue n id me k (λ x. x) (finds_ready p (step n k 0 0 none) me)
+  finds_ready_ok n id me k p is was bare count word s r wide at small =
       let m : ℕ = length s.homes in let L : ℕ = length r.log in let F : ℕ = r.freed in let i : ℕ = p % m in
       let near = mod-lt p r.some_slot in
       let f = fits s r id me.0 Receiver at is in
@@ -432,9 +432,9 @@ module _ {T : Type 0} where
         ),
       ))
 
-  pub frees_ok : (n id : ℕ) (me : Seated T) → me.0.role ≡ Receiver → me.0.stage ≡ Holding → me.1 ≡ (me.0.at % n, None) ∷ []
-      → Allows Queue n id me 0 (λ y. (y + 1) % 2 ^ 64) (frees (step n 0 1 0 none) me)
-  frees_ok n id me is was has s r wide at small =
+  pub takes_out_ok : (n id : ℕ) (me : Seated T) → me.0.role ≡ Receiver → me.0.stage ≡ Holding → me.1 ≡ (me.0.at % n, None) ∷ []
+      → Allows Queue n id me 0 (λ y. (y + 1) % 2 ^ 64) (takes_out (step n 0 1 0 none) me)
+  takes_out_ok n id me is was has s r wide at small =
       let m : ℕ = length s.homes in let F : ℕ = r.freed in let p : ℕ = me.0.at in let i : ℕ = p % m in
       let near = mod-lt p r.some_slot in
       let kn = knows s r id me.0 Holding at was in
@@ -453,7 +453,7 @@ module _ {T : Type 0} where
       let now = get_or-set_same s.words 0 y' 0 (omega arith) in
       let logged : get_elem? r.log F ≡ some x = ap (get_elem? r.log) (sym pF) ∙ kn.0.1.2 in
       let count = length-append me.0.taken (x ∷ []) in
-      subst (λ (cs : List (ℕ × Option (ℕ × T))). Goes s 0 id (me.0, cs) (frees (step n 0 1 0 none) (me.0, cs)) y') {x = (i, None) ∷ []}
+      subst (λ (cs : List (ℕ × Option (ℕ × T))). Goes s 0 id (me.0, cs) (takes_out (step n 0 1 0 none) (me.0, cs)) y') {x = (i, None) ∷ []}
       (sym (has ∙ ap (λ (z : ℕ). (z, None) ∷ []) slot)) (
         w,
         gives,
@@ -483,14 +483,14 @@ module _ {T : Type 0} where
       later seats log j d ne ro k = k
 
   -- A load of the tail, to see whether the queue is closed.
-  pub glances_ok : (n id : ℕ) (me : Seated T) → me.0.role ≡ Sender → me.0.stage ≡ Idle → Allows Queue n id me 1 (λ x. x) (glances_at (step n 1 0 0 none) me)
-  glances_ok n id me is was s r wide at small = go (dec_le (2 ^ 63) (get_or s.words 1 0))
+  pub finds_closed_ok : (n id : ℕ) (me : Seated T) → me.0.role ≡ Sender → me.0.stage ≡ Idle → Allows Queue n id me 1 (λ x. x) (finds_closed (step n 1 0 0 none) me)
+  finds_closed_ok n id me is was s r wide at small = go (dec_le (2 ^ 63) (get_or s.words 1 0))
     where
       went : (b : Bool) → Queue (stepped s 1 (get_or s.words 1 0) id me.1 (with_glance me.0 b) keeps)
       went b = reads s 1 id (with_glance me.0 b) (sends s r s.words id r.late me.0 me.0.stage me.0.stage me.0.asks me.0.load (me.0.glances + 1) b at is
           refl (calm_at _ _ was (λ z. z)) (refl, λ _. refl) refl r.tail_is r.none_late (omega arith) (omega arith) (λ z. z) (r.each_hand id me.0 at))
 
-      go : Dec (2 ^ 63 ≤ get_or s.words 1 0) → Goes s 1 id me (glances_at (step n 1 0 0 none) me) (get_or s.words 1 0)
+      go : Dec (2 ^ 63 ≤ get_or s.words 1 0) → Goes s 1 id me (finds_closed (step n 1 0 0 none) me) (get_or s.words 1 0)
       go (yes d) = (with_glance me.0 true, keeps, tt, went true, (refl, (λ lt. absurd (omega arith)), λ _. refl))
       go (no d) = (with_glance me.0 false, keeps, tt, went false, (refl, (λ _. refl), λ ge. absurd (d ge)))
 

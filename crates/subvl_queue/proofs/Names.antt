@@ -13,8 +13,8 @@ pub use Rattle.subvl_queue.specs.Gathers.{IsGathered, brought_back, brought_of, 
 pub use Rattle.subvl_queue.specs.Messages.{AreItems, IsItem, part_of}
 pub use Rattle.subvl_queue.specs.Queue.{Busy, Cell, CellOk, Collects, Fits, Gone, Has, InPhase, Joined, Knows, Phase, Queue, Totals, Whole, asks_of, budget}
 pub use Rattle.subvl_queue.specs.Queue.{budget_of, found_of, free, full, hand_of, holder, in_hand, in_room, owned, reading, shown, shut_bit, total, wait_of, waiting, writing}
-pub use Rattle.subvl_queue.specs.Steps.{Finds, IsLog, IsNext, Misses, Seated, asks, closes, drawn, draws, first_view, freed_of, frees, gathers, gives_back}
-pub use Rattle.subvl_queue.specs.Steps.{glances_at, holding, idle, lated, looks, new_seat, one_made, readies, spent_view, with_all, with_ask, with_glance}
+pub use Rattle.subvl_queue.specs.Steps.{Finds, IsLog, IsNext, Misses, Seated, reserves, closes, drawn, claims, first_view, freed_of, takes_out, gathers, unreserves}
+pub use Rattle.subvl_queue.specs.Steps.{finds_closed, holding, idle, lated, finds_ready, new_seat, one_made, publishes, spent_view, with_all, with_ask, with_glance}
 pub use Rattle.subvl_queue.specs.Steps.{with_joined, with_look, with_total}
 pub use Rattle.subvl_queue.specs.Views.{AreBack, Brought, HasEvery, HasPort, IsBack, IsWhole, LacksOne, ReceiverView, SenderView, StandAt, TellsLeft}
 pub use Rattle.subvl_queue.specs.Views.{accepted_of, brought_by, brought_by_all, new_receiver, new_sender, one_more, taken_back}

@@ -88,21 +88,21 @@ module _ {T : Type 0} where
 
   -- A slot request reads 2 ^ 32 and the capacity, less the held messages and the slot requests under way; `load` is
   -- the number of these. It finds room exactly if the word read is over 2 ^ 32.
-  abbrev pub asks : Step (Option (ℕ × T)) → Seated T → ℕ → Seated T → Type 0
-  asks st m r m' = (m'.1 ≡ m.1) × (r + m'.0.load ≡ 2 ^ 32 + st.slots)
+  abbrev pub reserves : Step (Option (ℕ × T)) → Seated T → ℕ → Seated T → Type 0
+  reserves st m r m' = (m'.1 ≡ m.1) × (r + m'.0.load ≡ 2 ^ 32 + st.slots)
       × (2 ^ 32 < r → m'.0 ≡ with_ask m.0 Asked m'.0.load) × (r ≤ 2 ^ 32 → m'.0 ≡ with_ask m.0 Refused m'.0.load)
 
-  abbrev pub gives_back : Step (Option (ℕ × T)) → Seated T → ℕ → Seated T → Type 0
-  gives_back st m r m' = (m'.1 ≡ m.1) × (m'.0 ≡ idle m.0)
+  abbrev pub unreserves : Step (Option (ℕ × T)) → Seated T → ℕ → Seated T → Type 0
+  unreserves st m r m' = (m'.1 ≡ m.1) × (m'.0 ≡ idle m.0)
 
   -- bit 63 of the word read says that the queue is closed
-  abbrev pub draws : Option (ℕ × T) → Step (Option (ℕ × T)) → Seated T → ℕ → Seated T → Type 0
-  draws said st m r m' =
+  abbrev pub claims : Option (ℕ × T) → Step (Option (ℕ × T)) → Seated T → ℕ → Seated T → Type 0
+  claims said st m r m' =
       (r < 2 ^ 63 → (x : ℕ × T) × (said ≡ Some x) × (m'.0 ≡ drawn m.0 r x) × (m'.1 ≡ (r % st.slots, None) ∷ []))
       × (2 ^ 63 ≤ r → (m'.0 ≡ lated m.0) × (m'.1 ≡ []))
 
-  abbrev pub readies : Step (Option (ℕ × T)) → Seated T → ℕ → Seated T → Type 0
-  readies st m r m' = (m'.1 ≡ []) × (m'.0 ≡ idle m.0)
+  abbrev pub publishes : Step (Option (ℕ × T)) → Seated T → ℕ → Seated T → Type 0
+  publishes st m r m' = (m'.1 ≡ []) × (m'.0 ≡ idle m.0)
 
   -- the message x is at place p, the next after those taken
   pub record IsNext (v : View T) (p : ℕ) (x : ℕ × T) : Type 0 where
@@ -120,14 +120,14 @@ module _ {T : Type 0} where
   abbrev pub Misses : ℕ → Seated T → Seated T → Type 0
   Misses p m m' = (m' ≡ (with_look m.0 false, [])) × IfSome m.0.all (λ l. length l ≤ p)
 
-  abbrev pub looks : ℕ → Step (Option (ℕ × T)) → Seated T → ℕ → Seated T → Type 0
-  looks p st m r m' = (r ≡ suc p → (x : ℕ × T) × Finds st.slots p m m' x) × (r ≢ suc p → Misses p m m')
+  abbrev pub finds_ready : ℕ → Step (Option (ℕ × T)) → Seated T → ℕ → Seated T → Type 0
+  finds_ready p st m r m' = (r ≡ suc p → (x : ℕ × T) × Finds st.slots p m m' x) × (r ≢ suc p → Misses p m m')
 
-  abbrev pub frees : Step (Option (ℕ × T)) → Seated T → ℕ → Seated T → Type 0
-  frees st m r m' = (m'.1 ≡ []) × ((x : ℕ × T) × (m.0.item ≡ Some x) × (m'.0 ≡ freed_of m.0 x))
+  abbrev pub takes_out : Step (Option (ℕ × T)) → Seated T → ℕ → Seated T → Type 0
+  takes_out st m r m' = (m'.1 ≡ []) × ((x : ℕ × T) × (m.0.item ≡ Some x) × (m'.0 ≡ freed_of m.0 x))
 
-  abbrev pub glances_at : Step (Option (ℕ × T)) → Seated T → ℕ → Seated T → Type 0
-  glances_at st m r m' = (m'.1 ≡ m.1) × (r < 2 ^ 63 → m'.0 ≡ with_glance m.0 false) × (2 ^ 63 ≤ r → m'.0 ≡ with_glance m.0 true)
+  abbrev pub finds_closed : Step (Option (ℕ × T)) → Seated T → ℕ → Seated T → Type 0
+  finds_closed st m r m' = (m'.1 ≡ m.1) × (r < 2 ^ 63 → m'.0 ≡ with_glance m.0 false) × (2 ^ 63 ≤ r → m'.0 ≡ with_glance m.0 true)
 
   abbrev pub closes : Step (Option (ℕ × T)) → Seated T → ℕ → Seated T → Type 0
   closes st m r m' = (m'.1 ≡ m.1) × (r < 2 ^ 63) × (length m.0.taken ≤ r) × (m'.0 ≡ with_total m.0 r)

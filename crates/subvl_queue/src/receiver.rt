@@ -31,10 +31,10 @@ pub fn fetch(ring: &Ring, seat: &mut Knowing, taken: &mut u64, slot: &mut usize)
     ensures slot { IsSlotOf ring.now.capacity taken.new slot.new }
 {
     let place = *taken;
-    if !ring.look(seat, place, *slot) {
+    if !ring.is_ready(seat, place, *slot) {
         return None;
     }
-    let parcel = ring.free(seat, *slot);
+    let parcel = ring.take(seat, *slot);
     *taken += 1;
     *slot = ring.slot_after(*slot);
     Some(parcel)

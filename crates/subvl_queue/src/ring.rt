@@ -9,7 +9,8 @@ ghost use Rattle.subvl_queue.specs.Steps.{new_seat, Finds, Misses, IsLog, with_a
 
 use crate::item::Message;
 use crate::rule::{
-    Ask, Close, Draw, Freed, Gather, GiveBack, Glance, Look, Make, Ready, Rule, Said, TakeIn, View,
+    Claim, Close, Gather, IsClosed, IsReady, Make, Publish, Reserve, Rule, Said, Take, TakeIn,
+    Unreserve, View,
 };
 use atomic_table::{Seat, Table};
 use std::alloc::Global;
@@ -17,10 +18,10 @@ use std::alloc::Global;
 /// The index of the word of the room.
 pub const ROOM: usize = 0;
 
-/// The index of the word of drawn places.
+/// The index of the word of claimed places.
 pub const TAIL: usize = 1;
 
-/// The index of the first word that says which place is ready in a slot.
+/// The index of the first word that says which place is published in a slot.
 pub const READY: usize = 2;
 
 /// There is room if the room's word is over this.
@@ -47,9 +48,9 @@ pub struct Ring {
 }
 
 impl Ring {
-    /// Requests a slot, and returns whether there was room: fewer held messages and slot requests
-    /// under way than the capacity.
-    pub fn ask(&self, seat: &mut Knowing) -> bool
+    /// Reserves a slot, and returns whether there was room: fewer held messages and slot requests under
+    /// way than the capacity.
+    pub fn reserve(&self, seat: &mut Knowing) -> bool
         requires seat { RestsAs self.now.table.shared.table_id Sender seat.old }
         requires asks { seat.old.me.0.asks < 2 ^ 40 }
         ensures seat { IsAtTable self.now.table.shared.table_id seat.new × (seat.new.me.1 ≡ []) }
@@ -58,23 +59,23 @@ impl Ring {
         ensures none { result ≡ false → seat.new.me.0 ≡ with_ask seat.old.me.0 Refused seat.new.me.0.load }
         ensures full { result ≡ false → self.now.capacity ≤ seat.new.me.0.load }
     {
-        self.table.shared.fetch_sub::<Ask>(seat, ROOM, 1) > NO_ROOM
+        self.table.shared.fetch_sub::<Reserve>(seat, ROOM, 1) > NO_ROOM
     }
 
-    /// Gives back a slot request that found no room, or whose place was late.
-    pub fn give_back(&self, seat: &mut Knowing)
+    /// Gives back a reservation that found no room, or whose place was late.
+    pub fn unreserve(&self, seat: &mut Knowing)
         requires seat { IsAtTable self.now.table.shared.table_id seat.old × (seat.old.me.1 ≡ []) }
         requires role { seat.old.me.0.role ≡ Sender }
         requires stage { (seat.old.me.0.stage ≡ Refused) ⊎ (seat.old.me.0.stage ≡ Late) }
         ensures seat { IsAtTable self.now.table.shared.table_id seat.new × (seat.new.me.1 ≡ []) }
         ensures view { seat.new.me.0 ≡ idle seat.old.me.0 }
     {
-        self.table.shared.fetch_add::<GiveBack>(seat, ROOM, 1);
+        self.table.shared.fetch_add::<Unreserve>(seat, ROOM, 1);
     }
 
-    /// Draws a place for the parcel, which is accepted there unless the queue is closed. Its slot
-    /// is then the seat's.
-    pub fn draw<W: Said<Parcel>>(&self, seat: &mut Knowing, parcel: &Parcel) -> u64
+    /// Claims a place for the parcel, which is accepted there unless the queue is closed. Its slot is
+    /// then the seat's.
+    pub fn claim<W: Said<Parcel>>(&self, seat: &mut Knowing, parcel: &Parcel) -> u64
         requires said { (W.item ≡ Some parcel.now) × (parcel.now.0 ≡ seat.old.me.0.port) }
         requires seat { IsAtTable self.now.table.shared.table_id seat.old × (seat.old.me.1 ≡ []) }
         requires view { (seat.old.me.0.role ≡ Sender) × (seat.old.me.0.stage ≡ Asked) }
@@ -83,7 +84,7 @@ impl Ring {
             (drawn seat.old.me.0 result parcel.now, (result % self.now.capacity, None) ∷ []) }
         ensures late { 2 ^ 63 ≤ result → seat.new.me ≡ (lated seat.old.me.0, []) }
     {
-        self.table.shared.fetch_add::<Draw<W>>(seat, TAIL, 1)
+        self.table.shared.fetch_add::<Claim<W>>(seat, TAIL, 1)
     }
 
     /// The slot of a place.
@@ -122,8 +123,8 @@ impl Ring {
         if slot + 1 < capacity { slot + 1 } else { 0 }
     }
 
-    /// Puts the parcel into the slot of its place, and makes it ready.
-    pub fn ready(&self, seat: &mut Knowing, place: u64, slot: usize, parcel: Parcel)
+    /// Puts the parcel into the slot of its place, and publishes it.
+    pub fn publish(&self, seat: &mut Knowing, place: u64, slot: usize, parcel: Parcel)
         requires seat { IsAtTable self.now.table.shared.table_id seat.old × (place < 2 ^ 63) }
         requires held { seat.old.me.1 ≡ (place % self.now.capacity, None) ∷ [] }
         requires slot { IsSlotOf self.now.capacity place slot }
@@ -138,11 +139,11 @@ impl Ring {
         }
         self.table
             .shared
-            .store::<Ready>(seat, READY + slot, place + 1);
+            .store::<Publish>(seat, READY + slot, place + 1);
     }
 
-    /// Whether the place after those taken is ready. If so, its slot is then the seat's.
-    pub fn look(&self, seat: &mut Knowing, place: u64, slot: usize) -> bool
+    /// Whether the place after those taken is published. If so, its slot is then the seat's.
+    pub fn is_ready(&self, seat: &mut Knowing, place: u64, slot: usize) -> bool
         requires seat { RestsAs self.now.table.shared.table_id Receiver seat.old }
         requires slot { (slot ≡ place % self.now.capacity) × (slot < self.now.capacity) }
         requires place { (place ≡ length seat.old.me.0.taken) × (place < 2 ^ 63) }
@@ -150,11 +151,11 @@ impl Ring {
         ensures found { IsTrue result → (x : _) × Finds self.now.capacity place seat.old.me seat.new.me x }
         ensures none { result ≡ false → Misses place seat.old.me seat.new.me }
     {
-        self.table.shared.load::<Look>(seat, READY + slot) == place + 1
+        self.table.shared.load::<IsReady>(seat, READY + slot) == place + 1
     }
 
     /// Takes the parcel out of the slot of the place, and gives the slot back.
-    pub fn free(&self, seat: &mut Knowing, slot: usize) -> Parcel
+    pub fn take(&self, seat: &mut Knowing, slot: usize) -> Parcel
         requires seat { IsAtTable self.now.table.shared.table_id seat.old }
         requires slot { (x : _) × (seat.old.me.1 ≡ (slot, Some x) ∷ []) × (seat.old.me.0.item ≡ Some x) }
         requires view { (seat.old.me.0.role ≡ Receiver) × (seat.old.me.0.stage ≡ Holding) }
@@ -164,17 +165,17 @@ impl Ring {
         ensures view { seat.new.me ≡ (freed_of seat.old.me.0 result, []) }
     {
         let parcel = self.table.shared.exchange(seat, slot, None).unwrap();
-        self.table.shared.fetch_add::<Freed>(seat, ROOM, 1);
+        self.table.shared.fetch_add::<Take>(seat, ROOM, 1);
         parcel
     }
 
     /// Whether the queue is closed.
-    pub fn glance(&self, seat: &mut Knowing) -> bool
+    pub fn is_closed(&self, seat: &mut Knowing) -> bool
         requires { RestsAs self.now.table.shared.table_id Sender seat.old }
         ensures seat { IsAtTable self.now.table.shared.table_id seat.new }
         ensures view { seat.new.me ≡ (with_glance seat.old.me.0 result, []) }
     {
-        self.table.shared.load::<Glance>(seat, TAIL) >= CLOSED
+        self.table.shared.load::<IsClosed>(seat, TAIL) >= CLOSED
     }
 
     /// Closes the queue, and returns the number of accepted messages.

@@ -2,7 +2,7 @@
 //! is made.
 ghost use Rattle.std.specs.Prelude.{Option, None, length};
 ghost use Rattle.subvl_queue.specs.Queue.{Queue};
-ghost use Rattle.subvl_queue.specs.Steps.{first_view, new_seat, spent_view, asks, gives_back, draws, readies, looks, frees, glances_at, closes, gathers, one_made, with_joined};
+ghost use Rattle.subvl_queue.specs.Steps.{first_view, new_seat, spent_view, reserves, unreserves, claims, publishes, finds_ready, takes_out, finds_closed, closes, gathers, one_made, with_joined};
 
 use atomic_table::{Join, Play, Split, TableRule};
 use std::collections::LinkedList;
@@ -63,48 +63,48 @@ impl<X> Said<X> for Brand {
     ghost item = { None };
 }
 
-pub(crate) struct Ask;
+pub(crate) struct Reserve;
 
-impl<T> Play<Option<(u64, T)>, View<T>> for Ask {
-    ghost then = { asks };
+impl<T> Play<Option<(u64, T)>, View<T>> for Reserve {
+    ghost then = { reserves };
 }
 
-pub(crate) struct GiveBack;
+pub(crate) struct Unreserve;
 
-impl<T> Play<Option<(u64, T)>, View<T>> for GiveBack {
-    ghost then = { gives_back };
+impl<T> Play<Option<(u64, T)>, View<T>> for Unreserve {
+    ghost then = { unreserves };
 }
 
-pub(crate) struct Draw<W> {
+pub(crate) struct Claim<W> {
     marker: PhantomData<W>,
 }
 
-impl<T, W: Said<(u64, T)>> Play<Option<(u64, T)>, View<T>> for Draw<W> {
-    ghost then = { draws W.item };
+impl<T, W: Said<(u64, T)>> Play<Option<(u64, T)>, View<T>> for Claim<W> {
+    ghost then = { claims W.item };
 }
 
-pub(crate) struct Ready;
+pub(crate) struct Publish;
 
-impl<T> Play<Option<(u64, T)>, View<T>> for Ready {
-    ghost then = { readies };
+impl<T> Play<Option<(u64, T)>, View<T>> for Publish {
+    ghost then = { publishes };
 }
 
-pub(crate) struct Look;
+pub(crate) struct IsReady;
 
-impl<T> Play<Option<(u64, T)>, View<T>> for Look {
-    ghost then = { λ st m r n. looks (length m.0.taken) st m r n };
+impl<T> Play<Option<(u64, T)>, View<T>> for IsReady {
+    ghost then = { λ st m r n. finds_ready (length m.0.taken) st m r n };
 }
 
-pub(crate) struct Freed;
+pub(crate) struct Take;
 
-impl<T> Play<Option<(u64, T)>, View<T>> for Freed {
-    ghost then = { frees };
+impl<T> Play<Option<(u64, T)>, View<T>> for Take {
+    ghost then = { takes_out };
 }
 
-pub(crate) struct Glance;
+pub(crate) struct IsClosed;
 
-impl<T> Play<Option<(u64, T)>, View<T>> for Glance {
-    ghost then = { glances_at };
+impl<T> Play<Option<(u64, T)>, View<T>> for IsClosed {
+    ghost then = { finds_closed };
 }
 
 pub(crate) struct Close;

@@ -13,9 +13,9 @@ use crate::ring::{CLOSED, Knowing, Parcel, Ring};
 use std::marker::{Brand, Model};
 use std::sync::Arc;
 
-// The steps of a send up to its place: check for a close, request a slot, draw a place.
+// The steps of a send up to its place: check for a close, reserve a slot, claim a place.
 #[inline(always)]
-fn draw_place(
+fn claim_place(
     ring: &Ring,
     seat: &mut Knowing,
     asks: &mut u64,
@@ -35,20 +35,20 @@ fn draw_place(
     ensures free { IfErr result (λ _. seat.new.me.1 ≡ []) }
     ensures refused { IfErr result (λ why. RefusedBy calls ring.now.capacity seat.old.me.0 seat.new.me.0 why) }
 {
-    if ring.glance(seat) {
+    if ring.is_closed(seat) {
         return Err(Why::Closed);
     }
     if *asks == calls {
         return Err(Why::Exhausted);
     }
     *asks += 1;
-    if !ring.ask(seat) {
-        ring.give_back(seat);
+    if !ring.reserve(seat) {
+        ring.unreserve(seat);
         return Err(Why::Full);
     }
-    let place = ring.draw::<Brand>(seat, parcel);
+    let place = ring.claim::<Brand>(seat, parcel);
     if place >= CLOSED {
-        ring.give_back(seat);
+        ring.unreserve(seat);
         return Err(Why::Closed);
     }
     Ok(place)
@@ -127,7 +127,7 @@ impl Sender {
         ensures refused { IfErr result (λ e. IsRefused self.old e.why self.new) }
     {
         let parcel = (u64::from(self.port), Message { bytes });
-        match draw_place(
+        match claim_place(
             &self.ring,
             &mut self.seat,
             &mut self.asks,
@@ -137,7 +137,7 @@ impl Sender {
             Ok(place) => {
                 pause();
                 let slot = self.ring.slot_from(place, self.place, self.slot);
-                self.ring.ready(&mut self.seat, place, slot, parcel);
+                self.ring.publish(&mut self.seat, place, slot, parcel);
                 self.place = place;
                 self.slot = slot;
                 self.accepted += 1;

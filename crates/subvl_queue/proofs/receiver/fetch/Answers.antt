@@ -5,26 +5,26 @@ use Rattle.subvl_queue.proofs.receiver.fetch.Goals as goal
 same_item : {A : Type 0} (x y : A) (o : Option A) → o ≡ Some x → o ≡ Some y → x ≡ y
 same_item x y o e f = cc
 
-pub free-parcel-requires-clause-slot : goal.free-parcel-requires-clause-slot
-free-parcel-requires-clause-slot c =
-    let found = c.look.ensures.found c.if-not-look.false in
+pub take-parcel-requires-clause-slot : goal.take-parcel-requires-clause-slot
+take-parcel-requires-clause-slot c =
+    let found = c.is_ready.ensures.found c.if-not-is_ready.false in
     (found.0, ap (λ m. m.1) found.1.1 ∙ (λ k. (sym c.requires.slot.0 k, Some found.0) ∷ []), ap (λ m. m.0.item) found.1.1)
 
-pub free-parcel-requires-clause-place : goal.free-parcel-requires-clause-place
-free-parcel-requires-clause-place c =
-    ap (λ m. m.0.at % c.args.ring.now.capacity) (c.look.ensures.found c.if-not-look.false).1.1 ∙ sym c.requires.slot.0
+pub take-parcel-requires-clause-place : goal.take-parcel-requires-clause-place
+take-parcel-requires-clause-place c =
+    ap (λ m. m.0.at % c.args.ring.now.capacity) (c.is_ready.ensures.found c.if-not-is_ready.false).1.1 ∙ sym c.requires.slot.0
 
 pub returns-clause-next : goal.returns-clause-next
 returns-clause-next c =
-    let found = c.look.ensures.found c.if-not-look.false in
-    subst (IsNext c.args.seat.now.me.0 c.args.taken.now) (same_item _ _ _ (ap (λ m. m.0.item) found.1.1) c.free-parcel.ensures.item) found.1.0
+    let found = c.is_ready.ensures.found c.if-not-is_ready.false in
+    subst (IsNext c.args.seat.now.me.0 c.args.taken.now) (same_item _ _ _ (ap (λ m. m.0.item) found.1.1) c.take-parcel.ensures.item) found.1.0
 
 pub returns-clause-some : goal.returns-clause-some
 returns-clause-some c =
-    let me = (c.look.ensures.found c.if-not-look.false).1.1 in
-    let same = same_item _ _ _ (ap (λ m. m.0.item) me) c.free-parcel.ensures.item in
-    ap (λ m. m.0) c.free-parcel.ensures.view ∙ (λ k. freed_of (me k).0 c.free-parcel.result)
-    ∙ ap (λ x. freed_of (holding c.args.seat.now.me.0 c.args.taken.now x) c.free-parcel.result) same
+    let me = (c.is_ready.ensures.found c.if-not-is_ready.false).1.1 in
+    let same = same_item _ _ _ (ap (λ m. m.0.item) me) c.take-parcel.ensures.item in
+    ap (λ m. m.0) c.take-parcel.ensures.view ∙ (λ k. freed_of (me k).0 c.take-parcel.result)
+    ∙ ap (λ x. freed_of (holding c.args.seat.now.me.0 c.args.taken.now x) c.take-parcel.result) same
 
 pub returns-clause-slot : goal.returns-clause-slot
 returns-clause-slot c = (

@@ -1,6 +1,6 @@
 use Rattle.subvl_queue.proofs.Names.{rules, ◌%◌, ◌∷◌, [], Some, None, sym, ap, ◌∙◌, rest}
-use Rattle.subvl_queue.proofs.Moves.{frees_ok}
-use Rattle.subvl_queue.proofs.ring.Ring.free.Goals as goal
+use Rattle.subvl_queue.proofs.Moves.{takes_out_ok}
+use Rattle.subvl_queue.proofs.ring.Ring.take.Goals as goal
 
 pub exchange-requires : goal.exchange-requires
 exchange-requires c =
@@ -17,7 +17,7 @@ fetch_add-requires c =
     let capacity = c.args.self.now.sized.1 in (
       search rules,
       search rules,
-      frees_ok _ _ _ (ap (λ m. m.0.role) me ∙ view.0) (ap (λ m. m.0.stage) me ∙ view.1)
+      takes_out_ok _ _ _ (ap (λ m. m.0.role) me ∙ view.0) (ap (λ m. m.0.stage) me ∙ view.1)
           (ap (λ m. m.1) me ∙ (λ k. (sym place k, None) ∷ rest (held k)) ∙ (λ k. (c.args.seat.now.me.0.at % sym capacity k, None) ∷ [])
           ∙ (λ k. ((sym me k).0.at % c.args.self.now.table.shared.table_id.slots, None) ∷ [])),
     )

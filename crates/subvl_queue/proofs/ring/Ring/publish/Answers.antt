@@ -1,6 +1,6 @@
 use Rattle.subvl_queue.proofs.Names.{rules, ◌%◌, ◌∷◌, None, sym, ap, ◌∙◌, arith, rest}
-use Rattle.subvl_queue.proofs.Moves.{readies_ok}
-use Rattle.subvl_queue.proofs.ring.Ring.ready.Goals as goal
+use Rattle.subvl_queue.proofs.Moves.{publishes_ok}
+use Rattle.subvl_queue.proofs.ring.Ring.publish.Goals as goal
 
 pub exchange-requires : goal.exchange-requires
 exchange-requires c =
@@ -18,6 +18,6 @@ store-requires c =
     let at = ap (λ m. m.0.at) me ∙ item.0 in (
       search rules,
       search rules,
-      readies_ok _ _ _ _ _ (ap (λ m. m.0.role) me ∙ view.0) (ap (λ m. m.0.stage) me ∙ view.1)
+      publishes_ok _ _ _ _ _ (ap (λ m. m.0.role) me ∙ view.0) (ap (λ m. m.0.stage) me ∙ view.1)
           (ap (λ m. m.1) me ∙ (λ k. (slot k, (sym item.1 ∙ ap (λ m. m.0.item) (sym me)) k) ∷ rest (held k))) (omega arith) (omega arith),
     )

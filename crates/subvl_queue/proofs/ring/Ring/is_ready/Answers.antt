@@ -1,6 +1,6 @@
 use Rattle.subvl_queue.proofs.Names.{rules, ℕ, suc, ◌≡◌, ◌%◌, ◌+◌, ◌∙◌, refl, sym, subst, arith, length, eqb-true, eqb-false, Finds, Misses}
-use Rattle.subvl_queue.proofs.Moves.{looks_ok}
-use Rattle.subvl_queue.proofs.ring.Ring.look.Goals as goal
+use Rattle.subvl_queue.proofs.Moves.{finds_ready_ok}
+use Rattle.subvl_queue.proofs.ring.Ring.is_ready.Goals as goal
 
 pub load-requires : goal.load-requires
 load-requires c =
@@ -8,7 +8,7 @@ load-requires c =
     let place = c.requires.place.0 in
     let capacity = c.args.self.now.sized.1 in
     let slot = c.requires.slot.0 ∙ (λ k. place k % sym capacity k) in
-    (search rules, search rules, looks_ok _ _ _ _ _ seat.2 seat.3 seat.1 refl (omega arith))
+    (search rules, search rules, finds_ready_ok _ _ _ _ _ seat.2 seat.3 seat.1 refl (omega arith))
 
 pub returns-clause-found : goal.returns-clause-found
 returns-clause-found c = λ hit.

@@ -1,9 +1,9 @@
 use Rattle.subvl_queue.proofs.Names.{rules, arith, ltb-true, ltb-false}
-use Rattle.subvl_queue.proofs.Moves.{asks_ok}
-use Rattle.subvl_queue.proofs.ring.Ring.ask.Goals as goal
+use Rattle.subvl_queue.proofs.Moves.{reserves_ok}
+use Rattle.subvl_queue.proofs.ring.Ring.reserve.Goals as goal
 
 pub fetch_sub-requires : goal.fetch_sub-requires
-fetch_sub-requires c = let seat = c.requires.seat in (search rules, search rules, asks_ok _ _ _ seat.2 seat.3 c.requires.asks)
+fetch_sub-requires c = let seat = c.requires.seat in (search rules, search rules, reserves_ok _ _ _ seat.2 seat.3 c.requires.asks)
 
 pub returns-clause-found : goal.returns-clause-found
 returns-clause-found c = λ found. c.fetch_sub.ensures.2.2 (ltb-true _ _ found)

@@ -1,0 +1,5 @@
+use Rattle.subvl_queue.proofs.Names.{Some}
+use Rattle.subvl_queue.proofs.sender.claim_place.Given as goal
+
+abbrev pub ghosts-claim : goal.ghosts-claim
+ghosts-claim a = record { item = Some a.parcel.now }
