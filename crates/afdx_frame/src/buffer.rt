@@ -2,7 +2,8 @@
 ghost use Rattle.std.specs.Prelude.{◌≡◌, ◌≤◌, [], length, take};
 ghost use Rattle.afdx_frame.specs.Twin.{twin_of};
 
-use crate::net::{Frame, GREATEST_FRAME, INTERFACE_PLACE, Net, SHORTEST_FRAME};
+use crate::field;
+use crate::net::{Frame, GREATEST_FRAME, Net, SHORTEST_FRAME};
 use crate::put::{append, put};
 use crate::write::interface;
 use arrayvec::ArrayVec;
@@ -82,8 +83,8 @@ impl FrameBuffer {
     pub fn turn(&mut self, net: Net)
         ensures { self.new.items ≡ twin_of net self.old.items }
     {
-        if INTERFACE_PLACE < self.len {
-            self.bytes[INTERFACE_PLACE] = interface(net);
+        if field::INTERFACE < self.len {
+            self.bytes[field::INTERFACE] = interface(net);
         }
     }
 
