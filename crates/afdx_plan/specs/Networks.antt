@@ -4,17 +4,17 @@ use Rattle.afdx_plan.specs.declared.networks.Networks.{Networks}
 use Rattle.afdx_plan.specs.declared.networks.Networks.TheVariants.{Both, OnlyA, OnlyB}
 
 -- network A carries the link
-abbrev pub names_a : Networks → Bool
-names_a Both = true
-names_a OnlyA = true
-names_a OnlyB = false
+abbrev pub carries_a : Networks → Bool
+carries_a Both = true
+carries_a OnlyA = true
+carries_a OnlyB = false
 
 -- network B carries the link
-abbrev pub names_b : Networks → Bool
-names_b Both = true
-names_b OnlyA = false
-names_b OnlyB = true
+abbrev pub carries_b : Networks → Bool
+carries_b Both = true
+carries_b OnlyA = false
+carries_b OnlyB = true
 
 -- both networks carry the link
 abbrev pub is_both : Networks → Bool
-is_both networks = names_a networks && names_b networks
+is_both networks = carries_a networks && carries_b networks

@@ -10,12 +10,12 @@ pub enum Networks {
 
 impl Networks {
     ghost use Rattle.std.specs.Prelude.{◌≡◌};
-    ghost use Rattle.afdx_plan.specs.Networks.{names_a, names_b};
+    ghost use Rattle.afdx_plan.specs.Networks.{carries_a, carries_b};
 
     /// Whether network A is one of them.
     #[inline(always)]
-    pub fn names_a(self) -> bool
-        ensures { result ≡ names_a self }
+    pub fn carries_a(self) -> bool
+        ensures { result ≡ carries_a self }
     {
         match self {
             Networks::Both => true,
@@ -26,8 +26,8 @@ impl Networks {
 
     /// Whether network B is one of them.
     #[inline(always)]
-    pub fn names_b(self) -> bool
-        ensures { result ≡ names_b self }
+    pub fn carries_b(self) -> bool
+        ensures { result ≡ carries_b self }
     {
         match self {
             Networks::Both => true,

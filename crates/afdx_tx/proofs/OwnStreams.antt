@@ -1,7 +1,7 @@
 -- Each link's stream of the log is the longer of its two, and on links of both networks these are twins.
 use Rattle.afdx_tx.proofs.Names.{ℕ, ◌≡◌, ◌⊎◌, ◌<◌, ◌≤◌, List, [], ◌∷◌, length, map, arith, refl, ap, ◌∙◌, sym, inl, inr, ⊎_elim, All, cases_lt, lt-ltb, le-ltb, append-nil, length-append, length-map, nil_from_length, All-tail, Networks, Plan, link_plan_at, Net, A, B, twin_twice, Entry, Logged, entries_of, side, Lines, IsMirrored, link_stream, longer, own_stream, AreOwnStreams, AreCarried, log, get_or, subst, ◌++◌, Bool, true, take, and_parts, get_or-map, take_all, take-append-le, take-map, filter-append, LinkPlan, IsPlan, link_in, twin_link, names, sent_to, Keeps, IsKnown, AreKnown, is_on_both, on_both, AreTwins, known_all}
 use Rattle.afdx_plan.specs.declared.networks.Networks.TheVariants.{Both, OnlyA, OnlyB}
-use Rattle.afdx_plan.specs.Networks.{names_a, names_b, is_both}
+use Rattle.afdx_plan.specs.Networks.{carries_a, carries_b, is_both}
 use Rattle.afdx_legal.proofs.OnBoth.{on_both_is}
 use Rattle.afdx_tx.proofs.HandedFronts.{IsFor, IsFront, link_side, front_of, all_handed, whole_alone, picked, all_front, log_parts}
 
@@ -87,8 +87,8 @@ logged_planned plan lines valid carried known = planned plan lines.logged valid 
 
 -- An entry for both networks is for each.
 both_names : (net : Net) (networks : Networks) → is_both networks ≡ true → names net networks ≡ true
-both_names A networks is = (and_parts (names_a networks) (names_b networks) is).0
-both_names B networks is = (and_parts (names_a networks) (names_b networks) is).1
+both_names A networks is = (and_parts (carries_a networks) (carries_b networks) is).0
+both_names B networks is = (and_parts (carries_a networks) (carries_b networks) is).1
 
 -- On such links, a network's frames are the twins of the log.
 both_sent : (links : List LinkPlan) (net : Net) (ls : List Logged) → All (IsPlanned links) ls

@@ -1,7 +1,7 @@
 -- The greatest load that a plan puts on its networks, on the wire.
 use Rattle.std.specs.Prelude.{ℕ, ◌+◌, ◌*◌, ◌/◌, List, Bool, nat_lt, sum_by, if◌then◌else◌}
 use Rattle.std.specs.Int.{div_ceil}
-use Rattle.afdx_plan.specs.Networks.{names_a, names_b}
+use Rattle.afdx_plan.specs.Networks.{carries_a, carries_b}
 use Rattle.afdx_plan.specs.Plan.{bag_ms}
 use Rattle.afdx_plan.specs.declared.link_plan.LinkPlan.{LinkPlan}
 use Rattle.afdx_plan.specs.declared.networks.Networks.{Networks}
@@ -18,8 +18,8 @@ window_bits link = wire_bits link * (128 / bag_ms link.bag)
 
 -- a network is one of those that carry a link
 abbrev pub carries : NetworkName → Networks → Bool
-carries A networks = names_a networks
-carries B networks = names_b networks
+carries A networks = carries_a networks
+carries B networks = carries_b networks
 
 -- the most bits in 128 milliseconds of all links that a network carries
 abbrev pub line_bits : NetworkName → List LinkPlan → ℕ

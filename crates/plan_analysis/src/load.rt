@@ -28,8 +28,8 @@ pub fn carries(network: NetworkName, networks: Networks) -> bool
     ensures { result ≡ is_on network networks }
 {
     match network {
-        NetworkName::A => networks.names_a(),
-        NetworkName::B => networks.names_b(),
+        NetworkName::A => networks.carries_a(),
+        NetworkName::B => networks.carries_b(),
     }
 }
 

@@ -4,7 +4,7 @@ use Rattle.std.proofs.lemmas.List.{map-append, append-nil, append_assoc}
 use Rattle.std.proofs.lemmas.List.Elements.{filter-append, All-nil, All-push}
 use Rattle.std.proofs.lemmas.Bool.{cases_Bool, or_cases, or_parts, and_parts, and_right}
 use Rattle.afdx_plan.specs.declared.networks.Networks.{Networks}
-use Rattle.afdx_plan.specs.Networks.{names_a, names_b}
+use Rattle.afdx_plan.specs.Networks.{carries_a, carries_b}
 use Rattle.afdx_frame.specs.declared.net.Net.{Net}
 use Rattle.afdx_frame.specs.declared.net.Net.TheVariants.{A, B}
 use Rattle.redundant_mux.specs.Entry.{Entry}
@@ -90,15 +90,15 @@ keeps_same net networks e stood stands h h' logged more k p idle is = record {
 
 -- After a hand both lists mirror the log.
 pub handed_on : (old new : Lines) (networks : Networks) (e : Entry) → IsMirrored old → side A e ≡ e
-    → Handing (names_a networks) e old.a_stands new.a_stands old.a new.a old.a_failures new.a_failures
-    → Handing (names_b networks) (side B e) old.b_stands new.b_stands old.b new.b old.b_failures new.b_failures
+    → Handing (carries_a networks) e old.a_stands new.a_stands old.a new.a old.a_failures new.a_failures
+    → Handing (carries_b networks) (side B e) old.b_stands new.b_stands old.b new.b old.b_failures new.b_failures
     → (stands_for networks new ≡ true → new.logged ≡ old.logged ++ logged_for networks e ∷ [])
     → (stands_for networks new ≡ false → new.logged ≡ old.logged)
     → IsMirrored new
 handed_on old new networks e m t p q enters lost =
-    let for_a = after_hand (names_a networks) (side A e) old.a_stands new.a_stands old.a new.a old.a_failures new.a_failures
+    let for_a = after_hand (carries_a networks) (side A e) old.a_stands new.a_stands old.a new.a old.a_failures new.a_failures
     (rw t p) in
-    let for_b = after_hand (names_b networks) (side B e) _ _ _ _ _ _ q in
+    let for_b = after_hand (carries_b networks) (side B e) _ _ _ _ _ _ q in
     elim (cases_Bool (stands_for networks new)) [
       | inl some ↦
           let first : Keeps A new.a_stands new.a new.logged = keeps_logged A networks e _ _ _ _ _ _ m.first for_a
@@ -108,11 +108,11 @@ handed_on old new networks e m t p q enters lost =
           record {
             first = first;
             second = second;
-            one = ⊎_elim (λ x. inl (first.all (and_parts _ _ x).1)) (λ y. inr (second.all (and_parts _ _ y).1)) (or_cases (names_a networks && new.a_stands) (names_b networks && new.b_stands) some);
+            one = ⊎_elim (λ x. inl (first.all (and_parts _ _ x).1)) (λ y. inr (second.all (and_parts _ _ y).1)) (or_cases (carries_a networks && new.a_stands) (carries_b networks && new.b_stands) some);
             for_a = rw (enters some) (All-push (λ (l : Logged). side A l.entry ≡ l.entry) old.logged _ m.for_a t);
           }
       | inr none ↦
-          let idle = or_parts (names_a networks && new.a_stands) (names_b networks && new.b_stands) none in
+          let idle = or_parts (carries_a networks && new.a_stands) (carries_b networks && new.b_stands) none in
           record {
             first = keeps_same A networks e _ _ _ _ _ _ m.first for_a idle.0 (lost none);
             second = keeps_same B networks e _ _ _ _ _ _ m.second for_b idle.1 (lost none);

@@ -1,7 +1,7 @@
 -- The frames that two networks accepted, and which networks are up.
 use Rattle.std.specs.Prelude.{ℕ, ◌≡◌, ◌⊎◌, ◌↔◌, ◌+◌, ◌≤◌, List, [], ◌∷◌, ◌++◌, Bool, true, false, ◌&&◌, ◌||◌, All}
 use Rattle.afdx_plan.specs.declared.networks.Networks.{Networks}
-use Rattle.afdx_plan.specs.Networks.{names_a, names_b}
+use Rattle.afdx_plan.specs.Networks.{carries_a, carries_b}
 use Rattle.afdx_frame.specs.declared.net.Net.{Net}
 use Rattle.afdx_frame.specs.declared.net.Net.TheVariants.{A, B}
 use Rattle.redundant_mux.specs.Entry.{Entry}
@@ -52,7 +52,7 @@ pub record BothEndure (before after : Lines) : Type 0 where
 
 -- one of these networks is up
 abbrev pub some_of : Networks → (a b : Bool) → Bool
-some_of networks a b = (names_a networks && a) || (names_b networks && b)
+some_of networks a b = (carries_a networks && a) || (carries_b networks && b)
 
 -- one of the named networks is up
 abbrev pub stands_for : Networks → Lines → Bool

@@ -2,7 +2,7 @@
 use Rattle.std.specs.Prelude.{List, Bool, map, filter, nat_eq}
 use Rattle.afdx_plan.specs.declared.networks.Networks.{Networks}
 use Rattle.afdx_plan.specs.declared.networks.Networks.TheVariants.{OnlyA, OnlyB}
-use Rattle.afdx_plan.specs.Networks.{names_a, names_b}
+use Rattle.afdx_plan.specs.Networks.{carries_a, carries_b}
 use Rattle.afdx_frame.specs.declared.net.Net.{Net}
 use Rattle.afdx_frame.specs.declared.net.Net.TheVariants.{A, B}
 use Rattle.afdx_frame.specs.Twin.{twin_of}
@@ -26,8 +26,8 @@ reads_of logged = map (λ (l : Logged). nat_eq l.entry.at 1) logged
 
 -- the network is among those named
 abbrev pub names : Net → Networks → Bool
-names A networks = names_a networks
-names B networks = names_b networks
+names A networks = carries_a networks
+names B networks = carries_b networks
 
 -- this network alone
 abbrev pub only : Net → Networks

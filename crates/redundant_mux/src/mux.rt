@@ -1,6 +1,6 @@
 //! One frame for two networks.
 ghost use Rattle.std.specs.Prelude.{◌≡◌, ℕ, ◌≤◌, ◌↔◌, [], ◌∷◌, ◌++◌, true, false, length, IsErr, OnErr, IfOk};
-ghost use Rattle.afdx_plan.specs.Networks.{names_a, names_b};
+ghost use Rattle.afdx_plan.specs.Networks.{carries_a, carries_b};
 ghost use Rattle.afdx_frame.specs.Twin.{twin_of};
 ghost use Rattle.afdx_frame.specs.declared.net.Net.TheVariants.{A as ForA, B as ForB};
 ghost use Rattle.redundant_mux.specs.Entry.{entry};
@@ -30,7 +30,7 @@ impl Standing {
     fn has_one_of(&self, networks: Networks) -> bool
         ensures { result ≡ some_of networks self.now.a self.now.b }
     {
-        networks.names_a() && self.a || networks.names_b() && self.b
+        networks.carries_a() && self.a || networks.carries_b() && self.b
     }
 }
 
@@ -195,10 +195,10 @@ impl<A: Network + Drop, B: Network + Drop> Mux<A, B> {
         requires { twin_of ForA frame.now.items ≡ frame.now.items }
         ensures down { IsErr result ↔ ((self.old.a_stands ≡ false) × (self.old.b_stands ≡ false)) }
         ensures err { OnErr result (self.new ≡ self.old) }
-        ensures a { Handing (names_a networks) (entry at (twin_of ForA frame.now.items))
+        ensures a { Handing (carries_a networks) (entry at (twin_of ForA frame.now.items))
             self.old.a_stands self.new.a_stands
             self.old.a self.new.a self.old.a_failures self.new.a_failures }
-        ensures b { Handing (names_b networks) (entry at (twin_of ForB frame.now.items))
+        ensures b { Handing (carries_b networks) (entry at (twin_of ForB frame.now.items))
             self.old.b_stands self.new.b_stands
             self.old.b self.new.b self.old.b_failures self.new.b_failures }
         ensures enters { stands_for networks self.new ≡ true →
@@ -227,10 +227,10 @@ impl<A: Network + Drop, B: Network + Drop> Mux<A, B> {
         ensures same { frame.new.items ≡ frame.old.items }
         ensures down { IsErr result ↔ ((self.old.a_stands ≡ false) × (self.old.b_stands ≡ false)) }
         ensures err { OnErr result (self.new ≡ self.old) }
-        ensures a { Handing (names_a networks) (entry at (twin_of ForA frame.old.items))
+        ensures a { Handing (carries_a networks) (entry at (twin_of ForA frame.old.items))
             self.old.a_stands self.new.a_stands
             self.old.a self.new.a self.old.a_failures self.new.a_failures }
-        ensures b { Handing (names_b networks) (entry at (twin_of ForB frame.old.items))
+        ensures b { Handing (carries_b networks) (entry at (twin_of ForB frame.old.items))
             self.old.b_stands self.new.b_stands
             self.old.b self.new.b self.old.b_failures self.new.b_failures }
         ensures enters { stands_for networks self.new ≡ true →
@@ -244,8 +244,8 @@ impl<A: Network + Drop, B: Network + Drop> Mux<A, B> {
         if !self.standing.a && !self.standing.b {
             return Err(BothDown);
         }
-        let named_a = networks.names_a();
-        let named_b = networks.names_b();
+        let named_a = networks.carries_a();
+        let named_b = networks.carries_b();
         hand_to(
             &mut self.a,
             &mut self.standing.a,

@@ -14,8 +14,8 @@ left : (g : Given.Over) (c : goal.After-result-1 g)
 left g c =
     let for_a = ap (entry c.args.at) c.requires in
     let same = c.as_slice-2.ensures.value ∙ c.hand_twin.ensures.same in
-    let a = rw (c.names_a-named_a.ensures, c.as_slice.ensures.value) at c.hand_to.ensures.handing in
-    let b = rw c.names_b-named_b.ensures at c.hand_twin.ensures.handing in
+    let a = rw (c.carries_a-named_a.ensures, c.as_slice.ensures.value) at c.hand_to.ensures.handing in
+    let b = rw c.carries_b-named_b.ensures at c.hand_twin.ensures.handing in
     handed_on _ _ c.args.networks (entry c.args.at c.args.frame.now.items) c.self.invariant.mirrored for_a a b
     (rw (c.has_one_of-taken.ensures, same) at c.note.ensures.taken)
     (rw (c.has_one_of-taken.ensures) at c.note.ensures.lost)
