@@ -38,11 +38,11 @@ into() {
 for it in afdx.pc afdxConfig.cmake afdxConfigVersion.cmake; do
     sed "s/@VERSION@/$version/" "install/$it" > "$room/$it"
 done
-into include crates/afdx/afdx.h crates/afdx/afdx.hpp
+into include crates/afdx/afdx.h bindings/afdx.hpp
 into lib "$room/libafdx.a" "$room/libafdx.so"
 into lib/pkgconfig "$room/afdx.pc"
 into lib/cmake/afdx "$room/afdxConfig.cmake" "$room/afdxConfigVersion.cmake"
-into lib/python examples/python/afdx.py
+into lib/python bindings/afdx.py
 into share/afdx/examples/c examples/c/example.c examples/c/demo.toml
 into share/afdx/examples/cpp examples/cpp/main.cpp
 into share/afdx/examples/cmake examples/cmake/CMakeLists.txt examples/cmake/main.c

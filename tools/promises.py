@@ -16,6 +16,7 @@ from graphlib import TopologicalSorter
 
 # (no compiled copy is left beside the scripts)
 sys.dont_write_bytecode = True
+sys.path.append(f"{os.path.dirname(os.path.dirname(os.path.abspath(__file__)))}/tests")
 from trying import ROOT, text_of
 
 FOLDER = "docs/assurance"

@@ -1,5 +1,5 @@
 //! Tests of the program's libraries: lines and transcripts of scripts, captures, readers and writers that fail,
-//! words, failures and exit statuses. What a whole command prints of a text is tried in `examples/`.
+//! words, failures and exit statuses. What a whole command prints of a text is tried in `tests/`.
 #![tactic(auto)]
 
 #[cfg(test)]

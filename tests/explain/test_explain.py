@@ -1,7 +1,7 @@
 #!/usr/bin/env python3
 """Tests `afdx_bench explain` from outside: plants faults in texts, and compares what it prints with what is expected.
 
-    python3 examples/explain/test_explain.py [TEXTS]
+    python3 tests/explain/test_explain.py [TEXTS]
 
 It runs what `rt ci` has built. The expected output is computed here, from the tables of `docs/guide/configuration.md` and the
 lines of `docs/guide/program.md`: all of it, for each text that is TOML. TEXTS texts, 2,000 by default, have one to three planted
@@ -23,7 +23,7 @@ from concurrent.futures import ThreadPoolExecutor
 ROOT = os.path.dirname(os.path.dirname(os.path.dirname(os.path.abspath(__file__))))
 PROGRAM = f"{ROOT}/crates/afdx_bench/out/afdx_bench"
 sys.dont_write_bytecode = True
-sys.path[:0] = [f"{ROOT}/tools", os.path.dirname(os.path.abspath(__file__))]
+sys.path[:0] = [f"{ROOT}/tests", os.path.dirname(os.path.abspath(__file__))]
 import refusals  # noqa: E402
 import refusals_wanted  # noqa: E402
 import trying  # noqa: E402

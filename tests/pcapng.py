@@ -1,7 +1,7 @@
 #!/usr/bin/env python3
 """Reads a capture in the pcapng format, strictly, and says what is wrong with it.
 
-    python3 tools/pcapng.py FILE [--compare TRANSCRIPT]
+    python3 tests/pcapng.py FILE [--compare TRANSCRIPT]
 
 It is written from the format's specification (draft-ietf-opsawg-pcapng) and shares nothing with the program
 that writes captures. It prints a line for each packet, `A 0 <hex>`: the interface's name, the timestamp in the

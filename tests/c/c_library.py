@@ -1,7 +1,7 @@
 #!/usr/bin/env python3
 """Tries the C library as C sees it: the header, each call, and the example.
 
-    python3 tools/c_library.py
+    python3 tests/c/c_library.py
 
 Of what `rt ci` has left it takes the libraries of the crates and the program `afdx_bench`, and it takes a C compiler:
 `CC`, or `cc`. It builds the C library first, which `rt ci` only proves, as `rt lib` does but without proving all below it
@@ -18,6 +18,7 @@ from glob import glob
 
 # (no compiled copy is left beside the scripts)
 sys.dont_write_bytecode = True
+sys.path.append(os.path.dirname(os.path.dirname(os.path.abspath(__file__))))
 from trying import ROOT, Tries, compiler, text_of
 
 CRATE = f"{ROOT}/crates/afdx"
@@ -164,7 +165,7 @@ def main():
         try_header(tries, room)
         if not is_built(tries):
             return tries.end()
-        for name, source in (("c_calls", "tools/c_calls.c"), ("owners", "examples/c/owners.c")):
+        for name, source in (("c_calls", "tests/c/c_calls.c"), ("owners", "tests/c/owners.c")):
             try_calls(tries, room, name, source, [])
             try_calls(tries, room, f"{name}-sanitized", source, SANITIZER)
         for name, flags in (("example", ["-Wconversion"]), ("example-sanitized", SANITIZER)):

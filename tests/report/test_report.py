@@ -4,7 +4,7 @@ number by number, and its bars against its rows (`picture.py`), its waits agains
 an allocation or a write fails. And what `afdx_bench check` prints of the same plans. `fixed.py` has plans with fixed texts.
 The last line is 'N passed, M failed'.
 
-    python3 examples/report/test_report.py [PLANS]
+    python3 tests/report/test_report.py [PLANS]
 
 PLANS small plans, 500 by default, are run as scripts, in each of which one message meets the worst that the others can
 send. It is released no later than its printed wait, and exactly then if each other sub-VL of its link sends.
@@ -23,7 +23,7 @@ HERE = os.path.dirname(os.path.abspath(__file__))
 ROOT = os.path.dirname(os.path.dirname(HERE))
 PROGRAM = f"{ROOT}/crates/afdx_bench/out/afdx_bench"
 sys.dont_write_bytecode = True
-sys.path[:0] = [f"{ROOT}/tools", HERE]
+sys.path[:0] = [f"{ROOT}/tests", HERE]
 import fixed  # noqa: E402
 import picture  # noqa: E402
 import refusals  # noqa: E402

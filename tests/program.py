@@ -1,11 +1,11 @@
 #!/usr/bin/env python3
 """Runs the program with words, files, streams and captures of many kinds.
 
-    python3 tools/program.py
+    python3 tests/program.py
 
 It runs what `rt ci` has built, the program `afdx_bench` as each compiler makes it: each exit status with its text,
 which of two faults is reported, words and numbers that are none, lines and plans of the greatest length, standard
-streams that are closed or full, a storm whose standard error is a terminal, and captures, which `tools/pcapng.py`
+streams that are closed or full, a storm whose standard error is a terminal, and captures, which `tests/pcapng.py`
 reads. The last line is 'N passed, M failed', and the exit status 0
 exactly if nothing failed.
 """
@@ -23,7 +23,7 @@ sys.dont_write_bytecode = True
 import pcapng
 from trying import DEMO, HELP, ONE_FRAME, REPORT, ROOT, SCRIPT, WRONG, Tries, built, started, text_of, totals
 
-sys.path.append(f"{ROOT}/examples/report")
+sys.path.append(f"{ROOT}/tests/report")
 from fixed import ANALYSES
 
 # A second link, on network B alone, and a port of it.

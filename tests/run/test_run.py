@@ -1,7 +1,7 @@
 #!/usr/bin/env python3
 """Tests `afdx_bench run` from outside: what it prints and how it ends.
 
-    python3 examples/run/test_run.py [RUNS]
+    python3 tests/run/test_run.py [RUNS]
 
 It runs what `rt ci` has built. `rows.py` has scripts with fixed transcripts, `model.py` computes the transcript of any: of all
 scripts of one to five lines out of five, and of RUNS random ones over random plans, 400 by default. Each must be the
@@ -23,7 +23,7 @@ HERE = os.path.dirname(os.path.abspath(__file__))
 ROOT = os.path.dirname(os.path.dirname(HERE))
 PROGRAM = f"{ROOT}/crates/afdx_bench/out/afdx_bench"
 sys.dont_write_bytecode = True
-sys.path[:0] = [f"{ROOT}/tools", HERE, f"{ROOT}/examples/explain"]
+sys.path[:0] = [f"{ROOT}/tests", HERE, f"{ROOT}/tests/explain"]
 import model  # noqa: E402
 import rows  # noqa: E402
 import trying  # noqa: E402

@@ -3,7 +3,7 @@ import sys
 
 from trying import DEMO, HELP, ONE_FRAME, REPORT, ROOT, SCRIPT, WRONG, text_of, totals
 
-sys.path.append(f"{ROOT}/examples/run")
+sys.path.append(f"{ROOT}/tests/run")
 import model
 
 # A script of a hundred messages of one byte, each of which is polled for, and what is printed of it.

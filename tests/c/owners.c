@@ -3,7 +3,7 @@
    until which a poller may sleep is one at which a link becomes due, what is const isn't written, an explanation is cut
    to its buffer, and an end system allocates as much memory as docs/guide/c.md says.
 
-   tools/c_library.py builds and runs it. Allocations call `__wrap_malloc` and its kin below (by the linker's --wrap),
+   tests/c/c_library.py builds and runs it. Allocations call `__wrap_malloc` and its kin below (by the linker's --wrap),
    which count their bytes. A failed check prints its line; the last line is 'N passed, M failed'. */
 #include "afdx.h"
 

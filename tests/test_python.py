@@ -1,5 +1,5 @@
 #!/usr/bin/env python3
-"""Tests examples/python/afdx.py and the test bench as `install/install.sh` installs them into a folder of their own. The last
+"""Tests bindings/afdx.py and the test bench as `install/install.sh` installs them into a folder of their own. The last
 line is 'N passed, M failed'."""
 import os
 import re
@@ -12,8 +12,7 @@ import time
 from collections.abc import Iterator
 from contextlib import contextmanager
 
-HERE = os.path.dirname(os.path.abspath(__file__))
-ROOT = os.path.dirname(os.path.dirname(HERE))
+ROOT = os.path.dirname(os.path.dirname(os.path.abspath(__file__)))
 
 PREFIX = tempfile.TemporaryDirectory(prefix="afdx-python-")
 PYTHON = f"{PREFIX.name}/lib/python"
@@ -210,7 +209,7 @@ def bench() -> None:
         words = [sys.executable, "-B", program, f"{room}/plan.toml", f"{room}/frames.pcapng", "10", "11"]
         ran = subprocess.run(words, capture_output=True, text=True, check=True, env={**os.environ, "PYTHONPATH": PYTHON})
         assert ran.stdout == "link 1 on A: last number 234\nlink 1 on B: last number 234\n", ran.stdout
-        read = subprocess.run([sys.executable, "-B", f"{ROOT}/tools/pcapng.py", f"{room}/frames.pcapng"], capture_output=True, text=True, check=False)
+        read = subprocess.run([sys.executable, "-B", f"{ROOT}/tests/pcapng.py", f"{room}/frames.pcapng"], capture_output=True, text=True, check=False)
         assert read.returncode == 0 and read.stdout.endswith("2004 passed, 0 failed\n"), read.stdout[-200:]
 
 

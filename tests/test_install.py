@@ -1,7 +1,7 @@
 #!/usr/bin/env python3
 """Installs the library into a folder, moves that, and tests from an empty folder what a user gets from it alone.
 
-    python3 install/test_install.py
+    python3 tests/test_install.py
 
 The examples for C, C++, CMake and Python must print what the program's stored run prints, those for C and C++ also with the
 address and the undefined behaviour sanitizer. The headers must compile without a warning in each version of C and C++. It
@@ -17,7 +17,6 @@ import tempfile
 
 sys.dont_write_bytecode = True
 ROOT = os.path.dirname(os.path.dirname(os.path.abspath(__file__)))
-sys.path.insert(0, f"{ROOT}/tools")
 from trying import ONE_FRAME, Tries, compiler, text_of
 
 WARNINGS = ["-Wall", "-Wextra", "-Werror", "-Wpedantic", "-Wconversion", "-g", "-O1"]
@@ -155,7 +154,7 @@ def try_cpp(tried, more):
         words = [tried.cxx, f"-std={version}", *flags, "-pthread"]
         try_program(tried, words, how, f"{tried.examples}/cpp/main.cpp", more)
         if (version == "c++20") == bool(flags):
-            try_program(tried, words, f"{how}: test.cpp", f"{ROOT}/examples/cpp/test.cpp", more, None)
+            try_program(tried, words, f"{how}: test.cpp", f"{ROOT}/tests/c/test.cpp", more, None)
 
 
 def try_cmake(tried):

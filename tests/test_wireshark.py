@@ -1,5 +1,5 @@
 #!/usr/bin/env python3
-"""Tests examples/wireshark/afdx.lua by tshark on a capture of the program, as it is and with a fault planted in it. Each
+"""Tests bindings/afdx.lua by tshark on a capture of the program, as it is and with a fault planted in it. Each
 fault has its own expert info and no other. The last line is 'N passed, M failed'."""
 import os
 import shutil
@@ -9,8 +9,7 @@ import sys
 import tempfile
 from collections.abc import Callable
 
-HERE = os.path.dirname(os.path.abspath(__file__))
-ROOT = os.path.dirname(os.path.dirname(HERE))
+ROOT = os.path.dirname(os.path.dirname(os.path.abspath(__file__)))
 HEADER = 92
 INFOS = "afdx.seq.gap or afdx.seq.repeat or afdx.bag or afdx.twin"
 
@@ -38,7 +37,7 @@ def data_of(header: bytes, packets: list[Packet]) -> bytes:
 
 def infos(path: str, *words: str) -> list[str]:
     """The expert infos of this dissector, each with the number of its frame."""
-    command = ["tshark", "-X", f"lua_script:{HERE}/afdx.lua", *words, "-r", path, "-Y", INFOS, "-T", "fields"]
+    command = ["tshark", "-X", f"lua_script:{ROOT}/bindings/afdx.lua", *words, "-r", path, "-Y", INFOS, "-T", "fields"]
     ran = subprocess.run([*command, "-e", "frame.number", "-e", "_ws.expert.message"], capture_output=True, text=True, check=True)
     return [line.partition("\t")[0] + ": " + line.rpartition(",")[2].rpartition("\t")[2] for line in ran.stdout.splitlines()]
 

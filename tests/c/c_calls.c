@@ -1,7 +1,7 @@
 /* The calls of the C library: what each returns, what it writes, and what is there afterwards. What Python, C++ and the
    example show of the same calls isn't here: each number (test_afdx.py), threads that send and 64 frames of one poll.
 
-   tools/c_library.py builds and runs it. Requests for memory go through `__wrap_malloc` and `__wrap_realloc` below (by the
+   tests/c/c_library.py builds and runs it. Requests for memory go through `__wrap_malloc` and `__wrap_realloc` below (by the
    linker's --wrap), which count them and refuse one. A failed check is printed with its line; the last line is
    'N passed, M failed'. */
 #include "afdx.h"
@@ -209,7 +209,7 @@ static void check_ports(void) {
     CHECK(afdx_port_of(&all.it, 10, &more) == 0 && more.held);
     CHECK(send_bytes(&more, 8192) == 0 && afdx_give_back(&all.it, &more) == 0);
     CHECK(afdx_port_of(&all.it, 10, &all.ports[0]) == 0 && accepted(&all.ports[0]) == 1);
-    /* a port of another end system, once all of this one's are back (examples/c/owners.c has more) */
+    /* a port of another end system, once all of this one's are back (tests/c/owners.c has more) */
     open_all(&other);
     for (int k = 0; k < 3; k++) CHECK(afdx_give_back(&all.it, &all.ports[k]) == 0);
     CHECK(afdx_give_back(&all.it, &other.ports[0]) == AFDX_NO_PORT);

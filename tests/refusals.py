@@ -1,10 +1,10 @@
 #!/usr/bin/env python3
 """Refuses requests for memory of the built programs, and writes of the program or its standard output.
 
-    python3 tools/refusals.py
+    python3 tests/refusals.py
 
 It runs what `rt ci` has built, the programs `refusals`, which has a case for each call that may want memory, and
-`afdx_bench` as each compiler makes them, with `tools/refuse.c` preloaded: a run for each request for memory or for a
+`afdx_bench` as each compiler makes them, with `tests/refuse.c` preloaded: a run for each request for memory or for a
 thread, which is refused, until a run makes fewer requests. Each run has to end as is promised, with no signal. Likewise
 each write of the program fails once, and the program may try no other after it. The last line is 'N passed, M failed',
 and the exit status 0 exactly if nothing failed.
@@ -46,7 +46,7 @@ class Bench:
 
     def __init__(self, room):
         self.room, self.library = room, f"{room}/refuse.so"
-        words = ["-O2", "-shared", "-fPIC", "-o", self.library, f"{ROOT}/tools/refuse.c", "-ldl"]
+        words = ["-O2", "-shared", "-fPIC", "-o", self.library, f"{ROOT}/tests/refuse.c", "-ldl"]
         subprocess.run([compiler() or "cc", *words], check=True)
         for name, text in (("plan.toml", DEMO), ("script.txt", SCRIPT), ("long.txt", LONG)):
             with open(f"{room}/{name}", "w", encoding="utf-8") as file:
