@@ -2,16 +2,17 @@
 //! transcripts, reports on configurations, and throws storms of messages at an end system.
 #![tactic(auto)]
 
-ghost use Rattle.bench_words.specs.Words.{IsInRange};
+ghost use Rattle.plan_report.specs.Words.{IsInRange};
 
 mod files;
 mod report;
 
 use afdx_plan::{Config, demo_config};
-use bench_words::{Words, read_words, tell_words};
 use capture::write_capture;
 use files::{create, open, stand_in};
-use plan_report::{End, Failure, Halting, check, read_plan, status_of, tell_faults};
+use plan_report::{
+    End, Failure, Halting, Words, check, read_plan, read_words, status_of, tell_faults, tell_words,
+};
 use report::report;
 use std::alloc::Global;
 use std::fs::File;

@@ -3,3 +3,5 @@ pub mod Halting
 pub mod Reading
 pub mod Report
 pub mod Status
+pub mod Words
+pub mod WordsTold

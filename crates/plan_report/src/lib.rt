@@ -1,4 +1,5 @@
-//! Reading of configurations, reports on plans and their analyses, and the ends of commands.
+//! What the program does with a plan: the words of its command line, reading, reports on plans and their analyses, and
+//! the ends of commands.
 #![tactic(auto)]
 
 mod analysis_text;
@@ -11,6 +12,9 @@ mod reading;
 mod report;
 mod status;
 mod style;
+mod words;
+mod words_report;
+mod words_told;
 
 pub use analysis_text::write_analysis;
 pub use failure::Failure;
@@ -19,3 +23,5 @@ pub use page::write_page;
 pub use reading::{TEXT_LIMIT, check, read_plan, tell_faults};
 pub use report::write_report;
 pub use status::{DONE, End, FAILED, LINES_REFUSED, REFUSED, USED_UP, status_of};
+pub use words::{Words, parse, read_words};
+pub use words_told::tell_words;

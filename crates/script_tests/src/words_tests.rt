@@ -2,9 +2,8 @@
 use crate::helpers::*;
 use crate::line_tests::FAULTS;
 use afdx_plan::ConfigFault;
-use bench_words::{Words, parse, tell_words};
 use clap::Error;
-use plan_report::{End, Failure, status_of};
+use plan_report::{End, Failure, Words, parse, status_of, tell_words};
 use script_text::{LineFault, RunFault};
 use tx_script::Summary;
 

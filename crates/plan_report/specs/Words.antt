@@ -1,7 +1,7 @@
 -- The ranges of a command line.
 use Rattle.std.specs.Prelude.{◌≤◌, ⊤}
-use Rattle.bench_words.specs.declared.words.Words.{Words}
-use Rattle.bench_words.specs.declared.words.Words.TheVariants.{Report, Storm}
+use Rattle.plan_report.specs.declared.words.Words.{Words}
+use Rattle.plan_report.specs.declared.words.Words.TheVariants.{Report, Storm}
 
 -- the numbers of a storm and of a report lie in their ranges
 abbrev pub IsInRange : Words → Type 0

@@ -1,9 +1,9 @@
 //! The words of the command line.
 ghost use Rattle.std.specs.Prelude.{◌≡◌, ◌≤◌, ◌⊎◌, Some, None, IfOk, IfSome, IfNone, IsErr};
 ghost use Rattle.script_text.specs.Numbers.{number_of};
-ghost use Rattle.bench_words.specs.Words.{IsInRange};
+ghost use Rattle.plan_report.specs.Words.{IsInRange};
 
-use crate::report::{report_command, report_words};
+use crate::words_report::{report_command, report_words};
 use clap::error::ErrorKind;
 use clap::{Arg, ArgMatches, Command, Error, value_parser};
 use script_text::number;

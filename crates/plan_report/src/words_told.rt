@@ -1,10 +1,11 @@
 //! The messages about the words.
 ghost use Rattle.clap.specs.Values.{kind_of};
-ghost use Rattle.bench_words.specs.Told.{EndsWords};
+ghost use Rattle.plan_report.specs.WordsTold.{EndsWords};
 
+use crate::failure::Failure;
+use crate::status::End;
 use clap::Error;
 use clap::error::ErrorKind;
-use plan_report::{End, Failure};
 use script_text::RunFault;
 
 /// Prints the message of an error: help and the version to standard output, and what is wrong with the
