@@ -105,8 +105,8 @@ still_own : (gathered : Bool) (now : ℕ) (old new : Tx) (report : Report) (port
     → PollsTx gathered now old report new → (gathered ≡ false → AreOpenedWith old ports) → gathered ≡ false → AreOpenedWith new ports
 still_own true now old new report ports polls own sending = absurd (let no : true ≡ false = sending in cc)
 still_own false now old new report ports polls own sending =
-    subst (λ (plan : Plan). All (BelongsTo plan (queues_in new.links)) ports) (sym polls.plan)
-    (subst (λ (queues : List (List (Option QueueName))). All (BelongsTo old.plan queues) ports) (sym polls.messages.queues) (own refl))
+    subst (λ (plan : Plan). All (BelongsTo plan (queues_in new.links)) ports) (sym polls.lawful.plan)
+    (subst (λ (queues : List (List (Option QueueName))). All (BelongsTo old.plan queues) ports) (sym polls.lawful.messages.queues) (own refl))
 
 -- A polled end system keeps its invariant.
 pub poll_keeps : (old : EndView) (new : Tx) (a b now : ℕ) (report : Report) → IsEndSystem old
@@ -121,11 +121,11 @@ poll_keeps old new a b now report kept polls few a_is b_is =
     let within : (net : Net) → many_for net new.lines.logged ≤ many_for net was.logged + 64 =
     λ net. omega (arith, run_within net old.gathered now old.tx new polls.run, more, reported, few) in
     let few_a = few_for A was.a_stands new.lines.a_stands was.a new.lines.a was.a_failures new.lines.a_failures was.logged
-    new.lines.logged 64 kept.mirrored.first polls.mirrored.first polls.endure.a (within A) in
+    new.lines.logged 64 kept.mirrored.first polls.lawful.conforms.mirrored.first polls.lawful.endure.a (within A) in
     let few_b = few_for B was.b_stands new.lines.b_stands was.b new.lines.b was.b_failures new.lines.b_failures was.logged
-    new.lines.logged 64 kept.mirrored.second polls.mirrored.second polls.endure.b (within B) in
+    new.lines.logged 64 kept.mirrored.second polls.lawful.conforms.mirrored.second polls.lawful.endure.b (within B) in
     record {
-      mirrored = polls.mirrored;
+      mirrored = polls.lawful.conforms.mirrored;
       own = still_own old.gathered now old.tx new report old.ports polls kept.own;
       few_a = omega (arith, few_a, a_is);
       few_b = omega (arith, few_b, b_is);

@@ -3,7 +3,8 @@ pub use Rattle.afdx_frame.specs.declared.net.Net.{Net}
 pub use Rattle.afdx_handle.specs.EndSystem.{ClosesEnd, EndView, IsAllSent, IsEndSystem, TakesPort, end_view, has_id, made_at, made_for}
 pub use Rattle.afdx_handle.specs.Held.{port_of}
 pub use Rattle.afdx_handle.specs.Listing.{bytes_of, first_made, lengths_of, link_id, port_id, with_front}
-pub use Rattle.afdx_handle.specs.Polling.{PollsTx, Runs, is_gathered, tx_of}
+pub use Rattle.afdx_tx.specs.Phases.{Runs}
+pub use Rattle.afdx_handle.specs.Polling.{PollsTx, is_gathered, tx_of}
 pub use Rattle.afdx_handle.specs.contracts.end_system.EndSystem.{the_view}
 pub use Rattle.afdx_handle.specs.declared.home.Home.{Home}
 pub use Rattle.afdx_handle.specs.declared.stage.Stage.{Stage}
