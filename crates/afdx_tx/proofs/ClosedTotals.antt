@@ -1,6 +1,5 @@
 -- The total of a closed sub-VL is the number of messages that it accepted.
-use Rattle.std.proofs.Common.{arith}
-use Rattle.afdx_tx.proofs.Names.{ℕ, ◌≡◌, ◌<◌, List, length, refl, ◌∙◌, Option, Some, None, get_or, cases_lt, get_or_past, length-map, Seen, known_of, total_of, Held, LinkState, held_at, link_at, no_link, nothing_held, sent_of, BecomesWhole, Tx, total_in, PortView, accepted_in, ClosesTx, IsGatheredTx}
+use Rattle.afdx_tx.proofs.Names.{arith, ℕ, ◌≡◌, ◌<◌, List, length, refl, ◌∙◌, Option, Some, None, get_or, cases_lt, get_or_past, length-map, Seen, known_of, total_of, Held, LinkState, held_at, link_at, no_link, nothing_held, sent_of, BecomesWhole, Tx, total_in, PortView, accepted_in, ClosesTx, IsGatheredTx}
 
 -- A closed sub-VL has its total.
 pub closes_total : (old : Tx) (vl sub total : ℕ) (new : Tx) (c : ClosesTx old vl sub total new)

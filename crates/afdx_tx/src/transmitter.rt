@@ -129,8 +129,7 @@ fn publish_all<R: Wait>(rt: &R, links: &[Link], board: &mut Board)
     }
 }
 
-/// The common part of an `Emitter` and a `Draining`: transmits the messages in the queues of the
-/// sub-VLs.
+/// The part of an `Emitter` that has no phase: transmits the messages in the queues of the sub-VLs.
 #[derive(Drop)]
 pub struct Transmitter<A: Network + Drop, B: Network + Drop> {
     pub(crate) config: Config,
