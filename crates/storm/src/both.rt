@@ -53,7 +53,9 @@ impl KeptLinks {
 fn is_on_both(links: &[LinkPlan], vl: VlId) -> bool
     ensures { result ≡ is_on_both links.now vl.0 }
 {
-    links.iter().any(|link| link.id.0 == vl.0 && link.networks.carries_a() && link.networks.carries_b())
+    links.iter().any(|link| link.id.0 == vl.0
+        && link.networks.carries_a()
+        && link.networks.carries_b())
 }
 
 /// The link of a frame, from its destination MAC address.
