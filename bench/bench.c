@@ -6,7 +6,7 @@
    Both send the same messages and make the same frames, which is checked first. Then each work is measured in turn, the
    library and the other, ROUNDS times each (11 by default), and one line is printed: the least nanoseconds of each, the
    ratio of these, and the least, median and greatest ratio of a repetition. PARTS is a program in Rattle that times what a
-   call of the library hides ("alone"), and sends and polls without that call ("in Rattle"): crates/refusals/src/timing.rt.
+   call of the library hides ("alone"), and sends and polls without that call ("in Rattle"): crates/timing.
    The rows of lwIP compare the library's frames for two networks with lwIP's for one that only touches them. Below are the
    time of a call that only looks into its handle, and that of one poll of 64 virtual links that are all due, as a
    distribution. The exit status is 0 if the frames were equal.

@@ -1,5 +1,5 @@
 //! Calls of the library whose allocations fail: a case for each word. A case whose call fails is run a second
-//! time. Without a word all cases run. Three words name a part of the library that is timed, and its load.
+//! time. Without a word all cases run.
 #![tactic(auto)]
 
 mod boards;
@@ -13,7 +13,6 @@ mod quiet;
 mod scripts;
 mod shelf;
 mod storms;
-mod timing;
 mod trouble;
 
 use std::process::ExitCode;
@@ -88,8 +87,7 @@ fn run_all<R: Threads + Wait + Sync>(rt: &R, alloc: Global, out: &mut Out<'_>) -
     Ok(())
 }
 
-/// Runs all cases, the case that a word names, or times the part that the first of three words names, with the
-/// load of the others.
+/// Runs all cases, or the case that a word names.
 fn run<T: Threads + Wait + Sync>(rt: &HostRuntime, threads: &T) -> Ended {
     let alloc = rt.alloc();
     let mut words = std::env::args(rt)?;
@@ -97,14 +95,7 @@ fn run<T: Threads + Wait + Sync>(rt: &HostRuntime, threads: &T) -> Ended {
     let mut out = Out::new(rt);
     let ended = match words.next() {
         None => run_all(threads, alloc, &mut out),
-        Some(word) => match (words.next(), words.next()) {
-            (None, _) => run_case(threads, alloc, &mut out, word.as_str()),
-            (Some(size), Some(units)) => {
-                let words = [word.as_str(), size.as_str(), units.as_str()];
-                timing::run(rt, threads, &mut out, words)
-            }
-            _ => Err(Trouble::NoCase),
-        },
+        Some(word) => run_case(threads, alloc, &mut out, word.as_str()),
     };
     out.end(ended)
 }

@@ -6,7 +6,6 @@ pub use std::alloc::Global;
 use std::alloc::{AllocError, AllocFailed};
 use std::fmt::Display;
 use std::io::{self, Printer, Write};
-use std::num::ParseIntError;
 
 /// Why a case ends before its answer.
 #[derive(Clone, Copy)]
@@ -57,12 +56,6 @@ impl<T: Drop> From<AllocFailed<T>> for Trouble {
 impl From<io::Error> for Trouble {
     fn from(_error: io::Error) -> Trouble {
         Trouble::Unprepared
-    }
-}
-
-impl From<ParseIntError> for Trouble {
-    fn from(_error: ParseIntError) -> Trouble {
-        Trouble::NoCase
     }
 }
 

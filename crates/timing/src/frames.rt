@@ -3,14 +3,13 @@ ghost use Rattle.std.specs.Prelude.{◌≡◌, ◌<◌, [], IfOk};
 ghost use Rattle.afdx_plan.specs.Plan.{SendsOver};
 ghost use Rattle.redundant_mux.specs.Logged.{entries_of};
 
-use super::{Load, Watch, message, plan};
-use crate::configs::first_flow;
-use crate::letters::Letter;
-use crate::trouble::*;
+use crate::trouble::{Ended, Global, Trouble};
+use crate::{Letter, Load, Watch, message, plan};
 use afdx_frame::{Cut, FrameBuffer, Net, Template};
 use afdx_plan::{LinkPlan, Networks};
 use redundant_mux::{HandFault, Mux, Network, Trail};
 use script_text::{FrameLog, write_streams};
+use std::io;
 
 /// How many messages of a size are made before they are timed: of less than 128 KB, since the C library's
 /// allocator gives more than that back to the system when it is freed, and takes it anew.
@@ -106,8 +105,13 @@ fn flow(rt: &HostRuntime) -> Result<(Box<Template>, LinkPlan), Trouble>
     ensures { IfOk result (λ flow. SendsOver flow.0.value flow.1) }
 {
     let config = plan(rt)?;
-    let (port, link) = first_flow(&config)?;
-    drop(config);
+    if config.ports().is_empty() || config.links().is_empty() {
+        return Err(Trouble::Plan);
+    }
+    let (port, link) = (config.ports()[0], config.links()[0]);
+    if link.id != port.vl || port.sub >= link.sub_vls {
+        return Err(Trouble::Plan);
+    }
     Ok((Box::new(rt.alloc(), Template::new(&port))?, link))
 }
 
@@ -139,12 +143,12 @@ pub fn time(rt: &HostRuntime, watch: &mut Watch<'_>, load: Load) -> Ended {
     if is_read {
         Ok(())
     } else {
-        Err(Trouble::Missing)
+        Err(Trouble::Refused)
     }
 }
 
 /// Prints the frames of a message of a size.
-pub fn tell(rt: &HostRuntime, out: &mut Out<'_>, size: usize) -> Ended {
+pub fn tell(rt: &HostRuntime, size: usize) -> Ended {
     let alloc = rt.alloc();
     let (port, link) = flow(rt)?;
     let mut messages = make_messages(alloc, 1, size)?;
@@ -157,7 +161,6 @@ pub fn tell(rt: &HostRuntime, out: &mut Out<'_>, size: usize) -> Ended {
         &mut messages,
     );
     let (a, b) = mux.into_networks();
-    let is_printed = write_streams(&mut out.writer, &a, &b).is_ok();
-    out.note(is_printed);
-    Ok(())
+    let written = write_streams(&mut io::writer(rt), &a, &b);
+    written.ok().ok_or(Trouble::Stream)
 }

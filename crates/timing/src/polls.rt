@@ -1,8 +1,7 @@
 //! Times sends and polls of an end system, over networks that keep the frames of a poll.
 
-use super::{Load, Watch, message, plan};
-use crate::letters::Letter;
-use crate::trouble::*;
+use crate::trouble::{Ended, Global, Trouble};
+use crate::{Letter, Load, Watch, message, plan};
 use afdx_tx::{Emitter, TxPort, open_tx};
 use redundant_mux::Outbox;
 
@@ -30,7 +29,8 @@ fn open(rt: &HostRuntime, size: usize) -> Result<Bench, Trouble> {
         Some(link) => link.capacity,
         None => 0,
     };
-    let (tx, ports, monitor) = open_tx(alloc, config, a, b)?;
+    let opened = open_tx(alloc, config, a, b);
+    let (tx, ports, monitor) = opened.ok().ok_or(Trouble::Memory)?;
     drop(monitor);
     Ok(Bench {
         tx,
@@ -47,7 +47,7 @@ impl Bench {
         for port in self.ports.iter_mut() {
             let message = self.message.bytes.as_slice().to_vec(alloc)?;
             if port.send(message).is_err() {
-                return Err(Trouble::Missing);
+                return Err(Trouble::Refused);
             }
         }
         Ok(())
@@ -56,7 +56,7 @@ impl Bench {
     /// Polls at the time of the last poll.
     fn poll(&mut self) -> Ended {
         if self.at < self.tx.now() || self.tx.poll(self.at).is_err() {
-            return Err(Trouble::Missing);
+            return Err(Trouble::Refused);
         }
         Ok(())
     }
@@ -124,7 +124,7 @@ pub fn time(rt: &HostRuntime, watch: &mut Watch<'_>, part: &str, load: Load) -> 
         "due" => in_batches(alloc, &mut other, watch, &mut bench, load.units),
         "poll" => in_turn(alloc, watch, &mut bench, load.units),
         "idle" => none_due(alloc, watch, &mut bench, load.units),
-        _ => Err(Trouble::NoCase),
+        _ => Err(Trouble::NoPart),
     };
     drop(bench);
     ended

@@ -1,7 +1,6 @@
 //! Times a queue alone.
-use super::{Load, Watch};
-use crate::letters::{Letter, make_letter};
-use crate::trouble::*;
+use crate::trouble::{Ended, Global, Trouble};
+use crate::{Letter, Load, Watch, message};
 use std::thread::{self, Threads};
 use subvl_queue::{Receiver, Sender, make};
 
@@ -36,14 +35,14 @@ fn pass(sender: &mut Sender, receiver: &mut Receiver, letter: Letter) -> Option<
 fn pass_on(sender: &mut Sender, receiver: &mut Receiver, letter: Letter, times: u32) -> Ended {
     let mut held = letter;
     for _ in 0..times {
-        held = pass(sender, receiver, held).ok_or(Trouble::Missing)?;
+        held = pass(sender, receiver, held).ok_or(Trouble::Refused)?;
     }
     Ok(())
 }
 
 /// Times sending and taking one message again and again, on one thread.
 pub fn time_one(alloc: Global, watch: &mut Watch<'_>, load: Load) -> Ended {
-    let letter = make_letter(alloc, 7)?;
+    let letter = message(alloc, 1)?;
     let (mut receiver, mut senders) = make(alloc, ROOM, 1, CALLS)?;
     watch.start();
     let ended = pass_on(&mut senders[0], &mut receiver, letter, load.units);
@@ -67,7 +66,7 @@ fn send_on(sender: &mut Sender, letter: Letter) -> bool {
 /// Sends messages. Returns whether all were accepted.
 fn send_all(alloc: Global, mut sender: Sender, count: u32) -> bool {
     for _ in 0..count {
-        let is_sent = match make_letter(alloc, 7) {
+        let is_sent = match message(alloc, 1) {
             Ok(letter) => send_on(&mut sender, letter),
             Err(_) => false,
         };
@@ -101,7 +100,7 @@ pub fn time_threads<T: Threads>(
     load: Load,
 ) -> Ended {
     if load.size == 0 || load.size > 64 {
-        return Err(Trouble::NoCase);
+        return Err(Trouble::NoPart);
     }
     let each = load.units / load.size as u32;
     let (mut receiver, senders) = make(alloc, ROOM, load.size, CALLS)?;
@@ -122,6 +121,6 @@ pub fn time_threads<T: Threads>(
     if is_whole {
         Ok(())
     } else {
-        Err(Trouble::Missing)
+        Err(Trouble::Refused)
     }
 }
