@@ -1,4 +1,7 @@
 //! The proved transmitting AFDX end system, for C: the library of `afdx.h`.
 #![tactic(auto)]
 
-mod calls;
+mod content;
+mod opening;
+mod reading;
+mod sending;

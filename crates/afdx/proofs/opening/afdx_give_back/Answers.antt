@@ -2,7 +2,7 @@ use Rattle.std.proofs.Common.{Option, Some, sym, ap, ◌∙◌}
 use Rattle.std.proofs.lemmas.Bool.{eqb-true}
 use Rattle.afdx_handle.specs.declared.home.Home.{Home}
 use Rattle.afdx_handle.specs.Held.{end_of, port_of}
-use Rattle.afdx.proofs.calls.afdx_give_back.Goals as goal
+use Rattle.afdx.proofs.opening.afdx_give_back.Goals as goal
 
 pub give_to-requires : goal.give_to-requires
 give_to-requires c =

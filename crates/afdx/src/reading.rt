@@ -1,0 +1,193 @@
+//! The calls that read an end system. `afdx.h` declares its handle with `const`.
+ghost use Rattle.std.specs.Prelude.{◌≡◌, ◌≢◌, ◌⊎◌, ◌↔◌, ◌<◌, ◌≤◌, ◌++◌, [], ◌∷◌, None, Some, IsSome, IsNone, IsSomeAnd, false, length, drop};
+ghost use Rattle.afdx_tx.specs.Naming.{LacksLink};
+ghost use Rattle.afdx_handle.specs.Numbers.{AreCountsOf, IsOneOf, net_of};
+ghost use Rattle.afdx_handle.specs.EndSystem.{made_for, made_at, IsAllSent};
+ghost use Rattle.afdx_legal.specs.Counting.{counts_in};
+ghost use Rattle.afdx_legal.specs.Own.{own_stream};
+ghost use Rattle.afdx_handle.specs.Polling.{IsNextDue};
+ghost use Rattle.afdx_handle.specs.Listing.{with_front, port_ids, link_ids, all_made, bytes_of, lengths_of};
+ghost use Rattle.std.specs.List.{concat};
+ghost use Rattle.afdx_handle.specs.Held.{end_of, port_of, HoldsNothing, HoldsEnd, HoldsSame};
+
+use crate::content::{at_end, with_end};
+use afdx_handle::answer::{
+    DONE, NO_FRAME, NO_LINK, NO_NETWORK, NOT_GATHERED, NOT_HELD, SMALL_BUFFER, WRONG_HANDLE, net_of,
+};
+use afdx_handle::{Handle, Home, LinkCounts};
+
+/// Writes the identifiers of the ports, in the order of the configuration, and their number.
+#[unsafe(no_mangle)]
+pub extern "C" fn afdx_ports(it: &mut Handle, ids: &mut [u16], count: &mut usize) -> u8
+    ensures answers { IsOneOf result (DONE ∷ NOT_HELD ∷ WRONG_HANDLE ∷ SMALL_BUFFER ∷ []) }
+    ensures not_held { (result ≡ NOT_HELD) ↔ HoldsNothing it.old.kept.home }
+    ensures wrong_handle { (result ≡ WRONG_HANDLE) ↔ IsSome (port_of it.old.kept.home) }
+    ensures small { (result ≡ SMALL_BUFFER) ↔ HoldsEnd it.old.kept.home (λ end.
+        length ids.old < length (port_ids end)) }
+    ensures listed { result ≡ DONE → HoldsEnd it.old.kept.home (λ end. ids.new ≡ with_front (port_ids end) ids.old) }
+    ensures count { ((result ≡ DONE) ⊎ (result ≡ SMALL_BUFFER)) →
+        HoldsEnd it.old.kept.home (λ end. count.new ≡ length (port_ids end)) }
+    ensures same { HoldsSame it.old.kept.home it.new.kept.home }
+    ensures unwritten { result ≢ DONE → ids.new ≡ ids.old }
+    ensures uncounted { 32 ≤ result → result ≢ SMALL_BUFFER → count.new ≡ count.old }
+{
+    with_end!(it, end => end.port_ids(ids, count))
+}
+
+/// Writes the identifiers of the links, in the order of the configuration, and their number.
+#[unsafe(no_mangle)]
+pub extern "C" fn afdx_links(it: &mut Handle, ids: &mut [u16], count: &mut usize) -> u8
+    ensures answers { IsOneOf result (DONE ∷ NOT_HELD ∷ WRONG_HANDLE ∷ SMALL_BUFFER ∷ []) }
+    ensures not_held { (result ≡ NOT_HELD) ↔ HoldsNothing it.old.kept.home }
+    ensures wrong_handle { (result ≡ WRONG_HANDLE) ↔ IsSome (port_of it.old.kept.home) }
+    ensures small { (result ≡ SMALL_BUFFER) ↔ HoldsEnd it.old.kept.home (λ end.
+        length ids.old < length (link_ids end)) }
+    ensures listed { result ≡ DONE → HoldsEnd it.old.kept.home (λ end. ids.new ≡ with_front (link_ids end) ids.old) }
+    ensures count { ((result ≡ DONE) ⊎ (result ≡ SMALL_BUFFER)) →
+        HoldsEnd it.old.kept.home (λ end. count.new ≡ length (link_ids end)) }
+    ensures same { HoldsSame it.old.kept.home it.new.kept.home }
+    ensures unwritten { result ≢ DONE → ids.new ≡ ids.old }
+    ensures uncounted { 32 ≤ result → result ≢ SMALL_BUFFER → count.new ≡ count.old }
+{
+    with_end!(it, end => end.link_ids(ids, count))
+}
+
+/// Writes the first time after the last poll at which a link may release a frame and couldn't then.
+#[unsafe(no_mangle)]
+pub extern "C" fn afdx_next_due(it: &mut Handle, at: &mut u64) -> u8
+    ensures answers { IsOneOf result (DONE ∷ NOT_HELD ∷ WRONG_HANDLE ∷ []) }
+    ensures not_held { (result ≡ NOT_HELD) ↔ HoldsNothing it.old.kept.home }
+    ensures wrong_handle { (result ≡ WRONG_HANDLE) ↔ IsSome (port_of it.old.kept.home) }
+    ensures due { result ≡ DONE → HoldsEnd it.old.kept.home (λ end. IsNextDue end.tx at.new) }
+    ensures same { HoldsSame it.old.kept.home it.new.kept.home }
+    ensures unwritten { result ≢ DONE → at.new ≡ at.old }
+{
+    with_end!(it, end => {
+        *at = end.next_due();
+        DONE
+    })
+}
+
+/// Writes the number of frames that the last poll made for a network.
+#[unsafe(no_mangle)]
+pub extern "C" fn afdx_frames(it: &mut Handle, network: u8, count: &mut usize) -> u8
+    ensures answers { IsOneOf result (DONE ∷ NOT_HELD ∷ WRONG_HANDLE ∷ NO_NETWORK ∷ []) }
+    ensures not_held { (result ≡ NOT_HELD) ↔ HoldsNothing it.old.kept.home }
+    ensures wrong_handle { (result ≡ WRONG_HANDLE) ↔ IsSome (port_of it.old.kept.home) }
+    ensures no_network { (result ≡ NO_NETWORK) ↔ (IsSome (end_of it.old.kept.home) × IsNone (net_of network)) }
+    ensures counted { result ≡ DONE → HoldsEnd it.old.kept.home (λ end.
+        IsSomeAnd (net_of network) (λ net. count.new ≡ made_for net end)) }
+    ensures same { HoldsSame it.old.kept.home it.new.kept.home }
+    ensures unwritten { result ≢ DONE → count.new ≡ count.old }
+{
+    with_end!(it, end => match net_of(network) {
+        Some(net) => {
+            *count = end.frames(net);
+            DONE
+        }
+        None => NO_NETWORK,
+    })
+}
+
+/// Copies frame `k`, from 0, that the last poll made for a network into a buffer, and writes its length.
+#[unsafe(no_mangle)]
+pub extern "C" fn afdx_frame(
+    it: &mut Handle,
+    network: u8,
+    k: usize,
+    buffer: &mut [u8],
+    size: &mut usize,
+) -> u8
+    ensures answers { IsOneOf result (DONE ∷ NOT_HELD ∷ WRONG_HANDLE ∷ NO_NETWORK ∷ NO_FRAME ∷ SMALL_BUFFER ∷ []) }
+    ensures not_held { (result ≡ NOT_HELD) ↔ HoldsNothing it.old.kept.home }
+    ensures wrong_handle { (result ≡ WRONG_HANDLE) ↔ IsSome (port_of it.old.kept.home) }
+    ensures no_network { (result ≡ NO_NETWORK) ↔ (IsSome (end_of it.old.kept.home) × IsNone (net_of network)) }
+    ensures no_frame { (result ≡ NO_FRAME) ↔ HoldsEnd it.old.kept.home (λ end.
+        IsSomeAnd (net_of network) (λ net. made_for net end ≤ k)) }
+    ensures small { (result ≡ SMALL_BUFFER) ↔ HoldsEnd it.old.kept.home (λ end. IsSomeAnd (net_of network) (λ net.
+        (k < made_for net end) × (length buffer.old < length (made_at net k end)))) }
+    ensures copied { result ≡ DONE → HoldsEnd it.old.kept.home (λ end. IsSomeAnd (net_of network) (λ net.
+        buffer.new ≡ made_at net k end ++ drop (length (made_at net k end)) buffer.old)) }
+    ensures size { result ≡ DONE → HoldsEnd it.old.kept.home (λ end.
+        IsSomeAnd (net_of network) (λ net. size.new ≡ length (made_at net k end))) }
+    ensures same { HoldsSame it.old.kept.home it.new.kept.home }
+    ensures unwritten { result ≢ DONE → (buffer.new ≡ buffer.old) × (size.new ≡ size.old) }
+{
+    with_end!(it, end => match net_of(network) {
+        Some(net) => end.frame(net, k, buffer, size),
+        None => NO_NETWORK,
+    })
+}
+
+/// Copies all frames that the last poll made for a network into a buffer, one after the other, and
+/// writes their lengths and their number.
+#[unsafe(no_mangle)]
+pub extern "C" fn afdx_all_frames(
+    it: &mut Handle,
+    network: u8,
+    buffer: &mut [u8],
+    lengths: &mut [usize],
+    count: &mut usize,
+) -> u8
+    ensures answers { IsOneOf result (DONE ∷ NOT_HELD ∷ WRONG_HANDLE ∷ NO_NETWORK ∷ SMALL_BUFFER ∷ []) }
+    ensures not_held { (result ≡ NOT_HELD) ↔ HoldsNothing it.old.kept.home }
+    ensures wrong_handle { (result ≡ WRONG_HANDLE) ↔ IsSome (port_of it.old.kept.home) }
+    ensures no_network { (result ≡ NO_NETWORK) ↔ (IsSome (end_of it.old.kept.home) × IsNone (net_of network)) }
+    ensures small { (result ≡ SMALL_BUFFER) ↔ HoldsEnd it.old.kept.home (λ end. IsSomeAnd (net_of network) (λ net.
+        (length buffer.old < bytes_of (all_made net end)) ⊎ (length lengths.old < made_for net end))) }
+    ensures copied { result ≡ DONE → HoldsEnd it.old.kept.home (λ end. IsSomeAnd (net_of network) (λ net.
+        buffer.new ≡ with_front (concat (all_made net end)) buffer.old)) }
+    ensures lengths { result ≡ DONE → HoldsEnd it.old.kept.home (λ end. IsSomeAnd (net_of network) (λ net.
+        lengths.new ≡ with_front (lengths_of (all_made net end)) lengths.old)) }
+    ensures count { ((result ≡ DONE) ⊎ (result ≡ SMALL_BUFFER)) → HoldsEnd it.old.kept.home (λ end.
+        IsSomeAnd (net_of network) (λ net. count.new ≡ made_for net end)) }
+    ensures same { HoldsSame it.old.kept.home it.new.kept.home }
+    ensures unwritten { result ≢ DONE → (buffer.new ≡ buffer.old) × (lengths.new ≡ lengths.old) }
+    ensures uncounted { 32 ≤ result → result ≢ SMALL_BUFFER → count.new ≡ count.old }
+{
+    with_end!(it, end => match net_of(network) {
+        Some(net) => end.all_frames(net, buffer, lengths, count),
+        None => NO_NETWORK,
+    })
+}
+
+/// Writes the counts of a virtual link.
+#[unsafe(no_mangle)]
+pub extern "C" fn afdx_link_counts(it: &mut Handle, vl: u16, counts: &mut LinkCounts) -> u8
+    ensures answers { IsOneOf result (DONE ∷ NOT_HELD ∷ WRONG_HANDLE ∷ NO_LINK ∷ []) }
+    ensures not_held { (result ≡ NOT_HELD) ↔ HoldsNothing it.old.kept.home }
+    ensures wrong_handle { (result ≡ WRONG_HANDLE) ↔ IsSome (port_of it.old.kept.home) }
+    ensures no_link { (result ≡ NO_LINK) ↔ HoldsEnd it.old.kept.home (λ end. LacksLink end.tx.plan vl) }
+    ensures counted { result ≡ DONE → HoldsEnd it.old.kept.home (λ end.
+        AreCountsOf (counts_in (own_stream vl end.tx.lines.a end.tx.lines.b)) counts.new) }
+    ensures same { HoldsSame it.old.kept.home it.new.kept.home }
+    ensures unwritten { result ≢ DONE → counts.new ≡ counts.old }
+{
+    with_end!(it, end => match end.counts(vl) {
+        Ok(sent) => {
+            *counts = LinkCounts {
+                frames: sent.frames,
+                bytes: sent.bytes,
+                messages: sent.messages,
+                last: sent.last,
+            };
+            DONE
+        }
+        Err(number) => number,
+    })
+}
+
+/// Writes 1 if at least one network accepted each fragment of each accepted message, otherwise 0.
+#[unsafe(no_mangle)]
+pub extern "C" fn afdx_is_done(it: &mut Handle, done: &mut u8) -> u8
+    ensures answers { IsOneOf result (DONE ∷ NOT_HELD ∷ WRONG_HANDLE ∷ NOT_GATHERED ∷ []) }
+    ensures not_held { (result ≡ NOT_HELD) ↔ HoldsNothing it.old.kept.home }
+    ensures wrong_handle { (result ≡ WRONG_HANDLE) ↔ IsSome (port_of it.old.kept.home) }
+    ensures not_gathered { (result ≡ NOT_GATHERED) ↔ HoldsEnd it.old.kept.home (λ end. end.gathered ≡ false) }
+    ensures done { result ≡ DONE → HoldsEnd it.old.kept.home (λ end. (done.new ≡ 1) ↔ IsAllSent end) }
+    ensures flag { result ≡ DONE → done.new ≤ 1 }
+    ensures same { HoldsSame it.old.kept.home it.new.kept.home }
+    ensures unwritten { result ≢ DONE → done.new ≡ done.old }
+{
+    with_end!(it, end => end.is_done(done))
+}
