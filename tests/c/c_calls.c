@@ -1,46 +1,10 @@
 /* The calls of the C library: what each returns, what it writes, and what is there afterwards. What Python, C++ and the
    example show of the same calls isn't here: each number (test_afdx.py), threads that send and 64 frames of one poll.
 
-   tests/c/c_library.py builds and runs it. Requests for memory go through `__wrap_malloc` and `__wrap_realloc` below (by the
-   linker's --wrap), which count them and refuse one. A failed check is printed with its line; the last line is
-   'N passed, M failed'. */
+   tests/c/c_library.py builds and runs it. */
 #include "afdx.h"
 
-#include <stdbool.h>
-#include <stdio.h>
-#include <stdlib.h>
-#include <string.h>
-
-static unsigned passed, failed;
-
-static void check(bool holds, int line, const char *what) {
-    if (!holds) printf("line %d: %s\n", line, what);
-    *(holds ? &passed : &failed) += 1;
-}
-
-#define CHECK(holds) check((holds), __LINE__, #holds)
-
-/* Memory: how many requests were made, how many blocks are in use, and how many requests more until one fails. */
-static long requests, blocks, refused_in = -1;
-
-void *__real_malloc(size_t size);
-void *__real_realloc(void *old, size_t size);
-void __real_free(void *block);
-
-void *__wrap_realloc(void *old, size_t size) {
-    requests++;
-    if (refused_in >= 0 && refused_in-- == 0) return NULL;
-    void *block = old == NULL ? __real_malloc(size) : __real_realloc(old, size);
-    blocks += old == NULL && block != NULL;
-    return block;
-}
-
-void *__wrap_malloc(size_t size) { return __wrap_realloc(NULL, size); }
-
-void __wrap_free(void *block) {
-    blocks -= block != NULL;
-    __real_free(block);
-}
+#include "checks.h"
 
 /* Two links, the second of two sub-VLs and on A alone, and three ports. */
 static const char PLAN[] =
@@ -246,7 +210,7 @@ static void check_poll(void) {
     CHECK(frames(&all.it, AFDX_A) == 0 && frames(&all.it, AFDX_B) == 0);
     polls(0, 0, 0);
     CHECK(send_bytes(&all.ports[0], 1) == 0 && send_bytes(&all.ports[0], 2) == 0);
-    long sent = blocks;
+    size_t sent = blocks;
     polls(5, 1, 1);
     CHECK(afdx_poll(&all.it, 4, &standing) == AFDX_TIME_BACK && standing == 7);
     CHECK(frames(&all.it, AFDX_A) == 1 && frames(&all.it, AFDX_B) == 1);
@@ -373,7 +337,8 @@ static void check_orphans(void) {
 
 /* Each request for memory refused in turn: opening, taking a port, sending. All is given back. */
 static void check_memory(void) {
-    long before = blocks, refusals = 0;
+    size_t before = blocks;
+    long refusals;
     uint8_t answer;
     for (refusals = 0;; refusals++) {
         refused_in = refusals;
@@ -383,7 +348,7 @@ static void check_memory(void) {
         CHECK(answer == AFDX_MEMORY && !all.it.held && blocks == before);
     }
     CHECK(refusals > 10);
-    long open_blocks = blocks;
+    size_t open_blocks = blocks;
     refused_in = 0;
     CHECK(afdx_port_of(&all.it, 10, &all.ports[0]) == AFDX_MEMORY && !all.ports[0].held && blocks == open_blocks);
     refused_in = 1;
@@ -393,7 +358,7 @@ static void check_memory(void) {
     CHECK(send_bytes(&all.ports[0], 100) == AFDX_MEMORY);
     refused_in = -1;
     CHECK(accepted(&all.ports[0]) == 0);
-    long asked = requests;
+    size_t asked = requests;
     CHECK(send_bytes(&all.ports[0], 100) == 0 && requests == asked + 1);
     asked = requests;
     uint8_t frame[1514], done = 0;
@@ -420,6 +385,5 @@ int main(void) {
     check_open();
     check_explain();
     check_memory();
-    printf("%u passed, %u failed\n", passed, failed);
-    return failed != 0;
+    return end_of_checks();
 }

@@ -3,58 +3,12 @@
    until which a poller may sleep is one at which a link becomes due, what is const isn't written, an explanation is cut
    to its buffer, and an end system allocates as much memory as docs/guide/c.md says.
 
-   tests/c/c_library.py builds and runs it. Allocations call `__wrap_malloc` and its kin below (by the linker's --wrap),
-   which count their bytes. A failed check prints its line; the last line is 'N passed, M failed'. */
+   tests/c/c_library.py builds and runs it. */
 #include "afdx.h"
 
-#include <stdbool.h>
-#include <stdio.h>
-#include <stdlib.h>
-#include <string.h>
+#include "checks.h"
+
 #include <sys/mman.h>
-
-static unsigned passed, failed;
-
-static void check(bool holds, int line, const char *what) {
-    if (!holds) printf("line %d: %s\n", line, what);
-    *(holds ? &passed : &failed) += 1;
-}
-
-#define CHECK(holds) check((holds), __LINE__, #holds)
-
-/* Memory: the bytes and the blocks that are allocated, the most bytes that were, and the number of allocations. */
-static size_t bytes, most, blocks, requests;
-
-enum { HEAD = 16 };
-
-void *__real_realloc(void *old, size_t size);
-void __real_free(void *block);
-
-/* Each block is preceded by its size. */
-void *__wrap_realloc(void *old, size_t size) {
-    unsigned char *block = old == NULL ? NULL : (unsigned char *)old - HEAD;
-    size_t before = 0;
-    if (block != NULL) memcpy(&before, block, sizeof before);
-    unsigned char *new = __real_realloc(block, size + HEAD);
-    if (new == NULL) return NULL;
-    memcpy(new, &size, sizeof size);
-    requests++;
-    blocks += block == NULL;
-    bytes += size - before;
-    if (bytes > most) most = bytes;
-    return new + HEAD;
-}
-
-void *__wrap_malloc(size_t size) { return __wrap_realloc(NULL, size); }
-
-void __wrap_free(void *block) {
-    if (block == NULL) return;
-    size_t before = 0;
-    memcpy(&before, (unsigned char *)block - HEAD, sizeof before);
-    bytes -= before;
-    blocks--;
-    __real_free((unsigned char *)block - HEAD);
-}
 
 /* The text of a plan of `links` links of `sub_vls` sub-VLs each, with queues of this capacity and `each` ports to a
    sub-VL. */
@@ -365,6 +319,5 @@ int main(void) {
     check_const();
     check_explain();
     check_memory();
-    printf("%u passed, %u failed\n", passed, failed);
-    return failed != 0;
+    return end_of_checks();
 }
