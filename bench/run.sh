@@ -35,7 +35,7 @@ fi
 
 # Builds the driver over a library.
 build() {
-    ${CC:-cc} -O3 -std=gnu11 -Wall -Wextra -Werror -Wpedantic -Wconversion "${flags[@]}" -I../crates/afdx bench.c hand.c "$1" \
+    ${CC:-cc} -O3 -std=gnu11 -Wall -Wextra -Werror -Wpedantic -Wconversion "${flags[@]}" -I../crates/afdx bench.c sides.c hand.c "$1" \
         "$kit/c/liblibc_c.a" "${lwip[@]}" -lpthread -o "$2"
 }
 
