@@ -3,6 +3,8 @@
 
 #include <string.h>
 
+enum { HAND_HEAD = 38 };
+
 struct link {
     uint16_t id;
     size_t room;
@@ -21,10 +23,12 @@ struct link {
 };
 
 struct port {
-    uint16_t source, destination, link;
-    uint8_t partition;
+    unsigned link;
     size_t max;
     struct sender sender;
+    /* the headers up to the UDP ports, zeros where each frame has its own, and the sum of the words of its IPv4 header */
+    uint8_t head[HAND_HEAD];
+    uint32_t sum;
 };
 
 /* A network: the frames of the last poll, or with DUTIES the last frames of all, in turn. */
@@ -45,7 +49,6 @@ struct out {
 };
 
 struct hand {
-    uint16_t end_system;
     unsigned links, ports;
     struct link link[HAND_LINKS];
     struct port port[HAND_PORTS];
@@ -56,11 +59,28 @@ struct hand {
 #endif
 };
 
+static void put16(uint8_t *to, unsigned value) {
+    to[0] = (uint8_t)(value >> 8);
+    to[1] = (uint8_t)value;
+}
+
+/* The headers of a port from this UDP port to 2,000, of partition 1. */
+static void write_head(struct port *port, uint16_t end_system, uint16_t vl, unsigned source) {
+    static const uint8_t fixed[HAND_HEAD] = {0x03, 0, 0, 0, 0, 0, 0x02, 0, 0, 0, 0, 0x20, 0x08, 0, 0x45, 0, 0, 0, 0, 0, 0, 0, 1, 17, 0, 0, 10, 0, 0,
+        1, 0xe0, 0xe0, 0, 0, 0, 0, 0x07, 0xd0};
+    memcpy(port->head, fixed, HAND_HEAD);
+    put16(port->head + 4, vl);
+    put16(port->head + 9, end_system);
+    put16(port->head + 27, end_system);
+    put16(port->head + 32, vl);
+    put16(port->head + 34, source);
+    for (int k = 14; k < 34; k += 2) port->sum += (uint32_t)port->head[k] << 8 | port->head[k + 1];
+}
+
 struct hand *hand_open(uint16_t end_system, unsigned links, unsigned lmax, unsigned capacity, unsigned ports, size_t max) {
     struct hand *it = aligned_alloc(128, (sizeof *it + 127) / 128 * 128);
     if (!it) return NULL;
     memset(it, 0, sizeof *it);
-    it->end_system = end_system;
     it->links = links;
     it->ports = ports;
     for (unsigned k = 0; k < links; k++) {
@@ -70,9 +90,10 @@ struct hand *hand_open(uint16_t end_system, unsigned links, unsigned lmax, unsig
         link->gap = 1000;
         open_queue(&link->queue, capacity);
     }
-    for (unsigned k = 0; k < ports; k++)
-        it->port[k] = (struct port){.source = (uint16_t)(1000 + k), .destination = 2000, .link = (uint16_t)(k % links), .partition = 1, .max = max,
-            .sender = {.most = (uint64_t)1 << 40}};
+    for (unsigned k = 0; k < ports; k++) {
+        it->port[k] = (struct port){.link = k % links, .max = max, .sender = {.most = (uint64_t)1 << 40}};
+        write_head(&it->port[k], end_system, it->link[k % links].id, 1000 + k);
+    }
 #ifdef DUTIES
     it->out[0].stands = it->out[1].stands = true;
 #endif
@@ -101,40 +122,21 @@ int hand_send(struct hand *it, unsigned port, const uint8_t *message, size_t len
     return HAND_FULL;
 }
 
-static void put16(uint8_t *to, unsigned value) {
-    to[0] = (uint8_t)(value >> 8);
-    to[1] = (uint8_t)value;
-}
-
 /* Writes the next piece of the link's message as a frame for network A, and returns the frame's length. */
 static size_t write_frame(const struct hand *it, struct link *link, uint8_t *frame) {
     const struct port *port = &it->port[link->cut.port];
     size_t left = link->total - link->sent, step = link->room & ~(size_t)7, piece = left <= link->room ? left : step;
-    static const uint8_t head[12] = {0x03, 0, 0, 0, 0, 0, 0x02, 0, 0, 0, 0, 0x20};
-    memcpy(frame, head, 12);
-    put16(frame + 4, link->id);
-    put16(frame + 9, it->end_system);
-    put16(frame + 12, 0x0800);
-    uint8_t *ip = frame + 14;
-    put16(ip, 0x4500);
-    put16(ip + 2, (unsigned)(20 + piece));
-    put16(ip + 4, link->place * 4u);
-    put16(ip + 6, (unsigned)((piece < left ? 0x2000 : 0) | link->sent / 8));
-    put16(ip + 8, 0x0111);
-    put16(ip + 10, 0);
-    ip[12] = 10;
-    put16(ip + 13, it->end_system);
-    ip[15] = port->partition;
-    put16(ip + 16, 0xe0e0);
-    put16(ip + 18, link->id);
-    uint32_t sum = 0;
-    for (int k = 0; k < 20; k += 2) sum += (uint32_t)ip[k] << 8 | ip[k + 1];
+    unsigned length = (unsigned)(20 + piece), place = (link->place * 4u) & 0xffff;
+    unsigned offset = (unsigned)((piece < left ? 0x2000 : 0) | link->sent / 8);
+    memcpy(frame, port->head, HAND_HEAD);
+    put16(frame + 16, length);
+    put16(frame + 18, place);
+    put16(frame + 20, offset);
+    uint32_t sum = port->sum + length + place + offset;
     sum = (sum & 0xffff) + (sum >> 16);
-    put16(ip + 10, ~(sum + (sum >> 16)) & 0xffff);
+    put16(frame + 24, ~(sum + (sum >> 16)) & 0xffff);
     uint8_t *to = frame + 34;
     if (link->sent == 0) {
-        put16(to, port->source);
-        put16(to + 2, port->destination);
         put16(to + 4, (unsigned)link->total);
         put16(to + 6, 0);
         memcpy(to + 8, link->cut.bytes, piece - 8);
