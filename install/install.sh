@@ -42,7 +42,7 @@ into include crates/afdx/afdx.h bindings/afdx.hpp
 into lib "$room/libafdx.a" "$room/libafdx.so"
 into lib/pkgconfig "$room/afdx.pc"
 into lib/cmake/afdx "$room/afdxConfig.cmake" "$room/afdxConfigVersion.cmake"
-into lib/python bindings/afdx.py
+into lib/python/afdx bindings/afdx/__init__.py bindings/afdx/_library.py bindings/afdx/errors.py
 into share/afdx/examples/c examples/c/example.c examples/c/demo.toml
 into share/afdx/examples/cpp examples/cpp/main.cpp
 into share/afdx/examples/cmake examples/cmake/CMakeLists.txt examples/cmake/main.c

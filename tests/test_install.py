@@ -24,7 +24,7 @@ SANITIZERS = ["-fsanitize=address,undefined", "-fno-sanitize-recover=all"]
 FILES = """\
 include/afdx.h include/afdx.hpp
 lib/libafdx.a lib/libafdx.so lib/pkgconfig/afdx.pc lib/cmake/afdx/afdxConfig.cmake lib/cmake/afdx/afdxConfigVersion.cmake
-lib/python/afdx.py
+lib/python/afdx/__init__.py lib/python/afdx/_library.py lib/python/afdx/errors.py
 share/afdx/examples/c/demo.toml share/afdx/examples/c/example.c share/afdx/examples/cmake/CMakeLists.txt
 share/afdx/examples/cmake/main.c share/afdx/examples/cpp/main.cpp
 share/afdx/examples/python/bench.py share/afdx/examples/python/main.py""".split()

@@ -1,5 +1,5 @@
 #!/usr/bin/env python3
-"""Tests bindings/afdx.py and the test bench as `install/install.sh` installs them into a folder of their own. The last
+"""Tests bindings/afdx and the test bench as `install/install.sh` installs them into a folder of their own. The last
 line is 'N passed, M failed'."""
 import os
 import re

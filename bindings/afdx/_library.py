@@ -1,0 +1,68 @@
+"""The C library by ctypes: its structures and calls."""
+from __future__ import annotations
+
+import ctypes
+import os
+from ctypes import POINTER, c_size_t, c_uint8, c_uint16, c_uint64, c_void_p
+from pathlib import Path
+
+from .errors import MISUSES, Errors
+
+
+class Handle(ctypes.Structure):
+    _fields_ = [("at", c_void_p), ("held", c_uint8), ("mark", c_uint64)]
+
+
+class LinkCounts(ctypes.Structure):
+    _fields_ = [("frames", c_uint64), ("bytes", c_uint64), ("messages", c_uint64), ("last", c_uint64)]
+
+
+def _library() -> ctypes.CDLL:
+    package = Path(__file__).resolve().parent
+    near = [str(path) for path in (package.parent / "libafdx.so", package.parent.parent / "libafdx.so") if path.exists()]
+    return ctypes.CDLL(os.environ.get("AFDX_LIBRARY") or [*near, "libafdx.so"][0])
+
+
+def _calls(library: ctypes.CDLL) -> None:
+    handle, size = POINTER(Handle), c_size_t
+    for name, arguments in {
+        "open": [handle, ctypes.c_char_p, size],
+        "explain": [ctypes.c_char_p, size, c_void_p, size, POINTER(size)],
+        "port_of": [handle, c_uint16, handle],
+        "send": [handle, ctypes.c_char_p, size],
+        "accepted": [handle, POINTER(c_uint64)],
+        "poll": [handle, c_uint64, POINTER(c_uint8)],
+        "frames": [handle, c_uint8, POINTER(size)],
+        "frame": [handle, c_uint8, size, c_void_p, size, POINTER(size)],
+        "all_frames": [handle, c_uint8, c_void_p, size, POINTER(size), size, POINTER(size)],
+        "next_due": [handle, POINTER(c_uint64)],
+        "ports": [handle, POINTER(c_uint16), size, POINTER(size)],
+        "links": [handle, POINTER(c_uint16), size, POINTER(size)],
+        "fail": [handle, c_uint8],
+        "close": [handle, c_uint16, c_uint8, POINTER(c_uint64)],
+        "link_counts": [handle, c_uint16, POINTER(LinkCounts)],
+        "give_back": [handle, handle],
+        "gather": [handle],
+        "is_done": [handle, POINTER(c_uint8)],
+        "free": [handle],
+        "free_port": [handle],
+    }.items():
+        call = getattr(library, f"afdx_{name}")
+        call.argtypes, call.restype = arguments, c_uint8
+
+
+lib = _library()
+_calls(lib)
+
+
+def want(answer: int, errors: Errors = MISUSES) -> None:
+    """Raises the exception of an answer other than success."""
+    if answer:
+        raise (errors.get(answer) or MISUSES[answer])(f"answer {answer}")
+
+
+def fits(value: int, bits: int) -> int:
+    """Returns the value if it fits. ctypes would truncate it to `bits` bits."""
+    if not 0 <= value < 1 << bits:
+        raise OverflowError(f"{value} isn't a number of {bits} bits")
+    return value

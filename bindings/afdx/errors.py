@@ -1,0 +1,238 @@
+"""The answers of the C library other than success, each an exception named as in afdx.h."""
+from __future__ import annotations
+
+
+class AfdxError(Exception):
+    """An answer other than success. `number` is the answer."""
+
+    number = 0
+
+
+class OutOfMemory(AfdxError):
+    """An allocation failed."""
+
+    number = 15
+
+
+class ConfigError(AfdxError):
+    """The configuration is refused: the fault of the least number."""
+
+
+class Toml(ConfigError):
+    """The text isn't TOML, or its bytes aren't UTF-8."""
+
+    number = 1
+
+
+class MissingKey(ConfigError):
+    """A table or a required key of one is missing."""
+
+    number = 2
+
+
+class UnknownKey(ConfigError):
+    """A table or key is unknown, or a key of version 2 is in a text of version 1."""
+
+    number = 3
+
+
+class WrongKind(ConfigError):
+    """A value isn't of its kind."""
+
+    number = 4
+
+
+class OutOfRange(ConfigError):
+    """A value is out of its range."""
+
+    number = 5
+
+
+class BadBag(ConfigError):
+    """`bag_ms` is no bandwidth allocation gap."""
+
+    number = 6
+
+
+class DuplicateVl(ConfigError):
+    """Two virtual links have one identifier."""
+
+    number = 7
+
+
+class DuplicatePort(ConfigError):
+    """Two ports have one identifier."""
+
+    number = 8
+
+
+class NoSuchVl(ConfigError):
+    """A port names a virtual link that isn't there."""
+
+    number = 9
+
+
+class NoSuchSub(ConfigError):
+    """A port names a sub-VL that its virtual link doesn't have."""
+
+    number = 10
+
+
+class SamplingTooLong(ConfigError):
+    """A sampling port's greatest message doesn't fit one frame."""
+
+    number = 11
+
+
+class SameFlow(ConfigError):
+    """Two ports agree in virtual link, partition, both UDP ports and destination."""
+
+    number = 12
+
+
+class SharedUnicast(ConfigError):
+    """Two ports on different virtual links agree in partition and unicast address."""
+
+    number = 13
+
+
+class Limit(ConfigError):
+    """There are too few or too many virtual links or ports."""
+
+    number = 14
+
+
+class SendError(AfdxError):
+    """The message is refused, and nothing has changed."""
+
+
+class Empty(SendError):
+    """The message has no byte."""
+
+    number = 1
+
+
+class TooLong(SendError):
+    """The message is longer than the port's greatest."""
+
+    number = 2
+
+
+class Closed(SendError):
+    """The sub-VL is closed."""
+
+    number = 3
+
+
+class Exhausted(SendError):
+    """The port has requested a slot 2^40 times."""
+
+    number = 4
+
+
+class Full(SendError):
+    """The queue is full: poll, and try again."""
+
+    number = 5
+
+
+class PollError(AfdxError):
+    """The poll does nothing."""
+
+
+class BothDown(PollError):
+    """Both networks had failed before the poll."""
+
+    number = 1
+
+
+class Misuse(AfdxError):
+    """A call that the end system or the port can't do now."""
+
+
+class NotHeld(Misuse):
+    """The end system was freed, or the port was given back."""
+
+    number = 32
+
+
+class WrongHandle(Misuse):
+    """A port is passed for an end system, or the other way round."""
+
+    number = 33
+
+
+class Held(Misuse):
+    """The end system or the port is open already."""
+
+    number = 34
+
+
+class TimeBack(Misuse):
+    """The time is before that of an earlier poll."""
+
+    number = 35
+
+
+class NoPort(Misuse):
+    """There is no such port, it is out already, or it isn't one of this end system."""
+
+    number = 36
+
+
+class NoSub(Misuse):
+    """There is no such virtual link, or no such sub-VL of it."""
+
+    number = 37
+
+
+class NoLink(Misuse):
+    """There is no such virtual link."""
+
+    number = 38
+
+
+class NoNetwork(Misuse):
+    """Neither `A` nor `B`."""
+
+    number = 39
+
+
+class NoFrame(Misuse):
+    """The last poll made fewer frames for this network."""
+
+    number = 40
+
+
+class SmallBuffer(Misuse):
+    """The frame is longer than the given size."""
+
+    number = 41
+
+
+class PortMissing(Misuse):
+    """A port of the configuration is out."""
+
+    number = 42
+
+
+class Gathered(Misuse):
+    """The end system is draining: `gather` was called."""
+
+    number = 43
+
+
+class NotGathered(Misuse):
+    """`gather` hasn't been called yet."""
+
+    number = 44
+
+
+Errors = dict[int, type[AfdxError]]
+
+
+def _errors(kind: type[AfdxError]) -> Errors:
+    return {error.number: error for error in (OutOfMemory, *kind.__subclasses__())}
+
+
+CONFIG_ERRORS, SEND_ERRORS, POLL_ERRORS, MISUSES = map(_errors, (ConfigError, SendError, PollError, Misuse))
