@@ -1,5 +1,5 @@
 /* The calls of the C library: what each returns, what it writes, and what is there afterwards. What Python, C++ and the
-   example show of the same calls isn't here: each number (test_afdx.py), threads that send and 64 frames of one poll.
+   example show of the same calls isn't here: each number (test_python.py), threads that send and 64 frames of one poll.
 
    tests/c/c_library.py builds and runs it. */
 #include "afdx.h"
