@@ -125,8 +125,8 @@ const TEXTS: [(Failure, &str); 8] = [
     (Failure::Run(RunFault::Write), "write failed"),
     (Failure::Run(RunFault::Memory), "out of memory"),
     (
-        Failure::Config(ConfigFault::SharedUnicast),
-        "configuration refused: 13 SharedUnicast",
+        Failure::Config(ConfigFault::Limit),
+        "configuration refused: 14 Limit",
     ),
     (Failure::Config(ConfigFault::Memory), "out of memory"),
     (Failure::Short, "storm refused: a port's max is below 6"),

@@ -31,12 +31,12 @@ pub fn tell_plan(out: &mut Out<'_>, config: &Config) {
     out.note(is_printed)
 }
 
-/// Prints the plan or the fault, unless an allocation failed.
+/// Prints the plan or the number of the fault, unless an allocation failed.
 fn tell(out: &mut Out<'_>, answer: Result<Config, ConfigFault>) -> Ended {
     match answer {
         Ok(config) => tell_plan(out, &config),
         Err(ConfigFault::Memory) => return Err(Trouble::Refused),
-        Err(fault) => out.line(format_args!("{} {fault}", fault.number())),
+        Err(fault) => out.line(fault.number()),
     }
     Ok(())
 }
