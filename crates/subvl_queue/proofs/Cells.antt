@@ -1,5 +1,5 @@
 -- How the rule is kept when one cell and one seat change.
-use Rattle.subvl_queue.proofs.Names.{◌≡◌, ◌≢◌, ℕ, zero, suc, ◌+◌, ◌*◌, ◌^◌, ◌%◌, ◌<◌, ◌≤◌, ◌⊎◌, inl, inr, Bool, List, [], ◌∷◌, length, get_or, set, sym, refl, ap, ◌∙◌, subst, ⊎_elim, arith, mod-lt, length-set, get_or-set_other, some, Option, Some, None, add-mod_right, ℕ_discrete, get_elem?, State, at_set, set_else, set_here, View, Role, Spent, Stage, Drew, Holding, owned, total, in_hand, in_room, waiting, asks_of, budget, shut_bit, Gone, Totals, Joined, Whole, Collects, Busy, Phase, free, writing, full, reading, Cell, holder, InPhase, CellOk, Has, Knows, Fits, Queue}
+use Rattle.subvl_queue.proofs.Names.{◌≡◌, ◌≢◌, ℕ, zero, suc, ◌+◌, ◌*◌, ◌^◌, ◌%◌, ◌<◌, ◌≤◌, ◌⊎◌, Bool, List, [], ◌∷◌, length, get_or, set, sym, refl, ap, ◌∙◌, arith, length-set, get_or-set_other, some, Option, add-mod_right, ℕ_discrete, get_elem?, State, at_set, set_else, set_here, View, Role, Spent, Stage, Drew, Holding, owned, total, in_hand, in_room, waiting, asks_of, budget, shut_bit, Gone, Whole, Collects, Busy, Phase, free, writing, full, reading, Cell, holder, InPhase, CellOk, Has, Knows, Fits, Queue}
 use mathlib.Core.Path.{Path}
 use mathlib.Core.Option as maybe
 
@@ -15,7 +15,7 @@ unfolding put
 at_put cells i c F j here other = go (ℕ_discrete j i)
   where
     go : (d : Dec (j ≡ i)) → F j (pick d c (cells j))
-    go (yes e) = subst (λ (k : ℕ). F k c) (sym e) here
+    go (yes e) = grind arith
     go (no n) = other n
 
 pub put_here : (cells : ℕ → Cell) (i : ℕ) (c : Cell) → Path Cell (put cells i c i) c
@@ -24,17 +24,14 @@ put_here cells i c = at_put cells i c (λ q x. q ≡ i → Path Cell x c) i (λ 
 -- A property of the changed member and of the others holds of each member.
 pub each_after : {A : Type 0} (l : List A) (i : ℕ) (a : A) (F : ℕ → A → Type 0) → F i a
     → ((j : ℕ) (b : A) → j ≢ i → get_elem? l j ≡ some b → F j b) → (j : ℕ) (b : A) → get_elem? (set l i a) j ≡ some b → F j b
-each_after {A} l i a F here other j b e = ⊎_elim (λ (t : (j ≡ i) × (a ≡ b)). subst (λ (y : ℕ × A). F y.0 y.1) (λ k. (sym t.0 k, t.1 k)) here)
-    (λ (t : (j ≢ i) × (get_elem? l j ≡ some b)). other j b t.0 t.1) (at_set l i j a b e)
+each_after {A} l i a F here other j b e = grind (arith, at_set)
 
 -- The number grows by at most one, from a value of this turn of the ring.
 abbrev pub Next : (n i a a' : ℕ) → Type 0
 Next n i a a' = (a' ≡ a) ⊎ ((a' ≡ suc a) × (a % n ≡ i))
 
 next : (n i a a' q : ℕ) → Next n i a a' → q % n ≢ i → (a ≤ a') × (a ≤ q → a' ≤ q) × (q ≡ a → q ≡ a')
-next n i a a' q (inl same) other = (omega arith, (λ le. omega arith), λ is. is ∙ sym same)
-next n i a a' q (inr t) other = let e = t.0 in let ne : q ≢ a = λ is. other (ap (λ (z : ℕ). z % n) is ∙ t.1) in
-    (omega arith, (λ le. omega arith), λ is. absurd (ne is))
+next n i a a' q h other = grind arith
 
 abbrev pub St : Type 0 → Type 0
 St T = State (Option (ℕ × T)) (View T)
@@ -46,7 +43,7 @@ abbrev pub Longer : {X : Type 0} → List X → List X → Type 0
 Longer {X} log log' = (p : ℕ) (x : X) → get_elem? log p ≡ some x → get_elem? log' p ≡ some x
 
 pub placed : {A : Type 0} (l : List A) (j : ℕ) (a : A) → get_elem? l j ≡ some a → j < length l
-placed [] j a e = absurd (maybe.some-ne-none a (sym e))
+placed [] j a e = grind arith
 placed (y ∷ ys) zero a e = omega arith
 placed (y ∷ ys) (suc j) a e = let z = placed ys j a e in omega arith
 
@@ -55,23 +52,21 @@ module _ {T : Type 0} where
       → (length log ≤ p → length log' ≤ p) → (t ≤ p → t' ≤ p) → (p ≡ t → p ≡ t')
       → Longer log log' → get_elem? homes' j ≡ get_elem? homes j → (ph : Phase) → InPhase t log homes j p ph → InPhase t' log' homes' j p ph
   phase_stays t t' log log' homes homes' j p a c d f more same free k = (c k.0, same ∙ k.1)
-  phase_stays t t' log log' homes homes' j p a c d f more same (writing o) k = let l = k.1 in (d k.0, omega arith)
+  phase_stays t t' log log' homes homes' j p a c d f more same (writing o) k = grind arith
   phase_stays t t' log log' homes homes' j p a c d f more same full k = let l = k.1 in (d k.0, omega arith, (k.2.0, more p k.2.0 k.2.1, same ∙ k.2.2))
-  phase_stays t t' log log' homes homes' j p a c d f more same (reading o) k = let l = k.1 in (f k.0, omega arith, k.2)
+  phase_stays t t' log log' homes homes' j p a c d f more same (reading o) k = grind arith
 
   cell_stays : (n i t t' : ℕ) (log log' : List (ℕ × T)) (words words' : List ℕ) (homes homes' : Homes T) (j : ℕ) (c : Cell) → j ≢ i
       → Next n i t t' → Next n i (length log) (length log') → Longer log log' → get_or words' (j + 2) 0 ≡ get_or words (j + 2) 0
       → get_elem? homes' j ≡ get_elem? homes j → CellOk n t log words homes j c → CellOk n t' log' words' homes' j c
   cell_stays n i t t' log log' words words' homes homes' j c other freed long more word home k =
-      let apart : (q : ℕ) → q % n ≡ j → q % n ≢ i = λ q lies is. other (sym lies ∙ is) in
-      let moves = next n i t t' c.0 freed (apart c.0 k.lies) in
-      let adds = next n i _ _ c.0 long (apart c.0 k.lies) in
+      let apart : (q : ℕ) → q % n ≡ j → q % n ≢ i = grind arith in
       record {
         shows = word ∙ k.shows;
         lies = k.lies;
-        early = (let early = k.early in omega arith);
+        early = grind arith;
         late = (next n i _ _ (c.0 + n) long (apart (c.0 + n) (add-mod_right c.0 n ∙ k.lies))).1 k.late;
-        phase = phase_stays t t' log log' homes homes' j c.0 adds.0 adds.1 moves.1 moves.2 more home c.1 k.phase;
+        phase = grind (arith, phase_stays);
       }
 
   has_stays : (log log' : List (ℕ × T)) (c c' : Cell) (ph : Phase) (at : ℕ) (item : Option (ℕ × T)) → Longer log log' → Path Cell c' c
@@ -82,9 +77,9 @@ module _ {T : Type 0} where
   knows_stays : (t t' : ℕ) (log log' : List (ℕ × T)) (j : ℕ) (c c' : Cell) (at : ℕ) (item : Option (ℕ × T)) → Longer log log'
       → (holder c.1 ≡ suc j → Path Cell c' c) → (Path Cell c (at, reading j) → t' ≡ t)
       → (st : Stage) → Knows t log j c at item st → Knows t' log' j c' at item st
-  knows_stays t t' log log' j c c' at item more same keep Drew k = has_stays log log' c c' (writing j) at item more (same (ap (λ (z : Cell). holder z.1) k.0)) k
+  knows_stays t t' log log' j c c' at item more same keep Drew k = has_stays log log' c c' (writing j) at item more (grind arith) k
   knows_stays t t' log log' j c c' at item more same keep Holding k =
-      (has_stays log log' c c' (reading j) at item more (same (ap (λ (z : Cell). holder z.1) k.0.0)) k.0, k.1 ∙ sym (keep k.0.0))
+      (has_stays log log' c c' (reading j) at item more (grind arith) k.0, k.1 ∙ sym (keep k.0.0))
   knows_stays t t' log log' j c c' at item more same keep st k = tt
 
   module _ (s : St T) (r : Queue s) where
@@ -92,30 +87,27 @@ module _ {T : Type 0} where
     n = length s.homes
 
     pub knows : (id : ℕ) (v : View T) (st : Stage) → get_elem? s.views id ≡ some v → v.stage ≡ st → Knows r.freed r.log id (r.cells (v.at % n)) v.at v.item st
-    knows id v st at e = subst (Knows r.freed r.log id (r.cells (v.at % n)) v.at v.item) e (r.each_hand id v at)
+    knows id v st at e = grind arith
 
     pub fits : (id : ℕ) (v : View T) (ro : Role) → get_elem? s.views id ≡ some v → v.role ≡ ro → Fits (length s.views) r.freed r.log id v ro
-    fits id v ro at e = subst (Fits (length s.views) r.freed r.log id v) e (r.each_seat id v at)
+    fits id v ro at e = grind arith
 
     -- A seat that isn't busy holds no cell.
     pub holds_none : (id : ℕ) (v : View T) → get_elem? s.views id ≡ some v → (Busy v.stage → ⊥) → (i : ℕ) → i < n → holder (r.cells i).1 ≢ suc id
     holds_none id v at calm i near e = let b = r.busy i id near e in
-        calm (subst (λ (z : View T). Busy z.stage) (maybe.some-injective b.0 v (sym b.1 ∙ at)) b.2)
+        grind arith
 
     -- A seat holds no cell but that of its place.
     pub holds_one : (id : ℕ) (v : View T) → get_elem? s.views id ≡ some v → (i : ℕ) → i < n → i ≢ v.at % n → holder (r.cells i).1 ≢ suc id
-    holds_one id v at i near other e = let b = r.busy i id near e in let is : b.0 ≡ v = maybe.some-injective b.0 v (sym b.1 ∙ at) in
-        other (sym (r.each_cell i near).lies ∙ ap (λ (z : ℕ). z % n) (sym b.3 ∙ ap (λ (z : View T). z.at) is))
+    holds_one id v at i near other e = let b = r.busy i id near e in grind arith
 
     pub gone_stays : (id j : ℕ) (v w : View T) → get_elem? s.views id ≡ some v → w.role ≡ v.role → Gone s.views j → Gone (set s.views id w) j
     gone_stays id j v w at same gone d e = each_after s.views id w (λ q y. q ≡ j → y.role ≡ Spent)
-        (λ is. same ∙ gone v (ap (get_elem? s.views) (sym is) ∙ at))
-        (λ q y _ e' is. gone y (ap (get_elem? s.views) (sym is) ∙ e')) j d e refl
+        (grind arith) (grind arith) j d e refl
 
     whole_stays : (id : ℕ) (v w : View T) (log' : List (ℕ × T)) → get_elem? s.views id ≡ some v → w.role ≡ v.role → (o : Option (List (ℕ × T)))
         → Whole log' s.views o → Whole log' (set s.views id w) o
-    whole_stays id v w log' at same None k = tt
-    whole_stays id v w log' at same (Some l) k = (k.0, λ j. gone_stays id (suc j) v w at same (k.1 j))
+    whole_stays id v w log' at same o k = grind (arith, gone_stays)
 
     pub roles_stay : (closed' : Bool) (log' : List (ℕ × T)) (id : ℕ) (v w u : View T) → get_elem? s.views id ≡ some v → w.role ≡ v.role
         → Collects closed' log' s.views u → Collects closed' log' (set s.views id w) u
@@ -134,8 +126,7 @@ module _ {T : Type 0} where
     gathers_stay closed' log' id v w at same t0 j0 a0 goes u e = each_after s.views id w (λ q y. q ≡ 0 → Collects closed' log' (set s.views id w) y)
         (λ is. let at0 = ap (get_elem? s.views) (sym is) ∙ at in
         let g = roles_stay closed' log' id v w v at same (goes v at0 (r.gathered v at0)) in
-        subst (λ (z : Option ℕ × List (ℕ × List (ℕ × T)) × Option (List (ℕ × T))). Totals closed' (length log') z.0 × Joined log' (set s.views id w) z.1
-        × Whole log' (set s.views id w) z.2) (λ k. (sym t0 k, sym j0 k, sym a0 k)) g)
+        grind arith)
         (λ q y _ e' is. let at0 = ap (get_elem? s.views) (sym is) ∙ e' in roles_stay closed' log' id v w y at same (goes y at0 (r.gathered y at0))) 0 u e refl
 
     pub moved : (k x i id freed' : ℕ) (log' : List (ℕ × T)) (c' : Cell) (home : maybe.Option (Option (ℕ × T))) (v w : View T)
@@ -167,7 +158,7 @@ module _ {T : Type 0} where
             cells = cells';
             some_slot = omega arith;
             few_slots = omega arith;
-            wide = length-set s.words k x ∙ (r.wide ∙ ap (λ (m : ℕ). m + 2) (sym as_long));
+            wide = grind (arith, length-set);
             behind = behind;
             tail_is = tail;
             none_late = r.none_late;
@@ -177,7 +168,7 @@ module _ {T : Type 0} where
           };
           few_seats = omega arith;
           within = omega arith;
-          room_is = room ∙ ap (λ (m : ℕ). 2 ^ 32 + m + freed') (sym as_long);
+          room_is = grind arith;
           counted = counted;
           budgeted = budgeted;
           gathered = gathered;
@@ -186,15 +177,13 @@ module _ {T : Type 0} where
           each_hand = rw as_long (each_after s.views id w (λ j d. Knows freed' log' j (cells' (d.at % n)) d.at d.item d.stage) knew (λ j d not e.
               knows_stays r.freed freed' r.log log' j (r.cells (d.at % n)) (cells' (d.at % n)) d.at d.item more
               (λ held. at_put r.cells i c' (λ q y. q ≡ d.at % n → Path Cell y (r.cells (d.at % n))) (d.at % n)
-              (λ is. absurd (loose j not (ap (λ (q : ℕ). holder (r.cells q).1) is ∙ held))) (λ _ _. refl) refl)
-              (λ is. let ok = r.each_cell (d.at % n) (mod-lt d.at r.some_slot) in
-              let zero_seat : j ≡ 0 = (subst (λ (z : Cell). InPhase r.freed r.log s.homes (d.at % n) z.0 z.1) is ok.phase).2 in
-              keep (λ e'. not (zero_seat ∙ sym e')))
+              (λ is. absurd (loose j not (grind arith))) (λ _ _. refl) refl)
+              (grind (arith, n))
               d.stage (r.each_hand j d e)));
           busy = rw as_long (λ q j l. at_put r.cells i c'
               (λ z y. z ≡ q → holder y.1 ≡ suc j → (u : View T) × (get_elem? views' j ≡ some u) × Busy u.stage × (u.at ≡ y.0)) q
               (λ _ held. let m = mine j held in
-              (w, ap (get_elem? views') m.0 ∙ set_here s.views id w (placed s.views id v at), m.1, m.2))
-              (λ other _ held. let u = r.busy q j l held in (u.0, set_else s.views id j w (λ e. single q l other (held ∙ ap suc e)) ∙ u.1, u.2, u.3))
+              grind (arith, set_here, placed))
+              (λ other _ held. let u = r.busy q j l held in grind (arith, set_else))
               refl);
         }

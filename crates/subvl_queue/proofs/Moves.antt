@@ -1,9 +1,9 @@
 -- Each step keeps the rule.
-use Rattle.subvl_queue.proofs.Names.{◌≡◌, ◌≢◌, ℕ, zero, suc, ◌+◌, ◌-◌, ◌*◌, ◌^◌, ◌%◌, ◌<◌, ◌≤◌, ◌⊎◌, inl, inr, Bool, true, false, List, [], ◌∷◌, ◌++◌, length, take, get_or, set, sym, refl, ap, ◌∙◌, subst, ⊎_elim, arith, mod-lt, suc-ne-zero, length-set, length-append, get_or-set_other, get_or-set_same, zero-add, lt_of_not-le, cases_Bool, none, some, add-mod_right, ℕ_discrete, dec_le, get_elem?, Option, Some, None, IfSome, bit_or, take-append-le, step, Act, keeps, takes, gives, Valid, carried_after, stepped, Allows, set_here, set_else, at_last, at_longer, one_turn, View, Role, Sender, Receiver, Spent, Stage, Idle, Asked, Refused, Drew, Late, Holding, owned, total, hand_of, found_of, wait_of, budget_of, shut_bit, in_hand, in_room, waiting, asks_of, budget, Totals, Gone, Whole, Collects, Busy, Phase, free, writing, full, reading, Cell, holder, shown, InPhase, CellOk, Knows, Fits, Queue, Seated, with_ask, idle, drawn, with_look, holding, freed_of, lated, with_glance, with_total, with_all, reserves, unreserves, claims, publishes, finds_ready, takes_out, finds_closed, closes, gathers}
+use Rattle.subvl_queue.proofs.Names.{◌≡◌, ◌≢◌, ℕ, zero, suc, ◌+◌, ◌-◌, ◌*◌, ◌^◌, ◌%◌, ◌<◌, ◌≤◌, ◌⊎◌, inl, inr, Bool, true, false, List, [], ◌∷◌, ◌++◌, length, get_or, set, sym, refl, ap, ◌∙◌, subst, ⊎_elim, arith, mod-lt, suc-ne-zero, length-set, length-append, get_or-set_other, get_or-set_same, lt_of_not-le, cases_Bool, none, some, add-mod_right, ℕ_discrete, dec_le, get_elem?, Option, Some, None, IfSome, bit_or, take-append-le, step, Act, keeps, takes, gives, Valid, carried_after, stepped, Allows, set_here, set_else, at_last, at_longer, one_turn, View, Role, Sender, Receiver, Stage, Idle, Asked, Refused, Drew, Late, Holding, total, hand_of, found_of, wait_of, shut_bit, in_hand, in_room, waiting, asks_of, budget, Totals, Gone, Whole, Collects, Busy, Phase, free, writing, full, reading, holder, shown, InPhase, CellOk, Knows, Fits, Queue, Seated, with_ask, idle, drawn, with_look, holding, freed_of, lated, with_glance, with_total, with_all, reserves, unreserves, claims, publishes, finds_ready, takes_out, finds_closed, closes, gathers}
 use mathlib.Core.Logic.{dite}
 use mathlib.Core.Option as maybe
 use lib.Seq.{set-get_or}
-use Rattle.subvl_queue.proofs.Totals.{sums, hands_small, rooms_small, total_le, one_less, one_more}
+use Rattle.subvl_queue.proofs.Totals.{sums, hands_small, rooms_small, total_le}
 use Rattle.subvl_queue.proofs.Parts.{owned_mine, owned_other, owned_at, take_next}
 use lib.Bits.{or_shifted_r}
 use Rattle.subvl_queue.proofs.Cells.{St, Homes, put_here, knows, fits, holds_none, holds_one, placed, roles_stay, gathers_stay, moved, each_after}
@@ -12,20 +12,18 @@ pub calm_at : (st st' : Stage) → st ≡ st' → (Busy st' → ⊥) → Busy st
 calm_at st st' e h b = h (subst Busy e b)
 
 totals_open : (closed : Bool) (a b : ℕ) → closed ≡ false → (o : Option ℕ) → Totals closed a o → Totals closed b o
-totals_open closed a b e None k = k
-totals_open closed a b e (Some t) k = absurd (let shut = k.0 in cc)
+totals_open closed a b e o k = grind arith
 
 -- A drawn place is below the total.
 before_total : (closed : Bool) (n p : ℕ) (o : Option ℕ) → p < n → Totals closed n o → IfSome o (λ t. p < t)
-before_total closed n p None below k = tt
-before_total closed n p (Some t) below k = let last = k.1 in omega arith
+before_total closed n p o below k = grind arith
 
 -- The words from the third on are unchanged.
 abbrev Heads : List ℕ → List ℕ → Type 0
 Heads ws ws' = (length ws' ≡ length ws) × ((i : ℕ) → get_or ws' (i + 2) 0 ≡ get_or ws (i + 2) 0)
 
 heads : (ws : List ℕ) (k x : ℕ) → k < 2 → Heads ws (set ws k x)
-heads ws k x near = (length-set ws k x, λ i. get_or-set_other ws k (i + 2) x 0 (λ e. omega arith))
+heads ws k x near = grind (arith, length-set, get_or-set_other)
 
 module _ {T : Type 0} where
   abbrev Goes : St T → ℕ → ℕ → Seated T → (ℕ → Seated T → Type 0) → ℕ → Type 0
@@ -44,21 +42,7 @@ module _ {T : Type 0} where
       → Queue record { words = words'; homes = s.homes; views = set s.views id w }
   quiet s r words' id late' closed' v w at calm kept room tail open' within counted budgeted gathered' fit knew =
       let seats : length (set s.views id w) ≡ length s.views = length-set s.views id w in record {
-        slots = record {
-          log = r.log;
-          freed = r.freed;
-          late = late';
-          closed = closed';
-          cells = r.cells;
-          some_slot = r.some_slot;
-          few_slots = r.few_slots;
-          wide = kept.0 ∙ r.wide;
-          behind = r.behind;
-          tail_is = tail;
-          none_late = open';
-          each_cell = λ i near. let ok = r.each_cell i near in
-              record { shows = kept.1 i ∙ ok.shows; lies = ok.lies; early = ok.early; late = ok.late; phase = ok.phase };
-        };
+        slots = grind arith;
         few_seats = omega arith;
         within = within;
         room_is = room;
@@ -70,7 +54,7 @@ module _ {T : Type 0} where
         each_hand = each_after s.views id w (λ j d. Knows r.freed r.log j (r.cells (d.at % length s.homes)) d.at d.item d.stage) knew
             (λ j d _ e. r.each_hand j d e);
         busy = λ i j near held. let b = r.busy i j near held in
-            (b.0, set_else s.views id j w (λ e. holds_none s r id v at calm i near (held ∙ ap suc e)) ∙ b.1, b.2, b.3);
+            grind (arith, set_else);
       }
 
   -- Such a step of a sender that keeps its own list.
@@ -89,11 +73,9 @@ module _ {T : Type 0} where
       }
   sends s r words' id late' v st st' asks' load glances shut at is was calm kept room tail open' within counted few knew =
       let w : View T = record v { stage = st'; asks = asks'; load = load; glances = glances; shut = shut } in
-      let f = fits s r id v Sender at is in
       let sum = sums s.views id v w st Sender Sender at was is is in
       quiet s r words' id late' r.closed v w at (calm_at _ _ was calm) kept (omega arith) tail open' (omega arith) (omega arith) (omega arith)
-      (gathers_stay s r r.closed r.log id v w at refl refl refl refl (λ _ _ g. g))
-      (subst (Fits (length s.views) r.freed r.log id w) (sym is) (f.0, f.1, few f.2)) knew
+      (gathers_stay s r r.closed r.log id v w at refl refl refl refl (λ _ _ g. g)) (grind arith) knew
 
   -- Such a step of the receiver between its calls.
   receives : (s : St T) (r : Queue s) (words' : List ℕ) (id : ℕ) (closed' : Bool) (v : View T) (looks : ℕ) (found : Bool) (last : Option ℕ)
@@ -114,9 +96,9 @@ module _ {T : Type 0} where
       let sum = sums s.views id v w v.stage v.role v.role at refl refl refl in
       quiet s r words' id r.late closed' v w at (calm_at _ _ was (λ z. z)) kept (omega arith) tail open' (omega arith) (omega arith) (omega arith)
       (λ u e. subst (Collects closed' r.log (set s.views id w)) (maybe.some-injective w u
-      (sym (ap (get_elem? (set s.views id w)) (sym f.0) ∙ set_here s.views id w (placed s.views id v at)) ∙ e))
+      (grind (arith, set_here)))
       (roles_stay s r closed' r.log id v w w at refl (counted, (r.gathered v at0).1, whole)))
-      (subst (Fits (length s.views) r.freed r.log id w) (sym is) f) (r.each_hand id v at)
+      (grind arith) (r.each_hand id v at)
 
   -- A step that only reads a word.
   reads : (s : St T) (k id : ℕ) (w : View T) → Queue record { words = s.words; homes = s.homes; views = set s.views id w }
@@ -140,11 +122,9 @@ module _ {T : Type 0} where
           let x : ℕ = get_or s.words 0 0 in
           let x' : ℕ = (x + (2 ^ 64 - 1)) % 2 ^ 64 in
           let hands = hands_small s.views in
-          let rooms = rooms_small s.views in
-          let less = one_less x (omega arith) small in
           let now = get_or-set_same s.words 0 x' 0 (omega arith) in
           sends s r (set s.words 0 x') id r.late me.0 Idle st (me.0.asks + 1) held me.0.glances me.0.shut at is was (λ z. z)
-          (heads s.words 0 x' (omega arith)) (omega arith) (get_or-set_other s.words 0 1 x' 0 (omega arith) ∙ r.tail_is) r.none_late
+          (heads s.words 0 x' (omega arith)) (omega arith) (grind (arith, get_or-set_other)) r.none_late
           (omega arith) (omega arith) (λ _. omega arith) knew
 
       go : Dec (suc (2 ^ 32) ≤ get_or s.words 0 0)
@@ -168,41 +148,29 @@ module _ {T : Type 0} where
           → Queue (stepped s 0 ((get_or s.words 0 0 + 1) % 2 ^ 64) id me.1 (idle me.0) keeps)
       given st e hand calm =
           let x' : ℕ = (get_or s.words 0 0 + 1) % 2 ^ 64 in
-          let more = one_more (get_or s.words 0 0) (omega arith) in
           let now = get_or-set_same s.words 0 x' 0 (omega arith) in
           sends s r (set s.words 0 x') id r.late me.0 st Idle me.0.asks me.0.load me.0.glances me.0.shut at is e calm
-          (heads s.words 0 x' (omega arith)) (omega arith) (get_or-set_other s.words 0 1 x' 0 (omega arith) ∙ r.tail_is) r.none_late
+          (heads s.words 0 x' (omega arith)) (omega arith) (grind (arith, get_or-set_other)) r.none_late
           (omega arith) (omega arith) (λ z. z) tt
 
   -- The slot of the next place is free.
   is_free : (t m F : ℕ) (log : List (ℕ × T)) (homes : Homes T) (i q : ℕ) → length log ≡ t → F ≤ t → t < F + m → q < F + m → t % m ≡ q % m
       → (ph : Phase) → InPhase F log homes i q ph
       → (ph ≡ free) × (get_elem? homes i ≡ some (some None)) × (t ≡ q)
-  is_free t m F log homes i q long a b c lies free k = let l = k.0 in (refl, k.1, one_turn t q m (omega arith) (omega arith) lies)
-  is_free t m F log homes i q long a b c lies ph k = let l = k.0 in
-      let l' = k.1 in let e = one_turn q t m (omega arith) (omega arith) (sym lies) in absurd (omega arith)
-
-  asks_by_role : (seats freed : ℕ) (log : List (ℕ × T)) (j : ℕ) (v : View T) (ro : Role) → Fits seats freed log j v ro → v.asks ≤ budget_of v.asks v.made ro
-  asks_by_role seats freed log j v Sender f = f.2
-  asks_by_role seats freed log j v Receiver f = omega arith
-  asks_by_role seats freed log j v Spent f = let z = f.0 in omega arith
+  is_free t m F log homes i q long a b c lies free k = grind (arith, one_turn)
+  is_free t m F log homes i q long a b c lies ph k = grind (arith, one_turn)
 
   pub few_drawn : (s : St T) (r : Queue s) → length r.log + r.late + total waiting s.views ≤ 64 * 2 ^ 40
-  few_drawn s r = let a : total asks_of s.views ≤ total budget s.views = total_le asks_of budget s.views
-      (λ j v e. asks_by_role _ _ _ j v v.role (r.each_seat j v e)) in let b = r.budgeted in let c = r.counted in omega arith
+  few_drawn s r = grind (arith, total_le)
 
   -- A message of another port keeps a seat's relation to the log.
   other_port : (seats freed : ℕ) (log : List (ℕ × T)) (x : ℕ × T) (j id port : ℕ) (d : View T) → id ≡ suc port → x.0 ≡ port → freed ≤ length log
       → j ≢ id → (ro : Role) → Fits seats freed log j d ro → Fits seats freed (log ++ x ∷ []) j d ro
-  other_port seats freed log x j id port d here said behind other Sender f =
-      (f.0, f.1 ∙ sym (owned_other d.port 0 log x (λ e. let g : x.0 ≡ d.port = e in let h = f.0 in other (omega arith))), f.2)
-  other_port seats freed log x j id port d here said behind other Receiver f = (f.0, f.1 ∙ sym (take-append-le freed log (x ∷ []) behind), f.2, f.3)
-  other_port seats freed log x j id port d here said behind other Spent f = f
+  other_port seats freed log x j id port d here said behind other ro f = grind (arith, owned_other, take-append-le)
 
   whole_open : (log log' : List (ℕ × T)) (views : List (View T)) (port : ℕ) → (Gone views (suc port) → ⊥) → (o : Option (List (ℕ × T)))
       → Whole log views o → Whole log' views o
-  whole_open log log' views port here None k = tt
-  whole_open log log' views port here (Some l) k = absurd (here (k.1 port))
+  whole_open log log' views port here o k = grind arith
 
   -- An open queue whose sender isn't back has no total, and no joined list of that sender.
   grows : (closed : Bool) (log : List (ℕ × T)) (views : List (View T)) (x : ℕ × T) (port : ℕ) → closed ≡ false → x.0 ≡ port
@@ -224,48 +192,37 @@ module _ {T : Type 0} where
           let y : ℕ = get_or s.words 1 0 in
           let y' : ℕ = (y + 1) % 2 ^ 64 in
           let m : ℕ = length s.homes in let L : ℕ = length r.log in let F : ℕ = r.freed in let i : ℕ = L % m in
-          let none_late = r.none_late shut in
           let bit : shut_bit r.closed ≡ 0 = ap shut_bit shut in
           let bound = few_drawn s r in
           let w = drawn me.0 L x in
           let log' = r.log ++ x ∷ [] in
           let longer = length-append r.log (x ∷ []) in
           let sum = sums s.views id me.0 w Asked Sender Sender at was is is in
-          let more = one_more y (omega arith) in
           let near : i < m = mod-lt L r.some_slot in
           let ok = r.each_cell i near in
           let fr = is_free L m F r.log s.homes i (r.cells i).0 refl r.behind (omega arith) ok.early (sym ok.lies) (r.cells i).1 ok.phase in
           let keep = get_or-set_other s.words 1 0 y' 0 (omega arith) in
-          let now = get_or-set_same s.words 1 y' 0 (omega arith) in
-          let tail : y ≡ L = omega arith in
-          let f = fits s r id me.0 Sender at is in (
+          let now = get_or-set_same s.words 1 y' 0 (omega arith) in (
             w,
             takes i None,
             fr.1,
             moved s r 1 y' i id F log' (L, writing id) none me.0 w at near (omega arith) (omega arith) (omega arith) (omega arith) (omega arith)
                 (gathers_stay s r r.closed log' id me.0 w at refl refl refl refl
                 (λ u at0 g. grows r.closed r.log s.views x me.0.port shut mine
-                (λ gone. let e = sym is ∙ gone me.0 (ap (get_elem? s.views) (sym f.0) ∙ at) in cc) u g))
-                (λ k le. owned_other k 0 r.log x (λ e. let b = placed s.views id me.0 at in omega arith) ∙ r.unmade k le) (omega arith) (inl refl)
+                (grind arith) u g))
+                (grind (arith, owned_other, placed)) (omega arith) (inl refl)
                 (inr (omega arith, refl)) (λ _. refl) (λ z u e. at_longer r.log (x ∷ []) z u e) (λ j _ e. omega arith)
                 record {
-                  shows = get_or-set_other s.words 1 (i + 2) y' 0 (λ e. omega arith) ∙ ok.shows ∙ (λ k. shown m (sym fr.2 k) (fr.0 k));
+                  shows = grind (arith, get_or-set_other);
                   lies = refl;
                   early = omega arith;
                   late = omega arith;
                   phase = (r.behind, omega arith);
                 }
-                (λ j _ e. suc-ne-zero j (sym e ∙ ap holder fr.0)) (λ j e. (omega arith, tt, refl))
-                (λ z near' _. holds_none s r id me.0 at (calm_at _ _ was (λ b. b)) z near')
-                (subst (Fits (length s.views) F log' id w) (sym is) (
-                  f.0,
-                  (ap (λ (l : List (ℕ × T)). l ++ (L, x.1) ∷ []) f.1
-                      ∙ sym (owned_mine me.0.port 0 r.log x mine ∙ ap (λ (k : ℕ). owned me.0.port 0 r.log ++ (k, x.1) ∷ []) (zero-add L))),
-                  f.2,
-                ))
-                (put_here r.cells i (L, writing id), (x, refl, at_last r.log x L refl))
-                (λ j d other e. other_port (length s.views) F r.log x j id me.0.port d f.0 mine r.behind other d.role (r.each_seat j d e)),
-            ((λ _. (x, says, ap (λ (k : ℕ). drawn me.0 k x) (sym tail), (λ k. ((sym tail k) % (wide k), None) ∷ bare k))), λ big. absurd (omega arith)),
+                (λ j _ e. suc-ne-zero j (sym e ∙ ap holder fr.0)) (λ j e. (omega arith, tt, refl)) (grind (arith, holds_none))
+                (grind (arith, owned_mine))
+                (put_here r.cells i (L, writing id), (x, refl, at_last r.log x L refl)) (grind (arith, other_port)),
+            ((λ _. (x, says, grind arith, grind arith)), λ big. absurd (omega arith)),
           )
 
       too_late : r.closed ≡ true → Goes s 1 id me (claims said (step n 1 1 0 none) me) ((get_or s.words 1 0 + 1) % 2 ^ 64)
@@ -274,7 +231,6 @@ module _ {T : Type 0} where
           let y' : ℕ = (y + 1) % 2 ^ 64 in
           let bit : shut_bit r.closed ≡ 2 ^ 63 = ap shut_bit shut in
           let bound = few_drawn s r in
-          let more = one_more y (omega arith) in
           let keep = get_or-set_other s.words 1 0 y' 0 (omega arith) in
           let now = get_or-set_same s.words 1 y' 0 (omega arith) in (
             lated me.0,
@@ -282,7 +238,7 @@ module _ {T : Type 0} where
             tt,
             sends s r (set s.words 1 y') id (suc r.late) me.0 Asked Late me.0.asks me.0.load me.0.glances true at is was (λ z. z)
                 (heads s.words 1 y' (omega arith)) (omega arith) (omega arith) (λ e. absurd (cc)) (omega arith) (omega arith) (λ z. z) tt,
-            ((λ lt. absurd (omega arith)), λ _. (refl, bare)),
+            grind arith,
           )
 
   pub publishes_ok : (n id : ℕ) (me : Seated T) (k new : ℕ) → me.0.role ≡ Sender → me.0.stage ≡ Drew → me.1 ≡ (me.0.at % n, me.0.item) ∷ []
@@ -295,7 +251,6 @@ module _ {T : Type 0} where
       let mine = kn.0 in
       let ok = subst (CellOk (length s.homes) F r.log s.words s.homes i) mine (r.each_cell i near) in
       let slot : p % n ≡ i = ap (λ (z : ℕ). p % z) (sym wide) in
-      let is_k : k ≡ i + 2 = word ∙ ap (λ (z : ℕ). z + 2) slot in
       let w = idle me.0 in
       let sum = sums s.views id me.0 w Drew Sender Sender at was is is in
       let keep0 = get_or-set_other s.words k 0 new 0 (λ e. omega arith) in
@@ -309,20 +264,18 @@ module _ {T : Type 0} where
             (omega arith) (gathers_stay s r r.closed r.log id me.0 w at refl refl refl refl (λ _ _ g. g)) r.unmade r.behind (inl refl) (inl refl)
             (λ _. refl) (λ _ _ e. e) (λ j other e. other (omega arith))
             record {
-              shows = ap (λ (j : ℕ). get_or (set s.words k new) j 0) (sym is_k) ∙ get_or-set_same s.words k new 0 (omega arith)
-                  ∙ (let g : new ≡ suc p = omega arith in g);
+              shows = grind (arith, get_or-set_same);
               lies = refl;
               early = ok.early;
               late = ok.late;
               phase = (
                 ok.phase.0,
                 ok.phase.1,
-                (kn.1.0, kn.1.2, set_here s.homes i (some me.0.item) near ∙ ap (λ (z : Option (ℕ × T)). some (some z)) kn.1.1),
+                (kn.1.0, kn.1.2, grind (arith, set_here)),
               );
             }
-            (λ j other e. other (let e' = sym (ap (λ (c : Cell). holder c.1) mine) ∙ e in omega arith)) (λ j e. absurd (suc-ne-zero j (sym e)))
-            (λ z near' other. holds_one s r id me.0 at z near' other)
-            (subst (Fits (length s.views) F r.log id w) (sym is) (fits s r id me.0 Sender at is)) tt (λ j d other e. r.each_seat j d e),
+            (grind arith) (λ j e. absurd (suc-ne-zero j (sym e))) (grind (arith, holds_one))
+            (grind arith) tt (λ j d other e. r.each_seat j d e),
         (refl, refl),
       )
 
@@ -330,30 +283,28 @@ module _ {T : Type 0} where
   is_ready : (m F : ℕ) (log : List (ℕ × T)) (homes : Homes T) (i q : ℕ) → 0 < m → q < F + m → (ph : Phase) → (ph ≡ reading 0 → ⊥)
       → shown m q ph ≡ suc F → InPhase F log homes i q ph
       → (ph ≡ full) × (q ≡ F) × (q < length log) × ((x : ℕ × T) × (get_elem? log q ≡ some x) × (get_elem? homes i ≡ some (some (Some x))))
-  is_ready m F log homes i q pos early free idle_cell e k = let e' : suc q - m ≡ suc F = e in absurd (omega arith)
-  is_ready m F log homes i q pos early (writing j) idle_cell e k = let e' : suc q - m ≡ suc F = e in absurd (omega arith)
-  is_ready m F log homes i q pos early full idle_cell e k = let e' : suc q ≡ suc F = e in (refl, omega arith, k.1, k.2)
-  is_ready m F log homes i q pos early (reading j) idle_cell e k = absurd (idle_cell (ap reading k.2))
+  is_ready m F log homes i q pos early free idle_cell e k = grind arith
+  is_ready m F log homes i q pos early (writing j) idle_cell e k = grind arith
+  is_ready m F log homes i q pos early full idle_cell e k = grind arith
+  is_ready m F log homes i q pos early (reading j) idle_cell e k = grind arith
 
   if_whole : (log : List (ℕ × T)) (views : List (View T)) (F : List (ℕ × T) → Type 0) → (o : Option (List (ℕ × T))) → Whole log views o
       → (((j : ℕ) → Gone views (suc j)) → F log) → IfSome o F
-  if_whole log views F None k h = tt
-  if_whole log views F (Some l) k h = subst F (sym k.0) (h k.1)
+  if_whole log views F o k h = grind arith
 
   -- If no seat holds a slot, a drawn next place is ready.
   surely : (m F y : ℕ) (log : List (ℕ × T)) (homes : Homes T) (i q : ℕ) → F % m ≡ q % m → q < F + m → F < length log → (ph : Phase)
       → ((j : ℕ) → holder ph ≡ suc j → ⊥) → y ≡ shown m q ph → InPhase F log homes i q ph → y ≡ suc F
-  surely m F y log homes i q lies early below free calm e k = let l = k.0 in let t = one_turn F q m (omega arith) (omega arith) lies in absurd (omega arith)
+  surely m F y log homes i q lies early below free calm e k = grind (arith, one_turn)
   surely m F y log homes i q lies early below (writing j) calm e k = absurd (calm j refl)
-  surely m F y log homes i q lies early below full calm e k = let l = k.0 in
-      let t = one_turn F q m (omega arith) (omega arith) lies in let e' : y ≡ suc q = e in omega arith
+  surely m F y log homes i q lies early below full calm e k = grind (arith, one_turn)
   surely m F y log homes i q lies early below (reading j) calm e k = absurd (calm j refl)
 
   none_busy : (s : St T) (r : Queue s) (v : View T) → get_elem? s.views 0 ≡ some v → (Busy v.stage → ⊥) → ((j : ℕ) → Gone s.views (suc j)) → (i j : ℕ)
       → i < length s.homes → holder (r.cells i).1 ≡ suc j → ⊥
   none_busy s r v at calm gone i zero near held = holds_none s r 0 v at calm i near held
   none_busy s r v at calm gone i (suc j) near held = let b = r.busy i (suc j) near held in
-      calm_at b.0.stage Idle (fits s r (suc j) b.0 Spent b.1 (gone j b.0 b.1)).1 (λ z. z) b.2
+      grind (arith, fits)
 
   pub finds_ready_ok : (n id : ℕ) (me : Seated T) (k p : ℕ) → me.0.role ≡ Receiver → me.0.stage ≡ Idle → me.1 ≡ [] → p ≡ length me.0.taken → k ≡ p % n + 2
       → Allows Queue n id me k (λ x. x) (finds_ready p (step n k 0 0 none) me)
@@ -363,11 +314,10 @@ module _ {T : Type 0} where
       let f = fits s r id me.0 Receiver at is in
       let pF : p ≡ F = count ∙ f.2 in
       let slot : p % n ≡ i = ap (λ (z : ℕ). p % z) (sym wide) in
-      let is_k : k ≡ i + 2 = word ∙ ap (λ (z : ℕ). z + 2) slot in
       let ok = r.each_cell i near in
       let q : ℕ = (r.cells i).0 in
       let y : ℕ = get_or s.words k 0 in
-      let shows : y ≡ shown m q (r.cells i).1 = ap (λ (j : ℕ). get_or s.words j 0) is_k ∙ ok.shows in
+      let shows : y ≡ shown m q (r.cells i).1 = grind arith in
       let calm = calm_at me.0.stage Idle was (λ b. b) in
       let at0 = ap (get_elem? s.views) (sym f.0) ∙ at in
       let gath = r.gathered me.0 at0 in
@@ -380,8 +330,8 @@ module _ {T : Type 0} where
       let keep0 = get_or-set_other s.words k 0 y 0 (λ e. omega arith) in
       let keep1 = get_or-set_other s.words k 1 y 0 (λ e. omega arith) in
       let bound = few_drawn s r in
-      let below : p < L = omega (arith, rd.1, rd.2) in
-      let logged : get_elem? r.log p ≡ some x = ap (get_elem? r.log) (pF ∙ sym rd.1) ∙ rd.3.1 in (
+      let below : p < L = omega (arith, rd.2) in
+      let logged : get_elem? r.log p ≡ some x = grind arith in (
         w,
         takes i (Some x),
         rd.3.2,
@@ -389,14 +339,14 @@ module _ {T : Type 0} where
             (gathers_stay s r r.closed r.log id me.0 w at refl refl refl refl (λ _ _ g. g)) r.unmade r.behind (inl refl) (inl refl) (λ _. refl)
             (λ _ _ e. e) (λ j other e. other (omega arith))
             record {
-              shows = ap (λ (j : ℕ). get_or (set s.words k y) j 0) (sym is_k) ∙ get_or-set_same s.words k y 0 (omega arith) ∙ hit;
+              shows = grind (arith, get_or-set_same);
               lies = refl;
               early = omega arith;
               late = omega arith;
               phase = (pF, below, f.0);
             }
-            (λ j _ e. suc-ne-zero j (sym e ∙ ap holder rd.0)) (λ j e. (omega arith, tt, refl)) (λ z near' _. holds_none s r id me.0 at calm z near')
-            (subst (Fits (length s.views) F r.log id w) (sym is) f) ((put_here r.cells i (p, reading id), (x, refl, logged)), pF)
+            (λ j _ e. suc-ne-zero j (sym e ∙ ap holder rd.0)) (λ j e. (omega arith, tt, refl)) (grind (arith, holds_none))
+            (grind arith) ((put_here r.cells i (p, reading id), (x, refl, logged)), pF)
             (λ j d other e. r.each_seat j d e),
         (
           (λ _. (
@@ -404,12 +354,12 @@ module _ {T : Type 0} where
             (
               record {
                 few = omega arith;
-                few_ports = omega (arith, r.few_seats, f.3);
+                few_ports = omega arith;
                 port = lt_of_not-le (λ le. owned_at x.0 0 r.log p x logged refl (r.unmade x.0 (omega arith)));
                 below = before_total r.closed L p me.0.total below gath.0;
-                listed = if_whole r.log s.views (λ l. (p < length l) × (get_elem? l p ≡ some x)) me.0.all gath.2 (λ _. (below, logged));
+                listed = grind arith;
               },
-              λ z. (w, (p % wide z, Some x) ∷ bare z),
+              grind arith,
             ),
           )),
           λ miss. absurd (miss hit),
@@ -424,9 +374,9 @@ module _ {T : Type 0} where
         (
           (λ hit. absurd (miss hit)),
           λ _. (
-            (λ z. (with_look me.0 false, bare z)),
+            grind arith,
             if_whole r.log s.views (λ l. length l ≤ p) me.0.all gath.2 (λ gone. let past = lt_of_not-le (λ (below : suc p ≤ L).
-                miss (surely m F y r.log s.homes i q (ap (λ (z : ℕ). z % m) (sym pF) ∙ sym ok.lies) ok.early (omega arith) (r.cells i).1
+                miss (surely m F y r.log s.homes i q (grind arith) ok.early (omega arith) (r.cells i).1
                 (λ j e. none_busy s r me.0 at0 calm gone i j near e) shows ok.phase ∙ ap suc (sym pF))) in omega arith),
           ),
         ),
@@ -440,40 +390,32 @@ module _ {T : Type 0} where
       let kn = knows s r id me.0 Holding at was in
       let mine = kn.0.0 in
       let x = kn.0.1.0 in
-      let pF : p ≡ F = kn.1 in
       let ok = subst (CellOk m F r.log s.words s.homes i) mine (r.each_cell i near) in
-      let slot : p % n ≡ i = ap (λ (z : ℕ). p % z) (sym wide) in
       let y : ℕ = get_or s.words 0 0 in
       let y' : ℕ = (y + 1) % 2 ^ 64 in
-      let hands = hands_small s.views in
-      let more = one_more y (omega arith) in
       let f = fits s r id me.0 Receiver at is in
       let w = freed_of me.0 x in
       let sum = sums s.views id me.0 w Holding Receiver Receiver at was is is in
       let now = get_or-set_same s.words 0 y' 0 (omega arith) in
-      let logged : get_elem? r.log F ≡ some x = ap (get_elem? r.log) (sym pF) ∙ kn.0.1.2 in
       let count = length-append me.0.taken (x ∷ []) in
       subst (λ (cs : List (ℕ × Option (ℕ × T))). Goes s 0 id (me.0, cs) (takes_out (step n 0 1 0 none) (me.0, cs)) y') {x = (i, None) ∷ []}
-      (sym (has ∙ ap (λ (z : ℕ). (z, None) ∷ []) slot)) (
+      (grind arith) (
         w,
         gives,
         tt,
         moved s r 0 y' i id (suc F) r.log (p + m, free) (some None) me.0 w at near (omega arith)
-            (get_or-set_other s.words 0 1 y' 0 (omega arith) ∙ r.tail_is) (omega arith) (omega arith) (omega arith)
+            (grind (arith, get_or-set_other)) (omega arith) (omega arith) (omega arith)
             (gathers_stay s r r.closed r.log id me.0 w at refl refl refl refl (λ _ _ g. g)) r.unmade (omega arith)
-            (inr (refl, ap (λ (z : ℕ). z % m) (sym pF))) (inl refl) (λ ne. absurd (ne f.0)) (λ _ _ e. e) (λ j _ e. omega arith)
+            (grind arith) (inl refl) (λ ne. absurd (ne f.0)) (λ _ _ e. e) (λ j _ e. omega arith)
             record {
-              shows = get_or-set_other s.words 0 (i + 2) y' 0 (λ e. omega arith) ∙ ok.shows ∙ (let g : suc p ≡ suc (p + m) - m = omega arith in g);
+              shows = grind (arith, get_or-set_other);
               lies = add-mod_right p m;
               early = omega arith;
               late = omega arith;
-              phase = (omega arith, set_here s.homes i (some None) near);
+              phase = grind (arith, set_here);
             }
-            (λ j other e. other (let e' = sym (ap (λ (c : Cell). holder c.1) mine) ∙ e in omega arith)) (λ j e. absurd (suc-ne-zero j (sym e)))
-            (λ z near' other. holds_one s r id me.0 at z near' other)
-            (subst (Fits (length s.views) (suc F) r.log id w) (sym is)
-            (f.0, ap (λ (l : List (ℕ × T)). l ++ x ∷ []) f.1 ∙ take_next r.log F x logged, omega arith, f.3)) tt
-            (λ j d other e. later (length s.views) r.log j d (λ z. other (z ∙ sym f.0)) d.role (r.each_seat j d e)),
+            (grind arith) (λ j e. absurd (suc-ne-zero j (sym e))) (grind (arith, holds_one)) (grind (arith, take_next)) tt
+            (grind arith),
         (refl, (x, kn.0.1.1, refl)),
       )
     where
@@ -491,14 +433,13 @@ module _ {T : Type 0} where
           refl (calm_at _ _ was (λ z. z)) (refl, λ _. refl) refl r.tail_is r.none_late (omega arith) (omega arith) (λ z. z) (r.each_hand id me.0 at))
 
       go : Dec (2 ^ 63 ≤ get_or s.words 1 0) → Goes s 1 id me (finds_closed (step n 1 0 0 none) me) (get_or s.words 1 0)
-      go (yes d) = (with_glance me.0 true, keeps, tt, went true, (refl, (λ lt. absurd (omega arith)), λ _. refl))
-      go (no d) = (with_glance me.0 false, keeps, tt, went false, (refl, (λ _. refl), λ ge. absurd (d ge)))
+      go (yes d) = (with_glance me.0 true, keeps, tt, went true, grind arith)
+      go (no d) = (with_glance me.0 false, keeps, tt, went false, grind arith)
 
   -- The tail of an open queue is the length of the log.
   open_tail : (s : St T) (r : Queue s) (o : Option ℕ) → o ≡ None → Totals r.closed (length r.log) o
       → (shut_bit r.closed ≡ 0) × (r.late ≡ 0) × (get_or s.words 1 0 ≡ length r.log)
-  open_tail s r o none' k = let shut : r.closed ≡ false = subst (Totals r.closed (length r.log)) none' k in
-      let bit : shut_bit r.closed ≡ 0 = ap shut_bit shut in let late = r.none_late shut in (bit, late, omega arith)
+  open_tail s r o none' k = grind arith
 
   -- The first close.
   pub closes_ok : (n id : ℕ) (me : Seated T) → me.0.role ≡ Receiver → me.0.stage ≡ Idle → me.0.total ≡ None
@@ -506,18 +447,17 @@ module _ {T : Type 0} where
   closes_ok n id me is was none' s r wide at small =
       let y : ℕ = get_or s.words 1 0 in
       let y' : ℕ = bit_or y (2 ^ 63) in
-      let f = fits s r id me.0 Receiver at is in
-      let g = r.gathered me.0 (ap (get_elem? s.views) (sym f.0) ∙ at) in
+      let g = r.gathered me.0 (grind arith) in
       let open' = open_tail s r me.0.total none' g.0 in
       let bound = few_drawn s r in
-      let more = or_shifted_r 1 63 y (let b : y < 2 ^ 63 = omega arith in b) in
+      let more = or_shifted_r 1 63 y (grind arith) in
       let now = get_or-set_same s.words 1 y' 0 (omega arith) in (
         with_total me.0 y,
         keeps,
         tt,
         receives s r (set s.words 1 y') id true me.0 me.0.looks me.0.found (Some y) me.0.all at is was (heads s.words 1 y' (omega arith))
             (get_or-set_other s.words 1 0 y' 0 (omega arith)) (omega arith) (λ e. absurd (cc)) (refl, open'.2) g.2,
-        (refl, omega arith, omega arith, refl),
+        grind arith,
       )
 
   -- Once every sender has joined, the receiver has the log itself.
@@ -526,7 +466,7 @@ module _ {T : Type 0} where
       → Allows Queue n id me 1 (λ x. x) (gathers (step n 1 0 0 none) me)
   gathers_ok n id me is was every s r wide at small =
       let f = fits s r id me.0 Receiver at is in
-      let g = r.gathered me.0 (ap (get_elem? s.views) (sym f.0) ∙ at) in
+      let g = r.gathered me.0 (grind arith) in
       let gone : (j : ℕ) → Gone s.views (suc j) = λ j d e. let b = placed s.views (suc j) d e in
       let x = every j (omega arith) in (g.1 x.0 j x.1 x.2).1 d e in
       let bound = few_drawn s r in (
@@ -535,21 +475,5 @@ module _ {T : Type 0} where
         tt,
         reads s 1 id (with_all me.0 r.log) (receives s r s.words id r.closed me.0 me.0.looks me.0.found me.0.total (Some r.log) at is was
             (refl, λ _. refl) refl r.tail_is r.none_late g.0 (refl, gone)),
-        (
-          refl,
-          (
-            r.log,
-            refl,
-            record {
-              begins = f.1 ∙ ap (λ (k : ℕ). take k r.log) (sym f.2);
-              behind = omega arith;
-              within = omega arith;
-              few = omega arith;
-              parts = λ i k l e. (g.1 i k l e).0;
-              no_more = λ k le. r.unmade k (omega arith);
-              total_is = λ t e. (let known : Totals r.closed (length r.log) (Some t) = subst (Totals r.closed (length r.log)) e g.0 in known.1);
-            },
-            λ none'. (open_tail s r me.0.total none' g.0).2,
-          ),
-        ),
+        grind arith,
       )

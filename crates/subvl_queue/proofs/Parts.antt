@@ -1,18 +1,15 @@
 -- The messages of one port in a list, and their places.
-use Rattle.subvl_queue.proofs.Names.{◌≡◌, ◌≢◌, ℕ, zero, suc, ◌+◌, ◌-◌, ◌==◌, ◌<◌, ◌≤◌, if◌then◌else◌, List, [], ◌∷◌, ◌++◌, length, map, take, drop, get_or, Bool, true, false, eqb, cond, sym, refl, ap, ◌∙◌, subst, arith, eq-eqb, ne_eqb, lt_of_not-le, some, some-injective, some-ne-none, ℕ_discrete, get_elem?, eqb-true, All-cons, All-nil, Message, items_of, own_of, places_of, IsItem, AreItems, part_of, owned, StandAt, TellsLeft}
+use Rattle.subvl_queue.proofs.Names.{◌≡◌, ◌≢◌, ℕ, zero, suc, ◌+◌, ◌-◌, ◌==◌, ◌<◌, ◌≤◌, if◌then◌else◌, List, [], ◌∷◌, ◌++◌, length, map, take, drop, get_or, Bool, true, eqb, cond, sym, refl, ap, ◌∙◌, subst, arith, eq-eqb, ne_eqb, lt_of_not-le, some, some-injective, some-ne-none, ℕ_discrete, get_elem?, eqb-true, All-cons, All-nil, Message, items_of, own_of, places_of, IsItem, AreItems, part_of, owned, StandAt, TellsLeft}
 
 cond_append : {A : Type 0} (b : Bool) (x : A) (l r : List A) → cond b (x ∷ (l ++ r)) (l ++ r) ≡ cond b (x ∷ l) l ++ r
-cond_append true x l r = refl
-cond_append false x l r = refl
+cond_append b x l r = grind arith
 
 map_cond : {A B : Type 0} (f : A → B) (b : Bool) (x : A) (l : List A) → map f (cond b (x ∷ l) l) ≡ cond b (f x ∷ map f l) (map f l)
-map_cond f true x l = refl
-map_cond f false x l = refl
+map_cond f b x l = grind arith
 
 module _ {T : Type 0} where
   pub owned_mine : (k n : ℕ) (l : List (ℕ × T)) (x : ℕ × T) → x.0 ≡ k → owned k n (l ++ x ∷ []) ≡ owned k n l ++ (n + length l, x.1) ∷ []
-  owned_mine k n [] x e =
-      ap (λ (b : Bool). cond b ((n, x.1) ∷ []) []) (eq-eqb x.0 k e) ∙ ap (λ (m : ℕ). (m, x.1) ∷ []) (let z : n ≡ n + 0 = omega arith in z)
+  owned_mine k n [] x e = grind arith
   owned_mine k n (y ∷ l) x e =
       let z : suc n + length l ≡ n + length (y ∷ l) = omega arith in
       ap (λ (zs : List (ℕ × T)). cond (eqb y.0 k) ((n, y.1) ∷ zs) zs)
@@ -20,7 +17,7 @@ module _ {T : Type 0} where
       ∙ cond_append (eqb y.0 k) (n, y.1) (owned k (suc n) l) ((n + length (y ∷ l), x.1) ∷ [])
 
   pub owned_other : (k n : ℕ) (l : List (ℕ × T)) (x : ℕ × T) → x.0 ≢ k → owned k n (l ++ x ∷ []) ≡ owned k n l
-  owned_other k n [] x e = ap (λ (b : Bool). cond b ((n, x.1) ∷ []) []) (ne_eqb x.0 k e)
+  owned_other k n [] x e = grind arith
   owned_other k n (y ∷ l) x e = ap (λ (zs : List (ℕ × T)). cond (eqb y.0 k) ((n, y.1) ∷ zs) zs) (owned_other k (suc n) l x e)
 
   -- If the port has no message, neither the first nor one of the rest is the port's.
@@ -34,7 +31,7 @@ module _ {T : Type 0} where
   -- A message in the list is in the part of its port.
   pub owned_at : (k n : ℕ) (l : List (ℕ × T)) (i : ℕ) (x : ℕ × T) → get_elem? l i ≡ some x → x.0 ≡ k → owned k n l ≡ [] → ⊥
   owned_at k n [] i x at is none' = some-ne-none x (sym at)
-  owned_at k n (y ∷ l) zero x at is none' = (rest_none k n y l none').0 (ap (λ (z : ℕ × T). z.0) (some-injective y x at) ∙ is)
+  owned_at k n (y ∷ l) zero x at is none' = grind arith
   owned_at k n (y ∷ l) (suc i) x at is none' = owned_at k (suc n) l i x at is (rest_none k n y l none').1
 
 pub take_next : {A : Type 0} (l : List A) (i : ℕ) (a : A) → get_elem? l i ≡ some a → take i l ++ a ∷ [] ≡ take (suc i) l
@@ -69,7 +66,7 @@ record StandFrom (n : ℕ) (list : List (ℕ × List ℕ)) (port : ℕ) (own : L
 
 next_at : (n p : ℕ) (item : ℕ × List ℕ) (list : List (ℕ × List ℕ)) → n < p
     → get_or (item ∷ list) (p - n) (0, []) ≡ get_or list (p - suc n) (0, [])
-next_at n p item list lt = ap (λ (e : ℕ). get_or (item ∷ list) e (0, [])) (let e : p - n ≡ suc (p - suc n) = omega arith in e)
+next_at n p item list lt = grind arith
 
 -- A message of another sender in front.
 other : (n port : ℕ) (item : ℕ × List ℕ) (list : List (ℕ × List ℕ)) (own : List (List ℕ)) (places : List ℕ)
@@ -84,21 +81,20 @@ other n port item list own places h = record {
 -- A message of the same sender in front.
 mine : (n port : ℕ) (item : ℕ × List ℕ) (list : List (ℕ × List ℕ)) (own : List (List ℕ)) (places : List ℕ) → item.0 ≡ port
     → StandFrom (suc n) list port own places → StandFrom n (item ∷ list) port (item.1 ∷ own) (n ∷ places)
-mine n port item list own places same h =
-    record { count = ap suc h.count; within = λ i lt. within_mine i lt; rise = λ i j. rise_mine i j; at = λ i. at_mine i }
+mine n port item list own places same h = grind arith
   where
     within_mine : (i : ℕ) → i < suc (length own) → (n ≤ get_or (n ∷ places) i 0) × (get_or (n ∷ places) i 0 < n + suc (length list))
     within_mine zero lt = (omega arith, omega arith)
-    within_mine (suc i) lt = let w = h.within i (omega arith) in (omega arith, omega arith)
+    within_mine (suc i) lt = grind arith
 
     rise_mine : (i j : ℕ) → i < j → j < suc (length own) → get_or (n ∷ places) i 0 < get_or (n ∷ places) j 0
     rise_mine i zero below lt = absurd (omega arith)
-    rise_mine zero (suc j) below lt = let w = h.within j (omega arith) in omega arith
-    rise_mine (suc i) (suc j) below lt = h.rise i j (omega arith) (omega arith)
+    rise_mine zero (suc j) below lt = grind arith
+    rise_mine (suc i) (suc j) below lt = grind arith
 
     at_mine : (i : ℕ) → i < suc (length own) → get_or (item ∷ list) (get_or (n ∷ places) i 0 - n) (0, []) ≡ (port, get_or (item.1 ∷ own) i [])
-    at_mine zero lt = ap (λ (e : ℕ). get_or (item ∷ list) e (0, [])) (let e : n - n ≡ 0 = omega arith in e) ∙ ap (λ (p : ℕ). (p, item.1)) same
-    at_mine (suc i) lt = let w = h.within i (omega arith) in next_at n (get_or places i 0) item list (omega arith) ∙ h.at i (omega arith)
+    at_mine zero lt = grind arith
+    at_mine (suc i) lt = next_at n (get_or places i 0) item list (omega arith) ∙ h.at i (omega arith)
 
 stand_from : (n port : ℕ) (list : List (ℕ × List ℕ)) → StandFrom n list port (part_of port list) (places_from n port list)
 stand_from n port [] = record {
@@ -112,20 +108,13 @@ stand_from n port (item ∷ items) = either (item.0 == port) (eqb-true item.0 po
     either : (b : Bool) → (b ≡ true → item.0 ≡ port) → StandFrom (suc n) items port (part_of port items) (places_from (suc n) port items)
         → StandFrom n (item ∷ items) port (if b then item.1 ∷ part_of port items else part_of port items)
         (if b then n ∷ places_from (suc n) port items else places_from (suc n) port items)
-    either true same h = mine n port item items _ _ (same refl) h
-    either false same h = other n port item items _ _ h
+    either b same h = grind (arith, mine)
 
 -- A sender's own list is in the log at its places.
 pub stand_at : (list : List (ℕ × List ℕ)) (port : ℕ) (own : List (List ℕ)) (places : List ℕ) → part_of port list ≡ own
     → places_from 0 port list ≡ places → StandAt list port own places
 stand_at list port own places is at = subst (λ (y : List (List ℕ) × List ℕ). StandAt list port y.0 y.1) (λ k. (is k, at k))
-    (let h = stand_from 0 port list in record {
-      count = h.count;
-      within = λ i lt. (let w = h.within i lt in omega arith);
-      rise = h.rise;
-      at = λ i lt. let p : ℕ = get_or (places_from 0 port list) i 0 in
-          ap (λ (e : ℕ). get_or list e (0, [])) (let e : p ≡ p - 0 = omega arith in e) ∙ h.at i lt;
-    })
+    (let h = stand_from 0 port list in grind arith)
 
 -- If no other port has a message, all messages are of these ports.
 pub are_items : (ports n : ℕ) (l : List (ℕ × Message)) → ((k : ℕ) → ports ≤ k → owned k n l ≡ []) → AreItems ports (items_of l)
@@ -143,8 +132,8 @@ same_next n m = elim (ℕ_discrete n m) [
 
 -- The total says whether a message is left.
 pub tells : (n total : ℕ) (l : List (ℕ × Message)) → n ≤ total → total ≡ length l → TellsLeft (n == total) (items_of (drop n l))
-tells zero total [] le is = subst (λ (b : Bool). TellsLeft b []) (sym (eq-eqb 0 total (sym is))) refl
-tells zero total (x ∷ l) le is = subst (λ (b : Bool). TellsLeft b (items_of (x ∷ l))) (sym (ne_eqb 0 total (λ e. omega arith))) x.1.sound
+tells zero total [] le is = grind arith
+tells zero total (x ∷ l) le is = grind arith
 tells (suc n) total [] le is = absurd (omega arith)
 tells (suc n) zero (x ∷ l) le is = absurd (omega arith)
 tells (suc n) (suc total) (x ∷ l) le is = subst (λ (b : Bool). TellsLeft b (items_of (drop n l))) (same_next n total)

@@ -1,15 +1,14 @@
 -- The rule at the start, with a new sender, and after a sender has ended.
-use Rattle.subvl_queue.proofs.Names.{◌≡◌, ◌≢◌, ℕ, zero, suc, ◌+◌, ◌-◌, ◌^◌, ◌%◌, ◌<◌, ◌≤◌, false, List, [], ◌∷◌, ◌++◌, map, length, get_or, set, replicate, sym, refl, ap, ◌∙◌, subst, ⊎_elim, arith, mod-eq_of_lt, length-set, length-append, some, get_elem?, length-map, length-replicate, Option, None, Splits, Joins, opening, set_else, at_snoc, at_longer, View, Role, Sender, Receiver, Spent, Idle, owned, Gone, Whole, Collects, free, Knows, Fits, Queue, first_view, new_seat, spent_view, one_made, with_joined}
-use mathlib.Core.Option as maybe
+use Rattle.subvl_queue.proofs.Names.{◌≡◌, ◌≢◌, ℕ, zero, suc, ◌+◌, ◌^◌, ◌%◌, ◌<◌, ◌≤◌, false, List, [], ◌∷◌, ◌++◌, map, length, get_or, set, replicate, sym, refl, ◌∙◌, ⊎_elim, arith, length-set, length-append, some, get_elem?, length-map, length-replicate, Option, None, Splits, Joins, opening, set_else, at_snoc, at_longer, View, Sender, Receiver, Spent, Idle, Gone, Collects, free, Knows, Fits, Queue, first_view, new_seat, spent_view, one_made, with_joined}
 use Rattle.subvl_queue.proofs.Totals.{sums, sums_end}
-use Rattle.subvl_queue.proofs.Cells.{fits, holds_none, each_after}
+use Rattle.subvl_queue.proofs.Cells.{fits, each_after}
 use Rattle.subvl_queue.proofs.Moves.{calm_at}
 
 -- A property of the changed or added member and of the others holds of each member.
 each_end : {A : Type 0} (l : List A) (a : A) (F : ℕ → A → Type 0) → F (length l) a → ((j : ℕ) (b : A) → get_elem? l j ≡ some b → F j b)
     → (j : ℕ) (b : A) → get_elem? (l ++ a ∷ []) j ≡ some b → F j b
-each_end [] a F here other zero b e = subst (F 0) (maybe.some-injective a b e) here
-each_end [] a F here other (suc j) b e = absurd (maybe.some-ne-none b (sym e))
+each_end [] a F here other zero b e = grind arith
+each_end [] a F here other (suc j) b e = grind arith
 each_end (x ∷ xs) a F here other zero b e = other zero b e
 each_end (x ∷ xs) a F here other (suc j) b e = each_end xs a (λ q. F (suc q)) here (λ q. other (suc q)) j b e
 
@@ -17,7 +16,7 @@ each_two : {A : Type 0} (l : List A) (i k : ℕ) (a b : A) (F : ℕ → A → Ty
     → ((j : ℕ) (c : A) → j ≢ k → j ≢ i → get_elem? l j ≡ some c → F j c)
     → (j : ℕ) (c : A) → get_elem? (set (set l i a) k b) j ≡ some c → F j c
 each_two l i k a b F at_k at_i other = each_after (set l i a) k b F at_k (λ j c not e.
-    each_after l i a (λ q y. q ≢ k → F q y) (λ _. at_i) (λ q y no e' not'. other q y not' no e') j c e not)
+    each_after l i a (λ q y. q ≢ k → F q y) (λ _. at_i) (grind arith) j c e not)
 
 module _ {T : Type 0} where
   blank : (n i : ℕ) → i < n → get_elem? (map some (replicate {A = Option (ℕ × T)} n None)) i ≡ some (some None)
@@ -26,13 +25,12 @@ module _ {T : Type 0} where
   blank (suc n) (suc i) near = blank n i (omega arith)
 
   only : (v d : View T) (j : ℕ) → get_elem? (v ∷ []) j ≡ some d → (j ≡ 0) × (v ≡ d)
-  only v d zero e = (refl, maybe.some-injective v d e)
-  only v d (suc j) e = absurd (maybe.some-ne-none d (sym e))
+  only v d j e = grind arith
 
   pub starts_ok : (ws : List ℕ) (c : ℕ) → 0 < c → c ≤ 256 → length ws ≡ c + 2 → get_or ws 0 0 ≡ 2 ^ 32 + c → get_or ws 1 0 ≡ 0
       → ((i : ℕ) → i < c → get_or ws (i + 2) 0 ≡ 0) → Queue (opening ws (replicate {A = Option (ℕ × T)} c None) first_view)
   starts_ok ws c pos few wide room tail ready = let homes = map some (replicate {A = Option (ℕ × T)} c None) in
-      let n : ℕ = length homes in let is : n ≡ c = length-map (replicate {A = Option (ℕ × T)} c None) some ∙ length-replicate c None in record {
+      let n : ℕ = length homes in let is : n ≡ c = grind (arith, length-map, length-replicate) in record {
         slots = record {
           log = [];
           freed = 0;
@@ -45,31 +43,19 @@ module _ {T : Type 0} where
           behind = omega arith;
           tail_is = tail;
           none_late = λ _. refl;
-          each_cell = λ i near. let near' : i < n = near in record {
-            shows = ready i (omega arith) ∙ (let g : 0 ≡ suc i - n = omega arith in g);
-            lies = mod-eq_of_lt near;
-            early = omega arith;
-            late = omega arith;
-            phase = (omega arith, blank c i (omega arith));
-          };
+          each_cell = grind (arith, blank);
         };
         few_seats = omega arith;
         within = omega arith;
         room_is = omega arith;
         counted = omega arith;
         budgeted = omega arith;
-        each_seat = λ j v e. let o = only first_view v j e in subst (λ (d : View T). Fits 1 0 [] j d d.role) o.1 (o.0, refl, refl, refl);
-        each_hand = λ j v e. let o = only first_view v j e in subst (λ (d : View T). Knows 0 [] j (d.at % n, free) d.at d.item d.stage) o.1 tt;
+        each_seat = grind arith;
+        each_hand = grind arith;
         unmade = λ k le. refl;
-        gathered = λ u e. let o = only first_view u 0 e in subst (Collects false [] (first_view ∷ [])) o.1
-            (refl, (λ i k l at. absurd (maybe.some-ne-none (k, l) (sym at))), tt);
-        busy = λ i j near held. absurd (let h : 0 ≡ suc j = held in omega arith);
+        gathered = grind arith;
+        busy = grind arith;
       }
-
-  fits_more : (m : ℕ) (freed : ℕ) (log : List (ℕ × T)) (j : ℕ) (d : View T) → (j ≡ 0 → ⊥) → (ro : Role) → Fits m freed log j d ro
-      → Fits (suc m) freed log j d ro
-  fits_more m freed log j d ne Receiver f = absurd (ne f.0)
-  fits_more m freed log j d ne ro f = f
 
   pub splits_ok : (id : ℕ) (v : View T) → v.role ≡ Receiver → v.stage ≡ Idle → v.made < 64 → v.joined ≡ [] → v.all ≡ None
       → Splits Queue id v (one_made v) (new_seat v.made)
@@ -94,25 +80,15 @@ module _ {T : Type 0} where
         room_is = omega arith;
         counted = omega arith;
         budgeted = omega arith;
-        each_seat = rw seats (each_end vs k Fit (long ∙ f.3, sym (r.unmade v.made (omega arith)), omega arith) (each_after s.views id l Fit
-            (subst (Fits (suc (length s.views)) r.freed r.log id l) (sym is) (f.0, f.1, f.2, omega arith))
-            (λ j d not e. fits_more (length s.views) r.freed r.log j d (λ z. not (z ∙ sym f.0)) d.role (r.each_seat j d e))));
+        each_seat = rw seats (each_end vs k Fit (long ∙ f.3, grind arith, omega arith) (each_after s.views id l Fit
+            (grind arith)
+            (grind arith)));
         each_hand = each_end vs k Know tt (each_after s.views id l Know (r.each_hand id v at) (λ j d _ e. r.each_hand j d e));
         unmade = λ q le. r.unmade q (omega arith);
         gathered = λ u e. each_end vs k (λ q y. q ≡ 0 → Collects r.closed r.log vs' y) (λ z. absurd (omega arith))
             (each_after s.views id l (λ q y. q ≡ 0 → Collects r.closed r.log vs' y)
-            (λ z. (
-              (r.gathered v (ap (get_elem? s.views) (sym z) ∙ at)).0,
-              (λ i q y at'. absurd (maybe.some-ne-none (q, y) (sym at' ∙ ap (λ (z : List (ℕ × List (ℕ × T))). get_elem? z i) none_joined))),
-              subst (Whole r.log vs') (sym none_all) tt,
-            )) (λ q y not _ z. absurd (not (z ∙ sym f.0)))) 0 u e refl;
-        busy = λ i j near held. let b = r.busy i j near held in (
-          b.0,
-          at_longer vs (k ∷ []) j b.0 (set_else s.views id j l
-              (λ e. holds_none s r id v at (calm_at v.stage Idle was (λ z. z)) i near (held ∙ ap suc e)) ∙ b.1),
-          b.2,
-          b.3,
-        );
+            (grind arith) (grind arith)) 0 u e refl;
+        busy = λ i j near held. let b = r.busy i j near held in grind (arith, at_longer, set_else, calm_at);
       }
 
   pub joins_ok : (id : ℕ) (v : View T) (other : ℕ) (w : View T) → v.role ≡ Receiver → v.stage ≡ Idle → v.all ≡ None → w.role ≡ Sender → w.stage ≡ Idle
@@ -131,7 +107,7 @@ module _ {T : Type 0} where
       let ends = sums vs other w k Idle Sender Spent at' rests sends refl in
       let each = each_two s.views id other u k in
       let gone : (j : ℕ) → Gone s.views (suc j) → Gone vs' (suc j) = λ j g d e. each (λ q y. q ≡ suc j → y.role ≡ Spent) (λ _. refl)
-      (λ z. absurd (omega arith)) (λ q y _ _ e' z. g y (ap (get_elem? s.views) (sym z) ∙ e')) (suc j) d e refl in
+      (λ z. absurd (omega arith)) (grind arith) (suc j) d e refl in
       record {
         slots = r.slots;
         few_seats = omega arith;
@@ -140,27 +116,21 @@ module _ {T : Type 0} where
         counted = omega arith;
         budgeted = omega arith;
         each_seat = rw seats (each (λ q y. Fits (length s.views) r.freed r.log q y y.role) (refl, refl)
-            (subst (Fits (length s.views) r.freed r.log id u) (sym is) f) (λ j d _ _ e. r.each_seat j d e));
+            (grind arith) (λ j d _ _ e. r.each_seat j d e));
         each_hand = each (λ q y. Knows r.freed r.log q (r.cells (y.at % n)) y.at y.item y.stage) tt (r.each_hand id v at)
             (λ j d _ _ e. r.each_hand j d e);
         unmade = λ q le. r.unmade q (omega arith);
-        gathered = λ d e. let g = r.gathered v (ap (get_elem? s.views) (sym f.0) ∙ at) in
+        gathered = λ d e. let g = r.gathered v (grind arith) in
             each (λ q y. q ≡ 0 → Collects r.closed r.log vs' y) (λ z. absurd (omega arith))
             (λ _. (
               g.0,
-              (λ i q l e'. ⊎_elim (λ (old : get_elem? v.joined i ≡ some (q, l)). let x = g.1 i q l old in (x.0, gone q x.1))
+              (λ i q l e'. ⊎_elim (grind arith)
                   (λ (new : (w.port, w.own) ≡ (q, l)). (
-                    sym (ap (λ (z : ℕ × List (ℕ × T)). z.1) new) ∙ h.1 ∙ ap (λ (z : ℕ × List (ℕ × T)). owned z.0 0 r.log) new,
+                    grind arith,
                     λ d' e''. each (λ p y. p ≡ suc q → y.role ≡ Spent) (λ _. refl) (λ z. absurd (omega arith))
-                        (λ p y not _ _ z. absurd (not (z ∙ ap (λ (z : ℕ × List (ℕ × T)). suc z.0) (sym new) ∙ sym h.0))) (suc q) d' e'' refl,
+                        (grind arith) (suc q) d' e'' refl,
                   )) (at_snoc v.joined (w.port, w.own) (q, l) i e')),
-              subst (Whole r.log vs') (sym none_all) tt,
-            )) (λ q y _ not _ z. absurd (not (z ∙ sym f.0))) 0 d e refl;
-        busy = λ i j near held. let b = r.busy i j near held in (
-          b.0,
-          set_else vs other j k (λ e. holds_none s r other w at_old (calm_at w.stage Idle rests (λ z. z)) i near (held ∙ ap suc e))
-              ∙ set_else s.views id j u (λ e. holds_none s r id v at (calm_at v.stage Idle was (λ z. z)) i near (held ∙ ap suc e)) ∙ b.1,
-          b.2,
-          b.3,
-        );
+              grind arith,
+            )) (grind arith) 0 d e refl;
+        busy = λ i j near held. let b = r.busy i j near held in grind (arith, set_else, calm_at);
       }

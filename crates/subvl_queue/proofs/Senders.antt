@@ -1,11 +1,11 @@
 -- The senders in a list, and what the receiver has of them.
-use Rattle.subvl_queue.proofs.Names.{◌≡◌, ℕ, zero, suc, ◌+◌, ◌<◌, ◌≤◌, List, [], ◌∷◌, ◌++◌, length, take, drop, get_or, sym, refl, ap, ◌∙◌, subst, arith, length-append, take-append-drop, map-append, Contains-append_right, map, Contains, Option, Some, IfSome, drop_at, some, get_elem?, Message, View, items_of, own_of, places_of, IsGathered, whole, brought_of, brought_back, owned, IsLog, with_all, holding, freed_of, SenderView, Brought, HasPort, HasEvery, IsBack, AreBack, IsWhole, brought_by, brought_by_all}
+use Rattle.subvl_queue.proofs.Names.{◌≡◌, ℕ, zero, suc, ◌+◌, ◌<◌, ◌≤◌, List, [], ◌∷◌, ◌++◌, length, take, drop, get_or, sym, refl, ap, ◌∙◌, arith, length-append, take-append-drop, map-append, Contains-append_right, map, Contains, Some, IfSome, drop_at, some, get_elem?, Message, View, items_of, own_of, places_of, IsGathered, whole, brought_of, brought_back, owned, IsLog, with_all, holding, freed_of, SenderView, Brought, HasPort, HasEvery, IsBack, AreBack, IsWhole, brought_by, brought_by_all}
 use Rattle.subvl_queue.proofs.Parts.{part_is, places_are, take_next, stand_at}
 
 -- If none was found, no sender of the port is in the list.
 pub none_there : (senders : List SenderView) (n p : ℕ) → length senders ≤ n → ((k : ℕ) (d : SenderView) → k < n → (get_or senders k d).port ≡ p → ⊥)
     → HasPort senders p → ⊥
-none_there [] n p le away h = omega (arith, h.1)
+none_there [] n p le away h = omega arith
 none_there (s ∷ ss) n p le away h = let lt = h.1 in away h.0 s (omega arith) (h.2 s)
 
 -- The index of a joined list.
@@ -18,8 +18,7 @@ found (x ∷ xs) b (suc k) lt e = let r = found xs b k (omega arith) e in (suc r
 -- The sender of a port that is back has joined.
 pub joined_for : (v : View Message) (ports : ℕ) → AreBack ports (brought_back v) → (k : ℕ) → k < ports
     → (i : ℕ) × (l : List (ℕ × Message)) × (get_elem? v.joined i ≡ some (k, l))
-joined_for v ports every k lt = let there = every k lt in let at = found v.joined there.0 there.1.0 there.1.1 there.1.2 in
-    (at.0, at.2, at.3 ∙ ap (λ (p : ℕ). some (p, at.2)) (ap (λ (b : Brought). b.port) at.4 ∙ there.2))
+joined_for v ports every k lt = let there = every k lt in grind (arith, found)
 
 -- A sender in the list brings the part of its port.
 brought_has : (senders : List SenderView) (p k : ℕ) → k < length senders → ((d : SenderView) → (get_or senders k d).port ≡ p)
@@ -55,19 +54,13 @@ pub is_whole : (slots ports : ℕ) (v : View Message) (l : List (ℕ × Message)
     → IsWhole ports (brought_back v) (items_of l)
 is_whole slots ports v l every log made =
     let at : (b : Brought) → Contains (brought_back v) b → (own_of (owned b.port 0 l) ≡ b.own) × (places_of (owned b.port 0 l) ≡ b.places) =
-    λ b inside. (
-    let there = found v.joined b inside.0 inside.1 inside.2 in
-    let list : there.2 ≡ owned there.1 0 l = log.parts there.0 there.1 there.2 there.3 in (
-      ap (λ (d : Brought). own_of (owned d.port 0 l)) (sym there.4) ∙ ap own_of (sym list) ∙ ap (λ (d : Brought). d.own) there.4,
-      ap (λ (d : Brought). places_of (owned d.port 0 l)) (sym there.4) ∙ ap places_of (sym list) ∙ ap (λ (d : Brought). d.places) there.4,
-    )
-    ) in
+    grind (arith, found) in
     record {
       every = every;
       parts = λ b inside. sym (part_is b.port 0 l) ∙ (at b inside).0;
       places = λ b inside. stand_at (items_of l) b.port b.own b.places (sym (part_is b.port 0 l) ∙ (at b inside).0)
           (sym (places_are b.port 0 l) ∙ (at b inside).1);
-      no_more = λ p le. sym (part_is p 0 l) ∙ ap own_of (log.no_more p (subst (λ (n : ℕ). n ≤ p) (sym made) le));
+      no_more = λ p le. sym (part_is p 0 l) ∙ ap own_of (log.no_more p (grind arith));
     }
 
 -- The log is the messages taken and the messages left.
@@ -75,33 +68,25 @@ pub accepted_is : (slots n : ℕ) (v w : View Message) (l : List (ℕ × Message
     → items_of l ≡ items_of w.taken ++ items_of (drop n (whole w))
 accepted_is slots n v w l log counted is = sym (
     ap (λ (u : View Message). items_of u.taken ++ items_of (drop n (whole u))) is
-    ∙ sym (map-append (λ (x : ℕ × Message). (x.0, x.1.bytes.items)) v.taken (drop n l))
+    ∙ sym (grind (arith, map-append))
     ∙ ap (λ (z : List (ℕ × Message)). items_of (z ++ drop n l)) (log.begins ∙ ap (λ (m : ℕ). take m l) (sym counted))
     ∙ ap items_of (take-append-drop n l))
 
 -- The next message of the list.
 pub next_listed : (taken : ℕ) (v : View Message) (x : ℕ × Message) → v.all ≡ Some (whole v)
     → IfSome v.all (λ l. (taken < length l) × (get_elem? l taken ≡ some x)) → (taken < length (whole v)) × (get_elem? (whole v) taken ≡ some x)
-next_listed taken v x e = subst (λ (o : Option (List (ℕ × Message))). IfSome o (λ l. (taken < length l) × (get_elem? l taken ≡ some x))) e
+next_listed taken v x e = grind arith
 
 -- After the next message was taken, the list is still gathered.
 pub goes_on : (taken next total : ℕ) (v w : View Message) (x : ℕ × Message) → IsGathered taken total v → w ≡ freed_of (holding v taken x) x
     → (taken < length (whole v)) × (get_elem? (whole v) taken ≡ some x) → next ≡ taken + 1 → IsGathered next total w
 goes_on taken next total v w x old is at more =
     let suc_is : suc taken ≡ next = omega arith in
-    subst (λ (u : View Message). IsGathered next total u) (sym is) record {
-      all = old.all;
-      begins = ap (λ (z : List (ℕ × Message)). z ++ x ∷ []) old.begins ∙ take_next (whole v) taken x at.1 ∙ ap (λ (n : ℕ). take n (whole v)) suc_is;
-      counted = (let count = old.counted in omega (arith, length-append v.taken (x ∷ [])));
-      total_is = old.total_is;
-      behind = (let below = at.0 in let all_is = old.total_is in omega arith);
-      few = old.few;
-    }
+    grind (arith, take_next, length-append)
 
 -- The taken message was the first of those left.
 pub leaves : (taken next : ℕ) (v w : View Message) (x : ℕ × Message) → w ≡ freed_of (holding v taken x) x → get_elem? (whole v) taken ≡ some x
     → next ≡ taken + 1 → items_of (drop taken (whole v)) ≡ (x.0, x.1.bytes.items) ∷ items_of (drop next (whole w))
 leaves taken next v w x is at more =
     let suc_is : suc taken ≡ next = omega arith in
-    ap items_of (drop_at (whole v) taken x at)
-    ∙ ap (λ (y : ℕ × List (ℕ × Message)). (x.0, x.1.bytes.items) ∷ items_of (drop y.0 y.1)) (λ k. (suc_is k, whole (sym is k)))
+    grind (arith, drop_at)

@@ -1,10 +1,10 @@
 -- Sums over the views, and arithmetic of the words.
-use Rattle.subvl_queue.proofs.Names.{◌≡◌, ℕ, zero, suc, ◌+◌, ◌-◌, ◌^◌, ◌%◌, ◌<◌, ◌≤◌, List, [], ◌∷◌, ◌++◌, length, set, sym, refl, ap, ◌∙◌, subst, arith, mod-eq_of_lt, some, some-injective, some-ne-none, add-mod_right, get_elem?, View, Stage, Idle, Role, Spent, total, hand_of, found_of, wait_of, budget_of, in_hand, in_room, waiting, asks_of, budget}
+use Rattle.subvl_queue.proofs.Names.{◌≡◌, ℕ, zero, suc, ◌+◌, ◌-◌, ◌^◌, ◌%◌, ◌<◌, ◌≤◌, List, [], ◌∷◌, ◌++◌, length, set, sym, refl, arith, mod-eq_of_lt, some, some-ne-none, get_elem?, View, Stage, Idle, Role, Spent, total, hand_of, found_of, wait_of, budget_of, in_hand, in_room, waiting, asks_of, budget}
 
 -- The total after one member changed.
 pub total_set : {A : Type 0} (f : A → ℕ) (l : List A) (j : ℕ) (v w : A) → get_elem? l j ≡ some v → total f (set l j w) + f v ≡ total f l + f w
 total_set f [] j v w e = absurd (some-ne-none v (sym e))
-total_set f (x ∷ xs) zero v w e = let is : f x ≡ f v = ap f (some-injective x v e) in omega arith
+total_set f (x ∷ xs) zero v w e = grind arith
 total_set f (x ∷ xs) (suc j) v w e = let r = total_set f xs j v w e in omega arith
 
 pub total_end : {A : Type 0} (f : A → ℕ) (l : List A) (w : A) → total f (l ++ w ∷ []) + 0 ≡ total f l + f w
@@ -12,8 +12,7 @@ total_end f [] w = omega arith
 total_end f (x ∷ xs) w = let r = total_end f xs w in omega arith
 
 stage_small : (st : Stage) → (hand_of st ≤ 1) × (found_of st ≤ hand_of st)
-stage_small Idle = (omega arith, omega arith)
-stage_small st = (omega arith, omega arith)
+stage_small st = grind arith
 
 module _ {T : Type 0} where
   pub hands_small : (l : List (View T)) → total in_hand l ≤ length l
@@ -31,15 +30,7 @@ module _ {T : Type 0} where
 
   pub sums : (l : List (View T)) (j : ℕ) (v w : View T) (st : Stage) (ro ro' : Role) → get_elem? l j ≡ some v → v.stage ≡ st
       → v.role ≡ ro → w.role ≡ ro' → Sums l (set l j w) st v.asks v.made ro w.stage w.asks w.made ro'
-  sums l j v w st ro ro' at was is is' =
-      subst (λ (y : Stage × Role × Role). Sums l (set l j w) y.0 v.asks v.made y.1 w.stage w.asks w.made y.2)
-      (λ k. (was k, is k, is' k)) record {
-        hands = total_set in_hand l j v w at;
-        rooms = total_set in_room l j v w at;
-        waits = total_set waiting l j v w at;
-        asks = total_set asks_of l j v w at;
-        budgets = total_set budget l j v w at;
-      }
+  sums l j v w st ro ro' at was is is' = grind (arith, total_set)
 
   pub sums_end : (l : List (View T)) (w : View T) → Sums l (l ++ w ∷ []) Idle 0 0 Spent w.stage w.asks w.made w.role
   sums_end l w = record {
@@ -56,13 +47,10 @@ module _ {T : Type 0} where
   total_le f g (v ∷ vs) h = let r = total_le f g vs (λ j w e. h (suc j) w e) in let m = h 0 v refl in omega arith
 
   pub rooms_small : (l : List (View T)) → total in_room l ≤ total in_hand l
-  rooms_small l = total_le in_room in_hand l (λ j v _. (stage_small v.stage).1)
+  rooms_small l = grind (arith, total_le)
 
 pub one_less : (x : ℕ) → 0 < x → x < 18446744073709551616 → (x + (2 ^ 64 - 1)) % 2 ^ 64 ≡ x - 1
-one_less zero pos small = absurd (omega arith)
-one_less (suc x) pos small = let e : suc x + (2 ^ 64 - 1) ≡ x + 2 ^ 64 = omega arith in
-    let f : x ≡ suc x - 1 = omega arith in ap (λ (z : ℕ). z % 2 ^ 64) e ∙ add-mod_right x (2 ^ 64)
-    ∙ mod-eq_of_lt (let g : x < 2 ^ 64 = omega arith in g) ∙ f
+one_less x pos small = grind arith
 
 pub one_more : (x : ℕ) → x + 1 < 18446744073709551616 → (x + 1) % 2 ^ 64 ≡ x + 1
-one_more x small = mod-eq_of_lt (let g : x + 1 < 2 ^ 64 = omega arith in g)
+one_more x small = mod-eq_of_lt (grind arith)

@@ -1,11 +1,10 @@
-use Rattle.subvl_queue.proofs.Names.{rules, ◌≡◌, ℕ, ◌+◌, ◌<◌, List, [], ◌∷◌, ◌++◌, length, get_or, ◌∙◌, ap, arith, below_more, length-append, get_or_append_left, get_or_push, new_sender, one_more}
+use Rattle.subvl_queue.proofs.Names.{rules, ◌≡◌, ℕ, ◌+◌, ◌<◌, List, [], ◌∷◌, ◌++◌, length, get_or, ◌∙◌, ap, arith, get_or_append_left, get_or_push, new_sender, one_more}
 use Rattle.subvl_queue.proofs.making.make.Goals as goal
 
 -- One more row of a table.
 next_row : {A : Type 0} (xs : List A) (y d : A) (f : ℕ → A) (n : ℕ) → length xs ≡ n → y ≡ f n → ((k : ℕ) → k < n → get_or xs k d ≡ f k)
     → (k : ℕ) → k < n + 1 → get_or (xs ++ y ∷ []) k d ≡ f k
-next_row xs y d f n e is h =
-    below_more _ _ (λ k lt. get_or_append_left xs (y ∷ []) d k (omega arith) ∙ h k lt) (get_or_push xs y d n e ∙ is)
+next_row xs y d f n e is h = grind (arith, get_or_append_left, get_or_push)
 
 pub loop-port-preserved : goal.loop-port-preserved
 loop-port-preserved c =
@@ -14,10 +13,10 @@ loop-port-preserved c =
     let xs = c.loop-port.senders.items in
     record {
       receiver = got.one_more ∙ ap one_more old.receiver;
-      count = rw (c.push_reserved.ensures.items) (omega (arith, old.count, length-append xs (c.in_ok-new_sender.field-0 ∷ [])));
+      count = grind arith;
       len = search rules;
       room = search rules;
       senders = rw c.push_reserved.ensures.items (λ k d lt. next_row xs _ d (new_sender c.in_ok-receiver.receiver.queue c.args.capacity c.args.calls) _
-          old.count (got.sender ∙ (λ i. new_sender ((old.receiver i).queue) ((old.receiver i).capacity) c.args.calls ((old.receiver i).ports)))
+          old.count (grind arith)
           (λ j near. old.senders j d near) k lt);
     }

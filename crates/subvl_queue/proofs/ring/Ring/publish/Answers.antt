@@ -1,23 +1,20 @@
-use Rattle.subvl_queue.proofs.Names.{rules, ◌%◌, ◌∷◌, None, sym, ap, ◌∙◌, arith, rest}
+use Rattle.subvl_queue.proofs.Names.{rules, ◌%◌, sym, ap, ◌∙◌, arith}
 use Rattle.subvl_queue.proofs.Moves.{publishes_ok}
 use Rattle.subvl_queue.proofs.ring.Ring.publish.Goals as goal
 
 pub exchange-requires : goal.exchange-requires
-exchange-requires c =
-    let held = c.requires.held in
-    (c.requires.seat.0, (None, held ∙ (λ k. (sym c.requires.slot.0 k, None) ∷ rest (sym held k))))
+exchange-requires c = grind arith
 
 pub store-requires : goal.store-requires
 store-requires c =
-    let held = c.requires.held in
     let view = c.requires.view in
     let item = c.requires.item in
     let me = c.exchange.ensures.3 in
     let capacity = c.args.self.now.sized.1 in
-    let slot = c.requires.slot.0 ∙ (λ k. sym item.0 k % sym capacity k) ∙ ap (λ m. m.0.at % c.args.self.now.table.shared.table_id.slots) (sym me) in
+    let slot = c.requires.slot.0 ∙ (grind arith) ∙ ap (λ m. m.0.at % c.args.self.now.table.shared.table_id.slots) (sym me) in
     let at = ap (λ m. m.0.at) me ∙ item.0 in (
       search rules,
       search rules,
       publishes_ok _ _ _ _ _ (ap (λ m. m.0.role) me ∙ view.0) (ap (λ m. m.0.stage) me ∙ view.1)
-          (ap (λ m. m.1) me ∙ (λ k. (slot k, (sym item.1 ∙ ap (λ m. m.0.item) (sym me)) k) ∷ rest (held k))) (omega arith) (omega arith),
+          (grind arith) (omega arith) (omega arith),
     )
