@@ -111,11 +111,7 @@ module _ {T : Type 0} where
 
     pub roles_stay : (closed' : Bool) (log' : List (ℕ × T)) (id : ℕ) (v w u : View T) → get_elem? s.views id ≡ some v → w.role ≡ v.role
         → Collects closed' log' s.views u → Collects closed' log' (set s.views id w) u
-    roles_stay closed' log' id v w u at same g = (
-      g.0,
-      (λ i k l e. let x = g.1 i k l e in (x.0, gone_stays id (suc k) v w at same x.1)),
-      whole_stays id v w log' at same u.all g.2,
-    )
+    roles_stay closed' log' id v w u at same g = grind (arith, gone_stays, whole_stays)
 
     -- The receiver's gathered list is kept if the stepping seat keeps its role and its own part of
     -- the list.

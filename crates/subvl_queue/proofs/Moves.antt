@@ -49,7 +49,7 @@ module _ {T : Type 0} where
         counted = counted;
         budgeted = budgeted;
         gathered = gathered';
-        unmade = λ k le. r.unmade k (omega arith);
+        unmade = grind arith;
         each_seat = rw seats (each_after s.views id w (λ j d. Fits (length s.views) r.freed r.log j d d.role) fit (λ j d _ e. r.each_seat j d e));
         each_hand = each_after s.views id w (λ j d. Knows r.freed r.log j (r.cells (d.at % length s.homes)) d.at d.item d.stage) knew
             (λ j d _ e. r.each_hand j d e);
@@ -107,7 +107,7 @@ module _ {T : Type 0} where
 
   pub reserves_ok : (n id : ℕ) (me : Seated T) → me.0.role ≡ Sender → me.0.stage ≡ Idle → me.0.asks < 2 ^ 40
       → Allows Queue n id me 0 (λ x. (x + (2 ^ 64 - 1)) % 2 ^ 64) (reserves (step n 0 1 0 none) me)
-  reserves_ok n id me is was few s r wide at small = go (dec_le (suc (2 ^ 32)) (get_or s.words 0 0))
+  reserves_ok n id me is was few s r wide at small = go (grind (arith, dec_le))
     where
       held : ℕ
       held = (length r.log - r.freed) + total in_hand s.views
@@ -133,10 +133,10 @@ module _ {T : Type 0} where
         with_ask me.0 Asked held,
         keeps,
         tt,
-        went Asked refl refl tt (let rooms = rooms_small s.views in omega arith),
-        (refl, counted, (λ _. refl), λ no. absurd (omega arith)),
+        went Asked refl refl tt (grind (arith, rooms_small)),
+        grind arith,
       )
-      go (no d) = (with_ask me.0 Refused held, keeps, tt, went Refused refl refl tt (omega arith), (refl, counted, (λ more. absurd (d more)), λ _. refl))
+      go (no d) = (with_ask me.0 Refused held, keeps, tt, went Refused refl refl tt (omega arith), grind arith)
 
   -- A slot request without room, or with a late place, is given back.
   pub unreserves_ok : (n id : ℕ) (me : Seated T) → me.0.role ≡ Sender → (me.0.stage ≡ Refused) ⊎ (me.0.stage ≡ Late)
@@ -175,11 +175,7 @@ module _ {T : Type 0} where
   -- An open queue whose sender isn't back has no total, and no joined list of that sender.
   grows : (closed : Bool) (log : List (ℕ × T)) (views : List (View T)) (x : ℕ × T) (port : ℕ) → closed ≡ false → x.0 ≡ port
       → (Gone views (suc port) → ⊥) → (u : View T) → Collects closed log views u → Collects closed (log ++ x ∷ []) views u
-  grows closed log views x port e said here u g = (
-    totals_open closed (length log) (length (log ++ x ∷ [])) e u.total g.0,
-    (λ i k l at. let j = g.1 i k l at in (j.0 ∙ sym (owned_other k 0 log x (λ is. here (subst (λ (z : ℕ). Gone views (suc z)) (sym is ∙ said) j.1))), j.1)),
-    whole_open log (log ++ x ∷ []) views port here u.all g.2,
-  )
+  grows closed log views x port e said here u g = grind (arith, totals_open, owned_other, whole_open)
 
   -- Drawing a place: for the message, or a late one if the queue is closed.
   pub claims_ok : (said : Option (ℕ × T)) (x : ℕ × T) (n id : ℕ) (me : Seated T) → said ≡ Some x → x.0 ≡ me.0.port → me.0.role ≡ Sender
@@ -219,8 +215,7 @@ module _ {T : Type 0} where
                   late = omega arith;
                   phase = (r.behind, omega arith);
                 }
-                (λ j _ e. suc-ne-zero j (sym e ∙ ap holder fr.0)) (λ j e. (omega arith, tt, refl)) (grind (arith, holds_none))
-                (grind (arith, owned_mine))
+                (grind (arith, suc-ne-zero)) (λ j e. (omega arith, tt, refl)) (grind (arith, holds_none)) (grind (arith, owned_mine))
                 (put_here r.cells i (L, writing id), (x, refl, at_last r.log x L refl)) (grind (arith, other_port)),
             ((λ _. (x, says, grind arith, grind arith)), λ big. absurd (omega arith)),
           )
@@ -250,7 +245,7 @@ module _ {T : Type 0} where
       let kn = knows s r id me.0 Drew at was in
       let mine = kn.0 in
       let ok = subst (CellOk (length s.homes) F r.log s.words s.homes i) mine (r.each_cell i near) in
-      let slot : p % n ≡ i = ap (λ (z : ℕ). p % z) (sym wide) in
+      let slot : p % n ≡ i = grind arith in
       let w = idle me.0 in
       let sum = sums s.views id me.0 w Drew Sender Sender at was is is in
       let keep0 = get_or-set_other s.words k 0 new 0 (λ e. omega arith) in
@@ -262,7 +257,7 @@ module _ {T : Type 0} where
         tt,
         moved s r k new i id F r.log (p, full) (some me.0.item) me.0 w at near (omega arith) (keep1 ∙ r.tail_is) (omega arith) (omega arith)
             (omega arith) (gathers_stay s r r.closed r.log id me.0 w at refl refl refl refl (λ _ _ g. g)) r.unmade r.behind (inl refl) (inl refl)
-            (λ _. refl) (λ _ _ e. e) (λ j other e. other (omega arith))
+            (λ _. refl) (λ _ _ e. e) (grind arith)
             record {
               shows = grind (arith, get_or-set_same);
               lies = refl;
@@ -274,8 +269,7 @@ module _ {T : Type 0} where
                 (kn.1.0, kn.1.2, grind (arith, set_here)),
               );
             }
-            (grind arith) (λ j e. absurd (suc-ne-zero j (sym e))) (grind (arith, holds_one))
-            (grind arith) tt (λ j d other e. r.each_seat j d e),
+            (grind arith) (λ j e. absurd (suc-ne-zero j (sym e))) (grind (arith, holds_one)) (grind arith) tt (grind arith),
         (refl, refl),
       )
 
@@ -313,7 +307,6 @@ module _ {T : Type 0} where
       let near = mod-lt p r.some_slot in
       let f = fits s r id me.0 Receiver at is in
       let pF : p ≡ F = count ∙ f.2 in
-      let slot : p % n ≡ i = ap (λ (z : ℕ). p % z) (sym wide) in
       let ok = r.each_cell i near in
       let q : ℕ = (r.cells i).0 in
       let y : ℕ = get_or s.words k 0 in
@@ -337,7 +330,7 @@ module _ {T : Type 0} where
         rd.3.2,
         moved s r k y i id F r.log (p, reading id) none me.0 w at near (omega arith) (keep1 ∙ r.tail_is) (omega arith) (omega arith) (omega arith)
             (gathers_stay s r r.closed r.log id me.0 w at refl refl refl refl (λ _ _ g. g)) r.unmade r.behind (inl refl) (inl refl) (λ _. refl)
-            (λ _ _ e. e) (λ j other e. other (omega arith))
+            (λ _ _ e. e) (grind arith)
             record {
               shows = grind (arith, get_or-set_same);
               lies = refl;
@@ -345,9 +338,8 @@ module _ {T : Type 0} where
               late = omega arith;
               phase = (pF, below, f.0);
             }
-            (λ j _ e. suc-ne-zero j (sym e ∙ ap holder rd.0)) (λ j e. (omega arith, tt, refl)) (grind (arith, holds_none))
-            (grind arith) ((put_here r.cells i (p, reading id), (x, refl, logged)), pF)
-            (λ j d other e. r.each_seat j d e),
+            (grind (arith, suc-ne-zero)) (λ j e. (omega arith, tt, refl)) (grind (arith, holds_none))
+            (grind arith) ((put_here r.cells i (p, reading id), (x, refl, logged)), pF) (grind arith),
         (
           (λ _. (
             x,
@@ -356,7 +348,7 @@ module _ {T : Type 0} where
                 few = omega arith;
                 few_ports = omega arith;
                 port = lt_of_not-le (λ le. owned_at x.0 0 r.log p x logged refl (r.unmade x.0 (omega arith)));
-                below = before_total r.closed L p me.0.total below gath.0;
+                below = grind (arith, before_total);
                 listed = grind arith;
               },
               grind arith,

@@ -22,11 +22,7 @@ module _ {T : Type 0} where
 
   -- If the port has no message, neither the first nor one of the rest is the port's.
   rest_none : (k n : ℕ) (x : ℕ × T) (l : List (ℕ × T)) → owned k n (x ∷ l) ≡ [] → (x.0 ≢ k) × (owned k (suc n) l ≡ [])
-  rest_none k n x l e = elim (ℕ_discrete x.0 k) [
-    | yes is ↦ absurd (let first : (n, x.1) ∷ owned k (suc n) l ≡ [] = sym
-        (ap (λ (b : Bool). cond b ((n, x.1) ∷ owned k (suc n) l) (owned k (suc n) l)) (eq-eqb x.0 k is)) ∙ e in cc)
-    | no not ↦ (not, sym (ap (λ (b : Bool). cond b ((n, x.1) ∷ owned k (suc n) l) (owned k (suc n) l)) (ne_eqb x.0 k not)) ∙ e)
-  ]
+  rest_none k n x l e = grind (arith, eq-eqb, ne_eqb)
 
   -- A message in the list is in the part of its port.
   pub owned_at : (k n : ℕ) (l : List (ℕ × T)) (i : ℕ) (x : ℕ × T) → get_elem? l i ≡ some x → x.0 ≡ k → owned k n l ≡ [] → ⊥
@@ -71,12 +67,7 @@ next_at n p item list lt = grind arith
 -- A message of another sender in front.
 other : (n port : ℕ) (item : ℕ × List ℕ) (list : List (ℕ × List ℕ)) (own : List (List ℕ)) (places : List ℕ)
     → StandFrom (suc n) list port own places → StandFrom n (item ∷ list) port own places
-other n port item list own places h = record {
-  count = h.count;
-  within = λ i lt. (let w = h.within i lt in (omega arith, omega arith));
-  rise = h.rise;
-  at = λ i lt. (let w = h.within i lt in next_at n (get_or places i 0) item list (omega arith) ∙ h.at i lt);
-}
+other n port item list own places h = grind (arith, next_at)
 
 -- A message of the same sender in front.
 mine : (n port : ℕ) (item : ℕ × List ℕ) (list : List (ℕ × List ℕ)) (own : List (List ℕ)) (places : List ℕ) → item.0 ≡ port
@@ -97,12 +88,7 @@ mine n port item list own places same h = grind arith
     at_mine (suc i) lt = next_at n (get_or places i 0) item list (omega arith) ∙ h.at i (omega arith)
 
 stand_from : (n port : ℕ) (list : List (ℕ × List ℕ)) → StandFrom n list port (part_of port list) (places_from n port list)
-stand_from n port [] = record {
-  count = refl;
-  within = λ i lt. absurd (omega arith);
-  rise = λ i j below lt. absurd (omega arith);
-  at = λ i lt. absurd (omega arith);
-}
+stand_from n port [] = grind arith
 stand_from n port (item ∷ items) = either (item.0 == port) (eqb-true item.0 port) (stand_from (suc n) port items)
   where
     either : (b : Bool) → (b ≡ true → item.0 ≡ port) → StandFrom (suc n) items port (part_of port items) (places_from (suc n) port items)
@@ -125,10 +111,7 @@ are_items ports n (x ∷ l) h =
     All-cons (IsItem ports) (x.0, x.1.bytes.items) (items_of l) first (are_items ports (suc n) l (λ k le. (rest_none k n x l (h k le)).1))
 
 same_next : (n m : ℕ) → (n == m) ≡ (suc n == suc m)
-same_next n m = elim (ℕ_discrete n m) [
-  | yes is ↦ eq-eqb n m is ∙ sym (eq-eqb (suc n) (suc m) (ap suc is))
-  | no not ↦ ne_eqb n m not ∙ sym (ne_eqb (suc n) (suc m) (λ e. not (omega arith)))
-]
+same_next n m = grind (arith, eq-eqb, ne_eqb)
 
 -- The total says whether a message is left.
 pub tells : (n total : ℕ) (l : List (ℕ × Message)) → n ≤ total → total ≡ length l → TellsLeft (n == total) (items_of (drop n l))

@@ -84,7 +84,7 @@ module _ {T : Type 0} where
             (grind arith)
             (grind arith)));
         each_hand = each_end vs k Know tt (each_after s.views id l Know (r.each_hand id v at) (λ j d _ e. r.each_hand j d e));
-        unmade = λ q le. r.unmade q (omega arith);
+        unmade = grind arith;
         gathered = λ u e. each_end vs k (λ q y. q ≡ 0 → Collects r.closed r.log vs' y) (λ z. absurd (omega arith))
             (each_after s.views id l (λ q y. q ≡ 0 → Collects r.closed r.log vs' y)
             (grind arith) (grind arith)) 0 u e refl;
@@ -100,7 +100,7 @@ module _ {T : Type 0} where
       let vs' = set vs other k in
       let n : ℕ = length s.homes in
       let f = fits s r id v Receiver at is in
-      let seats : length vs' ≡ length s.views = length-set vs other k ∙ length-set s.views id u in
+      let seats : length vs' ≡ length s.views = grind (arith, length-set) in
       let at_old = sym (set_else s.views id other u two) ∙ at' in
       let h = fits s r other w Sender at_old sends in
       let sum = sums s.views id v u v.stage Receiver Receiver at refl is is in
@@ -119,7 +119,7 @@ module _ {T : Type 0} where
             (grind arith) (λ j d _ _ e. r.each_seat j d e));
         each_hand = each (λ q y. Knows r.freed r.log q (r.cells (y.at % n)) y.at y.item y.stage) tt (r.each_hand id v at)
             (λ j d _ _ e. r.each_hand j d e);
-        unmade = λ q le. r.unmade q (omega arith);
+        unmade = grind arith;
         gathered = λ d e. let g = r.gathered v (grind arith) in
             each (λ q y. q ≡ 0 → Collects r.closed r.log vs' y) (λ z. absurd (omega arith))
             (λ _. (

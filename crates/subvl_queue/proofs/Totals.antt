@@ -33,13 +33,7 @@ module _ {T : Type 0} where
   sums l j v w st ro ro' at was is is' = grind (arith, total_set)
 
   pub sums_end : (l : List (View T)) (w : View T) → Sums l (l ++ w ∷ []) Idle 0 0 Spent w.stage w.asks w.made w.role
-  sums_end l w = record {
-    hands = total_end in_hand l w;
-    rooms = total_end in_room l w;
-    waits = total_end waiting l w;
-    asks = total_end asks_of l w;
-    budgets = total_end budget l w;
-  }
+  sums_end l w = grind (arith, total_end)
 
   -- A sum is at most the sum of the members' bounds.
   pub total_le : (f g : View T → ℕ) (l : List (View T)) → ((j : ℕ) (v : View T) → get_elem? l j ≡ some v → f v ≤ g v) → total f l ≤ total g l

@@ -10,11 +10,10 @@ store-requires c =
     let view = c.requires.view in
     let item = c.requires.item in
     let me = c.exchange.ensures.3 in
-    let capacity = c.args.self.now.sized.1 in
     let slot = c.requires.slot.0 ∙ (grind arith) ∙ ap (λ m. m.0.at % c.args.self.now.table.shared.table_id.slots) (sym me) in
     let at = ap (λ m. m.0.at) me ∙ item.0 in (
       search rules,
       search rules,
-      publishes_ok _ _ _ _ _ (ap (λ m. m.0.role) me ∙ view.0) (ap (λ m. m.0.stage) me ∙ view.1)
+      publishes_ok _ _ _ _ _ (ap (λ m. m.0.role) me ∙ view.0) (grind arith)
           (grind arith) (omega arith) (omega arith),
     )
