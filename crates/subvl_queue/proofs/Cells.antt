@@ -1,5 +1,7 @@
 -- How the rule is kept when one cell and one seat change.
 use Rattle.subvl_queue.proofs.Names.{◌≡◌, ◌≢◌, ℕ, zero, suc, ◌+◌, ◌*◌, ◌^◌, ◌%◌, ◌<◌, ◌≤◌, ◌⊎◌, Bool, List, [], ◌∷◌, length, get_or, set, sym, refl, ap, ◌∙◌, arith, length-set, get_or-set_other, some, Option, add-mod_right, ℕ_discrete, get_elem?, State, at_set, set_else, set_here, View, Role, Spent, Stage, Drew, Holding, owned, total, in_hand, in_room, waiting, asks_of, budget, shut_bit, Gone, Whole, Collects, Busy, Phase, free, writing, full, reading, Cell, holder, InPhase, CellOk, Has, Knows, Fits, Queue}
+use Rattle.subvl_queue.proofs.Totals.{sums}
+use Rattle.subvl_queue.proofs.Names.{subst, false, hand_of, found_of, wait_of, budget, mod-lt}
 use mathlib.Core.Path.{Path}
 use mathlib.Core.Option as maybe
 
@@ -113,38 +115,89 @@ module _ {T : Type 0} where
         → Collects closed' log' s.views u → Collects closed' log' (set s.views id w) u
     roles_stay closed' log' id v w u at same g = grind (arith, gone_stays, whole_stays)
 
-    -- The receiver's gathered list is kept if the stepping seat keeps its role and its own part of
-    -- the list.
-    pub gathers_stay : (closed' : Bool) (log' : List (ℕ × T)) (id : ℕ) (v w : View T) → get_elem? s.views id ≡ some v → w.role ≡ v.role
-        → w.total ≡ v.total → w.joined ≡ v.joined → w.all ≡ v.all
-        → ((u : View T) → get_elem? s.views 0 ≡ some u → Collects r.closed r.log s.views u → Collects closed' log' s.views u) → (u : View T)
-        → get_elem? (set s.views id w) 0 ≡ some u → Collects closed' log' (set s.views id w) u
-    gathers_stay closed' log' id v w at same t0 j0 a0 goes u e = each_after s.views id w (λ q y. q ≡ 0 → Collects closed' log' (set s.views id w) y)
-        (λ is. let at0 = ap (get_elem? s.views) (sym is) ∙ at in
-        let g = roles_stay closed' log' id v w v at same (goes v at0 (r.gathered v at0)) in
-        grind arith)
-        (λ q y _ e' is. let at0 = ap (get_elem? s.views) (sym is) ∙ e' in roles_stay closed' log' id v w y at same (goes y at0 (r.gathered y at0))) 0 u e refl
+    -- What the receiver has collected still fits, if its own step or the change of the log keeps it.
+    collects_after : (closed' : Bool) (log' : List (ℕ × T)) (id : ℕ) (v w : View T) → get_elem? s.views id ≡ some v → w.role ≡ v.role
+        → (id ≡ 0 → Collects closed' log' s.views w)
+        → (id ≢ 0 → (u : View T) → Collects r.closed r.log s.views u → Collects closed' log' s.views u)
+        → (u : View T) → get_elem? (set s.views id w) 0 ≡ some u → Collects closed' log' (set s.views id w) u
+    collects_after closed' log' id v w at same sees goes u e =
+        each_after s.views id w (λ j d. j ≡ 0 → Collects closed' log' (set s.views id w) d)
+        (λ is. roles_stay closed' log' id v w w at same (sees is))
+        (λ j d other e' is. roles_stay closed' log' id v w d at same (goes (λ z. other (is ∙ sym z)) d (grind arith)))
+        0 u e refl
+
+    -- a step that changes no slot, by a seat that holds none
+    pub record Quiet (words' : List ℕ) (id late' : ℕ) (closed' : Bool) (v w : View T) : Type 0 where
+      pub at : get_elem? s.views id ≡ some v
+      pub calm : Busy v.stage → ⊥
+      pub role : w.role ≡ v.role
+      pub wide : length words' ≡ length s.words
+      pub kept : (i : ℕ) → get_or words' (i + 2) 0 ≡ get_or s.words (i + 2) 0
+      pub room : get_or words' 0 0 + hand_of w.stage ≡ get_or s.words 0 0 + hand_of v.stage
+      pub tail : get_or words' 1 0 ≡ length r.log + late' + shut_bit closed'
+      pub none_late : closed' ≡ false → late' ≡ 0
+      pub within : length r.log + total in_room s.views + found_of w.stage ≤ r.freed + n + found_of v.stage
+      pub counted : late' + wait_of w.stage + v.asks ≤ r.late + wait_of v.stage + w.asks
+      pub budgeted : budget w ≤ budget v
+      pub sees : id ≡ 0 → Collects closed' r.log s.views w
+      pub goes : id ≢ 0 → (u : View T) → Collects r.closed r.log s.views u → Collects closed' r.log s.views u
+      pub fit : Fits (length s.views) r.freed r.log id w w.role
+      pub knew : Knows r.freed r.log id (r.cells (w.at % n)) w.at w.item w.stage
+
+    pub quiet : (words' : List ℕ) (id late' : ℕ) (closed' : Bool) (v w : View T) → Quiet words' id late' closed' v w
+        → Queue record { words = words'; homes = s.homes; views = set s.views id w }
+    quiet words' id late' closed' v w q =
+        let seats : length (set s.views id w) ≡ length s.views = length-set s.views id w in
+        let sum = sums s.views id v w v.stage v.role w.role q.at refl refl refl in
+        record {
+          slots = grind arith;
+          few_seats = omega arith;
+          within = omega arith;
+          room_is = omega arith;
+          counted = omega arith;
+          budgeted = omega arith;
+          gathered = collects_after closed' r.log id v w q.at q.role q.sees q.goes;
+          unmade = grind arith;
+          each_seat = rw seats (each_after s.views id w (λ j d. Fits (length s.views) r.freed r.log j d d.role) q.fit (λ j d _ e. r.each_seat j d e));
+          each_hand = each_after s.views id w (λ j d. Knows r.freed r.log j (r.cells (d.at % n)) d.at d.item d.stage) q.knew
+              (λ j d _ e. r.each_hand j d e);
+          busy = λ i j near held. let b = r.busy i j near held in grind (arith, set_else, holds_none);
+        }
+
+    -- a step that changes one cell, and the view of the seat that takes it
+    pub record Move (k x i id freed' : ℕ) (log' : List (ℕ × T)) (c' : Cell) (home : maybe.Option (Option (ℕ × T))) (v w : View T) : Type 0 where
+      pub at : get_elem? s.views id ≡ some v
+      pub near : i < n
+      pub role : w.role ≡ v.role
+      pub room : get_or (set s.words k x) 0 0 + length log' + hand_of w.stage + r.freed ≡ get_or s.words 0 0 + length r.log + hand_of v.stage + freed'
+      pub tail : get_or (set s.words k x) 1 0 ≡ length log' + r.late + shut_bit r.closed
+      pub within : length log' + total in_room s.views + found_of w.stage ≤ freed' + n + found_of v.stage
+      pub counted : length log' + wait_of w.stage + v.asks ≤ length r.log + wait_of v.stage + w.asks
+      pub budgeted : budget w ≤ budget v
+      pub sees : id ≡ 0 → Collects r.closed log' s.views w
+      pub goes : id ≢ 0 → (u : View T) → Collects r.closed r.log s.views u → Collects r.closed log' s.views u
+      pub unmade : (q : ℕ) → length s.views ≤ suc q → owned q 0 log' ≡ []
+      pub behind : freed' ≤ length log'
+      pub moves : Next n i r.freed freed'
+      pub adds : Next n i (length r.log) (length log')
+      pub keep : id ≢ 0 → freed' ≡ r.freed
+      pub more : Longer r.log log'
+      pub apart : (j : ℕ) → j ≢ i → j + 2 ≢ k
+      pub here : CellOk n freed' log' (set s.words k x) (set s.homes i home) i c'
+      pub loose : (j : ℕ) → j ≢ id → holder (r.cells i).1 ≢ suc j
+      pub mine : (j : ℕ) → holder c'.1 ≡ suc j → (j ≡ id) × Busy w.stage × (w.at ≡ c'.0)
+      pub single : (q : ℕ) → q < n → q ≢ i → holder (r.cells q).1 ≢ suc id
+      pub fit : Fits (length s.views) freed' log' id w w.role
+      pub knew : Knows freed' log' id (put r.cells i c' (w.at % n)) w.at w.item w.stage
+      pub others : (j : ℕ) (d : View T) → j ≢ id → get_elem? s.views j ≡ some d → Fits (length s.views) freed' log' j d d.role
 
     pub moved : (k x i id freed' : ℕ) (log' : List (ℕ × T)) (c' : Cell) (home : maybe.Option (Option (ℕ × T))) (v w : View T)
-        → get_elem? s.views id ≡ some v → i < n
-        → get_or (set s.words k x) 0 0 + length log' + total in_hand (set s.views id w) ≡ 2 ^ 32 + n + freed'
-        → get_or (set s.words k x) 1 0 ≡ length log' + r.late + shut_bit r.closed
-        → length log' + total in_room (set s.views id w) ≤ freed' + n
-        → length log' + r.late + total waiting (set s.views id w) ≤ total asks_of (set s.views id w) → total budget (set s.views id w) ≤ 64 * 2 ^ 40
-        → ((u : View T) → get_elem? (set s.views id w) 0 ≡ some u → Collects r.closed log' (set s.views id w) u)
-        → ((q : ℕ) → length s.views ≤ suc q → owned q 0 log' ≡ [])
-        → freed' ≤ length log' → Next n i r.freed freed' → Next n i (length r.log) (length log') → (id ≢ 0 → freed' ≡ r.freed) → Longer r.log log'
-        → ((j : ℕ) → j ≢ i → j + 2 ≢ k) → CellOk n freed' log' (set s.words k x) (set s.homes i home) i c'
-        → ((j : ℕ) → j ≢ id → holder (r.cells i).1 ≢ suc j) → ((j : ℕ) → holder c'.1 ≡ suc j → (j ≡ id) × Busy w.stage × (w.at ≡ c'.0))
-        → ((q : ℕ) → q < n → q ≢ i → holder (r.cells q).1 ≢ suc id)
-        → Fits (length s.views) freed' log' id w w.role → Knows freed' log' id (put r.cells i c' (w.at % n)) w.at w.item w.stage
-        → ((j : ℕ) (d : View T) → j ≢ id → get_elem? s.views j ≡ some d → Fits (length s.views) freed' log' j d d.role)
-        → Queue record { words = set s.words k x; homes = set s.homes i home; views = set s.views id w }
-    moved k x i id freed' log' c' home v w at near room tail within counted budgeted gathered unmade behind moves adds keep more apart here loose mine
-        single fit knew others =
+        → Move k x i id freed' log' c' home v w → Queue record { words = set s.words k x; homes = set s.homes i home; views = set s.views id w }
+    moved k x i id freed' log' c' home v w m =
         let words' : List ℕ = set s.words k x in let cells' : ℕ → Cell = put r.cells i c' in let views' : List (View T) = set s.views id w in
         let homes' : Homes T = set s.homes i home in
         let seats : length views' ≡ length s.views = length-set s.views id w in let as_long : length homes' ≡ n = length-set s.homes i home in
+        let sum = sums s.views id v w v.stage v.role w.role m.at refl refl refl in
         record {
           slots = record {
             log = log';
@@ -155,31 +208,31 @@ module _ {T : Type 0} where
             some_slot = omega arith;
             few_slots = omega arith;
             wide = grind (arith, length-set);
-            behind = behind;
-            tail_is = tail;
+            behind = m.behind;
+            tail_is = m.tail;
             none_late = r.none_late;
-            each_cell = rw as_long (λ j l. at_put r.cells i c' (CellOk n freed' log' words' homes') j here (λ other.
-                cell_stays n i r.freed freed' r.log log' s.words words' s.homes homes' j (r.cells j) other moves adds more
-                (get_or-set_other s.words k (j + 2) x 0 (apart j other)) (set_else s.homes i j home other) (r.each_cell j l)));
+            each_cell = rw as_long (λ j l. at_put r.cells i c' (CellOk n freed' log' words' homes') j m.here (λ other.
+                cell_stays n i r.freed freed' r.log log' s.words words' s.homes homes' j (r.cells j) other m.moves m.adds m.more
+                (get_or-set_other s.words k (j + 2) x 0 (m.apart j other)) (set_else s.homes i j home other) (r.each_cell j l)));
           };
           few_seats = omega arith;
           within = omega arith;
-          room_is = grind arith;
-          counted = counted;
-          budgeted = budgeted;
-          gathered = gathered;
-          unmade = λ q le. unmade q (omega arith);
-          each_seat = rw seats (each_after s.views id w (λ j d. Fits (length s.views) freed' log' j d d.role) fit others);
-          each_hand = rw as_long (each_after s.views id w (λ j d. Knows freed' log' j (cells' (d.at % n)) d.at d.item d.stage) knew (λ j d not e.
-              knows_stays r.freed freed' r.log log' j (r.cells (d.at % n)) (cells' (d.at % n)) d.at d.item more
+          room_is = omega arith;
+          counted = omega arith;
+          budgeted = omega arith;
+          gathered = collects_after r.closed log' id v w m.at m.role m.sees m.goes;
+          unmade = grind arith;
+          each_seat = rw seats (each_after s.views id w (λ j d. Fits (length s.views) freed' log' j d d.role) m.fit m.others);
+          each_hand = rw as_long (each_after s.views id w (λ j d. Knows freed' log' j (cells' (d.at % n)) d.at d.item d.stage) m.knew (λ j d not e.
+              knows_stays r.freed freed' r.log log' j (r.cells (d.at % n)) (cells' (d.at % n)) d.at d.item m.more
               (λ held. at_put r.cells i c' (λ q y. q ≡ d.at % n → Path Cell y (r.cells (d.at % n))) (d.at % n)
-              (λ is. absurd (loose j not (grind arith))) (λ _ _. refl) refl)
-              (grind (arith, n))
+              (λ is. absurd (m.loose j not (grind arith))) (λ _ _. refl) refl)
+              (grind (arith, mod-lt))
               d.stage (r.each_hand j d e)));
           busy = rw as_long (λ q j l. at_put r.cells i c'
               (λ z y. z ≡ q → holder y.1 ≡ suc j → (u : View T) × (get_elem? views' j ≡ some u) × Busy u.stage × (u.at ≡ y.0)) q
-              (λ _ held. let m = mine j held in
-              grind (arith, set_here, placed))
-              (λ other _ held. let u = r.busy q j l held in grind (arith, set_else))
+              (λ _ held. let b = m.mine j held in grind (arith, set_here, placed))
+              (λ other _ held. let u = r.busy q j l held in
+              grind (arith, set_else))
               refl);
         }

@@ -6,7 +6,7 @@ use lib.Seq.{set-get_or}
 use Rattle.subvl_queue.proofs.Totals.{sums, hands_small, rooms_small, total_le}
 use Rattle.subvl_queue.proofs.Parts.{owned_mine, owned_other, owned_at, take_next}
 use lib.Bits.{or_shifted_r}
-use Rattle.subvl_queue.proofs.Cells.{St, Homes, put_here, knows, fits, holds_none, holds_one, placed, roles_stay, gathers_stay, moved, each_after}
+use Rattle.subvl_queue.proofs.Cells.{put, St, Homes, put_here, knows, fits, holds_none, holds_one, placed, quiet, moved, each_after}
 
 pub calm_at : (st st' : Stage) → st ≡ st' → (Busy st' → ⊥) → Busy st → ⊥
 calm_at st st' e h b = h (subst Busy e b)
@@ -18,87 +18,10 @@ totals_open closed a b e o k = grind arith
 before_total : (closed : Bool) (n p : ℕ) (o : Option ℕ) → p < n → Totals closed n o → IfSome o (λ t. p < t)
 before_total closed n p o below k = grind arith
 
--- The words from the third on are unchanged.
-abbrev Heads : List ℕ → List ℕ → Type 0
-Heads ws ws' = (length ws' ≡ length ws) × ((i : ℕ) → get_or ws' (i + 2) 0 ≡ get_or ws (i + 2) 0)
-
-heads : (ws : List ℕ) (k x : ℕ) → k < 2 → Heads ws (set ws k x)
-heads ws k x near = grind (arith, length-set, get_or-set_other)
-
 module _ {T : Type 0} where
   abbrev Goes : St T → ℕ → ℕ → Seated T → (ℕ → Seated T → Type 0) → ℕ → Type 0
   Goes s k id me then x = (w : View T) × (a : Act (Option (ℕ × T))) × Valid s.homes me.1 a × Queue (stepped s k x id me.1 w a)
       × then (get_or s.words k 0) (w, carried_after me.1 a)
-
-  -- A step that changes no slot, by a seat that holds none.
-  quiet : (s : St T) (r : Queue s) (words' : List ℕ) (id late' : ℕ) (closed' : Bool) (v w : View T) → get_elem? s.views id ≡ some v
-      → (Busy v.stage → ⊥) → Heads s.words words'
-      → get_or words' 0 0 + length r.log + total in_hand (set s.views id w) ≡ 2 ^ 32 + length s.homes + r.freed
-      → get_or words' 1 0 ≡ length r.log + late' + shut_bit closed' → (closed' ≡ false → late' ≡ 0)
-      → length r.log + total in_room (set s.views id w) ≤ r.freed + length s.homes
-      → length r.log + late' + total waiting (set s.views id w) ≤ total asks_of (set s.views id w) → total budget (set s.views id w) ≤ 64 * 2 ^ 40
-      → ((u : View T) → get_elem? (set s.views id w) 0 ≡ some u → Collects closed' r.log (set s.views id w) u)
-      → Fits (length s.views) r.freed r.log id w w.role → Knows r.freed r.log id (r.cells (w.at % length s.homes)) w.at w.item w.stage
-      → Queue record { words = words'; homes = s.homes; views = set s.views id w }
-  quiet s r words' id late' closed' v w at calm kept room tail open' within counted budgeted gathered' fit knew =
-      let seats : length (set s.views id w) ≡ length s.views = length-set s.views id w in record {
-        slots = grind arith;
-        few_seats = omega arith;
-        within = within;
-        room_is = room;
-        counted = counted;
-        budgeted = budgeted;
-        gathered = gathered';
-        unmade = grind arith;
-        each_seat = rw seats (each_after s.views id w (λ j d. Fits (length s.views) r.freed r.log j d d.role) fit (λ j d _ e. r.each_seat j d e));
-        each_hand = each_after s.views id w (λ j d. Knows r.freed r.log j (r.cells (d.at % length s.homes)) d.at d.item d.stage) knew
-            (λ j d _ e. r.each_hand j d e);
-        busy = λ i j near held. let b = r.busy i j near held in
-            grind (arith, set_else);
-      }
-
-  -- Such a step of a sender that keeps its own list.
-  sends : (s : St T) (r : Queue s) (words' : List ℕ) (id late' : ℕ) (v : View T) (st st' : Stage) (asks' load glances : ℕ) (shut : Bool)
-      → get_elem? s.views id ≡ some v → v.role ≡ Sender → v.stage ≡ st → (Busy st → ⊥) → Heads s.words words'
-      → get_or words' 0 0 + hand_of st' ≡ get_or s.words 0 0 + hand_of st
-      → get_or words' 1 0 ≡ length r.log + late' + shut_bit r.closed → (r.closed ≡ false → late' ≡ 0)
-      → length r.log + total in_room s.views + found_of st' ≤ r.freed + length s.homes + found_of st
-      → late' + wait_of st' + v.asks ≤ r.late + wait_of st + asks' → (v.asks ≤ 2 ^ 40 → asks' ≤ 2 ^ 40)
-      → Knows r.freed r.log id (r.cells (v.at % length s.homes)) v.at v.item st'
-      → Queue record {
-        words = words';
-        homes = s.homes;
-        views = set s.views id
-            (record v { stage = st'; asks = asks'; load = load; glances = glances; shut = shut });
-      }
-  sends s r words' id late' v st st' asks' load glances shut at is was calm kept room tail open' within counted few knew =
-      let w : View T = record v { stage = st'; asks = asks'; load = load; glances = glances; shut = shut } in
-      let sum = sums s.views id v w st Sender Sender at was is is in
-      quiet s r words' id late' r.closed v w at (calm_at _ _ was calm) kept (omega arith) tail open' (omega arith) (omega arith) (omega arith)
-      (gathers_stay s r r.closed r.log id v w at refl refl refl refl (λ _ _ g. g)) (grind arith) knew
-
-  -- Such a step of the receiver between its calls.
-  receives : (s : St T) (r : Queue s) (words' : List ℕ) (id : ℕ) (closed' : Bool) (v : View T) (looks : ℕ) (found : Bool) (last : Option ℕ)
-      (all : Option (List (ℕ × T))) → get_elem? s.views id ≡ some v → v.role ≡ Receiver → v.stage ≡ Idle → Heads s.words words'
-      → get_or words' 0 0 ≡ get_or s.words 0 0
-      → get_or words' 1 0 ≡ length r.log + r.late + shut_bit closed' → (closed' ≡ false → r.late ≡ 0)
-      → Totals closed' (length r.log) last → Whole r.log s.views all
-      → Queue record {
-        words = words';
-        homes = s.homes;
-        views = set s.views id
-            (record v { looks = looks; found = found; total = last; all = all });
-      }
-  receives s r words' id closed' v looks found last all at is was kept room tail open' counted whole =
-      let w : View T = record v { looks = looks; found = found; total = last; all = all } in
-      let f = fits s r id v Receiver at is in
-      let at0 = ap (get_elem? s.views) (sym f.0) ∙ at in
-      let sum = sums s.views id v w v.stage v.role v.role at refl refl refl in
-      quiet s r words' id r.late closed' v w at (calm_at _ _ was (λ z. z)) kept (omega arith) tail open' (omega arith) (omega arith) (omega arith)
-      (λ u e. subst (Collects closed' r.log (set s.views id w)) (maybe.some-injective w u
-      (grind (arith, set_here)))
-      (roles_stay s r closed' r.log id v w w at refl (counted, (r.gathered v at0).1, whole)))
-      (grind arith) (r.each_hand id v at)
 
   -- A step that only reads a word.
   reads : (s : St T) (k id : ℕ) (w : View T) → Queue record { words = s.words; homes = s.homes; views = set s.views id w }
@@ -123,9 +46,7 @@ module _ {T : Type 0} where
           let x' : ℕ = (x + (2 ^ 64 - 1)) % 2 ^ 64 in
           let hands = hands_small s.views in
           let now = get_or-set_same s.words 0 x' 0 (omega arith) in
-          sends s r (set s.words 0 x') id r.late me.0 Idle st (me.0.asks + 1) held me.0.glances me.0.shut at is was (λ z. z)
-          (heads s.words 0 x' (omega arith)) (omega arith) (grind (arith, get_or-set_other)) r.none_late
-          (omega arith) (omega arith) (λ _. omega arith) knew
+          quiet s r (set s.words 0 x') id r.late r.closed me.0 (with_ask me.0 st held) (grind (arith, fits, calm_at, length-set, get_or-set_other))
 
       go : Dec (suc (2 ^ 32) ≤ get_or s.words 0 0)
           → Goes s 0 id me (reserves (step n 0 1 0 none) me) ((get_or s.words 0 0 + (2 ^ 64 - 1)) % 2 ^ 64)
@@ -149,9 +70,7 @@ module _ {T : Type 0} where
       given st e hand calm =
           let x' : ℕ = (get_or s.words 0 0 + 1) % 2 ^ 64 in
           let now = get_or-set_same s.words 0 x' 0 (omega arith) in
-          sends s r (set s.words 0 x') id r.late me.0 st Idle me.0.asks me.0.load me.0.glances me.0.shut at is e calm
-          (heads s.words 0 x' (omega arith)) (omega arith) (grind (arith, get_or-set_other)) r.none_late
-          (omega arith) (omega arith) (λ z. z) tt
+          quiet s r (set s.words 0 x') id r.late r.closed me.0 (idle me.0) (grind (arith, fits, calm_at, length-set, get_or-set_other))
 
   -- The slot of the next place is free.
   is_free : (t m F : ℕ) (log : List (ℕ × T)) (homes : Homes T) (i q : ℕ) → length log ≡ t → F ≤ t → t < F + m → q < F + m → t % m ≡ q % m
@@ -198,25 +117,18 @@ module _ {T : Type 0} where
           let ok = r.each_cell i near in
           let fr = is_free L m F r.log s.homes i (r.cells i).0 refl r.behind (omega arith) ok.early (sym ok.lies) (r.cells i).1 ok.phase in
           let keep = get_or-set_other s.words 1 0 y' 0 (omega arith) in
+          let goes : (u : View T) → Collects r.closed r.log s.views u → Collects r.closed log' s.views u =
+              grows r.closed r.log s.views x me.0.port shut mine (grind (arith, fits)) in
+          let knew : Knows F log' id (put r.cells i (L, writing id) i) L (Some x) Drew =
+              (put_here r.cells i (L, writing id), (x, refl, at_last r.log x L refl)) in
+          let others : (j : ℕ) (d : View T) → j ≢ id → get_elem? s.views j ≡ some d → Fits (length s.views) F log' j d d.role =
+              grind (arith, other_port, fits) in
+          let more = at_longer r.log (x ∷ []) in
           let now = get_or-set_same s.words 1 y' 0 (omega arith) in (
             w,
             takes i None,
             fr.1,
-            moved s r 1 y' i id F log' (L, writing id) none me.0 w at near (omega arith) (omega arith) (omega arith) (omega arith) (omega arith)
-                (gathers_stay s r r.closed log' id me.0 w at refl refl refl refl
-                (λ u at0 g. grows r.closed r.log s.views x me.0.port shut mine
-                (grind arith) u g))
-                (grind (arith, owned_other, placed)) (omega arith) (inl refl)
-                (inr (omega arith, refl)) (λ _. refl) (λ z u e. at_longer r.log (x ∷ []) z u e) (λ j _ e. omega arith)
-                record {
-                  shows = grind (arith, get_or-set_other);
-                  lies = refl;
-                  early = omega arith;
-                  late = omega arith;
-                  phase = (r.behind, omega arith);
-                }
-                (grind (arith, suc-ne-zero)) (λ j e. (omega arith, tt, refl)) (grind (arith, holds_none)) (grind (arith, owned_mine))
-                (put_here r.cells i (L, writing id), (x, refl, at_last r.log x L refl)) (grind (arith, other_port)),
+            moved s r 1 y' i id F log' (L, writing id) none me.0 w (grind (arith, fits, get_or-set_other, holds_none, owned_mine, owned_other, placed)),
             ((λ _. (x, says, grind arith, grind arith)), λ big. absurd (omega arith)),
           )
 
@@ -224,15 +136,13 @@ module _ {T : Type 0} where
       too_late shut =
           let y : ℕ = get_or s.words 1 0 in
           let y' : ℕ = (y + 1) % 2 ^ 64 in
-          let bit : shut_bit r.closed ≡ 2 ^ 63 = ap shut_bit shut in
           let bound = few_drawn s r in
           let keep = get_or-set_other s.words 1 0 y' 0 (omega arith) in
           let now = get_or-set_same s.words 1 y' 0 (omega arith) in (
             lated me.0,
             keeps,
             tt,
-            sends s r (set s.words 1 y') id (suc r.late) me.0 Asked Late me.0.asks me.0.load me.0.glances true at is was (λ z. z)
-                (heads s.words 1 y' (omega arith)) (omega arith) (omega arith) (λ e. absurd (cc)) (omega arith) (omega arith) (λ z. z) tt,
+            quiet s r (set s.words 1 y') id (suc r.late) r.closed me.0 (lated me.0) (grind (arith, fits, calm_at, length-set, get_or-set_other)),
             grind arith,
           )
 
@@ -247,29 +157,15 @@ module _ {T : Type 0} where
       let ok = subst (CellOk (length s.homes) F r.log s.words s.homes i) mine (r.each_cell i near) in
       let slot : p % n ≡ i = grind arith in
       let w = idle me.0 in
-      let sum = sums s.views id me.0 w Drew Sender Sender at was is is in
+      let there : (x : ℕ × T) × (get_elem? r.log p ≡ some x) × (get_elem? (set s.homes i (some me.0.item)) i ≡ some (some (Some x))) =
+          (kn.1.0, kn.1.2, grind (arith, set_here)) in
       let keep0 = get_or-set_other s.words k 0 new 0 (λ e. omega arith) in
-      let keep1 = get_or-set_other s.words k 1 new 0 (λ e. omega arith) in
       subst (λ (cs : List (ℕ × Option (ℕ × T))). Goes s k id (me.0, cs) (λ _ u. publishes (step n k new 0 none) (me.0, cs) new u) new)
       (sym (has ∙ ap (λ (z : ℕ). (z, me.0.item) ∷ []) slot)) (
         w,
         gives,
         tt,
-        moved s r k new i id F r.log (p, full) (some me.0.item) me.0 w at near (omega arith) (keep1 ∙ r.tail_is) (omega arith) (omega arith)
-            (omega arith) (gathers_stay s r r.closed r.log id me.0 w at refl refl refl refl (λ _ _ g. g)) r.unmade r.behind (inl refl) (inl refl)
-            (λ _. refl) (λ _ _ e. e) (grind arith)
-            record {
-              shows = grind (arith, get_or-set_same);
-              lies = refl;
-              early = ok.early;
-              late = ok.late;
-              phase = (
-                ok.phase.0,
-                ok.phase.1,
-                (kn.1.0, kn.1.2, grind (arith, set_here)),
-              );
-            }
-            (grind arith) (λ j e. absurd (suc-ne-zero j (sym e))) (grind (arith, holds_one)) (grind arith) tt (grind arith),
+        moved s r k new i id F r.log (p, full) (some me.0.item) me.0 w (grind (arith, fits, get_or-set_other, get_or-set_same, holds_one)),
         (refl, refl),
       )
 
@@ -319,27 +215,15 @@ module _ {T : Type 0} where
       (λ e. holds_none s r id me.0 at calm i near (ap holder e ∙ ap suc (sym f.0))) (sym shows ∙ hit ∙ ap suc pF) ok.phase in
       let x = rd.3.0 in
       let w = holding me.0 p x in
-      let sum = sums s.views id me.0 w Idle Receiver Receiver at was is is in
       let keep0 = get_or-set_other s.words k 0 y 0 (λ e. omega arith) in
-      let keep1 = get_or-set_other s.words k 1 y 0 (λ e. omega arith) in
       let bound = few_drawn s r in
       let below : p < L = omega (arith, rd.2) in
-      let logged : get_elem? r.log p ≡ some x = grind arith in (
+      let logged : get_elem? r.log p ≡ some x = grind arith in
+      let knew : Knows F r.log id (put r.cells i (p, reading id) i) p (Some x) Holding = ((put_here r.cells i (p, reading id), (x, refl, logged)), pF) in (
         w,
         takes i (Some x),
         rd.3.2,
-        moved s r k y i id F r.log (p, reading id) none me.0 w at near (omega arith) (keep1 ∙ r.tail_is) (omega arith) (omega arith) (omega arith)
-            (gathers_stay s r r.closed r.log id me.0 w at refl refl refl refl (λ _ _ g. g)) r.unmade r.behind (inl refl) (inl refl) (λ _. refl)
-            (λ _ _ e. e) (grind arith)
-            record {
-              shows = grind (arith, get_or-set_same);
-              lies = refl;
-              early = omega arith;
-              late = omega arith;
-              phase = (pF, below, f.0);
-            }
-            (grind (arith, suc-ne-zero)) (λ j e. (omega arith, tt, refl)) (grind (arith, holds_none))
-            (grind arith) ((put_here r.cells i (p, reading id), (x, refl, logged)), pF) (grind arith),
+        moved s r k y i id F r.log (p, reading id) none me.0 w (grind (arith, get_or-set_other, get_or-set_same, holds_none)),
         (
           (λ _. (
             x,
@@ -361,8 +245,7 @@ module _ {T : Type 0} where
         with_look me.0 false,
         keeps,
         tt,
-        reads s k id (with_look me.0 false) (receives s r s.words id r.closed me.0 (me.0.looks + 1) false me.0.total me.0.all at is was
-            (refl, λ _. refl) refl r.tail_is r.none_late gath.0 gath.2),
+        reads s k id (with_look me.0 false) (quiet s r s.words id r.late r.closed me.0 (with_look me.0 false) (grind (arith, fits, calm_at))),
         (
           (λ hit. absurd (miss hit)),
           λ _. (
@@ -387,7 +270,8 @@ module _ {T : Type 0} where
       let y' : ℕ = (y + 1) % 2 ^ 64 in
       let f = fits s r id me.0 Receiver at is in
       let w = freed_of me.0 x in
-      let sum = sums s.views id me.0 w Holding Receiver Receiver at was is is in
+      let logged : get_elem? r.log F ≡ some x = grind arith in
+      let next = take_next r.log F x logged in
       let now = get_or-set_same s.words 0 y' 0 (omega arith) in
       let count = length-append me.0.taken (x ∷ []) in
       subst (λ (cs : List (ℕ × Option (ℕ × T))). Goes s 0 id (me.0, cs) (takes_out (step n 0 1 0 none) (me.0, cs)) y') {x = (i, None) ∷ []}
@@ -395,19 +279,7 @@ module _ {T : Type 0} where
         w,
         gives,
         tt,
-        moved s r 0 y' i id (suc F) r.log (p + m, free) (some None) me.0 w at near (omega arith)
-            (grind (arith, get_or-set_other)) (omega arith) (omega arith) (omega arith)
-            (gathers_stay s r r.closed r.log id me.0 w at refl refl refl refl (λ _ _ g. g)) r.unmade (omega arith)
-            (grind arith) (inl refl) (λ ne. absurd (ne f.0)) (λ _ _ e. e) (λ j _ e. omega arith)
-            record {
-              shows = grind (arith, get_or-set_other);
-              lies = add-mod_right p m;
-              early = omega arith;
-              late = omega arith;
-              phase = grind (arith, set_here);
-            }
-            (grind arith) (λ j e. absurd (suc-ne-zero j (sym e))) (grind (arith, holds_one)) (grind (arith, take_next)) tt
-            (grind arith),
+        moved s r 0 y' i id (suc F) r.log (p + m, free) (some None) me.0 w (grind (arith, fits, get_or-set_other, set_here, holds_one, add-mod_right)),
         (refl, (x, kn.0.1.1, refl)),
       )
     where
@@ -421,8 +293,7 @@ module _ {T : Type 0} where
   finds_closed_ok n id me is was s r wide at small = go (dec_le (2 ^ 63) (get_or s.words 1 0))
     where
       went : (b : Bool) → Queue (stepped s 1 (get_or s.words 1 0) id me.1 (with_glance me.0 b) keeps)
-      went b = reads s 1 id (with_glance me.0 b) (sends s r s.words id r.late me.0 me.0.stage me.0.stage me.0.asks me.0.load (me.0.glances + 1) b at is
-          refl (calm_at _ _ was (λ z. z)) (refl, λ _. refl) refl r.tail_is r.none_late (omega arith) (omega arith) (λ z. z) (r.each_hand id me.0 at))
+      went b = reads s 1 id (with_glance me.0 b) (quiet s r s.words id r.late r.closed me.0 (with_glance me.0 b) (grind (arith, fits, calm_at)))
 
       go : Dec (2 ^ 63 ≤ get_or s.words 1 0) → Goes s 1 id me (finds_closed (step n 1 0 0 none) me) (get_or s.words 1 0)
       go (yes d) = (with_glance me.0 true, keeps, tt, went true, grind arith)
@@ -439,16 +310,13 @@ module _ {T : Type 0} where
   closes_ok n id me is was none' s r wide at small =
       let y : ℕ = get_or s.words 1 0 in
       let y' : ℕ = bit_or y (2 ^ 63) in
-      let g = r.gathered me.0 (grind arith) in
-      let open' = open_tail s r me.0.total none' g.0 in
       let bound = few_drawn s r in
       let more = or_shifted_r 1 63 y (grind arith) in
       let now = get_or-set_same s.words 1 y' 0 (omega arith) in (
         with_total me.0 y,
         keeps,
         tt,
-        receives s r (set s.words 1 y') id true me.0 me.0.looks me.0.found (Some y) me.0.all at is was (heads s.words 1 y' (omega arith))
-            (get_or-set_other s.words 1 0 y' 0 (omega arith)) (omega arith) (λ e. absurd (cc)) (refl, open'.2) g.2,
+        quiet s r (set s.words 1 y') id r.late true me.0 (with_total me.0 y) (grind (arith, fits, calm_at, length-set, get_or-set_other)),
         grind arith,
       )
 
@@ -465,7 +333,6 @@ module _ {T : Type 0} where
         with_all me.0 r.log,
         keeps,
         tt,
-        reads s 1 id (with_all me.0 r.log) (receives s r s.words id r.closed me.0 me.0.looks me.0.found me.0.total (Some r.log) at is was
-            (refl, λ _. refl) refl r.tail_is r.none_late g.0 (refl, gone)),
+        reads s 1 id (with_all me.0 r.log) (quiet s r s.words id r.late r.closed me.0 (with_all me.0 r.log) (grind (arith, fits, calm_at))),
         grind arith,
       )
