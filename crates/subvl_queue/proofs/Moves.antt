@@ -1,12 +1,11 @@
 -- Each step keeps the rule.
-use Rattle.subvl_queue.proofs.Names.{◌≡◌, ◌≢◌, ℕ, zero, suc, ◌+◌, ◌-◌, ◌*◌, ◌^◌, ◌%◌, ◌<◌, ◌≤◌, ◌⊎◌, inl, inr, Bool, true, false, List, [], ◌∷◌, ◌++◌, length, get_or, set, sym, refl, ap, ◌∙◌, subst, ⊎_elim, arith, mod-lt, suc-ne-zero, length-set, length-append, get_or-set_other, get_or-set_same, lt_of_not-le, cases_Bool, none, some, add-mod_right, ℕ_discrete, dec_le, get_elem?, Option, Some, None, IfSome, bit_or, take-append-le, step, Act, keeps, takes, gives, Valid, carried_after, stepped, Allows, set_here, set_else, at_last, at_longer, one_turn, View, Role, Sender, Receiver, Stage, Idle, Asked, Refused, Drew, Late, Holding, total, hand_of, found_of, wait_of, shut_bit, in_hand, in_room, waiting, asks_of, budget, Totals, Gone, Whole, Collects, Busy, Phase, free, writing, full, reading, holder, shown, InPhase, CellOk, Knows, Fits, Queue, Seated, with_ask, idle, drawn, with_look, holding, freed_of, lated, with_glance, with_total, with_all, reserves, unreserves, claims, publishes, finds_ready, takes_out, finds_closed, closes, gathers}
+use Rattle.subvl_queue.proofs.Names.{◌≡◌, ◌≢◌, ℕ, zero, suc, ◌+◌, ◌-◌, ◌*◌, ◌^◌, ◌%◌, ◌<◌, ◌≤◌, ◌⊎◌, Bool, true, false, List, [], ◌∷◌, ◌++◌, length, get_or, set, sym, refl, ap, ◌∙◌, subst, ⊎_elim, arith, mod-lt, length-set, length-append, get_or-set_other, get_or-set_same, lt_of_not-le, cases_Bool, none, some, add-mod_right, ℕ_discrete, dec_le, get_elem?, Option, Some, None, IfSome, bit_or, take-append-le, step, Act, keeps, takes, gives, Valid, carried_after, stepped, Allows, set_here, at_last, at_longer, one_turn, View, Role, Sender, Receiver, Stage, Idle, Asked, Refused, Drew, Late, Holding, total, hand_of, found_of, wait_of, shut_bit, in_hand, in_room, waiting, Totals, Gone, Whole, Collects, Busy, Phase, free, writing, full, reading, holder, shown, InPhase, Knows, Fits, Queue, Seated, with_ask, idle, drawn, with_look, holding, freed_of, lated, with_glance, with_total, with_all, reserves, unreserves, claims, publishes, finds_ready, takes_out, finds_closed, closes, gathers}
 use mathlib.Core.Logic.{dite}
-use mathlib.Core.Option as maybe
 use lib.Seq.{set-get_or}
 use Rattle.subvl_queue.proofs.Totals.{sums, hands_small, rooms_small, total_le}
 use Rattle.subvl_queue.proofs.Parts.{owned_mine, owned_other, owned_at, take_next}
 use lib.Bits.{or_shifted_r}
-use Rattle.subvl_queue.proofs.Cells.{put, St, Homes, put_here, knows, fits, holds_none, holds_one, placed, quiet, moved, each_after}
+use Rattle.subvl_queue.proofs.Cells.{put, St, Homes, put_here, knows, fits, holds_none, holds_one, placed, quiet, moved}
 
 pub calm_at : (st st' : Stage) → st ≡ st' → (Busy st' → ⊥) → Busy st → ⊥
 calm_at st st' e h b = h (subst Busy e b)
@@ -116,13 +115,10 @@ module _ {T : Type 0} where
           let near : i < m = mod-lt L r.some_slot in
           let ok = r.each_cell i near in
           let fr = is_free L m F r.log s.homes i (r.cells i).0 refl r.behind (omega arith) ok.early (sym ok.lies) (r.cells i).1 ok.phase in
-          let keep = get_or-set_other s.words 1 0 y' 0 (omega arith) in
-          let goes : (u : View T) → Collects r.closed r.log s.views u → Collects r.closed log' s.views u =
-              grows r.closed r.log s.views x me.0.port shut mine (grind (arith, fits)) in
           let knew : Knows F log' id (put r.cells i (L, writing id) i) L (Some x) Drew =
-              (put_here r.cells i (L, writing id), (x, refl, at_last r.log x L refl)) in
+          (put_here r.cells i (L, writing id), (x, refl, at_last r.log x L refl)) in
           let others : (j : ℕ) (d : View T) → j ≢ id → get_elem? s.views j ≡ some d → Fits (length s.views) F log' j d d.role =
-              grind (arith, other_port, fits) in
+          grind (arith, other_port, fits) in
           let more = at_longer r.log (x ∷ []) in
           let now = get_or-set_same s.words 1 y' 0 (omega arith) in (
             w,
@@ -137,7 +133,6 @@ module _ {T : Type 0} where
           let y : ℕ = get_or s.words 1 0 in
           let y' : ℕ = (y + 1) % 2 ^ 64 in
           let bound = few_drawn s r in
-          let keep = get_or-set_other s.words 1 0 y' 0 (omega arith) in
           let now = get_or-set_same s.words 1 y' 0 (omega arith) in (
             lated me.0,
             keeps,
@@ -151,15 +146,11 @@ module _ {T : Type 0} where
       → Allows Queue n id me k (λ _. new) (λ _ m. publishes (step n k new 0 none) me new m)
   publishes_ok n id me k new is was has word next s r wide at small =
       let F : ℕ = r.freed in let p : ℕ = me.0.at in let i : ℕ = p % length s.homes in
-      let near = mod-lt p r.some_slot in
       let kn = knows s r id me.0 Drew at was in
-      let mine = kn.0 in
-      let ok = subst (CellOk (length s.homes) F r.log s.words s.homes i) mine (r.each_cell i near) in
       let slot : p % n ≡ i = grind arith in
       let w = idle me.0 in
       let there : (x : ℕ × T) × (get_elem? r.log p ≡ some x) × (get_elem? (set s.homes i (some me.0.item)) i ≡ some (some (Some x))) =
-          (kn.1.0, kn.1.2, grind (arith, set_here)) in
-      let keep0 = get_or-set_other s.words k 0 new 0 (λ e. omega arith) in
+      (kn.1.0, kn.1.2, grind (arith, set_here)) in
       subst (λ (cs : List (ℕ × Option (ℕ × T))). Goes s k id (me.0, cs) (λ _ u. publishes (step n k new 0 none) (me.0, cs) new u) new)
       (sym (has ∙ ap (λ (z : ℕ). (z, me.0.item) ∷ []) slot)) (
         w,
@@ -215,7 +206,6 @@ module _ {T : Type 0} where
       (λ e. holds_none s r id me.0 at calm i near (ap holder e ∙ ap suc (sym f.0))) (sym shows ∙ hit ∙ ap suc pF) ok.phase in
       let x = rd.3.0 in
       let w = holding me.0 p x in
-      let keep0 = get_or-set_other s.words k 0 y 0 (λ e. omega arith) in
       let bound = few_drawn s r in
       let below : p < L = omega (arith, rd.2) in
       let logged : get_elem? r.log p ≡ some x = grind arith in
@@ -261,14 +251,10 @@ module _ {T : Type 0} where
       → Allows Queue n id me 0 (λ y. (y + 1) % 2 ^ 64) (takes_out (step n 0 1 0 none) me)
   takes_out_ok n id me is was has s r wide at small =
       let m : ℕ = length s.homes in let F : ℕ = r.freed in let p : ℕ = me.0.at in let i : ℕ = p % m in
-      let near = mod-lt p r.some_slot in
       let kn = knows s r id me.0 Holding at was in
-      let mine = kn.0.0 in
       let x = kn.0.1.0 in
-      let ok = subst (CellOk m F r.log s.words s.homes i) mine (r.each_cell i near) in
       let y : ℕ = get_or s.words 0 0 in
       let y' : ℕ = (y + 1) % 2 ^ 64 in
-      let f = fits s r id me.0 Receiver at is in
       let w = freed_of me.0 x in
       let logged : get_elem? r.log F ≡ some x = grind arith in
       let next = take_next r.log F x logged in
@@ -298,11 +284,6 @@ module _ {T : Type 0} where
       go : Dec (2 ^ 63 ≤ get_or s.words 1 0) → Goes s 1 id me (finds_closed (step n 1 0 0 none) me) (get_or s.words 1 0)
       go (yes d) = (with_glance me.0 true, keeps, tt, went true, grind arith)
       go (no d) = (with_glance me.0 false, keeps, tt, went false, grind arith)
-
-  -- The tail of an open queue is the length of the log.
-  open_tail : (s : St T) (r : Queue s) (o : Option ℕ) → o ≡ None → Totals r.closed (length r.log) o
-      → (shut_bit r.closed ≡ 0) × (r.late ≡ 0) × (get_or s.words 1 0 ≡ length r.log)
-  open_tail s r o none' k = grind arith
 
   -- The first close.
   pub closes_ok : (n id : ℕ) (me : Seated T) → me.0.role ≡ Receiver → me.0.stage ≡ Idle → me.0.total ≡ None

@@ -1,5 +1,5 @@
 -- The messages of one port in a list, and their places.
-use Rattle.subvl_queue.proofs.Names.{◌≡◌, ◌≢◌, ℕ, zero, suc, ◌+◌, ◌-◌, ◌==◌, ◌<◌, ◌≤◌, if◌then◌else◌, List, [], ◌∷◌, ◌++◌, length, map, take, drop, get_or, Bool, true, eqb, cond, sym, refl, ap, ◌∙◌, subst, arith, eq-eqb, ne_eqb, lt_of_not-le, some, some-injective, some-ne-none, ℕ_discrete, get_elem?, eqb-true, All-cons, All-nil, Message, items_of, own_of, places_of, IsItem, AreItems, part_of, owned, StandAt, TellsLeft}
+use Rattle.subvl_queue.proofs.Names.{◌≡◌, ◌≢◌, ℕ, zero, suc, ◌+◌, ◌-◌, ◌==◌, ◌<◌, ◌≤◌, if◌then◌else◌, List, [], ◌∷◌, ◌++◌, length, map, take, drop, get_or, Bool, true, eqb, cond, sym, refl, ap, ◌∙◌, subst, arith, eq-eqb, ne_eqb, lt_of_not-le, some, some-injective, some-ne-none, get_elem?, eqb-true, All-cons, All-nil, Message, items_of, own_of, places_of, IsItem, AreItems, part_of, owned, StandAt, TellsLeft}
 
 cond_append : {A : Type 0} (b : Bool) (x : A) (l r : List A) → cond b (x ∷ (l ++ r)) (l ++ r) ≡ cond b (x ∷ l) l ++ r
 cond_append b x l r = grind arith
