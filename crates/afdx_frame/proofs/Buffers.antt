@@ -1,5 +1,5 @@
 -- What a buffer holds after fragments of one datagram are put into it.
-use Rattle.afdx_frame.proofs.Names.{◌≡◌, ℕ, zero, suc, ◌+◌, ◌-◌, ◌*◌, ◌/◌, ◌≤◌, ◌<◌, inl, inr, Bool, true, false, not, nat_le, nat_lt, List, [], ◌∷◌, length, drop, get_or, refl, sym, ap, ◌∙◌, subst, arith, All, Contains, Option, Some, None, slice_index, if◌then◌else◌, list_any, cases_lt, cases_Bool, false_from_ne_true, and_parts, and_from, leb-true, ltb-true, le-leb, lt-ltb, get_or-map, get_or-take, get_or-drop, length-map, length-take, length-drop, All-contains, All-contains_itself, All-map, All-head, All-tail, All-weaker, Contains-get_or, Piece, cutting, pieces_from, Fragment, Buffer, empty, covers, put, put_all, joined, bytes_from, bytes_to, fragment_of, fragments_of, AnyOrder, NotBefore}
+use Rattle.afdx_frame.proofs.Names.{◌≡◌, ℕ, zero, suc, ◌+◌, ◌-◌, ◌*◌, ◌≤◌, ◌<◌, inl, inr, Bool, true, false, not, List, [], ◌∷◌, length, get_or, refl, sym, ◌∙◌, subst, arith, All, Contains, Option, Some, None, slice_index, if◌then◌else◌, list_any, cases_lt, cases_Bool, false_from_ne_true, get_or-map, get_or-take, get_or-drop, length-map, length-take, length-drop, All-contains, All-contains_itself, All-map, All-head, All-tail, All-weaker, Contains-get_or, Piece, cutting, pieces_from, Fragment, Buffer, empty, covers, put, put_all, joined, bytes_from, bytes_to, fragment_of, fragments_of, AnyOrder, NotBefore}
 use Rattle.std.proofs.lemmas.List.Folds.{list_any_at, list_any_none}
 use Rattle.afdx_frame.proofs.CuttingLaw.{IsPart, pieces_are, cover_of}
 
@@ -48,7 +48,7 @@ none_given : (n : ℕ) (byte_at : ℕ → Option ℕ) (start i : ℕ) → start 
 none_given zero byte_at start i low high none = absurd (omega arith)
 none_given (suc n) byte_at start i low high none = elim (cases_lt start i) [
   | inl later ↦ rw (none_given n byte_at (start + 1) i (omega arith) (omega arith) none) (joined_none (byte_at start))
-  | inr here ↦ let e : start ≡ i = omega arith in rw (e, none) refl
+  | inr here ↦ grind arith
 ]
   where
     joined_none : (o : Option ℕ) → joined o None ≡ None
@@ -61,19 +61,11 @@ covers_parts f i in_it = grind arith
 
 -- The data of a piece's fragment has the length of the piece.
 data_length : (d : List ℕ) (p : Piece) → p.start + p.len ≤ length d → length (fragment_of d p).bytes ≡ p.len
-data_length d p within = let a = length-take p.len (drop p.start d) in let b = length-drop p.start d in omega arith
+data_length d p within = grind (arith, length-take, length-drop)
 
 -- the fragment of a piece agrees with the datagram
 agrees_of : (room : ℕ) (d : List ℕ) (p : Piece) → IsPart room (length d) p → Agrees d (fragment_of d p)
-agrees_of room d p is =
-    let len = data_length d p is.within in
-    record {
-      same = λ i in_it. let c = covers_parts (fragment_of d p) i in_it in let low = c.0 in let high = c.1 in
-          let back : p.start + (i - 8 * (p.start / 8)) ≡ i = omega arith in
-          get_or-take p.len (drop p.start d) (i - 8 * (p.start / 8)) 0 (omega arith)
-          ∙ get_or-drop p.start d (i - 8 * (p.start / 8)) 0 ∙ ap (λ (k : ℕ). get_or d k 0) back;
-      total = λ isnt. let c = is.closing isnt in omega arith;
-    }
+agrees_of room d p is = grind (arith, data_length, get_or-take, get_or-drop)
 
 module _ (room : ℕ) (d : List ℕ) (came : List Fragment) (least : 8 ≤ room) (some : 1 ≤ length d)
     (only : (f : Fragment) → Contains came f → Contains (fragments_of room d) f) where
@@ -102,7 +94,7 @@ module _ (room : ℕ) (d : List ℕ) (came : List Fragment) (least : 8 ≤ room)
 
   -- If one that came passes a test, some fragment passes it.
   came_some : (test : Fragment → Bool) (f : Fragment) → Contains came f → test f ≡ true → list_any test came ≡ true
-  came_some test f (k, inside, here) passes = list_any_at test came k f inside (rw here passes)
+  came_some test f (k, inside, here) passes = grind (arith, list_any_at)
 
   -- If all fragments came, the buffer gives the datagram.
   whole : ((f : Fragment) → Contains (fragments_of room d) f → Contains came f)
@@ -114,7 +106,7 @@ module _ (room : ℕ) (d : List ℕ) (came : List Fragment) (least : 8 ≤ room)
       among p (k, inside, here) = has (fragment_of d p) (
         k,
         omega (arith, length-map pieces (fragment_of d)),
-        get_or-map (fragment_of d) pieces k p (fragment_of d p) inside ∙ ap (fragment_of d) here,
+        grind (arith, get_or-map),
       )
 
       known : (i : ℕ) → i < length d → (put_all empty came).byte_at i ≡ Some (slice_index d i)
@@ -124,8 +116,7 @@ module _ (room : ℕ) (d : List ℕ) (came : List Fragment) (least : 8 ≤ room)
           let len = data_length d cover.piece is.within in
           let f : Fragment = fragment_of d cover.piece in
           let in_it : covers f i ≡ true
-          = and_from (nat_le (8 * f.offset) i) (nat_lt i (8 * f.offset + length f.bytes)) (le-leb _ _ (omega arith))
-          (lt-ltb _ _ (omega arith)) in
+          = grind arith in
           byte_after d i came empty agree
           ∙ rw (came_some (λ g. covers g i) f (among cover.piece cover.among) in_it) refl
 
@@ -134,7 +125,7 @@ module _ (room : ℕ) (d : List ℕ) (came : List Fragment) (least : 8 ≤ room)
           let last = cover_of room (length d - 1) (length d) least (omega arith) in
           let is = part last.piece last.among in
           let ends : last.piece.more ≡ false
-          = false_from_ne_true last.piece.more (λ more. let h = (is.going more).0 in omega arith) in
+          = grind arith in
           total_after d came empty agree
           ∙ rw (came_some (λ g. not g.more) (fragment_of d last.piece) (among last.piece last.among) (rw ends refl)) refl
 
@@ -144,7 +135,6 @@ module _ (room : ℕ) (d : List ℕ) (came : List Fragment) (least : 8 ≤ room)
   lacking missing has lacks =
       let src = source_of missing has in
       let is = part src.0 src.1 in
-      let within = is.within in
       let at = src.0.start in
       let cover = cover_of room at (length d) least (omega arith) in
       let uncovered : list_any (λ f. covers f at) came ≡ false = list_any_none (λ f. covers f at) came (λ k e inside.
@@ -153,10 +143,10 @@ module _ (room : ℕ) (d : List ℕ) (came : List Fragment) (least : 8 ≤ room)
       let its = part other.0 other.1 in
       let len = data_length d other.0 its.within in
       false_from_ne_true _ (λ in_it.
-      let (low, high) = covers_parts (fragment_of d other.0) at (ap (λ (g : Fragment). covers g at) other.2 ∙ in_it) in
+      let (low, high) = covers_parts (fragment_of d other.0) at (grind arith) in
       let same : other.0 ≡ src.0 = sym (cover.only other.0 other.1 (omega arith) (omega arith))
       ∙ cover.only src.0 src.1 (omega arith) (omega arith) in
-      lacks (subst (Contains came) (sym other.2 ∙ ap (fragment_of d) same ∙ src.2) there))) in
+      grind arith)) in
       let unknown : (put_all empty came).byte_at at ≡ None = byte_after d at came empty agree ∙ rw uncovered refl in
       elim (cases_Bool (list_any (λ f. not f.more) came)) [
         | inl ended ↦ rw (total_after d came empty agree, ended)

@@ -1,21 +1,21 @@
 -- A template's headers, once a frame has filled in its fields.
-use Rattle.afdx_frame.proofs.Names.{refl, ◌≡◌, ℕ, ◌+◌, List, length, take, set, ap, ◌∙◌, arith, nat_lt, true, ltb-true, PortPlan, link_header, take-set-lt, Net, Piece, internet_header, ◌++◌, sym, append_assoc, take-append_seam}
+use Rattle.afdx_frame.proofs.Names.{refl, ◌≡◌, ℕ, ◌+◌, List, length, take, set, ap, ◌∙◌, arith, nat_lt, true, PortPlan, link_header, take-set-lt, Net, Piece, internet_header, ◌++◌, sym, append_assoc, take-append_seam}
 use Rattle.std.proofs.lemmas.List.{take-take}
 use Rattle.afdx_plan.specs.Plan.{IsPort}
 use Rattle.afdx_frame.proofs.Says.{length-internet}
 
 -- One byte that is set within the first n.
 pub set_one : (n : ℕ) (xs ys : List ℕ) (at byte : ℕ) → nat_lt at n ≡ true → take n xs ≡ ys → take n (set xs at byte) ≡ set ys at byte
-set_one n xs ys at byte inside is = take-set-lt n xs at byte (ltb-true _ _ inside) ∙ ap (λ (zs : List ℕ). set zs at byte) is
+set_one n xs ys at byte inside is = grind (arith, take-set-lt)
 
 -- A word that is set within the first n bytes.
 pub set_two : (n : ℕ) (xs ys : List ℕ) (at high low : ℕ) → nat_lt at n ≡ true → nat_lt (at + 1) n ≡ true → take n xs ≡ ys
     → take n (set (set xs at high) (at + 1) low) ≡ set (set ys at high) (at + 1) low
-set_two n xs ys at high low first second is = set_one n _ _ (at + 1) low second (set_one n xs ys at high first is)
+set_two n xs ys at high low first second is = grind (arith, set_one)
 
 -- The first n elements, if they are known.
 pub front_of : (n : ℕ) (xs ys zs : List ℕ) → length xs ≡ n → xs ≡ zs → take n (xs ++ ys) ≡ zs
-front_of n xs ys zs long is = ap (λ (k : ℕ). take k (xs ++ ys)) (sym long) ∙ take-append_seam xs ys ∙ is
+front_of n xs ys zs long is = grind (arith, take-append_seam)
 
 module _ (vl end_system : ℕ) (net : Net) (port : PortPlan) (ident : ℕ) (piece : Piece) (is : IsPort port) where
   abbrev headers : List ℕ
@@ -23,7 +23,7 @@ module _ (vl end_system : ℕ) (net : Net) (port : PortPlan) (ident : ℕ) (piec
 
   length-headers : length headers ≡ 34
   unfolding link_header
-  length-headers = let twenty = length-internet end_system port ident piece is in omega arith
+  length-headers = grind (arith, length-internet)
 
   -- Up to the UDP ports, the filled headers are those of link and internet.
   pub headers_there : (xs ports : List ℕ)
@@ -41,4 +41,4 @@ module _ (vl end_system : ℕ) (net : Net) (port : PortPlan) (ident : ℕ) (piec
       → take 38 xs ≡ take 34 xs ++ ports
   unfolding link_header
   ports_follow xs ports all = rw (headers_there xs ports all)
-      (all ∙ sym (append_assoc (link_header vl end_system net) (internet_header end_system port ident piece) ports))
+      (grind arith)

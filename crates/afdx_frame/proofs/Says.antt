@@ -1,24 +1,19 @@
 -- Each frame gives back the fields that it was written with.
-use Rattle.afdx_frame.proofs.Names.{◌≡◌, ℕ, ◌+◌, ◌%◌, ◌<◌, Option, Some, None, List, length, refl, arith, ◌-◌, ◌/◌, ◌≤◌, ◌⊎◌, inl, inr, Bool, true, [], ◌∷◌, ◌++◌, take, drop, get_or, replicate, max, sym, ap, ◌∙◌, append_assoc, IfSome, slice_index, nat_le, if◌then◌else◌, PortPlan, destination_of, Piece, word_sum, checksum, addresses, header_front, internet_header, interface_byte, link_header, udp_header, datagram, unnumbered, frame_of, fragment_word, drop-drop, drop_at, take_at, length-take, length-drop, get_or-drop, get_or_append_left, get_or-replicate, get_or_push, nat_tests, get_or-append_right, length-replicate, identification, Net, A, B, word_at, total_length, fragment_field, HasLinkHeader, HasAddresses, HasZeroPadding, IsFrameOf, IsPiece, Says}
+use Rattle.afdx_frame.proofs.Names.{◌≡◌, ℕ, ◌+◌, ◌%◌, ◌<◌, Option, Some, None, List, length, refl, arith, ◌-◌, ◌/◌, ◌≤◌, true, [], ◌∷◌, ◌++◌, take, drop, get_or, replicate, max, sym, ap, ◌∙◌, append_assoc, slice_index, nat_le, PortPlan, Piece, word_sum, checksum, addresses, header_front, internet_header, interface_byte, link_header, datagram, unnumbered, frame_of, fragment_word, drop-drop, drop_at, take_at, length-take, length-drop, get_or-drop, get_or_append_left, get_or-replicate, get_or_push, get_or-append_right, length-replicate, identification, Net, word_at, total_length, fragment_field, HasLinkHeader, HasAddresses, HasZeroPadding, IsFrameOf, IsPiece, Says}
 use Rattle.std.proofs.Common.{length-append}
-use Rattle.afdx_plan.specs.Plan.{IsPort, IsUnicast}
+use Rattle.afdx_plan.specs.Plan.{IsPort}
 use Rattle.afdx_frame.proofs.Datagram.{length-udp_header}
-
--- A destination address has four bytes.
-pub length-destination : (vl : ℕ) (unicast : Option (List ℕ)) → IfSome unicast IsUnicast → length (destination_of vl unicast) ≡ 4
-length-destination vl None is = refl
-length-destination vl (Some address) is = is.four
 
 -- The two addresses have eight bytes.
 pub length-addresses : (end_system : ℕ) (port : PortPlan) → IsPort port → length (addresses end_system port) ≡ 8
 unfolding addresses
-length-addresses end_system port is = let four = length-destination port.vl.0 port.unicast is.unicast in omega arith
+length-addresses end_system port is = grind arith
 
 -- An internet header has 20 bytes.
 pub length-internet : (end_system : ℕ) (port : PortPlan) (ident : ℕ) (piece : Piece) → IsPort port
     → length (internet_header end_system port ident piece) ≡ 20
 unfolding internet_header header_front
-length-internet end_system port ident piece is = let eight = length-addresses end_system port is in omega arith
+length-internet end_system port ident piece is = grind (arith, length-addresses)
 
 -- A checksum is below 65,535.
 checksum_range : (sum : ℕ) → checksum sum < 65535
@@ -36,20 +31,12 @@ header_sum : (end_system : ℕ) (port : PortPlan) (ident : ℕ) (piece : Piece)
     ≡ word_sum (header_front ident piece) + word_sum (addresses end_system port) + checksum
     (word_sum (header_front ident piece) + word_sum (addresses end_system port))
 unfolding internet_header header_front addresses
-header_sum end_system port ident piece = grind (arith, checksum_range, word_sum, header_front, end_system)
+header_sum end_system port ident piece = grind (arith, checksum_range)
 
 -- The words of an internet header add up to a multiple of 65,535.
 pub header_closes : (end_system : ℕ) (port : PortPlan) (ident : ℕ) (piece : Piece)
     → word_sum (internet_header end_system port ident piece) % 65535 ≡ 0
 header_closes end_system port ident piece = checksum_closes _ _ (header_sum end_system port ident piece)
-
--- The word of flags and offset, read back.
-word_of_flags : (more : Bool) (start : ℕ) → start ≤ 8200
-    → (((if more then 8192 else 0) + start / 8) < 16384) ×
-    (((if more then 8192 else 0) + start / 8) % 8192 ≡ start / 8) ×
-    (nat_le 8192 ((if more then 8192 else 0) + start / 8) ≡ more) ×
-    (8192 ≤ (if more then 8192 else 0) + start / 8 → more ≡ true)
-word_of_flags more start most = grind (arith, nat_tests)
 
 module _ (end_system : ℕ) (port : PortPlan) (message : List ℕ) (place : ℕ) (piece : Piece) (net : Net) (number : ℕ) where
   abbrev frame : List ℕ
@@ -94,12 +81,12 @@ module _ (end_system : ℕ) (port : PortPlan) (message : List ℕ) (place : ℕ)
       → HasAddresses (frame_of end_system (record port { unicast = unicast }) message place piece net number)
   unfolding unnumbered link_header internet_header header_front addresses
   addresses_ok None is = grind arith
-  addresses_ok (Some []) is = absurd (let four = is.unicast.four in omega arith)
+  addresses_ok (Some []) is = grind arith
   addresses_ok (Some (first ∷ rest)) is = grind arith
 
   length-payload : piece.start + piece.len ≤ 8 + length message → length payload ≡ piece.len
   unfolding datagram
-  length-payload within = grind (arith, length-udp_header, end_system, length-append, udp_header, length-take, length-drop)
+  length-payload within = grind (arith, length-udp_header, length-append, length-take, length-drop)
 
   -- The frame from its internet header on.
   behind_link : drop 14 frame ≡ header ++ (payload ++ tail)
@@ -109,13 +96,13 @@ module _ (end_system : ℕ) (port : PortPlan) (message : List ℕ) (place : ℕ)
   -- The frame from its piece on.
   behind_header : IsPort port → drop 34 frame ≡ payload ++ tail
   behind_header is = sym (drop-drop 20 14 frame) ∙ ap (drop 20) behind_link
-      ∙ drop_at header (payload ++ tail) 20 (length-internet end_system port (identification place port.sub) piece is)
+      ∙ drop_at header (payload ++ tail) 20 (grind (arith, length-internet))
 
   checksum_ok : IsPort port → word_sum (take 20 (drop 14 frame)) % 65535 ≡ 0
   checksum_ok is =
       let front = take_at header (payload ++ tail) 20
-      (length-internet end_system port (identification place port.sub) piece is) in
-      rw (behind_link, front) (header_closes end_system port (identification place port.sub) piece)
+      (grind (arith, length-internet)) in
+      grind (arith, behind_link, header_closes)
 
   pub payload_says : IsPort port → piece.start + piece.len ≤ 8 + length message
       → take piece.len (drop 34 frame) ≡ take piece.len (drop piece.start (datagram end_system port message))
@@ -143,12 +130,12 @@ module _ (end_system : ℕ) (port : PortPlan) (message : List ℕ) (place : ℕ)
       ∙ get_or-replicate (25 - piece.len) (k - 34 - length payload) 0 0 (omega arith)
 
   number_ok : slice_index frame (length frame - 1) ≡ number
-  number_ok = grind (arith, end_system, get_or_push, length-append)
+  number_ok = grind (arith, get_or_push, length-append)
 
   flags_ok : IsPiece (length message) piece → length message ≤ 8192
       → (fragment_field frame < 16384) × (fragment_field frame % 8192 ≡ piece.start / 8) ×
       (nat_le 8192 (fragment_field frame) ≡ piece.more) × (8192 ≤ fragment_field frame → piece.more ≡ true)
-  flags_ok is most = grind (arith, word_of_flags, fragment_field, fragment_word, fragment_ok)
+  flags_ok is most = grind (arith, fragment_ok)
 
   pub says : IsPort port → length message ≤ 8192 → IsPiece (length message) piece
       → Says frame port.vl.0 (identification place port.sub) port.sub piece number
@@ -167,8 +154,8 @@ module _ (end_system : ℕ) (port : PortPlan) (message : List ℕ) (place : ℕ)
             version = (constants_ok.0, constants_ok.1);
             total = omega arith;
             flags = flags.0;
-            units = λ set. let whole = piece_is.whole (flags.3 set) in omega arith;
-            within = let units = piece_is.units in let offset = flags.1 in omega arith;
+            units = grind arith;
+            within = grind arith;
             protocol = (constants_ok.2, constants_ok.3);
             checksum = checksum_ok is;
           };
@@ -189,13 +176,4 @@ module _ (end_system : ℕ) (port : PortPlan) (message : List ℕ) (place : ℕ)
   interface_ok = refl
 
   pub header_says : IsPort port → piece.start + piece.len ≤ 8 + length message → IsFrameOf port.vl.0 port.sub number net frame
-  header_says is within =
-      let ident = ident_ok in
-      let size = length-frame is within in
-      record {
-        size = omega arith;
-        link = vl_ok is.vl;
-        of_sub = omega arith;
-        carries = number_ok;
-        interface = interface_ok;
-      }
+  header_says is within = grind (arith, ident_ok, length-frame, vl_ok, number_ok, interface_ok)

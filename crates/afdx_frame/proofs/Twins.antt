@@ -1,40 +1,40 @@
 -- Twins of any frame, and of the fragments of a list of messages.
-use Rattle.afdx_frame.proofs.Names.{◌≡◌, ◌≢◌, ℕ, suc, ◌+◌, ◌-◌, ◌*◌, ◌%◌, ◌≤◌, inl, inr, List, [], ◌∷◌, length, map, take, set, refl, sym, ap, ◌∙◌, arith, slice_index, length-set, length-take, get_or-set_same, get_or-set_other, set-get_or, set-set, set_past, take-set-le, map-append, cases_lt, take-set-lt, identification, Net, interface_byte, link_header, unnumbered, word_at, link_in, sub_in, number_in, Sent, blanked, fragments_at, fragments_from}
+use Rattle.afdx_frame.proofs.Names.{◌≡◌, ◌≢◌, ℕ, suc, ◌+◌, ◌%◌, ◌≤◌, List, [], ◌∷◌, length, map, refl, arith, slice_index, length-set, length-take, get_or-set_same, get_or-set_other, set-get_or, set-set, set_past, map-append, cases_lt, take-set-lt, identification, Net, interface_byte, link_header, unnumbered, word_at, link_in, sub_in, number_in, Sent, blanked, fragments_at, fragments_from}
 use Rattle.std.proofs.lemmas.Simd.{map-map}
 use Rattle.afdx_frame.specs.Twin.{twin_of}
 
 -- A twin differs in the byte of the interface identifier alone.
 pub twin_elsewhere : (net : Net) (frame : List ℕ) (k : ℕ) → k ≢ 11 → slice_index (twin_of net frame) k ≡ slice_index frame k
-twin_elsewhere net frame k other = get_or-set_other frame 11 k (interface_byte net) 0 other
+twin_elsewhere net frame k other = grind (arith, get_or-set_other)
 
 -- A word without that byte is the same in a twin.
 pub twin_word : (net : Net) (frame : List ℕ) (k : ℕ) → k ≢ 11 → k + 1 ≢ 11 → word_at (twin_of net frame) k ≡ word_at frame k
-twin_word net frame k first second = grind (arith, slice_index, twin_of, twin_elsewhere)
+twin_word net frame k first second = grind (arith, twin_of, twin_elsewhere)
 
 pub twin_link : (net : Net) (frame : List ℕ) → link_in (twin_of net frame) ≡ link_in frame
-twin_link net frame = twin_word net frame 4 (λ e. omega arith) (λ e. omega arith)
+twin_link net frame = grind (arith, twin_word)
 
 pub twin_sub : (net : Net) (frame : List ℕ) → sub_in (twin_of net frame) ≡ sub_in frame
-twin_sub net frame = ap (λ (word : ℕ). word % 4) (twin_word net frame 18 (λ e. omega arith) (λ e. omega arith))
+twin_sub net frame = grind (arith, twin_word)
 
 pub length-twin : (net : Net) (frame : List ℕ) → length (twin_of net frame) ≡ length frame
 length-twin net frame = length-set frame 11 (interface_byte net)
 
 pub twin_number : (net : Net) (frame : List ℕ) → 60 ≤ length frame → number_in (twin_of net frame) ≡ number_in frame
-twin_number net frame long = grind (arith, slice_index, twin_of, length-twin, twin_elsewhere)
+twin_number net frame long = grind (arith, twin_of, length-twin, twin_elsewhere)
 
 pub twin_interface : (net : Net) (frame : List ℕ) → 60 ≤ length frame → slice_index (twin_of net frame) 11 ≡ interface_byte net
-twin_interface net frame long = get_or-set_same frame 11 (interface_byte net) 0 (omega arith)
+twin_interface net frame long = grind (arith, get_or-set_same)
 
 -- A frame with a network's identifier is its own twin for that network.
 pub twin_same : (net : Net) (frame : List ℕ) → slice_index frame 11 ≡ interface_byte net → twin_of net frame ≡ frame
-twin_same net frame is = ap (set frame 11) (sym is) ∙ set-get_or frame 11 0
+twin_same net frame is = grind (arith, set-get_or)
 
 pub twin_twice : (net other : Net) (frame : List ℕ) → twin_of net (twin_of other frame) ≡ twin_of net frame
-twin_twice net other frame = set-set frame 11 (interface_byte other) (interface_byte net)
+twin_twice net other frame = grind (arith, set-set)
 
 pub twin_blanked : (net : Net) (frame : List ℕ) → blanked (twin_of net frame) ≡ twin_of net (blanked frame)
-twin_blanked net frame = grind (arith, twin_of, length-twin, cases_lt, take-set-lt, interface_byte, take-set-le, set_past, length-take)
+twin_blanked net frame = grind (arith, length-twin, cases_lt, take-set-lt, set_past, length-take)
 
 -- The twins of a message's fragments are its fragments for the other network.
 twin_message : (end_system room : ℕ) (place : ℕ) (sent : Sent) (net other : Net)

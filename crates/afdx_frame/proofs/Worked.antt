@@ -1,7 +1,6 @@
 -- The worked cases of the laws, by computation.
-use Rattle.afdx_frame.proofs.Names.{◌≡◌, ℕ, [], ◌∷◌, slice_index, refl, arith, List, inr, checksum, udp_checksum, IsCutting, cutting, piece_at, pieces_left, A, addresses, header_front, internet_header, link_header, udp_header, datagram, unnumbered, udp_sum, fragments_at, IsPiece, Contains, AllByRecursion, All-contains, All-from_recursion, Fragment, IsWordChanged}
-use Rattle.afdx_frame.specs.Worked.{ChecksOneHeader, CutsInTwo, KeepsTwoPieces, long_sent, TurnsOneFrame, SaysItsFields, GrowsByOne, CutsBoth, TurnsThreeFragments, first_bytes, middle_bytes, last_bytes, foreign_bytes, four_came, three_came, ThreePieces, MissesTheMiddle, ChecksThreeDatagrams, first_datagram, damaged_datagram}
-use Rattle.afdx_frame.proofs.PiecesAre.{pieces_are}
+use Rattle.afdx_frame.proofs.Names.{[], ◌∷◌, refl, arith, List, inr, checksum, udp_checksum, IsCutting, cutting, piece_at, pieces_left, A, addresses, header_front, internet_header, link_header, udp_header, datagram, unnumbered, udp_sum, fragments_at, IsPiece, Contains, AllByRecursion, All-contains, All-from_recursion, Fragment, IsWordChanged}
+use Rattle.afdx_frame.specs.Worked.{ChecksOneHeader, CutsInTwo, KeepsTwoPieces, long_sent, TurnsOneFrame, SaysItsFields, GrowsByOne, CutsBoth, TurnsThreeFragments, first_bytes, middle_bytes, last_bytes, ThreePieces, MissesTheMiddle, ChecksThreeDatagrams, first_datagram, damaged_datagram}
 use Rattle.afdx_plan.specs.Demo.{demo_port}
 use Rattle.afdx_plan.proofs.DemoPlan.{demo_port_is}
 use Rattle.afdx_frame.proofs.Says.{says}
@@ -20,12 +19,12 @@ cuts_in_two = record {
   cut = refl;
   is = two_are;
   loose = λ is. let t = is.tight 1 refl in absurd (omega arith);
-  narrow = λ is. let t : ◌≡◌ {A = ℕ} 0 9 = is.total in absurd (omega arith);
+  narrow = grind arith;
 }
 
 pub keeps_two_pieces : KeepsTwoPieces
 unfolding cutting
-keeps_two_pieces = search (arith, pieces_are 49 25 41 0 (omega arith) (omega arith) (omega arith) (omega arith) refl)
+keeps_two_pieces = grind arith
 
 pub turns_one_frame : TurnsOneFrame
 unfolding checksum addresses header_front internet_header link_header udp_header datagram unnumbered
@@ -34,7 +33,7 @@ turns_one_frame = search arith
 -- The second piece meets what a frame needs.
 piece_is : IsPiece 41 (piece_at 25 49 24)
 unfolding cutting
-piece_is = (pieces_are 49 25 41 0 (omega arith) (omega arith) (omega arith) (omega arith) refl).1.0
+piece_is = grind arith
 
 pub says_its_fields : SaysItsFields
 unfolding unnumbered link_header internet_header header_front
@@ -46,7 +45,7 @@ grows_by_one = search arith
 
 pub cuts_both : CutsBoth
 unfolding checksum addresses header_front internet_header link_header udp_header datagram unnumbered cutting pieces_left fragments_at
-cuts_both = record { whole = refl; both = refl; one = refl }
+cuts_both = grind arith
 
 pub turns_three_fragments : TurnsThreeFragments
 unfolding checksum addresses header_front internet_header link_header udp_header datagram unnumbered cutting fragments_at
@@ -81,7 +80,7 @@ one_changed = record {
   in_words = refl;
   one_word = inr (refl, refl);
   as_long = refl;
-  other = λ same. omega (arith, same);
+  other = λ same. omega arith;
 }
 
 pub checks_three_datagrams : ChecksThreeDatagrams

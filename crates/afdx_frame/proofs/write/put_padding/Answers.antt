@@ -7,15 +7,12 @@ fewer : (bytes front : List ℕ) (end padding : ℕ) → length front ≡ end �
     → take (end + 25) bytes ≡ front ++ replicate 25 0
     → take (end + padding) bytes ≡ front ++ replicate padding 0
 fewer bytes front end padding is few all =
-    let at : end + padding ≡ length front + padding = omega (arith, is) in
-    sym (take-take (end + padding) (end + 25) bytes (omega arith))
+    let at : end + padding ≡ length front + padding = omega arith in
+    sym (grind (arith, take-take))
     ∙ ap (take (end + padding)) all
     ∙ ap (λ (n : ℕ). take n (front ++ replicate 25 0)) at
     ∙ take-append-add front (replicate 25 0) padding
     ∙ ap (λ (zeros : List ℕ). front ++ zeros) (take-replicate padding 25 0 few)
 
 pub returns-then-padding-gt0 : goal.returns-then-padding-gt0
-returns-then-padding-gt0 c =
-    let end = c.args.end in
-    let room : end ≤ length c.args.out.now = omega (arith, c.requires.room, c.put.array_long) in
-    fewer c.put.new.out (take end c.args.out.now) end c.args.padding (length-take-le end c.args.out.now room) c.requires.few c.put.ensures
+returns-then-padding-gt0 c = grind (arith, fewer, length-take-le)
