@@ -1,5 +1,5 @@
 -- Sub-VLs polled in the order of turns.
-use Rattle.vl_link.proofs.Names.{ℕ, zero, suc, ◌≡◌, ◌≢◌, ◌⊎◌, ◌+◌, ◌<◌, ◌≤◌, List, Bool, true, false, length, set, get_or, below_more, arith, ◌∙◌, sym, subst, inl, inr, ⊎_elim, length-set, get_or-set_same, get_or-set_other, get_or_default, cases_eq, Pace, turn_of, Held, held_at, nothing_held, Asks, Passes, PassedOver}
+use Rattle.vl_link.proofs.Names.{ℕ, zero, suc, ◌≡◌, ◌≢◌, ◌⊎◌, ◌+◌, ◌<◌, ◌≤◌, List, Bool, true, false, length, set, get_or, arith, inl, inr, ⊎_elim, length-set, get_or-set_same, get_or-set_other, get_or_default, cases_eq, Pace, turn_of, Held, held_at, nothing_held, Asks, Passes, PassedOver}
 use Rattle.std.proofs.lemmas.Grind.{get_or-set_at}
 
 -- The sub-VL that was set.
@@ -9,15 +9,15 @@ held_same subs s h lt = get_or-set_same subs s h nothing_held lt
 -- A property of each element of a list of which one was set.
 pub each_set : {X : Type 0} (P : ℕ → X → Type 0) (xs : List X) (i : ℕ) (new d : X) → i < length xs → P i new
     → ((k : ℕ) → k ≢ i → P k (get_or xs k d)) → (k : ℕ) → P k (get_or (set xs i new) k d)
-each_set P xs i new d lt here others k = grind (arith, get_or-set_at, get_or-set_other, cases_eq)
+each_set P xs i new d lt here others k = grind (arith, get_or-set_at, get_or-set_other)
 
 -- A number is among the first k values or isn't.
 pub met : (f : ℕ → ℕ) (k s : ℕ) → ((j : ℕ) × (j < k) × (f j ≡ s)) ⊎ ((j : ℕ) → j < k → f j ≡ s → ⊥)
-met f zero s = inr (λ j lt e. absurd (omega arith))
+met f zero s = grind arith
 met f (suc k) s = ⊎_elim
-    (λ h. let lt : h.0 < k = h.1 in inl (h.0, (omega arith), h.2))
+    (grind arith)
     (λ h. ⊎_elim (λ e. inl (k, (omega arith), e))
-    (λ ne. inr (λ j lt. below_more (λ i. f i ≡ s → ⊥) k h ne j (omega arith))) (cases_eq (f k) s))
+    (grind arith) (cases_eq (f k) s))
     (met f k s)
 
 -- the next sub-VL in the order of turns is polled
@@ -32,17 +32,7 @@ pub asked_next : (pace : Pace) (old new : List Held) (k sub : ℕ) (d h : Held) 
     → sub ≡ turn_of pace.sub_vls pace.last k
     → ((j : ℕ) → j < pace.sub_vls → turn_of pace.sub_vls pace.last j ≡ sub → j ≡ k)
     → k < pace.sub_vls → sub < length new → Asks has (get_or new sub d) h → AskedNext pace old (set new sub h) k sub has
-asked_next pace old new k sub d h has p is only kl lt a =
-    let earlier : (j : ℕ) → j < k → turn_of pace.sub_vls pace.last j ≢ sub = λ j jl e.
-    let same = only j (omega arith) e in omega arith in
-    record {
-      count = length-set new sub h ∙ p.count;
-      here = rw (held_same new sub h lt) (subst (λ (x : Held). Asks has x h)
-          (get_or_default new sub d nothing_held lt ∙ p.others sub earlier) a);
-      before = λ j jl. rw (get_or-set_other new sub _ h nothing_held (earlier j jl)) (p.before j jl);
-      others = λ s not. get_or-set_other new sub s h nothing_held (λ e. not k (omega arith) (sym (e ∙ is)))
-          ∙ p.others s (λ j jl. not j (omega arith));
-    }
+asked_next pace old new k sub d h has p is only kl lt a = grind (arith, length-set, held_same, get_or_default, get_or-set_other)
 
 -- If it had nothing, it is passed over too.
 pub passed_next : (pace : Pace) (old new : List Held) (k sub : ℕ) → AskedNext pace old new k sub false
@@ -57,6 +47,6 @@ Moves old new = Asks false old new ⊎ (Asks true old new ⊎ (new ≡ old))
 pub moves_passed : (pace : Pace) (old new : List Held) (n : ℕ) → PassedOver pace old new n → (s : ℕ)
     → Moves (held_at old s) (held_at new s)
 moves_passed pace old new n p s = ⊎_elim
-    (λ h. inl (rw (← h.2) (p.before h.0 h.1)))
+    (grind arith)
     (λ h. inr (inr (p.others s h)))
     (met (turn_of pace.sub_vls pace.last) n s)

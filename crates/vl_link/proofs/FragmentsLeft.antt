@@ -1,5 +1,5 @@
 -- Facts about lists and fragments.
-use Rattle.vl_link.proofs.Names.{ℕ, ◌≡◌, ◌≢◌, ◌+◌, ◌<◌, List, [], ◌∷◌, length, map, arith, refl, ap, Bool, true, false, not, Some, room_of, A, Cutting, cutting, pieces_from, pieces_left, Sent, cutting_some, SubVl, TellsCutting, left_of, message_fragments, fragments_at, unnumbered}
+use Rattle.vl_link.proofs.Names.{ℕ, ◌≡◌, ◌≢◌, ◌+◌, ◌<◌, List, [], ◌∷◌, length, map, arith, refl, Bool, true, not, Some, room_of, A, Cutting, cutting, pieces_from, pieces_left, Sent, cutting_some, SubVl, TellsCutting, left_of, message_fragments, fragments_at, unnumbered}
 
 -- Only an empty list has an empty image.
 map_nil : {X Y : Type 0} (f : X → Y) (xs : List X) → map f xs ≡ [] → xs ≡ []
@@ -10,8 +10,7 @@ map_nil f (x ∷ xs) e = cc
 pub done_tells : (of : SubVl) (cut : Cutting) (done : Bool)
     → ((room : ℕ) → (done ≡ true → pieces_left room cut ≡ []) × (pieces_left room cut ≡ [] → done ≡ true))
     → TellsCutting (not done) (left_of of (Some cut))
-done_tells of cut true h = ap (map _) ((h (room_of of.link.lmax)).0 refl)
-done_tells of cut false h = grind (arith, room_of, map_nil, pieces_left)
+done_tells of cut done h = grind (arith, map_nil)
 
 -- Each message has a fragment.
 pub fragments_some : (of : SubVl) (place : ℕ) (sent : Sent) → message_fragments of place sent ≢ []

@@ -1,5 +1,4 @@
 pub mod Choosing
-pub mod Closing
 pub mod FragmentsLeft
 pub mod LinkTurn
 pub mod MessageEnds

@@ -1,5 +1,5 @@
 -- If a sub-VL's stream is the fragments of whole messages, no message of it is begun.
-use Rattle.vl_link.proofs.Names.{ℕ, zero, suc, ◌≡◌, ◌+◌, ◌-◌, ◌<◌, ◌≤◌, List, [], ◌∷◌, ◌++◌, Bool, true, false, cond, eqb, nat_le, length, map, arith, refl, ap, subst, All, get_or-take, length-take, All-head, All-tail, lt-leb, step_of, PortPlan, sub_in, cut_by, pieces_from, Sent, blanked, fragments_from, step_le, Entry, sub_stream, told, more_in, none_begun, begun_after, begun_by, unnumbered, link_header, internet_header, header_front, cutting, fragments_at}
+use Rattle.vl_link.proofs.Names.{ℕ, zero, suc, ◌≡◌, ◌+◌, ◌-◌, ◌<◌, ◌≤◌, List, [], ◌∷◌, ◌++◌, Bool, true, false, cond, eqb, length, map, arith, refl, All, get_or-take, length-take, All-head, All-tail, lt-leb, step_of, PortPlan, sub_in, cut_by, pieces_from, Sent, blanked, fragments_from, step_le, Entry, sub_stream, told, more_in, none_begun, begun_after, begun_by, unnumbered, link_header, internet_header, header_front, cutting, fragments_at}
 use Rattle.std.proofs.lemmas.Bool.Decides.{nat_tests}
 use Rattle.afdx_frame.specs.declared.net.Net.{Net}
 use Rattle.afdx_frame.specs.declared.piece.Piece.{Piece}
@@ -43,9 +43,9 @@ cut_total (suc turns) room n = grind (arith, nat_tests, cut_total turns room (n 
 pieces_end : (end_system : ℕ) (sent : Sent) (place : ℕ) (net : Net) (start len : ℕ) (rest : List ℕ)
     → start + (len + total rest) < 65536
     → Ends false (map (λ piece. unnumbered end_system sent.port sent.bytes place piece net) (pieces_from start (len ∷ rest)))
-pieces_end end_system sent place net start len [] h = grind (arith, piece_long, end_system, last_piece)
+pieces_end end_system sent place net start len [] h = grind (arith, piece_long, last_piece)
 pieces_end end_system sent place net start len (next ∷ rest) h = (
-  piece_long end_system sent.port sent.bytes place _ net,
+  grind (arith, piece_long),
   pieces_end end_system sent place net (start + len) next rest (omega arith),
 )
 
@@ -72,7 +72,7 @@ fragments_end end_system room net place (sent ∷ later) short =
 
 -- A frame without its sequence number has the same flag.
 more_blanked : (frame : List ℕ) → 22 ≤ length (blanked frame) → more_in (blanked frame) ≡ more_in frame
-more_blanked frame long = grind (arith, length-take, nat_le, get_or-take)
+more_blanked frame long = grind (arith, length-take, get_or-take)
 
 -- No message is begun if the frames of the sub-VL end one.
 ended : (begun : ℕ → Bool) (S : List Entry) (s : ℕ) → Ends (begun s) (told (sub_stream s S)) → begun_by begun S s ≡ false
@@ -81,11 +81,10 @@ ended begun (e ∷ es) s h = ended (begun_after begun e) es s (one (eqb (sub_in 
   where
     one : (t : Bool) → Ends (begun s) (told (cond t (e ∷ sub_stream s es) (sub_stream s es)))
         → Ends (cond t (more_in e.frame) (begun s)) (told (sub_stream s es))
-    one true h = subst (λ (m : Bool). Ends m (told (sub_stream s es))) (more_blanked e.frame h.0) h.1
+    one true h = grind (arith, more_blanked)
     one false h = h
 
 -- No message is begun if the stream is the fragments of whole messages.
 pub not_begun : (end_system room : ℕ) (net : Net) (S : List Entry) (s : ℕ) (messages : List Sent) → All IsShort messages
     → fragments_from end_system room net 0 messages ≡ told (sub_stream s S) → begun_by none_begun S s ≡ false
-not_begun end_system room net S s messages short e =
-    ended none_begun S s (subst (Ends false) e (fragments_end end_system room net 0 messages short))
+not_begun end_system room net S s messages short e = grind (arith, ended, fragments_end)

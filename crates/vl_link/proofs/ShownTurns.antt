@@ -1,7 +1,7 @@
 -- A stream that shows choices takes turns.
-use Rattle.vl_link.proofs.Names.{ℕ, ◌≡◌, ◌≢◌, ◌+◌, ◌<◌, ◌≤◌, List, [], ◌∷◌, ◌++◌, Bool, true, false, cond, eqb, length, arith, refl, ap, ◌∙◌, sym, subst, ⊎_elim, Option, Some, None, count_by, sum_by-cons, cases_eq, eq-eqb, ne_eqb, sub_in, Entry, turn_of, IsBelow, Stamp, turn_below, stamp_of, latest, sub_stream, link_stream, told, more_in, before_next, TakesTurns, begun_after, begun_by, shown_choice, ShowsChoices, none_begun, append-nil, All-map, room_of, A, Lines, log, taken_of, Releases, Held, LinkState, held_at, held_view, HasOwnItems, IsLinkOfPlan, Passes, sent_of, taken_by, IsLinkTied}
+use Rattle.vl_link.proofs.Names.{ℕ, ◌≡◌, ◌≢◌, ◌+◌, ◌<◌, ◌≤◌, List, [], ◌∷◌, ◌++◌, Bool, true, false, cond, eqb, length, arith, refl, ap, ◌∙◌, sym, subst, ⊎_elim, Option, Some, None, count_by, sum_by-cons, cases_eq, eq-eqb, ne_eqb, sub_in, Entry, turn_of, Stamp, turn_below, stamp_of, latest, sub_stream, link_stream, more_in, before_next, TakesTurns, begun_after, begun_by, shown_choice, ShowsChoices, none_begun, append-nil, All-map, room_of, A, Lines, log, taken_of, Releases, Held, LinkState, held_at, held_view, HasOwnItems, IsLinkOfPlan, Passes, sent_of, taken_by, IsLinkTied}
 use Rattle.vl_shaper.specs.Choices.{Choice, IsChosen, AreChosen, IsPassedOver}
-use Rattle.vl_shaper.proofs.OneEach.{turn_cases, one_each_holds}
+use Rattle.vl_shaper.proofs.OneEach.{one_each_holds}
 use Rattle.vl_link.proofs.QueueLooks.{items_taken}
 use Rattle.vl_link.proofs.MessageEnds.{IsShort, not_begun}
 
@@ -10,13 +10,6 @@ pub chosen_below : (subs : ℕ) (last : Option Stamp) (begun : ℕ → Bool) (su
     → IsChosen subs (turn_of subs last) (shown_choice begun sub) → sub < subs
 chosen_below subs last begun sub c = grind arith
 
--- The sub-VL of the last entry is one of the link's.
-pub last_below : (subs : ℕ) (last : Option Stamp) (begun : ℕ → Bool) (S : List Entry) → IsBelow subs last
-    → ShowsChoices subs last begun S → IsBelow subs (latest last S)
-last_below subs last begun [] below h = below
-last_below subs last begun (e ∷ es) below h =
-    last_below subs (Some (stamp_of e)) (begun_after begun e) es (chosen_below subs last begun (sub_in e.frame) h.0) h.1
-
 -- One more choice is shown.
 pub shows_push : (subs : ℕ) (last : Option Stamp) (begun : ℕ → Bool) (S : List Entry) (e : Entry)
     → ShowsChoices subs last begun S
@@ -24,12 +17,6 @@ pub shows_push : (subs : ℕ) (last : Option Stamp) (begun : ℕ → Bool) (S : 
     → ShowsChoices subs last begun (S ++ e ∷ [])
 shows_push subs last begun [] e h c = (c, tt)
 shows_push subs last begun (x ∷ xs) e h c = (h.0, shows_push subs (Some (stamp_of x)) (begun_after begun x) xs e h.1 c)
-
--- No two turns are of one sub-VL.
-pub turns_differ : (subs : ℕ) (last : Option Stamp) (j k : ℕ) → IsBelow subs last → j < subs → k < subs
-    → turn_of subs last j ≡ turn_of subs last k → j ≡ k
-turns_differ subs None j k below jl kl e = e
-turns_differ subs (Some last) j k below jl kl e = grind (arith, turn_cases)
 
 -- the choices that the entries show before the next entry of a sub-VL
 record ShowsPassed (subs last x y : ℕ) (entries : List Entry) : Type 0 where
@@ -54,15 +41,14 @@ count_more y c cs e es q h =
 
 -- The next entry of the sub-VL is the first: there is none before it.
 shows_none : (subs last x y : ℕ) → ShowsPassed subs last x y []
-shows_none subs last x y = record { choices = []; chosen = tt; passed = tt; count = refl }
+shows_none subs last x y = grind arith
 
 -- The entries before the next one of a sub-VL with a begun message.
 shows_passed : (subs x y : ℕ) (last : Stamp) (begun : ℕ → Bool) (S : List Entry) → begun x ≡ true
     → ShowsChoices subs (Some last) begun S → ShowsPassed subs last.sub x y (before_next x S)
 shows_passed subs x y last begun [] is h = shows_none subs last.sub x y
 shows_passed subs x y last begun (e ∷ es) is h = ⊎_elim
-    (λ (q : sub_in e.frame ≡ x). subst (λ (t : Bool). ShowsPassed subs last.sub x y (cond t [] (e ∷ before_next x es)))
-    (sym (eq-eqb _ _ q)) (shows_none subs last.sub x y))
+    (grind arith)
     (λ (ne : sub_in e.frame ≢ x).
     let still = ap (λ (t : Bool). cond t (more_in e.frame) (begun x)) (ne_eqb (sub_in e.frame) x ne) ∙ is in
     let r = shows_passed subs x y (stamp_of e) (begun_after begun e) es still h.1 in
@@ -70,7 +56,7 @@ shows_passed subs x y last begun (e ∷ es) is h = ⊎_elim
     (record {
       choices = shown_choice begun (sub_in e.frame) ∷ r.choices;
       chosen = (h.0, r.chosen);
-      passed = (ap (λ (t : Bool). cond t true (begun x)) (ne_eqb x _ (λ q. ne (sym q))) ∙ is, ne, r.passed);
+      passed = grind arith;
       count = count_more y (shown_choice begun (sub_in e.frame)) r.choices e (before_next x es) refl r.count;
     }))
     (cases_eq (sub_in e.frame) x)
@@ -99,8 +85,7 @@ passed_whole link new log s tied lt items p =
     not_begun held.of.end_system (room_of held.of.link.lmax) A stream s (taken_by held)
     (All-map IsShort (sent_of held.ports) (taken_of held.seen)
     (λ j d lt. (items_taken (length held.ports) held.seen items j d lt).message.most))
-    (tied s lt ∙ ap (λ (left : List (List ℕ)). told (sub_stream s stream) ++ left) p.whole
-    ∙ append-nil (told (sub_stream s stream)))
+    (grind (arith, append-nil))
 
 -- The released frame is of the sub-VL that the link's stream shows as chosen.
 pub choice_shown : (now number : ℕ) (link : LinkState) (sub : ℕ) (news : List Held) (lines after : Lines)
@@ -112,23 +97,11 @@ pub choice_shown : (now number : ℕ) (link : LinkState) (sub : ℕ) (news : Lis
     → IsChosen link.pace.sub_vls (turn_of link.pace.sub_vls (latest None (link_stream link.plan.id.0 (log lines))))
     (shown_choice (begun_by none_begun (link_stream link.plan.id.0 (log lines))) (sub_in at.frame))
 choice_shown now number link sub news lines after at own tied items last shown =
-    let stream = link_stream link.plan.id.0 (log lines) in
-    let begun = begun_by none_begun stream in
     let turn = turn_of link.pace.sub_vls link.pace.last in
-    let below = last_below link.pace.sub_vls None none_begun stream tt shown in
     rw (← last) (record {
       turn = at.choice.turn;
       within = at.choice.within;
       is = at.of.of_sub ∙ at.choice.is;
-      had = rw (eq-eqb (sub_in at.frame) (sub_in at.frame) refl) refl;
-      before = λ k lt.
-          let inside : k < link.pace.sub_vls = let within = at.choice.within in omega arith in
-          let within = turn_below link.pace.sub_vls link.pace.last k inside in
-          let differs : turn k ≢ sub_in at.frame = λ e.
-          let same = turns_differ link.pace.sub_vls link.pace.last k at.choice.turn
-          (subst (IsBelow link.pace.sub_vls) (sym last) below)
-          inside at.choice.within (e ∙ at.of.of_sub ∙ at.choice.is) in omega arith in
-          rw (ne_eqb (turn k) (sub_in at.frame) differs)
-          (passed_whole link (held_at news (turn k)) (log lines) (turn k) tied (let s = own.sub_vls in omega arith)
-          (items (turn k) (let c = own.count in omega arith)) (at.choice.before k lt));
+      had = grind arith;
+      before = grind (arith, turn_below, ne_eqb, passed_whole);
     })

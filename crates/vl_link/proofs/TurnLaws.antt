@@ -1,6 +1,6 @@
 -- A turn of a link, for any view of its sub-VLs.
-use Rattle.vl_link.proofs.Names.{ℕ, zero, suc, ◌≡◌, ◌≢◌, ◌⊎◌, ◌+◌, ◌<◌, ◌≤◌, List, true, false, arith, refl, ap, ◌∙◌, sym, subst, inl, inr, ⊎_elim, cases_eq, cases_lt, and_right, LinkPlan, Lines, BothEndure, stands_for, Pace, turn_of, is_due, Served, Nothing, Released, Lost, TurnView, IsChoice, Turn, AreTurns, may_release, turn_below}
-use Rattle.redundant_mux.proofs.Enduring.{both_none, both_on}
+use Rattle.vl_link.proofs.Names.{ℕ, zero, suc, ◌≡◌, ◌≢◌, ◌⊎◌, ◌+◌, ◌<◌, ◌≤◌, List, true, false, arith, ⊎_elim, cases_eq, LinkPlan, Lines, BothEndure, stands_for, Pace, turn_of, Served, TurnView, IsChoice, Turn, AreTurns, may_release}
+use Rattle.redundant_mux.proofs.Enduring.{both_on}
 use Rattle.vl_link.proofs.Choosing.{met}
 
 -- The chosen sub-VL is one of the link's.
@@ -12,11 +12,7 @@ choice_below pace has lacks rests sub c = grind arith
 pub choice_other : (pace : Pace) (has lacks rests : ℕ → Type 0) (sub : ℕ) → IsChoice pace has lacks rests sub
     → (s : ℕ) → s ≢ sub → lacks s ⊎ rests s
 choice_other pace has lacks rests sub c s ne = ⊎_elim
-    (λ h. inl (subst lacks h.2 (c.before h.0 h.1)))
-    (λ h. inr (c.others s (λ k le e. ⊎_elim
-    (λ (lt : k < c.turn). h k lt e)
-    (λ (ge : c.turn ≤ k). let q : k ≡ c.turn = omega arith in ne (sym e ∙ ap (turn_of pace.sub_vls pace.last) q ∙ sym c.is))
-    (cases_lt k c.turn))))
+    (grind arith) (grind arith)
     (met (turn_of pace.sub_vls pace.last) c.turn s)
 
 -- what holds in one view holds in the other
@@ -25,40 +21,30 @@ pub record IsSeenIn (pace : Pace) (view other : TurnView) : Type 0 where
   pub rests : (s : ℕ) → view.rests s → other.rests s
   pub gives : (s : ℕ) (frame : List ℕ) → s < pace.sub_vls → view.gives s frame → other.gives s frame
 
--- A choice in one view is a choice in the other.
-choice_seen : (pace : Pace) (view other : TurnView) (frame : List ℕ) (sub : ℕ) → IsSeenIn pace view other
-    → IsChoice pace (λ s. view.gives s frame) view.lacks view.rests sub
-    → IsChoice pace (λ s. other.gives s frame) other.lacks other.rests sub
-choice_seen pace view other frame sub i c = grind arith
-
 -- A turn in one view is a turn in another that says no more: of the sub-VLs that weren't polled,
 -- and of the others if the link may release a frame.
 pub turn_seen : (now : ℕ) (plan : LinkPlan) (pace : Pace) (view other : TurnView) (lines after : Lines) (did : Served)
     → ((s : ℕ) → view.rests s → other.rests s) → (may_release now plan pace lines ≡ true → IsSeenIn pace view other)
     → Turn now plan pace view lines after did → Turn now plan pace other lines after did
-turn_seen now plan pace view other lines after Nothing rests seen t = grind arith
-turn_seen now plan pace view other lines after (Released sub number) rests seen t = grind arith
-turn_seen now plan pace view other lines after Lost rests seen t = grind arith
+turn_seen now plan pace view other lines after did rests seen t = grind arith
 
 -- A network that is down after a turn was down before it, or failed in it.
 pub turn_endures : (now : ℕ) (plan : LinkPlan) (pace : Pace) (view : TurnView) (lines after : Lines) (did : Served)
     → Turn now plan pace view lines after did → BothEndure lines after
-turn_endures now plan pace view lines after Nothing t = subst (BothEndure lines) (sym t.1) (both_none lines)
-turn_endures now plan pace view lines after (Released sub number) t = t.2.endure
-turn_endures now plan pace view lines after Lost t = t.1.endure
+turn_endures now plan pace view lines after did t = grind arith
 
 -- The same through a list of turns.
 pub turns_endure : (P : ℕ → Lines → Lines → Served → Type 0) (k many : ℕ) (lines after : Lines)
     → ((i : ℕ) (before behind : Lines) (did : Served) → P i before behind did → BothEndure before behind)
     → AreTurns P k many lines after → BothEndure lines after
-turns_endure P k zero lines after f r = subst (BothEndure lines) (sym r) (both_none lines)
+turns_endure P k zero lines after f r = grind arith
 turns_endure P k (suc many) lines after f r =
     both_on lines r.0 after (f k lines r.0 r.1 r.2) (turns_endure P (k + 1) many r.0 after f r.3)
 
 -- A link none of whose networks is up releases nothing.
 pub may_not : (now : ℕ) (plan : LinkPlan) (pace : Pace) (lines : Lines) → stands_for plan.networks lines ≡ false
     → may_release now plan pace lines ≡ false
-may_not now plan pace lines down = and_right (is_due pace.gap pace.last now) _ down
+may_not now plan pace lines down = grind arith
 
 -- Turns of one kind are turns of another.
 pub turns_seen : (P Q : ℕ → Lines → Lines → Served → Type 0) (k many : ℕ) (lines after : Lines)
@@ -68,28 +54,21 @@ turns_seen P Q k zero lines after f r = r
 turns_seen P Q k (suc many) lines after f r = (
   r.0,
   r.1,
-  f k (omega arith) (omega arith) lines r.0 r.1 r.2,
-  turns_seen P Q (k + 1) many r.0 after (λ i le lt. f i (omega arith) (omega arith)) r.3,
+  grind arith,
+  turns_seen P Q (k + 1) many r.0 after (grind arith) r.3,
 )
 
 -- One turn more at the end.
 pub turns_push : (P : ℕ → Lines → Lines → Served → Type 0) (k many : ℕ) (lines mid after : Lines) (did : Served)
     → AreTurns P k many lines mid → P (k + many) mid after did
     → AreTurns P k (suc many) lines after
-turns_push P k zero lines mid after did r t =
-    let at : k + 0 ≡ k = omega arith in (
-      after,
-      did,
-      subst (λ (l : Lines). P k l after did) r (subst (λ (i : ℕ). P i mid after did) at t),
-      refl,
-    )
-turns_push P k (suc many) lines mid after did r t =
-    let at : k + suc many ≡ k + 1 + many = omega arith in (
-      r.0,
-      r.1,
-      r.2,
-      turns_push P (k + 1) many r.0 mid after did r.3 (subst (λ (i : ℕ). P i mid after did) at t),
-    )
+turns_push P k zero lines mid after did r t = let at : k + 0 ≡ k = omega arith in grind arith
+turns_push P k (suc many) lines mid after did r t = (
+  r.0,
+  r.1,
+  r.2,
+  turns_push P (k + 1) many r.0 mid after did r.3 (grind arith),
+)
 
 -- A property that each turn shows holds at each place.
 pub turns_each : (P : ℕ → Lines → Lines → Served → Type 0) (Q : ℕ → Type 0) (k many : ℕ) (lines after : Lines)
@@ -97,6 +76,6 @@ pub turns_each : (P : ℕ → Lines → Lines → Served → Type 0) (Q : ℕ �
     → AreTurns P k many lines after → (i : ℕ) → k ≤ i → i < k + many → Q i
 turns_each P Q k zero lines after f r i le lt = absurd (omega arith)
 turns_each P Q k (suc many) lines after f r i le lt = ⊎_elim
-    (λ (e : i ≡ k). subst Q (sym e) (f k lines r.0 r.1 r.2))
+    (grind arith)
     (λ (ne : i ≢ k). turns_each P Q (k + 1) many r.0 after f r.3 i (omega arith) (omega arith))
     (cases_eq i k)

@@ -85,7 +85,7 @@ impl Sub {
     pub fn ready(&mut self) -> bool
         ensures { Asks result self.old self.new }
     {
-        if is_cutting(&self.of, &self.sending) {
+        if is_cutting(&self.sending) {
             return true;
         }
         match self.queue.take() {
@@ -104,7 +104,7 @@ impl Sub {
     pub fn is_done(&self) -> bool
         ensures { TellsSubDone result self.now }
     {
-        !is_cutting(&self.of, &self.sending) && self.queue.is_drained()
+        !is_cutting(&self.sending) && self.queue.is_drained()
     }
 
     /// Writes the next frame, for network A and with this sequence number, into the caller's
@@ -203,8 +203,8 @@ fn start_first(sending: &mut Option<Cut>, bytes: Vec<u8>, place: u64, port: &Tem
 }
 
 /// Whether a message is being sent.
-fn is_cutting(_of: &SubVl, sending: &Option<Cut>) -> bool
-    ensures { TellsCutting result (left_of _of.now sending.now) }
+fn is_cutting(sending: &Option<Cut>) -> bool
+    ensures { (of : _) → TellsCutting result (left_of of sending.now) }
 {
     match sending {
         None => false,

@@ -7,21 +7,10 @@ returns-then-ready-clause-chosen c =
     let k = c.loop-k.k in
     let asked = asked_next _ _ _ k c.turn-sub.result c.index-subs-sub.result _ true c.loop-k.invariant c.turn-sub.ensures.turn
     c.turn-sub.ensures.apart (omega arith) (omega arith) (rw c.if-ready.true at c.ready.ensures) in
-    record {
-      count = asked.count;
-      below = omega (arith, c.loop-k.invariant.count);
-      choice = record {
-        turn = k;
-        within = omega arith;
-        is = c.turn-sub.ensures.turn;
-        chosen = asked.here;
-        before = asked.before;
-        others = asked.others;
-      };
-    }
+    grind arith
 
 pub loop-k-preserved : goal.loop-k-preserved
 loop-k-preserved c =
     passed_next _ _ _ c.loop-k.k c.turn-sub.result (asked_next _ _ _ c.loop-k.k c.turn-sub.result c.index-subs-sub.result _ false
     c.loop-k.invariant c.turn-sub.ensures.turn c.turn-sub.ensures.apart (omega arith) (omega arith)
-    (rw c.if-ready.false at c.ready.ensures)) c.turn-sub.ensures.turn
+    (grind arith)) c.turn-sub.ensures.turn

@@ -11,7 +11,7 @@ gather-requires c =
         get_or_default c.loop-sub.subs i c.sub-item.result nothing_held (omega arith),
         old.todo i (omega arith),
       )
-          (c.requires.full i (omega arith));
+          (grind arith);
     }
 
 pub loop-sub-preserved : goal.loop-sub-preserved
@@ -21,9 +21,9 @@ loop-sub-preserved c =
     let lt : i < length c.loop-sub.subs = omega arith in
     let here = get_or_default c.loop-sub.subs i c.sub-item.result nothing_held lt ∙ old.todo i (omega arith) in
     record {
-      count = length-set c.loop-sub.subs i c.gather.new.self ∙ old.count;
+      count = grind (arith, length-set);
       done = each_set (λ s held. s < i + 1 → GathersSub (held_at c.args.subs.now s) held) c.loop-sub.subs i
           c.gather.new.self
-          nothing_held lt (λ _. rw here at c.gather.ensures) (λ s ne below. old.done s (omega arith));
-      todo = λ s le. get_or-set_other c.loop-sub.subs i s c.gather.new.self nothing_held (λ e. omega arith) ∙ old.todo s (omega arith);
+          nothing_held lt (grind arith) (grind arith);
+      todo = grind (arith, get_or-set_other);
     }

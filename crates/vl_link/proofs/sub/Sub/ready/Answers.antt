@@ -1,32 +1,21 @@
-use Rattle.vl_link.proofs.Names.{ℕ, ◌≡◌, ◌∙◌, ◌%◌, ◌<◌, ap, sym, subst, refl, inr, arith, [], Bool, false, Option, List, length, get_or_read, room_of, Cutting, A, fragments_again, SubVl, taken_of, TellsCutting, left_of, message_fragments, sent_of, IsPortOf, seen_of}
-use Rattle.afdx_plan.specs.Config.{port_plan_at}
+use Rattle.vl_link.proofs.Names.{ℕ, ◌≡◌, ◌∙◌, ◌%◌, ◌<◌, ap, sym, arith, [], Bool, false, Option, length, get_or_read, room_of, Cutting, A, fragments_again, SubVl, taken_of, TellsCutting, left_of, message_fragments, sent_of, IsPortOf, seen_of}
 use Rattle.afdx_frame.proofs.FragmentLemmas.{cut_whole}
 use Rattle.vl_link.proofs.FragmentsLeft.{fragments_some}
-use Rattle.vl_link.proofs.QueueLooks.{item_of_more, same_nothing, same_ports, taken_nothing, kept_as, kept_finds}
+use Rattle.vl_link.proofs.QueueLooks.{kept_finds}
 use Rattle.vl_link.proofs.sub.Sub.ready.Goals as goal
 
 -- The message's port is one of the sub-VL's.
 has_port : (c : goal.After-self-1) → c.from.result < length c.self.inside.ports.items.items
-has_port c =
-    let place = c.from.ensures ∙ ap (λ (i : ℕ × List ℕ). i.0) c.item.view_is in
-    let port = c.in-Some.ensures.item.port in let count = c.self.invariant.count in omega arith
+has_port c = grind arith
 
 -- The message is sent from a port of this sub-VL.
 own : (c : goal.After-self-1) → IsPortOf c.self.inside.of c.index-sender.result.now
-own c = subst (IsPortOf c.self.inside.of) (sym c.index-sender.ensures)
-    (c.self.invariant.senders c.from.result c.index-sender.result.now (has_port c))
+own c = grind arith
 
 -- The cut message is the found one.
 cut_is : (c : goal.After-self-1)
     → record { port = c.index-sender.result.now; bytes = c.item.inside.bytes.items } ≡ sent_of c.self.inside.ports.items.items c.in-Some.item
-cut_is c =
-    let place = c.from.ensures ∙ ap (λ (i : ℕ × List ℕ). i.0) c.item.view_is in
-    let sender = get_or_read c.self.inside.ports.items.items c.from.result c.index-sender.result.now (has_port c)
-    c.index-sender.ensures (port_plan_at [] 0) in
-    λ i. record {
-      port = (sender ∙ ap (port_plan_at c.self.inside.ports.items.items) place) i;
-      bytes = (c.item.view_is i).1;
-    }
+cut_is c = grind (arith, get_or_read)
 
 -- No message was being sent.
 is_whole : (of : SubVl) (sending : Option Cutting) (cutting : Bool)
@@ -39,26 +28,14 @@ returns-in-Some c =
     let left = ap (left_of of) c.start.ensures
     ∙ cut_whole of.end_system (room_of of.link.lmax) A _ _ (record { port = c.index-sender.result.now; bytes = c.item.inside.bytes.items })
     ∙ ap (λ (place : ℕ). message_fragments c.self.inside.of place
-    (record { port = c.index-sender.result.now; bytes = c.item.inside.bytes.items })) (c.from-in-Some.ensures ∙ c.self.invariant.place)
+    (record { port = c.index-sender.result.now; bytes = c.item.inside.bytes.items })) (grind arith)
     ∙ ap (message_fragments c.self.inside.of (length (taken_of (seen_of c.self.inside.queue)) % 16384)) (cut_is c)
     ∙ fragments_again of.end_system (room_of of.link.lmax) A (length (taken_of (seen_of c.self.inside.queue)))
     (sent_of c.self.inside.ports.items.items c.in-Some.item) in
-    rw (← c.self.view_is) (inr (record {
-      message = c.in-Some.item;
-      item = item_of_more _ _ c.in-Some.item c.self.invariant.count c.in-Some.ensures.item;
-      whole = is_whole c.self.inside.of c.self.inside.sending _ c.if-is_cutting.false c.is_cutting.ensures;
-      finds = c.in-Some.ensures.some;
-      left = left;
-      some = λ none. fragments_some c.self.inside.of (length (taken_of (seen_of c.self.inside.queue)))
-          (sent_of c.self.inside.ports.items.items c.in-Some.item) (sym left ∙ none);
-      of = refl;
-      ports = refl;
-    }))
+    grind (arith, is_whole, fragments_some)
 
 pub invariant_of-self : goal.invariant_of-self
-invariant_of-self c =
-    let none = c.in-None.ensures.none in
-    kept_as _ _ _ _ _ _ c.self.invariant (same_ports _ _ (same_nothing _ _ none)) (taken_nothing _ _ none)
+invariant_of-self c = grind arith
 
 pub invariant_of-self-in-Some : goal.invariant_of-self-in-Some
 invariant_of-self-in-Some c =
@@ -71,9 +48,4 @@ invariant_of-self-in-Some c =
     }))
 
 pub returns-in-None : goal.returns-in-None
-returns-in-None c =
-    rw (← c.self.view_is) (record {
-      whole = is_whole c.self.inside.of c.self.inside.sending _ c.if-is_cutting.false c.is_cutting.ensures;
-      nothing = c.in-None.ensures.none;
-      same = refl;
-    })
+returns-in-None c = grind arith
