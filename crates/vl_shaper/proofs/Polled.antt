@@ -1,7 +1,7 @@
 -- How long a message waits, by the polls of its link.
-use Rattle.vl_shaper.proofs.Names.{ℕ, zero, suc, ◌≡◌, ◌+◌, ◌-◌, ◌*◌, ◌<◌, ◌≤◌, Bool, true, false, nat_le, ◌&&◌, cond, List, [], ◌∷◌, arith, refl, ap, ◌∙◌, sym, ◌⊎◌, inl, inr, mul-suc, Option, Some, None, and_from, le-leb, cases_lt, cases_eq, eq-eqb, ne_eqb, mul-le, sum_by-cons, Choice, next_turn, IsChosen, is_due, turn_of, IsLater, Stamp}
+use Rattle.vl_shaper.proofs.Names.{ℕ, zero, suc, ◌≡◌, ◌+◌, ◌-◌, ◌*◌, ◌<◌, ◌≤◌, true, nat_le, ◌&&◌, cond, List, [], ◌∷◌, arith, refl, ap, ◌∙◌, ◌⊎◌, inl, inr, Option, Some, None, cases_eq, eq-eqb, mul-le, sum_by-cons, Choice, next_turn, IsChosen, turn_of, IsLater, Stamp}
 use Rattle.vl_shaper.specs.Polls.{Poll, IsServed, AreServed, ArePolled, latest_poll, is_of, HasAtPolls, released_by, PolledInTime}
-use Rattle.vl_shaper.proofs.OneEach.{back, back_lt, back_self, turn_cases, chosen_behind}
+use Rattle.vl_shaper.proofs.OneEach.{back, back_lt, chosen_behind}
 
 -- A poll adds at most one to the count.
 counted : (x moment : ℕ) (poll : Poll) (polls : List Poll)
@@ -14,33 +14,16 @@ counts : (x moment : ℕ) (poll : Poll) (polls : List Poll) → poll.at ≤ mome
     → released_by x moment (poll ∷ polls) ≡ suc (released_by x moment polls)
 counts x moment poll polls soon own =
     let whole = counted x moment poll polls in
-    let one = ap (λ (t : Bool). 0 + cond t 1 0)
-    (and_from (nat_le poll.at moment) (is_of x poll.released) (le-leb poll.at moment soon) own) in
-    omega arith
-
--- No poll lowers the count.
-no_less : (x moment : ℕ) (poll : Poll) (polls : List Poll) → released_by x moment polls ≤ released_by x moment (poll ∷ polls)
-no_less x moment poll polls = let whole = counted x moment poll polls in omega arith
+    grind arith
 
 -- One choice fewer needs one pause fewer.
 one_pause : (fewer more pause : ℕ) → suc fewer ≤ more → pause + fewer * pause ≤ more * pause
-one_pause fewer more pause less = let m = mul-le (suc fewer) pause more pause less (omega arith) in omega arith
+one_pause fewer more pause less = grind arith
 
 -- A poll releases a frame or none.
 by_release : (o : Option ℕ) → (o ≡ None) ⊎ ((chosen : ℕ) × (o ≡ Some chosen))
 by_release None = inl refl
 by_release (Some chosen) = inr (chosen, refl)
-
--- A link is due one gap after its last release.
-due_then : (gap before moment : ℕ) (last : Option Stamp) → IsLater last before → before + gap ≤ moment
-    → is_due gap last moment ≡ true
-due_then gap before moment None after late = refl
-due_then gap before moment (Some l) after late = le-leb gap (moment - l.at) (omega arith)
-
--- If a sub-VL had something and the poll released nothing, the link wasn't due.
-not_due : (gap subs before x : ℕ) (last : Option Stamp) (p : Poll) → x < subs → IsLater last before
-    → IsServed gap subs last p None → p.has x ≡ true → p.at < before + gap
-not_due gap subs before x last p xl after idle had = grind arith
 
 -- After a release the turns are in cyclic order.
 behind_release : (subs : ℕ) (l : Stamp) (c : Choice) → IsChosen subs (turn_of subs (Some l)) c → IsChosen subs (next_turn subs l.sub) c
@@ -48,7 +31,7 @@ behind_release subs l c ch = ch
 
 -- The first turns start at sub-VL 0, as after a release of the last sub-VL.
 from_0 : (subs k : ℕ) → k < subs → next_turn subs (subs - 1) k ≡ k
-from_0 subs k lt = grind (arith, turn_cases subs (subs - 1) k (omega arith) lt)
+from_0 subs k lt = grind arith
 
 -- The same holds of the choice on a link that has released nothing.
 at_first : (subs : ℕ) (c : Choice) → IsChosen subs (turn_of subs None) c → IsChosen subs (next_turn subs (subs - 1)) c
@@ -65,27 +48,21 @@ in_time : (polls : List Poll) (subs x l f gap late before polled moment : ℕ) (
     → f ≤ released_by x moment polls
 in_time polls subs x l zero gap late before polled moment last xl ll some after order served paced has near enough reach = omega arith
 in_time [] subs x l (suc f) gap late before polled moment last xl ll some after order served paced has near enough reach =
-    let b = back_lt subs x l xl ll in
-    let m = mul-suc subs f in
     let e = enough (omega arith) in
-    let p = one_pause 0 (subs * suc f - back subs x l) (gap + late) (omega arith) in
-    absurd (omega arith)
+    grind (arith, one_pause)
 in_time (p ∷ ps) subs x l (suc f) gap late before polled moment last xl ll some after order served paced has near enough reach =
     let pause : ℕ = gap + late in
     let had : p.has x ≡ true = has.0 (omega arith) in
     let b = back_lt subs x l xl ll in
-    let m = mul-suc subs f in
-    let e = enough (omega arith) in
     let one = one_pause 0 (subs * suc f - back subs x l) pause (omega arith) in
     elim (by_release p.released) [
       | inl is ↦
-          let early : p.at < before + gap = not_due gap subs before x last p xl after (rw is at served.0) had in
+          let early : p.at < before + gap = grind arith in
           let left : suc f - cond (is_of x p.released) 1 0 ≡ suc f = rw is (omega arith) in
           let rest : suc f ≤ released_by x moment ps =
           in_time ps subs x l (suc f) gap late before p.at moment last xl ll some after order
           (rw is at served.1) paced.1 (rw left at has.1) early enough reach in
-          let more = no_less x moment p ps in
-          omega arith
+          grind arith
       | inr (chosen, is) ↦
           let stamp : Stamp = record { at = p.at; sub = chosen } in
           let made : IsServed gap subs last p (Some chosen) = rw is at served.0 in
@@ -99,18 +76,11 @@ in_time (p ∷ ps) subs x l (suc f) gap late before polled moment last xl ll som
             | inl own ↦
                 let mine : is_of x p.released ≡ true = ap (is_of x) is ∙ eq-eqb chosen x own in
                 let left : suc f - cond (is_of x p.released) 1 0 ≡ f = rw mine (omega arith) in
-                let none = back_self subs x chosen xl own in
-                let rest : f ≤ released_by x moment ps = next f (omega arith) (rw left at has.1) in
+                let rest : f ≤ released_by x moment ps = grind arith in
                 let count = counts x moment p ps (omega arith) mine in
                 omega arith
             | inr ne ↦
-                let other : is_of x p.released ≡ false = ap (is_of x) is ∙ ne_eqb chosen x ne in
-                let left : suc f - cond (is_of x p.released) 1 0 ≡ suc f = rw other (omega arith) in
-                let far = to.1 ne in
-                let near = back_lt subs x chosen xl to.0 in
-                let rest : suc f ≤ released_by x moment ps = next (suc f) (omega arith) (rw left at has.1) in
-                let more = no_less x moment p ps in
-                omega arith
+                grind arith
           ]
     ]
 

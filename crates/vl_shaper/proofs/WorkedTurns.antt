@@ -1,5 +1,5 @@
 -- The worked choices, waits and polls, by computation.
-use Rattle.vl_shaper.proofs.Names.{ℕ, ◌≡◌, ◌≢◌, ◌<◌, ◌≤◌, true, refl, arith, ne_eqb, All-from_recursion, Choice, next_turn, IsChosen, lone_choice, busy_release, ChoosesOneEach, WaitsBehindOne}
+use Rattle.vl_shaper.proofs.Names.{ℕ, ◌≡◌, ◌≢◌, ◌<◌, ◌≤◌, true, arith, All-from_recursion, Choice, next_turn, IsChosen, lone_choice, busy_release, ChoosesOneEach, WaitsBehindOne}
 use Rattle.vl_shaper.proofs.Names.{LeavesOneBehind, WaitsFourChoices, ReleasesTooLate, nat_eq, turn_of}
 use Rattle.vl_shaper.specs.WorkedPolls.{served_at_0, ServesInTime, ReleasesAtOnce, PolledTooLate}
 
@@ -14,10 +14,10 @@ again : (subs turn : ℕ) → turn < subs → 1 ≡ next_turn subs 1 turn → ((
 again subs turn within is before = grind arith
 
 pub chooses_one_each : ChoosesOneEach
-chooses_one_each = search (arith, first_chosen, again 3 2 (omega arith) refl (λ k h e. omega arith))
+chooses_one_each = grind (arith, first_chosen, again)
 
 pub waits_behind_one : WaitsBehindOne
-waits_behind_one = search (arith, first_chosen, again 2 1 (omega arith) refl (λ k h e. omega arith))
+waits_behind_one = grind (arith, first_chosen, again)
 
 pub leaves_one_behind : LeavesOneBehind
 leaves_one_behind = search (arith, first_chosen)
@@ -29,7 +29,7 @@ pub releases_too_late : ReleasesTooLate
 releases_too_late = record {
   chosen = search (arith, first_chosen);
   had = search arith;
-  paced = λ paced. let fourth = paced.1.1.1.0 in absurd (omega arith);
+  paced = grind arith;
   rounds = omega arith;
   by = λ by. let fourth : 4500 ≤ 4400 = by 3 (busy_release 0 0) (omega arith) in absurd (omega arith);
 }
