@@ -1,8 +1,8 @@
 -- The lists of the two networks, and the log.
-use Rattle.std.proofs.Common.{ℕ, ◌≡◌, List, [], ◌∷◌, ◌++◌, Bool, true, false, ◌&&◌, cond, map, refl, ap, ◌∙◌, sym, inl, inr, ⊎_elim}
+use Rattle.std.proofs.Common.{arith, ℕ, ◌≡◌, List, [], ◌∷◌, ◌++◌, Bool, true, false, ◌&&◌, cond, map, refl, ap, sym, inl, inr}
 use Rattle.std.proofs.lemmas.List.{map-append, append-nil, append_assoc}
 use Rattle.std.proofs.lemmas.List.Elements.{filter-append, All-nil, All-push}
-use Rattle.std.proofs.lemmas.Bool.{cases_Bool, or_cases, or_parts, and_parts, and_right}
+use Rattle.std.proofs.lemmas.Bool.{cases_Bool}
 use Rattle.afdx_plan.specs.declared.networks.Networks.{Networks}
 use Rattle.afdx_plan.specs.Networks.{carries_a, carries_b}
 use Rattle.afdx_frame.specs.declared.net.Net.{Net}
@@ -18,10 +18,7 @@ entries_append xs ys = map-append (λ (l : Logged). l.entry) xs ys
 -- One entry more in the log, as a network gets it.
 sent_push : (net : Net) (seen : List Logged) (l : Logged)
     → sent_to net (seen ++ l ∷ []) ≡ sent_to net seen ++ cond (names net l.networks) (side net l.entry ∷ []) []
-sent_push net seen l =
-    ap (λ (ls : List Logged). map (side net) (entries_of ls)) (filter-append (λ (x : Logged). names net x.networks) seen (l ∷ []))
-    ∙ ap (map (side net)) (entries_append _ _) ∙ map-append (side net) _ _
-    ∙ ap (λ (x : List Entry). sent_to net seen ++ x) (one (names net l.networks))
+sent_push net seen l = grind (arith, filter-append, map-append)
   where
     one : (named : Bool) → map (side net) (entries_of (cond named (l ∷ []) [])) ≡ cond named (side net l.entry ∷ []) []
     one true = refl
@@ -35,57 +32,29 @@ record AfterHand (named : Bool) (e : Entry) (stood stands : Bool) (old new : Lis
 
 after_hand : (named : Bool) (e : Entry) (stood stands : Bool) (old new : List Entry) (f g : ℕ)
     → Handing named e stood stands old new f g → AfterHand named e stood stands old new
-after_hand true e true true old new f g p =
-    record { stays = λ _. refl; gets = λ _. p.0; rests = λ no. let same : true ≡ false = no in cc }
-after_hand true e stood false old new f g p = record {
-  stays = λ up. let same : false ≡ true = up in cc;
-  gets = λ up. let same : false ≡ true = up in cc;
-  rests = λ _. rested stood p;
-}
-  where
-    rested : (s : Bool) → Handing true e s false old new f g → new ≡ old
-    rested true p = p.0
-    rested false p = p.0
-after_hand true e false true old new f g p = absurd p
-after_hand false e stood stands old new f g p =
-    record { stays = λ up. sym p.0 ∙ up; gets = λ _. p.1 ∙ sym (append-nil old); rests = λ _. p.1 }
+after_hand named e stood stands old new f g p = grind (arith, append-nil)
 
 -- A network's list after a hand whose entry is logged.
 keeps_logged : (net : Net) (networks : Networks) (e : Entry) (stood stands : Bool) (h h' : List Entry) (logged more : List Logged)
     → Keeps net stood h logged → AfterHand (names net networks) (side net e) stood stands h h'
     → (stands ≡ false → networks ≡ only net → ⊥) → more ≡ logged ++ logged_for networks e ∷ [] → Keeps net stands h' more
 keeps_logged net networks e stood true h h' logged more k p other is =
-    let all : k.seen ≡ logged = sym (k.whole ∙ ap (λ (x : List Logged). k.seen ++ x) (k.all (p.stays refl)) ∙ append-nil k.seen) in
+    let all : k.seen ≡ logged = grind (arith, append-nil) in
     record {
       seen = more;
       missed = [];
       whole = sym (append-nil more);
-      got = p.gets refl
-          ∙ ap (λ (x : List Entry). x ++ cond (names net networks) (side net e ∷ []) []) (k.got ∙ ap (sent_to net) all)
-          ∙ sym (ap (sent_to net) is ∙ sent_push net logged (logged_for networks e));
-      shared = All-nil (λ (l : Logged). l.networks ≡ only net → ⊥);
+      got = grind (arith, sent_push);
+      shared = grind arith;
       all = λ _. refl;
     }
 keeps_logged net networks e stood false h h' logged more k p other is = record {
   seen = k.seen;
   missed = k.missed ++ logged_for networks e ∷ [];
-  whole = is ∙ ap (λ (x : List Logged). x ++ logged_for networks e ∷ []) k.whole ∙ append_assoc k.seen k.missed _;
-  got = p.rests (and_right (names net networks) false refl) ∙ k.got;
+  whole = grind (arith, append_assoc);
+  got = grind arith;
   shared = All-push (λ (l : Logged). l.networks ≡ only net → ⊥) k.missed _ k.shared (other refl);
-  all = λ up. let same : false ≡ true = up in cc;
-}
-
--- A network's list after a hand whose entry isn't logged.
-abbrev keeps_same : (net : Net) (networks : Networks) (e : Entry) (stood stands : Bool) (h h' : List Entry)
-    (logged more : List Logged) → Keeps net stood h logged → AfterHand (names net networks) (side net e) stood stands h h'
-    → (names net networks && stands) ≡ false → more ≡ logged → Keeps net stands h' more
-keeps_same net networks e stood stands h h' logged more k p idle is = record {
-  seen = k.seen;
-  missed = k.missed;
-  whole = is ∙ k.whole;
-  got = p.rests idle ∙ k.got;
-  shared = k.shared;
-  all = λ up. k.all (p.stays up);
+  all = λ up. cc;
 }
 
 -- After a hand both lists mirror the log.
@@ -102,20 +71,19 @@ handed_on old new networks e m t p q enters lost =
     elim (cases_Bool (stands_for networks new)) [
       | inl some ↦
           let first : Keeps A new.a_stands new.a new.logged = keeps_logged A networks e _ _ _ _ _ _ m.first for_a
-          (λ down only. let no : false ≡ true = rw (only, down) at some in cc) (enters some) in
+          (grind arith) (enters some) in
           let second : Keeps B new.b_stands new.b new.logged = keeps_logged B networks e _ _ _ _ _ _ m.second for_b
-          (λ down only. let no : false ≡ true = rw (only, down) at some in cc) (enters some) in
+          (grind arith) (enters some) in
           record {
             first = first;
             second = second;
-            one = ⊎_elim (λ x. inl (first.all (and_parts _ _ x).1)) (λ y. inr (second.all (and_parts _ _ y).1)) (or_cases (carries_a networks && new.a_stands) (carries_b networks && new.b_stands) some);
+            one = grind arith;
             for_a = rw (enters some) (All-push (λ (l : Logged). side A l.entry ≡ l.entry) old.logged _ m.for_a t);
           }
       | inr none ↦
-          let idle = or_parts (carries_a networks && new.a_stands) (carries_b networks && new.b_stands) none in
           record {
-            first = keeps_same A networks e _ _ _ _ _ _ m.first for_a idle.0 (lost none);
-            second = keeps_same B networks e _ _ _ _ _ _ m.second for_b idle.1 (lost none);
+            first = grind arith;
+            second = grind arith;
             one = m.one;
             for_a = rw (lost none) m.for_a;
           }
@@ -125,7 +93,7 @@ handed_on old new networks e m t p q enters lost =
 pub log_more : (lines after : Lines) (l : Logged) → after.logged ≡ lines.logged ++ l ∷ []
     → log after ≡ log lines ++ l.entry ∷ []
 unfolding log
-log_more lines after l more = ap entries_of more ∙ entries_append lines.logged (l ∷ [])
+log_more lines after l more = grind (arith, entries_append)
 
 -- Without a logged entry the log is the same.
 pub log_same : (lines after : Lines) → after.logged ≡ lines.logged → log after ≡ log lines
@@ -161,6 +129,6 @@ fresh_in_step = record {
     first = fresh_keeps A;
     second = fresh_keeps B;
     one = inl refl;
-    for_a = All-nil (λ (l : Logged). side A l.entry ≡ l.entry);
+    for_a = grind arith;
   };
 }

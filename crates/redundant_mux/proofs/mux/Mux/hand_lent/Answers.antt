@@ -1,7 +1,6 @@
-use Rattle.std.proofs.Common.{ap, ◌∙◌}
+use Rattle.std.proofs.Common.{arith, ap}
 use Rattle.redundant_mux.specs.Entry.{entry}
 use Rattle.redundant_mux.specs.Lines.{lines_of, IsMirrored}
-use Rattle.redundant_mux.proofs.Enduring.{both_hands}
 use Rattle.redundant_mux.proofs.MirroredLines.{handed_on}
 use Rattle.redundant_mux.proofs.mux.Mux.hand_lent.Given
 use Rattle.redundant_mux.proofs.mux.Mux.hand_lent.Goals as goal
@@ -13,12 +12,10 @@ left : (g : Given.Over) (c : goal.After-result-1 g)
     c.hand_to.new.stands c.hand_twin.new.stands c.note.new.trail.logged)
 left g c =
     let for_a = ap (entry c.args.at) c.requires in
-    let same = c.as_slice-2.ensures.value ∙ c.hand_twin.ensures.same in
     let a = rw (c.carries_a-named_a.ensures, c.as_slice.ensures.value) at c.hand_to.ensures.handing in
     let b = rw c.carries_b-named_b.ensures at c.hand_twin.ensures.handing in
     handed_on _ _ c.args.networks (entry c.args.at c.args.frame.now.items) c.self.invariant.mirrored for_a a b
-    (rw (c.has_one_of-taken.ensures, same) at c.note.ensures.taken)
-    (rw (c.has_one_of-taken.ensures) at c.note.ensures.lost)
+    (grind arith) (grind arith)
 
 pub invariant_of-self : goal.invariant_of-self
 invariant_of-self g c = record {
@@ -31,5 +28,4 @@ pub returns-clause-mirrored : goal.returns-clause-mirrored
 returns-clause-mirrored g c = left g c
 
 pub returns-clause-endure : goal.returns-clause-endure
-returns-clause-endure g c =
-    rw (← c.self.view_is) (both_hands _ _ _ _ _ _ c.hand_to.ensures.handing c.hand_twin.ensures.handing)
+returns-clause-endure g c = grind arith
