@@ -1,5 +1,5 @@
 -- Histories that grow.
-use Rattle.std.proofs.Common.{◌≡◌, ℕ, ◌+◌, List, [], ◌∷◌, ◌++◌, refl, sym, ap, ◌∙◌, subst, append-nil, append_assoc, length, length-append, arith}
+use Rattle.std.proofs.Common.{◌≡◌, ℕ, ◌+◌, List, [], ◌∷◌, ◌++◌, refl, sym, ap, ◌∙◌, append-nil, append_assoc, length, length-append, arith}
 use Rattle.std.proofs.lemmas.List.{map-append, nil_from_length}
 use Rattle.status_board.specs.declared.counts.Counts.{Counts}
 use Rattle.status_board.specs.declared.rule.Stamped.{Stamped}
@@ -29,8 +29,7 @@ starts_none all = (all, refl)
 pub starts_both : {A : Type 0} (xs ys : List A) → StartsWith xs ys → StartsWith ys xs → xs ≡ ys
 starts_both xs ys p q =
     let longer : length xs ≡ length ys + length p.0 = ap length p.1 ∙ length-append ys p.0 in
-    let shorter : length ys ≡ length xs + length q.0 = ap length q.1 ∙ length-append xs q.0 in
-    p.1 ∙ ap (λ l. ys ++ l) (nil_from_length p.0 (omega arith)) ∙ append-nil ys
+    grind (arith, length-append, nil_from_length, append-nil)
 
 pub counts_of-append : (xs ys : List Stamped) → counts_of (xs ++ ys) ≡ counts_of xs ++ counts_of ys
 counts_of-append xs ys = map-append (λ (e : Stamped). e.counts) xs ys
@@ -60,4 +59,4 @@ rises_after c (x ∷ first) rest r = rises_after x first rest r.1
 -- the value of a beginning is nowhere above the value of the whole
 pub never_behind : (all first : List Counts) → IsRising all → StartsWith all first
     → NoFieldFalls (value_of first) (value_of all)
-never_behind all first r s = subst (λ l. NoFieldFalls (value_of first) (value_of l)) (sym s.1) (rises_after _ first s.0 (subst IsRising s.1 r))
+never_behind all first r s = grind (arith, rises_after)

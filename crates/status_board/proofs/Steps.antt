@@ -1,5 +1,5 @@
 -- Each step on a link's cell keeps the rule.
-use Rattle.std.proofs.Common.{◌≡◌, ◌≢◌, ℕ, zero, suc, ◌+◌, List, [], ◌∷◌, ◌++◌, length, set, true, false, refl, sym, ap, ◌∙◌, subst, ⊎_elim, append-nil}
+use Rattle.std.proofs.Common.{arith, ◌≡◌, ◌≢◌, ℕ, zero, suc, ◌+◌, List, [], ◌∷◌, ◌++◌, length, set, true, false, refl, sym, ap, ◌∙◌, subst, append-nil}
 use mathlib.Core.Option.{some, some-ne-none, some-injective}
 use lib.ListN.{get_elem?}
 use Rattle.crossbeam_utils.specs.Register.{Turns, Forks, Merges}
@@ -8,7 +8,7 @@ use Rattle.atomic_table.proofs.Lists.{at_set, set_again, set_else}
 use Rattle.status_board.specs.declared.counts.Counts.{Counts}
 use Rattle.status_board.specs.declared.rule.Stamped.{Stamped}
 use Rattle.status_board.specs.declared.rule.View.{View}
-use Rattle.status_board.specs.History.{NoFieldFalls, value_of, IsRising, StartsWith, zeros}
+use Rattle.status_board.specs.History.{NoFieldFalls, value_of, zeros}
 use Rattle.status_board.specs.Rule.{stamped, counts_of, opener, Fits, KeepsHistory, Adds, FindsEntry, Agrees, without_reading, as_monitor, as_told, hearing, nobody}
 use Rattle.status_board.specs.Views.{Watched, IsReading}
 use Rattle.status_board.proofs.Histories.{last_or-push, rises-push, starts_same, starts_more, starts_none, counts_of-append, counts_start, are_after-push, never_behind}
@@ -17,11 +17,7 @@ use Rattle.status_board.proofs.Histories.{last_or-push, rises-push, starts_same,
 views_set : (P : ℕ → View → Type 0) (views : List View) (by : ℕ) (w : View)
     → ((j : ℕ) (u : View) → j ≢ by → get_elem? views j ≡ some u → P j u) → P by w → (j : ℕ) (u : View)
     → get_elem? (set views by w) j ≡ some u → P j u
-views_set P views by w others mine j u e =
-    ⊎_elim
-    (λ (x : (j ≡ by) × (w ≡ u)). subst (λ (y : ℕ × View). P y.0 y.1) (λ i. (sym x.0 i, x.1 i)) mine)
-    (λ (x : (j ≢ by) × (get_elem? views j ≡ some u)). others j u x.0 x.1)
-    (at_set views by j w u e)
+views_set P views by w others mine j u e = grind (arith, at_set)
 
 -- P of each view after one has come
 views_push : (P : ℕ → View → Type 0) (views : List View) (w : View) → ((j : ℕ) (u : View) → get_elem? views j ≡ some u → P j u)
@@ -34,14 +30,7 @@ views_push P (v ∷ views) w others mine (suc j) u e = views_push (λ q. P (suc 
 -- a pass that is not the monitor's fits whatever the monitor is
 not_monitor : (k writer monitor loads monitor' loads' : ℕ) (history : List Stamped) (u : View) → k ≢ monitor
     → Fits writer monitor loads history k u → Fits writer monitor' loads' history k u
-not_monitor k writer monitor loads monitor' loads' history u apart f =
-    record { knows = f.knows; heard = f.heard; as_writer = f.as_writer; as_monitor = λ r. absurd (apart (f.as_monitor r).0) }
-
--- a pass with neither part fits if it knows a beginning
-no_part : (writer monitor loads by : ℕ) (history : List Stamped) (v : View) → v.writes ≡ false → v.reads ≡ false
-    → StartsWith history v.history → StartsWith history v.heard → Fits writer monitor loads history by v
-no_part writer monitor loads by history v mute blind knows heard =
-    record { knows = knows; heard = heard; as_writer = λ r. absurd (cc); as_monitor = λ r. absurd (cc) }
+not_monitor k writer monitor loads monitor' loads' history u apart f = grind arith
 
 -- the same history, and other views
 keeps_views : (x : Counts) (views views' : List View) (k : KeepsHistory x views) (monitor loads : ℕ)
@@ -77,37 +66,29 @@ pub publishes : (by : ℕ) (v : View) (c : Counts) → v.writes ≡ true → v.r
     → NoFieldFalls (value_of (counts_of v.history)) c → Turns KeepsHistory by v (λ _. c) Adds
 publishes by v c is blind rise x views k at =
     let mine = k.each by v at in
-    let role = mine.as_writer is in
     let e : Stamped = stamped c k.loads in
     let now = k.history ++ e ∷ [] in
     let w : View = record v { history = v.history ++ e ∷ [] } in
-    let same : w.history ≡ now = ap (λ l. l ++ e ∷ []) role.1 in
     let all = counts_of-append k.history (e ∷ []) in
     let P = Fits k.writer k.monitor k.loads now in
-    let fits : P by w = record {
-      knows = ([], sym same ∙ sym (append-nil w.history));
-      heard = starts_more k.history v.heard (e ∷ []) mine.heard;
-      as_writer = λ _. (role.0, same);
-      as_monitor = λ r. absurd (cc);
-    } in
+    let fits : P by w = grind (arith, append-nil, starts_more) in
     let kept : KeepsHistory c (set views by w) = record {
       writer = k.writer;
       monitor = k.monitor;
       loads = k.loads;
       history = now;
-      value_is = sym (last_or-push zeros (counts_of k.history) c) ∙ ap value_of (sym all);
-      rising = subst IsRising (sym all)
-          (rises-push zeros (counts_of k.history) c k.rising (subst (λ l. NoFieldFalls (value_of (counts_of l)) c) role.1 rise));
+      value_is = grind (arith, last_or-push);
+      rising = grind (arith, rises-push);
       each = views_set P views by w
           (λ j u apart at_j. let f = k.each j u at_j in record {
-            knows = starts_more k.history u.history (e ∷ []) f.knows;
-            heard = starts_more k.history u.heard (e ∷ []) f.heard;
-            as_writer = λ r. absurd (apart ((f.as_writer r).0 ∙ sym role.0));
-            as_monitor = λ r. let m = f.as_monitor r in (m.0, m.1, are_after-push k.loads f.knows.0 e m.2 refl);
+            knows = grind (arith, starts_more);
+            heard = grind (arith, starts_more);
+            as_writer = grind arith;
+            as_monitor = grind (arith, are_after-push);
           })
           fits;
     } in
-    (w, kept, record { loads = k.loads; is = refl })
+    grind arith
 
 pub reads : (by : ℕ) (v : View) → v.reads ≡ true → Turns KeepsHistory by v (λ x. x) FindsEntry
 reads by v is x views k at =
@@ -144,8 +125,7 @@ parts by v is x views k at =
     let mine = k.each by v at in
     let role = mine.as_monitor is in
     let P = Fits k.writer (length kept) k.loads k.history in
-    let own : P by left =
-    record { knows = mine.knows; heard = mine.heard; as_writer = mine.as_writer; as_monitor = λ r. absurd (cc) } in
+    let own : P by left = grind arith in
     let new : P (length kept) right =
     record { knows = mine.knows; heard = mine.heard; as_writer = λ r. absurd (cc); as_monitor = λ _. (refl, role.1, role.2) } in
     keeps_views x views (kept ++ right ∷ []) k (length kept) k.loads (views_push P kept right (views_set P views by left
@@ -157,36 +137,28 @@ tells by v x views k at =
     let mine = k.each by v at in
     keeps_views x views (set views by v ++ as_told v ∷ []) k k.monitor k.loads
     (views_push (Fits k.writer k.monitor k.loads k.history) (set views by v) (as_told v)
-    (λ j u at_j. k.each j u (subst (λ l. get_elem? l j ≡ some u) (set_again views by v at) at_j))
-    (no_part k.writer k.monitor k.loads (length (set views by v)) k.history (as_told v) refl refl mine.knows mine.heard))
+    (λ j u at_j. k.each j u (grind (arith, set_again)))
+    (grind arith))
 
 pub hears : (by : ℕ) (v : View) (other : ℕ) (u : View) → Merges KeepsHistory by v other u (hearing v u) nobody
 hears by v other u x views k at apart there =
     let P = Fits k.writer k.monitor k.loads k.history in
     let w : View = hearing v u in
     let mine = k.each by v at in
-    let theirs = k.each other u (sym (set_else views by other w apart) ∙ there) in
-    let none = starts_none k.history in
+    let theirs = k.each other u (grind (arith, set_else)) in
     let heard : P by w =
     record { knows = mine.knows; heard = theirs.knows; as_writer = mine.as_writer; as_monitor = mine.as_monitor } in
     keeps_views x views (set (set views by w) other nobody) k k.monitor k.loads
     (views_set P (set views by w) other nobody (λ j y _ e. views_set P views by w (λ j y _ e. k.each j y e) heard j y e)
-    (no_part k.writer k.monitor k.loads other k.history nobody refl refl none none))
+    (grind arith))
 
 pub compares : (by : ℕ) (v : View) → v.writes ≡ true → Turns KeepsHistory by v (λ x. x) Agrees
-compares by v is x views k at =
-    let mine = k.each by v at in (
-      v,
-      keeps_views x views (set views by v) k k.monitor k.loads
-          (λ j u e. k.each j u (subst (λ l. get_elem? l j ≡ some u) (set_again views by v at) e)),
-      record { same = refl; begins = subst (λ l. StartsWith l v.heard) (sym (mine.as_writer is).1) mine.heard },
-    )
+compares by v is x views k at = let mine = k.each by v at in grind (arith, set_again, begins)
 
 -- what publishing adds is the last
 pub adds_entry : (old : View) (before published : Counts) (new : View) → Adds old before published new
     → counts_of new.history ≡ counts_of old.history ++ published ∷ []
-adds_entry old before published new added =
-    ap (λ v. counts_of v.history) added.is ∙ counts_of-append old.history (stamped published added.loads ∷ [])
+adds_entry old before published new added = grind (arith, counts_of-append)
 
 -- what a load finds is a reading
 pub reading : (seen : Watched) (cell cell' : TableId) (old new : View) (before found : Counts)
@@ -194,12 +166,4 @@ pub reading : (seen : Watched) (cell cell' : TableId) (old new : View) (before f
     → IsReading seen found (record { cell = cell'; history = counts_of new.history; loads = new.loads })
 reading seen cell cell' old new before found is same f =
     let begins = counts_start new.history old.history f.begins in
-    let after : Watched = record { cell = cell'; history = counts_of new.history; loads = new.loads } in
-    subst (λ (w : Watched). IsReading w found after) is record {
-      cell = same;
-      loads = f.loads;
-      begins = begins;
-      rising = f.rising;
-      value = f.value;
-      above = subst (λ c. NoFieldFalls (value_of (counts_of old.history)) c) (sym f.value) (never_behind _ _ f.rising begins);
-    }
+    grind (arith, never_behind)

@@ -1,26 +1,25 @@
-use Rattle.std.proofs.Common.{rules, sym, ap, ◌∙◌, subst}
+use Rattle.std.proofs.Common.{arith, sym, subst}
 use Rattle.crossbeam_utils.specs.Seq.{cell_view}
 use Rattle.status_board.specs.declared.rule.View.{View}
 use Rattle.status_board.specs.History.{StartsWith}
-use Rattle.status_board.specs.Rule.{counts_of, FindsEntry}
-use Rattle.status_board.specs.Views.{Published, Watched, IsReading}
+use Rattle.status_board.specs.Rule.{FindsEntry}
+use Rattle.status_board.specs.Views.{Watched, IsReading}
 use Rattle.status_board.proofs.Histories.{starts_both, counts_start}
 use Rattle.status_board.proofs.Steps.{reads, reading}
 use Rattle.status_board.proofs.board.Writer.read_last.Goals as goal
 
 pub load_as-found-requires : goal.load_as-found-requires
-load_as-found-requires g c = (search rules, (search rules, (search rules, reads _ _ (ap (λ v. v.reads) c.tell.ensures.hearer.1 ∙ c.reader.invariant.1))))
+load_as-found-requires g c = grind (arith, reads)
 
 pub returns-clause-reading : goal.returns-clause-reading
 returns-clause-reading g c =
     let after = c.load_as-found in
     let found = subst (λ (v : View). FindsEntry v after.result after.result (cell_view after.new.pass)) c.tell.ensures.hearer.1 after.ensures.rule in
     subst (λ (w : Watched). IsReading c.args.reader.now after.result w) (sym c.compare.ensures.reader)
-    (reading _ _ _ _ _ _ _ c.reader.view_is (after.ensures.cell.0 ∙ c.tell.ensures.hearer.0.0) found)
+    (reading _ _ _ _ _ _ _ c.reader.view_is (grind arith) found)
 
 pub returns-clause-whole : goal.returns-clause-whole
 returns-clause-whole g c =
     let now = (cell_view c.load_as-found.new.pass).history in
     let heard = counts_start _ _ (subst (λ (v : View). StartsWith now v.heard) c.tell.ensures.hearer.1 c.load_as-found.ensures.rule.told) in
-    let whole = subst (λ (v : View). StartsWith (counts_of v.history) (counts_of now)) c.tell.ensures.teller.1 c.compare.ensures.begins in
-    ap (λ (w : Watched). w.history) c.compare.ensures.reader ∙ starts_both _ _ heard whole ∙ ap (λ (p : Published). p.history) c.self.view_is
+    grind (arith, starts_both)
