@@ -1,5 +1,5 @@
 -- The frames of a capture are in the order of their times.
-use Rattle.std.proofs.Common.{ℕ, List, [], ◌∷◌}
+use Rattle.std.proofs.Common.{arith, ℕ, List}
 use Rattle.redundant_mux.specs.Entry.{Entry}
 use Rattle.capture.specs.InTime.{RiseFrom, moments, captured_moments, IsInTime}
 use Rattle.capture.specs.Order.{Captured}
@@ -8,8 +8,7 @@ use Rattle.capture.proofs.Orders.{IsBefore, Merges, none, next_a, next_b, order_
 -- what rises rises from a frame that isn't later than the first
 rise_on : (e : Entry) (es : List Entry) (from : ℕ) → IsBefore e es → RiseFrom from (moments es)
     → RiseFrom e.at (moments es)
-rise_on e [] from before h = tt
-rise_on e (x ∷ xs) from before h = (before, h.1)
+rise_on e from before h = grind arith
 
 merges_rise : {a b : List Entry} {cs : List Captured} → Merges a b cs → (from : ℕ) → RiseFrom from (moments a)
     → RiseFrom from (moments b) → RiseFrom from (captured_moments cs)

@@ -10,34 +10,17 @@ use Rattle.capture.specs.Order.{Captured, on, before_others, in_order, next_net}
 pub order_a : (xs bs rest : List Entry) (e : Entry) → A ≡ next_net xs bs → xs ≡ e ∷ rest
     → in_order xs bs ≡ on A e ∷ in_order rest bs
 unfolding in_order
-order_a [] bs rest e net is = cc
-order_a (a ∷ xs) [] rest e net is = cc
-order_a (a ∷ xs) (b ∷ bs) rest e net is = by (nat_lt b.at a.at) net
-  where
-    by : (t : Bool) → A ≡ (if t then B else A)
-        → (if t then on B b ∷ before_others a (in_order xs) bs else on A a ∷ in_order xs (b ∷ bs)) ≡ on A e ∷ in_order rest (b ∷ bs)
-    by true earlier = cc
-    by false later = cc
+order_a bs rest e net is = grind arith
 
 pub order_b : (xs bs rest : List Entry) (e : Entry) → B ≡ next_net xs bs → bs ≡ e ∷ rest
     → in_order xs bs ≡ on B e ∷ in_order xs rest
 unfolding in_order
-order_b xs [] rest e net is = cc
-order_b [] (b ∷ bs) rest e net is = cc
-order_b (a ∷ xs) (b ∷ bs) rest e net is = by (nat_lt b.at a.at) net
-  where
-    by : (t : Bool) → B ≡ (if t then B else A)
-        → (if t then on B b ∷ before_others a (in_order xs) bs else on A a ∷ in_order xs (b ∷ bs))
-        ≡ on B e ∷ before_others a (in_order xs) rest
-    by true earlier = cc
-    by false later = cc
+order_b xs rest e net is = grind arith
 
 -- if one of B comes next and there is none, all are given
 pub order_none : (xs bs : List Entry) → B ≡ next_net xs bs → bs ≡ [] → in_order xs bs ≡ []
 unfolding in_order
-order_none [] [] net is = refl
-order_none (a ∷ xs) [] net is = cc
-order_none xs (b ∷ bs) net is = cc
+order_none net is = grind arith
 
 -- the same of what is left then
 pub order_left : (xs bs new : List Entry) → B ≡ next_net xs bs → bs ≡ [] → new ≡ [] → in_order xs new ≡ []

@@ -1,5 +1,5 @@
 -- The blocks of packets.
-use Rattle.std.proofs.Common.{◌≡◌, ℕ, ◌+◌, ◌++◌, length, length-append, ap, ◌∙◌, append_assoc, arith}
+use Rattle.std.proofs.Common.{◌≡◌, ℕ, ◌+◌, ◌++◌, length, length-append, append_assoc, arith}
 use Rattle.std.proofs.lemmas.List.{length-replicate}
 use Rattle.redundant_mux.specs.Entry.{Entry}
 use Rattle.capture.specs.Capture.{word, fill, filled, block, packet_body, packet_front}
@@ -14,4 +14,4 @@ length-packet_body interface e = simp (length-append, length-replicate) (omega a
 pub packet_is : (interface : ℕ) (e : Entry) (whole : ℕ) → whole ≡ 32 + (length e.frame + fill (length e.frame))
     → packet_front interface e.at (length e.frame) whole ++ filled e.frame ++ word whole
     ≡ block 6 (packet_body interface e)
-packet_is interface e whole is = grind (arith, packet_body, length-packet_body, packet_front, append_assoc)
+packet_is interface e whole is = grind (arith, length-packet_body, append_assoc)

@@ -1,12 +1,11 @@
 -- What was written is read back.
-use Rattle.std.proofs.Common.{◌≡◌, ℕ, zero, suc, ◌+◌, ◌%◌, ◌^◌, ◌≤◌, ◌<◌, List, [], ◌∷◌, ◌++◌, map, length, Option, Some, None, refl, sym, ap, ◌∙◌, append_assoc, append-nil, length-append, arith}
+use Rattle.std.proofs.Common.{◌≡◌, ℕ, zero, suc, ◌+◌, ◌%◌, ◌^◌, ◌≤◌, ◌<◌, List, [], ◌∷◌, ◌++◌, map, length, Option, Some, None, refl, ap, ◌∙◌, append_assoc, append-nil, length-append, arith}
 use Rattle.std.specs.Prelude.{codes, All, if◌then◌else◌}
 use Rattle.std.proofs.lemmas.List.Elements.{All-head, All-tail}
 use Rattle.afdx_frame.specs.declared.net.Net.{Net}
-use Rattle.afdx_frame.specs.declared.net.Net.TheVariants.{A, B}
 use Rattle.redundant_mux.specs.Entry.{Entry}
-use Rattle.capture.specs.Capture.{word, half, fill, block, section_block, section_body, interface_block, interface_body, interface_of, packet_body, packet_block, packet_blocks, header_blocks}
-use Rattle.capture.specs.Order.{Captured, in_order}
+use Rattle.capture.specs.Capture.{word, half, block, section_block, section_body, interface_block, interface_body, interface_of, packet_body, packet_block, packet_blocks, header_blocks}
+use Rattle.capture.specs.Order.{Captured}
 use Rattle.capture.specs.ReadBack.{Fits, frames_on, ReadsBack}
 use Rattle.capture.specs.Reader.{Block, Capture, Packet, then_read, is_section, with_blocks, read_capture}
 use Rattle.capture.proofs.Orders.{Merges, none, next_a, next_b, order_merges}
@@ -43,15 +42,11 @@ all_fit (next_b {e} {a} {b} before m) h k = (All-head Fits e b k, all_fit m h (A
 -- ---- the blocks
 
 interface_small : (net : Net) → interface_of net < 2
-interface_small A = omega arith
-interface_small B = omega arith
+interface_small net = grind arith
 
 -- a block's length is a multiple of 4
 packet_even : (interface : ℕ) (e : Entry) → (12 + length (packet_body interface e)) % 4 ≡ 0
-packet_even interface e = rw (length-packet_body interface e) (fill_even (length e.frame))
-  where
-    fill_even : (n : ℕ) → (12 + (20 + (n + fill n))) % 4 ≡ 0
-    fill_even n = omega arith
+packet_even interface e = grind (arith, length-packet_body)
 
 packet_small : (interface : ℕ) (e : Entry) → Fits e → 12 + length (packet_body interface e) < 2 ^ 32
 packet_small interface e fits = grind (arith, length-packet_body)
@@ -100,8 +95,7 @@ read_is cs fit =
     let behind : List ℕ = block 1 on_b ++ rest in
     let none : Capture = record { names = []; packets = [] } in
     let both : Capture = record { names = codes "A" ∷ codes "B" ∷ []; packets = [] } in
-    let many : length bytes ≡ suc (suc (90 + length rest)) =
-    omega (arith, length-append header_blocks rest, length-header) in
+    let many : length bytes ≡ suc (suc (90 + length rest)) = omega (arith, length-append header_blocks rest, length-header) in
     ap (λ (o : Option Block). then_read o
     (λ (b : Block). if is_section b then with_blocks (length bytes) none b.behind else None))
     (block_read 0x0a0d0d0a section_body (block 1 on_a ++ behind) (omega arith) (omega arith) refl)
@@ -113,9 +107,4 @@ read_is cs fit =
 
 -- what was written is read back
 pub reads_back : ReadsBack
-reads_back a b fits_a fits_b =
-    let merges = order_merges a b in (
-      capture_of (in_order a b),
-      read_is (in_order a b) (all_fit merges fits_a fits_b),
-      record { names = refl; first = first_is merges; second = second_is merges },
-    )
+reads_back a b fits_a fits_b = let merges = order_merges a b in grind (arith, read_is, all_fit, first_is, second_is)

@@ -8,7 +8,4 @@ returns-clause-time c = in_time
 
 pub returns-clause-worked : goal.returns-clause-worked
 unfolding in_order
-returns-clause-worked c = record {
-  rise = (omega arith, (omega arith, tt));
-  fall = λ rises. let falls = rises.1.0 in omega arith;
-}
+returns-clause-worked c = grind arith

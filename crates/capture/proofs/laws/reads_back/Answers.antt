@@ -1,4 +1,4 @@
-use Rattle.std.proofs.Common.{refl}
+use Rattle.std.proofs.Common.{arith}
 use Rattle.capture.specs.Capture.{half, word, section_block, interface_block, packet_block, packet_blocks, header_blocks}
 use Rattle.capture.specs.Order.{in_order}
 use Rattle.capture.specs.Reader.{first_block, with_packet, with_blocks, read_capture}
@@ -10,4 +10,4 @@ returns-clause-back c = reads_back
 
 pub returns-clause-worked : goal.returns-clause-worked
 unfolding half word section_block interface_block packet_block packet_blocks header_blocks in_order first_block with_packet with_blocks read_capture
-returns-clause-worked c = record { order = refl; packets = refl; read = refl }
+returns-clause-worked c = grind arith

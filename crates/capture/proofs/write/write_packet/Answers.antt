@@ -1,4 +1,4 @@
-use Rattle.std.proofs.Common.{ℕ, ◌+◌, ◌++◌, List, Option, length, ap, subst}
+use Rattle.std.proofs.Common.{arith, ℕ, ◌+◌, ◌++◌, List, Option, length, subst}
 use Rattle.std.proofs.KnownBytes.{Appends-trans}
 use Rattle.std.specs.Io.KnownBytes.{Appends}
 use Rattle.redundant_mux.specs.Entry.{entry}
@@ -18,7 +18,7 @@ returns g c =
     let new : Option (List ℕ) = g.W.Write.contents c.write_word.new.writer in
     subst (Appends old new)
     (packet_is (interface_of c.args.packet.net) (entry c.args.packet.at frame) whole
-    (ap (λ (n : ℕ). 32 + (len + n)) c.fill_of.ensures.value))
+    (grind arith))
     (Appends-trans old mid new (front ++ filled frame) (word whole)
     (Appends-trans old (g.W.Write.contents c.write_front.new.writer) mid front (filled frame)
     c.in_ok-write_front.ensures c.in_ok-write_filled.ensures) c.in_ok-write_word.ensures)
