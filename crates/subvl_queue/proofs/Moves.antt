@@ -29,7 +29,7 @@ module _ {T : Type 0} where
 
   pub reserves_ok : (n id : ℕ) (me : Seated T) → me.0.role ≡ Sender → me.0.stage ≡ Idle → me.0.asks < 2 ^ 40
       → Allows Queue n id me 0 (λ x. (x + (2 ^ 64 - 1)) % 2 ^ 64) (reserves (step n 0 1 0 none) me)
-  reserves_ok n id me is was few s r wide at small = go (grind (arith, dec_le))
+  reserves_ok n id me is was few s r wide at small = go (dec_le (suc (2 ^ 32)) (get_or s.words 0 0))
     where
       held : ℕ
       held = (length r.log - r.freed) + total in_hand s.views
@@ -49,13 +49,7 @@ module _ {T : Type 0} where
 
       go : Dec (suc (2 ^ 32) ≤ get_or s.words 0 0)
           → Goes s 0 id me (reserves (step n 0 1 0 none) me) ((get_or s.words 0 0 + (2 ^ 64 - 1)) % 2 ^ 64)
-      go (yes d) = (
-        with_ask me.0 Asked held,
-        keeps,
-        tt,
-        went Asked refl refl tt (grind (arith, rooms_small)),
-        grind arith,
-      )
+      go (yes d) = (with_ask me.0 Asked held, keeps, tt, went Asked refl refl tt (grind (arith, rooms_small)), grind arith)
       go (no d) = (with_ask me.0 Refused held, keeps, tt, went Refused refl refl tt (omega arith), grind arith)
 
   -- A slot request without room, or with a late place, is given back.
@@ -268,11 +262,6 @@ module _ {T : Type 0} where
         moved s r 0 y' i id (suc F) r.log (p + m, free) (some None) me.0 w (grind (arith, fits, get_or-set_other, set_here, holds_one, add-mod_right)),
         (refl, (x, kn.0.1.1, refl)),
       )
-    where
-      later : (seats : ℕ) (log : List (ℕ × T)) (j : ℕ) (d : View T) → (j ≡ 0 → ⊥) → (ro : Role) → Fits seats r.freed log j d ro
-          → Fits seats (suc r.freed) log j d ro
-      later seats log j d ne Receiver k = absurd (ne k.0)
-      later seats log j d ne ro k = k
 
   -- A load of the tail, to see whether the queue is closed.
   pub finds_closed_ok : (n id : ℕ) (me : Seated T) → me.0.role ≡ Sender → me.0.stage ≡ Idle → Allows Queue n id me 1 (λ x. x) (finds_closed (step n 1 0 0 none) me)
