@@ -1,7 +1,7 @@
 -- How the rule is kept when one cell and one seat change.
-use Rattle.subvl_queue.proofs.Names.{◌≡◌, ◌≢◌, ℕ, zero, suc, ◌+◌, ◌%◌, ◌<◌, ◌≤◌, ◌⊎◌, Bool, List, [], ◌∷◌, length, get_or, set, sym, refl, ◌∙◌, arith, length-set, get_or-set_other, some, Option, add-mod_right, ℕ_discrete, get_elem?, State, at_set, set_else, set_here, View, Role, Spent, Stage, Drew, Holding, owned, total, in_room, budget, shut_bit, Gone, Whole, Collects, Busy, Phase, free, writing, full, reading, Cell, holder, InPhase, CellOk, Has, Knows, Fits, Queue}
+use Rattle.subvl_queue.proofs.Names.{◌≡◌, ◌≢◌, ℕ, zero, suc, ◌+◌, ◌%◌, ◌<◌, ◌≤◌, ◌⊎◌, Bool, List, [], ◌∷◌, length, get_or, set, sym, refl, ◌∙◌, arith, length-set, get_or-set_other, some, Option, add-mod_right, ℕ_discrete, get_elem?, State, at_set, set_else, set_here, View, Role, Spent, Stage, Drew, Holding, owned, total, in_room, budget, shut_bit, Gone, Collects, Busy, Phase, free, writing, full, reading, Cell, holder, InPhase, CellOk, Has, Knows, Fits, Queue}
 use Rattle.subvl_queue.proofs.Totals.{sums}
-use Rattle.subvl_queue.proofs.Names.{false, hand_of, found_of, wait_of, budget, mod-lt}
+use Rattle.subvl_queue.proofs.Names.{false, hand_of, found_of, wait_of, budget}
 use mathlib.Core.Path.{Path}
 use mathlib.Core.Option as maybe
 
@@ -14,11 +14,7 @@ put cells i c j = pick (ℕ_discrete j i) c (cells j)
 
 pub at_put : (cells : ℕ → Cell) (i : ℕ) (c : Cell) (F : ℕ → Cell → Type 0) (j : ℕ) → F i c → (j ≢ i → F j (cells j)) → F j (put cells i c j)
 unfolding put
-at_put cells i c F j here other = go (ℕ_discrete j i)
-  where
-    go : (d : Dec (j ≡ i)) → F j (pick d c (cells j))
-    go (yes e) = grind arith
-    go (no n) = other n
+at_put cells i c F j here other = grind arith
 
 pub put_here : (cells : ℕ → Cell) (i : ℕ) (c : Cell) → Path Cell (put cells i c i) c
 put_here cells i c = at_put cells i c (λ q x. q ≡ i → Path Cell x c) i (λ _. refl) (λ n. absurd (n refl)) refl
@@ -107,13 +103,9 @@ module _ {T : Type 0} where
     gone_stays id j v w at same gone d e = each_after s.views id w (λ q y. q ≡ j → y.role ≡ Spent)
         (grind arith) (grind arith) j d e refl
 
-    whole_stays : (id : ℕ) (v w : View T) (log' : List (ℕ × T)) → get_elem? s.views id ≡ some v → w.role ≡ v.role → (o : Option (List (ℕ × T)))
-        → Whole log' s.views o → Whole log' (set s.views id w) o
-    whole_stays id v w log' at same o k = grind (arith, gone_stays)
-
     pub roles_stay : (closed' : Bool) (log' : List (ℕ × T)) (id : ℕ) (v w u : View T) → get_elem? s.views id ≡ some v → w.role ≡ v.role
         → Collects closed' log' s.views u → Collects closed' log' (set s.views id w) u
-    roles_stay closed' log' id v w u at same g = grind (arith, gone_stays, whole_stays)
+    roles_stay closed' log' id v w u at same g = grind (arith, gone_stays)
 
     -- What the receiver has collected still fits, if its own step or the change of the log keeps it.
     collects_after : (closed' : Bool) (log' : List (ℕ × T)) (id : ℕ) (v w : View T) → get_elem? s.views id ≡ some v → w.role ≡ v.role
@@ -161,7 +153,7 @@ module _ {T : Type 0} where
           each_seat = rw seats (each_after s.views id w (λ j d. Fits (length s.views) r.freed r.log j d d.role) q.fit (λ j d _ e. r.each_seat j d e));
           each_hand = each_after s.views id w (λ j d. Knows r.freed r.log j (r.cells (d.at % n)) d.at d.item d.stage) q.knew
               (λ j d _ e. r.each_hand j d e);
-          busy = λ i j near held. let b = r.busy i j near held in grind (arith, set_else, holds_none);
+          busy = λ i j near held. let b = r.busy i j near held in grind (arith, set_else);
         }
 
     -- a step that changes one cell, and the view of the seat that takes it
@@ -227,7 +219,7 @@ module _ {T : Type 0} where
               knows_stays r.freed freed' r.log log' j (r.cells (d.at % n)) (cells' (d.at % n)) d.at d.item m.more
               (λ held. at_put r.cells i c' (λ q y. q ≡ d.at % n → Path Cell y (r.cells (d.at % n))) (d.at % n)
               (λ is. absurd (m.loose j not (grind arith))) (λ _ _. refl) refl)
-              (grind (arith, mod-lt))
+              (grind arith)
               d.stage (r.each_hand j d e)));
           busy = rw as_long (λ q j l. at_put r.cells i c'
               (λ z y. z ≡ q → holder y.1 ≡ suc j → (u : View T) × (get_elem? views' j ≡ some u) × Busy u.stage × (u.at ≡ y.0)) q

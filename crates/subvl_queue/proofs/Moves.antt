@@ -1,21 +1,14 @@
 -- Each step keeps the rule.
-use Rattle.subvl_queue.proofs.Names.{◌≡◌, ◌≢◌, ℕ, zero, suc, ◌+◌, ◌-◌, ◌*◌, ◌^◌, ◌%◌, ◌<◌, ◌≤◌, ◌⊎◌, Bool, true, false, List, [], ◌∷◌, ◌++◌, length, get_or, set, sym, refl, ap, ◌∙◌, subst, ⊎_elim, arith, mod-lt, length-set, length-append, get_or-set_other, get_or-set_same, lt_of_not-le, cases_Bool, none, some, add-mod_right, ℕ_discrete, dec_le, get_elem?, Option, Some, None, IfSome, bit_or, take-append-le, step, Act, keeps, takes, gives, Valid, carried_after, stepped, Allows, set_here, at_last, at_longer, one_turn, View, Role, Sender, Receiver, Stage, Idle, Asked, Refused, Drew, Late, Holding, total, hand_of, found_of, wait_of, shut_bit, in_hand, in_room, waiting, Totals, Gone, Whole, Collects, Busy, Phase, free, writing, full, reading, holder, shown, InPhase, Knows, Fits, Queue, Seated, with_ask, idle, drawn, with_look, holding, freed_of, lated, with_glance, with_total, with_all, reserves, unreserves, claims, publishes, finds_ready, takes_out, finds_closed, closes, gathers}
+use Rattle.subvl_queue.proofs.Names.{◌≡◌, ◌≢◌, ℕ, zero, suc, ◌+◌, ◌-◌, ◌*◌, ◌^◌, ◌%◌, ◌<◌, ◌≤◌, ◌⊎◌, Bool, true, false, List, [], ◌∷◌, ◌++◌, length, get_or, set, sym, refl, ap, ◌∙◌, subst, ⊎_elim, arith, mod-lt, length-set, length-append, get_or-set_other, get_or-set_same, lt_of_not-le, cases_Bool, none, some, add-mod_right, ℕ_discrete, dec_le, get_elem?, Option, Some, None, IfSome, bit_or, take-append-le, step, Act, keeps, takes, gives, Valid, carried_after, stepped, Allows, set_here, at_last, at_longer, one_turn, View, Sender, Receiver, Stage, Idle, Asked, Refused, Drew, Late, Holding, total, hand_of, found_of, wait_of, shut_bit, in_hand, in_room, waiting, Gone, Whole, Collects, Busy, Phase, free, writing, full, reading, holder, shown, InPhase, Knows, Fits, Queue, Seated, with_ask, idle, drawn, with_look, holding, freed_of, lated, with_glance, with_total, with_all, reserves, unreserves, claims, publishes, finds_ready, takes_out, finds_closed, closes, gathers}
 use mathlib.Core.Logic.{dite}
 use lib.Seq.{set-get_or}
-use Rattle.subvl_queue.proofs.Totals.{sums, hands_small, rooms_small, total_le}
+use Rattle.subvl_queue.proofs.Totals.{sums, hands_small, total_le}
 use Rattle.subvl_queue.proofs.Parts.{owned_mine, owned_other, owned_at, take_next}
 use lib.Bits.{or_shifted_r}
 use Rattle.subvl_queue.proofs.Cells.{put, St, Homes, put_here, knows, fits, holds_none, holds_one, placed, quiet, moved}
 
 pub calm_at : (st st' : Stage) → st ≡ st' → (Busy st' → ⊥) → Busy st → ⊥
 calm_at st st' e h b = h (subst Busy e b)
-
-totals_open : (closed : Bool) (a b : ℕ) → closed ≡ false → (o : Option ℕ) → Totals closed a o → Totals closed b o
-totals_open closed a b e o k = grind arith
-
--- A drawn place is below the total.
-before_total : (closed : Bool) (n p : ℕ) (o : Option ℕ) → p < n → Totals closed n o → IfSome o (λ t. p < t)
-before_total closed n p o below k = grind arith
 
 module _ {T : Type 0} where
   abbrev Goes : St T → ℕ → ℕ → Seated T → (ℕ → Seated T → Type 0) → ℕ → Type 0
@@ -34,9 +27,6 @@ module _ {T : Type 0} where
       held : ℕ
       held = (length r.log - r.freed) + total in_hand s.views
 
-      counted : get_or s.words 0 0 + held ≡ 2 ^ 32 + n
-      counted = omega arith
-
       went : (st : Stage) → hand_of st ≡ 1 → wait_of st ≡ 1 → Knows r.freed r.log id (r.cells (me.0.at % length s.homes)) me.0.at me.0.item st
           → length r.log + total in_room s.views + found_of st ≤ r.freed + length s.homes
           → Queue (stepped s 0 ((get_or s.words 0 0 + (2 ^ 64 - 1)) % 2 ^ 64) id me.1 (with_ask me.0 st held) keeps)
@@ -45,11 +35,11 @@ module _ {T : Type 0} where
           let x' : ℕ = (x + (2 ^ 64 - 1)) % 2 ^ 64 in
           let hands = hands_small s.views in
           let now = get_or-set_same s.words 0 x' 0 (omega arith) in
-          quiet s r (set s.words 0 x') id r.late r.closed me.0 (with_ask me.0 st held) (grind (arith, fits, calm_at, length-set, get_or-set_other))
+          quiet s r (set s.words 0 x') id r.late r.closed me.0 (with_ask me.0 st held) (grind (arith, fits, length-set, get_or-set_other))
 
       go : Dec (suc (2 ^ 32) ≤ get_or s.words 0 0)
           → Goes s 0 id me (reserves (step n 0 1 0 none) me) ((get_or s.words 0 0 + (2 ^ 64 - 1)) % 2 ^ 64)
-      go (yes d) = (with_ask me.0 Asked held, keeps, tt, went Asked refl refl tt (grind (arith, rooms_small)), grind arith)
+      go (yes d) = (with_ask me.0 Asked held, keeps, tt, went Asked refl refl tt (grind (arith, total_le)), grind arith)
       go (no d) = (with_ask me.0 Refused held, keeps, tt, went Refused refl refl tt (omega arith), grind arith)
 
   -- A slot request without room, or with a late place, is given back.
@@ -63,7 +53,7 @@ module _ {T : Type 0} where
       given st e hand calm =
           let x' : ℕ = (get_or s.words 0 0 + 1) % 2 ^ 64 in
           let now = get_or-set_same s.words 0 x' 0 (omega arith) in
-          quiet s r (set s.words 0 x') id r.late r.closed me.0 (idle me.0) (grind (arith, fits, calm_at, length-set, get_or-set_other))
+          quiet s r (set s.words 0 x') id r.late r.closed me.0 (idle me.0) (grind (arith, fits, length-set, get_or-set_other))
 
   -- The slot of the next place is free.
   is_free : (t m F : ℕ) (log : List (ℕ × T)) (homes : Homes T) (i q : ℕ) → length log ≡ t → F ≤ t → t < F + m → q < F + m → t % m ≡ q % m
@@ -75,11 +65,6 @@ module _ {T : Type 0} where
   pub few_drawn : (s : St T) (r : Queue s) → length r.log + r.late + total waiting s.views ≤ 64 * 2 ^ 40
   few_drawn s r = grind (arith, total_le)
 
-  -- A message of another port keeps a seat's relation to the log.
-  other_port : (seats freed : ℕ) (log : List (ℕ × T)) (x : ℕ × T) (j id port : ℕ) (d : View T) → id ≡ suc port → x.0 ≡ port → freed ≤ length log
-      → j ≢ id → (ro : Role) → Fits seats freed log j d ro → Fits seats freed (log ++ x ∷ []) j d ro
-  other_port seats freed log x j id port d here said behind other ro f = grind (arith, owned_other, take-append-le)
-
   whole_open : (log log' : List (ℕ × T)) (views : List (View T)) (port : ℕ) → (Gone views (suc port) → ⊥) → (o : Option (List (ℕ × T)))
       → Whole log views o → Whole log' views o
   whole_open log log' views port here o k = grind arith
@@ -87,7 +72,7 @@ module _ {T : Type 0} where
   -- An open queue whose sender isn't back has no total, and no joined list of that sender.
   grows : (closed : Bool) (log : List (ℕ × T)) (views : List (View T)) (x : ℕ × T) (port : ℕ) → closed ≡ false → x.0 ≡ port
       → (Gone views (suc port) → ⊥) → (u : View T) → Collects closed log views u → Collects closed (log ++ x ∷ []) views u
-  grows closed log views x port e said here u g = grind (arith, totals_open, owned_other, whole_open)
+  grows closed log views x port e said here u g = grind (arith, owned_other, whole_open)
 
   -- Drawing a place: for the message, or a late one if the queue is closed.
   pub claims_ok : (said : Option (ℕ × T)) (x : ℕ × T) (n id : ℕ) (me : Seated T) → said ≡ Some x → x.0 ≡ me.0.port → me.0.role ≡ Sender
@@ -112,13 +97,13 @@ module _ {T : Type 0} where
           let knew : Knows F log' id (put r.cells i (L, writing id) i) L (Some x) Drew =
           (put_here r.cells i (L, writing id), (x, refl, at_last r.log x L refl)) in
           let others : (j : ℕ) (d : View T) → j ≢ id → get_elem? s.views j ≡ some d → Fits (length s.views) F log' j d d.role =
-          grind (arith, other_port, fits) in
+          grind (arith, fits, owned_other, take-append-le) in
           let more = at_longer r.log (x ∷ []) in
           let now = get_or-set_same s.words 1 y' 0 (omega arith) in (
             w,
             takes i None,
             fr.1,
-            moved s r 1 y' i id F log' (L, writing id) none me.0 w (grind (arith, fits, get_or-set_other, holds_none, owned_mine, owned_other, placed)),
+            moved s r 1 y' i id F log' (L, writing id) none me.0 w (grind (arith, get_or-set_other, holds_none, owned_mine, owned_other, placed)),
             ((λ _. (x, says, grind arith, grind arith)), λ big. absurd (omega arith)),
           )
 
@@ -131,7 +116,7 @@ module _ {T : Type 0} where
             lated me.0,
             keeps,
             tt,
-            quiet s r (set s.words 1 y') id (suc r.late) r.closed me.0 (lated me.0) (grind (arith, fits, calm_at, length-set, get_or-set_other)),
+            quiet s r (set s.words 1 y') id (suc r.late) r.closed me.0 (lated me.0) (grind (arith, fits, length-set, get_or-set_other)),
             grind arith,
           )
 
@@ -150,7 +135,7 @@ module _ {T : Type 0} where
         w,
         gives,
         tt,
-        moved s r k new i id F r.log (p, full) (some me.0.item) me.0 w (grind (arith, fits, get_or-set_other, get_or-set_same, holds_one)),
+        moved s r k new i id F r.log (p, full) (some me.0.item) me.0 w (grind (arith, get_or-set_other, get_or-set_same, holds_one)),
         (refl, refl),
       )
 
@@ -179,7 +164,7 @@ module _ {T : Type 0} where
       → i < length s.homes → holder (r.cells i).1 ≡ suc j → ⊥
   none_busy s r v at calm gone i zero near held = holds_none s r 0 v at calm i near held
   none_busy s r v at calm gone i (suc j) near held = let b = r.busy i (suc j) near held in
-      grind (arith, fits)
+      grind arith
 
   pub finds_ready_ok : (n id : ℕ) (me : Seated T) (k p : ℕ) → me.0.role ≡ Receiver → me.0.stage ≡ Idle → me.1 ≡ [] → p ≡ length me.0.taken → k ≡ p % n + 2
       → Allows Queue n id me k (λ x. x) (finds_ready p (step n k 0 0 none) me)
@@ -201,7 +186,7 @@ module _ {T : Type 0} where
       let x = rd.3.0 in
       let w = holding me.0 p x in
       let bound = few_drawn s r in
-      let below : p < L = omega (arith, rd.2) in
+      let below : p < L = omega arith in
       let logged : get_elem? r.log p ≡ some x = grind arith in
       let knew : Knows F r.log id (put r.cells i (p, reading id) i) p (Some x) Holding = ((put_here r.cells i (p, reading id), (x, refl, logged)), pF) in (
         w,
@@ -216,7 +201,7 @@ module _ {T : Type 0} where
                 few = omega arith;
                 few_ports = omega arith;
                 port = lt_of_not-le (λ le. owned_at x.0 0 r.log p x logged refl (r.unmade x.0 (omega arith)));
-                below = grind (arith, before_total);
+                below = grind arith;
                 listed = grind arith;
               },
               grind arith,
@@ -229,7 +214,7 @@ module _ {T : Type 0} where
         with_look me.0 false,
         keeps,
         tt,
-        reads s k id (with_look me.0 false) (quiet s r s.words id r.late r.closed me.0 (with_look me.0 false) (grind (arith, fits, calm_at))),
+        reads s k id (with_look me.0 false) (quiet s r s.words id r.late r.closed me.0 (with_look me.0 false) (grind (arith, fits))),
         (
           (λ hit. absurd (miss hit)),
           λ _. (
@@ -259,7 +244,7 @@ module _ {T : Type 0} where
         w,
         gives,
         tt,
-        moved s r 0 y' i id (suc F) r.log (p + m, free) (some None) me.0 w (grind (arith, fits, get_or-set_other, set_here, holds_one, add-mod_right)),
+        moved s r 0 y' i id (suc F) r.log (p + m, free) (some None) me.0 w (grind (arith, get_or-set_other, set_here, holds_one, add-mod_right)),
         (refl, (x, kn.0.1.1, refl)),
       )
 
@@ -268,7 +253,7 @@ module _ {T : Type 0} where
   finds_closed_ok n id me is was s r wide at small = go (dec_le (2 ^ 63) (get_or s.words 1 0))
     where
       went : (b : Bool) → Queue (stepped s 1 (get_or s.words 1 0) id me.1 (with_glance me.0 b) keeps)
-      went b = reads s 1 id (with_glance me.0 b) (quiet s r s.words id r.late r.closed me.0 (with_glance me.0 b) (grind (arith, fits, calm_at)))
+      went b = reads s 1 id (with_glance me.0 b) (quiet s r s.words id r.late r.closed me.0 (with_glance me.0 b) (grind (arith, fits)))
 
       go : Dec (2 ^ 63 ≤ get_or s.words 1 0) → Goes s 1 id me (finds_closed (step n 1 0 0 none) me) (get_or s.words 1 0)
       go (yes d) = (with_glance me.0 true, keeps, tt, went true, grind arith)
@@ -286,7 +271,7 @@ module _ {T : Type 0} where
         with_total me.0 y,
         keeps,
         tt,
-        quiet s r (set s.words 1 y') id r.late true me.0 (with_total me.0 y) (grind (arith, fits, calm_at, length-set, get_or-set_other)),
+        quiet s r (set s.words 1 y') id r.late true me.0 (with_total me.0 y) (grind (arith, fits, length-set, get_or-set_other)),
         grind arith,
       )
 
@@ -303,6 +288,6 @@ module _ {T : Type 0} where
         with_all me.0 r.log,
         keeps,
         tt,
-        reads s 1 id (with_all me.0 r.log) (quiet s r s.words id r.late r.closed me.0 (with_all me.0 r.log) (grind (arith, fits, calm_at))),
+        reads s 1 id (with_all me.0 r.log) (quiet s r s.words id r.late r.closed me.0 (with_all me.0 r.log) (grind (arith, fits))),
         grind arith,
       )

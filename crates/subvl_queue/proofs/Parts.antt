@@ -1,5 +1,5 @@
 -- The messages of one port in a list, and their places.
-use Rattle.subvl_queue.proofs.Names.{◌≡◌, ◌≢◌, ℕ, zero, suc, ◌+◌, ◌-◌, ◌==◌, ◌<◌, ◌≤◌, if◌then◌else◌, List, [], ◌∷◌, ◌++◌, length, map, take, drop, get_or, Bool, true, eqb, cond, sym, refl, ap, ◌∙◌, subst, arith, eq-eqb, ne_eqb, lt_of_not-le, some, some-injective, some-ne-none, get_elem?, eqb-true, All-cons, All-nil, Message, items_of, own_of, places_of, IsItem, AreItems, part_of, owned, StandAt, TellsLeft}
+use Rattle.subvl_queue.proofs.Names.{◌≡◌, ◌≢◌, ℕ, zero, suc, ◌+◌, ◌-◌, ◌==◌, ◌<◌, ◌≤◌, if◌then◌else◌, List, [], ◌∷◌, ◌++◌, length, map, take, drop, get_or, Bool, true, eqb, cond, sym, refl, ap, ◌∙◌, subst, arith, ne_eqb, lt_of_not-le, some, some-injective, some-ne-none, get_elem?, eqb-true, All-cons, All-nil, Message, items_of, own_of, places_of, IsItem, AreItems, part_of, owned, StandAt, TellsLeft}
 
 cond_append : {A : Type 0} (b : Bool) (x : A) (l r : List A) → cond b (x ∷ (l ++ r)) (l ++ r) ≡ cond b (x ∷ l) l ++ r
 cond_append b x l r = grind arith
@@ -22,7 +22,7 @@ module _ {T : Type 0} where
 
   -- If the port has no message, neither the first nor one of the rest is the port's.
   rest_none : (k n : ℕ) (x : ℕ × T) (l : List (ℕ × T)) → owned k n (x ∷ l) ≡ [] → (x.0 ≢ k) × (owned k (suc n) l ≡ [])
-  rest_none k n x l e = grind (arith, eq-eqb, ne_eqb)
+  rest_none k n x l e = grind (arith, ne_eqb)
 
   -- A message in the list is in the part of its port.
   pub owned_at : (k n : ℕ) (l : List (ℕ × T)) (i : ℕ) (x : ℕ × T) → get_elem? l i ≡ some x → x.0 ≡ k → owned k n l ≡ [] → ⊥
@@ -60,32 +60,15 @@ record StandFrom (n : ℕ) (list : List (ℕ × List ℕ)) (port : ℕ) (own : L
   rise : (i j : ℕ) → i < j → j < length own → get_or places i 0 < get_or places j 0
   at : (i : ℕ) → i < length own → get_or list (get_or places i 0 - n) (0, []) ≡ (port, get_or own i [])
 
-next_at : (n p : ℕ) (item : ℕ × List ℕ) (list : List (ℕ × List ℕ)) → n < p
-    → get_or (item ∷ list) (p - n) (0, []) ≡ get_or list (p - suc n) (0, [])
-next_at n p item list lt = grind arith
-
 -- A message of another sender in front.
 other : (n port : ℕ) (item : ℕ × List ℕ) (list : List (ℕ × List ℕ)) (own : List (List ℕ)) (places : List ℕ)
     → StandFrom (suc n) list port own places → StandFrom n (item ∷ list) port own places
-other n port item list own places h = grind (arith, next_at)
+other n port item list own places h = grind arith
 
 -- A message of the same sender in front.
 mine : (n port : ℕ) (item : ℕ × List ℕ) (list : List (ℕ × List ℕ)) (own : List (List ℕ)) (places : List ℕ) → item.0 ≡ port
     → StandFrom (suc n) list port own places → StandFrom n (item ∷ list) port (item.1 ∷ own) (n ∷ places)
 mine n port item list own places same h = grind arith
-  where
-    within_mine : (i : ℕ) → i < suc (length own) → (n ≤ get_or (n ∷ places) i 0) × (get_or (n ∷ places) i 0 < n + suc (length list))
-    within_mine zero lt = (omega arith, omega arith)
-    within_mine (suc i) lt = grind arith
-
-    rise_mine : (i j : ℕ) → i < j → j < suc (length own) → get_or (n ∷ places) i 0 < get_or (n ∷ places) j 0
-    rise_mine i zero below lt = absurd (omega arith)
-    rise_mine zero (suc j) below lt = grind arith
-    rise_mine (suc i) (suc j) below lt = grind arith
-
-    at_mine : (i : ℕ) → i < suc (length own) → get_or (item ∷ list) (get_or (n ∷ places) i 0 - n) (0, []) ≡ (port, get_or (item.1 ∷ own) i [])
-    at_mine zero lt = grind arith
-    at_mine (suc i) lt = next_at n (get_or places i 0) item list (omega arith) ∙ h.at i (omega arith)
 
 stand_from : (n port : ℕ) (list : List (ℕ × List ℕ)) → StandFrom n list port (part_of port list) (places_from n port list)
 stand_from n port [] = grind arith
@@ -94,7 +77,7 @@ stand_from n port (item ∷ items) = either (item.0 == port) (eqb-true item.0 po
     either : (b : Bool) → (b ≡ true → item.0 ≡ port) → StandFrom (suc n) items port (part_of port items) (places_from (suc n) port items)
         → StandFrom n (item ∷ items) port (if b then item.1 ∷ part_of port items else part_of port items)
         (if b then n ∷ places_from (suc n) port items else places_from (suc n) port items)
-    either b same h = grind (arith, mine)
+    either b same h = grind arith
 
 -- A sender's own list is in the log at its places.
 pub stand_at : (list : List (ℕ × List ℕ)) (port : ℕ) (own : List (List ℕ)) (places : List ℕ) → part_of port list ≡ own
@@ -111,7 +94,7 @@ are_items ports n (x ∷ l) h =
     All-cons (IsItem ports) (x.0, x.1.bytes.items) (items_of l) first (are_items ports (suc n) l (λ k le. (rest_none k n x l (h k le)).1))
 
 same_next : (n m : ℕ) → (n == m) ≡ (suc n == suc m)
-same_next n m = grind (arith, eq-eqb, ne_eqb)
+same_next n m = grind (arith, ne_eqb)
 
 -- The total says whether a message is left.
 pub tells : (n total : ℕ) (l : List (ℕ × Message)) → n ≤ total → total ≡ length l → TellsLeft (n == total) (items_of (drop n l))

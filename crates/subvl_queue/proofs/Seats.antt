@@ -2,7 +2,6 @@
 use Rattle.subvl_queue.proofs.Names.{◌≡◌, ◌≢◌, ℕ, zero, suc, ◌+◌, ◌^◌, ◌%◌, ◌<◌, ◌≤◌, false, List, [], ◌∷◌, ◌++◌, map, length, get_or, set, replicate, sym, refl, ◌∙◌, ⊎_elim, arith, length-set, length-append, some, get_elem?, length-map, length-replicate, Option, None, Splits, Joins, opening, set_else, at_snoc, at_longer, View, Sender, Receiver, Spent, Idle, Gone, Collects, free, Knows, Fits, Queue, first_view, new_seat, spent_view, one_made, with_joined}
 use Rattle.subvl_queue.proofs.Totals.{sums, sums_end}
 use Rattle.subvl_queue.proofs.Cells.{fits, each_after}
-use Rattle.subvl_queue.proofs.Moves.{calm_at}
 
 -- A property of the changed or added member and of the others holds of each member.
 each_end : {A : Type 0} (l : List A) (a : A) (F : ℕ → A → Type 0) → F (length l) a → ((j : ℕ) (b : A) → get_elem? l j ≡ some b → F j b)
@@ -88,7 +87,7 @@ module _ {T : Type 0} where
         gathered = λ u e. each_end vs k (λ q y. q ≡ 0 → Collects r.closed r.log vs' y) (λ z. absurd (omega arith))
             (each_after s.views id l (λ q y. q ≡ 0 → Collects r.closed r.log vs' y)
             (grind arith) (grind arith)) 0 u e refl;
-        busy = λ i j near held. let b = r.busy i j near held in grind (arith, at_longer, set_else, calm_at);
+        busy = λ i j near held. let b = r.busy i j near held in grind (arith, at_longer, set_else);
       }
 
   pub joins_ok : (id : ℕ) (v : View T) (other : ℕ) (w : View T) → v.role ≡ Receiver → v.stage ≡ Idle → v.all ≡ None → w.role ≡ Sender → w.stage ≡ Idle
@@ -132,5 +131,5 @@ module _ {T : Type 0} where
                   )) (at_snoc v.joined (w.port, w.own) (q, l) i e')),
               grind arith,
             )) (grind arith) 0 d e refl;
-        busy = λ i j near held. let b = r.busy i j near held in grind (arith, set_else, calm_at);
+        busy = λ i j near held. let b = r.busy i j near held in grind (arith, set_else);
       }

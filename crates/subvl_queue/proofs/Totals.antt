@@ -40,9 +40,6 @@ module _ {T : Type 0} where
   total_le f g [] h = omega arith
   total_le f g (v ∷ vs) h = let r = total_le f g vs (λ j w e. h (suc j) w e) in let m = h 0 v refl in omega arith
 
-  pub rooms_small : (l : List (View T)) → total in_room l ≤ total in_hand l
-  rooms_small l = grind (arith, total_le)
-
 pub one_less : (x : ℕ) → 0 < x → x < 18446744073709551616 → (x + (2 ^ 64 - 1)) % 2 ^ 64 ≡ x - 1
 one_less x pos small = grind arith
 
