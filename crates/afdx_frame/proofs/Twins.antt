@@ -1,15 +1,11 @@
 -- Twins of any frame, and of the fragments of a list of messages.
-use Rattle.afdx_frame.proofs.Names.{◌≡◌, ◌≢◌, ℕ, suc, ◌+◌, ◌%◌, ◌≤◌, List, [], ◌∷◌, length, map, refl, arith, slice_index, length-set, length-take, get_or-set_same, get_or-set_other, set-get_or, set-set, set_past, map-append, cases_lt, take-set-lt, identification, Net, interface_byte, link_header, unnumbered, word_at, link_in, sub_in, number_in, Sent, blanked, fragments_at, fragments_from}
+use Rattle.afdx_frame.proofs.Names.{◌≡◌, ◌≢◌, ℕ, suc, ◌+◌, ◌%◌, ◌≤◌, List, [], ◌∷◌, length, map, refl, arith, slice_index, length-set, length-take, get_or-set_same, get_or-set_other, set-get_or, set-set, set_past, map-append, take-set-lt, identification, Net, interface_byte, link_header, unnumbered, word_at, link_in, sub_in, number_in, Sent, blanked, fragments_at, fragments_from}
 use Rattle.std.proofs.lemmas.Simd.{map-map}
 use Rattle.afdx_frame.specs.Twin.{twin_of}
 
--- A twin differs in the byte of the interface identifier alone.
-pub twin_elsewhere : (net : Net) (frame : List ℕ) (k : ℕ) → k ≢ 11 → slice_index (twin_of net frame) k ≡ slice_index frame k
-twin_elsewhere net frame k other = grind (arith, get_or-set_other)
-
 -- A word without that byte is the same in a twin.
 pub twin_word : (net : Net) (frame : List ℕ) (k : ℕ) → k ≢ 11 → k + 1 ≢ 11 → word_at (twin_of net frame) k ≡ word_at frame k
-twin_word net frame k first second = grind (arith, twin_of, twin_elsewhere)
+twin_word net frame k first second = grind (arith, twin_of, get_or-set_other)
 
 pub twin_link : (net : Net) (frame : List ℕ) → link_in (twin_of net frame) ≡ link_in frame
 twin_link net frame = grind (arith, twin_word)
@@ -21,7 +17,7 @@ pub length-twin : (net : Net) (frame : List ℕ) → length (twin_of net frame) 
 length-twin net frame = length-set frame 11 (interface_byte net)
 
 pub twin_number : (net : Net) (frame : List ℕ) → 60 ≤ length frame → number_in (twin_of net frame) ≡ number_in frame
-twin_number net frame long = grind (arith, twin_of, length-twin, twin_elsewhere)
+twin_number net frame long = grind (arith, twin_of, length-twin, get_or-set_other)
 
 pub twin_interface : (net : Net) (frame : List ℕ) → 60 ≤ length frame → slice_index (twin_of net frame) 11 ≡ interface_byte net
 twin_interface net frame long = grind (arith, get_or-set_same)
@@ -34,7 +30,7 @@ pub twin_twice : (net other : Net) (frame : List ℕ) → twin_of net (twin_of o
 twin_twice net other frame = grind (arith, set-set)
 
 pub twin_blanked : (net : Net) (frame : List ℕ) → blanked (twin_of net frame) ≡ twin_of net (blanked frame)
-twin_blanked net frame = grind (arith, length-twin, cases_lt, take-set-lt, set_past, length-take)
+twin_blanked net frame = grind (arith, length-twin, take-set-lt, set_past, length-take)
 
 -- The twins of a message's fragments are its fragments for the other network.
 twin_message : (end_system room : ℕ) (place : ℕ) (sent : Sent) (net other : Net)

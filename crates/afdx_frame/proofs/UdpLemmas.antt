@@ -32,7 +32,7 @@ unfolding datagram
 datagram_sum end_system port message generated =
     let header = header_sum end_system port message generated in
     let both = word_sum-append 4 (udp_header end_system port message) message (length-udp_header end_system port message) in
-    omega (arith, both)
+    omega arith
 
 -- The length of the datagram.
 length-datagram : (end_system : ℕ) (port : PortPlan) (message : List ℕ)
@@ -62,14 +62,10 @@ around words front word rest whole one =
     let both = word_sum-append words front (word ++ rest) whole in
     grind arith
 
--- The length of a list around one of its words.
-long_around : (front word rest : List ℕ) → length (front ++ (word ++ rest)) ≡ length front + (length word + length rest)
-long_around front word rest = grind (arith, length-append)
-
 -- A word with another remainder gives a sum with another remainder.
 pub changed_words_fail : ChangedWordsFail
 changed_words_fail ends before after passes changed still =
     let b = ap word_sum changed.before_is ∙ around changed.words changed.front changed.old changed.rest changed.in_words changed.one_word in
     let a = ap word_sum changed.after_is ∙ around changed.words changed.front changed.new changed.rest changed.in_words
     (grind arith) in
-    grind (arith, long_around)
+    grind (arith, length-append)

@@ -1,5 +1,5 @@
-use Rattle.afdx_frame.proofs.Names.{refl}
+use Rattle.afdx_frame.proofs.Names.{arith}
 use Rattle.afdx_frame.proofs.write.put_end.Goals as goal
 
 pub returns : goal.returns
-returns c = rw (c.put.ensures, c.put_padding.ensures) refl
+returns c = grind arith

@@ -1,14 +1,13 @@
-use Rattle.afdx_frame.proofs.Names.{refl, subst, unnumbered}
-use Rattle.afdx_plan.specs.Plan.{IsPort}
+use Rattle.afdx_frame.proofs.Names.{arith, unnumbered}
 use Rattle.afdx_frame.proofs.Filled.{headers_there, ports_follow}
 use Rattle.afdx_frame.proofs.write.write_frame.Goals as goal
 
 pub put_piece-requires-clause-ports : goal.put_piece-requires-clause-ports
 put_piece-requires-clause-ports c =
-    ports_follow _ _ _ _ _ _ (subst IsPort c.template.view_is c.template.invariant.port_is) _ _ c.put_headers.ensures
+    ports_follow _ _ _ _ _ _ (grind arith) _ _ c.put_headers.ensures
 
 pub returns-clause-frame : goal.returns-clause-frame
 unfolding unnumbered
 returns-clause-frame c =
-    let headers = headers_there _ _ _ _ _ _ (subst IsPort c.template.view_is c.template.invariant.port_is) _ _ c.put_headers.ensures in
-    rw (c.put_end.ensures, c.saturating_sub-padding.ensures, c.put_piece.ensures, headers, c.identification-identification.ensures, c.template.view_is) refl
+    let headers = headers_there _ _ _ _ _ _ (grind arith) _ _ c.put_headers.ensures in
+    grind arith
