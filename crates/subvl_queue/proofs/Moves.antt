@@ -249,7 +249,8 @@ module _ {T : Type 0} where
       )
 
   -- A load of the tail, to see whether the queue is closed.
-  pub finds_closed_ok : (n id : ℕ) (me : Seated T) → me.0.role ≡ Sender → me.0.stage ≡ Idle → Allows Queue n id me 1 (λ x. x) (finds_closed (step n 1 0 0 none) me)
+  pub finds_closed_ok : (n id : ℕ) (me : Seated T) → me.0.role ≡ Sender → me.0.stage ≡ Idle
+      → Allows Queue n id me 1 (λ x. x) (finds_closed (step n 1 0 0 none) me)
   finds_closed_ok n id me is was s r wide at small = go (dec_le (2 ^ 63) (get_or s.words 1 0))
     where
       went : (b : Bool) → Queue (stepped s 1 (get_or s.words 1 0) id me.1 (with_glance me.0 b) keeps)
