@@ -1,5 +1,5 @@
 -- The regulation of a link after a frame.
-use Rattle.vl_link.proofs.Names.{ℕ, ◌≡◌, ◌≢◌, ◌+◌, List, [], ◌∷◌, ◌++◌, length, ap, ◌∙◌, sym, Some, None, length_push, sequence_number, link_in, sub_in, IsFrameOf, Entry, entry, Lines, log, log_more, Pace, latest, link_stream, A, pace_of, latest_push, with_push_in, with_push_out}
+use Rattle.vl_link.proofs.Names.{arith, ℕ, ◌≡◌, ◌≢◌, ◌+◌, List, [], ◌∷◌, ◌++◌, ap, ◌∙◌, sym, Some, length_push, sequence_number, link_in, sub_in, IsFrameOf, Entry, entry, Lines, log, log_more, Pace, link_stream, A, pace_of, latest_push, with_push_in, with_push_out}
 use Rattle.afdx_plan.specs.declared.networks.Networks.{Networks}
 use Rattle.redundant_mux.specs.Logged.{logged_for}
 
@@ -25,11 +25,4 @@ pub follows_more : (now sub : ℕ) (frame : List ℕ) (old new : Pace) (stream a
     → new.last ≡ Some (record { at = now; sub = sub })
     → ((i : ℕ) → old.next ≡ sequence_number i → new.next ≡ sequence_number (i + 1))
     → new ≡ pace_of new.gap new.sub_vls after
-follows_more now sub frame old new stream after was more is last next = λ i. record {
-  gap = new.gap;
-  sub_vls = new.sub_vls;
-  last = (last ∙ sym (ap (latest None) more ∙ latest_push None stream (entry now frame)
-      ∙ ap (λ (s : ℕ). Some (record { at = now; sub = s })) is)) i;
-  next = (next (length stream) (ap (λ (x : Pace). x.next) was)
-      ∙ ap sequence_number (sym (ap length more ∙ length_push _ _))) i;
-}
+follows_more now sub frame old new stream after was more is last next = grind (arith, latest_push, length_push)

@@ -1,13 +1,9 @@
-use Rattle.vl_link.proofs.Names.{ℕ, ◌+◌, refl, ◌≡◌, List, [], ◌∷◌, ◌++◌, Bool, true, false, length, cond, arith, sum_by-append, filter-append, Entry, ends_message, messages_ended, moment_after}
+use Rattle.vl_link.proofs.Names.{ℕ, ◌+◌, refl, ◌≡◌, List, [], ◌∷◌, ◌++◌, cond, arith, sum_by-append, filter-append, Entry, ends_message, messages_ended, moment_after}
 use Rattle.std.proofs.Common.{length-append}
 use Rattle.vl_link.proofs.count.counts_after.Goals as goal
 
 messages_push : (stream : List Entry) (e : Entry) → messages_ended (stream ++ e ∷ []) ≡ messages_ended stream + cond (ends_message e) 1 0
 messages_push stream e = grind (arith, filter-append, length-append)
-  where
-    one : (ends : Bool) → length (cond ends (e ∷ []) []) ≡ cond ends 1 0
-    one true = refl
-    one false = refl
 
 moment_push : (at : ℕ) (stream : List Entry) (e : Entry) → moment_after at (stream ++ e ∷ []) ≡ e.at
 moment_push at [] e = refl

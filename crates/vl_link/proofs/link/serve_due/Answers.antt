@@ -1,4 +1,4 @@
-use Rattle.vl_link.proofs.Names.{◌∙◌, ap, sym, refl, inr, and_parts, append-nil, A, twin_same, log, log_same, link_stream}
+use Rattle.vl_link.proofs.Names.{arith, ◌∙◌, sym, and_parts, append-nil, A, twin_same, log_same}
 use Rattle.vl_link.proofs.SubInStep.{passed_same, chosen_left, chosen_gives, frame_at, set_same, none_has}
 use Rattle.vl_link.proofs.PaceOfStream.{follows_more, stream_more}
 use Rattle.vl_link.proofs.link.serve_due.Goals as goal
@@ -7,13 +7,13 @@ pub stamp-number-requires-clause-due : goal.stamp-number-requires-clause-due
 stamp-number-requires-clause-due g c = (and_parts _ _ c.requires.may).0
 
 pub write_next-requires : goal.write_next-requires
-write_next-requires g c = chosen_left _ _ _ _ c.index-subs-sub.result c.in-Some.ensures.chosen
+write_next-requires g c = grind (arith, chosen_left)
 
 pub hand_lent-standing-requires : goal.hand_lent-standing-requires
 hand_lent-standing-requires g c = twin_same A c.write_next.new.out.items c.write_next.ensures.frame.interface
 
 pub returns-in_default-clause-serves : goal.returns-in_default-clause-serves
-returns-in_default-clause-serves g c = (inr (c.requires.may, none_has _ _ _ c.in_default.ensures.none), refl)
+returns-in_default-clause-serves g c = grind (arith, none_has)
 
 pub returns-in_default-clause-same : goal.returns-in_default-clause-same
 returns-in_default-clause-same g c = passed_same _ _ _ _ c.in_default.ensures.none
@@ -26,11 +26,11 @@ returns-then-stands_for-clause-serves g c =
       record {
         frame = c.write_next.new.out.items;
         choice = chosen_gives _ _ _ _ c.index-subs-sub.result _ _ c.in-Some.ensures.chosen
-            (record { next = c.write_next.ensures.left; same = c.write_next.ensures.same });
+            (grind arith);
         of = frame_at _ _ _ _ _ c.index-subs-sub.result _ _ c.in-Some.ensures.chosen c.requires.named c.write_next.ensures.frame;
-        enters = c.hand_lent-standing.ensures.enters stands;
+        enters = grind arith;
         stands = stands;
-        endure = c.hand_lent-standing.ensures.endure;
+        endure = grind arith;
       },
     )
 
@@ -38,7 +38,7 @@ pub returns-then-stands_for-clause-entered : goal.returns-then-stands_for-clause
 returns-then-stands_for-clause-entered g c =
     rw c.hand_lent-standing.ensures.same (stream_more c.args.plan.now.id.0 c.args.now _ c.stamp-number.result _ c.write_next.new.out.items _ _
     (frame_at _ _ _ _ _ c.index-subs-sub.result _ _ c.in-Some.ensures.chosen c.requires.named c.write_next.ensures.frame)
-    (c.hand_lent-standing.ensures.enters (sym c.stands_for.ensures ∙ c.if-stands_for.true)))
+    (c.hand_lent-standing.ensures.enters (grind arith)))
 
 pub returns-then-stands_for-clause-paced : goal.returns-then-stands_for-clause-paced
 returns-then-stands_for-clause-paced g c =
@@ -49,8 +49,7 @@ returns-then-stands_for-clause-paced g c =
     c.stamp-number.ensures.last c.stamp-number.ensures.next
 
 pub returns-then-stands_for-clause-same : goal.returns-then-stands_for-clause-same
-returns-then-stands_for-clause-same g c = set_same _ _ _ _ c.index-subs-sub.result _ _ c.in-Some.ensures.chosen
-    (record { next = c.write_next.ensures.left; same = c.write_next.ensures.same })
+returns-then-stands_for-clause-same g c = grind (arith, set_same)
 
 pub returns-else-stands_for-clause-serves : goal.returns-else-stands_for-clause-serves
 returns-else-stands_for-clause-serves g c =
@@ -60,19 +59,15 @@ returns-else-stands_for-clause-serves g c =
         sub = c.in-Some.sub;
         frame = c.write_next.new.out.items;
         choice = chosen_gives _ _ _ _ c.index-subs-sub.result _ _ c.in-Some.ensures.chosen
-            (record { next = c.write_next.ensures.left; same = c.write_next.ensures.same });
-        same = c.hand_lent-standing.ensures.lost down;
+            (grind arith);
+        same = grind arith;
         down = down;
-        endure = c.hand_lent-standing.ensures.endure;
+        endure = grind arith;
       },
     )
 
 pub returns-else-stands_for-clause-entered : goal.returns-else-stands_for-clause-entered
-returns-else-stands_for-clause-entered g c =
-    ap (link_stream c.args.plan.now.id.0) (log_same c.args.mux.now c.hand_lent-standing.new.self
-    (c.hand_lent-standing.ensures.lost (sym c.stands_for.ensures ∙ c.if-stands_for.false)))
-    ∙ sym (append-nil (link_stream c.args.plan.now.id.0 (log c.args.mux.now)))
+returns-else-stands_for-clause-entered g c = grind (arith, log_same, append-nil)
 
 pub returns-else-stands_for-clause-same : goal.returns-else-stands_for-clause-same
-returns-else-stands_for-clause-same g c = set_same _ _ _ _ c.index-subs-sub.result _ _ c.in-Some.ensures.chosen
-    (record { next = c.write_next.ensures.left; same = c.write_next.ensures.same })
+returns-else-stands_for-clause-same g c = grind (arith, set_same)

@@ -1,4 +1,4 @@
-use Rattle.vl_link.proofs.Names.{refl}
+use Rattle.vl_link.proofs.Names.{arith}
 use Rattle.vl_link.specs.Subs.{IsCutOf}
 use Rattle.vl_link.proofs.FragmentsLeft.{done_tells}
 use Rattle.vl_link.proofs.QueueLooks.{kept_cut}
@@ -8,14 +8,10 @@ use Rattle.vl_link.proofs.sub.Sub.write_next.Goals.{then-is_done, else-is_done}
 pub invariant_of-self : goal.invariant_of-self
 invariant_of-self c =
     let of = c.self.inside.of in
-    let own : IsCutOf of c.in-Some.cut = rw c.in-Some.is at c.self.invariant.sending_is in
+    let own : IsCutOf of c.in-Some.cut = grind arith in
     let port = c.write_next.ensures.same.port in
     elim c.if-is_done.branch [
-      | then-is_done w ↦ rw w.self-inside-is (kept_cut _ _ _ _ _ _ c.self.invariant (rw w.release.ensures.free (record {
-        over = rw port own.over;
-        of_sub = rw port own.of_sub;
-        free = λ _. refl;
-      })))
+      | then-is_done w ↦ grind (arith, kept_cut)
       | else-is_done w ↦ rw w.self-inside-is (kept_cut _ _ _ _ _ _ c.self.invariant (record {
         over = rw port own.over;
         of_sub = rw port own.of_sub;
