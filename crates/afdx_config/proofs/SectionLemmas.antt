@@ -7,6 +7,12 @@ use Rattle.std.proofs.lemmas.List.Sums.{sum_by-cons}
 use Rattle.std.specs.List.{count_by}
 use Rattle.std.specs.Prelude.{nat_eq}
 use Rattle.afdx_config.specs.declared.format.Field.{Field as Written}
+use Rattle.afdx_config.proofs.Names.{Field, Ordering, Data, bytes_eq-Decides, is_eq-slice_cmp, is_eq, slice_cmp, nat_cmp, get_member, is_key_of, common_steps, true, and_parts, sym, get_or, ◌<◌, suc, zero, or-true, codes, PortRow, arith, nat_tests}
+use Rattle.afdx_config.specs.Tables.{lacks_all}
+use Rattle.afdx_config.specs.Cells.{port_row}
+use Rattle.afdx_config.specs.Format.{port_fields}
+use Rattle.std.specs.Ordering.{match_ordering}
+use Rattle.std.specs.declared.cmp.Ordering.TheVariants.{Less, Equal, Greater}
 
 -- the keys of a table
 pub keys_are : (es : List (String Global × Value)) → map (λ k. string_bytes k) (keys_of es) ≡ member_keys (members_view es)
@@ -69,3 +75,54 @@ none_counted p (x ∷ xs) =
 pub none_on : {A : Type 0} (test : A → Bool) (rows : List A) → ((x : A) → test x ≡ false) → count_by test rows ≡ 0
 none_on test [] fails = refl
 none_on test (x ∷ xs) fails = let step = sum_by-cons (λ y. cond {A = ℕ} (test y) 1 0) x xs in grind (arith, fails x, none_on test xs fails, step)
+
+-- a key that a format has, and another that it lacks
+other_key : (fields : List Field) (key other : List ℕ) → is_key_of fields key ≡ true → is_key_of fields other ≡ false
+    → is_eq (slice_cmp nat_cmp key other) ≡ false
+other_key fields key other has lacks = grind (arith, common_steps, is_eq-slice_cmp key other, bytes_eq-Decides key other)
+
+passed : (o : Ordering) (rest found : Option Data) → is_eq o ≡ false → rest ≡ None → match_ordering o rest found rest ≡ None
+passed Less rest found is none = none
+passed Equal rest found is none = cc
+passed Greater rest found is none = none
+
+-- a table that has none of the keys of a format lacks each
+pub lacks_key : (fields : List Field) (key : List ℕ) (es : List (String Global × Value)) → lacks_all fields (members_view es) ≡ true
+    → is_key_of fields key ≡ true → get_member key (members_view es) ≡ None
+lacks_key fields key [] lacks has = refl
+lacks_key fields key (e ∷ es) lacks has =
+    let parts : (is_key_of fields (string_bytes e.0) ≡ false) × (lacks_all fields (members_view es) ≡ true) = grind (arith, common_steps) in
+    passed (slice_cmp nat_cmp key (string_bytes e.0)) _ (Some (view e.1)) (other_key fields key (string_bytes e.0) has parts.0)
+    (lacks_key fields key es parts.1 has)
+
+pub keys_lack : (fields : List Field) (es : List (String Global × Value)) → lacks_all fields (members_view es)
+    ≡ not (list_any (λ (k : String Global). is_key_of fields (string_bytes k)) (keys_of es))
+keys_lack fields es = rw (← keys_are es, list_any_map (is_key_of fields) (λ (k : String Global). string_bytes k) (keys_of es)) refl
+
+of_first : (fields : List Written) (i : ℕ) (d : Written) → i < length fields → is_key_of (map field_of fields) (field_of (get_or fields i d)).key ≡ true
+of_first [] i d within = absurd (omega arith)
+of_first (f ∷ fs) zero d within = rw ((bytes_eq-Decides f.0.now f.0.now).1 refl) refl
+of_first (f ∷ fs) (suc i) d within = rw (of_first fs i d (omega arith)) (or-true _)
+
+-- and each of its rows
+pub lacks_row : (fields : List Written) (i : ℕ) (d : Written) (es : List (String Global × Value)) → i < length fields
+    → lacks_all (map field_of fields) (members_view es) ≡ true → get_member (field_of (get_or fields i d)).key (members_view es) ≡ None
+lacks_row fields i d es within lacks = lacks_key (map field_of fields) _ es lacks (of_first fields i d within)
+
+-- and it is a port without values
+pub lacks_port : (es : List (String Global × Value)) → lacks_all port_fields (members_view es) ≡ true
+    → record { id = None; vl = None; sub = None; partition = None; kind = None; source = None; destination = None; max = None; unicast = Some None }
+    ≡ port_row (members_view es)
+unfolding port_row
+lacks_port es lacks = rw (
+  lacks_key port_fields (codes "id") es lacks refl,
+  lacks_key port_fields (codes "vl") es lacks refl,
+  lacks_key port_fields (codes "sub") es lacks refl,
+  lacks_key port_fields (codes "partition") es lacks refl,
+  lacks_key port_fields (codes "kind") es lacks refl,
+  lacks_key port_fields (codes "source") es lacks refl,
+  lacks_key port_fields (codes "destination") es lacks refl,
+  lacks_key port_fields (codes "max") es lacks refl,
+  lacks_key port_fields (codes "dest_ip") es lacks refl,
+)
+    refl

@@ -9,7 +9,7 @@ use Rattle.afdx_plan.specs.declared.fault.ConfigFault.{ConfigFault}
 use Rattle.afdx_plan.specs.declared.fault.ConfigFault.TheVariants.{MissingKey, UnknownKey, WrongKind, OutOfRange, BadBag}
 use Rattle.afdx_config.specs.declared.format.Content.{Content}
 use Rattle.afdx_config.specs.declared.format.Content.TheVariants.{Whole, Gap, Networks, PortKind, Address, Checksum, Section, Rows}
-use Rattle.afdx_config.specs.Entries.{number_at, tables_among, lies_outside}
+use Rattle.afdx_config.specs.Entries.{member_keys, number_at, tables_among, lies_outside}
 use Rattle.afdx_config.specs.Values.{bag_of, networks_of, kind_of, address_of, checksum_of}
 use Rattle.afdx_config.specs.Format.{Field}
 
@@ -46,6 +46,10 @@ field_fault members field = fault_under field (get_member field.key members)
 -- the key is in the format
 abbrev pub is_key_of : List Field → List ℕ → Bool
 is_key_of fields key = list_any (λ field. bytes_eq key field.key) fields
+
+-- a table has none of the keys of a format
+abbrev pub lacks_all : List Field → Members → Bool
+lacks_all fields members = not (list_any (is_key_of fields) (member_keys members))
 
 -- the fault of a key that a table has: it is not in the format
 abbrev pub key_fault : List Field → List ℕ → Option ConfigFault

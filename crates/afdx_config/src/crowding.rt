@@ -13,10 +13,10 @@ use std::alloc::AllocError;
 use std::collections::BTreeMap;
 
 /// The number of ports on each sub-VL of each link.
-type Counts = BTreeMap<(u64, u64), usize>;
+type Counts = BTreeMap<(u16, u16), usize>;
 
 /// The number of ports on a sub-VL of a link.
-fn count_of(counts: &Counts, vl: u64, sub: u64) -> usize
+fn count_of(counts: &Counts, vl: u16, sub: u16) -> usize
     ensures { result ≡ unwrap_or (get sub_cmp counts.now (vl, sub)) 0 }
 {
     counts.get(&(vl, sub)).copied().unwrap_or(0)

@@ -1,10 +1,11 @@
 //! The faults of keys of tables.
-ghost use Rattle.std.specs.Prelude.{◌≡◌, map, find, is_none, bytes_eq, option_copied};
+ghost use Rattle.std.specs.Prelude.{◌≡◌, map, find, is_none, bytes_eq, option_copied, string_bytes, None, true};
 ghost use Rattle.std.specs.List.{list_any};
-ghost use Rattle.toml.specs.Data.{as_table, integer, string};
+ghost use Rattle.toml.specs.Data.{as_table, get_member, integer, string};
 ghost use Rattle.toml.specs.View.{table_view, items_view, view};
 ghost use Rattle.afdx_config.specs.Entries.{lies_outside};
-ghost use Rattle.afdx_config.specs.Tables.{has_other_item, content_fault, field_fault, key_fault};
+ghost use Rattle.afdx_config.specs.Tables.{has_other_item, content_fault, fault_under, field_fault, is_key_of, key_fault, lacks_all};
+ghost use Rattle.std.specs.BTreeMap.{keys};
 ghost use Rattle.afdx_config.specs.Views.{field_of};
 
 use crate::entries::value_at;
@@ -82,14 +83,33 @@ fn content_fault(content: Content, value: &Value) -> Option<ConfigFault>
     }
 }
 
+/// The fault of a key that a table lacks.
+fn missing_fault(field: &Field) -> Option<ConfigFault>
+    ensures { result ≡ fault_under (field_of field.now) None }
+{
+    field.1.then_some(ConfigFault::MissingKey)
+}
+
 /// The fault of a key of a table: the key is missing, or its value has a fault.
 pub(crate) fn field_fault(table: &Table, field: &Field) -> Option<ConfigFault>
     ensures { result ≡ field_fault (table_view table.now) (field_of field.now) }
 {
-    let Field(key, is_needed, content) = *field;
+    let Field(key, _, content) = *field;
     match value_at(table, key) {
         Some(value) => content_fault(content, value),
-        None => is_needed.then_some(ConfigFault::MissingKey),
+        None => missing_fault(field),
+    }
+}
+
+/// The fault of a key of a table. If the table is known to lack the key, the key isn't looked up.
+pub(crate) fn fault_unless(is_lacking: bool, table: &Table, field: &Field) -> Option<ConfigFault>
+    requires { is_lacking ≡ true → get_member (field_of field.now).key (table_view table.now) ≡ None }
+    ensures { result ≡ field_fault (table_view table.now) (field_of field.now) }
+{
+    if is_lacking {
+        missing_fault(field)
+    } else {
+        field_fault(table, field)
     }
 }
 
@@ -98,6 +118,23 @@ pub(crate) fn row_named<'a>(fields: &'a [Field], key: &str) -> Option<&'a Field>
     ensures { option_copied result ≡ find (λ f. bytes_eq key.now (field_of f).key) fields.now }
 {
     fields.iter().find(|field| key == field.0)
+}
+
+/// Some key of a table is in a format.
+fn some_key_is_of(table: &Table, fields: &[Field]) -> bool
+    ensures { result ≡ list_any (λ k. is_key_of (map field_of fields.now) (string_bytes k)) (keys table.now) }
+{
+    table
+        .keys()
+        .any(|key| key_fault(fields, key.as_str()).is_none())
+}
+
+/// A table has none of the keys of a format.
+#[tactic(auto, using(crate::proofs::SectionLemmas::keys_lack))]
+pub(crate) fn lacks_all(table: &Table, fields: &[Field]) -> bool
+    ensures { result ≡ lacks_all (map field_of fields.now) (table_view table.now) }
+{
+    !some_key_is_of(table, fields)
 }
 
 /// The fault of a key that a table has: it is not in the format.

@@ -15,7 +15,7 @@ use afdx_plan::ConfigFault;
 use std::alloc::{AllocError, Global};
 
 /// Link, partition, both UDP ports and destination.
-type Flow = (u64, u64, u64, u64, Option<[u8; 4]>);
+type Flow = (u16, u16, u16, u16, Option<[u8; 4]>);
 
 /// Adds the table at index `i` of an array if the first one that it clashes with is earlier.
 fn add_pair(
@@ -72,7 +72,7 @@ fn add_keyed<K: Ord + Copy>(
 }
 
 /// The identifiers of links.
-pub(crate) fn link_ids(alloc: Global, links: &[LinkRow]) -> Result<Vec<Option<u64>>, AllocError>
+pub(crate) fn link_ids(alloc: Global, links: &[LinkRow]) -> Result<Vec<Option<u16>>, AllocError>
     ensures { IfOk result (λ ids. ids.items ≡ map (λ l. l.id) links.now) }
 {
     links.iter().map(|link| link.id).collect(alloc)
@@ -89,7 +89,7 @@ pub(crate) fn add_same_links(found: &mut Found, links: &[LinkRow]) -> Added
 }
 
 /// The identifiers of ports.
-fn port_ids(alloc: Global, ports: &[PortRow]) -> Result<Vec<Option<u64>>, AllocError>
+fn port_ids(alloc: Global, ports: &[PortRow]) -> Result<Vec<Option<u16>>, AllocError>
     ensures { IfOk result (λ ids. ids.items ≡ map (λ p. p.id) ports.now) }
 {
     ports.iter().map(|port| port.id).collect(alloc)

@@ -121,7 +121,7 @@ fn add_misfit(
 }
 
 /// The index of the link of a port, which is found by its identifier.
-fn link_place(links: &[LinkRow], by_id: &BTreeMap<u64, usize>, port: &PortRow) -> Option<usize>
+fn link_place(links: &[LinkRow], by_id: &BTreeMap<u16, usize>, port: &PortRow) -> Option<usize>
     requires { (q : ℕ) → get nat_cmp by_id.now q ≡ position (is_key nat_cmp q) (map (λ l. l.id) links.now) }
     ensures first { result ≡ position (is_row_of port.now) links.now }
     ensures room { IfSome result (λ l. l < length links.now) }

@@ -8,9 +8,9 @@ ghost use Rattle.afdx_config.specs.Views.{IsDocument, data_of, field_of};
 
 use crate::document::Document;
 use crate::entries::{number, text};
-use crate::fields::field_fault;
+use crate::fields::{field_fault, lacks_all};
 use crate::format::{
-    Content, Field, IDENTIFIER, LMAX, MESSAGE, PARTITION, Range, SUB_VL, SUB_VLS, UDP_PORT,
+    Content, Field, IDENTIFIER, LMAX, MESSAGE, PARTITION, PORT, Range, SUB_VL, SUB_VLS, UDP_PORT,
 };
 use crate::values::{kind_named, unicast_address};
 use afdx_plan::Kind;
@@ -20,22 +20,22 @@ use toml::Table;
 /// The values of a link that other tables depend on. A value with a fault is `None`.
 #[derive(Clone, Copy)]
 pub(crate) struct LinkRow {
-    pub id: Option<u64>,
-    pub lmax: Option<u64>,
-    pub sub_vls: Option<u64>,
+    pub id: Option<u16>,
+    pub lmax: Option<u16>,
+    pub sub_vls: Option<u16>,
 }
 
 /// The values of a port that depend on other tables. A value with a fault is `None`.
 #[derive(Clone, Copy)]
 pub(crate) struct PortRow {
-    pub id: Option<u64>,
-    pub vl: Option<u64>,
-    pub sub: Option<u64>,
-    pub partition: Option<u64>,
+    pub id: Option<u16>,
+    pub vl: Option<u16>,
+    pub sub: Option<u16>,
+    pub partition: Option<u16>,
     pub kind: Option<Kind>,
-    pub source: Option<u64>,
-    pub destination: Option<u64>,
-    pub max: Option<u64>,
+    pub source: Option<u16>,
+    pub destination: Option<u16>,
+    pub max: Option<u16>,
     pub unicast: Option<Option<[u8; 4]>>,
 }
 
@@ -56,12 +56,12 @@ fn is_sound(table: &Table, field: &Field) -> bool
 }
 
 /// The number under a key, if the key has no fault.
-fn sound_number(table: &Table, key: &'static str, range: Range) -> Option<u64>
+fn sound_number(table: &Table, key: &'static str, range: Range) -> Option<u16>
     requires { range.0 ≤ range.1 }
     ensures { result ≡ sound_number key.now range (table_view table.now) }
 {
     match field_fault(table, &Field(key, true, Content::Whole(range))) {
-        None => Some(u64::from(number(table, key, range))),
+        None => Some(number(table, key, range)),
         Some(_) => None,
     }
 }
@@ -102,10 +102,26 @@ fn sound_unicast(table: &Table) -> Option<Option<[u8; 4]>>
     }
 }
 
+/// The port of a table that has none of the keys of a port.
+const NO_PORT: PortRow = PortRow {
+    id: None,
+    vl: None,
+    sub: None,
+    partition: None,
+    kind: None,
+    source: None,
+    destination: None,
+    max: None,
+    unicast: Some(None),
+};
+
 #[tactic(auto, unfolding(crate::specs::Cells::port_row))]
 fn port_row(table: &Table) -> PortRow
     ensures { result ≡ port_row (table_view table.now) }
 {
+    if lacks_all(table, &PORT) {
+        return NO_PORT;
+    }
     PortRow {
         id: sound_number(table, "id", IDENTIFIER),
         vl: sound_number(table, "vl", IDENTIFIER),

@@ -16,13 +16,13 @@ use std::alloc::{AllocError, Global};
 use std::collections::BTreeMap;
 
 /// Partition and unicast address.
-type Address = (u64, [u8; 4]);
+type Address = (u16, [u8; 4]);
 
 /// The first port with an address, its link, and the first such port on another link.
-type First = (usize, u64, Option<usize>);
+type First = (usize, u16, Option<usize>);
 
 /// The partition and unicast address of a port, and its link.
-fn address_of(port: &PortRow) -> Option<(Address, u64)>
+fn address_of(port: &PortRow) -> Option<(Address, u16)>
     ensures { result ≡ address_of port.now }
 {
     match (port.vl, port.partition, port.unicast) {
@@ -32,7 +32,7 @@ fn address_of(port: &PortRow) -> Option<(Address, u64)>
 }
 
 /// The first of the ports with an address that is on another link than this one.
-fn off_link(vl: u64, first: Option<First>) -> Option<usize>
+fn off_link(vl: u16, first: Option<First>) -> Option<usize>
     ensures { result ≡ off_link vl first }
 {
     match first {

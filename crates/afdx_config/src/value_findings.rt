@@ -12,7 +12,7 @@ ghost use Rattle.afdx_config.specs.Format.{end_fields};
 ghost use Rattle.afdx_config.specs.declared.findings.Place.TheVariants.{EndSystem};
 
 use crate::document::{Document, fields_in};
-use crate::fields::{field_fault, key_fault};
+use crate::fields::{fault_unless, key_fault, lacks_all};
 use crate::findings::{Added, Found, Place, add, row_like};
 use crate::format::{DOCUMENT, END, Field, LINK, PORT};
 use afdx_plan::ConfigFault;
@@ -46,8 +46,10 @@ fn add_table(found: &mut Found, place: Place, fields: &[Field], table: &Table) -
     ensures { OnOk result (Adds found.old found.new
         (table_findings place (map field_of fields.now) (table_view table.now))) }
 {
+    let is_lacking = lacks_all(table, fields);
     for field in fields {
-        add_key(found, place, field.0, field_fault(table, field))?;
+        let fault = fault_unless(is_lacking, table, field);
+        add_key(found, place, field.0, fault)?;
     }
     add_keys(found, place, fields, table)
 }
