@@ -7,7 +7,7 @@ use Rattle.std.proofs.lemmas.List.Sums.{sum_by-cons}
 use Rattle.std.specs.List.{count_by}
 use Rattle.std.specs.Prelude.{nat_eq}
 use Rattle.afdx_config.specs.declared.format.Field.{Field as Written}
-use Rattle.afdx_config.proofs.Names.{Field, Ordering, Data, bytes_eq-Decides, is_eq-slice_cmp, is_eq, slice_cmp, nat_cmp, get_member, is_key_of, common_steps, true, and_parts, sym, get_or, ◌<◌, suc, zero, or-true, codes, PortRow, arith, nat_tests}
+use Rattle.afdx_config.proofs.Names.{Field, Ordering, Data, bytes_eq-Decides, is_eq-slice_cmp, is_eq, slice_cmp, nat_cmp, get_member, is_key_of, common_steps, true, get_or, ◌<◌, suc, zero, or-true, codes, arith, nat_tests}
 use Rattle.afdx_config.specs.Tables.{lacks_all}
 use Rattle.afdx_config.specs.Cells.{port_row}
 use Rattle.afdx_config.specs.Format.{port_fields}

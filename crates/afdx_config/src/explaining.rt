@@ -11,7 +11,6 @@ ghost use Rattle.afdx_config.specs.Views.{IsDocument, data_of};
 use crate::document::Document;
 use crate::findings::{Finding, Found, Place, add};
 use crate::plan_findings::add_plan;
-use crate::rows::rows_of;
 use crate::told::{text_of, text_of_toml};
 use crate::value_findings::add_values;
 use afdx_plan::ConfigFault;
@@ -38,8 +37,7 @@ fn findings_in(alloc: Global, document: &Document<'_>) -> Result<Found, AllocErr
         (value_findings (data_of document.now) ++ plan_findings (cells_of (data_of document.now)))) }
 {
     let mut found = Found::new(alloc);
-    add_values(&mut found, document)?;
-    let rows = rows_of(alloc, document)?;
+    let rows = add_values(&mut found, document)?;
     add_plan(&mut found, &rows)?;
     Ok(found)
 }

@@ -11,7 +11,6 @@ use crate::document::Document;
 use crate::findings::Found;
 use crate::parts::parts_of;
 use crate::plan_findings::add_plan;
-use crate::rows::rows_of;
 use crate::value_findings::add_values;
 use afdx_plan::{Config, ConfigFault};
 use std::alloc::{AllocError, Global};
@@ -26,17 +25,16 @@ fn first_of(found: &Found) -> Option<ConfigFault>
     }
 }
 
-/// The fault of the least number in a document. If a value has a fault, links and ports aren't looked at.
+/// The fault of the least number in a document. If a value has a fault, plan rules aren't tried.
 fn least_fault(alloc: Global, document: &Document<'_>) -> Result<Option<ConfigFault>, AllocError>
     requires { IsDocument document.now }
     ensures { IfOk result (λ first. first ≡ fault_of (findings (data_of document.now))) }
 {
     let mut found = Found::new(alloc);
-    add_values(&mut found, document)?;
+    let rows = add_values(&mut found, document)?;
     if found.count != 0 {
         return Ok(first_of(&found));
     }
-    let rows = rows_of(alloc, document)?;
     add_plan(&mut found, &rows)?;
     Ok(first_of(&found))
 }

@@ -1,12 +1,11 @@
 //! The values of links and ports that have no fault.
-ghost use Rattle.std.specs.Prelude.{◌≡◌, ◌≤◌, map, is_none, option_and_then, unwrap_or, IfOk};
+ghost use Rattle.std.specs.Prelude.{◌≡◌, ◌≤◌, map, is_none, option_and_then, unwrap_or};
+ghost use Rattle.toml.specs.Data.{Members};
 ghost use Rattle.toml.specs.View.{table_view};
 ghost use Rattle.afdx_config.specs.Cells.{if_sound, sound_number, link_row, port_row, cells_of};
-ghost use Rattle.afdx_config.specs.Seen.{cells_in};
 ghost use Rattle.afdx_config.specs.Tables.{field_fault};
-ghost use Rattle.afdx_config.specs.Views.{IsDocument, data_of, field_of};
+ghost use Rattle.afdx_config.specs.Views.{field_of};
 
-use crate::document::Document;
 use crate::entries::{number, text};
 use crate::fields::{field_fault, lacks_all};
 use crate::format::{
@@ -14,7 +13,6 @@ use crate::format::{
 };
 use crate::values::{kind_named, unicast_address};
 use afdx_plan::Kind;
-use std::alloc::{AllocError, Global};
 use toml::Table;
 
 /// The values of a link that other tables depend on. A value with a fault is `None`.
@@ -135,35 +133,42 @@ fn port_row(table: &Table) -> PortRow
     }
 }
 
-/// Converts tables to links.
-fn link_rows(alloc: Global, tables: &[&Table]) -> Result<Vec<LinkRow>, AllocError>
-    ensures { IfOk result (λ rows.
-        rows.items ≡ map (λ t. link_row (table_view t.now)) tables.now) }
-{
-    tables.iter().map(|table| link_row(table)).collect(alloc)
+/// A row that is made of a table.
+pub(crate) trait Row: Copy {
+    ghost row_of: { Members → Self };
+
+    /// Converts a table.
+    fn of(table: &Table) -> Self
+        ensures { result ≡ row_of (table_view table.now) };
 }
 
-/// Converts tables to ports.
-fn port_rows(alloc: Global, tables: &[&Table]) -> Result<Vec<PortRow>, AllocError>
-    ensures { IfOk result (λ rows.
-        rows.items ≡ map (λ t. port_row (table_view t.now)) tables.now) }
-{
-    tables.iter().map(|table| port_row(table)).collect(alloc)
+impl Row for LinkRow {
+    ghost row_of = { link_row };
+
+    fn of(table: &Table) -> LinkRow {
+        link_row(table)
+    }
 }
 
-/// Converts the tables of a document to links and ports.
-pub(crate) fn rows_of(alloc: Global, document: &Document<'_>) -> Result<Rows, AllocError>
-    requires { IsDocument document.now }
-    ensures { IfOk result (λ rows. cells_in rows ≡ cells_of (data_of document.now)) }
+impl Row for PortRow {
+    ghost row_of = { port_row };
+
+    fn of(table: &Table) -> PortRow {
+        port_row(table)
+    }
+}
+
+/// The rows of a document's links and ports, with what the top level says of their arrays.
+pub(crate) fn rows_with(top: &Table, links: Vec<LinkRow>, ports: Vec<PortRow>) -> Rows
+    ensures links { result.links ≡ links }
+    ensures ports { result.ports ≡ ports }
+    ensures has_links { result.has_links ≡ (cells_of (table_view top.now)).has_links }
+    ensures has_ports { result.has_ports ≡ (cells_of (table_view top.now)).has_ports }
 {
-    let links = link_rows(alloc, document.links.as_slice())?;
-    let ports = port_rows(alloc, document.ports.as_slice())?;
-    let has_links = is_sound(document.top, &Field("vl", true, Content::Rows));
-    let has_ports = is_sound(document.top, &Field("port", true, Content::Rows));
-    Ok(Rows {
+    Rows {
         links,
         ports,
-        has_links,
-        has_ports,
-    })
+        has_links: is_sound(top, &Field("vl", true, Content::Rows)),
+        has_ports: is_sound(top, &Field("port", true, Content::Rows)),
+    }
 }

@@ -4,8 +4,8 @@ use Rattle.afdx_config.proofs.read.least_fault.Goals as goal
 
 pub returns-then-found-ne0 : goal.returns-then-found-ne0
 returns-then-found-ne0 c = c.first_of.ensures ∙ first_of_values (data_of c.args.document.now) c.add_values.new.found
-    (c.in_ok-add_values.ensures [] c.new-found.ensures) c.if-found-ne0.true
+    (c.in_ok-rows.ensures.findings [] c.new-found.ensures) c.if-found-ne0.true
 
 pub returns : goal.returns
 returns c = c.first_of-2.ensures ∙ first_of_all (data_of c.args.document.now) c.add_plan.new.found
-    (rw c.in_ok-rows.ensures at (c.in_ok-add_plan.ensures _ (c.in_ok-add_values.ensures [] c.new-found.ensures)))
+    (rw c.in_ok-rows.ensures.rows at (c.in_ok-add_plan.ensures _ (c.in_ok-rows.ensures.findings [] c.new-found.ensures)))
