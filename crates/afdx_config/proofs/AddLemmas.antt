@@ -17,6 +17,9 @@ use Rattle.afdx_config.proofs.SectionLemmas.{Found, keys_are, option_maps}
 pub adds_both : (old mid new : Kept) (a b : List Finding) → Adds old mid a → Adds mid new b → Adds old new (a ++ b)
 adds_both old mid new a b p q all holds = rw (← append_assoc all a b) (q (all ++ a) (p all holds))
 
+pub adds_last : (old new : Kept) (a : List Finding) → Adds old new a → Adds old new (a ++ [])
+adds_last old new a p = rw (append-nil a) p
+
 -- the findings of the rows after others
 each_row-append : {A : Type 0} (each : ℕ → A → List Finding) (k : ℕ) (xs ys : List A)
     → each_row each k (xs ++ ys) ≡ each_row each k xs ++ each_row each (k + length xs) ys

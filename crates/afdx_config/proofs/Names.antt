@@ -46,12 +46,12 @@ pub use Rattle.afdx_plan.specs.declared.port_plan.PortPlan.{PortPlan}
 pub use Rattle.afdx_config.specs.Entries.{member_keys, number_at, tables_among}
 pub use Rattle.afdx_config.specs.Explained.{column_after}
 pub use Rattle.afdx_config.specs.Faults.{HasFault, IsLeastFault, IsPlanOf, Reads, shows, values_show}
-pub use Rattle.afdx_config.specs.FindingLaws.{FaultsAreFound, FirstIsAnswered, PlacesHaveFaults, RulesAgree, count_has, fields_at, has_place, members_at, port_has, key_has, plan_has, ports_clash, row_has, rows_have, value_has}
+pub use Rattle.afdx_config.specs.FindingLaws.{FaultsAreFound, FirstIsAnswered, PlacesHaveFaults, RulesAgree, breaks_at, fields_at, has_place, members_at, key_has, row_has, rows_have, tells, value_has}
 pub use Rattle.afdx_config.specs.Cells.{Cells, cells_of}
 pub use Rattle.afdx_config.specs.CellFaults.{all_named, both, cells_show, is_long, is_packed, is_row_of, is_wrong_count, lacks_link, lacks_sub, on_sub_of}
-pub use Rattle.afdx_config.specs.CellFaults.{same_flow, same_link, same_port, share_unicast}
+pub use Rattle.afdx_config.specs.CellFaults.{PlanRule, Rule, breaks, count_is_wrong, links_clash, misfits, port_misfits, ports_clash, rule, plan_rules, same_flow, same_link, same_port, share_unicast, sub_is_packed}
 pub use Rattle.afdx_config.specs.Findings.{Finding, crowd_finding, each_row, findings, found, has, is_past_limit}
-pub use Rattle.afdx_config.specs.Findings.{key_finding, misfit_findings, one_if, pair_finding, pair_findings, row_like}
+pub use Rattle.afdx_config.specs.Findings.{key_finding, misfit_finding, one_if, pair_finding, pair_findings, row_like, rule_findings}
 pub use Rattle.afdx_config.specs.Findings.{table_findings}
 pub use Rattle.afdx_config.specs.Keyed.{first_row, is_key}
 pub use Rattle.afdx_config.specs.Sharing.{flow_of}

@@ -1,20 +1,19 @@
 -- The place of each finding has its fault.
-use Rattle.afdx_config.proofs.Names.{◌≡◌, ℕ, suc, ◌+◌, ◌-◌, ◌≤◌, List, [], ◌∷◌, length, get_or, Bool, nat_lt}
+use Rattle.afdx_config.proofs.Names.{◌≡◌, ℕ, suc, ◌+◌, ◌-◌, ◌≤◌, List, [], ◌∷◌, get_or, Bool, nat_lt}
 use Rattle.afdx_config.proofs.Names.{true, false, ◌||◌, ◌&&◌, not, Option, Some, None, refl, ap, ◌∙◌, codes}
 use Rattle.afdx_config.proofs.Names.{arith, lit≤, bytes_eq, slice_get, position, list_any, flat_map}
 use Rattle.afdx_config.proofs.Names.{AllByRecursion, option_map_or, or-true, All-from_recursion}
 use Rattle.afdx_config.proofs.Names.{position-Some, slice_get-get_or, bytes_eq-Decides, eq-eqb, then_some, Members}
-use Rattle.afdx_config.proofs.Names.{ConfigFault, UnknownKey, DuplicateVl, DuplicatePort, NoSuchVl, NoSuchSub, SamplingTooLong, SameFlow, SharedUnicast, Limit, Place, Top}
+use Rattle.afdx_config.proofs.Names.{ConfigFault, UnknownKey, Place, Top, option_map, is_row_of, PlanRule, Rule, links_clash, ports_clash, port_misfits, count_is_wrong, sub_is_packed, breaks_at, tells, plan_rules, rule, rule_findings, is_past_limit}
 use Rattle.afdx_config.proofs.Names.{EndSystem, Link, Port, Finding, found, one_if, key_finding, each_row}
-use Rattle.afdx_config.proofs.Names.{member_keys, pair_finding, pair_findings, ports_clash, same_link, same_port, same_flow, share_unicast}
-use Rattle.afdx_config.proofs.Names.{port_has, is_wrong_count}
-use Rattle.afdx_config.proofs.Names.{Cells, PortRow, cells_of, count_has, findings, row_has, rows_have, plan_has}
+use Rattle.afdx_config.proofs.Names.{member_keys, pair_finding, pair_findings, misfit_finding, crowd_finding}
+use Rattle.afdx_config.proofs.Names.{Cells, cells_of, findings, row_has, rows_have}
 use Rattle.afdx_config.proofs.Names.{value_has, key_has, has_place, PlacesHaveFaults, Field, document_fields}
 use Rattle.afdx_config.proofs.Names.{end_fields, link_fields, port_fields, fields_in, field_fault, key_fault}
 use Rattle.afdx_config.proofs.Names.{is_fault, is_key_of, is_version_2, rows_at, section_at, members_at, fields_at, fault_number}
 use Rattle.afdx_config.proofs.AddLemmas.{each_row-map}
 use Rattle.afdx_config.proofs.OrderLemmas.{r_append, r_fold, r_map}
-use Rattle.afdx_config.specs.Findings.{count_finding, crowd_finding, misfit_findings, plan_findings, table_findings, value_findings}
+use Rattle.afdx_config.specs.Findings.{plan_findings, table_findings, value_findings}
 
 -- a property of each element of the lists
 pub r_each : {A B : Type 0} (P : B → Type 0) (F : A → List B) (xs : List A) → ((x : A) → AllByRecursion P (F x)) → AllByRecursion P (flat_map F xs)
@@ -130,9 +129,13 @@ table_fine doc place fields members at = r_append (Fine doc) _ _
     (fields_fine doc place fields members fields at (λ q passes. passes))
     (keys_fine doc place fields members (member_keys members) at (λ q passes. passes))
 
--- the place of a finding of 7 to 14 has its fault
-abbrev Has : Cells → Finding → Type 0
-Has cells f = plan_has cells f.fault f.place f.key f.other ≡ true
+-- a finding of a rule whose place breaks it
+abbrev Broken : Cells → PlanRule → Finding → Type 0
+Broken cells r f = tells cells f r ≡ true
+
+broken_at : (cells : Cells) (r : PlanRule) (place : Place) (other : Option ℕ) → breaks_at r.forbids cells place other ≡ true
+    → Broken cells r (found r.fault place r.key other)
+broken_at cells r place other is = rw (eq-eqb (fault_number r.fault) (fault_number r.fault) refl, bytes_same r.key, is) refl
 
 -- a row that passes
 row_passes : {A : Type 0} (test : A → Bool) (rows : List A) (k : ℕ) (x : A) → slice_get rows (k - 1) ≡ Some x → test x ≡ true
@@ -140,51 +143,53 @@ row_passes : {A : Type 0} (test : A → Bool) (rows : List A) (k : ℕ) (x : A) 
 row_passes test rows k x is passes = rw is passes
 
 -- two rows that are related
-pair_fine : {A : Type 0} (cells : Cells) (g : ConfigFault) (key : List ℕ) (at : ℕ → Place) (related : A → A → Bool) (all : List A)
-    → ((k j : ℕ) → rows_have related all k (Some j) ≡ true → plan_has cells g (at k) key (Some j) ≡ true)
-    → AllByRecursion (Has cells) (pair_findings g key at related all)
-pair_fine {A = A} cells g key at related all fine = rw (each_row-map (pair_finding g key at) (λ x. position (λ e. related e x) all) 1 all)
-    (all_rows (Has cells) (λ k x. pair_finding g key at k (position (λ e. related e x) all)) all
+pair_fine : {A : Type 0} (cells : Cells) (r : PlanRule) (at : ℕ → Place) (related : A → A → Bool) (all : List A)
+    → ((k j : ℕ) → rows_have related all k (Some j) ≡ true → breaks_at r.forbids cells (at k) (Some j) ≡ true)
+    → AllByRecursion (Broken cells r) (pair_findings r.fault r.key at related all)
+pair_fine {A = A} cells r at related all fine = rw (each_row-map (pair_finding r.fault r.key at) (λ x. position (λ e. related e x) all) 1 all)
+    (all_rows (Broken cells r) (λ k x. pair_finding r.fault r.key at k (position (λ e. related e x) all)) all
     (λ k x some is. here k x is (position (λ e. related e x) all) refl))
   where
     here : (k : ℕ) (x : A) → slice_get all (k - 1) ≡ Some x → (o : Option ℕ) → position (λ e. related e x) all ≡ o
-        → AllByRecursion (Has cells) (pair_finding g key at k o)
+        → AllByRecursion (Broken cells r) (pair_finding r.fault r.key at k o)
     here k x there None is = tt
-    here k x there (Some i) is = r_one (Has cells) (nat_lt (i + 1) k) (found g (at k) key (Some (i + 1))) (λ early.
+    here k x there (Some i) is = r_one (Broken cells r) (nat_lt (i + 1) k) (found r.fault (at k) r.key (Some (i + 1))) (λ early.
         let passes = position-Some (λ e. related e x) all i x is in
         let index : i + 1 - 1 ≡ i = omega arith in
         let other : slice_get all (i + 1 - 1) ≡ Some (get_or all i x) =
         ap (slice_get all) index ∙ slice_get-get_or all i x passes.0 in
-        fine k (i + 1) (rw (
+        broken_at cells r (at k) (Some (i + 1)) (fine k (i + 1) (rw (
           early,
           row_passes (λ a. row_has (λ e. related e a) all (i + 1)) all k x there
               (row_passes (λ e. related e x) all (i + 1) (get_or all i x) other passes.1),
-        ) refl))
+        ) refl)))
 
--- a port with a fault of its own
-port_fine : (g : ConfigFault) (cells : Cells) (k : ℕ) (p : PortRow) (key : List ℕ) (other : Option ℕ) → slice_get cells.ports (k - 1) ≡ Some p
-    → AllByRecursion (Has cells) (one_if (port_has g cells k p) (found g (Port k) key other))
-port_fine g cells k p key other is = r_one (Has cells) (port_has g cells k p) _
-    (λ bad. rw (row_passes (port_has g cells k) cells.ports k p is bad) (or-true (rows_have (ports_clash g) cells.ports k other)))
+rule_fine : (cells : Cells) (f : ConfigFault) (key : List ℕ) (by : Rule)
+    → AllByRecursion (Broken cells (rule f key by)) (rule_findings f key by cells)
+rule_fine cells f key (links_clash clash) = pair_fine cells (rule f key (links_clash clash)) Link clash cells.links (λ k j is. is)
+rule_fine cells f key (ports_clash clash) = pair_fine cells (rule f key (ports_clash clash)) Port clash cells.ports (λ k j is. is)
+rule_fine cells f key (port_misfits misfits) = all_rows (Broken cells (rule f key (port_misfits misfits))) (misfit_finding f key misfits cells) cells.ports
+    (λ k p some is. r_one _ (misfits cells p) _ (λ bad.
+    broken_at cells (rule f key (port_misfits misfits)) (Port k) (option_map (λ i. i + 1) (position (is_row_of p) cells.links)) (row_passes (misfits cells) cells.ports k p is bad)))
+rule_fine cells f key (count_is_wrong is_wrong) = r_one _ (is_wrong cells) _ (λ bad. broken_at cells (rule f key (count_is_wrong is_wrong)) Top None bad)
+rule_fine cells f key sub_is_packed = all_rows (Broken cells (rule f key sub_is_packed)) (crowd_finding f key cells.ports) cells.ports
+    (λ k p some is. r_one _ (is_past_limit cells.ports k p) _ (λ bad.
+    broken_at cells (rule f key sub_is_packed) (Port k) None (row_passes (is_past_limit cells.ports k) cells.ports k p is bad)))
 
-count_fine : (cells : Cells) (key : List ℕ) (is_wrong : Bool) → (is_wrong ≡ true → count_has Limit cells key ≡ true)
-    → AllByRecursion (Has cells) (count_finding key is_wrong)
-count_fine cells key is_wrong fine = r_one (Has cells) is_wrong (found Limit Top key None) fine
+-- the place of a finding of 7 to 14 has its fault
+abbrev Has : Cells → Finding → Type 0
+Has cells f = list_any (tells cells f) plan_rules ≡ true
+
+rules_fine : (cells : Cells) (rest : List PlanRule) → Sub rest plan_rules
+    → AllByRecursion (Has cells) (flat_map (λ (r : PlanRule). rule_findings r.fault r.key r.forbids cells) rest)
+rules_fine cells [] sub = tt
+rules_fine cells (r ∷ rest) sub = r_append (Has cells) (rule_findings r.fault r.key r.forbids cells) _
+    (r_map (Broken cells r) (Has cells) _ (λ f is. sub (tells cells f) (rw is refl)) (rule_fine cells r.fault r.key r.forbids))
+    (rules_fine cells rest (sub_next r rest plan_rules sub))
 
 plan_fine : (cells : Cells) → AllByRecursion (Has cells) (plan_findings cells)
 unfolding plan_findings
-plan_fine cells = r_append (Has cells) _ _ (r_append (Has cells) _ _ (r_append (Has cells) _ _ (r_append (Has cells) _ _
-    (r_append (Has cells) _ _ (r_append (Has cells) _ _ (r_append (Has cells) _ _
-    (pair_fine cells DuplicateVl _ Link same_link cells.links (λ k j is. is))
-    (pair_fine cells DuplicatePort _ Port same_port cells.ports (λ k j is. rw is refl)))
-    (all_rows (Has cells) (misfit_findings cells) cells.ports (λ k p some is.
-    r_append (Has cells) _ _ (r_append (Has cells) _ _ (port_fine NoSuchVl cells k p _ _ is)
-    (port_fine NoSuchSub cells k p _ _ is)) (port_fine SamplingTooLong cells k p _ _ is))))
-    (pair_fine cells SameFlow _ Port same_flow cells.ports (λ k j is. rw is refl)))
-    (pair_fine cells SharedUnicast _ Port share_unicast cells.ports (λ k j is. rw is refl)))
-    (count_fine cells (codes "vl") (is_wrong_count cells.has_links 64 (length cells.links)) (λ is. rw is refl)))
-    (count_fine cells (codes "port") (is_wrong_count cells.has_ports 256 (length cells.ports)) (λ is. rw is refl)))
-    (all_rows (Has cells) (crowd_finding cells.ports) cells.ports (λ k p some is. port_fine Limit cells k p _ _ is))
+plan_fine cells = rules_fine cells plan_rules (λ q passes. passes)
 
 pub places_have_faults : PlacesHaveFaults
 places_have_faults doc = All-from_recursion (λ f. has_place doc f ≡ true) (findings doc)

@@ -6,7 +6,7 @@ use Rattle.afdx_config.proofs.Names.{cells_of, cells_show, plan_of, DuplicateVl,
 use Rattle.afdx_config.proofs.Names.{SharedUnicast, Limit, same_link, same_port, same_flow, share_unicast, lacks_link, lacks_sub, is_long, is_packed}
 use Rattle.afdx_config.proofs.Names.{is_row_of, on_sub_of, Top, Link, Port, document_fields, link_fields, port_fields, fields_in, is_version_2}
 use Rattle.afdx_config.proofs.Names.{IsSoundTable, plan_shows, is_sampling, nat_lt, nat_le, option_map_or, ◌&&◌, is_none}
-use Rattle.afdx_config.proofs.Names.{plan_faults, cond, ◌+◌, both, ◌-◌, RulesAgree, is_no_count}
+use Rattle.afdx_config.proofs.Names.{plan_faults, or-false, arith, cond, ◌+◌, both, ◌-◌, RulesAgree, is_no_count}
 use Rattle.afdx_config.specs.Cells.{link_row, port_row}
 use Rattle.afdx_config.specs.PlanOf.{link_of, port_of}
 use Rattle.afdx_config.specs.Findings.{value_findings}
@@ -83,20 +83,24 @@ any_whole : (test : PortRow → Bool) (of_plan : PortPlan → Bool) (ports : Lis
     → list_any test (map port_whole ports) ≡ list_any of_plan ports
 any_whole test of_plan ports same = list_any_map test port_whole ports ∙ ap (λ t. list_any t ports) (fun_ext same)
 
+in_three : (a b c : Bool) → (a || (b || (c || false))) ≡ (a || b || c)
+in_three a b c = grind arith
+
 -- values without faults have the faults of their plan
 whole_shows : (plan : Plan) (fault : ConfigFault) → cells_show fault (whole plan) ≡ plan_shows fault plan
-whole_shows plan DuplicateVl = pair_map same_link link_whole plan.links
-whole_shows plan DuplicatePort = pair_map same_port port_whole plan.ports
-whole_shows plan NoSuchVl = any_whole (lacks_link (whole plan)) _ plan.ports
+whole_shows plan DuplicateVl = or-false _ ∙ pair_map same_link link_whole plan.links
+whole_shows plan DuplicatePort = or-false _ ∙ pair_map same_port port_whole plan.ports
+whole_shows plan NoSuchVl = or-false _ ∙ any_whole (lacks_link (whole plan)) _ plan.ports
     (λ p. rw (list_any_map (λ (link : LinkRow). is_none link.id) link_whole plan.links, any_no plan.links, list_any_map (is_row_of (port_whole p)) link_whole plan.links) refl)
-whole_shows plan NoSuchSub = any_whole (lacks_sub (whole plan)) _ plan.ports
+whole_shows plan NoSuchSub = or-false _ ∙ any_whole (lacks_sub (whole plan)) _ plan.ports
     (λ p. at_link (λ link. both nat_le link.sub_vls (Some p.sub)) p plan.links)
-whole_shows plan SamplingTooLong = any_whole (is_long (whole plan)) _ plan.ports
+whole_shows plan SamplingTooLong = or-false _ ∙ any_whole (is_long (whole plan)) _ plan.ports
     (λ p. ap (λ b. is_sampling p.kind && b)
     (at_link (λ link. both (λ lmax most. nat_lt (lmax - 47) most) link.lmax (Some p.max)) p plan.links))
-whole_shows plan SameFlow = pair_map same_flow port_whole plan.ports
-whole_shows plan SharedUnicast = pair_map share_unicast port_whole plan.ports
-whole_shows plan Limit = rw (length-map plan.links link_whole, length-map plan.ports port_whole) (ap
+whole_shows plan SameFlow = or-false _ ∙ pair_map same_flow port_whole plan.ports
+whole_shows plan SharedUnicast = or-false _ ∙ pair_map share_unicast port_whole plan.ports
+whole_shows plan Limit = rw (length-map plan.links link_whole, length-map plan.ports port_whole) (in_three (is_no_count 64 (length plan.links))
+    (is_no_count 256 (length plan.ports)) (list_any (is_packed (map port_whole plan.ports)) (map port_whole plan.ports)) ∙ ap
     (λ b. is_no_count 64 (length plan.links) || is_no_count 256 (length plan.ports) || b)
     (any_whole (is_packed (map port_whole plan.ports)) _ plan.ports
     (λ p. ap (nat_lt 64) (fold-map (λ n q. n + cond (on_sub_of (port_whole p) q) 1 0) port_whole 0 plan.ports))))

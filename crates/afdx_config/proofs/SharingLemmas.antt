@@ -145,7 +145,7 @@ count_small ports i old small is q = let h = count_by-le-length (is_on_sub q) (t
 -- the finding of a port that was counted
 pub crowd_is : (ports : List PortRow) (i n : ℕ) (port : PortRow) (old : ℕ × ℕ → ℕ) → ((q : ℕ × ℕ) → old q ≡ count_by (is_on_sub q) (take i ports))
     → n ≡ option_map_or old (sub_in port.vl port.sub) 0
-    → one_if (nat_le 64 n) (found Limit (Port (i + 1)) (codes "sub") None) ≡ crowd_finding ports (i + 1) port
+    → one_if (nat_le 64 n) (found Limit (Port (i + 1)) (codes "sub") None) ≡ crowd_finding Limit (codes "sub") ports (i + 1) port
 crowd_is ports i n port old are is =
     let back : i + 1 - 1 ≡ i = omega arith in
     rw (back, ← before_is ports i n port (is ∙ ap (λ f. option_map_or f (sub_in port.vl port.sub) 0) (fun_ext are))) refl

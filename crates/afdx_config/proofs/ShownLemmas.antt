@@ -4,17 +4,16 @@ use Rattle.std.proofs.Math.Seq.{take-append_seam}
 use Rattle.afdx_config.proofs.SectionLemmas.{none_counted, none_on}
 use Rattle.std.proofs.Common.{length-append}
 use Rattle.afdx_config.proofs.Names.{◌≡◌, ℕ, ◌+◌, ◌-◌, ◌<◌, ◌≤◌, List, [], ◌∷◌, ◌++◌, length, take, Bool, true, false, ◌||◌, ◌&&◌, cond, append_assoc, count_by, eqb-true, eq-eqb, or-true, nat_eq, nat_le, lit≤, cases_lt, inl, inr}
-use Rattle.afdx_config.proofs.Names.{Option, Some, None, refl, ap, sym, ◌∙◌, codes, arith}
+use Rattle.afdx_config.proofs.Names.{Option, Some, None, refl, ap, sym, ◌∙◌, arith}
 use Rattle.afdx_config.proofs.Names.{◌==◌, and_parts, nat_tests, or-false, and-true, and-false, and-or_distrib_left, nat_lt, list_any-append, position}
 use Rattle.afdx_config.proofs.Names.{position_from, list_any, then_some, position_from-zero, AllByRecursion, not}
 use Rattle.afdx_config.proofs.Names.{Data, Members, get_member, fault_number, has_pair, ConfigFault, Toml, MissingKey}
-use Rattle.afdx_config.proofs.Names.{UnknownKey, DuplicateVl, DuplicatePort, NoSuchVl, NoSuchSub, SamplingTooLong}
-use Rattle.afdx_config.proofs.Names.{SameFlow, SharedUnicast, Limit, Place, Top, Link, Port, Field}
+use Rattle.afdx_config.proofs.Names.{UnknownKey, Place, Top, Link, Port, Field, flat_map, PlanRule, Rule, links_clash, ports_clash, port_misfits, count_is_wrong, sub_is_packed, breaks, plan_rules, rules, rule_findings}
 use Rattle.afdx_config.proofs.Names.{shows, values_show, Finding, found, has, one_if, key_finding, member_keys, each_row}
-use Rattle.afdx_config.proofs.Names.{pair_finding, pair_findings, is_past_limit, lacks_link, lacks_sub, is_long}
-use Rattle.afdx_config.proofs.Names.{Cells, cells_of, cells_show, both, same_link, same_port, same_flow, share_unicast, on_sub_of, is_packed, is_wrong_count, PortRow}
+use Rattle.afdx_config.proofs.Names.{pair_finding, pair_findings, is_past_limit, misfit_finding, crowd_finding}
+use Rattle.afdx_config.proofs.Names.{Cells, cells_of, cells_show, both, on_sub_of, is_packed, PortRow}
 use Rattle.afdx_config.proofs.Names.{field_fault, key_fault, is_key_of, fault_in, content_fault, fault_under, Content, IfSome, FaultsAreFound}
-use Rattle.afdx_config.specs.Findings.{count_finding, crowd_finding, misfit, misfit_findings, plan_findings, table_findings, value_findings}
+use Rattle.afdx_config.specs.Findings.{plan_findings, table_findings, value_findings}
 use Rattle.afdx_config.proofs.AddLemmas.{each_row-map}
 use Rattle.afdx_config.proofs.OrderLemmas.{any_by_fault, r_append, r_map}
 use Rattle.afdx_config.proofs.PlaceLemmas.{r_each, values_have}
@@ -120,30 +119,6 @@ pairs_shown f g key at related rows =
     ∙ any_if (same f g) (λ k x. is_before k (position (λ e. related e x) rows)) 1 rows
     ∙ ap (λ b. same f g && b) (any_pair related rows [] rows 1 refl refl ∙ ap (λ b. b || has_pair related rows) (any_no rows))
 
--- the findings of the ports that do not fit their link
-any_three : {A : Type 0} (a b c : Bool) (p q r : A → Bool) (k : ℕ) (xs : List A)
-    → any_row (λ j x. (a && p x) || (b && q x) || (c && r x)) k xs ≡ ((a && list_any p xs) || (b && list_any q xs) || (c && list_any r xs))
-any_three a b c p q r k [] = grind arith
-any_three a b c p q r k (x ∷ xs) = rw (any_three a b c p q r (k + 1) xs) (shuffle a b c (p x) (q x) (r x) (list_any p xs) (list_any q xs) (list_any r xs))
-  where
-    shuffle : (a b c x y z u v w : Bool)
-        → (((a && x) || (b && y) || (c && z)) || ((a && u) || (b && v) || (c && w))) ≡ ((a && (x || u)) || (b && (y || v)) || (c && (z || w)))
-    shuffle a b c x y z u v w = grind arith
-
-misfits_shown : (f : ConfigFault) (cells : Cells) → list_any (has f) (each_row (misfit_findings cells) 1 cells.ports)
-    ≡ ((same f NoSuchVl && list_any (lacks_link cells) cells.ports) || (same f NoSuchSub && list_any (lacks_sub cells) cells.ports)
-    || (same f SamplingTooLong && list_any (is_long cells) cells.ports))
-misfits_shown f cells = rows_shown f (misfit_findings cells)
-    (λ k p. (same f NoSuchVl && lacks_link cells p) || (same f NoSuchSub && lacks_sub cells p) || (same f SamplingTooLong && is_long cells p)) 1 cells.ports
-    (λ k p. list_any-append (has f) _ (misfit SamplingTooLong (codes "max") cells k p (is_long cells p))
-    ∙ rw (
-      list_any-append (has f) (misfit NoSuchVl (codes "vl") cells k p (lacks_link cells p)) _,
-      one f (lacks_link cells p) _,
-      one f (lacks_sub cells p) _,
-      one f (is_long cells p) _,
-    ) refl)
-    ∙ any_three (same f NoSuchVl) (same f NoSuchSub) (same f SamplingTooLong) (lacks_link cells) (lacks_sub cells) (is_long cells) 1 cells.ports
-
 -- two values that are the same and known are equal
 same_known : (a b : Option ℕ) → both nat_eq a b ≡ true → a ≡ b
 same_known None b is = cc
@@ -207,47 +182,30 @@ any_past all before [] k is at = refl
 any_past all before (x ∷ xs) k is at = rw (any_past all (before ++ x ∷ []) xs (k + 1) (is ∙ sym (append_assoc before (x ∷ []) xs))
     (rw (length-append before (x ∷ [])) (omega arith))) (past_step all before x xs k is at)
 
-crowds_shown : (f : ConfigFault) (ports : List PortRow)
-    → list_any (has f) (each_row (crowd_finding ports) 1 ports) ≡ (same f Limit && list_any (is_packed ports) ports)
-crowds_shown f ports = rows_shown f (crowd_finding ports) (λ k p. same f Limit && is_past_limit ports k p) 1 ports
-    (λ k p. one f (is_past_limit ports k p) (found Limit (Port k) (codes "sub") None))
-    ∙ any_if (same f Limit) (is_past_limit ports) 1 ports ∙ ap (λ b. same f Limit && b) (any_past ports [] ports 1 refl refl)
+-- the findings of a rule
+rule_shown : (f g : ConfigFault) (key : List ℕ) (rule : Rule) (cells : Cells)
+    → list_any (has f) (rule_findings g key rule cells) ≡ (same f g && breaks rule cells)
+rule_shown f g key (links_clash clash) cells = pairs_shown f g key Link clash cells.links
+rule_shown f g key (ports_clash clash) cells = pairs_shown f g key Port clash cells.ports
+rule_shown f g key (port_misfits misfits) cells = rows_shown f (misfit_finding g key misfits cells) (λ k p. same f g && misfits cells p) 1 cells.ports
+    (λ k p. one f (misfits cells p) _) ∙ any_if (same f g) (λ k p. misfits cells p) 1 cells.ports
+    ∙ ap (λ b. same f g && b) (any_one (misfits cells) 1 cells.ports)
+rule_shown f g key (count_is_wrong is_wrong) cells = one f (is_wrong cells) (found g Top key None)
+rule_shown f g key sub_is_packed cells = rows_shown f (crowd_finding g key cells.ports) (λ k p. same f g && is_past_limit cells.ports k p) 1 cells.ports
+    (λ k p. one f (is_past_limit cells.ports k p) (found g (Port k) key None))
+    ∙ any_if (same f g) (is_past_limit cells.ports) 1 cells.ports ∙ ap (λ b. same f g && b) (any_past cells.ports [] cells.ports 1 refl refl)
+
+rules_shown : (f : ConfigFault) (cells : Cells) (some : List PlanRule)
+    → list_any (has f) (flat_map (λ (r : PlanRule). rule_findings r.fault r.key r.forbids cells) some)
+    ≡ list_any (λ (r : PlanRule). same f r.fault && breaks r.forbids cells) some
+rules_shown f cells [] = refl
+rules_shown f cells (r ∷ rest) = list_any-append (has f) (rule_findings r.fault r.key r.forbids cells) _
+    ∙ rw (rule_shown f r.fault r.key r.forbids cells, rules_shown f cells rest) refl
 
 -- the findings of 7 to 14
 pub plan_shown : (f : ConfigFault) (cells : Cells) → list_any (has f) (plan_findings cells) ≡ cells_show f cells
 unfolding plan_findings
-plan_shown f cells = rw (
-  list_any-append (has f) _ (each_row (crowd_finding cells.ports) 1 cells.ports),
-  list_any-append (has f) _ (count_finding (codes "port") (is_wrong_count cells.has_ports 256 (length cells.ports))),
-  list_any-append (has f) _ (count_finding (codes "vl") (is_wrong_count cells.has_links 64 (length cells.links))),
-  list_any-append (has f) _ (pair_findings SharedUnicast (codes "dest_ip") Port share_unicast cells.ports),
-  list_any-append (has f) _ (pair_findings SameFlow (codes "destination") Port same_flow cells.ports),
-  list_any-append (has f) _ (each_row (misfit_findings cells) 1 cells.ports),
-  list_any-append (has f) _ (pair_findings DuplicatePort (codes "id") Port same_port cells.ports),
-  pairs_shown f DuplicateVl (codes "id") Link same_link cells.links,
-  pairs_shown f DuplicatePort (codes "id") Port same_port cells.ports,
-  misfits_shown f cells,
-  pairs_shown f SameFlow (codes "destination") Port same_flow cells.ports,
-  pairs_shown f SharedUnicast (codes "dest_ip") Port share_unicast cells.ports,
-  one f (is_wrong_count cells.has_links 64 (length cells.links)) (found Limit Top (codes "vl") None),
-  one f (is_wrong_count cells.has_ports 256 (length cells.ports)) (found Limit Top (codes "port") None),
-  crowds_shown f cells.ports,
-) (here f)
-  where
-    here : (g : ConfigFault) → ((same g DuplicateVl && has_pair same_link cells.links) || (same g DuplicatePort && has_pair same_port cells.ports)
-        || ((same g NoSuchVl && list_any (lacks_link cells) cells.ports) || (same g NoSuchSub && list_any (lacks_sub cells) cells.ports)
-        || (same g SamplingTooLong && list_any (is_long cells) cells.ports))
-        || (same g SameFlow && has_pair same_flow cells.ports) || (same g SharedUnicast && has_pair share_unicast cells.ports)
-        || (same g Limit && is_wrong_count cells.has_links 64 (length cells.links)) || (same g Limit && is_wrong_count cells.has_ports 256 (length cells.ports))
-        || (same g Limit && list_any (is_packed cells.ports) cells.ports)) ≡ cells_show g cells
-    here DuplicateVl = simp or-false refl
-    here DuplicatePort = simp or-false refl
-    here NoSuchVl = simp or-false refl
-    here NoSuchSub = simp or-false refl
-    here SamplingTooLong = simp or-false refl
-    here SameFlow = simp or-false refl
-    here SharedUnicast = simp or-false refl
-    here _ = refl
+plan_shown f cells = rules_shown f cells plan_rules
 
 -- each fault of a document has a finding
 pub faults_are_found : FaultsAreFound
@@ -299,16 +257,11 @@ no_toml doc = rw (none_has Toml (value_findings doc) (r_map (λ x. IsValue x.fau
     (λ x (low, high). grind (arith, nat_tests)) (values_in doc))) refl
 
 -- links and ports have only other faults
-pub plan_low : (f : ConfigFault) (cells : Cells) → fault_number f < 7 → cells_show f cells ≡ false
-plan_low DuplicateVl cells small = absurd (omega arith)
-plan_low DuplicatePort cells small = absurd (omega arith)
-plan_low NoSuchVl cells small = absurd (omega arith)
-plan_low NoSuchSub cells small = absurd (omega arith)
-plan_low SamplingTooLong cells small = absurd (omega arith)
-plan_low SameFlow cells small = absurd (omega arith)
-plan_low SharedUnicast cells small = absurd (omega arith)
-plan_low Limit cells small = absurd (omega arith)
-plan_low f cells small = refl
+low : (f : ConfigFault) (cells : Cells) (some : List PlanRule) → fault_number f < 7 → AllByRecursion (λ r. 7 ≤ fault_number r.fault) some
+    → list_any (λ (r : PlanRule). same f r.fault && breaks r.forbids cells) some ≡ false
+low f cells [] small all = refl
+low f cells (r ∷ rest) small all =
+    let other : same f r.fault ≡ false = let at = all.0 in grind (arith, nat_tests) in rw other (low f cells rest small all.1)
 
 above : (xs : List Finding) → ((f : ConfigFault) → fault_number f < 7 → list_any (has f) xs ≡ false) → AllByRecursion (λ x. 6 ≤ fault_number x.fault) xs
 above [] lacks = tt
@@ -325,4 +278,4 @@ above (x ∷ xs) lacks = (first, above xs (λ f small. later (has f x) (list_any
     ]
 
 pub plan_above : (cells : Cells) → AllByRecursion (λ x. 6 ≤ fault_number x.fault) (plan_findings cells)
-plan_above cells = above (plan_findings cells) (λ f small. plan_shown f cells ∙ plan_low f cells small)
+plan_above cells = above (plan_findings cells) (λ f small. plan_shown f cells ∙ low f cells plan_rules small (search rules))

@@ -1,11 +1,13 @@
 -- The faults of 7 to 14 in the values that have no fault. A fault is one only if each value that it rests on is
 -- without fault.
-use Rattle.std.specs.Prelude.{ℕ, ◌-◌, List, length, count_by, Bool, false, ◌||◌, ◌&&◌, ◌==◌, not, is_some, is_none, nat_eq, nat_lt, nat_le, Option, Some, None, find}
+use Rattle.std.specs.Prelude.{codes, ℕ, ◌-◌, List, [], ◌∷◌, length, count_by, Bool, false, ◌&&◌, ◌==◌, not, is_some, is_none, nat_eq, nat_lt, nat_le, Option, Some, None, find}
 use Rattle.std.specs.List.{list_any}
 use Rattle.std.specs.Option.{option_map_or}
-use Rattle.afdx_plan.specs.PlanFaults.{has_pair, is_sampling, are_one_address, are_one_destination, is_no_count}
+use Rattle.afdx_plan.specs.PlanFaults.{fault_number, has_pair, is_sampling, are_one_address, are_one_destination, is_no_count}
 use Rattle.afdx_plan.specs.declared.fault.ConfigFault.{ConfigFault}
 use Rattle.afdx_plan.specs.declared.fault.ConfigFault.TheVariants.{DuplicateVl, DuplicatePort, NoSuchVl, NoSuchSub, SamplingTooLong, SameFlow, SharedUnicast, Limit}
+use Rattle.afdx_config.specs.declared.plan_findings.Misfit.{Misfit}
+use Rattle.afdx_config.specs.declared.plan_findings.Misfit.TheVariants.{NoLink, NoSub, TooLong}
 use Rattle.afdx_config.specs.declared.rows.LinkRow.{LinkRow}
 use Rattle.afdx_config.specs.declared.rows.PortRow.{PortRow}
 use Rattle.afdx_config.specs.Cells.{Cells}
@@ -61,6 +63,12 @@ is_long cells port = option_map_or is_sampling port.kind false
     && option_map_or (λ (link : LinkRow). both (λ lmax most. nat_lt (lmax - 47) most) link.lmax port.max)
     (find (is_row_of port) cells.links) false
 
+-- the port does not fit its link in this way
+abbrev pub misfits : Misfit → Cells → PortRow → Bool
+misfits NoLink = lacks_link
+misfits NoSub = lacks_sub
+misfits TooLong = is_long
+
 -- two ports are on the same sub-VL
 abbrev pub on_sub_of : PortRow → PortRow → Bool
 on_sub_of a b = both nat_eq b.vl a.vl && both nat_eq b.sub a.sub
@@ -73,16 +81,47 @@ is_packed ports port = nat_lt 64 (count_by (on_sub_of port) ports)
 abbrev pub is_wrong_count : Bool → ℕ → ℕ → Bool
 is_wrong_count has_array most count = has_array && is_no_count most count
 
+-- what a rule forbids: two links or two ports that clash, a port that does not fit its link, a wrong number of
+-- tables, too many ports on a sub-VL
+pub data Rule : Type 0 where
+  links_clash : (LinkRow → LinkRow → Bool) → Rule
+  ports_clash : (PortRow → PortRow → Bool) → Rule
+  port_misfits : (Cells → PortRow → Bool) → Rule
+  count_is_wrong : (Cells → Bool) → Rule
+  sub_is_packed : Rule
+
+-- a rule, the fault of breaking it, and the key that its findings name
+pub record PlanRule : Type 0 where
+  pub fault : ConfigFault
+  pub key : List ℕ
+  pub forbids : Rule
+
+abbrev pub rule : ConfigFault → List ℕ → Rule → PlanRule
+rule which name what = record { fault = which; key = name; forbids = what }
+
+-- the rules of links and ports, in the order of the numbers of their faults
+abbrev pub plan_rules : List PlanRule
+plan_rules = rule DuplicateVl (codes "id") (links_clash same_link)
+    ∷ rule DuplicatePort (codes "id") (ports_clash same_port)
+    ∷ rule NoSuchVl (codes "vl") (port_misfits lacks_link)
+    ∷ rule NoSuchSub (codes "sub") (port_misfits lacks_sub)
+    ∷ rule SamplingTooLong (codes "max") (port_misfits is_long)
+    ∷ rule SameFlow (codes "destination") (ports_clash same_flow)
+    ∷ rule SharedUnicast (codes "dest_ip") (ports_clash share_unicast)
+    ∷ rule Limit (codes "vl") (count_is_wrong (λ cells. is_wrong_count cells.has_links 64 (length cells.links)))
+    ∷ rule Limit (codes "port") (count_is_wrong (λ cells. is_wrong_count cells.has_ports 256 (length cells.ports)))
+    ∷ rule Limit (codes "sub") sub_is_packed
+    ∷ []
+
+-- links and ports break a rule
+abbrev pub breaks : Rule → Cells → Bool
+breaks (links_clash clash) cells = has_pair clash cells.links
+breaks (ports_clash clash) cells = has_pair clash cells.ports
+breaks (port_misfits misfits) cells = list_any (misfits cells) cells.ports
+breaks (count_is_wrong is_wrong) cells = is_wrong cells
+breaks sub_is_packed cells = list_any (is_packed cells.ports) cells.ports
+
 -- links and ports have a fault of 7 to 14
 abbrev pub cells_show : ConfigFault → Cells → Bool
-cells_show DuplicateVl cells = has_pair same_link cells.links
-cells_show DuplicatePort cells = has_pair same_port cells.ports
-cells_show NoSuchVl cells = list_any (lacks_link cells) cells.ports
-cells_show NoSuchSub cells = list_any (lacks_sub cells) cells.ports
-cells_show SamplingTooLong cells = list_any (is_long cells) cells.ports
-cells_show SameFlow cells = has_pair same_flow cells.ports
-cells_show SharedUnicast cells = has_pair share_unicast cells.ports
-cells_show Limit cells = is_wrong_count cells.has_links 64 (length cells.links)
-    || is_wrong_count cells.has_ports 256 (length cells.ports)
-    || list_any (is_packed cells.ports) cells.ports
-cells_show _ cells = false
+cells_show fault cells =
+    list_any (λ (r : PlanRule). fault_number fault == fault_number r.fault && breaks r.forbids cells) plan_rules

@@ -1,15 +1,13 @@
 -- Laws of the findings of a document.
-use Rattle.std.specs.Prelude.{◌≡◌, ◌∷◌, [], ◌-◌, ℕ, List, length, codes, bytes_eq, slice_get, nat_lt, Bool, true, false, ◌&&◌, ◌||◌, not, Option, Some, None, All}
+use Rattle.std.specs.Prelude.{◌≡◌, ◌∷◌, [], ◌-◌, ℕ, List, codes, bytes_eq, slice_get, nat_lt, Bool, true, false, ◌&&◌, ◌||◌, not, Option, Some, None, All}
 use Rattle.std.specs.List.{list_any}
 use Rattle.std.specs.Option.{option_map_or}
 use Rattle.toml.specs.Data.{Members}
 use Rattle.afdx_plan.specs.PlanFaults.{plan_shows}
 use Rattle.afdx_plan.specs.declared.fault.ConfigFault.{ConfigFault}
-use Rattle.afdx_plan.specs.declared.fault.ConfigFault.TheVariants.{UnknownKey, DuplicateVl, DuplicatePort, NoSuchVl, NoSuchSub, SamplingTooLong, SameFlow, SharedUnicast, Limit}
-use Rattle.afdx_config.specs.declared.rows.LinkRow.{LinkRow}
-use Rattle.afdx_config.specs.declared.rows.PortRow.{PortRow}
+use Rattle.afdx_plan.specs.declared.fault.ConfigFault.TheVariants.{UnknownKey}
 use Rattle.afdx_config.specs.Cells.{Cells, cells_of}
-use Rattle.afdx_config.specs.CellFaults.{same_link, same_port, same_flow, share_unicast, lacks_link, lacks_sub, is_long, is_wrong_count}
+use Rattle.afdx_config.specs.CellFaults.{PlanRule, Rule, links_clash, ports_clash, port_misfits, count_is_wrong, sub_is_packed, plan_rules}
 use Rattle.afdx_config.specs.declared.findings.Place.{Place}
 use Rattle.afdx_config.specs.declared.findings.Place.TheVariants.{Text, Top, EndSystem, Link, Port}
 use Rattle.afdx_config.specs.Faults.{shows, values_show, Reads, IsLeastFault, IsPlanOf}
@@ -76,44 +74,23 @@ abbrev pub rows_have : {A : Type 0} → (A → A → Bool) → List A → ℕ �
 rows_have related rows k None = false
 rows_have related rows k (Some j) = nat_lt j k && row_has (λ a. row_has (λ earlier. related earlier a) rows j) rows k
 
--- port k does not fit its link, or is past the 64th on its sub-VL
-abbrev pub port_has : ConfigFault → Cells → ℕ → PortRow → Bool
-port_has NoSuchVl cells k port = lacks_link cells port
-port_has NoSuchSub cells k port = lacks_sub cells port
-port_has SamplingTooLong cells k port = is_long cells port
-port_has Limit cells k port = is_past_limit cells.ports k port
-port_has _ cells k port = false
+-- the links, the port or the count at a place break a rule
+abbrev pub breaks_at : Rule → Cells → Place → Option ℕ → Bool
+breaks_at (links_clash clash) cells (Link k) other = rows_have clash cells.links k other
+breaks_at (ports_clash clash) cells (Port k) other = rows_have clash cells.ports k other
+breaks_at (port_misfits misfits) cells (Port k) other = row_has (misfits cells) cells.ports k
+breaks_at (count_is_wrong is_wrong) cells Top other = is_wrong cells
+breaks_at sub_is_packed cells (Port k) other = row_has (is_past_limit cells.ports k) cells.ports k
+breaks_at _ cells _ other = false
 
--- two links have this fault together
-abbrev pub links_clash : ConfigFault → LinkRow → LinkRow → Bool
-links_clash DuplicateVl a b = same_link a b
-links_clash _ a b = false
-
--- two ports have this fault together
-abbrev pub ports_clash : ConfigFault → PortRow → PortRow → Bool
-ports_clash DuplicatePort a b = same_port a b
-ports_clash SameFlow a b = same_flow a b
-ports_clash SharedUnicast a b = share_unicast a b
-ports_clash _ a b = false
-
--- the number of tables under a key is wrong
-abbrev pub count_has : ConfigFault → Cells → List ℕ → Bool
-count_has Limit cells key = (bytes_eq key (codes "vl") && is_wrong_count cells.has_links 64 (length cells.links))
-    || (bytes_eq key (codes "port") && is_wrong_count cells.has_ports 256 (length cells.ports))
-count_has _ cells key = false
-
--- the link, the port or the count at the finding's place has the fault
-abbrev pub plan_has : Cells → ConfigFault → Place → List ℕ → Option ℕ → Bool
-plan_has cells fault (Link k) key other = rows_have (links_clash fault) cells.links k other
-plan_has cells fault (Port k) key other = rows_have (ports_clash fault) cells.ports k other
-    || row_has (port_has fault cells k) cells.ports k
-plan_has cells fault Top key other = count_has fault cells key
-plan_has cells fault _ key other = false
+-- a finding is one of a rule, which is broken at its place
+abbrev pub tells : Cells → Finding → PlanRule → Bool
+tells cells f r = (has r.fault f && bytes_eq f.key r.key) && breaks_at r.forbids cells f.place f.other
 
 -- the table or value at a finding's place has its fault
 abbrev pub has_place : Members → Finding → Bool
 has_place document f = (value_has document f || key_has document f)
-    || plan_has (cells_of document) f.fault f.place f.key f.other
+    || list_any (tells (cells_of document) f) plan_rules
 
 -- the place of each finding has its fault: the key is missing, its value is of the wrong kind or out of range, or
 -- the key is unknown; both tables of a fault of two exist, and the one that is named second is the earlier

@@ -1,17 +1,16 @@
 -- All faults of a document, each with its place.
-use Rattle.std.specs.Prelude.{codes, ℕ, ◌+◌, ◌-◌, List, [], ◌∷◌, ◌++◌, length, map, take, count_by, nat_lt, nat_le, Bool, true, false, ◌==◌, if◌then◌else◌, Option, Some, None, option_map}
+use Rattle.std.specs.Prelude.{codes, ℕ, ◌+◌, ◌-◌, List, [], ◌∷◌, ◌++◌, map, take, count_by, nat_lt, nat_le, Bool, true, false, ◌==◌, if◌then◌else◌, Option, Some, None, option_map}
 use Rattle.std.specs.List.{position, flat_map, fold}
 use Rattle.std.specs.Option.{option_map_or}
 use Rattle.toml.specs.Data.{Members}
 use Rattle.afdx_plan.specs.PlanFaults.{fault_number}
 use Rattle.afdx_plan.specs.declared.fault.ConfigFault.{ConfigFault}
-use Rattle.afdx_plan.specs.declared.fault.ConfigFault.TheVariants.{DuplicateVl, DuplicatePort, NoSuchVl, NoSuchSub, SamplingTooLong, SameFlow, SharedUnicast, Limit}
 use Rattle.afdx_config.specs.declared.rows.PortRow.{PortRow}
 use Rattle.afdx_config.specs.declared.findings.Place.{Place}
 use Rattle.afdx_config.specs.declared.findings.Place.TheVariants.{Top, EndSystem, Link, Port}
 use Rattle.afdx_config.specs.Format.{Field, document_fields, end_fields, link_fields, port_fields, fields_in}
 use Rattle.afdx_config.specs.Cells.{Cells, cells_of}
-use Rattle.afdx_config.specs.CellFaults.{same_link, same_port, same_flow, share_unicast, is_row_of, lacks_link, lacks_sub, is_long, on_sub_of, is_wrong_count}
+use Rattle.afdx_config.specs.CellFaults.{is_row_of, on_sub_of, PlanRule, Rule, links_clash, ports_clash, port_misfits, count_is_wrong, sub_is_packed, plan_rules}
 use Rattle.afdx_config.specs.Entries.{member_keys}
 use Rattle.afdx_config.specs.Tables.{field_fault, key_fault, rows_at, section_at, is_version_2}
 
@@ -78,38 +77,29 @@ pair_findings fault key at clash rows =
     each_row (pair_finding fault key at) 1 (map (λ row. position (λ earlier. clash earlier row) rows) rows)
 
 -- the finding of port k that names the number of its link, if it does not fit that link
-abbrev pub misfit : ConfigFault → List ℕ → Cells → ℕ → PortRow → Bool → List Finding
-misfit fault key cells k port holds =
-    one_if holds (found fault (Port k) key (option_map (λ i. i + 1) (position (is_row_of port) cells.links)))
-
--- the findings of port k that does not fit its link
-abbrev pub misfit_findings : Cells → ℕ → PortRow → List Finding
-misfit_findings cells k port = misfit NoSuchVl (codes "vl") cells k port (lacks_link cells port)
-    ++ misfit NoSuchSub (codes "sub") cells k port (lacks_sub cells port)
-    ++ misfit SamplingTooLong (codes "max") cells k port (is_long cells port)
+abbrev pub misfit_finding : ConfigFault → List ℕ → (Cells → PortRow → Bool) → Cells → ℕ → PortRow → List Finding
+misfit_finding fault key misfits cells k port = one_if (misfits cells port)
+    (found fault (Port k) key (option_map (λ i. i + 1) (position (is_row_of port) cells.links)))
 
 -- port k is past the 64th on its sub-VL
 abbrev pub is_past_limit : List PortRow → ℕ → PortRow → Bool
 is_past_limit ports k port = nat_le 64 (count_by (on_sub_of port) (take (k - 1) ports))
 
 -- the finding of port k, if it is past the 64th on its sub-VL
-abbrev pub crowd_finding : List PortRow → ℕ → PortRow → List Finding
-crowd_finding ports k port = one_if (is_past_limit ports k port) (found Limit (Port k) (codes "sub") None)
+abbrev pub crowd_finding : ConfigFault → List ℕ → List PortRow → ℕ → PortRow → List Finding
+crowd_finding fault key ports k port = one_if (is_past_limit ports k port) (found fault (Port k) key None)
 
--- the finding of the number of tables under a key
-abbrev pub count_finding : List ℕ → Bool → List Finding
-count_finding key is_wrong = one_if is_wrong (found Limit Top key None)
+-- where links and ports break a rule
+abbrev pub rule_findings : ConfigFault → List ℕ → Rule → Cells → List Finding
+rule_findings fault key (links_clash clash) cells = pair_findings fault key Link clash cells.links
+rule_findings fault key (ports_clash clash) cells = pair_findings fault key Port clash cells.ports
+rule_findings fault key (port_misfits misfits) cells = each_row (misfit_finding fault key misfits cells) 1 cells.ports
+rule_findings fault key (count_is_wrong is_wrong) cells = one_if (is_wrong cells) (found fault Top key None)
+rule_findings fault key sub_is_packed cells = each_row (crowd_finding fault key cells.ports) 1 cells.ports
 
 -- the findings of 7 to 14
 unfoldable pub plan_findings : Cells → List Finding
-plan_findings cells = pair_findings DuplicateVl (codes "id") Link same_link cells.links
-    ++ pair_findings DuplicatePort (codes "id") Port same_port cells.ports
-    ++ each_row (misfit_findings cells) 1 cells.ports
-    ++ pair_findings SameFlow (codes "destination") Port same_flow cells.ports
-    ++ pair_findings SharedUnicast (codes "dest_ip") Port share_unicast cells.ports
-    ++ count_finding (codes "vl") (is_wrong_count cells.has_links 64 (length cells.links))
-    ++ count_finding (codes "port") (is_wrong_count cells.has_ports 256 (length cells.ports))
-    ++ each_row (crowd_finding cells.ports) 1 cells.ports
+plan_findings cells = flat_map (λ (r : PlanRule). rule_findings r.fault r.key r.forbids cells) plan_rules
 
 -- the number of a finding's fault
 abbrev pub number_of : Finding → ℕ

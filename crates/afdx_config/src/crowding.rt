@@ -1,6 +1,7 @@
 //! Ports on one sub-VL.
-ghost use Rattle.std.specs.Prelude.{◌≡◌, ℕ, ◌+◌, ◌^◌, ◌<◌, if◌then◌else◌, unwrap_or, OnOk, IfOk};
+ghost use Rattle.std.specs.Prelude.{◌≡◌, codes, ℕ, ◌+◌, ◌^◌, ◌<◌, if◌then◌else◌, unwrap_or, OnOk, IfOk};
 ghost use Rattle.std.specs.BTreeMap.{get};
+ghost use Rattle.afdx_plan.specs.declared.fault.ConfigFault.{ConfigFault};
 ghost use Rattle.std.specs.Option.{option_map_or};
 ghost use Rattle.afdx_config.specs.Findings.{crowd_finding, each_row};
 ghost use Rattle.afdx_config.specs.Seen.{Adds};
@@ -42,7 +43,7 @@ fn count_port(counts: &mut Counts, port: &PortRow) -> Result<usize, AllocError>
 
 /// Adds the ports that are past the limit on their sub-VL.
 pub(crate) fn add_crowded(found: &mut Found, ports: &[PortRow]) -> Added
-    ensures { OnOk result (Adds found.old found.new (each_row (crowd_finding ports.now) 1 ports.now)) }
+    ensures { OnOk result (Adds found.old found.new (each_row (crowd_finding ConfigFault.Limit (codes "sub") ports.now) 1 ports.now)) }
 {
     let mut counts = BTreeMap::new(found.alloc());
     for (i, port) in ports.iter().enumerate() {

@@ -1,13 +1,15 @@
 //! The faults of 7 to 14 with their places, in the values that have no fault.
-ghost use Rattle.std.specs.Prelude.{◌≡◌, ℕ, ◌+◌, ◌-◌, ◌^◌, ◌&&◌, ◌<◌, codes, nat_le, nat_lt, map, find, length, is_some, is_none, option_copied, option_map, OnOk, IfSome, false};
+ghost use Rattle.std.specs.Prelude.{◌≡◌, ℕ, ◌+◌, ◌-◌, ◌^◌, ◌&&◌, ◌<◌, codes, nat_le, nat_lt, map, find, length, is_some, is_none, option_copied, option_map, OnOk, IfOk, IfSome, None, false};
 ghost use Rattle.std.specs.BTreeMap.{get};
 ghost use Rattle.std.specs.List.{position, list_any};
 ghost use Rattle.std.specs.Ordering.{nat_cmp};
 ghost use Rattle.std.specs.Option.{option_map_or};
 ghost use Rattle.afdx_plan.specs.PlanFaults.{is_sampling};
-ghost use Rattle.afdx_config.specs.CellFaults.{both, is_row_of, all_named, is_wrong_count};
-ghost use Rattle.afdx_config.specs.Findings.{count_finding, each_row, misfit_findings, plan_findings};
+ghost use Rattle.afdx_config.specs.CellFaults.{both, is_row_of, all_named, is_wrong_count, misfits};
+ghost use Rattle.afdx_config.specs.Findings.{found as finding_at, each_row, misfit_finding, one_if, plan_findings};
 ghost use Rattle.afdx_config.specs.Keyed.{is_key};
+ghost use Rattle.afdx_config.specs.declared.findings.Place.TheVariants.{Top};
+ghost use Rattle.afdx_plan.specs.declared.fault.ConfigFault.{ConfigFault};
 ghost use Rattle.afdx_config.specs.Seen.{Adds, cells_in};
 
 use crate::crowding::add_crowded;
@@ -17,6 +19,7 @@ use crate::pairs::{add_same_flows, add_same_links, add_same_ports, link_ids};
 use crate::rows::{LinkRow, PortRow, Rows};
 use crate::sharing::add_sharing;
 use afdx_plan::{ConfigFault, Kind, LINKS_LIMIT, PORTS_LIMIT};
+use std::alloc::{AllocError, Global};
 use std::collections::BTreeMap;
 
 fn some_is_nameless(links: &[LinkRow]) -> bool
@@ -86,42 +89,39 @@ fn number_of(place: Option<usize>) -> Option<usize>
     }
 }
 
-/// Adds the port at index `i` for each rule by which it does not fit its link, which is at the index `place`.
-fn add_misfit(
-    found: &mut Found,
-    rows: &Rows,
-    is_named: bool,
-    i: usize,
-    port: &PortRow,
-    place: Option<usize>,
-) -> Added
-    requires named { is_named ≡ all_named (cells_in rows.now) }
-    requires first { place ≡ position (is_row_of port.now) rows.now.links.items }
-    requires room { IfSome place (λ l. l < length rows.now.links.items) }
-    requires small { i < 2 ^ 63 }
-    ensures { OnOk result (Adds found.old found.new
-        (misfit_findings (cells_in rows.now) (i + 1) port.now)) }
-{
-    let link = link_of(rows.links.as_slice(), port, place);
-    let other = number_of(place);
-    let at = Place::Port(i + 1);
-    let lacks_link = lacks_link(is_named, port, link);
-    add_if(lacks_link, found, ConfigFault::NoSuchVl, at, "vl", other)?;
-    let lacks_sub = lacks_sub(link, port);
-    add_if(lacks_sub, found, ConfigFault::NoSuchSub, at, "sub", other)?;
-    let is_long = is_long(link, port);
-    add_if(
-        is_long,
-        found,
-        ConfigFault::SamplingTooLong,
-        at,
-        "max",
-        other,
-    )
+/// How a port does not fit its link.
+#[derive(Clone, Copy)]
+pub(crate) enum Misfit {
+    NoLink,
+    NoSub,
+    TooLong,
 }
 
+/// The port does not fit its link, which is at the index `place`, in this way.
+fn is_misfit(
+    misfit: Misfit,
+    rows: &Rows,
+    is_named: bool,
+    port: &PortRow,
+    place: Option<usize>,
+) -> bool
+    requires named { is_named ≡ all_named (cells_in rows.now) }
+    requires first { place ≡ position (is_row_of port.now) rows.now.links.items }
+    ensures { result ≡ misfits misfit (cells_in rows.now) port.now }
+{
+    let link = link_of(rows.links.as_slice(), port, place);
+    match misfit {
+        Misfit::NoLink => lacks_link(is_named, port, link),
+        Misfit::NoSub => lacks_sub(link, port),
+        Misfit::TooLong => is_long(link, port),
+    }
+}
+
+/// The first link with each identifier.
+type ById = BTreeMap<u16, usize>;
+
 /// The index of the link of a port, which is found by its identifier.
-fn link_place(links: &[LinkRow], by_id: &BTreeMap<u16, usize>, port: &PortRow) -> Option<usize>
+fn link_place(links: &[LinkRow], by_id: &ById, port: &PortRow) -> Option<usize>
     requires { (q : ℕ) → get nat_cmp by_id.now q ≡ position (is_key nat_cmp q) (map (λ l. l.id) links.now) }
     ensures first { result ≡ position (is_row_of port.now) links.now }
     ensures room { IfSome result (λ l. l < length links.now) }
@@ -129,28 +129,46 @@ fn link_place(links: &[LinkRow], by_id: &BTreeMap<u16, usize>, port: &PortRow) -
     row_with(by_id, &port.vl)
 }
 
-/// Adds the ports that do not fit their link.
-fn add_misfits(found: &mut Found, rows: &Rows) -> Added
+/// Adds the ports that do not fit their link in this way.
+fn add_misfits(
+    found: &mut Found,
+    fault: ConfigFault,
+    key: &str,
+    misfit: Misfit,
+    rows: &Rows,
+    by_id: &ById,
+) -> Added
+    requires { (q : ℕ) → get nat_cmp by_id.now q
+        ≡ position (is_key nat_cmp q) (map (λ l. l.id) rows.now.links.items) }
     ensures { OnOk result (Adds found.old found.new
-        (each_row (misfit_findings (cells_in rows.now)) 1 rows.now.ports.items)) }
+        (each_row (misfit_finding fault key.now (misfits misfit) (cells_in rows.now)) 1 rows.now.ports.items)) }
 {
-    let alloc = found.alloc();
     let links = rows.links.as_slice();
-    let ids = link_ids(alloc, links)?;
-    let by_id = first_rows(alloc, ids.as_slice())?;
     let is_named = all_named(rows);
     let ports = rows.ports.as_slice();
     for (i, port) in ports.iter().enumerate() {
-        let place = link_place(links, &by_id, port);
-        add_misfit(found, rows, is_named, i, port, place)?;
+        let place = link_place(links, by_id, port);
+        let is_misfit = is_misfit(misfit, rows, is_named, port, place);
+        let at = Place::Port(i + 1);
+        let other = number_of(place);
+        add_if(is_misfit, found, fault, at, key, other)?;
     }
     Ok(())
+}
+
+/// The first link with each identifier.
+fn links_by_id(alloc: Global, links: &[LinkRow]) -> Result<ById, AllocError>
+    ensures { IfOk result (λ by_id. (q : ℕ) → get nat_cmp by_id q
+        ≡ position (is_key nat_cmp q) (map (λ l. l.id) links.now)) }
+{
+    let ids = link_ids(alloc, links)?;
+    first_rows(alloc, ids.as_slice())
 }
 
 /// Adds a finding for a wrong number of tables under a key.
 fn add_count(found: &mut Found, key: &str, has_array: bool, most: usize, count: usize) -> Added
     ensures { OnOk result (Adds found.old found.new
-        (count_finding key.now (is_wrong_count has_array most count))) }
+        (one_if (is_wrong_count has_array most count) (finding_at ConfigFault.Limit Top key.now None))) }
 {
     let is_wrong = has_array && (count == 0 || most < count);
     add_if(is_wrong, found, ConfigFault::Limit, Place::Top, key, None)
@@ -163,9 +181,15 @@ pub(crate) fn add_plan(found: &mut Found, rows: &Rows) -> Added
 {
     let links = rows.links.as_slice();
     let ports = rows.ports.as_slice();
+    let by_id = links_by_id(found.alloc(), links)?;
     add_same_links(found, links)?;
     add_same_ports(found, ports)?;
-    add_misfits(found, rows)?;
+    let fault = ConfigFault::NoSuchVl;
+    add_misfits(found, fault, "vl", Misfit::NoLink, rows, &by_id)?;
+    let fault = ConfigFault::NoSuchSub;
+    add_misfits(found, fault, "sub", Misfit::NoSub, rows, &by_id)?;
+    let fault = ConfigFault::SamplingTooLong;
+    add_misfits(found, fault, "max", Misfit::TooLong, rows, &by_id)?;
     add_same_flows(found, ports)?;
     add_sharing(found, ports)?;
     add_count(found, "vl", rows.has_links, LINKS_LIMIT, links.len())?;

@@ -1,4 +1,4 @@
-use Rattle.afdx_config.proofs.Names.{arith, crowd_finding, get_or, unwrap_or, refl}
+use Rattle.afdx_config.proofs.Names.{Limit, codes, arith, crowd_finding, get_or, unwrap_or, refl}
 use Rattle.std.specs.BTreeMap.{get}
 use Rattle.afdx_config.specs.Sharing.{sub_cmp}
 use Rattle.afdx_config.proofs.AddLemmas.{row_more, no_port}
@@ -10,7 +10,7 @@ count_port-requires c = count_small c.args.ports.now c.loop-i.i (λ q. unwrap_or
 
 pub loop-i-preserved : goal.loop-i-preserved
 loop-i-preserved c = record {
-  findings = row_more (crowd_finding c.args.ports.now) c.loop-i.i c.args.ports.now _ no_port _ _ _ c.loop-i-test.true refl
+  findings = row_more (crowd_finding Limit (codes "sub") c.args.ports.now) c.loop-i.i c.args.ports.now _ no_port _ _ _ c.loop-i-test.true refl
       c.loop-i.invariant.findings
       (rw (crowd_is c.args.ports.now c.loop-i.i _ (get_or c.args.ports.now c.loop-i.i no_port) (λ q. unwrap_or (get sub_cmp c.loop-i.counts q) 0)
       c.loop-i.invariant.counts c.in_ok-before.ensures.before) at c.in_ok-add_if.ensures);
