@@ -1,7 +1,7 @@
 -- Rows by their keys.
 use Rattle.std.proofs.Math.Path.{fun_ext}
 use Rattle.afdx_config.proofs.Names.{◌≡◌, ℕ, ◌+◌, ◌-◌, ◌<◌, ◌≤◌, List, [], ◌∷◌, length, drop, get_or, cond, Bool, false, Option, Some, None, refl, ap, sym, ◌∙◌, arith, drop_more, drop_all, map, map-map, nat_eq}
-use Rattle.afdx_config.proofs.Names.{position, position_from, position_from-zero, option_map_or, nat_cmp, nat_tests, Ordering, both, is_key, first_row, is_eq, bytes_eq, slice_cmp, is_eq-slice_cmp, find, find_at, position_or_len, option_and_then, slice_get, Cells, PortRow, LinkRow, is_row_of, all_named, lacks_link, ◌&&◌, is_some, is_none, Bor, option_copied, slice_get_past, IfSome, position-Some}
+use Rattle.afdx_config.proofs.Names.{position, position_from, position_from-zero, option_map_or, nat_cmp, nat_tests, Ordering, both, is_key, first_row, is_eq, bytes_eq, slice_cmp, is_eq-slice_cmp, find, find_at, position_or_len, option_and_then, slice_get, Cells, PortRow, LinkRow, is_row_of, all_named, is_misfit, NoLink, ◌&&◌, is_some, is_none, Bor, option_copied, slice_get_past, IfSome, position-Some}
 use Rattle.afdx_config.proofs.SectionLemmas.{any_found}
 
 -- the first row from the one before i on
@@ -80,7 +80,7 @@ link_within links port (Some l) is = (position-Some (is_row_of port) links l (re
 
 -- the test of a port without a link
 pub misfit_vl : (cells : Cells) (port : PortRow) (named : Bool) (link : Option (Bor LinkRow)) → named ≡ all_named cells
-    → option_copied link ≡ find (is_row_of port) cells.links → ((named && is_some port.vl) && is_none link) ≡ lacks_link cells port
+    → option_copied link ≡ find (is_row_of port) cells.links → ((named && is_some port.vl) && is_none link) ≡ is_misfit NoLink cells port
 misfit_vl cells port named link at is = rw (at, any_found (is_row_of port) cells.links, ← is) (grind arith)
 
 -- the test of a port with a link

@@ -36,11 +36,12 @@ pub use Rattle.toml.specs.Data.{Data, Members, as_table, get_member}
 pub use Rattle.toml.specs.View.{items_view, members_view, table_view, view}
 pub use Rattle.toml.specs.declared.value.Value.{Value}
 pub use Rattle.afdx_plan.specs.Config.{Plan}
-pub use Rattle.afdx_plan.specs.PlanFaults.{are_one_address, are_one_destination, fault_number, has_pair, is_no_count, is_sampling}
-pub use Rattle.afdx_plan.specs.PlanFaults.{plan_faults, plan_shows}
+pub use Rattle.afdx_plan.specs.PlanFaults.{are_one_address, are_one_destination, both, breaks, fault_number, has_pair, is_packed, is_row_of, is_sampling}
+pub use Rattle.afdx_plan.specs.PlanFaults.{link_count, link_whole, links_clash, on_sub_of, parts_of, plan_rules, plan_shows, PlanRule, port_count, port_misfits}
+pub use Rattle.afdx_plan.specs.PlanFaults.{port_whole, ports_clash, rule, Rule, same_flow, same_link, same_port, share_unicast, sub_is_packed}
+pub use Rattle.afdx_plan.specs.declared.rows.Misfit.TheVariants.{NoLink, NoSub, TooLong}
 pub use Rattle.afdx_plan.specs.declared.fault.ConfigFault.{ConfigFault}
-pub use Rattle.afdx_plan.specs.declared.fault.ConfigFault.TheVariants.{DuplicatePort, DuplicateVl, Limit, Memory, MissingKey, NoSuchSub, NoSuchVl}
-pub use Rattle.afdx_plan.specs.declared.fault.ConfigFault.TheVariants.{SameFlow, SamplingTooLong, SharedUnicast, Toml, UnknownKey}
+pub use Rattle.afdx_plan.specs.declared.fault.ConfigFault.TheVariants.{Limit, Memory, MissingKey, Toml, UnknownKey}
 pub use Rattle.afdx_plan.specs.declared.link_plan.LinkPlan.{LinkPlan}
 pub use Rattle.afdx_plan.specs.declared.port_plan.PortPlan.{PortPlan}
 pub use Rattle.afdx_config.specs.Entries.{member_keys, number_at, tables_among}
@@ -48,8 +49,7 @@ pub use Rattle.afdx_config.specs.Explained.{column_after}
 pub use Rattle.afdx_config.specs.Faults.{HasFault, IsLeastFault, IsPlanOf, Reads, shows, values_show}
 pub use Rattle.afdx_config.specs.FindingLaws.{FaultsAreFound, FirstIsAnswered, PlacesHaveFaults, RulesAgree, breaks_at, fields_at, has_place, members_at, key_has, row_has, rows_have, tells, value_has}
 pub use Rattle.afdx_config.specs.Cells.{Cells, cells_of}
-pub use Rattle.afdx_config.specs.CellFaults.{all_named, both, cells_show, is_long, is_packed, is_row_of, is_wrong_count, lacks_link, lacks_sub, on_sub_of}
-pub use Rattle.afdx_config.specs.CellFaults.{PlanRule, Rule, breaks, count_is_wrong, links_clash, misfits, port_misfits, ports_clash, rule, plan_rules, same_flow, same_link, same_port, share_unicast, sub_is_packed}
+pub use Rattle.afdx_config.specs.CellFaults.{all_named, cells_show, is_misfit, sides}
 pub use Rattle.afdx_config.specs.Findings.{Finding, crowd_finding, each_row, findings, found, has, is_past_limit}
 pub use Rattle.afdx_config.specs.Findings.{key_finding, misfit_finding, one_if, pair_finding, pair_findings, row_like, rule_findings}
 pub use Rattle.afdx_config.specs.Findings.{table_findings}
@@ -61,8 +61,8 @@ pub use Rattle.afdx_config.specs.Seen.{Adds, cells_in, finding_of}
 pub use Rattle.afdx_config.specs.Tables.{content_fault, fault_in, fault_under, field_fault, has_other_item, is_fault, is_key_of, is_version_2, key_fault, rows_at, section_at}
 pub use Rattle.afdx_config.specs.Views.{IsDocument, IsSoundTable, data_of, field_of, plan_in}
 pub use Rattle.afdx_config.specs.declared.document.Document.{Document}
-pub use Rattle.afdx_config.specs.declared.rows.LinkRow.{LinkRow}
-pub use Rattle.afdx_config.specs.declared.rows.PortRow.{PortRow}
+pub use Rattle.afdx_plan.specs.declared.rows.LinkRow.{LinkRow}
+pub use Rattle.afdx_plan.specs.declared.rows.PortRow.{PortRow}
 pub use Rattle.afdx_config.specs.declared.findings.Place.{Place}
 pub use Rattle.afdx_config.specs.declared.findings.Place.TheVariants.{EndSystem, Link, Port, Top}
 pub use Rattle.afdx_config.specs.declared.format.Content.{Content}

@@ -4,7 +4,7 @@ use Rattle.afdx_config.proofs.Names.{true, false, ◌||◌, ◌&&◌, not, Optio
 use Rattle.afdx_config.proofs.Names.{arith, lit≤, bytes_eq, slice_get, position, list_any, flat_map}
 use Rattle.afdx_config.proofs.Names.{AllByRecursion, option_map_or, or-true, All-from_recursion}
 use Rattle.afdx_config.proofs.Names.{position-Some, slice_get-get_or, bytes_eq-Decides, eq-eqb, then_some, Members}
-use Rattle.afdx_config.proofs.Names.{ConfigFault, UnknownKey, Place, Top, option_map, is_row_of, PlanRule, Rule, links_clash, ports_clash, port_misfits, count_is_wrong, sub_is_packed, breaks_at, tells, plan_rules, rule, rule_findings, is_past_limit}
+use Rattle.afdx_config.proofs.Names.{ConfigFault, UnknownKey, Place, Top, option_map, is_row_of, PlanRule, Rule, links_clash, ports_clash, port_misfits, link_count, port_count, sub_is_packed, breaks, sides, is_misfit, breaks_at, tells, plan_rules, rule, rule_findings, is_past_limit}
 use Rattle.afdx_config.proofs.Names.{EndSystem, Link, Port, Finding, found, one_if, key_finding, each_row}
 use Rattle.afdx_config.proofs.Names.{member_keys, pair_finding, pair_findings, misfit_finding, crowd_finding}
 use Rattle.afdx_config.proofs.Names.{Cells, cells_of, findings, row_has, rows_have}
@@ -169,9 +169,10 @@ rule_fine : (cells : Cells) (f : ConfigFault) (key : List ℕ) (by : Rule)
 rule_fine cells f key (links_clash clash) = pair_fine cells (rule f key (links_clash clash)) Link clash cells.links (λ k j is. is)
 rule_fine cells f key (ports_clash clash) = pair_fine cells (rule f key (ports_clash clash)) Port clash cells.ports (λ k j is. is)
 rule_fine cells f key (port_misfits misfits) = all_rows (Broken cells (rule f key (port_misfits misfits))) (misfit_finding f key misfits cells) cells.ports
-    (λ k p some is. r_one _ (misfits cells p) _ (λ bad.
-    broken_at cells (rule f key (port_misfits misfits)) (Port k) (option_map (λ i. i + 1) (position (is_row_of p) cells.links)) (row_passes (misfits cells) cells.ports k p is bad)))
-rule_fine cells f key (count_is_wrong is_wrong) = r_one _ (is_wrong cells) _ (λ bad. broken_at cells (rule f key (count_is_wrong is_wrong)) Top None bad)
+    (λ k p some is. r_one _ (is_misfit misfits cells p) _ (λ bad.
+    broken_at cells (rule f key (port_misfits misfits)) (Port k) (option_map (λ i. i + 1) (position (is_row_of p) cells.links)) (row_passes (is_misfit misfits cells) cells.ports k p is bad)))
+rule_fine cells f key link_count = r_one _ (breaks (sides cells) link_count) _ (λ bad. broken_at cells (rule f key link_count) Top None bad)
+rule_fine cells f key port_count = r_one _ (breaks (sides cells) port_count) _ (λ bad. broken_at cells (rule f key port_count) Top None bad)
 rule_fine cells f key sub_is_packed = all_rows (Broken cells (rule f key sub_is_packed)) (crowd_finding f key cells.ports) cells.ports
     (λ k p some is. r_one _ (is_past_limit cells.ports k p) _ (λ bad.
     broken_at cells (rule f key sub_is_packed) (Port k) None (row_passes (is_past_limit cells.ports k) cells.ports k p is bad)))

@@ -1,39 +1,23 @@
 -- A document whose values have no fault has the faults of its plan.
 use Rattle.std.proofs.Math.Path.{fun_ext}
-use Rattle.afdx_config.proofs.Names.{◌≡◌, List, [], ◌∷◌, ◌||◌, Bool, true, false, map, length, length-map, find, Some, None, refl, ap, sym, ◌∙◌}
+use Rattle.afdx_config.proofs.Names.{◌≡◌, List, [], ◌∷◌, ◌||◌, Bool, true, false, map, length-map, find, Some, None, refl, ap, sym, ◌∙◌}
 use Rattle.afdx_config.proofs.Names.{AllByRecursion, list_any, has_pair, Members, ConfigFault, LinkPlan, PortPlan, LinkRow, PortRow, Plan, Cells}
-use Rattle.afdx_config.proofs.Names.{cells_of, cells_show, plan_of, DuplicateVl, DuplicatePort, NoSuchVl, NoSuchSub, SamplingTooLong, SameFlow}
-use Rattle.afdx_config.proofs.Names.{SharedUnicast, Limit, same_link, same_port, same_flow, share_unicast, lacks_link, lacks_sub, is_long, is_packed}
+use Rattle.afdx_config.proofs.Names.{cells_of, cells_show, plan_of, option_map, ◌==◌, Rule, PlanRule, links_clash, ports_clash, port_misfits, link_count, port_count, sub_is_packed, breaks, sides, parts_of, NoLink, NoSub, TooLong, link_whole, port_whole}
+use Rattle.afdx_config.proofs.Names.{is_misfit, is_packed, plan_rules}
+use Rattle.std.proofs.lemmas.Bool.{or_parts}
 use Rattle.afdx_config.proofs.Names.{is_row_of, on_sub_of, Top, Link, Port, document_fields, link_fields, port_fields, fields_in, is_version_2}
 use Rattle.afdx_config.proofs.Names.{IsSoundTable, plan_shows, is_sampling, nat_lt, nat_le, option_map_or, ◌&&◌, is_none}
-use Rattle.afdx_config.proofs.Names.{plan_faults, or-false, arith, cond, ◌+◌, both, ◌-◌, RulesAgree, is_no_count}
+use Rattle.afdx_config.proofs.Names.{cond, ◌+◌, both, ◌-◌, RulesAgree}
 use Rattle.afdx_config.specs.Cells.{link_row, port_row}
 use Rattle.afdx_config.specs.PlanOf.{link_of, port_of}
 use Rattle.afdx_config.specs.Findings.{value_findings}
 use Rattle.afdx_config.proofs.SectionLemmas.{list_any_map, find_map, option_maps}
 use Rattle.std.proofs.lemmas.List.Folds.{fold-map}
-use Rattle.afdx_plan.specs.PlanFaults.{is_link_of, least_plan_fault}
+use Rattle.afdx_plan.specs.PlanFaults.{least_plan_fault}
 use Rattle.afdx_config.proofs.FirstLemmas.{no_value}
 use Rattle.afdx_config.proofs.ShownLemmas.{any_no, faults_are_found}
 use Rattle.afdx_config.proofs.Names.{Finding, eq-eqb, fault_number, findings, has}
 use Rattle.afdx_config.proofs.SoundLemmas.{none, table_sound, rows_sound}
-
--- the values of a link and of a port that have no fault
-abbrev link_whole : LinkPlan → LinkRow
-link_whole link = record { id = Some link.id.0; lmax = Some link.lmax; sub_vls = Some link.sub_vls }
-
-abbrev port_whole : PortPlan → PortRow
-port_whole port = record {
-  id = Some port.id.0;
-  vl = Some port.vl.0;
-  sub = Some port.sub;
-  partition = Some port.partition;
-  kind = Some port.kind;
-  source = Some port.source;
-  destination = Some port.destination;
-  max = Some port.max;
-  unicast = Some port.unicast;
-}
 
 abbrev whole : Plan → Cells
 whole plan = record { links = map link_whole plan.links; ports = map port_whole plan.ports; has_links = true; has_ports = true }
@@ -75,36 +59,33 @@ pair_map r f (x ∷ xs) = rw (list_any_map (r (f x)) f xs, pair_map r f xs) refl
 -- the search for a port's link
 at_link : (g : LinkRow → Bool) (p : PortPlan) (links : List LinkPlan)
     → option_map_or g (find (is_row_of (port_whole p)) (map link_whole links)) false
-    ≡ option_map_or (λ l. g (link_whole l)) (find (is_link_of p) links) false
+    ≡ option_map_or (λ l. g (link_whole l)) (find (λ l. is_row_of (port_whole p) (link_whole l)) links) false
 at_link g p links = ap (λ o. option_map_or g o false) (find_map (is_row_of (port_whole p)) link_whole links)
-    ∙ option_maps g link_whole (find (is_link_of p) links) false
+    ∙ option_maps g link_whole (find (λ l. is_row_of (port_whole p) (link_whole l)) links) false
 
 any_whole : (test : PortRow → Bool) (of_plan : PortPlan → Bool) (ports : List PortPlan) → ((p : PortPlan) → test (port_whole p) ≡ of_plan p)
     → list_any test (map port_whole ports) ≡ list_any of_plan ports
 any_whole test of_plan ports same = list_any_map test port_whole ports ∙ ap (λ t. list_any t ports) (fun_ext same)
 
-in_three : (a b c : Bool) → (a || (b || (c || false))) ≡ (a || b || c)
-in_three a b c = grind arith
-
--- values without faults have the faults of their plan
-whole_shows : (plan : Plan) (fault : ConfigFault) → cells_show fault (whole plan) ≡ plan_shows fault plan
-whole_shows plan DuplicateVl = or-false _ ∙ pair_map same_link link_whole plan.links
-whole_shows plan DuplicatePort = or-false _ ∙ pair_map same_port port_whole plan.ports
-whole_shows plan NoSuchVl = or-false _ ∙ any_whole (lacks_link (whole plan)) _ plan.ports
+-- values without faults break the rules that their plan breaks
+breaks_whole : (plan : Plan) (r : Rule) → breaks (sides (whole plan)) r ≡ breaks (parts_of plan.links plan.ports) r
+breaks_whole plan (links_clash clash) = pair_map clash link_whole plan.links
+breaks_whole plan (ports_clash clash) = pair_map clash port_whole plan.ports
+breaks_whole plan (port_misfits NoLink) = any_whole (is_misfit NoLink (whole plan)) _ plan.ports
     (λ p. rw (list_any_map (λ (link : LinkRow). is_none link.id) link_whole plan.links, any_no plan.links, list_any_map (is_row_of (port_whole p)) link_whole plan.links) refl)
-whole_shows plan NoSuchSub = or-false _ ∙ any_whole (lacks_sub (whole plan)) _ plan.ports
+breaks_whole plan (port_misfits NoSub) = any_whole (is_misfit NoSub (whole plan)) _ plan.ports
     (λ p. at_link (λ link. both nat_le link.sub_vls (Some p.sub)) p plan.links)
-whole_shows plan SamplingTooLong = or-false _ ∙ any_whole (is_long (whole plan)) _ plan.ports
+breaks_whole plan (port_misfits TooLong) = any_whole (is_misfit TooLong (whole plan)) _ plan.ports
     (λ p. ap (λ b. is_sampling p.kind && b)
     (at_link (λ link. both (λ lmax most. nat_lt (lmax - 47) most) link.lmax (Some p.max)) p plan.links))
-whole_shows plan SameFlow = or-false _ ∙ pair_map same_flow port_whole plan.ports
-whole_shows plan SharedUnicast = or-false _ ∙ pair_map share_unicast port_whole plan.ports
-whole_shows plan Limit = rw (length-map plan.links link_whole, length-map plan.ports port_whole) (in_three (is_no_count 64 (length plan.links))
-    (is_no_count 256 (length plan.ports)) (list_any (is_packed (map port_whole plan.ports)) (map port_whole plan.ports)) ∙ ap
-    (λ b. is_no_count 64 (length plan.links) || is_no_count 256 (length plan.ports) || b)
-    (any_whole (is_packed (map port_whole plan.ports)) _ plan.ports
-    (λ p. ap (nat_lt 64) (fold-map (λ n q. n + cond (on_sub_of (port_whole p) q) 1 0) port_whole 0 plan.ports))))
-whole_shows plan _ = refl
+breaks_whole plan link_count = rw (length-map plan.links link_whole) refl
+breaks_whole plan port_count = rw (length-map plan.ports port_whole) refl
+breaks_whole plan sub_is_packed = any_whole (is_packed (λ (p : PortRow). p) (map port_whole plan.ports)) _ plan.ports
+    (λ p. ap (nat_lt 64) (fold-map (λ n q. n + cond (on_sub_of (port_whole p) q) 1 0) port_whole 0 plan.ports))
+
+whole_shows : (plan : Plan) (fault : ConfigFault) → cells_show fault (whole plan) ≡ plan_shows fault plan
+whole_shows plan fault = ap (λ t. list_any t plan_rules)
+    (fun_ext (λ (r : PlanRule). ap (λ b. fault_number fault == fault_number r.fault && b) (breaks_whole plan r.forbids)))
 
 -- a list in which no fault is found is empty
 empty : (xs : List Finding) → ((fault : ConfigFault) → list_any (has fault) xs ≡ false) → xs ≡ []
@@ -117,7 +98,17 @@ rules_agree doc free fault =
     ∙ ap (cells_show fault) (cells_are doc (empty (value_findings doc) free))
     ∙ whole_shows (plan_of doc) fault
 
+-- if no fault is shown, no rule is broken
+no_rule : (plan : Plan) (some : List PlanRule)
+    → ((f : ConfigFault) → list_any (λ (r : PlanRule). fault_number f == fault_number r.fault && breaks (parts_of plan.links plan.ports) r.forbids) some ≡ false)
+    → find (λ (r : PlanRule). breaks (parts_of plan.links plan.ports) r.forbids) some ≡ None
+no_rule plan [] lacks = refl
+no_rule plan (r ∷ rest) lacks =
+    let first : breaks (parts_of plan.links plan.ports) r.forbids ≡ false =
+    let number = eq-eqb (fault_number r.fault) (fault_number r.fault) refl in (or_parts _ _ (rw number at (lacks r.fault))).0 in
+    rw first (no_rule plan rest (λ f. (or_parts _ _ (lacks f)).1))
+
 -- the plan of a document without findings is not refused
 pub fine : (doc : Members) (plan : Plan) → findings doc ≡ [] → plan ≡ plan_of doc → least_plan_fault plan.links plan.ports ≡ None
-fine doc plan free is = rw is (ap (λ t. find t plan_faults) (fun_ext (λ f.
+fine doc plan free is = rw is (ap (option_map (λ (r : PlanRule). r.fault)) (no_rule (plan_of doc) plan_rules (λ f.
     sym (rules_agree doc (λ g. ap (list_any (has g)) (no_value doc free)) f) ∙ faults_are_found doc f ∙ ap (list_any (has f)) free)))

@@ -8,7 +8,7 @@ use Rattle.afdx_config.proofs.Names.{Option, Some, None, refl, ap, sym, ◌∙�
 use Rattle.afdx_config.proofs.Names.{◌==◌, and_parts, nat_tests, or-false, and-true, and-false, and-or_distrib_left, nat_lt, list_any-append, position}
 use Rattle.afdx_config.proofs.Names.{position_from, list_any, then_some, position_from-zero, AllByRecursion, not}
 use Rattle.afdx_config.proofs.Names.{Data, Members, get_member, fault_number, has_pair, ConfigFault, Toml, MissingKey}
-use Rattle.afdx_config.proofs.Names.{UnknownKey, Place, Top, Link, Port, Field, flat_map, PlanRule, Rule, links_clash, ports_clash, port_misfits, count_is_wrong, sub_is_packed, breaks, plan_rules, rules, rule_findings}
+use Rattle.afdx_config.proofs.Names.{UnknownKey, Place, Top, Link, Port, Field, flat_map, PlanRule, Rule, links_clash, ports_clash, port_misfits, link_count, port_count, sub_is_packed, breaks, sides, is_misfit, plan_rules, rules, rule_findings}
 use Rattle.afdx_config.proofs.Names.{shows, values_show, Finding, found, has, one_if, key_finding, member_keys, each_row}
 use Rattle.afdx_config.proofs.Names.{pair_finding, pair_findings, is_past_limit, misfit_finding, crowd_finding}
 use Rattle.afdx_config.proofs.Names.{Cells, cells_of, cells_show, both, on_sub_of, is_packed, PortRow}
@@ -125,19 +125,23 @@ same_known None b is = cc
 same_known (Some a) None is = cc
 same_known (Some a) (Some b) is = ap Some (eqb-true a b is)
 
+-- there are too many ports on the port's sub-VL
+abbrev packed : List PortRow → PortRow → Bool
+packed all = is_packed (λ (p : PortRow). p) all
+
 -- a later port on the same sub-VL has as many ports
 packed_same : (all : List PortRow) (p : PortRow) (rest : List PortRow) → list_any (on_sub_of p) rest ≡ true
-    → is_packed all p ≡ true → list_any (is_packed all) rest ≡ true
-packed_same all p [] follows packed = cc
-packed_same all p (q ∷ rest) follows packed = here (on_sub_of p q) refl follows (packed_same all p rest)
+    → packed all p ≡ true → list_any (packed all) rest ≡ true
+packed_same all p [] follows full = cc
+packed_same all p (q ∷ rest) follows full = here (on_sub_of p q) refl follows (packed_same all p rest)
   where
     here : (b : Bool) → on_sub_of p q ≡ b → (b || list_any (on_sub_of p) rest) ≡ true
-        → (list_any (on_sub_of p) rest ≡ true → is_packed all p ≡ true → list_any (is_packed all) rest ≡ true)
-        → (is_packed all q || list_any (is_packed all) rest) ≡ true
+        → (list_any (on_sub_of p) rest ≡ true → packed all p ≡ true → list_any (packed all) rest ≡ true)
+        → (packed all q || list_any (packed all) rest) ≡ true
     here true on passes more =
         let (vl, sub) = and_parts (both nat_eq q.vl p.vl) (both nat_eq q.sub p.sub) on in
-        let packed_q : is_packed all q ≡ true = rw (same_known q.vl p.vl vl, same_known q.sub p.sub sub) packed in rw packed_q refl
-    here false on passes more = rw (more passes packed) (or-true (is_packed all q))
+        let packed_q : packed all q ≡ true = rw (same_known q.vl p.vl vl, same_known q.sub p.sub sub) full in rw packed_q refl
+    here false on passes more = rw (more passes full) (or-true (packed all q))
 
 -- a port on no known sub-VL
 pub no_sub : (v u a b : Option ℕ) → (both nat_eq v v && both nat_eq u u) ≡ false → (both nat_eq a v && both nat_eq b u) ≡ false
@@ -154,7 +158,7 @@ counts n m t follows later sum none same = grind (arith, nat_tests)
 
 -- the step of one port
 past_step : (all before : List PortRow) (x : PortRow) (xs : List PortRow) (k : ℕ) → all ≡ before ++ x ∷ xs → k ≡ length before + 1
-    → (is_past_limit all k x || list_any (is_packed all) xs) ≡ (is_packed all x || list_any (is_packed all) xs)
+    → (is_past_limit all k x || list_any (packed all) xs) ≡ (packed all x || list_any (packed all) xs)
 past_step all before x xs k is at = here (on_sub_of x x) refl
   where
     front : take (k - 1) all ≡ before
@@ -164,40 +168,41 @@ past_step all before x xs k is at = here (on_sub_of x x) refl
     whole = rw is (sum_by-append (λ y. cond {A = ℕ} (on_sub_of x y) 1 0) before (x ∷ xs)
         ∙ ap (λ n. count_by (on_sub_of x) before + n) (sum_by-cons (λ y. cond {A = ℕ} (on_sub_of x y) 1 0) x xs))
 
-    here : (b : Bool) → on_sub_of x x ≡ b → (is_past_limit all k x || list_any (is_packed all) xs) ≡ (is_packed all x || list_any (is_packed all) xs)
+    here : (b : Bool) → on_sub_of x x ≡ b → (is_past_limit all k x || list_any (packed all) xs) ≡ (packed all x || list_any (packed all) xs)
     here true on =
         let none = none_counted (on_sub_of x) xs in
         let same = packed_same all x xs in
         let sum : count_by (on_sub_of x) all ≡ count_by (on_sub_of x) before + (1 + count_by (on_sub_of x) xs) = rw on at whole in
         rw front (counts (count_by (on_sub_of x) before) (count_by (on_sub_of x) xs) (count_by (on_sub_of x) all)
-        (list_any (on_sub_of x) xs) (list_any (is_packed all) xs) sum none same)
+        (list_any (on_sub_of x) xs) (list_any (packed all) xs) sum none same)
     here false off =
         let no : (rows : List PortRow) → count_by (on_sub_of x) rows ≡ 0 = λ rows. none_on (on_sub_of x) rows (λ y. no_sub x.vl x.sub y.vl y.sub off) in
         rw (no (take (k - 1) all), no all) refl
 
 -- a sub-VL with too many ports has a port that is past the limit
 any_past : (all before rest : List PortRow) (k : ℕ) → all ≡ before ++ rest → k ≡ length before + 1
-    → any_row (is_past_limit all) k rest ≡ list_any (is_packed all) rest
+    → any_row (is_past_limit all) k rest ≡ list_any (packed all) rest
 any_past all before [] k is at = refl
 any_past all before (x ∷ xs) k is at = rw (any_past all (before ++ x ∷ []) xs (k + 1) (is ∙ sym (append_assoc before (x ∷ []) xs))
     (rw (length-append before (x ∷ [])) (omega arith))) (past_step all before x xs k is at)
 
 -- the findings of a rule
 rule_shown : (f g : ConfigFault) (key : List ℕ) (rule : Rule) (cells : Cells)
-    → list_any (has f) (rule_findings g key rule cells) ≡ (same f g && breaks rule cells)
+    → list_any (has f) (rule_findings g key rule cells) ≡ (same f g && breaks (sides cells) rule)
 rule_shown f g key (links_clash clash) cells = pairs_shown f g key Link clash cells.links
 rule_shown f g key (ports_clash clash) cells = pairs_shown f g key Port clash cells.ports
-rule_shown f g key (port_misfits misfits) cells = rows_shown f (misfit_finding g key misfits cells) (λ k p. same f g && misfits cells p) 1 cells.ports
-    (λ k p. one f (misfits cells p) _) ∙ any_if (same f g) (λ k p. misfits cells p) 1 cells.ports
-    ∙ ap (λ b. same f g && b) (any_one (misfits cells) 1 cells.ports)
-rule_shown f g key (count_is_wrong is_wrong) cells = one f (is_wrong cells) (found g Top key None)
+rule_shown f g key (port_misfits misfit) cells = rows_shown f (misfit_finding g key misfit cells) (λ k p. same f g && is_misfit misfit cells p) 1 cells.ports
+    (λ k p. one f (is_misfit misfit cells p) _) ∙ any_if (same f g) (λ k p. is_misfit misfit cells p) 1 cells.ports
+    ∙ ap (λ b. same f g && b) (any_one (is_misfit misfit cells) 1 cells.ports)
+rule_shown f g key link_count cells = one f (breaks (sides cells) link_count) (found g Top key None)
+rule_shown f g key port_count cells = one f (breaks (sides cells) port_count) (found g Top key None)
 rule_shown f g key sub_is_packed cells = rows_shown f (crowd_finding g key cells.ports) (λ k p. same f g && is_past_limit cells.ports k p) 1 cells.ports
     (λ k p. one f (is_past_limit cells.ports k p) (found g (Port k) key None))
     ∙ any_if (same f g) (is_past_limit cells.ports) 1 cells.ports ∙ ap (λ b. same f g && b) (any_past cells.ports [] cells.ports 1 refl refl)
 
 rules_shown : (f : ConfigFault) (cells : Cells) (some : List PlanRule)
     → list_any (has f) (flat_map (λ (r : PlanRule). rule_findings r.fault r.key r.forbids cells) some)
-    ≡ list_any (λ (r : PlanRule). same f r.fault && breaks r.forbids cells) some
+    ≡ list_any (λ (r : PlanRule). same f r.fault && breaks (sides cells) r.forbids) some
 rules_shown f cells [] = refl
 rules_shown f cells (r ∷ rest) = list_any-append (has f) (rule_findings r.fault r.key r.forbids cells) _
     ∙ rw (rule_shown f r.fault r.key r.forbids cells, rules_shown f cells rest) refl
@@ -258,7 +263,7 @@ no_toml doc = rw (none_has Toml (value_findings doc) (r_map (λ x. IsValue x.fau
 
 -- links and ports have only other faults
 low : (f : ConfigFault) (cells : Cells) (some : List PlanRule) → fault_number f < 7 → AllByRecursion (λ r. 7 ≤ fault_number r.fault) some
-    → list_any (λ (r : PlanRule). same f r.fault && breaks r.forbids cells) some ≡ false
+    → list_any (λ (r : PlanRule). same f r.fault && breaks (sides cells) r.forbids) some ≡ false
 low f cells [] small all = refl
 low f cells (r ∷ rest) small all =
     let other : same f r.fault ≡ false = let at = all.0 in grind (arith, nat_tests) in rw other (low f cells rest small all.1)

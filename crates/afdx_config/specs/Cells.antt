@@ -5,8 +5,8 @@ use Rattle.afdx_plan.specs.declared.fault.ConfigFault.{ConfigFault}
 use Rattle.afdx_plan.specs.declared.identifiers.Kind.TheVariants.{Sampling}
 use Rattle.afdx_config.specs.declared.format.Content.TheVariants.{Whole, PortKind, Address, Rows}
 use Rattle.afdx_config.specs.Format.{needed, optional, id_range, lmax_range, max_range, partition_range, sub_range, subs_range, udp_range}
-use Rattle.afdx_config.specs.declared.rows.LinkRow.{LinkRow}
-use Rattle.afdx_config.specs.declared.rows.PortRow.{PortRow}
+use Rattle.afdx_plan.specs.declared.rows.LinkRow.{LinkRow}
+use Rattle.afdx_plan.specs.declared.rows.PortRow.{PortRow}
 use Rattle.afdx_config.specs.Entries.{text_at, number_in}
 use Rattle.afdx_config.specs.Tables.{field_fault, rows_at}
 use Rattle.afdx_config.specs.Values.{kind_of, address_of}

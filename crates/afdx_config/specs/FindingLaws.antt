@@ -3,11 +3,11 @@ use Rattle.std.specs.Prelude.{◌≡◌, ◌∷◌, [], ◌-◌, ℕ, List, code
 use Rattle.std.specs.List.{list_any}
 use Rattle.std.specs.Option.{option_map_or}
 use Rattle.toml.specs.Data.{Members}
-use Rattle.afdx_plan.specs.PlanFaults.{plan_shows}
+use Rattle.afdx_plan.specs.PlanFaults.{plan_shows, PlanRule, Rule, links_clash, ports_clash, port_misfits, link_count, port_count, sub_is_packed, breaks, plan_rules}
 use Rattle.afdx_plan.specs.declared.fault.ConfigFault.{ConfigFault}
 use Rattle.afdx_plan.specs.declared.fault.ConfigFault.TheVariants.{UnknownKey}
 use Rattle.afdx_config.specs.Cells.{Cells, cells_of}
-use Rattle.afdx_config.specs.CellFaults.{PlanRule, Rule, links_clash, ports_clash, port_misfits, count_is_wrong, sub_is_packed, plan_rules}
+use Rattle.afdx_config.specs.CellFaults.{is_misfit, sides}
 use Rattle.afdx_config.specs.declared.findings.Place.{Place}
 use Rattle.afdx_config.specs.declared.findings.Place.TheVariants.{Text, Top, EndSystem, Link, Port}
 use Rattle.afdx_config.specs.Faults.{shows, values_show, Reads, IsLeastFault, IsPlanOf}
@@ -78,8 +78,9 @@ rows_have related rows k (Some j) = nat_lt j k && row_has (λ a. row_has (λ ear
 abbrev pub breaks_at : Rule → Cells → Place → Option ℕ → Bool
 breaks_at (links_clash clash) cells (Link k) other = rows_have clash cells.links k other
 breaks_at (ports_clash clash) cells (Port k) other = rows_have clash cells.ports k other
-breaks_at (port_misfits misfits) cells (Port k) other = row_has (misfits cells) cells.ports k
-breaks_at (count_is_wrong is_wrong) cells Top other = is_wrong cells
+breaks_at (port_misfits misfit) cells (Port k) other = row_has (is_misfit misfit cells) cells.ports k
+breaks_at link_count cells Top other = breaks (sides cells) link_count
+breaks_at port_count cells Top other = breaks (sides cells) port_count
 breaks_at sub_is_packed cells (Port k) other = row_has (is_past_limit cells.ports k) cells.ports k
 breaks_at _ cells _ other = false
 

@@ -3,14 +3,15 @@ use Rattle.std.specs.Prelude.{codes, ℕ, ◌+◌, ◌-◌, List, [], ◌∷◌,
 use Rattle.std.specs.List.{position, flat_map, fold}
 use Rattle.std.specs.Option.{option_map_or}
 use Rattle.toml.specs.Data.{Members}
-use Rattle.afdx_plan.specs.PlanFaults.{fault_number}
+use Rattle.afdx_plan.specs.PlanFaults.{fault_number, is_row_of, on_sub_of, PlanRule, Rule, links_clash, ports_clash, port_misfits, link_count, port_count, sub_is_packed, breaks, plan_rules}
 use Rattle.afdx_plan.specs.declared.fault.ConfigFault.{ConfigFault}
-use Rattle.afdx_config.specs.declared.rows.PortRow.{PortRow}
+use Rattle.afdx_plan.specs.declared.rows.Misfit.{Misfit}
+use Rattle.afdx_plan.specs.declared.rows.PortRow.{PortRow}
 use Rattle.afdx_config.specs.declared.findings.Place.{Place}
 use Rattle.afdx_config.specs.declared.findings.Place.TheVariants.{Top, EndSystem, Link, Port}
 use Rattle.afdx_config.specs.Format.{Field, document_fields, end_fields, link_fields, port_fields, fields_in}
 use Rattle.afdx_config.specs.Cells.{Cells, cells_of}
-use Rattle.afdx_config.specs.CellFaults.{is_row_of, on_sub_of, PlanRule, Rule, links_clash, ports_clash, port_misfits, count_is_wrong, sub_is_packed, plan_rules}
+use Rattle.afdx_config.specs.CellFaults.{is_misfit, sides}
 use Rattle.afdx_config.specs.Entries.{member_keys}
 use Rattle.afdx_config.specs.Tables.{field_fault, key_fault, rows_at, section_at, is_version_2}
 
@@ -77,8 +78,8 @@ pair_findings fault key at clash rows =
     each_row (pair_finding fault key at) 1 (map (λ row. position (λ earlier. clash earlier row) rows) rows)
 
 -- the finding of port k that names the number of its link, if it does not fit that link
-abbrev pub misfit_finding : ConfigFault → List ℕ → (Cells → PortRow → Bool) → Cells → ℕ → PortRow → List Finding
-misfit_finding fault key misfits cells k port = one_if (misfits cells port)
+abbrev pub misfit_finding : ConfigFault → List ℕ → Misfit → Cells → ℕ → PortRow → List Finding
+misfit_finding fault key misfit cells k port = one_if (is_misfit misfit cells port)
     (found fault (Port k) key (option_map (λ i. i + 1) (position (is_row_of port) cells.links)))
 
 -- port k is past the 64th on its sub-VL
@@ -93,8 +94,9 @@ crowd_finding fault key ports k port = one_if (is_past_limit ports k port) (foun
 abbrev pub rule_findings : ConfigFault → List ℕ → Rule → Cells → List Finding
 rule_findings fault key (links_clash clash) cells = pair_findings fault key Link clash cells.links
 rule_findings fault key (ports_clash clash) cells = pair_findings fault key Port clash cells.ports
-rule_findings fault key (port_misfits misfits) cells = each_row (misfit_finding fault key misfits cells) 1 cells.ports
-rule_findings fault key (count_is_wrong is_wrong) cells = one_if (is_wrong cells) (found fault Top key None)
+rule_findings fault key (port_misfits misfit) cells = each_row (misfit_finding fault key misfit cells) 1 cells.ports
+rule_findings fault key link_count cells = one_if (breaks (sides cells) link_count) (found fault Top key None)
+rule_findings fault key port_count cells = one_if (breaks (sides cells) port_count) (found fault Top key None)
 rule_findings fault key sub_is_packed cells = each_row (crowd_finding fault key cells.ports) 1 cells.ports
 
 -- the findings of 7 to 14

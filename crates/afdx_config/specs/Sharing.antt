@@ -4,8 +4,8 @@ use Rattle.std.specs.Cmp.Lexicographic.{slice_cmp}
 use Rattle.std.specs.Option.{option_map_or}
 use Rattle.std.specs.Ordering.{is_eq, nat_cmp, ordering_then}
 use Rattle.std.specs.declared.cmp.Ordering.{Ordering}
-use Rattle.afdx_config.specs.CellFaults.{both}
-use Rattle.afdx_config.specs.declared.rows.PortRow.{PortRow}
+use Rattle.afdx_plan.specs.PlanFaults.{both}
+use Rattle.afdx_plan.specs.declared.rows.PortRow.{PortRow}
 
 -- five values, if there is each
 abbrev pub all_five : {A B C D E : Type 0} → Option A → Option B → Option C → Option D → Option E → Option (A × B × C × D × E)

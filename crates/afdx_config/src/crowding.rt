@@ -8,8 +8,7 @@ ghost use Rattle.afdx_config.specs.Seen.{Adds};
 ghost use Rattle.afdx_config.specs.Sharing.{sub_in, sub_cmp, is_on_sub};
 
 use crate::findings::{Added, Found, Place, add_if};
-use crate::rows::PortRow;
-use afdx_plan::{ConfigFault, SUB_PORTS_LIMIT};
+use afdx_plan::{ConfigFault, PortRow, SUB_PORTS_LIMIT};
 use std::alloc::AllocError;
 use std::collections::BTreeMap;
 

@@ -1,7 +1,7 @@
 //! Tables that clash with an earlier one.
 ghost use Rattle.std.specs.Prelude.{◌≡◌, ◌+◌, ◌^◌, ◌<◌, codes, map, IfOk, OnOk};
 ghost use Rattle.afdx_plan.specs.declared.fault.ConfigFault.{ConfigFault};
-ghost use Rattle.afdx_config.specs.CellFaults.{same_link, same_port, same_flow};
+ghost use Rattle.afdx_plan.specs.PlanFaults.{same_link, same_port, same_flow};
 ghost use Rattle.afdx_config.specs.Findings.{each_row, pair_finding, pair_findings, row_like};
 ghost use Rattle.afdx_config.specs.Keyed.{first_row};
 ghost use Rattle.afdx_config.specs.Seen.{Adds};
@@ -10,8 +10,7 @@ ghost use Rattle.afdx_config.specs.declared.findings.Place.TheVariants.{Link, Po
 
 use crate::findings::{Added, Found, Place, add, row_like};
 use crate::keyed::first_same;
-use crate::rows::{LinkRow, PortRow};
-use afdx_plan::ConfigFault;
+use afdx_plan::{ConfigFault, LinkRow, PortRow};
 use std::alloc::{AllocError, Global};
 
 /// Link, partition, both UDP ports and destination.

@@ -4,8 +4,8 @@ ghost use Rattle.std.specs.BTreeMap.{get};
 ghost use Rattle.std.specs.List.{position, list_any};
 ghost use Rattle.std.specs.Ordering.{nat_cmp};
 ghost use Rattle.std.specs.Option.{option_map_or};
-ghost use Rattle.afdx_plan.specs.PlanFaults.{is_sampling};
-ghost use Rattle.afdx_config.specs.CellFaults.{both, is_row_of, all_named, is_wrong_count, misfits};
+ghost use Rattle.afdx_plan.specs.PlanFaults.{both, is_no_count, is_row_of, is_sampling};
+ghost use Rattle.afdx_config.specs.CellFaults.{all_named, is_misfit};
 ghost use Rattle.afdx_config.specs.Findings.{found as finding_at, each_row, misfit_finding, one_if, plan_findings};
 ghost use Rattle.afdx_config.specs.Keyed.{is_key};
 ghost use Rattle.afdx_config.specs.declared.findings.Place.TheVariants.{Top};
@@ -16,9 +16,9 @@ use crate::crowding::add_crowded;
 use crate::findings::{Added, Found, Place, add_if};
 use crate::keyed::{first_rows, nth_row, row_with};
 use crate::pairs::{add_same_flows, add_same_links, add_same_ports, link_ids};
-use crate::rows::{LinkRow, PortRow, Rows};
+use crate::rows::Rows;
 use crate::sharing::add_sharing;
-use afdx_plan::{ConfigFault, Kind, LINKS_LIMIT, PORTS_LIMIT};
+use afdx_plan::{ConfigFault, Kind, LINKS_LIMIT, LinkRow, Misfit, PORTS_LIMIT, PortRow};
 use std::alloc::{AllocError, Global};
 use std::collections::BTreeMap;
 
@@ -89,14 +89,6 @@ fn number_of(place: Option<usize>) -> Option<usize>
     }
 }
 
-/// How a port does not fit its link.
-#[derive(Clone, Copy)]
-pub(crate) enum Misfit {
-    NoLink,
-    NoSub,
-    TooLong,
-}
-
 /// The port does not fit its link, which is at the index `place`, in this way.
 fn is_misfit(
     misfit: Misfit,
@@ -107,7 +99,7 @@ fn is_misfit(
 ) -> bool
     requires named { is_named ≡ all_named (cells_in rows.now) }
     requires first { place ≡ position (is_row_of port.now) rows.now.links.items }
-    ensures { result ≡ misfits misfit (cells_in rows.now) port.now }
+    ensures { result ≡ is_misfit misfit (cells_in rows.now) port.now }
 {
     let link = link_of(rows.links.as_slice(), port, place);
     match misfit {
@@ -141,7 +133,7 @@ fn add_misfits(
     requires { (q : ℕ) → get nat_cmp by_id.now q
         ≡ position (is_key nat_cmp q) (map (λ l. l.id) rows.now.links.items) }
     ensures { OnOk result (Adds found.old found.new
-        (each_row (misfit_finding fault key.now (misfits misfit) (cells_in rows.now)) 1 rows.now.ports.items)) }
+        (each_row (misfit_finding fault key.now misfit (cells_in rows.now)) 1 rows.now.ports.items)) }
 {
     let links = rows.links.as_slice();
     let is_named = all_named(rows);
@@ -168,7 +160,7 @@ fn links_by_id(alloc: Global, links: &[LinkRow]) -> Result<ById, AllocError>
 /// Adds a finding for a wrong number of tables under a key.
 fn add_count(found: &mut Found, key: &str, has_array: bool, most: usize, count: usize) -> Added
     ensures { OnOk result (Adds found.old found.new
-        (one_if (is_wrong_count has_array most count) (finding_at ConfigFault.Limit Top key.now None))) }
+        (one_if (has_array && is_no_count most count) (finding_at ConfigFault.Limit Top key.now None))) }
 {
     let is_wrong = has_array && (count == 0 || most < count);
     add_if(is_wrong, found, ConfigFault::Limit, Place::Top, key, None)

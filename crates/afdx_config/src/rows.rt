@@ -12,30 +12,8 @@ use crate::format::{
     Content, Field, IDENTIFIER, LMAX, MESSAGE, PARTITION, PORT, Range, SUB_VL, SUB_VLS, UDP_PORT,
 };
 use crate::values::{kind_named, unicast_address};
-use afdx_plan::Kind;
+use afdx_plan::{Kind, LinkRow, PortRow};
 use toml::Table;
-
-/// The values of a link that other tables depend on. A value with a fault is `None`.
-#[derive(Clone, Copy)]
-pub(crate) struct LinkRow {
-    pub id: Option<u16>,
-    pub lmax: Option<u16>,
-    pub sub_vls: Option<u16>,
-}
-
-/// The values of a port that depend on other tables. A value with a fault is `None`.
-#[derive(Clone, Copy)]
-pub(crate) struct PortRow {
-    pub id: Option<u16>,
-    pub vl: Option<u16>,
-    pub sub: Option<u16>,
-    pub partition: Option<u16>,
-    pub kind: Option<Kind>,
-    pub source: Option<u16>,
-    pub destination: Option<u16>,
-    pub max: Option<u16>,
-    pub unicast: Option<Option<[u8; 4]>>,
-}
 
 /// The links and ports of a document, and whether the keys of their arrays have no fault.
 #[derive(Drop)]

@@ -2,7 +2,7 @@
 ghost use Rattle.std.specs.Prelude.{◌≡◌, ℕ, List, codes, map, IfOk, OnOk};
 ghost use Rattle.afdx_plan.specs.declared.fault.ConfigFault.{ConfigFault};
 ghost use Rattle.std.specs.BTreeMap.{get};
-ghost use Rattle.afdx_config.specs.CellFaults.{share_unicast};
+ghost use Rattle.afdx_plan.specs.PlanFaults.{share_unicast};
 ghost use Rattle.afdx_config.specs.Findings.{pair_findings};
 ghost use Rattle.afdx_config.specs.Seen.{Adds};
 ghost use Rattle.afdx_config.specs.declared.findings.Place.TheVariants.{Port};
@@ -10,8 +10,7 @@ ghost use Rattle.afdx_config.specs.Sharing.{address_of, address_cmp, first_at, o
 
 use crate::findings::{Added, Found, Place};
 use crate::pairs::add_pairs;
-use crate::rows::PortRow;
-use afdx_plan::ConfigFault;
+use afdx_plan::{ConfigFault, PortRow};
 use std::alloc::{AllocError, Global};
 use std::collections::BTreeMap;
 

@@ -1,8 +1,9 @@
 -- A plan is valid exactly if it has no fault. Flows of a valid plan are distinct.
 use Rattle.std.proofs.Common.{◌≡◌, ℕ, suc, zero, ◌-◌, ◌<◌, ◌≤◌, inl, inr, ◌⊎◌, Bool, true, false, cond, List, [], ◌∷◌, length, get_or, Option, Some, None, refl, ap, sym, ◌∙◌, arith, eq-eqb, subst, ◌/◌, ◌%◌}
-use Rattle.std.specs.Prelude.{◌&&◌, nat_lt, nat_eq, find, count_by, All, Contains, IfSome}
-use Rattle.std.specs.List.{list_any}
-use Rattle.std.proofs.lemmas.Bool.{or_parts, ltb-false, ne_eqb, false_from_ne_true, cases_Bool, cases_eq, cases_lt, not-false, or_from, le-ltb, not_from_true}
+use Rattle.std.specs.Prelude.{◌&&◌, ◌==◌, option_map, nat_lt, nat_eq, find, count_by, All, Contains, IfSome}
+use Rattle.std.specs.List.{list_any, AllByRecursion}
+use Rattle.std.proofs.Math.Bool.{and-false}
+use Rattle.std.proofs.lemmas.Bool.{or_parts, ltb-false, ne_eqb, false_from_ne_true, cases_Bool, cases_eq, cases_lt, not-false, or_from, le-ltb}
 use Rattle.std.proofs.lemmas.List.{get_or_default}
 use Rattle.std.proofs.lemmas.List.Elements.{All-contains, Contains-get_or}
 use Rattle.std.proofs.lemmas.List.Folds.{list_any_at, list_any_none}
@@ -17,10 +18,38 @@ use Rattle.afdx_plan.specs.declared.port_plan.PortPlan.{PortPlan}
 use Rattle.afdx_plan.specs.Address.{destination_of}
 use Rattle.afdx_plan.specs.Plan.{IsLink, IsPort, IsUnicast}
 use Rattle.afdx_plan.specs.Config.{Plan, IsPlan, HasLink, AreSameFlow, link_plan_at, port_plan_at, ports_on}
-use Rattle.afdx_plan.specs.PlanFaults.{has_pair, has_same_vl, has_same_port, is_link_of, names_no_link, names_no_sub, is_too_long, are_one_destination, has_same_flow, shares_unicast, is_no_count, is_crowded, plan_shows, least_plan_fault}
+use Rattle.afdx_plan.specs.PlanFaults.{fault_number, has_pair, same_link, same_port, is_row_of, misfits, same_flow, share_unicast, are_one_destination, is_no_count, is_packed, plan_shows, least_plan_fault, link_whole, port_whole, PlanRule, plan_rules, breaks, parts_of}
+use Rattle.afdx_plan.specs.declared.rows.Misfit.TheVariants.{NoLink, NoSub, TooLong}
 use Rattle.afdx_plan.specs.declared.fault.ConfigFault.{ConfigFault}
-use Rattle.afdx_plan.specs.declared.fault.ConfigFault.TheVariants.{DuplicateVl, DuplicatePort, NoSuchVl, NoSuchSub, SamplingTooLong, SameFlow, SharedUnicast, Limit}
 use Rattle.afdx_plan.specs.Flows.{FlowsApart}
+
+-- the rules of plans over links and ports of a plan
+abbrev has_same_vl : LinkPlan → LinkPlan → Bool
+has_same_vl a b = same_link (link_whole a) (link_whole b)
+
+abbrev has_same_port : PortPlan → PortPlan → Bool
+has_same_port a b = same_port (port_whole a) (port_whole b)
+
+abbrev has_same_flow : PortPlan → PortPlan → Bool
+has_same_flow a b = same_flow (port_whole a) (port_whole b)
+
+abbrev shares_unicast : PortPlan → PortPlan → Bool
+shares_unicast a b = share_unicast (port_whole a) (port_whole b)
+
+abbrev is_link_of : PortPlan → LinkPlan → Bool
+is_link_of port link = is_row_of (port_whole port) (link_whole link)
+
+abbrev is_crowded : List PortPlan → PortPlan → Bool
+is_crowded ports port = is_packed port_whole ports port
+
+abbrev names_no_link : List LinkPlan → PortPlan → Bool
+names_no_link links port = misfits link_whole true links NoLink (port_whole port)
+
+abbrev names_no_sub : List LinkPlan → PortPlan → Bool
+names_no_sub links port = misfits link_whole true links NoSub (port_whole port)
+
+abbrev is_too_long : List LinkPlan → PortPlan → Bool
+is_too_long links port = misfits link_whole true links TooLong (port_whole port)
 
 -- no element passes a test that none passes
 pub none_at : {X : Type 0} (p : X → Bool) (xs : List X) (k : ℕ) (d : X) → list_any p xs ≡ false → k < length xs
@@ -114,8 +143,8 @@ one_destination : (p q : PortPlan) → IsPort p → IsPort q → AreSameFlow p q
 one_destination p q is_p is_q same = grind (arith, bytes_eq-Decides, which_destination, is_p, is_q)
 
 -- the test of flows finds them equal
-same_flow : (p q : PortPlan) → IsPort p → IsPort q → AreSameFlow p q → has_same_flow p q ≡ true
-same_flow p q is_p is_q same = grind (arith, nat_tests, one_destination p q is_p is_q same)
+one_flow : (p q : PortPlan) → IsPort p → IsPort q → AreSameFlow p q → has_same_flow p q ≡ true
+one_flow p q is_p is_q same = grind (arith, nat_tests, one_destination p q is_p is_q same)
 
 -- related members are one
 related_members : {X : Type 0} (related : X → X → Bool) (xs : List X) (x y : X) → has_pair related xs ≡ false
@@ -177,20 +206,29 @@ few ports vl sub none = elim (cases_lt 64 (ports_on ports vl sub)) [
 counts : (most n : ℕ) → is_no_count most n ≡ false → (1 ≤ n) × (n ≤ most)
 counts most n h = grind (arith, nat_tests)
 
--- if `least_plan_fault` returns none, the plan has no fault
-pub none_shown : (plan : Plan) (fault : ConfigFault) → least_plan_fault plan.links plan.ports ≡ None
-    → plan_shows fault plan ≡ false
-none_shown plan fault none = grind arith
+-- no rule is broken
+abbrev pub Unbroken : Plan → List PlanRule → Type 0
+Unbroken plan some = AllByRecursion (λ r. breaks (parts_of plan.links plan.ports) r.forbids ≡ false) some
+
+-- if the search for a rule that is broken finds none, none is
+none_found : (plan : Plan) (some : List PlanRule)
+    → option_map (λ (r : PlanRule). r.fault) (find (λ (r : PlanRule). breaks (parts_of plan.links plan.ports) r.forbids) some) ≡ None → Unbroken plan some
+none_found plan [] none = tt
+none_found plan (r ∷ rest) none = here (breaks (parts_of plan.links plan.ports) r.forbids) refl none (none_found plan rest)
+  where
+    here : (b : Bool) → breaks (parts_of plan.links plan.ports) r.forbids ≡ b
+        → option_map (λ (r : PlanRule). r.fault) (cond b (Some r) (find (λ (r : PlanRule). breaks (parts_of plan.links plan.ports) r.forbids) rest)) ≡ None
+        → (option_map (λ (r : PlanRule). r.fault) (find (λ (r : PlanRule). breaks (parts_of plan.links plan.ports) r.forbids) rest) ≡ None → Unbroken plan rest)
+        → Unbroken plan (r ∷ rest)
+    here true broken none more = cc
+    here false whole none more = (whole, more none)
 
 -- the plan is valid: fault by fault
 pub valid : (plan : Plan) → plan.end_system < 65536 → All IsLink plan.links → All IsPort plan.ports
     → least_plan_fault plan.links plan.ports ≡ None → IsPlan plan
 valid plan fits_end each_link each_port none =
-    let duplicate_vl = none_shown plan DuplicateVl none in
-    let no_link = none_shown plan NoSuchVl none in
-    let no_sub = none_shown plan NoSuchSub none in
-    let (numbers, crowd) = or_parts _ _ (none_shown plan Limit none) in
-    let (link_count, port_count) = or_parts _ _ numbers in
+    let (duplicate_vl, (duplicate_port, (no_link, (no_sub, (long, (flow, (shared_address, (link_count, (port_count, (crowd, _)))))))))) =
+    none_found plan plan_rules none in
     record {
       end_system = fits_end;
       links = counts 64 (length plan.links) link_count;
@@ -199,19 +237,19 @@ valid plan fits_end each_link each_port none =
       each_port = each_port;
       links_apart = λ i j in_i in_j same. same_vl plan.links i j duplicate_vl in_i in_j same;
       ports_apart = λ i j in_i in_j same. let number = ap (λ (id : PortId). id.0) same in
-          one_place has_same_port plan.ports i j _ (none_shown plan DuplicatePort none) in_i in_j (eq-eqb _ _ number)
+          one_place has_same_port plan.ports i j _ duplicate_port in_i in_j (eq-eqb _ _ number)
           (eq-eqb _ _ (sym number));
       linked = λ k d below. has_link plan.links (get_or plan.ports k d)
           (none_at (names_no_link plan.links) plan.ports k d no_link below)
           (none_at (names_no_sub plan.links) plan.ports k d no_sub below);
       sampling = λ p link in_p in_link kind id. fits plan.links p link duplicate_vl
           (none_of (names_no_link plan.links) plan.ports p no_link in_p)
-          (none_of (is_too_long plan.links) plan.ports p (none_shown plan SamplingTooLong none) in_p) in_link kind id;
+          (none_of (is_too_long plan.links) plan.ports p long in_p) in_link kind id;
       flows_apart = λ p q in_p in_q same.
           let is_p = All-contains IsPort plan.ports p each_port in_p in
           let is_q = All-contains IsPort plan.ports q each_port in_q in
-          related_members has_same_flow plan.ports p q (none_shown plan SameFlow none) in_p in_q
-          (same_flow p q is_p is_q same) (same_flow q p is_q is_p (record {
+          related_members has_same_flow plan.ports p q flow in_p in_q
+          (one_flow p q is_p is_q same) (one_flow q p is_q is_p (record {
             vl = sym same.vl;
             partition = sym same.partition;
             source = sym same.source;
@@ -219,7 +257,7 @@ valid plan fits_end each_link each_port none =
             address = sym same.address;
           }));
       unicasts_apart = λ p q in_p in_q address of_p of_q partition.
-          unicast plan.ports p q address (none_shown plan SharedUnicast none) in_p in_q of_p of_q partition;
+          unicast plan.ports p q address shared_address in_p in_q of_p of_q partition;
       few_ports = λ vl sub. few plan.ports vl sub crowd;
     }
 
@@ -278,37 +316,65 @@ no_share plan p q is in_p in_q shares =
 no_fault_count : (most n : ℕ) → 1 ≤ n → n ≤ most → is_no_count most n ≡ false
 no_fault_count most n least below = grind (arith, nat_tests)
 
--- the law: fault by fault, in the order of their numbers
+-- a valid plan breaks no rule
+unbroken : (plan : Plan) → IsPlan plan → Unbroken plan plan_rules
+unbroken plan is = (
+  no_pair has_same_vl plan.links (link_plan_at [] 0) (λ i j before below.
+      ne_eqb _ _ (λ number.
+      let vl : ℕ → VlId = λ n. record { 0 = n } in
+      let one : i ≡ j = is.links_apart i j (omega arith) below (ap vl number) in omega arith)),
+  (
+    no_pair has_same_port plan.ports (port_plan_at [] 0) (λ i j before below.
+        ne_eqb _ _ (λ number.
+        let port : ℕ → PortId = λ n. record { 0 = n } in
+        let one : i ≡ j = is.ports_apart i j (omega arith) below (ap port number) in omega arith)),
+    (
+      list_any_none (names_no_link plan.links) plan.ports (λ k d below. rw (names_link plan (get_or plan.ports k d) (is.linked k d below)) refl),
+      (
+        list_any_none (names_no_sub plan.links) plan.ports (λ k d below. names_sub plan (get_or plan.ports k d) is (is.linked k d below)),
+        (
+          list_any_none (is_too_long plan.links) plan.ports (λ k d below.
+              let port = get_or plan.ports k d in
+              long_one plan port is (Contains-get_or plan.ports k d below) (is.linked k d below)),
+          (
+            no_pair has_same_flow plan.ports (port_plan_at [] 0) (λ i j before below.
+                false_from_ne_true _ (λ one. apart_ports plan i j is before below
+                (is.flows_apart (port_plan_at plan.ports i) (port_plan_at plan.ports j)
+                (Contains-get_or plan.ports i (port_plan_at [] 0) (omega arith))
+                (Contains-get_or plan.ports j (port_plan_at [] 0) below)
+                (agree (port_plan_at plan.ports i) (port_plan_at plan.ports j) one)))),
+            (
+              no_pair shares_unicast plan.ports (port_plan_at [] 0) (λ i j before below.
+                  false_from_ne_true _ (no_share plan (port_plan_at plan.ports i) (port_plan_at plan.ports j) is
+                  (Contains-get_or plan.ports i (port_plan_at [] 0) (omega arith))
+                  (Contains-get_or plan.ports j (port_plan_at [] 0) below))),
+              (
+                no_fault_count 64 (length plan.links) is.links.0 is.links.1,
+                (
+                  no_fault_count 256 (length plan.ports) is.ports.0 is.ports.1,
+                  (
+                    list_any_none (is_crowded plan.ports) plan.ports (λ k d below.
+                        let port = get_or plan.ports k d in le-ltb 64 (ports_on plan.ports port.vl.0 port.sub) (is.few_ports port.vl.0 port.sub)),
+                    tt,
+                  ),
+                ),
+              ),
+            ),
+          ),
+        ),
+      ),
+    ),
+  ),
+)
+
+-- without a broken rule no fault is shown
+none_shown : (plan : Plan) (fault : ConfigFault) (some : List PlanRule) → Unbroken plan some
+    → list_any (λ (r : PlanRule). fault_number fault == fault_number r.fault && breaks (parts_of plan.links plan.ports) r.forbids) some ≡ false
+none_shown plan fault [] whole = refl
+none_shown plan fault (r ∷ rest) whole = rw (whole.0, and-false (fault_number fault == fault_number r.fault)) (none_shown plan fault rest whole.1)
+
 pub faultless : (plan : Plan) → IsPlan plan → (fault : ConfigFault) → plan_shows fault plan ≡ false
-faultless plan is DuplicateVl = no_pair has_same_vl plan.links (link_plan_at [] 0) (λ i j before below.
-    ne_eqb _ _ (λ number.
-    let vl : ℕ → VlId = λ n. record { 0 = n } in
-    let one : i ≡ j = is.links_apart i j (omega arith) below (ap vl number) in omega arith))
-faultless plan is DuplicatePort = no_pair has_same_port plan.ports (port_plan_at [] 0) (λ i j before below.
-    ne_eqb _ _ (λ number.
-    let port : ℕ → PortId = λ n. record { 0 = n } in
-    let one : i ≡ j = is.ports_apart i j (omega arith) below (ap port number) in omega arith))
-faultless plan is NoSuchVl = grind (arith, list_any_none, names_no_link, not_from_true, names_link, get_or)
-faultless plan is NoSuchSub = grind (arith, list_any_none, names_no_sub, names_sub, get_or)
-faultless plan is SamplingTooLong = list_any_none (is_too_long plan.links) plan.ports (λ k d below.
-    let port = get_or plan.ports k d in
-    long_one plan port is (Contains-get_or plan.ports k d below) (is.linked k d below))
-faultless plan is SameFlow = no_pair has_same_flow plan.ports (port_plan_at [] 0) (λ i j before below.
-    false_from_ne_true _ (λ one. apart_ports plan i j is before below
-    (is.flows_apart (port_plan_at plan.ports i) (port_plan_at plan.ports j)
-    (Contains-get_or plan.ports i (port_plan_at [] 0) (omega arith))
-    (Contains-get_or plan.ports j (port_plan_at [] 0) below)
-    (agree (port_plan_at plan.ports i) (port_plan_at plan.ports j) one))))
-faultless plan is SharedUnicast = no_pair shares_unicast plan.ports (port_plan_at [] 0) (λ i j before below.
-    false_from_ne_true _ (no_share plan (port_plan_at plan.ports i) (port_plan_at plan.ports j) is
-    (Contains-get_or plan.ports i (port_plan_at [] 0) (omega arith))
-    (Contains-get_or plan.ports j (port_plan_at [] 0) below)))
-faultless plan is Limit = or_from _ _
-    (or_from _ _ (no_fault_count 64 (length plan.links) is.links.0 is.links.1)
-    (no_fault_count 256 (length plan.ports) is.ports.0 is.ports.1))
-    (list_any_none (is_crowded plan.ports) plan.ports (λ k d below.
-    let port = get_or plan.ports k d in le-ltb 64 (ports_on plan.ports port.vl.0 port.sub) (is.few_ports port.vl.0 port.sub)))
-faultless plan is _ = refl
+faultless plan is fault = none_shown plan fault plan_rules (unbroken plan is)
 
 -- the law of flows, for a valid plan
 pub apart : (plan : Plan) → IsPlan plan → FlowsApart plan

@@ -1,5 +1,5 @@
 -- The numbers of the faults, and the faults of plans.
-use Rattle.std.specs.Prelude.{◌≡◌, ℕ, ◌-◌, List, [], ◌∷◌, length, Bool, true, false, ◌||◌, ◌&&◌, ◌==◌, not, nat_lt, nat_le, bytes_eq, Option, Some, None, find}
+use Rattle.std.specs.Prelude.{◌≡◌, ℕ, ◌-◌, codes, List, [], ◌∷◌, length, count_by, Bool, true, false, ◌||◌, ◌&&◌, ◌==◌, not, is_some, nat_eq, nat_lt, nat_le, bytes_eq, Option, Some, None, find, option_map}
 use Rattle.std.specs.List.{list_any}
 use Rattle.std.specs.Option.{option_map_or}
 use Rattle.afdx_plan.specs.declared.link_plan.LinkPlan.{LinkPlan}
@@ -8,7 +8,11 @@ use Rattle.afdx_plan.specs.declared.identifiers.Kind.{Kind}
 use Rattle.afdx_plan.specs.declared.identifiers.Kind.TheVariants.{Sampling, Queuing}
 use Rattle.afdx_plan.specs.declared.plan_faults.Clash.{Clash}
 use Rattle.afdx_plan.specs.declared.plan_faults.Clash.TheVariants.{Identifier, Flow, Address}
-use Rattle.afdx_plan.specs.Config.{Plan, IsPlan, ports_on}
+use Rattle.afdx_plan.specs.declared.rows.LinkRow.{LinkRow}
+use Rattle.afdx_plan.specs.declared.rows.PortRow.{PortRow}
+use Rattle.afdx_plan.specs.declared.rows.Misfit.{Misfit}
+use Rattle.afdx_plan.specs.declared.rows.Misfit.TheVariants.{NoLink, NoSub, TooLong}
+use Rattle.afdx_plan.specs.Config.{Plan, IsPlan}
 use Rattle.afdx_plan.specs.declared.fault.ConfigFault.{ConfigFault}
 use Rattle.afdx_plan.specs.declared.fault.ConfigFault.TheVariants.{Toml, MissingKey, UnknownKey, WrongKind, OutOfRange, BadBag, DuplicateVl, DuplicatePort, NoSuchVl, NoSuchSub, SamplingTooLong, SameFlow, SharedUnicast, Limit, Memory}
 
@@ -35,36 +39,19 @@ abbrev pub has_pair : {A : Type 0} → (A → A → Bool) → List A → Bool
 has_pair related [] = false
 has_pair related (x ∷ xs) = list_any (related x) xs || has_pair related xs
 
+-- a value without fault passes a test; two pass one
+abbrev pub both : {A B : Type 0} → (A → B → Bool) → Option A → Option B → Bool
+both test None b = false
+both test (Some a) None = false
+both test (Some a) (Some b) = test a b
+
 -- two links have the same identifier
-abbrev pub has_same_vl : LinkPlan → LinkPlan → Bool
-has_same_vl a b = a.id.0 == b.id.0
+abbrev pub same_link : LinkRow → LinkRow → Bool
+same_link a b = both nat_eq a.id b.id
 
 -- two ports have the same identifier
-abbrev pub has_same_port : PortPlan → PortPlan → Bool
-has_same_port a b = a.id.0 == b.id.0
-
--- the link has the identifier that the port names
-abbrev pub is_link_of : PortPlan → LinkPlan → Bool
-is_link_of port link = link.id.0 == port.vl.0
-
--- the port names a link that does not exist
-abbrev pub names_no_link : List LinkPlan → PortPlan → Bool
-names_no_link links port = not (list_any (is_link_of port) links)
-
--- the port's sub-VL is not below the number of sub-VLs of its link
-abbrev pub names_no_sub : List LinkPlan → PortPlan → Bool
-names_no_sub links port =
-    option_map_or (λ link. nat_le link.sub_vls port.sub) (find (is_link_of port) links) false
-
--- the port is a sampling port
-abbrev pub is_sampling : Kind → Bool
-is_sampling Sampling = true
-is_sampling Queuing = false
-
--- the port is a sampling port, and its greatest message does not fit into one frame of its link
-abbrev pub is_too_long : List LinkPlan → PortPlan → Bool
-is_too_long links port = is_sampling port.kind
-    && option_map_or (λ link. nat_lt (link.lmax - 47) port.max) (find (is_link_of port) links) false
+abbrev pub same_port : PortRow → PortRow → Bool
+same_port a b = both nat_eq a.id b.id
 
 -- both ports have a unicast address, and it is the same
 abbrev pub are_one_address : Option (List ℕ) → Option (List ℕ) → Bool
@@ -79,70 +66,151 @@ are_one_destination None (Some b) = false
 are_one_destination (Some a) other = are_one_address (Some a) other
 
 -- two ports agree in link, partition, both UDP ports and destination
-abbrev pub has_same_flow : PortPlan → PortPlan → Bool
-has_same_flow a b = a.vl.0 == b.vl.0
-    && a.partition == b.partition
-    && a.source == b.source
-    && a.destination == b.destination
-    && are_one_destination a.unicast b.unicast
+abbrev pub same_flow : PortRow → PortRow → Bool
+same_flow a b = both nat_eq a.vl b.vl
+    && both nat_eq a.partition b.partition
+    && both nat_eq a.source b.source
+    && both nat_eq a.destination b.destination
+    && both are_one_destination a.unicast b.unicast
 
 -- two ports on different links agree in partition and unicast address
-abbrev pub shares_unicast : PortPlan → PortPlan → Bool
-shares_unicast a b = not (a.vl.0 == b.vl.0)
-    && a.partition == b.partition
-    && are_one_address a.unicast b.unicast
+abbrev pub share_unicast : PortRow → PortRow → Bool
+share_unicast a b = both (λ x y. not (x == y)) a.vl b.vl
+    && both nat_eq a.partition b.partition
+    && both are_one_address a.unicast b.unicast
 
 -- two ports agree in a value that must differ
-abbrev pub clashes : Clash → PortPlan → PortPlan → Bool
-clashes Identifier = has_same_port
-clashes Flow = has_same_flow
-clashes Address = shares_unicast
+abbrev pub clashes : Clash → PortRow → PortRow → Bool
+clashes Identifier = same_port
+clashes Flow = same_flow
+clashes Address = share_unicast
+
+-- the link has the identifier that the port names
+abbrev pub is_row_of : PortRow → LinkRow → Bool
+is_row_of port link = both nat_eq link.id port.vl
+
+-- the port is a sampling port
+abbrev pub is_sampling : Kind → Bool
+is_sampling Sampling = true
+is_sampling Queuing = false
+
+-- a port does not fit its link, if `of` is the row of a link: there is none and all links are named, its sub-VL is
+-- not below the number of its link's, or it is a sampling port and its greatest message does not fit into a frame
+abbrev pub misfits : {L : Type 0} → (L → LinkRow) → Bool → List L → Misfit → PortRow → Bool
+misfits of named links NoLink port = (named && is_some port.vl) && not (list_any (λ l. is_row_of port (of l)) links)
+misfits of named links NoSub port =
+    option_map_or (λ l. both nat_le (of l).sub_vls port.sub) (find (λ l. is_row_of port (of l)) links) false
+misfits of named links TooLong port = option_map_or is_sampling port.kind false
+    && option_map_or (λ l. both (λ lmax most. nat_lt (lmax - 47) most) (of l).lmax port.max)
+    (find (λ l. is_row_of port (of l)) links) false
+
+-- two ports are on the same sub-VL
+abbrev pub on_sub_of : PortRow → PortRow → Bool
+on_sub_of a b = both nat_eq b.vl a.vl && both nat_eq b.sub a.sub
+
+-- there are too many ports on the port's sub-VL
+abbrev pub is_packed : {P : Type 0} → (P → PortRow) → List P → P → Bool
+is_packed of ports port = nat_lt 64 (count_by (λ other. on_sub_of (of port) (of other)) ports)
 
 -- the count is 0 or more than `most`
 abbrev pub is_no_count : ℕ → ℕ → Bool
 is_no_count most n = n == 0 || nat_lt most n
 
--- there are too many ports on the port's sub-VL
-abbrev pub is_crowded : List PortPlan → PortPlan → Bool
-is_crowded ports port = nat_lt 64 (ports_on ports port.vl.0 port.sub)
+-- what a rule forbids: two links or two ports that clash, a port that does not fit its link, a wrong number of
+-- links or of ports, too many ports on a sub-VL
+pub data Rule : Type 0 where
+  links_clash : (LinkRow → LinkRow → Bool) → Rule
+  ports_clash : (PortRow → PortRow → Bool) → Rule
+  port_misfits : Misfit → Rule
+  link_count : Rule
+  port_count : Rule
+  sub_is_packed : Rule
 
--- the plan exceeds a limit
-abbrev pub is_past_limits : List LinkPlan → List PortPlan → Bool
-is_past_limits links ports = is_no_count 64 (length links)
-    || is_no_count 256 (length ports)
-    || list_any (is_crowded ports) ports
+-- a rule, the fault of breaking it, and the key that its findings name
+pub record PlanRule : Type 0 where
+  pub fault : ConfigFault
+  pub key : List ℕ
+  pub forbids : Rule
+
+abbrev pub rule : ConfigFault → List ℕ → Rule → PlanRule
+rule which name what = record { fault = which; key = name; forbids = what }
+
+-- the rules of links and ports, in the order of the numbers of their faults
+abbrev pub plan_rules : List PlanRule
+plan_rules = rule DuplicateVl (codes "id") (links_clash same_link)
+    ∷ rule DuplicatePort (codes "id") (ports_clash same_port)
+    ∷ rule NoSuchVl (codes "vl") (port_misfits NoLink)
+    ∷ rule NoSuchSub (codes "sub") (port_misfits NoSub)
+    ∷ rule SamplingTooLong (codes "max") (port_misfits TooLong)
+    ∷ rule SameFlow (codes "destination") (ports_clash same_flow)
+    ∷ rule SharedUnicast (codes "dest_ip") (ports_clash share_unicast)
+    ∷ rule Limit (codes "vl") link_count
+    ∷ rule Limit (codes "port") port_count
+    ∷ rule Limit (codes "sub") sub_is_packed
+    ∷ []
+
+-- links and ports, the rows of each, whether all links are named, and whether the two lists have no fault
+pub record Parts (L P : Type 0) : Type 0 where
+  pub links : List L
+  pub ports : List P
+  pub of_link : L → LinkRow
+  pub of_port : P → PortRow
+  pub named : Bool
+  pub has_links : Bool
+  pub has_ports : Bool
+
+-- links and ports break a rule
+abbrev pub breaks : {L P : Type 0} → Parts L P → Rule → Bool
+breaks parts (links_clash clash) = has_pair (λ a b. clash (parts.of_link a) (parts.of_link b)) parts.links
+breaks parts (ports_clash clash) = has_pair (λ a b. clash (parts.of_port a) (parts.of_port b)) parts.ports
+breaks parts (port_misfits misfit) =
+    list_any (λ p. misfits parts.of_link parts.named parts.links misfit (parts.of_port p)) parts.ports
+breaks parts link_count = parts.has_links && is_no_count 64 (length parts.links)
+breaks parts port_count = parts.has_ports && is_no_count 256 (length parts.ports)
+breaks parts sub_is_packed = list_any (is_packed parts.of_port parts.ports) parts.ports
 
 -- links and ports have a fault of 7 to 14
-abbrev pub parts_show : List LinkPlan → List PortPlan → ConfigFault → Bool
-parts_show links ports DuplicateVl = has_pair has_same_vl links
-parts_show links ports DuplicatePort = has_pair has_same_port ports
-parts_show links ports NoSuchVl = list_any (names_no_link links) ports
-parts_show links ports NoSuchSub = list_any (names_no_sub links) ports
-parts_show links ports SamplingTooLong = list_any (is_too_long links) ports
-parts_show links ports SameFlow = has_pair has_same_flow ports
-parts_show links ports SharedUnicast = has_pair shares_unicast ports
-parts_show links ports Limit = is_past_limits links ports
-parts_show links ports _ = false
+abbrev pub parts_show : {L P : Type 0} → Parts L P → ConfigFault → Bool
+parts_show parts fault =
+    list_any (λ (r : PlanRule). fault_number fault == fault_number r.fault && breaks parts r.forbids) plan_rules
+
+-- the values of a link and of a port of a plan
+abbrev pub link_whole : LinkPlan → LinkRow
+link_whole link = record { id = Some link.id.0; lmax = Some link.lmax; sub_vls = Some link.sub_vls }
+
+abbrev pub port_whole : PortPlan → PortRow
+port_whole port = record {
+  id = Some port.id.0;
+  vl = Some port.vl.0;
+  sub = Some port.sub;
+  partition = Some port.partition;
+  kind = Some port.kind;
+  source = Some port.source;
+  destination = Some port.destination;
+  max = Some port.max;
+  unicast = Some port.unicast;
+}
+
+-- the links and ports of a plan: no value has a fault
+abbrev pub parts_of : List LinkPlan → List PortPlan → Parts LinkPlan PortPlan
+parts_of virtual_links senders = record {
+  links = virtual_links;
+  ports = senders;
+  of_link = link_whole;
+  of_port = port_whole;
+  named = true;
+  has_links = true;
+  has_ports = true;
+}
 
 -- a plan has a fault
 abbrev pub plan_shows : ConfigFault → Plan → Bool
-plan_shows fault plan = parts_show plan.links plan.ports fault
-
--- the faults of plans, in the order of their numbers
-abbrev pub plan_faults : List ConfigFault
-plan_faults = DuplicateVl
-    ∷ DuplicatePort
-    ∷ NoSuchVl
-    ∷ NoSuchSub
-    ∷ SamplingTooLong
-    ∷ SameFlow
-    ∷ SharedUnicast
-    ∷ Limit
-    ∷ []
+plan_shows fault plan = parts_show (parts_of plan.links plan.ports) fault
 
 -- the fault of the least number that links and ports have
 abbrev pub least_plan_fault : List LinkPlan → List PortPlan → Option ConfigFault
-least_plan_fault links ports = find (parts_show links ports) plan_faults
+least_plan_fault links ports =
+    option_map (λ (r : PlanRule). r.fault) (find (λ (r : PlanRule). breaks (parts_of links ports) r.forbids) plan_rules)
 
 -- a valid plan has none of the faults of plans
 abbrev pub ValidPlansShowNoFault : Type 0

@@ -14,6 +14,7 @@ mod lmax;
 mod networks;
 mod plan_faults;
 mod port_plan;
+mod rows;
 
 pub use bag::Bag;
 pub use config::Config;
@@ -26,3 +27,4 @@ pub use link_plan::LinkPlan;
 pub use lmax::Lmax;
 pub use networks::Networks;
 pub use port_plan::PortPlan;
+pub use rows::{LinkRow, Misfit, PortRow};

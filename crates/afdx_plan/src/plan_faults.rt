@@ -1,8 +1,9 @@
 //! The faults of plans.
-ghost use Rattle.std.specs.Prelude.{◌≡◌, ◌==◌, ◌&&◌, nat_eq, not, find, option_copied, count_by, ℕ, length};
+ghost use Rattle.std.specs.Prelude.{◌≡◌, ◌==◌, ◌&&◌, nat_eq, not, find, option_copied, count_by, true, ℕ, length};
 ghost use Rattle.std.specs.List.{list_any};
 ghost use Rattle.afdx_plan.specs.Config.{ports_on};
-ghost use Rattle.afdx_plan.specs.PlanFaults.{has_pair, has_same_vl, clashes, is_link_of, names_no_link, names_no_sub, is_sampling, is_too_long, are_one_address, are_one_destination, has_same_flow, shares_unicast, is_no_count, is_crowded, is_past_limits, least_plan_fault};
+ghost use Rattle.afdx_plan.specs.PlanFaults.{has_pair, same_link, clashes, is_row_of, misfits, is_sampling, are_one_address, are_one_destination, same_flow, share_unicast, is_no_count, is_packed, least_plan_fault, link_whole, port_whole};
+ghost use Rattle.afdx_plan.specs.declared.rows.Misfit.TheVariants.{NoLink, NoSub, TooLong};
 
 use crate::fault::ConfigFault;
 use crate::identifiers::Kind;
@@ -12,7 +13,7 @@ use crate::port_plan::PortPlan;
 
 /// Two links have the same identifier.
 fn two_links_are_one(links: &[LinkPlan]) -> bool
-    ensures { result ≡ has_pair has_same_vl links.now }
+    ensures { result ≡ has_pair (λ a b. same_link (link_whole a) (link_whole b)) links.now }
 {
     for (i, link) in links.iter().enumerate() {
         if is_again_in(link, &links[i + 1..]) {
@@ -23,40 +24,43 @@ fn two_links_are_one(links: &[LinkPlan]) -> bool
 }
 
 fn is_again_in(link: &LinkPlan, others: &[LinkPlan]) -> bool
-    ensures { result ≡ list_any (has_same_vl link.now) others.now }
+    ensures { result ≡ list_any (λ other. same_link (link_whole link.now) (link_whole other)) others.now }
 {
     others.iter().any(|other| link.id.0 == other.id.0)
 }
 
 /// Some port names a link that does not exist.
 fn some_port_has_no_link(links: &[LinkPlan], ports: &[PortPlan]) -> bool
-    ensures { result ≡ list_any (names_no_link links.now) ports.now }
+    ensures { result
+        ≡ list_any (λ p. misfits link_whole true links.now NoLink (port_whole p)) ports.now }
 {
     ports.iter().any(|port| !has_link(links, port))
 }
 
 fn has_link(links: &[LinkPlan], port: &PortPlan) -> bool
-    ensures { result ≡ list_any (is_link_of port.now) links.now }
+    ensures { result ≡ list_any (λ l. is_row_of (port_whole port.now) (link_whole l)) links.now }
 {
     links.iter().any(|link| link.id.0 == port.vl.0)
 }
 
 /// The link of a port.
 fn link_of<'a>(links: &'a [LinkPlan], port: &PortPlan) -> Option<&'a LinkPlan>
-    ensures { option_copied result ≡ find (is_link_of port.now) links.now }
+    ensures { option_copied result
+        ≡ find (λ l. is_row_of (port_whole port.now) (link_whole l)) links.now }
 {
     links.iter().find(|link| link.id.0 == port.vl.0)
 }
 
 /// Some port names a sub-VL that does not exist.
 fn some_port_has_no_sub(links: &[LinkPlan], ports: &[PortPlan]) -> bool
-    ensures { result ≡ list_any (names_no_sub links.now) ports.now }
+    ensures { result
+        ≡ list_any (λ p. misfits link_whole true links.now NoSub (port_whole p)) ports.now }
 {
     ports.iter().any(|port| has_no_sub(links, port))
 }
 
 fn has_no_sub(links: &[LinkPlan], port: &PortPlan) -> bool
-    ensures { result ≡ names_no_sub links.now port.now }
+    ensures { result ≡ misfits link_whole true links.now NoSub (port_whole port.now) }
 {
     match link_of(links, port) {
         Some(link) => link.sub_vls <= port.sub,
@@ -66,13 +70,14 @@ fn has_no_sub(links: &[LinkPlan], port: &PortPlan) -> bool
 
 /// The greatest message of some sampling port does not fit into one frame.
 fn some_port_is_too_long(links: &[LinkPlan], ports: &[PortPlan]) -> bool
-    ensures { result ≡ list_any (is_too_long links.now) ports.now }
+    ensures { result
+        ≡ list_any (λ p. misfits link_whole true links.now TooLong (port_whole p)) ports.now }
 {
     ports.iter().any(|port| is_too_long(links, port))
 }
 
 fn is_too_long(links: &[LinkPlan], port: &PortPlan) -> bool
-    ensures { result ≡ is_too_long links.now port.now }
+    ensures { result ≡ misfits link_whole true links.now TooLong (port_whole port.now) }
 {
     match port.kind {
         Kind::Queuing => false,
@@ -93,7 +98,7 @@ enum Clash {
 
 /// Two ports agree in this value.
 fn two_ports_clash(clash: Clash, ports: &[PortPlan]) -> bool
-    ensures { result ≡ has_pair (clashes clash) ports.now }
+    ensures { result ≡ has_pair (λ a b. clashes clash (port_whole a) (port_whole b)) ports.now }
 {
     for (i, port) in ports.iter().enumerate() {
         if clashes_with_some(clash, port, &ports[i + 1..]) {
@@ -104,13 +109,14 @@ fn two_ports_clash(clash: Clash, ports: &[PortPlan]) -> bool
 }
 
 fn clashes_with_some(clash: Clash, port: &PortPlan, others: &[PortPlan]) -> bool
-    ensures { result ≡ list_any (clashes clash port.now) others.now }
+    ensures { result
+        ≡ list_any (λ other. clashes clash (port_whole port.now) (port_whole other)) others.now }
 {
     others.iter().any(|other| clashes(clash, port, other))
 }
 
 fn clashes(clash: Clash, a: &PortPlan, b: &PortPlan) -> bool
-    ensures { result ≡ clashes clash a.now b.now }
+    ensures { result ≡ clashes clash (port_whole a.now) (port_whole b.now) }
 {
     match clash {
         Clash::Identifier => a.id.0 == b.id.0,
@@ -121,7 +127,7 @@ fn clashes(clash: Clash, a: &PortPlan, b: &PortPlan) -> bool
 
 /// Two ports agree in link, partition, both UDP ports and destination.
 fn is_same_flow(a: &PortPlan, b: &PortPlan) -> bool
-    ensures { result ≡ has_same_flow a.now b.now }
+    ensures { result ≡ same_flow (port_whole a.now) (port_whole b.now) }
 {
     a.vl.0 == b.vl.0
         && a.partition == b.partition
@@ -142,7 +148,7 @@ fn is_one_destination(a: Option<[u8; 4]>, b: Option<[u8; 4]>) -> bool
 
 /// Two ports on different links agree in partition and unicast address.
 fn shares_address(a: &PortPlan, b: &PortPlan) -> bool
-    ensures { result ≡ shares_unicast a.now b.now }
+    ensures { result ≡ share_unicast (port_whole a.now) (port_whole b.now) }
 {
     a.vl.0 != b.vl.0 && a.partition == b.partition && is_one_address(a.unicast, b.unicast)
 }
@@ -156,16 +162,6 @@ fn is_one_address(a: Option<[u8; 4]>, b: Option<[u8; 4]>) -> bool
     }
 }
 
-/// There are no links or ports, too many of them, or too many ports on a sub-VL.
-fn is_past_limits(links: &[LinkPlan], ports: &[PortPlan]) -> bool
-    ensures { result ≡ is_past_limits links.now ports.now }
-{
-    let in_links = is_no_count(LINKS_LIMIT, links.len());
-    let in_ports = is_no_count(PORTS_LIMIT, ports.len());
-    let in_subs = some_sub_is_crowded(ports);
-    in_links || in_ports || in_subs
-}
-
 fn is_no_count(most: usize, count: usize) -> bool
     ensures { result ≡ is_no_count most count }
 {
@@ -173,13 +169,13 @@ fn is_no_count(most: usize, count: usize) -> bool
 }
 
 fn some_sub_is_crowded(ports: &[PortPlan]) -> bool
-    ensures { result ≡ list_any (is_crowded ports.now) ports.now }
+    ensures { result ≡ list_any (is_packed port_whole ports.now) ports.now }
 {
     ports.iter().any(|port| is_crowded(ports, port))
 }
 
 fn is_crowded(ports: &[PortPlan], port: &PortPlan) -> bool
-    ensures { result ≡ is_crowded ports.now port.now }
+    ensures { result ≡ is_packed port_whole ports.now port.now }
 {
     SUB_PORTS_LIMIT < count_on(ports, port.vl.0, port.sub)
 }
@@ -219,7 +215,10 @@ pub(crate) fn plan_fault(links: &[LinkPlan], ports: &[PortPlan]) -> Option<Confi
     if two_ports_clash(Clash::Address, ports) {
         return Some(ConfigFault::SharedUnicast);
     }
-    if is_past_limits(links, ports) {
+    if is_no_count(LINKS_LIMIT, links.len()) {
+        return Some(ConfigFault::Limit);
+    }
+    if is_no_count(PORTS_LIMIT, ports.len()) || some_sub_is_crowded(ports) {
         return Some(ConfigFault::Limit);
     }
     None

@@ -1,9 +1,9 @@
-use Rattle.afdx_config.proofs.Names.{misfit_finding, misfits, cells_in, ap, get_or}
+use Rattle.afdx_config.proofs.Names.{misfit_finding, cells_in, ap, get_or}
 use Rattle.afdx_config.proofs.AddLemmas.{row_more, no_port}
 use Rattle.afdx_config.proofs.plan_findings.add_misfits.Goals as goal
 
 pub loop-i-preserved : goal.loop-i-preserved
-loop-i-preserved c = row_more (misfit_finding c.args.fault c.args.key.now (misfits c.args.misfit) (cells_in c.args.rows.now)) c.loop-i.i
+loop-i-preserved c = row_more (misfit_finding c.args.fault c.args.key.now c.args.misfit (cells_in c.args.rows.now)) c.loop-i.i
     c.args.rows.now.ports.items _ no_port _ _ _
     (rw c.as_slice-ports.ensures.value at c.loop-i-test.true) (ap (λ xs. get_or xs c.loop-i.i no_port) c.as_slice-ports.ensures.value)
     c.loop-i.invariant (rw (
