@@ -1,6 +1,5 @@
 //! Tables that clash with an earlier one.
-ghost use Rattle.std.specs.Prelude.{◌≡◌, ◌+◌, ◌^◌, ◌<◌, codes, map, IfOk, OnOk};
-ghost use Rattle.afdx_plan.specs.declared.fault.ConfigFault.{ConfigFault};
+ghost use Rattle.std.specs.Prelude.{◌≡◌, ◌+◌, ◌^◌, ◌<◌, map, IfOk, OnOk};
 ghost use Rattle.afdx_plan.specs.PlanFaults.{same_link, same_port, same_flow};
 ghost use Rattle.afdx_config.specs.Findings.{each_row, pair_finding, pair_findings, row_like};
 ghost use Rattle.afdx_config.specs.Keyed.{first_row};
@@ -78,13 +77,16 @@ pub(crate) fn link_ids(alloc: Global, links: &[LinkRow]) -> Result<Vec<Option<u1
 }
 
 /// Adds the links that have the identifier of an earlier one.
-pub(crate) fn add_same_links(found: &mut Found, links: &[LinkRow]) -> Added
-    ensures { OnOk result (Adds found.old found.new
-        (pair_findings ConfigFault.DuplicateVl (codes "id") Link same_link links.now)) }
+pub(crate) fn add_same_links(
+    found: &mut Found,
+    fault: ConfigFault,
+    key: &str,
+    links: &[LinkRow],
+) -> Added
+    ensures { OnOk result (Adds found.old found.new (pair_findings fault key.now Link same_link links.now)) }
 {
     let ids = link_ids(found.alloc(), links)?;
-    let fault = ConfigFault::DuplicateVl;
-    add_keyed(found, fault, "id", Place::Link(0), ids.as_slice())
+    add_keyed(found, fault, key, Place::Link(0), ids.as_slice())
 }
 
 /// The identifiers of ports.
@@ -95,13 +97,16 @@ fn port_ids(alloc: Global, ports: &[PortRow]) -> Result<Vec<Option<u16>>, AllocE
 }
 
 /// Adds the ports that have the identifier of an earlier one.
-pub(crate) fn add_same_ports(found: &mut Found, ports: &[PortRow]) -> Added
-    ensures { OnOk result (Adds found.old found.new
-        (pair_findings ConfigFault.DuplicatePort (codes "id") Port same_port ports.now)) }
+pub(crate) fn add_same_ports(
+    found: &mut Found,
+    fault: ConfigFault,
+    key: &str,
+    ports: &[PortRow],
+) -> Added
+    ensures { OnOk result (Adds found.old found.new (pair_findings fault key.now Port same_port ports.now)) }
 {
     let ids = port_ids(found.alloc(), ports)?;
-    let fault = ConfigFault::DuplicatePort;
-    add_keyed(found, fault, "id", Place::Port(0), ids.as_slice())
+    add_keyed(found, fault, key, Place::Port(0), ids.as_slice())
 }
 
 /// The flow of a port, if its values have no fault.
@@ -130,17 +135,14 @@ fn flows_of(alloc: Global, ports: &[PortRow]) -> Result<Vec<Option<Flow>>, Alloc
 }
 
 /// Adds the ports that have the flow of an earlier one.
-pub(crate) fn add_same_flows(found: &mut Found, ports: &[PortRow]) -> Added
-    ensures { OnOk result (Adds found.old found.new
-        (pair_findings ConfigFault.SameFlow (codes "destination") Port same_flow ports.now)) }
+pub(crate) fn add_same_flows(
+    found: &mut Found,
+    fault: ConfigFault,
+    key: &str,
+    ports: &[PortRow],
+) -> Added
+    ensures { OnOk result (Adds found.old found.new (pair_findings fault key.now Port same_flow ports.now)) }
 {
     let flows = flows_of(found.alloc(), ports)?;
-    let fault = ConfigFault::SameFlow;
-    add_keyed(
-        found,
-        fault,
-        "destination",
-        Place::Port(0),
-        flows.as_slice(),
-    )
+    add_keyed(found, fault, key, Place::Port(0), flows.as_slice())
 }

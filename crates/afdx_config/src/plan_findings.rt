@@ -166,7 +166,7 @@ fn add_count(found: &mut Found, key: &str, has_array: bool, most: usize, count: 
     add_if(is_wrong, found, ConfigFault::Limit, Place::Top, key, None)
 }
 
-/// Adds the findings of links and ports.
+/// Adds the findings of links and ports, rule by rule.
 #[tactic(auto, unfolding(crate::specs::Findings::plan_findings))]
 pub(crate) fn add_plan(found: &mut Found, rows: &Rows) -> Added
     ensures { OnOk result (Adds found.old found.new (plan_findings (cells_in rows.now))) }
@@ -174,16 +174,16 @@ pub(crate) fn add_plan(found: &mut Found, rows: &Rows) -> Added
     let links = rows.links.as_slice();
     let ports = rows.ports.as_slice();
     let by_id = links_by_id(found.alloc(), links)?;
-    add_same_links(found, links)?;
-    add_same_ports(found, ports)?;
+    add_same_links(found, ConfigFault::DuplicateVl, "id", links)?;
+    add_same_ports(found, ConfigFault::DuplicatePort, "id", ports)?;
     let fault = ConfigFault::NoSuchVl;
     add_misfits(found, fault, "vl", Misfit::NoLink, rows, &by_id)?;
     let fault = ConfigFault::NoSuchSub;
     add_misfits(found, fault, "sub", Misfit::NoSub, rows, &by_id)?;
     let fault = ConfigFault::SamplingTooLong;
     add_misfits(found, fault, "max", Misfit::TooLong, rows, &by_id)?;
-    add_same_flows(found, ports)?;
-    add_sharing(found, ports)?;
+    add_same_flows(found, ConfigFault::SameFlow, "destination", ports)?;
+    add_sharing(found, ConfigFault::SharedUnicast, "dest_ip", ports)?;
     add_count(found, "vl", rows.has_links, LINKS_LIMIT, links.len())?;
     add_count(found, "port", rows.has_ports, PORTS_LIMIT, ports.len())?;
     add_crowded(found, ports)

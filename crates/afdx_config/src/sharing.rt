@@ -1,6 +1,5 @@
 //! Ports on different links with the same partition and unicast address.
-ghost use Rattle.std.specs.Prelude.{◌≡◌, ℕ, List, codes, map, IfOk, OnOk};
-ghost use Rattle.afdx_plan.specs.declared.fault.ConfigFault.{ConfigFault};
+ghost use Rattle.std.specs.Prelude.{◌≡◌, ℕ, List, map, IfOk, OnOk};
 ghost use Rattle.std.specs.BTreeMap.{get};
 ghost use Rattle.afdx_plan.specs.PlanFaults.{share_unicast};
 ghost use Rattle.afdx_config.specs.Findings.{pair_findings};
@@ -80,12 +79,15 @@ fn sharing_places(
 }
 
 /// Adds the ports that are on another link than an earlier one with their partition and unicast address.
-pub(crate) fn add_sharing(found: &mut Found, ports: &[PortRow]) -> Added
-    ensures { OnOk result (Adds found.old found.new
-        (pair_findings ConfigFault.SharedUnicast (codes "dest_ip") Port share_unicast ports.now)) }
+pub(crate) fn add_sharing(
+    found: &mut Found,
+    fault: ConfigFault,
+    key: &str,
+    ports: &[PortRow],
+) -> Added
+    ensures { OnOk result (Adds found.old found.new (pair_findings fault key.now Port share_unicast ports.now)) }
 {
     let firsts = first_ports(found.alloc(), ports)?;
     let places = sharing_places(found.alloc(), &firsts, ports)?;
-    let fault = ConfigFault::SharedUnicast;
-    add_pairs(found, fault, "dest_ip", Place::Port(0), places.as_slice())
+    add_pairs(found, fault, key, Place::Port(0), places.as_slice())
 }
