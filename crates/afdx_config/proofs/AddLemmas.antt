@@ -1,7 +1,7 @@
 -- Findings added one after the other.
 use Rattle.std.proofs.lemmas.Grind.{flat_map-append}
 use Rattle.std.proofs.lemmas.List.{take_more, length-take}
-use Rattle.afdx_config.proofs.Names.{◌≡◌, ℕ, ◌+◌, ◌<◌, List, [], ◌∷◌, ◌++◌, length, get_or, refl, ap, sym, ◌∙◌, map, append_assoc, option_map_or}
+use Rattle.afdx_config.proofs.Names.{◌≡◌, ℕ, ◌+◌, ◌<◌, List, [], ◌∷◌, ◌++◌, length, get_or, refl, ap, sym, map, append_assoc, option_map_or}
 use Rattle.afdx_config.proofs.Names.{append-nil, take, arith, Adds, flat_map, flat_map-map, table_view, string_bytes}
 use Rattle.afdx_config.proofs.Names.{keys_of, String, Global, LinkRow, PortRow, Bool, cells_of, Place, Link, Port, Top, EndSystem, Field, Finding, key_finding, each_row}
 use Rattle.afdx_config.proofs.Names.{field_of, IsDocument, Document, data_of, document_fields, end_fields, link_fields}
@@ -12,6 +12,8 @@ use Rattle.afdx_config.proofs.Names.{None}
 use Rattle.afdx_config.specs.Cells.{link_row, port_row}
 use Rattle.afdx_config.specs.Findings.{table_findings, value_findings}
 use Rattle.afdx_config.proofs.SectionLemmas.{Found, keys_are, option_maps}
+use Rattle.std.proofs.lemmas.Grind.{common_steps}
+use Rattle.std.proofs.lemmas.Bool.Decides.{nat_tests}
 
 -- one after the other
 pub adds_both : (old mid new : Kept) (a b : List Finding) → Adds old mid a → Adds mid new b → Adds old new (a ++ b)
@@ -24,8 +26,7 @@ adds_last old new a p = rw (append-nil a) p
 each_row-append : {A : Type 0} (each : ℕ → A → List Finding) (k : ℕ) (xs ys : List A)
     → each_row each k (xs ++ ys) ≡ each_row each k xs ++ each_row each (k + length xs) ys
 each_row-append each k [] ys = let at : k + 0 ≡ k = omega arith in rw at refl
-each_row-append each k (x ∷ xs) ys = let at : k + 1 + length xs ≡ k + length (x ∷ xs) = omega arith in
-    rw (each_row-append each (k + 1) xs ys, at) (sym (append_assoc (each k x) (each_row each (k + 1) xs) (each_row each (k + length (x ∷ xs)) ys)))
+each_row-append each k (x ∷ xs) ys = grind (arith, nat_tests, append_assoc, (each_row-append each (k + 1) xs ys))
 
 -- a port without values
 abbrev pub no_port : PortRow
@@ -53,8 +54,7 @@ row_more each i rows x d old mid new inside here before this =
 -- adding the findings of one element
 pub each_more : {A : Type 0} (each : A → List Finding) (xs : List A) (x : A) (old mid new : Kept) → Adds old mid (flat_map each xs)
     → Adds mid new (each x) → Adds old new (flat_map each (xs ++ x ∷ []))
-each_more each xs x old mid new before this =
-    rw (flat_map-append each xs (x ∷ []), append-nil (each x)) (adds_both old mid new _ _ before this)
+each_more each xs x old mid new before this = grind (arith, nat_tests, common_steps, adds_both, append-nil, flat_map-append)
 
 -- rows of other rows
 pub each_row-map : {A B : Type 0} (each : ℕ → B → List Finding) (f : A → B) (k : ℕ) (rows : List A)
@@ -100,9 +100,4 @@ pub rows_are : (s : Document) (links : List LinkRow) (ports : List PortRow) (ls 
     → ps ≡ s.ports.items → ports ≡ map (λ t. port_row (table_view t.now)) ps
     → has_links ≡ (cells_of (data_of s)).has_links → has_ports ≡ (cells_of (data_of s)).has_ports
     → record { links = links; ports = ports; has_links = has_links; has_ports = has_ports } ≡ cells_of (data_of s)
-rows_are s links ports ls ps has_links has_ports are at_ls at_links at_ps at_ports hl hp =
-    let links_are = at_links ∙ sym (map-map link_row (λ (t : Found). table_view t.now) ls)
-    ∙ ap (λ ts. map link_row (map (λ (t : Found). table_view t.now) ts)) at_ls ∙ ap (map link_row) are.links_are in
-    let ports_are = at_ports ∙ sym (map-map port_row (λ (t : Found). table_view t.now) ps)
-    ∙ ap (λ ts. map port_row (map (λ (t : Found). table_view t.now) ts)) at_ps ∙ ap (map port_row) are.ports_are in
-    rw (links_are, ports_are, hl, hp) refl
+rows_are s links ports ls ps has_links has_ports are at_ls at_links at_ps at_ports hl hp = grind (arith, nat_tests, map-map)

@@ -1,10 +1,10 @@
 -- The first finding has the fault of the least number, and so has the text.
-use Rattle.afdx_config.proofs.Names.{◌≡◌, ◌≢◌, ℕ, ◌<◌, ◌≤◌, List, [], ◌∷◌, ◌++◌, length, take, true, false, Some, None, refl, ap, sym, subst, ◌∙◌, arith, ◌==◌}
+use Rattle.afdx_config.proofs.Names.{◌≡◌, ◌≢◌, ℕ, ◌<◌, ◌≤◌, List, [], ◌∷◌, ◌++◌, length, true, false, Some, None, refl, ap, subst, ◌∙◌, arith}
 use Rattle.afdx_config.proofs.Names.{eq-eqb, list_any, same_Some, Result, Ok, Err, IfOk, IfErr, Members, map, nat_tests}
 use Rattle.afdx_config.proofs.Names.{fault_number, cells_of, ConfigFault, Toml, Memory}
 use Rattle.afdx_config.proofs.Names.{Plan, plan_of, shows, Reads, HasFault, IsLeastFault, IsPlanOf, Finding, finding_of}
 use Rattle.afdx_config.proofs.Names.{findings, has, FirstIsAnswered}
-use Rattle.afdx_config.specs.Findings.{by_fault, lines_limit, number_of, plan_findings, value_findings}
+use Rattle.afdx_config.specs.Findings.{by_fault, number_of, plan_findings, value_findings}
 use Rattle.afdx_config.specs.Seen.{Holds, IsOrdered, fault_of}
 use Rattle.afdx_config.specs.declared.findings.Found.{Found as Kept}
 use Rattle.afdx_config.proofs.OrderLemmas.{are_ordered, first_before, no_finding, r_map}
@@ -14,9 +14,7 @@ use Rattle.afdx_config.proofs.SoundLemmas.{none}
 -- a fault that a document lacks, its text lacks: a text is one document
 hasnt : (f : ConfigFault) (text : List ℕ) (doc : Members) → Reads text doc → shows f doc ≡ false → ¬ HasFault f text
 hasnt Toml text doc reads h = λ k. k doc reads
-hasnt f text doc reads h = λ (d, r, k).
-    let same : d ≡ doc = same_Some d doc (sym r.1 ∙ reads.1) in
-    let now : shows f doc ≡ true = subst (λ (x : Members). shows f x ≡ true) same k in cc
+hasnt f text doc reads h = grind (arith, nat_tests, same_Some)
 
 -- a fault of a document is one of its text
 of_text : (f : ConfigFault) (text : List ℕ) (doc : Members) → Reads text doc → shows f doc ≡ true → HasFault f text
@@ -25,13 +23,7 @@ of_text f text doc reads h = (doc, reads, h)
 
 -- no finding before the first has a lower number
 lower : (f : ConfigFault) (x : Finding) (rest : List Finding) → fault_number f < number_of x → IsOrdered (x ∷ rest) → list_any (has f) (x ∷ rest) ≡ false
-lower f x rest below ordered =
-    let this : (fault_number f == number_of x) ≡ false = grind (arith, nat_tests) in
-    none_has f (x ∷ rest) (
-      this,
-      r_map (λ y. number_of x ≤ number_of y) (λ y. (fault_number f == number_of y) ≡ false) rest
-          (λ y above. grind (arith, nat_tests)) ordered.0,
-    )
+lower f x rest below ordered = grind (arith, nat_tests, none_has, r_map)
 
 -- the fault of the first finding is the least of the text
 least : (text : List ℕ) (doc : Members) (x : Finding) (rest : List Finding) → Reads text doc → findings doc ≡ x ∷ rest → IsLeastFault text x.fault
@@ -67,11 +59,7 @@ answer_err text doc (Err e) reads first = λ other. here (findings doc) refl (fi
 
 -- the first of those that are kept
 first_kept : (found : Kept) (all : List Finding) → Holds found all → fault_of (map finding_of found.first.items) ≡ fault_of (by_fault all)
-first_kept found all holds = rw holds.first_are (here (by_fault all))
-  where
-    here : (ys : List Finding) → fault_of (take lines_limit ys) ≡ fault_of ys
-    here [] = refl
-    here (y ∷ ys) = refl
+first_kept found all holds = grind (arith, nat_tests, fault_of)
 
 pub first_of_all : (doc : Members) (found : Kept) → Holds found (value_findings doc ++ plan_findings (cells_of doc))
     → fault_of (map finding_of found.first.items) ≡ fault_of (findings doc)

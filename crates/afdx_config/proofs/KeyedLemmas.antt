@@ -7,11 +7,7 @@ use Rattle.afdx_config.proofs.SectionLemmas.{any_found}
 -- the first row from the one before i on
 pub first_from : {A : Type 0} (test : A → Bool) (rows : List A) (i : ℕ) (d x : A) → 0 < i → i ≤ length rows → get_or rows (i - 1) d ≡ x
     → position_from test (i - 1) (drop (i - 1) rows) ≡ cond (test x) (Some (i - 1)) (position_from test i (drop i rows))
-first_from test rows i d x some within is =
-    let back : i - 1 + 1 ≡ i = omega arith in
-    let inside : i - 1 < length rows = omega arith in
-    let whole = drop_more rows (i - 1) d inside in
-    rw (whole, is, back) refl
+first_from test rows i d x some within is = grind (arith, nat_tests, drop_more)
 
 -- no row is left past the last one
 pub none_left : {A : Type 0} (test : A → Bool) (rows : List A) → position_from test (length rows) (drop (length rows) rows) ≡ None
@@ -45,9 +41,7 @@ row_is cmp key rows test (Some k) same = position_map (is_key cmp k) key rows �
 pub rows_keyed : {A K : Type 0} (cmp : K → K → Ordering) (key : A → Option K) (clash : A → A → Bool) (rows : List A)
     → ((e r : A) → clash e r ≡ option_map_or (λ k. is_key cmp k (key e)) (key r) false)
     → map (first_row cmp (map key rows)) (map key rows) ≡ map (λ r. position (λ e. clash e r) rows) rows
-rows_keyed cmp key clash rows same = map-map (first_row cmp (map key rows)) key rows
-    ∙ ap (λ f. map f rows) (fun_ext
-    (λ r. row_is cmp key rows (λ e. clash e r) (key r) (λ e. same e r)))
+rows_keyed cmp key clash rows same = grind (arith, nat_tests, first_row, map-map, row_is)
 
 -- two numbers are the same exactly if the order says so
 pub tied : (a b : ℕ) → nat_eq a b ≡ is_eq (nat_cmp a b)

@@ -33,11 +33,7 @@ r_at P (x ∷ xs) (suc i) d inside each = r_at P xs i d (omega arith) each.1
 -- a finding put among others
 r_put : (P : Finding → Type 0) (ys : List Finding) (x : Finding) → AllByRecursion P ys → P x → AllByRecursion P (put ys x)
 r_put P [] x each this = (this, tt)
-r_put P (y ∷ ys) x each this = here (nat_lt (number_of x) (number_of y)) (r_put P ys x each.1 this)
-  where
-    here : (b : Bool) → AllByRecursion P (put ys x) → AllByRecursion P (cond b (x ∷ y ∷ ys) (y ∷ put ys x))
-    here true rest = (this, each)
-    here false rest = (each.0, rest)
+r_put P (y ∷ ys) x each this = grind (arith, nat_tests, (r_put P ys x each.1 this))
 
 put_any : (p : Finding → Bool) (ys : List Finding) (x : Finding) → list_any p (put ys x) ≡ (p x || list_any p ys)
 put_any p [] x = refl
@@ -45,15 +41,7 @@ put_any p (y ∷ ys) x = grind (arith, put_any p ys x)
 
 put_ordered : (ys : List Finding) (x : Finding) → IsOrdered ys → IsOrdered (put ys x)
 put_ordered [] x ordered = (tt, tt)
-put_ordered (y ∷ ys) x ordered = here (nat_lt (number_of x) (number_of y)) refl (put_ordered ys x ordered.1)
-  where
-    here : (b : Bool) → nat_lt (number_of x) (number_of y) ≡ b → IsOrdered (put ys x) → IsOrdered (cond b (x ∷ y ∷ ys) (y ∷ put ys x))
-    here true is rest =
-        let less : number_of x ≤ number_of y = grind (arith, nat_tests) in
-        ((less, r_map (λ z. number_of y ≤ number_of z) (λ z. number_of x ≤ number_of z) ys (λ z more. omega arith) ordered.0), ordered)
-    here false is rest =
-        let more : number_of y ≤ number_of x = grind (arith, nat_tests) in
-        (r_put (λ z. number_of y ≤ number_of z) ys x ordered.0 more, rest)
+put_ordered (y ∷ ys) x ordered = grind (arith, nat_tests, r_map, r_put, (put_ordered ys x ordered.1))
 
 -- the same of all findings, put one after the other
 pub r_fold : (P : Finding → Type 0) (ys xs : List Finding) → AllByRecursion P ys → AllByRecursion P xs → AllByRecursion P (fold put ys xs)
@@ -62,10 +50,7 @@ r_fold P ys (x ∷ xs) before each = r_fold P (put ys x) xs (r_put P ys x before
 
 fold_any : (p : Finding → Bool) (ys xs : List Finding) → list_any p (fold put ys xs) ≡ (list_any p ys || list_any p xs)
 fold_any p ys [] = sym (or-false (list_any p ys))
-fold_any p ys (x ∷ xs) = fold_any p (put ys x) xs ∙ rw (put_any p ys x) (shuffle (p x) (list_any p ys) (list_any p xs))
-  where
-    shuffle : (a b c : Bool) → ((a || b) || c) ≡ (b || (a || c))
-    shuffle a b c = grind arith
+fold_any p ys (x ∷ xs) = grind (arith, nat_tests, put_any, (fold_any p (put ys x) xs))
 
 put_length : (ys : List Finding) (x : Finding) → length (put ys x) ≡ length ys + 1
 put_length [] x = refl
@@ -97,9 +82,7 @@ take_ordered (suc k) (y ∷ ys) ordered = (r_take (λ z. number_of y ≤ number_
 first_stays : (y : Finding) (ys xs : List Finding) → AllByRecursion (λ x. number_of y ≤ number_of x) xs
     → fault_of (fold put (y ∷ ys) xs) ≡ Some y.fault
 first_stays y ys [] each = refl
-first_stays y ys (x ∷ xs) each =
-    let after : nat_lt (number_of x) (number_of y) ≡ false = let above = each.0 in grind (arith, nat_tests) in
-    rw after (first_stays y (put ys x) xs each.1)
+first_stays y ys (x ∷ xs) each = grind (arith, nat_tests, (first_stays y (put ys x) xs each.1))
 
 -- no finding is lost
 pub no_finding : (xs : List Finding) → by_fault xs ≡ [] → xs ≡ []
@@ -130,18 +113,14 @@ take_put (suc k) (y ∷ ys) x = here (nat_lt (number_of x) (number_of y)) (take_
 -- after findings of no greater faults
 put_after : (ys zs : List Finding) (x : Finding) → AllByRecursion (λ y. number_of y ≤ number_of x) ys → put (ys ++ zs) x ≡ ys ++ put zs x
 put_after [] zs x each = refl
-put_after (y ∷ ys) zs x each =
-    let after : nat_lt (number_of x) (number_of y) ≡ false = let below = each.0 in grind (arith, nat_tests) in
-    rw after (ap (λ s. y ∷ s) (put_after ys zs x each.1))
+put_after (y ∷ ys) zs x each = grind (arith, nat_tests, (put_after ys zs x each.1))
 
 -- the findings up to one
 up_to : (ys : List Finding) (i m : ℕ) (d : Finding) → IsOrdered ys → i < length ys → number_of (get_or ys i d) ≤ m
     → AllByRecursion (λ y. number_of y ≤ m) (take (suc i) ys)
 up_to [] i m d ordered inside below = tt
 up_to (y ∷ ys) zero m d ordered inside below = (below, tt)
-up_to (y ∷ ys) (suc i) m d ordered inside below =
-    let least = r_at (λ z. number_of y ≤ number_of z) ys i d (omega arith) ordered.0 in
-    (omega arith, up_to ys i m d ordered.1 (omega arith) below)
+up_to (y ∷ ys) (suc i) m d ordered inside below = grind (arith, nat_tests, r_at, (up_to ys i m d ordered.1 (omega arith) below))
 
 -- a finding goes to the end of those of no greater faults
 pub index_found : (first : List Written) (i : ℕ) (x : Finding) (d : Written) → 0 < i → i ≤ length first → fault_number (get_or first (i - 1) d).fault ≤ number_of x

@@ -1,19 +1,20 @@
 -- The place of each finding has its fault.
 use Rattle.afdx_config.proofs.Names.{◌≡◌, ℕ, suc, ◌+◌, ◌-◌, ◌≤◌, List, [], ◌∷◌, get_or, Bool, nat_lt}
-use Rattle.afdx_config.proofs.Names.{true, false, ◌||◌, ◌&&◌, not, Option, Some, None, refl, ap, ◌∙◌, codes}
+use Rattle.afdx_config.proofs.Names.{true, false, ◌||◌, Option, Some, None, refl, ap, ◌∙◌, codes}
 use Rattle.afdx_config.proofs.Names.{arith, lit≤, bytes_eq, slice_get, position, list_any, flat_map}
 use Rattle.afdx_config.proofs.Names.{AllByRecursion, option_map_or, or-true, All-from_recursion}
-use Rattle.afdx_config.proofs.Names.{position-Some, slice_get-get_or, bytes_eq-Decides, eq-eqb, then_some, Members}
-use Rattle.afdx_config.proofs.Names.{ConfigFault, UnknownKey, Place, Top, option_map, is_row_of, PlanRule, Rule, links_clash, ports_clash, port_misfits, link_count, port_count, sub_is_packed, breaks, sides, is_misfit, breaks_at, tells, plan_rules, rule, rule_findings, is_past_limit}
+use Rattle.afdx_config.proofs.Names.{position-Some, slice_get-get_or, bytes_eq-Decides, eq-eqb, Members}
+use Rattle.afdx_config.proofs.Names.{ConfigFault, Place, Top, option_map, is_row_of, PlanRule, Rule, links_clash, ports_clash, port_misfits, link_count, port_count, sub_is_packed, breaks, sides, is_misfit, breaks_at, tells, plan_rules, rule, rule_findings, is_past_limit}
 use Rattle.afdx_config.proofs.Names.{EndSystem, Link, Port, Finding, found, one_if, key_finding, each_row}
 use Rattle.afdx_config.proofs.Names.{member_keys, pair_finding, pair_findings, misfit_finding, crowd_finding}
 use Rattle.afdx_config.proofs.Names.{Cells, cells_of, findings, row_has, rows_have}
 use Rattle.afdx_config.proofs.Names.{value_has, key_has, has_place, PlacesHaveFaults, Field, document_fields}
 use Rattle.afdx_config.proofs.Names.{end_fields, link_fields, port_fields, fields_in, field_fault, key_fault}
-use Rattle.afdx_config.proofs.Names.{is_fault, is_key_of, is_version_2, rows_at, section_at, members_at, fields_at, fault_number}
+use Rattle.afdx_config.proofs.Names.{is_fault, is_version_2, rows_at, section_at, members_at, fields_at, fault_number}
 use Rattle.afdx_config.proofs.AddLemmas.{each_row-map}
 use Rattle.afdx_config.proofs.OrderLemmas.{r_append, r_fold, r_map}
 use Rattle.afdx_config.specs.Findings.{plan_findings, table_findings, value_findings}
+use Rattle.std.proofs.lemmas.Bool.Decides.{nat_tests}
 
 -- a property of each element of the lists
 pub r_each : {A B : Type 0} (P : B → Type 0) (F : A → List B) (xs : List A) → ((x : A) → AllByRecursion P (F x)) → AllByRecursion P (flat_map F xs)
@@ -101,26 +102,21 @@ fields_fine : (doc : Members) (place : Place) (fields : List Field) (members : M
     → Sub rest fields → AllByRecursion (Fine doc) (flat_map (λ field. key_finding place field.key (field_fault members field)) rest)
 fields_fine doc place fields members [] at sub = tt
 fields_fine doc place fields members (x ∷ rest) at sub =
-    r_append (Fine doc) (key_finding place x.key (field_fault members x)) _
-    (r_key (Fine doc) place x.key (field_fault members x) (λ g is. let it : value_has doc (found g place x.key None) ≡ true =
-    rw (at.0, at.1) (sub (λ field. bytes_eq x.key field.key && is_fault g (field_fault members field))
-    (rw (bytes_same x.key, is, number_is g) refl)) in rw it refl))
-    (fields_fine doc place fields members rest at (sub_next x rest fields sub))
+    grind (arith, nat_tests, bytes_same, number_is, r_append, r_key, sub_next, (fields_fine doc place fields members rest at (sub_next x rest fields sub)))
 
 keys_fine : (doc : Members) (place : Place) (fields : List Field) (members : Members) (rest : List (List ℕ)) → At doc place fields members
     → Sub rest (member_keys members) → AllByRecursion (Fine doc) (flat_map (λ key. key_finding place key (key_fault fields key)) rest)
 keys_fine doc place fields members [] at sub = tt
-keys_fine doc place fields members (x ∷ rest) at sub =
-    r_append (Fine doc) (key_finding place x (key_fault fields x)) _
-    (r_key (Fine doc) place x (key_fault fields x) (λ g is. let (unknown, same) = other (is_key_of fields x) g is in
-    let it : key_has doc (found g place x None) ≡ true =
-    rw (at.0, at.1, unknown, same) (sub (bytes_eq x) (rw (bytes_same x) refl)) in
-    rw (it, or-true (value_has doc (found g place x None))) refl))
-    (keys_fine doc place fields members rest at (sub_next x rest (member_keys members) sub))
-  where
-    other : (b : Bool) (g : ConfigFault) → then_some (not b) UnknownKey ≡ Some g → (is_fault g (Some UnknownKey) ≡ true) × (b ≡ false)
-    other true g is = cc
-    other false g is = let same : UnknownKey ≡ g = cc in rw (← same) (refl, refl)
+keys_fine doc place fields members (x ∷ rest) at sub = grind (
+  arith,
+  nat_tests,
+  bytes_same,
+  or-true,
+  r_append,
+  r_key,
+  sub_next,
+  (keys_fine doc place fields members rest at (sub_next x rest (member_keys members) sub)),
+)
 
 table_fine : (doc : Members) (place : Place) (fields : List Field) (members : Members) → At doc place fields members
     → AllByRecursion (Fine doc) (table_findings place fields members)

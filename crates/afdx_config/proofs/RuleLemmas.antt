@@ -3,11 +3,11 @@ use Rattle.std.proofs.Math.Path.{fun_ext}
 use Rattle.afdx_config.proofs.Names.{◌≡◌, List, [], ◌∷◌, ◌||◌, Bool, true, false, map, length-map, find, Some, None, refl, ap, sym, ◌∙◌}
 use Rattle.afdx_config.proofs.Names.{AllByRecursion, list_any, has_pair, Members, ConfigFault, LinkPlan, PortPlan, LinkRow, PortRow, Plan, Cells}
 use Rattle.afdx_config.proofs.Names.{cells_of, cells_show, plan_of, option_map, ◌==◌, Rule, PlanRule, links_clash, ports_clash, port_misfits, link_count, port_count, sub_is_packed, breaks, sides, parts_of, NoLink, NoSub, TooLong, link_whole, port_whole}
-use Rattle.afdx_config.proofs.Names.{is_misfit, is_packed, plan_rules}
+use Rattle.afdx_config.proofs.Names.{is_misfit, plan_rules}
 use Rattle.std.proofs.lemmas.Bool.{or_parts}
-use Rattle.afdx_config.proofs.Names.{is_row_of, on_sub_of, Top, Link, Port, document_fields, link_fields, port_fields, fields_in, is_version_2}
+use Rattle.afdx_config.proofs.Names.{is_row_of, Top, Link, Port, document_fields, link_fields, port_fields, fields_in, is_version_2}
 use Rattle.afdx_config.proofs.Names.{IsSoundTable, plan_shows, is_sampling, nat_lt, nat_le, option_map_or, ◌&&◌, is_none}
-use Rattle.afdx_config.proofs.Names.{cond, ◌+◌, both, ◌-◌, RulesAgree}
+use Rattle.afdx_config.proofs.Names.{both, ◌-◌, RulesAgree}
 use Rattle.afdx_config.specs.Cells.{link_row, port_row}
 use Rattle.afdx_config.specs.PlanOf.{link_of, port_of}
 use Rattle.afdx_config.specs.Findings.{value_findings}
@@ -18,6 +18,8 @@ use Rattle.afdx_config.proofs.FirstLemmas.{no_value}
 use Rattle.afdx_config.proofs.ShownLemmas.{any_no, faults_are_found}
 use Rattle.afdx_config.proofs.Names.{Finding, eq-eqb, fault_number, findings, has}
 use Rattle.afdx_config.proofs.SoundLemmas.{none, table_sound, rows_sound}
+use Rattle.std.proofs.Common.{arith}
+use Rattle.std.proofs.lemmas.Bool.Decides.{nat_tests}
 
 abbrev whole : Plan → Cells
 whole plan = record { links = map link_whole plan.links; ports = map port_whole plan.ports; has_links = true; has_ports = true }
@@ -60,8 +62,7 @@ pair_map r f (x ∷ xs) = rw (list_any_map (r (f x)) f xs, pair_map r f xs) refl
 at_link : (g : LinkRow → Bool) (p : PortPlan) (links : List LinkPlan)
     → option_map_or g (find (is_row_of (port_whole p)) (map link_whole links)) false
     ≡ option_map_or (λ l. g (link_whole l)) (find (λ l. is_row_of (port_whole p) (link_whole l)) links) false
-at_link g p links = ap (λ o. option_map_or g o false) (find_map (is_row_of (port_whole p)) link_whole links)
-    ∙ option_maps g link_whole (find (λ l. is_row_of (port_whole p) (link_whole l)) links) false
+at_link g p links = grind (arith, nat_tests, find_map, is_row_of, option_maps)
 
 any_whole : (test : PortRow → Bool) (of_plan : PortPlan → Bool) (ports : List PortPlan) → ((p : PortPlan) → test (port_whole p) ≡ of_plan p)
     → list_any test (map port_whole ports) ≡ list_any of_plan ports
@@ -80,8 +81,7 @@ breaks_whole plan (port_misfits TooLong) = any_whole (is_misfit TooLong (whole p
     (at_link (λ link. both (λ lmax most. nat_lt (lmax - 47) most) link.lmax (Some p.max)) p plan.links))
 breaks_whole plan link_count = rw (length-map plan.links link_whole) refl
 breaks_whole plan port_count = rw (length-map plan.ports port_whole) refl
-breaks_whole plan sub_is_packed = any_whole (is_packed (λ (p : PortRow). p) (map port_whole plan.ports)) _ plan.ports
-    (λ p. ap (nat_lt 64) (fold-map (λ n q. n + cond (on_sub_of (port_whole p) q) 1 0) port_whole 0 plan.ports))
+breaks_whole plan sub_is_packed = grind (arith, nat_tests, any_whole, fold-map)
 
 whole_shows : (plan : Plan) (fault : ConfigFault) → cells_show fault (whole plan) ≡ plan_shows fault plan
 whole_shows plan fault = ap (λ t. list_any t plan_rules)

@@ -7,7 +7,7 @@ use Rattle.std.proofs.lemmas.List.Sums.{sum_by-cons}
 use Rattle.std.specs.List.{count_by}
 use Rattle.std.specs.Prelude.{nat_eq}
 use Rattle.afdx_config.specs.declared.format.Field.{Field as Written}
-use Rattle.afdx_config.proofs.Names.{Field, Ordering, Data, bytes_eq-Decides, is_eq-slice_cmp, is_eq, slice_cmp, nat_cmp, get_member, is_key_of, common_steps, true, get_or, ◌<◌, suc, zero, or-true, codes, arith, nat_tests}
+use Rattle.afdx_config.proofs.Names.{Field, Ordering, Data, bytes_eq-Decides, is_eq-slice_cmp, is_eq, slice_cmp, nat_cmp, get_member, is_key_of, common_steps, true, get_or, ◌<◌, suc, zero, or-true, arith, nat_tests}
 use Rattle.afdx_config.specs.Tables.{lacks_all}
 use Rattle.afdx_config.specs.Cells.{port_row}
 use Rattle.afdx_config.specs.Format.{port_fields}
@@ -47,8 +47,7 @@ option_maps g f (Some x) d = refl
 -- the keys of version 1 in the code
 pub first_fields : (is_2 : Bool) (count : ℕ) (fields : List Written) → false ≡ is_2 → count ≡ length fields - 1
     → map field_of (take count fields) ≡ fields_in is_2 (map field_of fields)
-first_fields is_2 count fields not_2 counted =
-    rw (counted, ← take-map field_of (length fields - 1) fields, ← length-map fields field_of, ← not_2) refl
+first_fields is_2 count fields not_2 counted = grind (arith, nat_tests, length-map, take-map)
 
 -- `find` after `map`
 pub find_map : {A B : Type 0} (p : B → Bool) (f : A → B) (xs : List A)
@@ -68,9 +67,7 @@ any_mapped p f xs = list_any_map p f xs ∙ any_found (λ x. p (f x)) xs
 -- no element passes a test exactly if the count of those that pass is 0
 pub none_counted : {A : Type 0} (p : A → Bool) (xs : List A) → not (list_any p xs) ≡ nat_eq (count_by p xs) 0
 none_counted p [] = refl
-none_counted p (x ∷ xs) =
-    let step = sum_by-cons (λ y. cond {A = ℕ} (p y) 1 0) x xs in
-    grind (arith, nat_tests, none_counted p xs, step)
+none_counted p (x ∷ xs) = grind (arith, nat_tests, common_steps, sum_by-cons, (none_counted p xs))
 
 pub none_on : {A : Type 0} (test : A → Bool) (rows : List A) → ((x : A) → test x ≡ false) → count_by test rows ≡ 0
 none_on test [] fails = refl
@@ -114,15 +111,4 @@ pub lacks_port : (es : List (String Global × Value)) → lacks_all port_fields 
     → record { id = None; vl = None; sub = None; partition = None; kind = None; source = None; destination = None; max = None; unicast = Some None }
     ≡ port_row (members_view es)
 unfolding port_row
-lacks_port es lacks = rw (
-  lacks_key port_fields (codes "id") es lacks refl,
-  lacks_key port_fields (codes "vl") es lacks refl,
-  lacks_key port_fields (codes "sub") es lacks refl,
-  lacks_key port_fields (codes "partition") es lacks refl,
-  lacks_key port_fields (codes "kind") es lacks refl,
-  lacks_key port_fields (codes "source") es lacks refl,
-  lacks_key port_fields (codes "destination") es lacks refl,
-  lacks_key port_fields (codes "max") es lacks refl,
-  lacks_key port_fields (codes "dest_ip") es lacks refl,
-)
-    refl
+lacks_port es lacks = grind (arith, nat_tests, lacks_key)

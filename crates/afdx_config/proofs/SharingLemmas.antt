@@ -9,7 +9,8 @@ use Rattle.std.proofs.lemmas.Map.Lookups.{exact_bytes, exact_pairs, exact_unsign
 use Rattle.afdx_config.specs.Sharing.{sub_in, is_on_sub, all_five, address_in, address_of, address_cmp, first_at, off_link, sharing_place}
 use Rattle.afdx_config.proofs.SectionLemmas.{none_on}
 use Rattle.afdx_config.proofs.ShownLemmas.{no_sub}
-use Rattle.afdx_config.proofs.KeyedLemmas.{tied, same_address, position_none}
+use Rattle.afdx_config.proofs.KeyedLemmas.{same_address, position_none}
+use Rattle.std.proofs.lemmas.Bool.Decides.{nat_tests}
 
 -- no key, no match
 keyless : {A : Type 0} (o : Option A) → option_map_or (λ k. false) o false ≡ false
@@ -28,8 +29,7 @@ five : (cmp : Option (List ℕ) → Option (List ℕ) → Ordering) (same : (a b
     (a a' b b' c c' d d' : Option ℕ) (u u' : Option (Option (List ℕ)))
     → (both nat_eq a a' && both nat_eq b b' && both nat_eq c c' && both nat_eq d d' && both are_one_destination u u')
     ≡ option_map_or (λ k. is_key (flow_cmp cmp) k (all_five a b c d u)) (all_five a' b' c' d' u') false
-five cmp same (Some a) (Some a') (Some b) (Some b') (Some c) (Some c') (Some d) (Some d') (Some u) (Some u') =
-    both_tied _ _ _ _ (both_tied _ _ _ _ (both_tied _ _ _ _ (both_tied _ _ _ _ (tied a a') (tied b b')) (tied c c')) (tied d d')) (same u u')
+five cmp same (Some a) (Some a') (Some b) (Some b') (Some c) (Some c') (Some d) (Some d') (Some u) (Some u') = grind (arith, nat_tests, both_tied)
 five cmp same a a' b b' c c' d d' u u' = simp (keyless, and-false) refl
 
 -- two destinations are the same exactly if the order says so
@@ -44,8 +44,7 @@ same_destination (Some a) (Some b) = same_address a b
 
 -- two flows are the same exactly if the order says so
 pub same_flows : (e r : PortRow) → same_flow e r ≡ option_map_or (λ k. is_key (flow_cmp destination_cmp) k (flow_of e)) (flow_of r) false
-same_flows e r = five destination_cmp same_destination e.vl r.vl e.partition r.partition e.source r.source e.destination r.destination
-    e.unicast r.unicast
+same_flows e r = grind (arith, nat_tests, five, same_destination)
 
 -- two ports share an address exactly if they are on different links and the order says so
 abbrev share : Option ((ℕ × List ℕ) × ℕ) → Option ((ℕ × List ℕ) × ℕ) → Bool
@@ -61,9 +60,7 @@ sharing_key : (v w a b : Option ℕ) (u t : Option (Option (List ℕ)))
     → (both (λ x y. not (x == y)) v w && both nat_eq a b && both are_one_address u t) ≡ share (address_in v a u) (address_in w b t)
 sharing_key None w a b u t = refl
 sharing_key (Some v) None a b u t = sym (share_none (address_in (Some v) a u))
-sharing_key (Some v) (Some w) (Some a) (Some b) (Some (Some x)) (Some (Some y)) =
-    let both_are = both_tied _ _ _ _ (tied a b) (same_address x y) in
-    rw (← both_are) (grind arith)
+sharing_key (Some v) (Some w) (Some a) (Some b) (Some (Some x)) (Some (Some y)) = grind (arith, nat_tests, both_tied, same_address)
 sharing_key (Some v) (Some w) (Some a) (Some b) (Some None) (Some t) = simp and-false refl
 sharing_key v w a b u t = simp (share_none, and-false) refl
 
@@ -80,13 +77,7 @@ exact a b is = exact_pairs nat_cmp (slice_cmp nat_cmp) exact_unsigned exact_byte
 next_found : (q a : ℕ × List ℕ) (v w i : ℕ) (place : Option ℕ) (rest : List PortRow) → place ≡ off_link v (first_at q (i + 1) rest)
     → cond (not (w == v) && is_eq (address_cmp a q)) (Some i) place
     ≡ off_link v (cond (is_eq (address_cmp a q)) (Some (i, w, off_link w (first_at a (i + 1) rest))) (first_at q (i + 1) rest))
-next_found q a v w i place rest is = here (is_eq (address_cmp a q)) refl (w == v) refl
-  where
-    here : (b : Bool) → is_eq (address_cmp a q) ≡ b → (c : Bool) → (w == v) ≡ c → cond (not c && b) (Some i) place
-        ≡ off_link v (cond b (Some (i, w, off_link w (first_at a (i + 1) rest))) (first_at q (i + 1) rest))
-    here false differ c at = rw (and-false (not c)) is
-    here true same true at = rw at (rw (exact a q same, eqb-true w v at) is)
-    here true same false at = rw at refl
+next_found q a v w i place rest is = grind (arith, nat_tests, and-false, eqb-true, exact)
 
 found_from : (p : PortRow) (q : ℕ × List ℕ) (v : ℕ) → address_of p ≡ Some (q, v) → (i : ℕ) (ports : List PortRow)
     → position_from (λ e. share_unicast e p) i ports ≡ off_link v (first_at q i ports)
@@ -116,31 +107,18 @@ sharing ports first is = ap (λ f. map f ports) (fun_ext (λ p. here p (address_
 -- the ports before one on its sub-VL
 pub before_is : (ports : List PortRow) (i n : ℕ) (port : PortRow)
     → n ≡ option_map_or (λ q. count_by (is_on_sub q) (take i ports)) (sub_in port.vl port.sub) 0 → n ≡ count_by (on_sub_of port) (take i ports)
-before_is ports i n port is = is ∙ here port.vl port.sub
-  where
-    here : (v u : Option ℕ) → option_map_or (λ q. count_by (is_on_sub q) (take i ports)) (sub_in v u) 0
-        ≡ count_by (λ (q : PortRow). both nat_eq q.vl v && both nat_eq q.sub u) (take i ports)
-    here None u = sym (none_on (λ (q : PortRow). both nat_eq q.vl None && both nat_eq q.sub u) (take i ports) (λ q. no_sub None u q.vl q.sub refl))
-    here (Some v) None = sym (none_on (λ (q : PortRow). both nat_eq q.vl (Some v) && both nat_eq q.sub None) (take i ports) (λ q. no_sub (Some v) None q.vl q.sub (and-false (nat_eq v v))))
-    here (Some v) (Some u) = refl
+before_is ports i n port is = grind (arith, nat_tests, and-false, no_sub, none_on)
 
 -- counting one port more
 pub count_more : (ports : List PortRow) (i : ℕ) (d port : PortRow) (old new : ℕ × ℕ → ℕ) → i < length ports → port ≡ get_or ports i d
     → ((q : ℕ × ℕ) → old q ≡ count_by (is_on_sub q) (take i ports)) → ((q : ℕ × ℕ) → new q ≡ old q + cond (is_on_sub q port) 1 0)
     → (q : ℕ × ℕ) → new q ≡ count_by (is_on_sub q) (take (i + 1) ports)
-count_more ports i d port old new inside is before after q =
-    after q ∙ rw (before q, is) (sym (here (is_on_sub q (get_or ports i d)) refl))
-  where
-    here : (b : Bool) → is_on_sub q (get_or ports i d) ≡ b
-        → count_by (is_on_sub q) (take (i + 1) ports) ≡ count_by (is_on_sub q) (take i ports) + cond {A = ℕ} (is_on_sub q (get_or ports i d)) 1 0
-    here true on = rw on (count_by_more_yes (is_on_sub q) ports i d inside on)
-    here false on = rw on (count_by_more_no (is_on_sub q) ports i d inside on ∙ sym (add-zero (count_by (is_on_sub q) (take i ports))))
+count_more ports i d port old new inside is before after q = grind (arith, nat_tests, add-zero, count_by_more_no, count_by_more_yes)
 
 -- so few fit
 pub count_small : (ports : List PortRow) (i : ℕ) (old : ℕ × ℕ → ℕ) → i < 2 ^ 63
     → ((q : ℕ × ℕ) → old q ≡ count_by (is_on_sub q) (take i ports)) → (q : ℕ × ℕ) → old q < 2 ^ 63
-count_small ports i old small is q = let h = count_by-le-length (is_on_sub q) (take i ports) in
-    let l = length-take i ports in rw (is q) (omega arith)
+count_small ports i old small is q = grind (arith, nat_tests, count_by-le-length, length-take)
 
 -- the finding of a port that was counted
 pub crowd_is : (ports : List PortRow) (i n : ℕ) (port : PortRow) (old : ℕ × ℕ → ℕ) → ((q : ℕ × ℕ) → old q ≡ count_by (is_on_sub q) (take i ports))

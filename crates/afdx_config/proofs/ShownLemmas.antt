@@ -11,7 +11,7 @@ use Rattle.afdx_config.proofs.Names.{Data, Members, get_member, fault_number, ha
 use Rattle.afdx_config.proofs.Names.{UnknownKey, Place, Top, Link, Port, Field, flat_map, PlanRule, Rule, links_clash, ports_clash, port_misfits, link_count, port_count, sub_is_packed, breaks, sides, is_misfit, plan_rules, rules, rule_findings}
 use Rattle.afdx_config.proofs.Names.{shows, values_show, Finding, found, has, one_if, key_finding, member_keys, each_row}
 use Rattle.afdx_config.proofs.Names.{pair_finding, pair_findings, is_past_limit, misfit_finding, crowd_finding}
-use Rattle.afdx_config.proofs.Names.{Cells, cells_of, cells_show, both, on_sub_of, is_packed, PortRow}
+use Rattle.afdx_config.proofs.Names.{Cells, cells_show, both, on_sub_of, is_packed, PortRow}
 use Rattle.afdx_config.proofs.Names.{field_fault, key_fault, is_key_of, fault_in, content_fault, fault_under, Content, IfSome, FaultsAreFound}
 use Rattle.afdx_config.specs.Findings.{plan_findings, table_findings, value_findings}
 use Rattle.afdx_config.proofs.AddLemmas.{each_row-map}
@@ -45,8 +45,7 @@ any_row test k (x ∷ xs) = test k x || any_row test (k + 1) xs
 rows_shown : {A : Type 0} (f : ConfigFault) (each : ℕ → A → List Finding) (test : ℕ → A → Bool) (k : ℕ) (xs : List A)
     → ((j : ℕ) (x : A) → list_any (has f) (each j x) ≡ test j x) → list_any (has f) (each_row each k xs) ≡ any_row test k xs
 rows_shown f each test k [] shown = refl
-rows_shown f each test k (x ∷ xs) shown = list_any-append (has f) (each k x) (each_row each (k + 1) xs)
-    ∙ rw (shown k x, rows_shown f each test (k + 1) xs shown) refl
+rows_shown f each test k (x ∷ xs) shown = grind (arith, nat_tests, list_any-append, (rows_shown f each test (k + 1) xs shown))
 
 -- a common condition
 any_if : {A : Type 0} (a : Bool) (test : ℕ → A → Bool) (k : ℕ) (xs : List A) → any_row (λ j x. a && test j x) k xs ≡ (a && any_row test k xs)
@@ -87,12 +86,7 @@ more_before : {A : Type 0} (related : A → A → Bool) (before : List A) (x : A
     → list_any (λ y. list_any (λ e. related e y) (before ++ x ∷ [])) xs
     ≡ (list_any (λ y. list_any (λ e. related e y) before) xs || list_any (related x) xs)
 more_before related before x [] = refl
-more_before related before x (y ∷ ys) =
-    rw (list_any-append (λ e. related e y) before (x ∷ []), more_before related before x ys)
-    (shuffle (list_any (λ e. related e y) before) (related x y) (list_any (λ z. list_any (λ e. related e z) before) ys) (list_any (related x) ys))
-  where
-    shuffle : (a b c d : Bool) → ((a || (b || false)) || (c || d)) ≡ ((a || c) || (b || d))
-    shuffle a b c d = grind arith
+more_before related before x (y ∷ ys) = grind (arith, nat_tests, list_any-append, (more_before related before x ys))
 
 -- the tests of the rows that clash with an earlier one
 any_pair : {A : Type 0} (related : A → A → Bool) (all before rest : List A) (k : ℕ) → all ≡ before ++ rest → k ≡ length before + 1
@@ -133,15 +127,7 @@ packed all = is_packed (λ (p : PortRow). p) all
 packed_same : (all : List PortRow) (p : PortRow) (rest : List PortRow) → list_any (on_sub_of p) rest ≡ true
     → packed all p ≡ true → list_any (packed all) rest ≡ true
 packed_same all p [] follows full = cc
-packed_same all p (q ∷ rest) follows full = here (on_sub_of p q) refl follows (packed_same all p rest)
-  where
-    here : (b : Bool) → on_sub_of p q ≡ b → (b || list_any (on_sub_of p) rest) ≡ true
-        → (list_any (on_sub_of p) rest ≡ true → packed all p ≡ true → list_any (packed all) rest ≡ true)
-        → (packed all q || list_any (packed all) rest) ≡ true
-    here true on passes more =
-        let (vl, sub) = and_parts (both nat_eq q.vl p.vl) (both nat_eq q.sub p.sub) on in
-        let packed_q : packed all q ≡ true = rw (same_known q.vl p.vl vl, same_known q.sub p.sub sub) full in rw packed_q refl
-    here false on passes more = rw (more passes full) (or-true (packed all q))
+packed_same all p (q ∷ rest) follows full = grind (arith, nat_tests, and_parts, or-true, same_known, (packed_same all p rest))
 
 -- a port on no known sub-VL
 pub no_sub : (v u a b : Option ℕ) → (both nat_eq v v && both nat_eq u u) ≡ false → (both nat_eq a v && both nat_eq b u) ≡ false
@@ -204,8 +190,7 @@ rules_shown : (f : ConfigFault) (cells : Cells) (some : List PlanRule)
     → list_any (has f) (flat_map (λ (r : PlanRule). rule_findings r.fault r.key r.forbids cells) some)
     ≡ list_any (λ (r : PlanRule). same f r.fault && breaks (sides cells) r.forbids) some
 rules_shown f cells [] = refl
-rules_shown f cells (r ∷ rest) = list_any-append (has f) (rule_findings r.fault r.key r.forbids cells) _
-    ∙ rw (rule_shown f r.fault r.key r.forbids cells, rules_shown f cells rest) refl
+rules_shown f cells (r ∷ rest) = grind (arith, nat_tests, list_any-append, rule_shown, (rules_shown f cells rest))
 
 -- the findings of 7 to 14
 pub plan_shown : (f : ConfigFault) (cells : Cells) → list_any (has f) (plan_findings cells) ≡ cells_show f cells
@@ -214,8 +199,7 @@ plan_shown f cells = rules_shown f cells plan_rules
 
 -- each fault of a document has a finding
 pub faults_are_found : FaultsAreFound
-faults_are_found doc f = sym (any_by_fault (has f) (value_findings doc ++ plan_findings (cells_of doc))
-    ∙ list_any-append (has f) (value_findings doc) (plan_findings (cells_of doc)) ∙ ap (λ b. values_show f doc || b) (plan_shown f (cells_of doc)))
+faults_are_found doc f = grind (arith, nat_tests, any_by_fault, list_any-append, plan_shown, values_show)
 
 -- a fault of values
 abbrev pub IsValue : ConfigFault → Type 0
@@ -258,15 +242,13 @@ none_has f [] all = refl
 none_has f (x ∷ xs) all = rw all.0 (none_has f xs all.1)
 
 pub no_toml : (doc : Members) → shows Toml doc ≡ false
-no_toml doc = rw (none_has Toml (value_findings doc) (r_map (λ x. IsValue x.fault) (λ x. same Toml x.fault ≡ false) (value_findings doc)
-    (λ x (low, high). grind (arith, nat_tests)) (values_in doc))) refl
+no_toml doc = grind (arith, nat_tests, none_has, r_map, values_in)
 
 -- links and ports have only other faults
 low : (f : ConfigFault) (cells : Cells) (some : List PlanRule) → fault_number f < 7 → AllByRecursion (λ r. 7 ≤ fault_number r.fault) some
     → list_any (λ (r : PlanRule). same f r.fault && breaks (sides cells) r.forbids) some ≡ false
 low f cells [] small all = refl
-low f cells (r ∷ rest) small all =
-    let other : same f r.fault ≡ false = let at = all.0 in grind (arith, nat_tests) in rw other (low f cells rest small all.1)
+low f cells (r ∷ rest) small all = grind (arith, nat_tests, (low f cells rest small all.1))
 
 above : (xs : List Finding) → ((f : ConfigFault) → fault_number f < 7 → list_any (has f) xs ≡ false) → AllByRecursion (λ x. 6 ≤ fault_number x.fault) xs
 above [] lacks = tt

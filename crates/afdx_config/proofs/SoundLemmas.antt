@@ -1,7 +1,7 @@
 -- A document whose values have no fault has tables without faults.
-use Rattle.afdx_config.proofs.Names.{◌≡◌, ◌-◌, ◌+◌, codes, Bool, true, false, List, [], ◌∷◌, ◌++◌, map, length, Option}
-use Rattle.afdx_config.proofs.Names.{Some, None, ℕ, refl, ap, sym, ◌∙◌, All-take}
-use Rattle.afdx_config.proofs.Names.{AllByRecursion, All-from_recursion, recursion_from_All, flat_map, option_map_or}
+use Rattle.afdx_config.proofs.Names.{◌≡◌, ◌+◌, codes, Bool, true, false, List, [], ◌∷◌, ◌++◌, map, Option}
+use Rattle.afdx_config.proofs.Names.{Some, None, ℕ, refl}
+use Rattle.afdx_config.proofs.Names.{AllByRecursion, recursion_from_All, flat_map, option_map_or}
 use Rattle.afdx_config.proofs.Names.{Members, table_view, ConfigFault, Field}
 use Rattle.afdx_config.proofs.Names.{fields_in, link_of, port_of, plan_of, field_fault}
 use Rattle.afdx_config.proofs.Names.{IsDocument, IsSoundTable, Document, data_of, map-map, LinkPlan, PortPlan}
@@ -10,6 +10,9 @@ use Rattle.afdx_config.specs.Format.{id_range}
 use Rattle.afdx_config.specs.Entries.{number_in}
 use Rattle.afdx_config.specs.Findings.{table_findings}
 use Rattle.afdx_config.proofs.SectionLemmas.{option_maps}
+use Rattle.std.proofs.Common.{arith}
+use Rattle.std.proofs.lemmas.Grind.{common_steps}
+use Rattle.std.proofs.lemmas.Bool.Decides.{nat_tests}
 
 -- two lists are empty if their concatenation is
 pub none : {A : Type 0} (xs ys : List A) → xs ++ ys ≡ [] → (xs ≡ []) × (ys ≡ [])
@@ -37,8 +40,7 @@ table_sound place fields members is = fields_sound place fields members (none _ 
 both_sound : (is_2 : Bool) (fields : List Field) (members : Members) → IsSoundTable (fields_in is_2 fields) members
     → IsSoundTable (fields_in false fields) members
 both_sound false fields members is = is
-both_sound true fields members is = recursion_from_All _ _ (All-take (λ field. field_fault members field ≡ None)
-    (length fields - 1) fields (All-from_recursion (λ field. field_fault members field ≡ None) fields is))
+both_sound true fields members is = grind (arith, nat_tests, common_steps, recursion_from_All)
 
 -- the tables of an array are sound
 pub rows_sound : (is_2 : Bool) (like : ℕ → Place) (fields : List Field) (k : ℕ) (rows : List Members)
@@ -52,9 +54,4 @@ pub plan_parts : (s : Document) (e : ℕ) (ls : List LinkPlan) (ps : List PortPl
     → e ≡ option_map_or (λ t. number_in (codes "id") id_range (table_view t.now)) s.end 0
     → ls ≡ map (λ t. link_of (table_view t.now)) s.links.items
     → ps ≡ map (λ t. port_of (table_view t.now)) s.ports.items → record { end_system = e; links = ls; ports = ps } ≡ plan_of (data_of s)
-plan_parts s e ls ps are he hl hp =
-    let a = he ∙ sym (option_maps (number_in (codes "id") id_range) (λ t. table_view t.now) s.end 0)
-    ∙ ap (λ o. option_map_or (number_in (codes "id") id_range) o 0) are.end_is in
-    let b = hl ∙ sym (map-map link_of (λ t. table_view t.now) s.links.items) ∙ ap (map link_of) are.links_are in
-    let c = hp ∙ sym (map-map port_of (λ t. table_view t.now) s.ports.items) ∙ ap (map port_of) are.ports_are in
-    rw (a, b, c) refl
+plan_parts s e ls ps are he hl hp = grind (arith, nat_tests, id_range, map-map, number_in, option_maps)
