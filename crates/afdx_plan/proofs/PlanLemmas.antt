@@ -214,14 +214,7 @@ Unbroken plan some = AllByRecursion (λ r. breaks (parts_of plan.links plan.port
 none_found : (plan : Plan) (some : List PlanRule)
     → option_map (λ (r : PlanRule). r.fault) (find (λ (r : PlanRule). breaks (parts_of plan.links plan.ports) r.forbids) some) ≡ None → Unbroken plan some
 none_found plan [] none = tt
-none_found plan (r ∷ rest) none = here (breaks (parts_of plan.links plan.ports) r.forbids) refl none (none_found plan rest)
-  where
-    here : (b : Bool) → breaks (parts_of plan.links plan.ports) r.forbids ≡ b
-        → option_map (λ (r : PlanRule). r.fault) (cond b (Some r) (find (λ (r : PlanRule). breaks (parts_of plan.links plan.ports) r.forbids) rest)) ≡ None
-        → (option_map (λ (r : PlanRule). r.fault) (find (λ (r : PlanRule). breaks (parts_of plan.links plan.ports) r.forbids) rest) ≡ None → Unbroken plan rest)
-        → Unbroken plan (r ∷ rest)
-    here true broken none more = cc
-    here false whole none more = (whole, more none)
+none_found plan (r ∷ rest) none = grind (arith, nat_tests, parts_of, (none_found plan rest))
 
 -- the plan is valid: fault by fault
 pub valid : (plan : Plan) → plan.end_system < 65536 → All IsLink plan.links → All IsPort plan.ports
