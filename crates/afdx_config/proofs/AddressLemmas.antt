@@ -1,8 +1,10 @@
 -- Reading of dotted addresses.
-use Rattle.afdx_config.proofs.Names.{◌≡◌, ℕ, List, [], ◌∷◌, Option, Some, None, refl, ap, sym, ◌∙◌, lit≤, append-nil}
+use Rattle.afdx_config.proofs.Names.{◌≡◌, ℕ, List, [], Option, Some, None, refl, ap, sym, ◌∙◌, lit≤, append-nil}
 use Rattle.afdx_config.proofs.Names.{eq-eqb, ◌==◌, eqb-true, if◌then◌else◌, slice_index, IsDotted, read_ipv4, Ipv4Addr}
 use Rattle.afdx_config.proofs.Names.{read_ipv4_complete, read_ipv4_sound, and_then_some, cond_some}
 use Rattle.afdx_config.specs.Values.{in_network_10, address_of, AddressesAreDotted}
+use Rattle.std.proofs.Common.{arith}
+use Rattle.std.proofs.lemmas.Bool.Decides.{nat_tests}
 
 -- a dotted address is read if its first number is 10
 pub address_of-dotted : (text octets : List ℕ) → IsDotted text octets
@@ -14,8 +16,7 @@ address_of-dotted text octets is =
 -- an accepted address is the whole text, and its first number is 10
 taken : (read : List ℕ × List ℕ) (address : List ℕ) → in_network_10 read ≡ Some address
     → (read ≡ (address, [])) × (slice_index address 0 ≡ 10)
-taken (octets, []) address is = let (ten, same) = cond_some _ octets address is in rw (← same) (refl, eqb-true _ 10 ten)
-taken (octets, _ ∷ _) address is = cc
+taken read address is = grind (arith, nat_tests, cond_some, eqb-true)
 
 -- a text has an address exactly if it is dotted and its first number is 10
 pub addresses_are_dotted : AddressesAreDotted

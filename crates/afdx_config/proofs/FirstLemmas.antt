@@ -1,7 +1,7 @@
 -- The first finding has the fault of the least number, and so has the text.
 use Rattle.afdx_config.proofs.Names.{◌≡◌, ◌≢◌, ℕ, ◌<◌, ◌≤◌, List, [], ◌∷◌, ◌++◌, length, true, false, Some, None, refl, ap, subst, ◌∙◌, arith}
 use Rattle.afdx_config.proofs.Names.{eq-eqb, list_any, same_Some, Result, Ok, Err, IfOk, IfErr, Members, map, nat_tests}
-use Rattle.afdx_config.proofs.Names.{fault_number, cells_of, ConfigFault, Toml, Memory}
+use Rattle.afdx_config.proofs.Names.{fault_number, cells_of, ConfigFault, Memory}
 use Rattle.afdx_config.proofs.Names.{Plan, plan_of, shows, Reads, HasFault, IsLeastFault, IsPlanOf, Finding, finding_of}
 use Rattle.afdx_config.proofs.Names.{findings, has, FirstIsAnswered}
 use Rattle.afdx_config.specs.Findings.{by_fault, number_of, plan_findings, value_findings}
@@ -13,13 +13,11 @@ use Rattle.afdx_config.proofs.SoundLemmas.{none}
 
 -- a fault that a document lacks, its text lacks: a text is one document
 hasnt : (f : ConfigFault) (text : List ℕ) (doc : Members) → Reads text doc → shows f doc ≡ false → ¬ HasFault f text
-hasnt Toml text doc reads h = λ k. k doc reads
 hasnt f text doc reads h = grind (arith, nat_tests, same_Some)
 
 -- a fault of a document is one of its text
 of_text : (f : ConfigFault) (text : List ℕ) (doc : Members) → Reads text doc → shows f doc ≡ true → HasFault f text
-of_text Toml text doc reads h = let none = no_toml doc in cc
-of_text f text doc reads h = (doc, reads, h)
+of_text f text doc reads h = grind (arith, nat_tests, no_toml)
 
 -- no finding before the first has a lower number
 lower : (f : ConfigFault) (x : Finding) (rest : List Finding) → fault_number f < number_of x → IsOrdered (x ∷ rest) → list_any (has f) (x ∷ rest) ≡ false
@@ -45,8 +43,7 @@ first_is_answered text doc reads = (λ is. (doc, reads, refl, fine text doc read
 -- a result for a document is one for its text
 pub answer_ok : (text : List ℕ) (doc : Members) (r : Result Plan ConfigFault) → Reads text doc
     → IfOk r (λ c. findings doc ≡ []) → IfOk r (λ c. c ≡ plan_of doc) → IfOk r (IsPlanOf text)
-answer_ok text doc (Ok c) reads free is = (doc, reads, is, fine text doc reads free)
-answer_ok text doc (Err e) reads free is = tt
+answer_ok text doc r reads free is = grind (arith, nat_tests, fine)
 
 pub answer_err : (text : List ℕ) (doc : Members) (r : Result Plan ConfigFault) → Reads text doc
     → IfErr r (λ e. e ≢ Memory → fault_of (findings doc) ≡ Some e) → IfErr r (λ e. e ≢ Memory → IsLeastFault text e)
@@ -73,8 +70,7 @@ first_of_values doc found holds some = first_kept found _ holds ∙ first_before
     (plan_above (cells_of doc)) (λ is. some (holds.count_is ∙ ap length is))
 
 pub no_first : (xs : List Finding) → fault_of xs ≡ None → xs ≡ []
-no_first [] is = refl
-no_first (x ∷ xs) is = cc
+no_first xs is = grind (arith, nat_tests)
 
 -- without findings, values have none
 pub no_value : (doc : Members) → findings doc ≡ [] → value_findings doc ≡ []

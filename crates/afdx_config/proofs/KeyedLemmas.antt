@@ -35,8 +35,7 @@ position_none p rows fails = ap (λ t. position t rows) (fun_ext fails) ∙ posi
 -- the first row that clashes is the first with the key
 pub row_is : {A K : Type 0} (cmp : K → K → Ordering) (key : A → Option K) (rows : List A) (test : A → Bool) (o : Option K)
     → ((e : A) → test e ≡ option_map_or (λ k. is_key cmp k (key e)) o false) → first_row cmp (map key rows) o ≡ position test rows
-row_is cmp key rows test None same = sym (position_none test rows same)
-row_is cmp key rows test (Some k) same = position_map (is_key cmp k) key rows ∙ sym (ap (λ t. position t rows) (fun_ext same))
+row_is cmp key rows test o same = grind (arith, nat_tests, is_key, position_map, position_none)
 
 pub rows_keyed : {A K : Type 0} (cmp : K → K → Ordering) (key : A → Option K) (clash : A → A → Bool) (rows : List A)
     → ((e r : A) → clash e r ≡ option_map_or (λ k. is_key cmp k (key e)) (key r) false)
@@ -48,10 +47,7 @@ pub tied : (a b : ℕ) → nat_eq a b ≡ is_eq (nat_cmp a b)
 tied a b = grind (arith, nat_tests)
 
 pub same_number : (a b : Option ℕ) → both nat_eq a b ≡ option_map_or (λ k. is_key nat_cmp k a) b false
-same_number None None = refl
-same_number None (Some b) = refl
-same_number (Some a) None = refl
-same_number (Some a) (Some b) = tied a b
+same_number a b = grind (arith, nat_tests, tied)
 
 -- two unicast addresses are the same exactly if the order says so
 pub same_address : (a b : List ℕ) → bytes_eq a b ≡ is_eq (slice_cmp nat_cmp a b)
@@ -69,8 +65,7 @@ link_found links by_id port is = ap (λ f. option_and_then f port.vl) (fun_ext i
     ∙ row_is nat_cmp (λ (l : LinkRow). l.id) links (is_row_of port) port.vl (λ l. same_number l.id port.vl)
 
 pub link_within : (links : List LinkRow) (port : PortRow) (o : Option ℕ) → o ≡ position (is_row_of port) links → IfSome o (λ l. l < length links)
-link_within links port None is = tt
-link_within links port (Some l) is = (position-Some (is_row_of port) links l (record { id = None; lmax = None; sub_vls = None }) (sym is)).0
+link_within links port o is = grind (arith, nat_tests, is_row_of, position-Some)
 
 -- the test of a port without a link
 pub misfit_vl : (cells : Cells) (port : PortRow) (named : Bool) (link : Option (Bor LinkRow)) → named ≡ all_named cells
@@ -80,5 +75,4 @@ misfit_vl cells port named link at is = rw (at, any_found (is_row_of port) cells
 -- the test of a port with a link
 pub of_link : (test : LinkRow → Bool) (link : Option (Bor LinkRow)) (found : Option LinkRow) → option_copied link ≡ found
     → option_map_or (λ l. test l.now) link false ≡ option_map_or test found false
-of_link test None found is = rw (← is) refl
-of_link test (Some l) found is = rw (← is) refl
+of_link test link found is = grind (arith, nat_tests)

@@ -10,25 +10,21 @@ use Rattle.afdx_config.specs.Findings.{by_fault, lines_limit, number_of, put}
 use Rattle.afdx_config.specs.Seen.{IsOrdered, fault_of}
 use Rattle.afdx_config.specs.declared.findings.Finding.{Finding as Written}
 use Rattle.afdx_config.specs.declared.findings.Found.{Found as Kept}
+use Rattle.std.proofs.lemmas.Grind.{common_steps}
 
 -- what holds of each element of two lists holds of those of both
 pub r_append : {A : Type 0} (P : A → Type 0) (xs ys : List A) → AllByRecursion P xs → AllByRecursion P ys → AllByRecursion P (xs ++ ys)
-r_append P [] ys one two = two
-r_append P (x ∷ xs) ys one two = (one.0, r_append P xs ys one.1 two)
+r_append P xs ys one two = grind (arith, nat_tests, common_steps)
 
 pub r_map : {A : Type 0} (P Q : A → Type 0) (xs : List A) → ((x : A) → P x → Q x) → AllByRecursion P xs → AllByRecursion Q xs
 r_map P Q [] step each = tt
 r_map P Q (x ∷ xs) step each = (step x each.0, r_map P Q xs step each.1)
 
 r_take : {A : Type 0} (P : A → Type 0) (k : ℕ) (xs : List A) → AllByRecursion P xs → AllByRecursion P (take k xs)
-r_take P zero xs each = tt
-r_take P (suc k) [] each = tt
-r_take P (suc k) (x ∷ xs) each = (each.0, r_take P k xs each.1)
+r_take P k xs each = grind (arith, nat_tests, common_steps)
 
 r_at : {A : Type 0} (P : A → Type 0) (xs : List A) (i : ℕ) (d : A) → i < length xs → AllByRecursion P xs → P (get_or xs i d)
-r_at P [] i d inside each = absurd (omega arith)
-r_at P (x ∷ xs) zero d inside each = each.0
-r_at P (x ∷ xs) (suc i) d inside each = r_at P xs i d (omega arith) each.1
+r_at P xs i d inside each = grind (arith, nat_tests, common_steps)
 
 -- a finding put among others
 r_put : (P : Finding → Type 0) (ys : List Finding) (x : Finding) → AllByRecursion P ys → P x → AllByRecursion P (put ys x)

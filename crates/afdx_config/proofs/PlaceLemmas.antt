@@ -1,6 +1,6 @@
 -- The place of each finding has its fault.
 use Rattle.afdx_config.proofs.Names.{◌≡◌, ℕ, suc, ◌+◌, ◌-◌, ◌≤◌, List, [], ◌∷◌, get_or, Bool, nat_lt}
-use Rattle.afdx_config.proofs.Names.{true, false, ◌||◌, Option, Some, None, refl, ap, ◌∙◌, codes}
+use Rattle.afdx_config.proofs.Names.{true, ◌||◌, Option, Some, None, refl, ap, ◌∙◌, codes}
 use Rattle.afdx_config.proofs.Names.{arith, lit≤, bytes_eq, slice_get, position, list_any, flat_map}
 use Rattle.afdx_config.proofs.Names.{AllByRecursion, option_map_or, or-true, All-from_recursion}
 use Rattle.afdx_config.proofs.Names.{position-Some, slice_get-get_or, bytes_eq-Decides, eq-eqb, Members}
@@ -23,8 +23,7 @@ r_each P F (x ∷ xs) step = r_append P (F x) (flat_map F xs) (step x) (r_each P
 
 -- a property of a conditional finding
 r_one : (P : Finding → Type 0) (b : Bool) (x : Finding) → (b ≡ true → P x) → AllByRecursion P (one_if b x)
-r_one P true x step = (step refl, tt)
-r_one P false x step = tt
+r_one P b x step = grind (arith, nat_tests)
 
 -- a text equals itself
 bytes_same : (k : List ℕ) → bytes_eq k k ≡ true
@@ -92,8 +91,7 @@ Fine doc f = has_place doc f ≡ true
 
 r_key : (P : Finding → Type 0) (place : Place) (key : List ℕ) (o : Option ConfigFault)
     → ((g : ConfigFault) → o ≡ Some g → P (found g place key None)) → AllByRecursion P (key_finding place key o)
-r_key P place key None step = tt
-r_key P place key (Some g) step = (step g refl, tt)
+r_key P place key o step = grind (arith, nat_tests)
 
 number_is : (g : ConfigFault) → is_fault g (Some g) ≡ true
 number_is g = eq-eqb (fault_number g) (fault_number g) refl

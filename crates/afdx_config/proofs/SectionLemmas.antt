@@ -12,7 +12,6 @@ use Rattle.afdx_config.specs.Tables.{lacks_all}
 use Rattle.afdx_config.specs.Cells.{port_row}
 use Rattle.afdx_config.specs.Format.{port_fields}
 use Rattle.std.specs.Ordering.{match_ordering}
-use Rattle.std.specs.declared.cmp.Ordering.TheVariants.{Less, Equal, Greater}
 
 -- the keys of a table
 pub keys_are : (es : List (String Global × Value)) → map (λ k. string_bytes k) (keys_of es) ≡ member_keys (members_view es)
@@ -41,8 +40,7 @@ list_any_map p f (x ∷ xs) = ap (λ b. p (f x) || b) (list_any_map p f xs)
 -- `option_map_or` after `option_map`
 pub option_maps : {A B C : Type 0} (g : B → C) (f : A → B) (o : Option A) (d : C)
     → option_map_or g (option_map f o) d ≡ option_map_or (λ x. g (f x)) o d
-option_maps g f None d = refl
-option_maps g f (Some x) d = refl
+option_maps g f o d = grind (arith, nat_tests)
 
 -- the keys of version 1 in the code
 pub first_fields : (is_2 : Bool) (count : ℕ) (fields : List Written) → false ≡ is_2 → count ≡ length fields - 1
@@ -79,9 +77,7 @@ other_key : (fields : List Field) (key other : List ℕ) → is_key_of fields ke
 other_key fields key other has lacks = grind (arith, common_steps, is_eq-slice_cmp key other, bytes_eq-Decides key other)
 
 passed : (o : Ordering) (rest found : Option Data) → is_eq o ≡ false → rest ≡ None → match_ordering o rest found rest ≡ None
-passed Less rest found is none = none
-passed Equal rest found is none = cc
-passed Greater rest found is none = none
+passed o rest found is none = grind (arith, nat_tests)
 
 -- a table that has none of the keys of a format lacks each
 pub lacks_key : (fields : List Field) (key : List ℕ) (es : List (String Global × Value)) → lacks_all fields (members_view es) ≡ true

@@ -2,7 +2,7 @@
 use Rattle.std.proofs.Math.Path.{fun_ext}
 use Rattle.afdx_config.proofs.Names.{◌≡◌, ℕ, List, [], ◌∷◌, Bool, true, false, ◌&&◌, Option, Some, None, refl, ap, sym, ◌∙◌, arith, option_map_or, nat_eq, nat_cmp, is_eq, Ordering, ordering_then, both_tied, and-false, slice_cmp, option_cmp, not, ◌==◌, map, position, position_from, position_from-zero, get_or, eqb-true, share_unicast, cond, length, ◌<◌}
 use Rattle.afdx_config.proofs.Names.{both, is_key, PortRow, same_flow, flow_of, are_one_destination, are_one_address}
-use Rattle.std.proofs.Common.{Less, Equal, Greater, ◌+◌, ◌^◌, take, count_by, length-take, add-zero}
+use Rattle.std.proofs.Common.{Equal, ◌+◌, ◌^◌, take, count_by, length-take, add-zero}
 use Rattle.std.proofs.lemmas.List.Sums.{count_by-le-length, count_by_more_yes, count_by_more_no}
 use Rattle.afdx_config.proofs.Names.{on_sub_of, ◌-◌, nat_le, one_if, found, Limit, Port, codes, crowd_finding}
 use Rattle.std.proofs.lemmas.Map.Lookups.{exact_bytes, exact_pairs, exact_unsigned}
@@ -14,8 +14,7 @@ use Rattle.std.proofs.lemmas.Bool.Decides.{nat_tests}
 
 -- no key, no match
 keyless : {A : Type 0} (o : Option A) → option_map_or (λ k. false) o false ≡ false
-keyless None = refl
-keyless (Some a) = refl
+keyless o = grind (arith, nat_tests)
 
 -- the order of flows, if this is the order of their destinations
 abbrev pub Flow : Type 0
@@ -29,18 +28,14 @@ five : (cmp : Option (List ℕ) → Option (List ℕ) → Ordering) (same : (a b
     (a a' b b' c c' d d' : Option ℕ) (u u' : Option (Option (List ℕ)))
     → (both nat_eq a a' && both nat_eq b b' && both nat_eq c c' && both nat_eq d d' && both are_one_destination u u')
     ≡ option_map_or (λ k. is_key (flow_cmp cmp) k (all_five a b c d u)) (all_five a' b' c' d' u') false
-five cmp same (Some a) (Some a') (Some b) (Some b') (Some c) (Some c') (Some d) (Some d') (Some u) (Some u') = grind (arith, nat_tests, both_tied)
-five cmp same a a' b b' c c' d d' u u' = simp (keyless, and-false) refl
+five cmp same a a' b b' c c' d d' u u' = grind (arith, nat_tests, and-false, both_tied, keyless)
 
 -- two destinations are the same exactly if the order says so
 abbrev pub destination_cmp : Option (List ℕ) → Option (List ℕ) → Ordering
 destination_cmp = option_cmp (slice_cmp nat_cmp)
 
 same_destination : (a b : Option (List ℕ)) → are_one_destination a b ≡ is_eq (destination_cmp a b)
-same_destination None None = refl
-same_destination None (Some b) = refl
-same_destination (Some a) None = refl
-same_destination (Some a) (Some b) = same_address a b
+same_destination a b = grind (arith, nat_tests, same_address)
 
 -- two flows are the same exactly if the order says so
 pub same_flows : (e r : PortRow) → same_flow e r ≡ option_map_or (λ k. is_key (flow_cmp destination_cmp) k (flow_of e)) (flow_of r) false
@@ -53,22 +48,15 @@ share (Some a) None = false
 share (Some a) (Some b) = not (a.1 == b.1) && is_eq (address_cmp a.0 b.0)
 
 share_none : (o : Option ((ℕ × List ℕ) × ℕ)) → share o None ≡ false
-share_none None = refl
-share_none (Some k) = refl
+share_none o = grind (arith, nat_tests)
 
 sharing_key : (v w a b : Option ℕ) (u t : Option (Option (List ℕ)))
     → (both (λ x y. not (x == y)) v w && both nat_eq a b && both are_one_address u t) ≡ share (address_in v a u) (address_in w b t)
-sharing_key None w a b u t = refl
-sharing_key (Some v) None a b u t = sym (share_none (address_in (Some v) a u))
-sharing_key (Some v) (Some w) (Some a) (Some b) (Some (Some x)) (Some (Some y)) = grind (arith, nat_tests, both_tied, same_address)
-sharing_key (Some v) (Some w) (Some a) (Some b) (Some None) (Some t) = simp and-false refl
-sharing_key v w a b u t = simp (share_none, and-false) refl
+sharing_key v w a b u t = grind (arith, nat_tests, and-false, both_tied, same_address, share_none)
 
 -- equal addresses in the order are equal
 equal : (o : Ordering) → is_eq o ≡ true → o ≡ Equal
-equal Less is = cc
-equal Equal is = refl
-equal Greater is = cc
+equal o is = grind (arith, nat_tests)
 
 exact : (a b : ℕ × List ℕ) → is_eq (address_cmp a b) ≡ true → a ≡ b
 exact a b is = exact_pairs nat_cmp (slice_cmp nat_cmp) exact_unsigned exact_bytes a b (equal (address_cmp a b) is)

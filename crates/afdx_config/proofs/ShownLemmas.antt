@@ -7,7 +7,7 @@ use Rattle.afdx_config.proofs.Names.{◌≡◌, ℕ, ◌+◌, ◌-◌, ◌<◌, 
 use Rattle.afdx_config.proofs.Names.{Option, Some, None, refl, ap, sym, ◌∙◌, arith}
 use Rattle.afdx_config.proofs.Names.{◌==◌, and_parts, nat_tests, or-false, and-true, and-false, and-or_distrib_left, nat_lt, list_any-append, position}
 use Rattle.afdx_config.proofs.Names.{position_from, list_any, then_some, position_from-zero, AllByRecursion, not}
-use Rattle.afdx_config.proofs.Names.{Data, Members, get_member, fault_number, has_pair, ConfigFault, Toml, MissingKey}
+use Rattle.afdx_config.proofs.Names.{Data, Members, get_member, fault_number, has_pair, ConfigFault, Toml}
 use Rattle.afdx_config.proofs.Names.{UnknownKey, Place, Top, Link, Port, Field, flat_map, PlanRule, Rule, links_clash, ports_clash, port_misfits, link_count, port_count, sub_is_packed, breaks, sides, is_misfit, plan_rules, rules, rule_findings}
 use Rattle.afdx_config.proofs.Names.{shows, values_show, Finding, found, has, one_if, key_finding, member_keys, each_row}
 use Rattle.afdx_config.proofs.Names.{pair_finding, pair_findings, is_past_limit, misfit_finding, crowd_finding}
@@ -115,9 +115,7 @@ pairs_shown f g key at related rows =
 
 -- two values that are the same and known are equal
 same_known : (a b : Option ℕ) → both nat_eq a b ≡ true → a ≡ b
-same_known None b is = cc
-same_known (Some a) None is = cc
-same_known (Some a) (Some b) is = ap Some (eqb-true a b is)
+same_known a b is = grind (arith, nat_tests, eqb-true)
 
 -- there are too many ports on the port's sub-VL
 abbrev packed : List PortRow → PortRow → Bool
@@ -131,11 +129,7 @@ packed_same all p (q ∷ rest) follows full = grind (arith, nat_tests, and_parts
 
 -- a port on no known sub-VL
 pub no_sub : (v u a b : Option ℕ) → (both nat_eq v v && both nat_eq u u) ≡ false → (both nat_eq a v && both nat_eq b u) ≡ false
-no_sub None u None b is = refl
-no_sub None u (Some a) b is = refl
-no_sub (Some v) None a None is = and-false (both nat_eq a (Some v))
-no_sub (Some v) None a (Some b) is = and-false (both nat_eq a (Some v))
-no_sub (Some v) (Some u) a b is = let one = eq-eqb v v refl in let two = eq-eqb u u refl in cc
+no_sub v u a b is = grind (arith, nat_tests, and-false, eq-eqb, one)
 
 -- the counts of a port's sub-VL: before the port, after it and in all
 counts : (n m t : ℕ) (follows later : Bool) → t ≡ n + (1 + m) → not follows ≡ nat_eq m 0
@@ -207,23 +201,19 @@ IsValue f = (1 < fault_number f) × (fault_number f < 7)
 
 -- values have only such faults
 one_in : (b : Bool) (fault : ConfigFault) → IsValue fault → IfSome (then_some b fault) IsValue
-one_in true fault is = is
-one_in false fault is = tt
+one_in b fault is = grind (arith, nat_tests)
 
 read_in : {X : Type 0} (fault : ConfigFault) (refuses : X → Bool) (o : Option X) → IsValue fault → IfSome (fault_in fault refuses o) IsValue
-read_in fault refuses None is = (lit≤ tt, lit≤ tt)
-read_in fault refuses (Some x) is = one_in (refuses x) fault is
+read_in fault refuses o is = grind (arith, nat_tests, one_in)
 
 content_in : (content : Content) (value : Data) → IfSome (content_fault content value) IsValue
 content_in content value = grind (arith, read_in)
 
 under_in : (field : Field) (o : Option Data) → IfSome (fault_under field o) IsValue
-under_in field None = one_in field.is_needed MissingKey (lit≤ tt, lit≤ tt)
-under_in field (Some value) = content_in field.content value
+under_in field o = grind (arith, nat_tests, content_in, one_in)
 
 key_in : (place : Place) (key : List ℕ) (o : Option ConfigFault) → IfSome o IsValue → AllByRecursion (λ x. IsValue x.fault) (key_finding place key o)
-key_in place key None is = tt
-key_in place key (Some f) is = (is, tt)
+key_in place key o is = grind (arith, nat_tests)
 
 table_in : (place : Place) (fields : List Field) (members : Members) → AllByRecursion (λ x. IsValue x.fault) (table_findings place fields members)
 unfolding table_findings

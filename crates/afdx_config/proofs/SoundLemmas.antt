@@ -1,6 +1,6 @@
 -- A document whose values have no fault has tables without faults.
-use Rattle.afdx_config.proofs.Names.{◌≡◌, ◌+◌, codes, Bool, true, false, List, [], ◌∷◌, ◌++◌, map, Option}
-use Rattle.afdx_config.proofs.Names.{Some, None, ℕ, refl}
+use Rattle.afdx_config.proofs.Names.{◌≡◌, ◌+◌, codes, Bool, false, List, [], ◌∷◌, ◌++◌, map, Option}
+use Rattle.afdx_config.proofs.Names.{None, ℕ, refl}
 use Rattle.afdx_config.proofs.Names.{AllByRecursion, recursion_from_All, flat_map, option_map_or}
 use Rattle.afdx_config.proofs.Names.{Members, table_view, ConfigFault, Field}
 use Rattle.afdx_config.proofs.Names.{fields_in, link_of, port_of, plan_of, field_fault}
@@ -21,8 +21,7 @@ none (x ∷ xs) ys is = cc
 
 -- a key without a finding has no fault
 no_fault : (place : Place) (key : List ℕ) (o : Option ConfigFault) → key_finding place key o ≡ [] → o ≡ None
-no_fault place key None is = refl
-no_fault place key (Some g) is = cc
+no_fault place key o is = grind (arith, nat_tests)
 
 -- fields without findings are sound
 fields_sound : (place : Place) (fields : List Field) (members : Members)
@@ -39,8 +38,7 @@ table_sound place fields members is = fields_sound place fields members (none _ 
 -- a table that is sound in its version is sound in version 1
 both_sound : (is_2 : Bool) (fields : List Field) (members : Members) → IsSoundTable (fields_in is_2 fields) members
     → IsSoundTable (fields_in false fields) members
-both_sound false fields members is = is
-both_sound true fields members is = grind (arith, nat_tests, common_steps, recursion_from_All)
+both_sound is_2 fields members is = grind (arith, nat_tests, common_steps, recursion_from_All)
 
 -- the tables of an array are sound
 pub rows_sound : (is_2 : Bool) (like : ℕ → Place) (fields : List Field) (k : ℕ) (rows : List Members)
