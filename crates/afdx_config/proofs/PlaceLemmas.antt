@@ -164,7 +164,8 @@ rule_fine cells f key (links_clash clash) = pair_fine cells (rule f key (links_c
 rule_fine cells f key (ports_clash clash) = pair_fine cells (rule f key (ports_clash clash)) Port clash cells.ports (λ k j is. is)
 rule_fine cells f key (port_misfits misfits) = all_rows (Broken cells (rule f key (port_misfits misfits))) (misfit_finding f key misfits cells) cells.ports
     (λ k p some is. r_one _ (is_misfit misfits cells p) _ (λ bad.
-    broken_at cells (rule f key (port_misfits misfits)) (Port k) (option_map (λ i. i + 1) (position (is_row_of p) cells.links)) (row_passes (is_misfit misfits cells) cells.ports k p is bad)))
+    broken_at cells (rule f key (port_misfits misfits)) (Port k) (option_map (λ i. i + 1) (position (is_row_of p) cells.links))
+    (row_passes (is_misfit misfits cells) cells.ports k p is bad)))
 rule_fine cells f key link_count = r_one _ (breaks (sides cells) link_count) _ (λ bad. broken_at cells (rule f key link_count) Top None bad)
 rule_fine cells f key port_count = r_one _ (breaks (sides cells) port_count) _ (λ bad. broken_at cells (rule f key port_count) Top None bad)
 rule_fine cells f key sub_is_packed = all_rows (Broken cells (rule f key sub_is_packed)) (crowd_finding f key cells.ports) cells.ports

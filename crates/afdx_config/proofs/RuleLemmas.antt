@@ -100,7 +100,8 @@ rules_agree doc free fault =
 
 -- if no fault is shown, no rule is broken
 no_rule : (plan : Plan) (some : List PlanRule)
-    → ((f : ConfigFault) → list_any (λ (r : PlanRule). fault_number f == fault_number r.fault && breaks (parts_of plan.links plan.ports) r.forbids) some ≡ false)
+    → ((f : ConfigFault) → list_any (λ (r : PlanRule). fault_number f == fault_number r.fault
+    && breaks (parts_of plan.links plan.ports) r.forbids) some ≡ false)
     → find (λ (r : PlanRule). breaks (parts_of plan.links plan.ports) r.forbids) some ≡ None
 no_rule plan [] lacks = refl
 no_rule plan (r ∷ rest) lacks =

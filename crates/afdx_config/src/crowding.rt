@@ -42,7 +42,8 @@ fn count_port(counts: &mut Counts, port: &PortRow) -> Result<usize, AllocError>
 
 /// Adds the ports that are past the limit on their sub-VL.
 pub(crate) fn add_crowded(found: &mut Found, ports: &[PortRow]) -> Added
-    ensures { OnOk result (Adds found.old found.new (each_row (crowd_finding ConfigFault.Limit (codes "sub") ports.now) 1 ports.now)) }
+    ensures { OnOk result (Adds found.old found.new
+        (each_row (crowd_finding ConfigFault.Limit (codes "sub") ports.now) 1 ports.now)) }
 {
     let mut counts = BTreeMap::new(found.alloc());
     for (i, port) in ports.iter().enumerate() {

@@ -3,7 +3,8 @@ use Rattle.afdx_config.proofs.KeyedLemmas.{misfit_vl, of_link}
 use Rattle.afdx_config.proofs.plan_findings.is_misfit.Goals as goal
 
 pub returns-in-NoLink : goal.returns-in-NoLink
-returns-in-NoLink c = rw c.in-NoLink.is (c.lacks_link.ensures ∙ misfit_vl (cells_in c.args.rows.now) c.args.port.now c.args.is_named c.link_of-link.result c.requires.named
+returns-in-NoLink c = rw c.in-NoLink.is (c.lacks_link.ensures ∙
+    misfit_vl (cells_in c.args.rows.now) c.args.port.now c.args.is_named c.link_of-link.result c.requires.named
     (c.link_of-link.ensures ∙ ap (find (is_row_of c.args.port.now)) c.as_slice.ensures.value))
 
 pub returns-in-NoSub : goal.returns-in-NoSub
