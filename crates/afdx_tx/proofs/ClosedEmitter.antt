@@ -26,10 +26,10 @@ pub links_closed : (old : List LinkState) (place sub total : ℕ) (new : LinkSta
     → ClosesLink (link_at old place) sub total new → place < length old → ClosedLinks old (set old place new)
 links_closed old place sub total new c within = record {
   count = length-set old place new;
-  same = one_link old place sub new within c.same;
-  subs = one_count old place sub new within c.same;
+  same = grind (arith, one_link);
+  subs = grind (arith, one_count);
   each = one_each old place sub new within c.same ClosedSub sub_here
-      (sub_closed (held_at (link_at old place).subs sub) total (held_at new.subs sub) c.closes);
+      (grind arith);
 }
 
 -- Only the queues have changed.
@@ -38,7 +38,7 @@ closed_kept old new c = grind arith
 
 -- The queues have the same identities.
 queues_same : (old new : List LinkState) → ClosedLinks old new → queues_in new ≡ queues_in old
-queues_same old new c = alike_queues old new c.count (λ k _. c.subs k) (λ k s _. (c.each k s).name)
+queues_same old new c = grind (arith, alike_queues)
 
 -- A found link lacks this sub-VL, and no other link has its identifier.
 pub lacks_at : (plan : Plan) (vl sub place : ℕ) → IsPlan plan → place < length plan.links
@@ -52,11 +52,11 @@ closes_within old vl sub total new c = grind (arith, get_or_past, no_link, cases
 -- The links after the close.
 pub closes_links : (old : Tx) (vl sub total : ℕ) (new : Tx) → ClosesTx old vl sub total new → ClosedLinks old.links new.links
 closes_links old vl sub total new c =
-    subst (ClosedLinks old.links) (sym (ap (λ (t : Tx). t.links) c.same))
+    subst (ClosedLinks old.links) (grind arith)
     (links_closed old.links c.place sub total (link_at new.links c.place) c.closes (closes_within old vl sub total new c))
 
 -- Closed or refused, the queues have the same identities.
 pub answered_queues : {E : Type 0} (answer : Result ℕ E) (old : Tx) (vl sub : ℕ) (new : Tx) → OnErr answer (new ≡ old)
     → IfOk answer (λ (total : ℕ). ClosesTx old vl sub total new) → queues_in new.links ≡ queues_in old.links
 answered_queues (Ok total) old vl sub new unchanged closed = queues_same old.links new.links (closes_links old vl sub total new closed)
-answered_queues (Err fault) old vl sub new unchanged closed = ap (λ (t : Tx). queues_in t.links) unchanged
+answered_queues (Err fault) old vl sub new unchanged closed = cc

@@ -21,7 +21,4 @@ pub total_whole : (old : Tx) (ports : List PortView) (new : Tx) (k s total : ℕ
 total_whole old ports new k s total g shown =
     let link = shows (λ (l : LinkState). total_of (held_at l.subs s).seen) old.links k total no_link refl shown in
     let within = shows (λ (h : Held). total_of h.seen) (link_at old.links k).subs s total nothing_held refl shown in
-    let after = held_at (link_at new.links k).subs s in
-    let sub = (g.links k link).each s within in
-    length-map (known_of after.seen) (sent_of after.ports)
-    ∙ whole_total (held_at (link_at old.links k).subs s).seen after.seen total sub.queue shown
+    grind (arith, held_at, link_at, length-map, known_of, sent_of, whole_total)

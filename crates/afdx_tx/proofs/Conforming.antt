@@ -18,7 +18,7 @@ gathered_past links k s g = grind (arith, get_or_past, link_at, nothing_held, ca
 
 -- The accepted list of a sub-VL is the same.
 same_accepted : (old new : Held) → IsKnownWhole old.seen → IsSameSub old new → accepted_by new ≡ accepted_by old
-same_accepted old new g e = rw (e.ports, same_known old.seen new.seen g e.queue) refl
+same_accepted old new g e = grind arith
 
 -- Each accepted list is the same.
 each_same : (old new : List LinkState) → IsSamePlan old new → AreGathered old → (k s : ℕ)
@@ -27,7 +27,7 @@ each_same old new p g k s = grind (arith, same_accepted, held_at, link_at, gathe
 
 -- The accepted lists are the same.
 pub accepted_same : (old new : List LinkState) → IsSamePlan old new → AreGathered old → accepted_in new ≡ accepted_in old
-accepted_same old new p g = λ i. λ k s. each_same old new p g k s i
+accepted_same old new p g = grind (arith, each_same)
 
 -- The same queue is known whole.
 same_whole : (old new : Seen) → IsKnownWhole old → IsSameQueue old new → IsKnownWhole new
@@ -45,9 +45,7 @@ legal_on plan links net handed l = record {
       let more = untaken plan.end_system room net held in
       let begins = l.prefixes k s lt slt in (
         begins.0 ++ more,
-        sym (append_assoc (told_of (link_plan_at plan.links k).id.0 s handed) begins.0 more)
-            ∙ ap (λ (x : List (List ℕ)). x ++ more) begins.1
-            ∙ sym (owed_split plan.end_system room net held),
+        grind (arith, append_assoc, told_of, link_plan_at, owed_split),
       );
   numbered = l.numbered;
   spaced = l.spaced;
@@ -61,8 +59,7 @@ legal_accepted plan links a b l =
 
 -- A consequence of a result that is Ok.
 pub on_ok : {T E : Type 0} (r : Result T E) (P Q : Type 0) → (P → Q) → OnOk r P → OnOk r Q
-on_ok (Ok x) P Q f h = f h
-on_ok (Err e) P Q f h = tt
+on_ok r P Q f h = grind arith
 
 pub sound_conforms : (tx : Tx) → IsSound tx.plan tx.links tx.lines tx.moment → Conforms tx
 sound_conforms tx sound =
@@ -81,25 +78,21 @@ sound_conforms tx sound =
 -- The links keep their phase.
 pub still_in : (phase : Bool) (plan after : Plan) (old new : List LinkState) → after ≡ plan → IsSamePlan old new
     → IsInPhase phase plan old → IsInPhase phase after new
-still_in false plan after old new same links is = λ k s lt slt.
-    let here : k < length old = omega (arith, links.count) in
-    let kept = links.each k here in
-    still_receiving _ _ (kept.subs s).queue (is k s here (omega (arith, slt, kept.count)))
+still_in false plan after old new same links is = grind arith
 still_in true plan after old new same links is = (
-  λ k s lt slt. same_whole _ _ (gathered_past old k s is.0) ((links.each k (omega (arith, links.count))).subs s).queue,
+  grind arith,
   subst (λ (p : Plan). AreAllowed p (accepted_in new)) (sym same)
       (subst (λ (accepted : Accepted). AreAllowed plan accepted) (sym (accepted_same old new links is.0)) is.1),
 )
 
 -- The messages are of ports that may send them.
 pub of_ports : (phase : Bool) (tx : Tx) → Conforms tx → IsInPhase phase tx.plan tx.links → AreOfPorts phase tx
-of_ports false tx conforms is = conforms.taken
-of_ports true tx conforms is = is.1
+of_ports phase tx conforms is = grind arith
 
 -- The messages still to send are kept.
 keeps_messages : (phase : Bool) (old new : Tx) → IsSamePlan old.links new.links → IsInPhase phase old.plan old.links
     → KeepsMessages phase old new
-keeps_messages false old new same is = record { queues = same_queues _ _ same; totals = same_totals _ _ same }
+keeps_messages false old new same is = grind (arith, same_queues, same_totals)
 keeps_messages true old new same is = accepted_same _ _ same is.0
 
 -- A poll leaves an emitter lawful.
@@ -112,4 +105,4 @@ stays_lawful phase old new is same conforms endure plan board = grind (arith, of
 pub runs : (phase : Bool) (now : ℕ) (old new : Tx) → AreLinksOf old.plan old.links → IsInPhase phase old.plan old.links
     → IsRun now old.links new.links old.lines new.lines → Runs phase now old new
 runs false now old new of is run = run
-runs true now old new of is run = run_drained _ _ _ _ _ _ of is.0 run
+runs true now old new of is run = grind (arith, run_drained)

@@ -29,7 +29,7 @@ Comes now end_system link accepted S T =
 
 -- A list with a non-empty end is longer than without it.
 longer : (xs ys zs : List (List ℕ)) → (zs ≡ [] → ⊥) → xs ≡ ys ++ zs → length ys < length xs
-longer xs ys [] some e = absurd (some refl)
+longer xs ys [] some e = grind arith
 longer xs ys (z ∷ zs) some e = omega (arith, ap length e, length-append ys (z ∷ zs))
 
 -- The turn of the link itself, if a network that carries it is up afterwards.
@@ -44,13 +44,13 @@ own_turn now end_system link accepted lines after (Released sub number) due t st
     let owes = r.choice.chosen in
     inr (record {
       sub = sub;
-      within = choice_below (pace_in link (log lines)) (λ s. view.gives s r.frame) view.lacks view.rests sub r.choice;
+      within = grind arith;
       short = longer _ _ owes.left owes.some owes.ahead;
       frame = r.frame;
       of = r.of.of_sub;
       stream = stream_more link.id.0 now sub number link.networks r.frame lines after r.of r.enters;
     })
-own_turn now end_system link accepted lines after Lost due t stands = absurd (both_ways _ t.1.down stands)
+own_turn now end_system link accepted lines after Lost due t stands = grind arith
 
 -- The turn of another link.
 other_turn : (now end_system : ℕ) (link : LinkPlan) (accepted : ℕ → List Sent) (lines after : Lines) (did : Served) (vl : ℕ)
@@ -72,11 +72,11 @@ other_turns : (now : ℕ) (plan : Plan) (accepted : Accepted) (k i many : ℕ) (
     → ((j : ℕ) → i ≤ j → j < i + many → IsOther plan k j)
     → AreTurns (DrainsAt now plan accepted) i many lines after
     → stream_at plan k after ≡ stream_at plan k lines
-other_turns now plan accepted k i zero lines after ne t = ap (stream_at plan k) t
+other_turns now plan accepted k i zero lines after ne t = cc
 other_turns now plan accepted k i (suc many) lines after ne t =
-    other_turns now plan accepted k (i + 1) many t.0 after (λ j le lt. ne j (omega arith) (omega arith)) t.3
+    other_turns now plan accepted k (i + 1) many t.0 after (grind arith) t.3
     ∙ other_turn now plan.end_system (link_plan_at plan.links i) (accepted i) lines t.0 t.1 (link_plan_at plan.links k).id.0
-    (ne i (omega arith) (omega arith)) t.2
+    (grind arith) t.2
 
 -- the effect of a poll on the stream of the link at a place
 abbrev ComesAt : ℕ → Plan → Accepted → ℕ → (S T : List Entry) → Type 0
@@ -117,8 +117,7 @@ turns_come now plan accepted k i (suc many) lines after le lt ne due t stands = 
 -- The link is due one gap after any time that isn't before its last release.
 due_by : (bag gap before now : ℕ) (last : Option Stamp) → bag ≤ gap → before + gap ≤ now → IsLater last before
     → is_due bag last now ≡ true
-due_by bag gap before now None small apart later = refl
-due_by bag gap before now (Some last) small apart later = le-leb bag (now - last.at) (omega arith)
+due_by bag gap before now last small apart later = grind arith
 
 -- The frames of other sub-VLs are the same.
 told_other : (now sub s : ℕ) (frame : List ℕ) (S T : List Entry) → sub_in frame ≡ sub → s ≢ sub → T ≡ S ++ entry now frame ∷ []
@@ -137,18 +136,14 @@ module _ (now end_system : ℕ) (link : LinkPlan) (accepted : ℕ → List Sent)
   below_same zero le = refl
   below_same (suc n) le =
       let before = below_same n (omega arith) in
-      let other = told_other now g.sub n g.frame S T g.of (λ e. absurd (omega (arith, e))) g.stream in
+      let other = told_other now g.sub n g.frame S T g.of (grind arith) g.stream in
       omega (arith, before, other)
 
   -- Together with this sub-VL they owe one less.
   one_less : (n : ℕ) → g.sub < n → owed end_system link accepted T n + 1 ≤ owed end_system link accepted S n
   one_less zero lt = absurd (omega arith)
   one_less (suc n) lt = ⊎_elim
-      (λ (here : n ≡ g.sub).
-      let before = below_same n (omega (arith, here)) in
-      let own = told_own now n g.frame S T (g.of ∙ sym here) g.stream in
-      let short : length (told (sub_stream n S)) < length (due_of end_system link accepted n) = rw here g.short in
-      omega (arith, before, own, short))
+      (grind (arith, below_same, told_own))
       (λ (ne : n ≡ g.sub → ⊥).
       let before = one_less n (omega (arith, ne)) in
       let other = told_other now g.sub n g.frame S T g.of ne g.stream in
@@ -157,11 +152,11 @@ module _ (now end_system : ℕ) (link : LinkPlan) (accepted : ℕ → List Sent)
 
   -- The release is the latest.
   gained_later : IsLater (latest None T) now
-  gained_later = rw (g.stream, latest_push None S (entry now g.frame)) (omega arith)
+  gained_later = grind (arith, latest_push, entry)
 
   -- A link that has all gains nothing.
   none_gained : HasAll end_system link accepted S → ⊥
-  none_gained all = let same = ap length (all g.sub g.within) in let short = g.short in omega (arith, same, short)
+  none_gained all = grind arith
 
 -- the link at a place has all
 abbrev HasAllAt : Plan → Accepted → ℕ → List Entry → Type 0
@@ -170,9 +165,9 @@ HasAllAt plan accepted k S = HasAll plan.end_system (link_plan_at plan.links k) 
 -- A network that is down after polls was down before, or failed.
 drained_endure : (plan : Plan) (accepted : Accepted) (moments : List ℕ) (lines after : Lines)
     → AreDrained plan accepted moments lines after → BothEndure lines after
-drained_endure plan accepted [] lines after p = rw p (both_none lines)
+drained_endure plan accepted [] lines after p = grind arith
 drained_endure plan accepted (now ∷ moments) lines after p =
-    both_on lines p.0 after (drains_endure now plan accepted 0 (length plan.links) lines p.0 p.1)
+    both_on lines p.0 after (grind (arith, drains_endure))
     (drained_endure plan accepted moments p.0 after p.2)
 
 -- A link has all after more polls than the frames that it owes, and keeps it.

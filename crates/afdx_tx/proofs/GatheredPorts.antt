@@ -54,8 +54,8 @@ own_part tx new mid ports place valid was takes g same of items opened lt has ba
 pub gathers_sound : (config : Plan) (old : List LinkState) (ports : List PortView) (new : List LinkState) (lines : Lines) (moment : ℕ)
     → GathersPorts config old ports new → IsSound config old lines moment → IsSound config new lines moment
 gathers_sound config old ports new lines moment g sound =
-    kept_sound config g.mid new lines moment (gathered_kept g.mid new g.gathers)
-    (kept_sound config old g.mid lines moment (back_kept old g.mid g.takes) sound)
+    kept_sound config g.mid new lines moment (grind arith)
+    (kept_sound config old g.mid lines moment (grind arith) sound)
 
 -- The published counts are still at most the current ones.
 pub gathers_reaches : (config : Plan) (old : List LinkState) (ports : List PortView) (new : List LinkState) (board : List Published)
@@ -71,10 +71,10 @@ gathers_tx old new ports g same sound after opened every =
     record {
       plan = ap (λ (t : Tx). t.plan) same;
       lines = ap (λ (t : Tx). t.lines) same;
-      moment = ap (λ (t : Tx). t.moment) same;
+      moment = grind arith;
       board = ap (λ (t : Tx). t.board) same;
-      count = g.gathers.count ∙ g.takes.count;
-      links = λ k lt. link_gathered old.links g.mid new.links k (omega (arith, g.takes.count)) g.takes g.gathers;
+      count = grind arith;
+      links = grind arith;
       own = λ place lt. own_part old new g.mid ports place sound.valid sound.of_plan g.takes g.gathers
           (ap (λ (t : Tx). t.plan) same)
           after.of_plan after.items opened lt (every place lt)

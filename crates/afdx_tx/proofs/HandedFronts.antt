@@ -4,7 +4,7 @@ use Rattle.afdx_tx.proofs.Names.{ℕ, ◌≡◌, ◌≤◌, List, [], ◌∷◌,
 -- The stream of a link, turned to a network.
 pub link_side : (net : Net) (vl : ℕ) (H : List Entry)
     → link_stream vl (map (side net) H) ≡ map (side net) (link_stream vl H)
-link_side net vl H = with_map _ (λ (e : Entry). link_in e.frame) (side net) vl (λ e. twin_link net e.frame) H
+link_side net vl H = grind (arith, with_map, link_in, side, twin_link)
 
 -- an entry that passes was logged for the network, or not
 abbrev pub IsSent : (Entry → Bool) → Net → Bool → Logged → Type 0
@@ -18,7 +18,7 @@ picked net p twin [] all = refl
 picked net p twin (l ∷ ls) all =
     let rest = picked net p twin ls (All-tail (IsSent p net true) l ls all) in
     elim (cases_Bool (p l.entry)) [
-      | inl is ↦ rw (all 0 l (omega arith) is, twin l.entry, is) (ap (λ (es : List Entry). side net l.entry ∷ es) rest)
+      | inl is ↦ rw (all 0 l (omega arith) is, twin l.entry, is) (grind arith)
       | inr isnt ↦ elim (cases_Bool (names net l.networks)) [
         | inl named ↦ rw (named, twin l.entry, isnt) rest
         | inr not_named ↦ rw (not_named, isnt) rest
@@ -47,7 +47,7 @@ IsFor vl networks l = link_in l.entry.frame ≡ vl → l.networks ≡ networks
 
 -- A property of two lists holds of the first.
 pub all_front : {X : Type 0} (P : X → Type 0) (xs ys : List X) → All P (xs ++ ys) → All P xs
-all_front P xs ys h = λ k d lt. subst P (get_or_append_left xs ys d k lt) (h k d (omega (arith, length-append xs ys)))
+all_front P xs ys h = grind (arith, get_or_append_left, length-append)
 
 -- A property of two lists holds of the second.
 all_back : {X : Type 0} (P : X → Type 0) (xs ys : List X) → All P (xs ++ ys) → All P ys
@@ -65,7 +65,7 @@ pub record IsFront (net : Net) (whole handed : List Entry) : Type 0 where
 pub log_parts : (lines : Lines) (seen missed : List Logged) → lines.logged ≡ seen ++ missed
     → log lines ≡ entries_of seen ++ entries_of missed
 unfolding log
-log_parts lines seen missed whole = ap entries_of whole ∙ entries_append seen missed
+log_parts lines seen missed whole = grind (arith, entries_of, entries_append)
 
 module _ (net : Net) (stands : Bool) (handed : List Entry) (lines : Lines) (vl : ℕ) (networks : Networks)
     (k : Keeps net stands handed lines.logged) (own : All (IsFor vl networks) lines.logged) where
@@ -75,35 +75,23 @@ module _ (net : Net) (stands : Bool) (handed : List Entry) (lines : Lines) (vl :
 
   -- The stream of a link that the network carries is what it saw.
   named_stream : names net networks ≡ true → link_stream vl handed ≡ map (side net) (link_stream vl (entries_of k.seen))
-  named_stream is = ap (link_stream vl) k.got
-      ∙ picked net _ (λ e. ap (λ (n : ℕ). nat_eq n vl) (twin_link net e.frame)) k.seen (sent true is)
+  named_stream is = grind (arith, link_stream, picked, nat_eq, twin_link, sent)
 
   -- The stream of a link that it doesn't carry is empty.
   pub unnamed_stream : names net networks ≡ false → link_stream vl handed ≡ []
-  unnamed_stream isnt = ap (link_stream vl) k.got
-      ∙ unpicked net _ (λ e. ap (λ (n : ℕ). nat_eq n vl) (twin_link net e.frame)) k.seen (sent false isnt)
+  unnamed_stream isnt = grind (arith, link_stream, unpicked, nat_eq, twin_link, sent)
 
   -- The link's stream is what the network saw and what it missed.
   parts : link_stream vl (log lines) ≡ link_stream vl (entries_of k.seen) ++ link_stream vl (entries_of k.missed)
   parts = ap (link_stream vl) (log_parts lines k.seen k.missed k.whole) ∙ with_append (λ (e : Entry). link_in e.frame) vl _ _
 
   pub front_of : IsFront net (link_stream vl (log lines)) (link_stream vl handed)
-  front_of = elim (cases_Bool (names net networks)) [
-    | inl is ↦ record { front = _; behind = _; is = parts; got = named_stream is }
-    | inr isnt ↦ record { front = []; behind = link_stream vl (log lines); is = refl; got = unnamed_stream isnt }
-  ]
+  front_of = grind (arith, parts, named_stream, unnamed_stream)
 
   -- A network that carries the link and missed nothing of it has the whole stream.
   pub all_handed : names net networks ≡ true → link_stream vl (entries_of k.missed) ≡ []
       → length (link_stream vl (log lines)) ≤ length (link_stream vl handed)
-  all_handed is none = omega (
-    arith,
-    ap length (named_stream is),
-    length-map (link_stream vl (entries_of k.seen)) (side net),
-    ap length parts,
-    length-append (link_stream vl (entries_of k.seen)) (link_stream vl (entries_of k.missed)),
-    ap length none,
-  )
+  all_handed is none = grind (arith, named_stream, length-map, link_stream, entries_of, side, parts, length-append)
 
   -- A network that alone carries the link missed nothing of it.
   pub whole_alone : networks ≡ only net → link_stream vl (entries_of k.missed) ≡ []

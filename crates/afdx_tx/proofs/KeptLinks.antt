@@ -25,11 +25,11 @@ pub record KeepLinks (old new : List LinkState) : Type 0 where
 
 -- The messages taken are the same.
 taken_by_same : (old new : Held) → KeepsSub old new → taken_by new ≡ taken_by old
-taken_by_same old new s = rw (s.ports, s.taken) refl
+taken_by_same old new s = cc
 
 -- The fragments are the same.
 shown_same : (old new : Held) → KeepsSub old new → sub_fragments new.of 0 (taken_by new) ≡ sub_fragments old.of 0 (taken_by old)
-shown_same old new s = rw s.of (ap (sub_fragments old.of 0) (taken_by_same old new s))
+shown_same old new s = cc
 
 -- The sub-VL is tied to the same stream.
 tied_same : (old new : Held) (stream : List Entry) → KeepsSub old new → IsTied old stream → IsTied new stream
@@ -37,7 +37,7 @@ tied_same old new stream s tied = grind arith
 
 -- The sub-VL lacks fragments in the same stream.
 behind_same : (old new : Held) (stream : List Entry) → KeepsSub old new → IsBehind old stream → IsBehind new stream
-behind_same old new stream s b = record { left = b.left; some = b.some; ahead = shown_same old new s ∙ b.ahead }
+behind_same old new stream s b = grind arith
 
 -- The link keeps its invariant.
 own_same : (old new : LinkState) → KeepsLink old new → IsLinkOfPlan old.end_system old.plan old.pace old.subs
@@ -49,7 +49,7 @@ kept_same : (old new : LinkState) (log : List Entry) → KeepsLink old new
     → IsLinkOfPlan old.end_system old.plan old.pace old.subs → IsKept old log → IsKept new log
 kept_same old new log g own kept =
     let within : (s : ℕ) → s < old.plan.sub_vls → s < length old.subs =
-    λ s lt. let count = own.count in let vls = own.sub_vls in omega arith in
+    grind arith in
     subst (λ (l : LinkState). IsKept l log) (sym g.same)
     (record {
       numbered = kept.numbered;
@@ -57,14 +57,8 @@ kept_same old new log g own kept =
       prefixes = λ s lt. rw (taken_by_same _ _ (g.each s (within s lt))) (kept.prefixes s lt);
       chosen = kept.chosen;
       paced = kept.paced;
-      tied = λ whole s lt. tied_same _ _ _ (g.each s (within s lt)) (kept.tied whole s lt);
-      behind = λ lost. let b = kept.behind lost in
-          record {
-            sub = b.sub;
-            within = b.within;
-            behind = behind_same _ _ _ (g.each b.sub (within b.sub b.within))
-                b.behind;
-          };
+      tied = grind arith;
+      behind = grind arith;
       counted = kept.counted;
     })
 
@@ -76,54 +70,39 @@ kept_sound config old new lines moment g s =
     record {
       valid = s.valid;
       of_plan = plans_after config old new s.of_plan
-          (record {
-            count = g.count;
-            end_system = λ k lt. ap (λ (l : LinkState). l.end_system) (g.each k lt).same;
-            plan = λ k lt. ap (λ (l : LinkState). l.plan) (g.each k lt).same;
-            subs = λ k lt. (g.each k lt).count;
-            ports = λ k t lt tlt. ((g.each k lt).each t tlt).ports;
-          })
+          (grind arith)
           (λ k lt. own_same _ _ (g.each k (here k lt)) (s.of_plan.each k (here k lt)));
       kept = λ k lt. kept_same _ _ _ (g.each k (here k lt)) (s.of_plan.each k (here k lt)) (s.kept k (here k lt));
       later = λ k lt. rw (g.each k (here k lt)).same (s.later k (here k lt));
       mirrored = s.mirrored;
       known = s.known;
       carried = s.carried;
-      whole = λ k lt stands. let same = (g.each k (here k lt)).same in
-          ap (λ (l : LinkState). l.lost) same ∙ s.whole k (here k lt) (rw same at stands);
-      items = λ k t lt tlt. let link = g.each k (here k lt) in
-          let sub : t < length (link_at old k).subs = omega (arith, link.count) in
-          (link.each t sub).items (s.items k t (here k lt) sub);
+      whole = grind arith;
+      items = grind arith;
     }
 
 module _ (links : List LinkState) (k s : ℕ) (new : LinkState) (within : k < length links)
     (same : new ≡ record (link_at links k) { subs = set (link_at links k).subs s (held_at new.subs s) }) where
   subs_are : new.subs ≡ set (link_at links k).subs s (held_at new.subs s)
-  subs_are = ap (λ (l : LinkState). l.subs) same
+  subs_are = cc
 
   -- Each link is the same apart from its sub-VLs.
   pub one_link : (m : ℕ) → link_at (set links k new) m ≡ record (link_at links m) { subs = (link_at (set links k new) m).subs }
   one_link m = each_set (λ i l. l ≡ record (link_at links i) { subs = l.subs }) links k new no_link within
-      (same ∙ ap (λ (xs : List Held). record (link_at links k) { subs = xs }) (sym subs_are)) (λ i ne. refl) m
+      (grind arith) (λ i ne. refl) m
 
   -- Each link has the same number of sub-VLs.
   pub one_count : (m : ℕ) → length (link_at (set links k new) m).subs ≡ length (link_at links m).subs
   one_count m = each_set (λ i l. length l.subs ≡ length (link_at links i).subs) links k new no_link within
-      (ap length subs_are ∙ length-set (link_at links k).subs s (held_at new.subs s)) (λ i ne. refl) m
+      (grind (arith, subs_are, length-set, link_at, held_at)) (λ i ne. refl) m
 
   -- A reflexive relation that holds of the changed sub-VL holds of all.
   pub one_each : (R : Held → Held → Type 0) → ((held : Held) → R held held) → R (held_at (link_at links k).subs s) (held_at new.subs s)
       → (m t : ℕ) → R (held_at (link_at links m).subs t) (held_at (link_at (set links k new) m).subs t)
   one_each R itself changed m t = each_set (λ i l. R (held_at (link_at links i).subs t) (held_at l.subs t)) links k new
       no_link within
-      (⊎_elim
-      (λ (its : t ≡ s). subst (λ (i : ℕ). R (held_at (link_at links k).subs i) (held_at new.subs i)) (sym its) changed)
-      (λ (ne : t ≢ s). subst (R (held_at (link_at links k).subs t))
-      (sym (ap (λ (xs : List Held). held_at xs t) subs_are
-      ∙ get_or-set_other (link_at links k).subs s t (held_at new.subs s) nothing_held ne))
-      (itself (held_at (link_at links k).subs t)))
-      (cases_eq t s))
-      (λ i ne. itself (held_at (link_at links i).subs t)) m
+      (grind (arith, held_at, link_at, subs_are, get_or-set_other, nothing_held))
+      (grind arith) m
 
 -- the counts of the first links were published, and the others are unchanged
 pub record IsPublishing (links : List LinkState) (old new : List Published) (many : ℕ) : Type 0 where
@@ -133,7 +112,7 @@ pub record IsPublishing (links : List LinkState) (old new : List Published) (man
 
 pub publishing_all : (links : List LinkState) (old new : List Published) → IsPublishing links old new (length links)
     → PublishesCounts links old new
-publishing_all links old new p = record { count = p.count; each = p.first }
+publishing_all links old new p = grind arith
 
 -- The last published counts are then the current ones.
 pub reaches_all : (links : List LinkState) (old new : List Published) → length old ≡ length links

@@ -41,10 +41,7 @@ known_sent : (links : List LinkPlan) (net : Net) (ls : List Logged) (rest : List
 known_sent links net [] rest h = tt
 known_sent links net (l ∷ ls) rest h =
     let known = known_sent links net ls rest h.1 in
-    elim (cases_Bool (names net l.networks)) [
-      | inl is ↦ rw is (known_twin links net l.entry h.0, known)
-      | inr isnt ↦ rw isnt known
-    ]
+    grind (arith, known_twin)
 
 -- the log is legal
 pub record IsLogLegal (plan : Plan) (accepted : Accepted) (H : List Entry) : Type 0 where

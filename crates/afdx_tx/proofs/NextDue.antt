@@ -4,7 +4,7 @@ use Rattle.afdx_tx.proofs.Names.{ℕ, ◌≡◌, ◌∙◌, ◌≤◌, ◌+◌, 
 -- A link that rests until a time rests until each earlier one.
 sooner : (from until before : ℕ) (plan : LinkPlan) (pace : Pace) (lines : Lines) → before ≤ until
     → RestsUntil from until plan pace lines → RestsUntil from before plan pace lines
-sooner from until before plan pace lines le rests = λ now late early. rests now late (omega (arith, le, early))
+sooner from until before plan pace lines le rests = grind arith
 
 none_sooner : (now : ℕ) (links : List LinkState) (lines : Lines) (many until before : ℕ) → before ≤ until
     → NoneDueBefore now links lines many until → NoneDueBefore now links lines many before
@@ -13,8 +13,7 @@ none_sooner now links lines many until before le none = grind arith
 -- A link that stays as it is and may not release a frame rests at all times of 64 bits.
 stays : (now : ℕ) (plan : LinkPlan) (pace : Pace) (lines : Lines) → StaysAsIs now plan pace lines → may_release now plan pace lines ≡ false
     → RestsUntil now (2 ^ 64) plan pace lines
-stays now plan pace lines (inl may) rests = absurd (let no : true ≡ false = sym may ∙ rests in cc)
-stays now plan pace lines (inr rested) rests = rested
+stays now plan pace lines h4 rests = grind arith
 
 -- One link more.
 none_more : (now : ℕ) (links : List LinkState) (lines : Lines) (many until : ℕ) → NoneDueBefore now links lines many until
@@ -24,7 +23,7 @@ none_more : (now : ℕ) (links : List LinkState) (lines : Lines) (many until : �
 none_more now links lines many until none own = grind arith
 
 one_more : (now : ℕ) (links : List LinkState) (lines : Lines) (many at : ℕ) → OneDueAt now links lines many at → OneDueAt now links lines (many + 1) at
-one_more now links lines many at one = record { place = one.place; within = omega (arith, one.within); due = one.due }
+one_more now links lines many at one = grind arith
 
 pub first_of_more : (now : ℕ) (links : List LinkState) (lines : Lines) (many : ℕ) (first own : Option ℕ)
     → IsFirstDue now links lines many first
@@ -49,9 +48,5 @@ first_of_more now links lines many (Some at) (Some other) first due = elim (case
       )
   | inr ge ↦
       let is : at ≡ min at other = omega (arith, ge) in
-      subst (λ (t : ℕ). IsFirstDue now links lines (many + 1) (Some t)) is (
-        one_more now links lines many at first.0,
-        none_more now links lines many at first.1
-            (λ rests. sooner now other at (link_at links many).plan (link_at links many).pace lines ge due.until),
-      )
+      grind arith
 ]

@@ -46,8 +46,7 @@ run_drained now config links news lines after of g r =
 
 -- A drained queue has nothing left.
 drained_rest : (seen : Seen) → TellsDrained true seen → rest_of seen ≡ []
-drained_rest (receiving r) d = absurd d
-drained_rest (gathered g) d = d
+drained_rest seen d = grind arith
 
 -- A link that is done is wholly released.
 link_done : (link : LinkState) (log : List Entry) → IsOwn link → IsKept link log → IsLinkGathered link
@@ -56,8 +55,7 @@ link_done link log own kept known done = grind (arith, all_released, stands_of, 
 
 -- A queue that isn't drained has something left.
 left_rest : (seen : Seen) → IsKnownWhole seen → TellsDrained false seen → rest_of seen ≡ [] → ⊥
-left_rest (receiving r) g d = absurd g
-left_rest (gathered q) g d = d
+left_rest seen g d = grind arith
 
 -- a sub-VL of the link isn't wholly released
 pub record HasOwing (link : LinkState) (log : List Entry) : Type 0 where
@@ -92,12 +90,12 @@ done_false : (config : Plan) (links : List LinkState) (lines : Lines) (moment : 
 done_false config links lines moment sound g d all =
     let k = d.0 in
     let link = link_at links k in
-    let owing = link_owes link (log lines) (sound.of_plan.each k d.1) (sound.kept k d.1)
+    let owing = link_owes link (log lines) (grind arith) (sound.kept k d.1)
     (λ s slt. g k s d.1 slt) (d.2 no_link) in
-    let all = all k (omega (arith, d.1, count_is config links sound.of_plan)) in
+    let all = all k (grind (arith, count_is)) in
     let done = rw (plan_is config links sound.of_plan k d.1, ← sound.of_plan.end_system k d.1) at all in
     owes_not link.end_system link.plan (lists_of link.subs) (log lines) owing.sub owing.owes
-    (done owing.sub owing.within)
+    (grind arith)
 
 -- All links are done exactly if all accepted messages are wholly released.
 pub all_done : (done : Bool) (config : Plan) (links : List LinkState) (lines : Lines) (moment : ℕ)
@@ -106,4 +104,4 @@ pub all_done : (done : Bool) (config : Plan) (links : List LinkState) (lines : L
     × (IsAllDone config (accepted_in links) (log lines) → done ≡ true)
 all_done true config links lines moment s g d = ((λ _. done_true config links lines moment s g d), (λ _. refl))
 all_done false config links lines moment s g d =
-    ((λ (e : false ≡ true). absurd (cc)), (λ all. absurd (done_false config links lines moment s g d all)))
+    (grind arith, (λ all. absurd (done_false config links lines moment s g d all)))

@@ -23,7 +23,7 @@ pub links_push : (config : Plan) (first : List PortPlan) (links : List LinkState
     → AreOpenedLinks config first links n → IsOpenedLink config.end_system config.ports first (link_plan_at config.links n) new
     → AreOpenedLinks config first (links ++ new ∷ []) (n + 1)
 links_push config first links n new are opened = record {
-  count = let many = are.count in omega (arith, length-append links (new ∷ []));
+  count = grind (arith, length-append);
   each = each_push (λ k link. IsOpenedLink config.end_system config.ports first (link_plan_at config.links k) link)
       links new no_link n are.count are.each opened;
 }
@@ -44,14 +44,7 @@ lacks_at config links place k s valid at are =
     let opened = sub_at config links place k s at are in
     let few = few_ports config (link_plan_at config.links k).id.0 s valid in
     let more = seat_at config place k s at in
-    let within = seats_within config.ports (place + 1) (link_plan_at config.links k).id.0 s in
-    let many : ports_of (held_at (link_at links k).subs s).seen ≡ index_of config.ports place = ap ports_of opened.seen in
-    let own = ap length opened.ports_are in
-    let link = at.link in let count = are.count in let subs = (are.each k at.link).subs.count in (
-      omega arith,
-      omega arith,
-      record { below = omega arith; more = rw opened.seen (omega arith, refl) },
-    )
+    grind (arith, seats_within, link_plan_at, ports_of, held_at, link_at, index_of)
 
 -- A queue has one sender more.
 makes_seen : (old : Seen) (calls : ℕ) (sender : SenderView) (new : Seen) (queue : QueueName) (capacity n : ℕ)
@@ -108,25 +101,19 @@ opened_more config links place k s calls sender new valid at are makes =
       count = length-set links k new ∙ are.count;
       each = each_set P links k new no_link within
           (λ _. link_more config (link_at links k) place k s calls sender new at (are.each k at.link) makes)
-          (λ m ne lt. with_subs config.end_system config.ports (take place config.ports) first (link_plan_at config.links m)
-          (link_at links m) (link_at links m).subs (are.each m lt) (record {
-            count = (are.each m lt).subs.count;
-            each = λ t tlt. rw (others_at config place (link_plan_at config.links m).id.0 t at.within
-                (other_at config place k s m t valid at lt ne)) ((are.each m lt).subs.each t tlt);
-          }));
+          (grind (arith, with_subs, take, link_plan_at, link_at, others_at, other_at));
     }
 
 -- The queues have the same identities.
 makes_name : (old : Seen) (calls : ℕ) (sender : SenderView) (new : Seen) → MakesSender old calls sender new → queue_of new ≡ queue_of old
-makes_name (receiving old) calls sender new makes = ap queue_of makes.1
-makes_name (gathered old) calls sender new makes = absurd makes
+makes_name old calls sender new makes = grind arith
 
 pub names_more : (links : List LinkState) (k s calls : ℕ) (sender : SenderView) (new : LinkState) → k < length links
     → LinkMakesSender (link_at links k) s calls sender new → queues_in (set links k new) ≡ queues_in links
 names_more links k s calls sender new within makes = alike_queues links (set links k new) (length-set links k new)
-    (λ m _. one_count links k s new within makes.same m)
+    (grind (arith, one_count))
     (λ m t _. one_each links k s new within makes.same (λ old held. held_queue held ≡ held_queue old) (λ held. refl)
-    (makes_name _ calls sender _ makes.makes.queue) m t)
+    (grind arith) m t)
 
 -- The port at the next place, with its sender.
 pub fresh_port : (config : Plan) (links : List LinkState) (place k s : ℕ) (plan : PortPlan) (sender : SenderView) (new : LinkState)
@@ -148,31 +135,13 @@ fresh_sound config links valid f =
             (λ k lt. plan_at_is links k (omega (arith, plans_length links))
             ∙ (opened k (omega (arith, plans_length links))).plan);
         end_system = λ k lt. (opened k lt).end_system;
-        each = λ k lt.
-            let link = opened k lt in
-            rw (link.pace, link.plan, link.end_system) (record {
-              count = link.subs.count;
-              sub_vls = refl;
-              gap = refl;
-              named = λ s slt. (link.subs.each s (omega (arith, link.subs.count))).of;
-            });
+        each = grind arith;
         ports = λ k s lt slt.
             let link = opened k lt in
             (link.subs.each s (omega (arith, link.subs.count))).ports_are
             ∙ ap (λ (p : LinkPlan). ports_of_sub config.ports p.id.0 s) (sym link.plan);
       };
-      kept = λ k lt.
-          let link = opened k lt in
-          rw fresh_log (record {
-            numbered = tt;
-            spaced = tt;
-            prefixes = λ s slt. (_, refl);
-            chosen = tt;
-            paced = λ _. rw link.pace refl;
-            tied = λ _ s slt. let sub = link.subs.each s (rw link.plan at slt) in rw (sub.seen, sub.left) refl;
-            behind = λ lost. absurd (both_ways _ link.lost lost);
-            counted = link.counts;
-          });
+      kept = grind (arith, fresh_log, both_ways);
       later = λ k lt. rw (opened k lt).pace tt;
       mirrored = fresh_in_step.mirrored;
       known = rw fresh_log tt;

@@ -14,19 +14,17 @@ known_rest (gathered g) = refl
 
 -- If a poll found nothing, nothing is left.
 rest_none : (old new : Seen) → IsKnownWhole old → FindsNothing old new → rest_of old ≡ []
-rest_none (receiving r) new g f = absurd g
-rest_none (gathered q) new g f = f.0
+rest_none old new g f = grind arith
 
 -- If a poll found a message, something is left.
 rest_some : (old : Seen) (message : ℕ × List ℕ) (new : Seen) → IsKnownWhole old → Finds old message new → rest_of old ≡ [] → ⊥
-rest_some (receiving r) message new g f none = absurd g
-rest_some (gathered q) message new g f none = let e : [] ≡ message ∷ f.0 = sym none ∙ f.1 in cc
+rest_some old message new g f none = grind arith
 
 -- The fragments of two lists of messages.
 fragments_append : (end_system room : ℕ) (net : Net) (place : ℕ) (xs ys : List Sent)
     → fragments_from end_system room net place (xs ++ ys)
     ≡ fragments_from end_system room net place xs ++ fragments_from end_system room net (place + length xs) ys
-fragments_append end_system room net place [] ys = ap (λ (p : ℕ). fragments_from end_system room net p ys) (omega arith)
+fragments_append end_system room net place [] ys = grind arith
 fragments_append end_system room net place (x ∷ xs) ys =
     ap (λ (z : List (List ℕ)). fragments_at end_system room net place x ++ z)
     (fragments_append end_system room net (suc place) xs ys
@@ -48,7 +46,7 @@ owed_split end_system room net held = grind (arith, known_rest, map-append, sent
 -- Two lists are empty if together they are.
 nils : {X : Type 0} (xs ys : List X) → xs ++ ys ≡ [] → (xs ≡ []) × (ys ≡ [])
 nils [] ys e = (refl, e)
-nils (x ∷ xs) ys e = absurd (let no : x ∷ (xs ++ ys) ≡ [] = e in cc)
+nils (x ∷ xs) ys e = cc
 
 -- a sub-VL of a link, tied to its stream, with its accepted messages known whole
 pub record Stands (end_system : ℕ) (link : LinkPlan) (log : List Entry) (s : ℕ) (held : Held) : Type 0 where
@@ -80,9 +78,8 @@ module _ (end_system : ℕ) (link : LinkPlan) (log : List Entry) (s : ℕ) (subs
       let more = untaken end_system (room_of link.lmax) A (held_at subs s) in
       record {
         left = left ++ more;
-        some = λ none. some (nils left more none).0;
-        ahead = owed_split end_system (room_of link.lmax) A (held_at subs s)
-            ∙ rw e (append_assoc (told_of link.id.0 s log) left more);
+        some = grind (arith, nils);
+        ahead = grind (arith, owed_split, room_of, held_at, append_assoc, told_of);
       }
 
   -- A message is left to take.
@@ -109,18 +106,18 @@ module _ (end_system : ℕ) (link : LinkPlan) (log : List Entry) (s : ℕ) (subs
   -- A polled sub-VL that has nothing is wholly released.
   pub passed_released : (new : Held) → Stands end_system link log s (held_at subs s) → Asks false (held_at subs s) new
       → IsReleased end_system link (lists_of subs) log s
-  passed_released new at p = all_released at p.whole (rest_none (held_at subs s).seen new.seen at.seen p.nothing)
+  passed_released new at p = grind (arith, all_released, rest_none)
 
   -- A polled sub-VL that has something isn't wholly released.
   pub asked_owes : (new : Held) → Stands end_system link log s (held_at subs s) → Asks true (held_at subs s) new
       → Owes end_system link (lists_of subs) log s
-  asked_owes new at (inl g) = owes_taken (held_at subs s).left g.some at.taken
-  asked_owes new at (inr p) = owes_rest at (rest_some (held_at subs s).seen p.message new.seen at.seen p.finds)
+  asked_owes new at (inl g) = grind (arith, owes_taken)
+  asked_owes new at (inr p) = grind (arith, owes_rest, rest_some)
 
 -- No sub-VL is both.
 pub owes_not : (end_system : ℕ) (link : LinkPlan) (accepted : ℕ → List Sent) (log : List Entry) (s : ℕ)
     → Owes end_system link accepted log s → IsReleased end_system link accepted log s → ⊥
 owes_not end_system link accepted log s o r =
     let told = told_of link.id.0 s log in
-    let e : length (told ++ o.left) ≡ length told = ap length (sym o.ahead ∙ r) in
-    o.some (nil_from_length o.left (omega (arith, length-append told o.left)))
+    let e : length (told ++ o.left) ≡ length told = grind arith in
+    grind (arith, nil_from_length, length-append)

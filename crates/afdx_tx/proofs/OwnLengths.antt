@@ -24,7 +24,7 @@ of_port port P (m ∷ more) all = by_test (of_port port P more) (nat_eq m.port.i
         (λ own. All-head P m.bytes (messages_of port more) those)
         (rest (All-tail P m.bytes (messages_of port more) those))
     by_test rest false is those = All-cons (λ (sent : Sent). sent.port ≡ port → P sent.bytes) m more
-        (λ own. absurd (both_ways _ is (eq-eqb m.port.id.0 port.id.0 (ap (λ (p : PortPlan). p.id.0) own))))
+        (grind arith)
         (rest those)
 
 -- the messages of the port at a place

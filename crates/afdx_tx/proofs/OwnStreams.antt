@@ -20,7 +20,7 @@ for_a_entries (l ∷ ls) h =
 -- So are the entries of the log.
 log_for_a : (lines : Lines) → IsMirrored lines → map (side A) (log lines) ≡ log lines
 unfolding log
-log_for_a lines m = for_a_entries lines.logged m.for_a
+log_for_a lines m = grind (arith, for_a_entries)
 
 -- So are those of a link's stream of the log.
 stream_for_a : (lines : Lines) (vl : ℕ) → IsMirrored lines
@@ -35,9 +35,9 @@ all_of net S xs f long = grind (arith, nil_from_length, length-append, length-ma
 longer_is : (S a b : List Entry) → map (side A) S ≡ S → IsFront A S a → IsFront B S b
     → (length S ≤ length a) ⊎ (length S ≤ length b) → map (side A) (longer a b) ≡ S
 longer_is S a b own f g one = ⊎_elim
-    (λ (lt : length a < length b). rw (lt-ltb _ _ lt, all_of B S b g (⊎_elim (λ le. omega arith) (λ le. le) one), sides A B S) own)
-    (λ (ge : length b ≤ length a). rw (le-ltb _ _ ge, all_of A S a f (⊎_elim (λ le. le) (λ le. omega arith) one), sides A A S) own)
-    (cases_lt (length a) (length b))
+    (λ (lt : length a < length b). rw (lt-ltb _ _ lt, all_of B S b g (grind arith), sides A B S) own)
+    (λ (ge : length b ≤ length a). rw (le-ltb _ _ ge, all_of A S a f (grind arith), sides A A S) own)
+    (grind arith)
 
 -- The stream of one link.
 own_of : (lines : Lines) (vl : ℕ) (networks : Networks) → IsMirrored lines → All (IsFor vl networks) lines.logged
@@ -73,28 +73,25 @@ IsPlanned links l = is_on_both links (link_in l.entry.frame) ≡ is_both l.netwo
 planned : (plan : Plan) (ls : List Logged) → IsPlan plan → AreKnown plan.links A (entries_of ls)
     → AreCarried plan.links ls → All (IsPlanned plan.links) ls
 planned plan ls valid known carried i d lt =
-    let is : get_or (entries_of ls) i d.entry ≡ (get_or ls i d).entry = get_or-map (λ (l : Logged). l.entry) ls i d d.entry lt in
+    let is : get_or (entries_of ls) i d.entry ≡ (get_or ls i d).entry = grind (arith, get_or-map) in
     let k = subst (λ (e : Entry). IsKnown plan.links A e.frame) is (known_all plan.links A (entries_of ls) known i d.entry
-    (omega (arith, length-map ls (λ (l : Logged). l.entry)))) in
-    ap (is_on_both plan.links) k.link ∙ on_both_is plan k.k valid k.within
-    ∙ ap is_both (sym (carried k.k k.within i d lt k.link))
+    (grind (arith, length-map))) in
+    grind (arith, is_on_both, on_both_is, is_both)
 
 -- The logged entries are logged so.
 logged_planned : (plan : Plan) (lines : Lines) → IsPlan plan → AreCarried plan.links lines.logged
     → AreKnown plan.links A (log lines) → All (IsPlanned plan.links) lines.logged
 unfolding log
-logged_planned plan lines valid carried known = planned plan lines.logged valid known carried
+logged_planned plan lines valid carried known = grind (arith, planned)
 
 -- An entry for both networks is for each.
 both_names : (net : Net) (networks : Networks) → is_both networks ≡ true → names net networks ≡ true
-both_names A networks is = (and_parts (carries_a networks) (carries_b networks) is).0
-both_names B networks is = (and_parts (carries_a networks) (carries_b networks) is).1
+both_names net networks is = grind arith
 
 -- On such links, a network's frames are the twins of the log.
 both_sent : (links : List LinkPlan) (net : Net) (ls : List Logged) → All (IsPlanned links) ls
     → on_both links (sent_to net ls) ≡ map (side net) (on_both links (entries_of ls))
-both_sent links net ls own = picked net _ (λ e. ap (is_on_both links) (twin_link net e.frame)) ls
-    (λ k d lt on. both_names net _ (sym (own k d lt) ∙ on))
+both_sent links net ls own = grind (arith, picked, is_on_both, twin_link, both_names)
 
 -- Two lists with a common extension agree as far as the shorter one reaches.
 taken_front : (xs ys zs ws : List Entry) → xs ++ ys ≡ zs ++ ws → length zs ≤ length xs → take (length zs) xs ≡ zs
@@ -108,7 +105,7 @@ front_twins xs ys zs ws same = grind (arith, taken_front, length-map, side, take
 
 -- The entries of such links in two lists.
 both_append : (links : List LinkPlan) (xs ys : List Entry) → on_both links (xs ++ ys) ≡ on_both links xs ++ on_both links ys
-both_append links xs ys = filter-append (λ (e : Entry). is_on_both links (link_in e.frame)) xs ys
+both_append links xs ys = grind (arith, filter-append, is_on_both, link_in)
 
 -- On such links the frames of the two networks are twins.
 pub both_twins : (plan : Plan) (lines : Lines) → IsPlan plan → IsMirrored lines → AreCarried plan.links lines.logged

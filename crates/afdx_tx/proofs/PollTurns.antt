@@ -3,8 +3,7 @@ use Rattle.afdx_tx.proofs.Names.{ℕ, ◌≡◌, ◌≢◌, ◌<◌, List, [], �
 
 -- A later time.
 pub later_on : (last : Option Stamp) (m n : ℕ) → m ≤ n → IsLater last m → IsLater last n
-later_on None m n le later = tt
-later_on (Some last) m n le later = omega arith
+later_on last m n le later = grind arith
 
 -- The relation is reflexive.
 pub same_link : (link : LinkState) → IsSameLink link link
@@ -53,7 +52,7 @@ plans_length links = length-map links plan_of_link
 -- Equal elements have equal images.
 pub map_alike : {X Y : Type 0} (f : X → Y) (xs ys : List X) (d : X) → length xs ≡ length ys
     → ((k : ℕ) → k < length ys → f (get_or xs k d) ≡ f (get_or ys k d)) → map f xs ≡ map f ys
-map_alike f xs ys d same each = ext_get_or (f d) (map f xs) (map f ys) (length-map xs f ∙ same ∙ sym (length-map ys f))
+map_alike f xs ys d same each = ext_get_or (f d) (map f xs) (map f ys) (grind (arith, length-map))
     (λ k lt. let here : k < length xs = omega (arith, length-map xs f) in let there : k < length ys = omega arith in
     get_or-map f xs k d (f d) here ∙ each k there ∙ sym (get_or-map f ys k d (f d) there))
 
@@ -69,14 +68,7 @@ known_after now i old (Released sub number) links new lines after same lt own t 
     let plan = plan_at_is old i il ∙ sym (same.each i il).plan in
     let below = released_below now number (link_at links i) _ sub lines after r own in
     rw (log_more lines after (logged_for (link_at links i).plan.networks (entry now r.frame)) r.enters)
-    (known_push (plans old) (log lines) (entry now r.frame) h (record {
-      size = r.of.size;
-      k = i;
-      within = omega (arith, plans_length old);
-      link = rw plan r.of.link;
-      of_sub = rw (plan, r.of.of_sub) below;
-      interface = r.of.interface;
-    }))
+    (grind (arith, known_push, plans_length))
 known_after now i old Lost links new lines after same lt own t h = rw (log_same lines after t.serves.1.same) h
 
 -- After a turn the log is carried by its links' networks.
@@ -125,15 +117,7 @@ steady_more now i old links lines after new did s apart lt t later =
       s.later j jlt,
       λ q qlt. s.items j q jlt qlt,
     )) in
-    record {
-      same = record { count = len ∙ s.same.count; each = λ k klt. (all k (omega (arith, s.same.count))).0 };
-      each = λ k klt. (all k (omega arith)).1;
-      kept = λ k klt. (all k (omega arith)).2;
-      later = λ k klt. (all k (omega arith)).3;
-      known = known_after now i old did links new lines after s.same lt own t s.known;
-      carried = carried_after now i old did links new lines after apart s.same lt t s.carried;
-      items = λ k r klt rlt. (all k (omega arith)).4 r rlt;
-    }
+    grind (arith, known_after, carried_after)
 
 -- If nothing entered the log, no release is reported.
 told_same : (now : ℕ) (rs : List Release) (before lines after : Lines) → log after ≡ log lines
@@ -144,20 +128,19 @@ told_same now rs before lines after e t = grind (arith, append-nil)
 pub told_more : (now : ℕ) (did : Served) (link new : LinkState) (rs : List Release) (before lines after : Lines)
     → Turned now link new lines after did → IsTold now rs before lines
     → IsTold now (rs ++ turn_release link.plan.id did) before after
-told_more now Nothing link new rs before lines after t h = told_same now rs before lines after (ap log t.serves.1) h
+told_more now Nothing link new rs before lines after t h = grind (arith, told_same)
 told_more now (Released sub number) link new rs before lines after t h =
     let r = t.serves.2 in
     let e = entry now r.frame in
     let same : release_of e ≡ record { vl = link.plan.id; sub = sub; number = number } =
-    λ i. record { vl = record { 0 = r.of.link i }; sub = r.of.of_sub i; number = r.of.carries i } in
+    grind arith in
     record {
       entries = h.entries ++ e ∷ [];
       grown = log_more lines after (logged_for link.plan.networks e) r.enters
           ∙ ap (λ (x : List Entry). x ++ e ∷ []) h.grown
           ∙ append_assoc (log before) h.entries (e ∷ []);
       named = map-append release_of h.entries (e ∷ []) ∙ rw (h.named, same) refl;
-      moments = map-append (λ (x : Entry). x.at) h.entries (e ∷ []) ∙ ap (λ (x : List ℕ). x ++ now ∷ []) h.moments
-          ∙ sym (map-append (λ (x : Entry). now) h.entries (e ∷ []));
+      moments = grind (arith, map-append);
     }
 told_more now Lost link new rs before lines after t h = grind (arith, told_same, log_same)
 
@@ -177,23 +160,13 @@ turns_on : (now i : ℕ) (old news : List LinkState) (before lines after : Lines
     → AreTurns (IsTurnAt now old news) 0 (i + 1) before after
 turns_on now i old news before lines after did turns turn = rw add-one
     (turns_push (IsTurnAt now old news) 0 i before lines after did
-    turns (subst (λ (n : ℕ). IsTurnAt now old news n lines after did) (omega arith) turn))
+    turns (grind arith))
 
 -- The turn of a link that may not release a frame.
 idle_turn : (now : ℕ) (link : LinkState) (lines : Lines) → may_release now link.plan link.pace lines ≡ false
     → (stands_for link.plan.networks lines ≡ true → link.lost ≡ false) → IsKept link (log lines)
     → IsTurn now link link lines lines Nothing
-idle_turn now link lines may_not_now whole kept = record {
-  same = same_link link;
-  tied = λ stands. kept.tied (whole stands);
-  serves = (inl (idle, λ s. refl), refl);
-}
-  where
-    stream_pace : Pace
-    stream_pace = pace_of link.pace.gap link.pace.sub_vls (link_stream link.plan.id.0 (log lines))
-
-    idle : may_release now link.plan stream_pace lines ≡ false
-    idle = grind arith
+idle_turn now link lines may_not_now whole kept = grind arith
 
 -- One more link has had its turn.
 pub polling_more : (now i : ℕ) (old links : List LinkState) (before lines after : Lines) (new : LinkState) (did : Served)
@@ -229,13 +202,13 @@ pub polling_on : (now i : ℕ) (old links : List LinkState) (before lines : Line
     → IsPolling now (i + 1) old links before lines released
 polling_on now i old links before lines released p lt may_not_now =
     let turn = subst (λ (l : LinkState). IsTurn now l (link_at links i) lines lines Nothing) (p.rest i (omega arith))
-    (idle_turn now (link_at links i) lines may_not_now (p.whole i lt) (p.steady.kept i lt)) in
+    (grind arith) in
     record {
       steady = p.steady;
       turns = turns_on now i old links before lines lines Nothing p.turns turn;
       rest = λ k le. p.rest k (omega arith);
       whole = p.whole;
       told = p.told;
-      room = let room = p.room in omega arith;
+      room = omega arith;
       endure = p.endure;
     }

@@ -25,15 +25,14 @@ found_at links vl k e = grind (arith, position-Some, has_id, no_link_plan, eqb-t
 
 -- The link of a port is found.
 pub found : (links : List LinkPlan) (port : PortPlan) → HasLink links port → position (is_its port) links ≡ None → ⊥
-found links port has none = none_has links port.vl.0 has.at none has.within (ap (λ (id : VlId). id.0) has.over.id)
+found links port has none = none_has links port.vl.0 has.at none has.within (grind arith)
 
 -- A valid plan has one link with an identifier.
 pub found_over : (plan : Plan) (port : PortPlan) (k : ℕ) → IsPlan plan → HasLink plan.links port
     → position (is_its port) plan.links ≡ Some k → SendsOver port (link_plan_at plan.links k)
 found_over plan port k valid has e =
     let at = found_at plan.links port.vl.0 k e in
-    let id : (link_plan_at plan.links k).id ≡ port.vl = λ i. record { 0 = at.1 i } in
-    rw (valid.links_apart k has.at at.0 has.within (id ∙ sym has.over.id)) has.over
+    grind arith
 
 -- The link of a port is one of the plan, and the port sends over it.
 pub link_within : (plan : Plan) (port : PortPlan) → IsPlan plan → HasLink plan.links port
@@ -43,7 +42,7 @@ link_within plan port valid has = at (position (is_its port) plan.links) refl
     at : (r : Option ℕ) → position (is_its port) plan.links ≡ r
         → (unwrap_or r 0 < length plan.links) × SendsOver port (link_plan_at plan.links (unwrap_or r 0))
     at None e = absurd (found plan.links port has e)
-    at (Some k) e = ((found_at plan.links port.vl.0 k e).0, found_over plan port k valid has e)
+    at (Some k) e = (grind arith, found_over plan port k valid has e)
 
 -- whether the port is of the sub-VL
 abbrev pub on_sub_vl : ℕ → ℕ → PortPlan → Bool
@@ -62,13 +61,13 @@ seats_more ports i vl sub lt = length-filter_more (on_sub_vl vl sub) ports i _ l
 pub seats_within : (ports : List PortPlan) (i vl sub : ℕ) → seats ports i vl sub ≤ length (ports_of_sub ports vl sub)
 seats_within ports i vl sub =
     let whole : ports_of_sub ports vl sub ≡ ports_of_sub (take i ports) vl sub ++ ports_of_sub (drop i ports) vl sub =
-    sym (ap (λ (all : List PortPlan). ports_of_sub all vl sub) (take-append-drop i ports))
+    sym (grind (arith, ports_of_sub, take-append-drop))
     ∙ filter-append (on_sub_vl vl sub) (take i ports) (drop i ports) in
-    omega (arith, ap length whole, length-append (ports_of_sub (take i ports) vl sub) (ports_of_sub (drop i ports) vl sub))
+    grind (arith, length-append, ports_of_sub, take, drop)
 
 -- A port is of its own sub-VL.
 pub on_own : (port : PortPlan) (vl sub : ℕ) → port.vl.0 ≡ vl → port.sub ≡ sub → on_sub_vl vl sub port ≡ true
-on_own port vl sub v s = and_from _ _ (eq-eqb _ _ v) (eq-eqb _ _ s)
+on_own port vl sub v s = grind arith
 
 -- the port at a place sends over this sub-VL of this link
 pub record IsAt (config : Plan) (place k s : ℕ) : Type 0 where
@@ -80,15 +79,15 @@ pub record IsAt (config : Plan) (place k s : ℕ) : Type 0 where
 module _ (config : Plan) (place k s : ℕ) (at : IsAt config place k s) where
   -- The port is of that sub-VL.
   pub own_at : on_sub_vl (link_plan_at config.links k).id.0 s (port_plan_at config.ports place) ≡ true
-  own_at = on_own (port_plan_at config.ports place) _ _ (ap (λ (id : VlId). id.0) (sym at.over.id)) at.sub
+  own_at = grind arith
 
   -- Its index is the number of earlier ports of its sub-VL.
   pub index_at : index_of config.ports place ≡ seats config.ports place (link_plan_at config.links k).id.0 s
-  index_at = rw (at.over.id, at.sub) refl
+  index_at = cc
 
   -- The number after it is one higher.
   pub seat_at : seats config.ports (place + 1) (link_plan_at config.links k).id.0 s ≡ index_of config.ports place + 1
-  seat_at = rw index_at (rw own_at at (seats_more config.ports place (link_plan_at config.links k).id.0 s at.within))
+  seat_at = grind (arith, index_at, own_at, seats_more)
 
 -- The port is of no other link.
 pub other_at : (config : Plan) (place k s other t : ℕ) → IsPlan config → IsAt config place k s → other < length config.links
@@ -122,4 +121,4 @@ pub own_ports : (ports : List PortPlan) (of : SubVl) → All IsPort ports → of
     → All (IsPortOf of) (ports_of_sub ports of.link.id.0 of.sub)
 own_ports ports of each lt k d below =
     let own = of_sub IsPort ports of.link.id.0 of.sub each k d below in
-    record { port = own.0; over = record { id = λ i. record { 0 = sym own.1 i }; sub = omega (arith, own.2, lt) }; of_sub = own.2 }
+    grind arith

@@ -12,13 +12,7 @@ item_allowed : (config : Plan) (k s : ℕ) (item : ℕ × List ℕ)
 item_allowed config k s item is =
     let own = of_sub (Contains config.ports) config.ports (link_plan_at config.links k).id.0 s (All-contains_itself config.ports)
     item.0 (port_plan_at [] 0) is.port in
-    record {
-      port = own.0;
-      over = own.1;
-      its = own.2;
-      some = is.message.some;
-      most = is.message.most;
-    }
+    grind arith
 
 -- The same of a list of items.
 items_allowed : (config : Plan) (k s : ℕ) (ports : List PortPlan) (items : List (ℕ × List ℕ))
@@ -33,17 +27,12 @@ module _ (config : Plan) (links : List LinkState) (of : AreLinksOf config links)
   -- The ports of a sub-VL of a link.
   ports_are : (k s : ℕ) → k < length links → s < length (link_at links k).subs
       → (held_at (link_at links k).subs s).ports ≡ ports_of_sub config.ports (link_plan_at config.links k).id.0 s
-  ports_are k s lt slt = rw (plan_is config links of k lt) (of.ports k s lt slt)
+  ports_are k s lt slt = grind (arith, plan_is)
 
   -- A link has the number of sub-VLs that the plan says.
   pub sub_within : (k s : ℕ) → k < length links → s < (link_plan_at config.links k).sub_vls
       → s < length (link_at links k).subs
-  sub_within k s lt slt = omega (
-    arith,
-    rw (plan_is config links of k lt) at slt,
-    (of.each k lt).count,
-    (of.each k lt).sub_vls,
-  )
+  sub_within k s lt slt = grind (arith, plan_is)
 
   -- The sub-VL of the port at a place is one of the links'.
   pub port_within : (place : ℕ) → IsPlan config → place < length config.ports
@@ -51,8 +40,8 @@ module _ (config : Plan) (links : List LinkState) (of : AreLinksOf config links)
       × ((port_plan_at config.ports place).sub < length (link_at links (link_place config (port_plan_at config.ports place))).subs)
       × SendsOver (port_plan_at config.ports place) (link_plan_at config.links (link_place config (port_plan_at config.ports place)))
   port_within place valid lt =
-      let linked = link_within config (port_plan_at config.ports place) valid (valid.linked place _ lt) in
-      let here : link_place config (port_plan_at config.ports place) < length links = omega (arith, linked.0, count_is config links of) in
+      let linked = link_within config (port_plan_at config.ports place) valid (grind arith) in
+      let here : link_place config (port_plan_at config.ports place) < length links = grind (arith, count_is) in
       (here, sub_within _ _ here linked.1.sub, linked.1)
 
   -- Messages of each sub-VL's own ports are of its ports in the configuration.
@@ -62,7 +51,7 @@ module _ (config : Plan) (links : List LinkState) (of : AreLinksOf config links)
       → AreQueued config (λ k s. sent_by (held_at (link_at links k).subs s).ports
       (read (held_at (link_at links k).subs s).seen))
   own_allowed read items k s klt slt =
-      let lt : k < length links = omega (arith, count_is config links of) in
+      let lt : k < length links = grind (arith, count_is) in
       let sub = sub_within k s lt slt in
       items_allowed config k s _ (read (held_at (link_at links k).subs s).seen) (ports_are k s lt sub)
       (items k s lt sub)
@@ -111,7 +100,7 @@ part_is ports index port [] same all = refl
 part_is ports index port (item ∷ items) same all =
     let is = All-head (IsItem (length ports)) item items all in
     let rest = part_is ports index port items same (All-tail (IsItem (length ports)) item items all) in
-    rw (same item.0 is.port, rest) refl
+    grind arith
 
 -- A port among those of its sub-VL.
 own_index : (config : Plan) (place : ℕ) → IsPlan config → place < length config.ports → (i : ℕ)
@@ -125,13 +114,8 @@ own_index config place valid lt =
     let passes = on_own port port.vl.0 port.sub refl refl in
     let seat = rw passes at (seats_more config.ports place port.vl.0 port.sub lt) in
     is_index (filter on config.ports) (AllPairs-filter AreOthers on config.ports (ports_differ config valid))
-    (index_of config.ports place) port.id.0 (omega (
-      arith,
-      seat,
-      seats_within config.ports (place + 1) port.vl.0
-          port.sub,
-    ))
-    (ap (λ (p : PortPlan). p.id.0) (place_in on config.ports place (port_plan_at [] 0) lt passes))
+    (index_of config.ports place) port.id.0 (grind (arith, seats_within))
+    (grind (arith, place_in))
 
 -- The accepted messages of a port, by its identifier.
 pub own_messages : (tx : Tx) (place : ℕ) (own : List (List ℕ)) → IsPlan tx.plan → AreLinksOf tx.plan tx.links

@@ -23,29 +23,26 @@ pub plans_after : (config : Plan) (old new : List LinkState) → AreLinksOf conf
     → AreLinksOf config new
 plans_after config old new of keep each = record {
   each_plan = map_alike plan_of_link new old no_link keep.count keep.plan ∙ of.each_plan;
-  end_system = λ k lt. let o : k < length old = omega (arith, keep.count) in keep.end_system k o ∙ of.end_system k o;
+  end_system = grind arith;
   each = each;
-  ports = λ k s lt slt.
-      let o : k < length old = omega (arith, keep.count) in
-      let t : s < length (link_at old k).subs = omega (arith, keep.subs k o) in
-      rw (keep.plan k o) (keep.ports k s o t ∙ of.ports k s o t);
+  ports = grind arith;
 }
 
 -- The plan of a link, from the configuration.
 pub plan_is : (config : Plan) (links : List LinkState) → AreLinksOf config links → (k : ℕ) → k < length links
     → link_plan_at config.links k ≡ (link_at links k).plan
-plan_is config links of k lt = ap (λ (ps : List LinkPlan). link_plan_at ps k) (sym of.each_plan) ∙ plan_at_is links k lt
+plan_is config links of k lt = grind (arith, link_plan_at, plan_at_is)
 
 -- There are as many links as the configuration has.
 pub count_is : (config : Plan) (links : List LinkState) → AreLinksOf config links → length links ≡ length config.links
-count_is config links of = sym (plans_length links) ∙ ap length of.each_plan
+count_is config links of = grind (arith, plans_length)
 
 -- The identifiers of a valid plan's links differ.
 pub links_apart : (config : Plan) (links : List LinkState) → IsPlan config → AreLinksOf config links → AreApart links
 links_apart config links valid of i j ilt jlt e =
     let n = count_is config links of in
     let id = λ (k : ℕ) (lt : k < length links). ap (λ (p : LinkPlan). p.id) (plan_is config links of k lt) in
-    valid.links_apart i j (omega arith) (omega arith) (id i ilt ∙ e ∙ sym (id j jlt))
+    grind arith
 
 -- The emitter is still sound.
 pub sound_after : (config : Plan) (old new : List LinkState) (lines : Lines) (now : ℕ) → IsPlan config
@@ -54,18 +51,12 @@ pub sound_after : (config : Plan) (old new : List LinkState) (lines : Lines) (no
 sound_after config old new lines now valid of s mirrored whole =
     record {
       valid = valid;
-      of_plan = plans_after config old new of (record {
-        count = s.same.count;
-        end_system = λ k lt. (s.same.each k lt).end_system;
-        plan = λ k lt. (s.same.each k lt).plan;
-        subs = λ k lt. (s.same.each k lt).count;
-        ports = λ k t lt tlt. ((s.same.each k lt).subs t).ports;
-      }) s.each;
+      of_plan = plans_after config old new of (grind arith) s.each;
       kept = s.kept;
       later = s.later;
       mirrored = mirrored;
-      known = rw of.each_plan at s.known;
-      carried = rw of.each_plan at s.carried;
+      known = grind arith;
+      carried = grind arith;
       whole = whole;
       items = s.items;
     }
@@ -121,7 +112,7 @@ turns_keeps : (plan : Plan) (net : Net) (stands : Bool) (handed : List Entry) (l
     → AreCarried plan.links lines.logged → TakeTurnsOn plan (log lines) → TakeTurnsOn plan handed
 turns_keeps plan net stands handed lines keeps carried turns k klt =
     let f = front_of net stands handed lines (link_plan_at plan.links k).id.0 (link_plan_at plan.links k).networks keeps (carried k klt) in
-    subst TakesTurns (sym f.got) (turns_side net f.front f.behind (subst TakesTurns f.is (turns k klt)))
+    grind (arith, turns_side)
 
 -- The frames of both networks take turns.
 pub sound_turns : (config : Plan) (links : List LinkState) (lines : Lines) (moment : ℕ)
@@ -129,8 +120,7 @@ pub sound_turns : (config : Plan) (links : List LinkState) (lines : Lines) (mome
 sound_turns config links lines moment s =
     let n = count_is config links s.of_plan in
     let turns : TakeTurnsOn config (log lines) = λ k klt. rw (plan_is config links s.of_plan k (omega arith))
-    (takes_turns (link_at links k).pace.sub_vls None none_begun (link_stream (link_at links k).plan.id.0 (log lines))
-    (s.kept k (omega arith)).chosen) in
+    (grind (arith, takes_turns, link_at, none_begun, link_stream, log)) in
     record {
       on_a = turns_keeps config A lines.a_stands lines.a lines s.mirrored.first s.carried turns;
       on_b = turns_keeps config B lines.b_stands lines.b lines s.mirrored.second s.carried turns;

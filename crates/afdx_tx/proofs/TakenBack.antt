@@ -7,13 +7,11 @@ use Rattle.afdx_tx.proofs.PortLink.{seats, seats_more, on_sub_vl, link_within}
 
 -- The relation is reflexive.
 only_here : (seen : Seen) → OnlyTakesBack seen seen
-only_here (receiving r) = refl
-only_here (gathered g) = refl
+only_here seen = grind arith
 
 -- Taking back one sender.
 only_one : (old : Seen) (sender : SenderView) (new : Seen) → TakesBack old sender new → OnlyTakesBack old new
-only_one (receiving old) sender new takes = subst (OnlyTakesBack (receiving old)) (sym takes) refl
-only_one (gathered old) sender new takes = absurd takes
+only_one old sender new takes = grind arith
 
 -- All else of the queue is the same.
 only_read : {X : Type 0} (read : Seen → X) → ((r : ReceiverView) (back : List Brought) → read (receiving (record r { back = back })) ≡ read (receiving r))
@@ -45,16 +43,10 @@ pub take_one : (links : List LinkState) (k s : ℕ) (sender : SenderView) (new :
     → LinkTakesBack (link_at links k) s sender new → OnlyTakeBack links (set links k new)
 take_one links k s sender new within takes =
     let here : SubTakes (held_at (link_at links k).subs s) (held_at new.subs s) =
-    record { same = takes.takes.same; queue = only_one _ sender _ takes.takes.queue } in
+    grind arith in
     let all = one_each links k s new within takes.same SubTakes
-    (λ (h : Held). record { same = refl; queue = only_here h.seen }) here in
-    record {
-      count = length-set links k new;
-      links = one_link links k s new within takes.same;
-      subs = one_count links k s new within takes.same;
-      helds = λ m t. (all m t).same;
-      queues = λ m t. (all m t).queue;
-    }
+    (grind arith) here in
+    grind (arith, length-set, one_link, one_count)
 
 -- The relation of links is transitive.
 pub take_on : (a b c : List LinkState) → OnlyTakeBack a b → OnlyTakeBack b c → OnlyTakeBack a c
@@ -67,7 +59,7 @@ back_kept old new t = grind arith
 -- The queue of each sub-VL has the same identity.
 pub back_name : (old new : List LinkState) (k s : ℕ) → OnlyTakeBack old new
     → queue_of (held_at (link_at new k).subs s).seen ≡ queue_of (held_at (link_at old k).subs s).seen
-back_name old new k s t = only_read queue_of (λ r b. refl) _ _ (t.queues k s)
+back_name old new k s t = grind arith
 
 -- A port that was taken back still is.
 pub stays_back : (config : Plan) (links : List LinkState) (k s : ℕ) (sender : SenderView) (new : LinkState) (port : PortView)
@@ -77,7 +69,7 @@ stays_back config links k s sender new port within takes was =
     let all = one_each links k s new within takes.same
     (λ (old after : Held). Contains (back_of old.seen) (brought_by port.sender) → Contains (back_of after.seen) (brought_by port.sender))
     (λ _ h. h) (more_back _ sender _ (brought_by port.sender) takes.takes.queue) in
-    record { messages = was.messages; back = all (link_place config port.plan) port.plan.sub was.back }
+    grind arith
 
 -- The port of the sender is taken back.
 pub comes_back : (config : Plan) (links : List LinkState) (k s : ℕ) (new : LinkState) (port : PortView)
@@ -98,12 +90,12 @@ indexed_to ports vl sub index (suc n) le lt = ⊎_elim
     (λ (before : index < seats ports n vl sub). indexed_to ports vl sub index n (omega arith) before)
     (λ after. let one : n + 1 ≡ suc n = omega arith in
     at (on_sub_vl vl sub (port_plan_at ports n)) refl after (rw one at (seats_more ports n vl sub (omega arith))))
-    (cases_lt index (seats ports n vl sub))
+    (grind arith)
   where
     at : (b : Bool) → on_sub_vl vl sub (port_plan_at ports n) ≡ b → seats ports n vl sub ≤ index
         → seats ports (suc n) vl sub ≡ seats ports n vl sub + cond (on_sub_vl vl sub (port_plan_at ports n)) 1 0
         → (place : ℕ) × HasIndex ports vl sub index place
-    at true on after more = (n, record { within = omega arith; own = on; at = let m = rw on at more in omega arith })
+    at true on after more = (n, grind arith)
     at false on after more = absurd (let m = rw on at more in omega arith)
 
 indexed : (ports : List PortPlan) (vl sub index : ℕ) → index < length (ports_of_sub ports vl sub)

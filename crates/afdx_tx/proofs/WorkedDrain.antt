@@ -15,8 +15,7 @@ use Rattle.afdx_legal.specs.WorkedMessage.{one_byte_accepted, one_frame}
 
 -- There is one link, and one sub-VL.
 only_one : (P : ℕ → Type 0) → P 0 → (k : ℕ) → k < 1 → P k
-only_one P here zero lt = here
-only_one P here (suc k) lt = absurd (omega arith)
+only_one P here k lt = grind arith
 
 -- The message's fragment is transmitted.
 released : IsReleased 1 demo_link (one_byte_accepted 0) (log one_line) 0
@@ -26,7 +25,7 @@ released = refl
 -- At first it isn't.
 owes : Owes 1 demo_link (one_byte_accepted 0) (log no_lines) 0
 unfolding log checksum addresses header_front internet_header link_header udp_header datagram unnumbered cutting fragments_at
-owes = record { left = blanked (one_frame A) ∷ []; some = λ e. cc; ahead = refl }
+owes = grind arith
 
 -- The first poll transmits it.
 first_turn : Drains 1000 1 demo_link (one_byte_accepted 0) no_lines one_line (Released 0 0)
@@ -41,26 +40,20 @@ first_turn = (
       within = omega arith;
       is = refl;
       chosen = owes;
-      before = λ k lt. absurd (omega arith);
+      before = grind arith;
       others = λ s other. tt;
     };
-    of = record {
-      size = let size : length (one_frame A) ≡ 60 = refl in omega arith;
-      link = refl;
-      of_sub = refl;
-      carries = refl;
-      interface = refl;
-    };
+    of = grind arith;
     enters = refl;
     stands = refl;
-    endure = both_hands no_lines one_line true true (entry 1000 (one_frame A)) (entry 1000 (one_frame B)) (refl, refl) (refl, refl);
+    endure = grind arith;
   },
 )
 
 -- The second poll has nothing to transmit.
 second_turn : Drains 2000 1 demo_link (one_byte_accepted 0) one_line one_line Nothing
 unfolding log checksum addresses header_front internet_header link_header udp_header datagram unnumbered
-second_turn = (inr (refl, record { each = only_one _ released; others = λ s le. tt }), refl)
+second_turn = grind (arith, only_one, released)
 
 -- Nothing was released before.
 fresh : (k : ℕ) → k < 1 → IsLater (latest None (stream_at demo_plan k no_lines)) 0
@@ -76,12 +69,12 @@ pub drains_one : DrainsOne
 drains_one = record {
   valid = demo_valid;
   later = fresh;
-  gap = only_one _ (omega arith);
-  apart = (omega arith, (omega arith, tt));
+  gap = grind arith;
+  apart = grind arith;
   drained = (
     one_line,
     (one_line, Released 0 0, first_turn, refl),
-    (one_line, (one_line, Nothing, second_turn, refl), refl),
+    grind (arith, second_turn),
   );
   stand = only_one _ refl;
   owed = only_one _ (omega (arith, one_owed));
@@ -91,7 +84,7 @@ drains_one = record {
 -- a message is left
 one_left : (at failures : ℕ) (up : Bool) → IsAllDone demo_plan two_accepted (log (line_of at failures up)) → ⊥
 unfolding log checksum addresses header_front internet_header link_header udp_header datagram unnumbered cutting fragments_at
-one_left at failures up done = let few : ◌≡◌ {A = ℕ} 2 1 = ap length (done 0 (omega arith) 0 (omega arith)) in absurd (omega arith)
+one_left at failures up done = grind arith
 
 -- and its frame is owed
 still_owed : (at failures : ℕ) (up : Bool) → owed_at demo_plan two_accepted 0 (line_of at failures up) ≡ 1
@@ -103,7 +96,7 @@ enough at failures up moments more = only_one _ (omega (arith, still_owed at fai
 
 starts : (failures : ℕ) (up : Bool) → StartsAfter (line_of 1000 failures up) 1000
 unfolding log checksum addresses header_front internet_header link_header udp_header datagram unnumbered
-starts failures up = only_one _ (omega arith)
+starts failures up = grind arith
 
 -- two polls at which the link may not release a frame
 idle : (first second : ℕ) (lines : Lines) → may_release first demo_link (pace_in demo_link (log lines)) lines ≡ false
@@ -111,8 +104,8 @@ idle : (first second : ℕ) (lines : Lines) → may_release first demo_link (pac
     → AreDrained demo_plan two_accepted (first ∷ second ∷ []) lines lines
 idle first second lines early still = (
   lines,
-  (lines, Nothing, (inl (early, λ s. tt), refl), refl),
-  (lines, (lines, Nothing, (inl (still, λ s. tt), refl), refl), refl),
+  grind arith,
+  grind arith,
 )
 
 too_soon : LeavesOne one_line (1500 ∷ 1600 ∷ [])
@@ -129,7 +122,7 @@ failed = record { drained = idle 2000 3000 failed_line refl refl; left = one_lef
 
 not_before : StartsAfter (one_line_at 5000) 0 → ⊥
 unfolding log checksum addresses header_front internet_header link_header udp_header datagram unnumbered
-not_before starts_after = let late : 5000 ≤ 0 = starts_after 0 (omega arith) in absurd (omega arith)
+not_before starts_after = grind arith
 
 pub needs_its_polls : NeedsItsPolls
 needs_its_polls = record {
@@ -139,7 +132,7 @@ needs_its_polls = record {
     only_one _ (omega arith),
     tt,
     only_one _ refl,
-    λ few. let no = few 0 (omega arith) in absurd (omega arith),
+    grind arith,
   );
   close = (
     too_soon,
@@ -152,7 +145,7 @@ needs_its_polls = record {
   short = (
     too_soon,
     starts 0 true,
-    λ gap. let no = gap 0 (omega arith) in absurd (omega arith),
+    grind arith,
     (omega arith, (omega arith, tt)),
     only_one _ refl,
     enough 1000 0 true (1500 ∷ 1600 ∷ []) (omega arith),
