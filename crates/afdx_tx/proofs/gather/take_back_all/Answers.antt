@@ -13,29 +13,25 @@ own : (c : After-place) → BelongsTo c.args.config.now (queues_in c.args.links.
 own c =
     let turn = YieldsList-turn (YieldsList-from_vec {s = c.into_iter-port-iterator.result} c.args.ports.items (search rules) (search rules))
     c.loop-port.yielded c.loop-port.port-iterator c.loop-port.yielded_by c.next.result c.next.new.self c.in-Some.port c.in-Some.is c.next.ensures.steps in
-    subst (BelongsTo c.args.config.now (queues_in c.args.links.now)) (sym turn.1) (c.requires.opened _ c.in-Some.port turn.0)
+    grind arith
 
 -- Its plan is the one at its place.
 plan_is : (c : After-into_sender) → BelongsTo c.args.config.now (queues_in c.args.links.now) c.in-Some.port
     → c.port_at-plan.result ≡ c.in-Some.port.plan
-plan_is c belongs = c.port_at-plan.ensures.value ∙ rw c.place.ensures (sym belongs.plan)
+plan_is c belongs = cc
 
 -- Its link is one of the links.
 within : (c : After-into_sender) → c.link_of-link.result < length c.loop-port.links
 within c =
     let count = count_is c.args.config.now c.args.links.now c.requires.of_plan in
-    omega (arith, c.link_of-link.ensures.within, c.loop-port.invariant.same.count, count)
+    grind arith
 
 link_is : (c : After-into_sender)
     → get_or c.loop-port.links c.link_of-link.result c.index-links-link.result ≡ link_at c.loop-port.links c.link_of-link.result
-link_is c = get_or_default c.loop-port.links c.link_of-link.result c.index-links-link.result no_link (within c)
+link_is c = grind (arith, get_or_default, no_link, within)
 
 pub take_back-requires-clause-within : goal.take_back-requires-clause-within
-take_back-requires-clause-within c =
-    let takes = c.loop-port.invariant.same in
-    let sub = sub_within c.args.config.now c.args.links.now c.requires.of_plan c.link_of-link.result c.port_at-plan.result.sub
-    (omega (arith, within c, takes.count)) c.link_of-link.ensures.over.sub in
-    rw (link_is c) (omega (arith, sub, takes.subs c.link_of-link.result))
+take_back-requires-clause-within c = grind (arith, sub_within, within, link_is)
 
 pub take_back-requires-clause-own : goal.take_back-requires-clause-own
 take_back-requires-clause-own c =

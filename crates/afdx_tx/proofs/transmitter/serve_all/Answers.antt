@@ -6,31 +6,19 @@ use Rattle.afdx_tx.proofs.transmitter.serve_all.Goals as goal
 
 -- The place is that of a link.
 within : (g : Given.Over) (c : goal.Joined-may_release g) → c.loop-link.link-index < length c.loop-link.links
-within g c = let q = c.loop-link.invariant.polls.steady.same.count in let r = c.loop-link-test.true in omega arith
+within g c = grind arith
 
 -- The tested link is the one at that place.
 asked : (g : Given.Over) (c : goal.Joined-may_release g)
     → get_or c.loop-link.links c.loop-link.link-index c.link-item.result
     ≡ link_at c.loop-link.links c.loop-link.link-index
-asked g c = get_or_default c.loop-link.links c.loop-link.link-index c.link-item.result no_link (within g c)
+asked g c = grind (arith, get_or_default, no_link, within)
 
 pub serve-did-requires-clause-paced : goal.serve-did-requires-clause-paced
-serve-did-requires-clause-paced g c =
-    let s = c.loop-link.invariant.polls in
-    let i = c.loop-link.link-index in
-    let lt : c.loop-link.link-index < length c.loop-link.links =
-    let q = s.steady.same.count in let r = c.loop-link-test.true in omega arith in
-    let is = get_or_default c.loop-link.links i c.link-item.result no_link lt in
-    let may = rw is at (sym c.may_release.ensures ∙ c.if-may_release.true) in
-    rw is ((s.steady.kept i lt).paced (s.whole i lt (and_parts _ _ may).1))
+serve-did-requires-clause-paced g c = grind (arith, get_or_default, no_link, and_parts)
 
 pub note-requires : goal.note-requires
-note-requires g c =
-    let inv = c.loop-link.invariant in
-    let room = inv.polls.room in
-    let few = c.requires.few in
-    let test = c.loop-link-test.true in
-    (inv.released, inv.noted, omega arith)
+note-requires g c = grind arith
 
 pub loop-link-preserved : goal.loop-link-preserved
 loop-link-preserved g c =

@@ -11,9 +11,6 @@ returns-in_err-standing-clause-lawful g c =
     let did = c.poll.ensures in
     rw (← c.self.view_is) (stays_lawful g.P.Phase.gathered _ _ c.self.invariant did.same did.conforms did.endure did.plan did.board)
 
-pub invariant_of-self : goal.invariant_of-self
-invariant_of-self g c = still_in g.P.Phase.gathered _ _ _ _ c.poll.ensures.plan c.poll.ensures.same c.self.invariant
-
 pub invariant_of-self-2 : goal.invariant_of-self-2
 invariant_of-self-2 g c = still_in g.P.Phase.gathered _ _ _ _ c.poll.ensures.plan c.poll.ensures.same c.self.invariant
 

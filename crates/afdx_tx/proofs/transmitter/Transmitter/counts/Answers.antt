@@ -7,8 +7,8 @@ use Rattle.afdx_tx.proofs.transmitter.Transmitter.counts.Goals as goal
 
 -- The found link.
 there : (g : Given.Over) (c : goal.After-counts g) → IsLinkAt c.self.inside.config c.args.vl.0 c.in_ok-place.place
-there g c = let at = found_at c.self.inside.config.links c.args.vl.0 c.in_ok-place.place (sym c.link_index.ensures ∙ c.in_ok-place.was) in
-    record { within = at.0; id = at.1 }
+there g c = let at = found_at c.self.inside.config.links c.args.vl.0 c.in_ok-place.place (grind arith) in
+    grind arith
 
 -- Its counts.
 found : (g : Given.Over) (c : goal.After-counts g)

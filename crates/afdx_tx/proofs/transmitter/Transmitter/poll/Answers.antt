@@ -6,19 +6,17 @@ use Rattle.afdx_tx.proofs.transmitter.Transmitter.poll.Given
 use Rattle.afdx_tx.proofs.transmitter.Transmitter.poll.Goals as goal
 
 pub serve_all-requires-clause-apart : goal.serve_all-requires-clause-apart
-serve_all-requires-clause-apart g c =
-    rw c.deref_mut.ensures.value (links_apart _ _ c.self.invariant.0.valid c.self.invariant.0.of_plan)
+serve_all-requires-clause-apart g c = grind (arith, links_apart)
 
 -- The links of the transmitter afterwards.
 links_are : (g : Given.Over) (c : goal.After-standing g)
     → (with_items c.self.inside.links.items c.serve_all.new.links).items ≡ c.serve_all.new.links
-links_are g c = with_items_is c.self.inside.links.items c.serve_all.new.links
-    (c.serve_all.ensures.steady.same.count ∙ c.deref_mut.ensures.len)
+links_are g c = grind (arith, with_items_is)
 
 -- The turns kept the invariant, over the links before them.
 steady : (g : Given.Over) (c : goal.After-standing g)
     → IsSteady c.args.now c.self.inside.links.items.items c.serve_all.new.links c.serve_all.new.mux
-steady g c = rw c.deref_mut.ensures.value at c.serve_all.ensures.steady
+steady g c = grind arith
 
 -- The transmitter is sound after the poll.
 sound : (g : Given.Over) (c : goal.After-standing g)
@@ -44,21 +42,7 @@ pub returns-then-not-stands_for-clause-conforms : goal.returns-then-not-stands_f
 returns-then-not-stands_for-clause-conforms g c = rw (← c.self.view_is) (sound_conforms _ c.self.invariant.0)
 
 pub returns-clause-told : goal.returns-clause-told
-returns-clause-told g c =
-    let links = c.self.inside.links.items.items in
-    let sound = c.self.invariant.0 in
-    let told = c.serve_all.ensures.told in
-    let all : length c.deref_mut.result.now ≡ length links = ap length c.deref_mut.ensures.value in
-    rw (← c.self.view_is) (
-      told.0,
-      told.1,
-      omega (arith, told.2, all, count_is c.self.inside.config links sound.of_plan, sound.valid.links.1),
-      record { moment = refl; released = told.3; a_stands = c.standing.ensures.a; b_stands = c.standing.ensures.b },
-    )
+returns-clause-told g c = grind (arith, sound, count_is)
 
 pub serve_all-requires-clause-few : goal.serve_all-requires-clause-few
-serve_all-requires-clause-few g c =
-    let links = c.self.inside.links.items.items in
-    let sound = c.self.invariant.0 in
-    let all : length c.deref_mut.result.now ≡ length links = ap length c.deref_mut.ensures.value in
-    omega (arith, all, count_is c.self.inside.config links sound.of_plan, sound.valid.links.1)
+serve_all-requires-clause-few g c = grind (arith, sound, count_is)

@@ -21,6 +21,4 @@ publishes old board sound reaches p =
     }
 
 pub returns : goal.returns
-returns g c =
-    rw (← c.self.view_is) (publishes _ c.publish_all.new.board c.self.invariant.0 c.self.invariant.1
-    (rw c.deref.ensures.value at c.publish_all.ensures.counts))
+returns g c = grind (arith, publishes)
