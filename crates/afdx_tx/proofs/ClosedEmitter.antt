@@ -11,9 +11,6 @@ pub record ClosedSub (old new : Held) : Type 0 where
 sub_here : (held : Held) → ClosedSub held held
 sub_here held = grind arith
 
-sub_closed : (old : Held) (total : ℕ) (new : Held) → ClosesSub old total new → ClosedSub old new
-sub_closed old total new c = grind arith
-
 -- links whose sub-VLs may have been closed; all else is unchanged
 pub record ClosedLinks (old new : List LinkState) : Type 0 where
   pub count : length new ≡ length old

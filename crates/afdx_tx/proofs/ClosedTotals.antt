@@ -11,14 +11,10 @@ shows : {X : Type 0} (show : X → Option ℕ) (xs : List X) (k total : ℕ) (pa
     → show (get_or xs k past) ≡ Some total → k < length xs
 shows show xs k total past none shown = grind (arith, get_or_past, cases_lt)
 
--- The total of a queue is the number of its known messages once it is gathered.
-whole_total : (old new : Seen) (total : ℕ) → BecomesWhole old new → total_of old ≡ Some total → length (known_of new) ≡ total
-whole_total old new total b shown = grind arith
-
 -- The total of a sub-VL is the number of its accepted messages once the ports are gathered.
 pub total_whole : (old : Tx) (ports : List PortView) (new : Tx) (k s total : ℕ) → IsGatheredTx old ports new
     → total_in old.links k s ≡ Some total → length (accepted_in new.links k s) ≡ total
 total_whole old ports new k s total g shown =
     let link = shows (λ (l : LinkState). total_of (held_at l.subs s).seen) old.links k total no_link refl shown in
     let within = shows (λ (h : Held). total_of h.seen) (link_at old.links k).subs s total nothing_held refl shown in
-    grind (arith, held_at, link_at, length-map, known_of, sent_of, whole_total)
+    grind (arith, held_at, link_at, length-map, known_of, sent_of)

@@ -1,37 +1,24 @@
 -- A sound emitter's frames conform, for the accepted messages too.
+use Rattle.afdx_tx.proofs.SoundEmitter.{alike_queues}
+use Rattle.afdx_tx.proofs.Names.{same_name}
+use Rattle.afdx_tx.proofs.Names.{same_total}
 use Rattle.afdx_tx.proofs.Names.{Accepted, Tx, IsSound, Conforms, ℕ, ◌≡◌, ◌<◌, List, ◌++◌, length, arith, refl, ap, ◌∙◌, sym, subst, Result, Ok, Err, OnOk, append_assoc, get_or_past, cases_lt, Plan, link_plan_at, room_of, Net, A, B, Entry, Seen, IsKnownWhole, IsSameQueue, known_of, told_of, IsLegalOn, IsLegal, Held, LinkState, held_at, link_at, nothing_held, no_link, IsSameSub, IsSamePlan, taken_in, AreGathered, accepted_by, accepted_in, Bool, true, false, AreLinksOf, IsRun, BothEndure}
 use Rattle.afdx_legal.specs.Allowed.{AreAllowed}
 use Rattle.afdx_tx.proofs.PortMessages.{taken_allowed, accepted_allowed}
 use Rattle.afdx_tx.specs.Phases.{AreOfPorts, IsInPhase, KeepsMessages, Runs, StaysLawful}
 use Rattle.afdx_tx.proofs.NothingLeft.{run_drained}
-use Rattle.afdx_tx.proofs.SoundEmitter.{same_queues, same_totals, sound_legal, sound_streams, sound_turns}
+use Rattle.afdx_tx.proofs.SoundEmitter.{sound_legal, sound_streams, sound_turns}
 use Rattle.vl_link.proofs.QueueLooks.{still_receiving}
 use Rattle.afdx_tx.proofs.OwedFragments.{owed_split, untaken}
-
--- The same queue has the same accepted messages.
-same_known : (old new : Seen) → IsKnownWhole old → IsSameQueue old new → known_of new ≡ known_of old
-same_known old new g e = grind arith
-
--- A sub-VL after the last has no queue.
-gathered_past : (links : List LinkState) (k s : ℕ) → AreGathered links → IsKnownWhole (held_at (link_at links k).subs s).seen
-gathered_past links k s g = grind (arith, get_or_past, link_at, nothing_held, cases_lt, no_link)
-
--- The accepted list of a sub-VL is the same.
-same_accepted : (old new : Held) → IsKnownWhole old.seen → IsSameSub old new → accepted_by new ≡ accepted_by old
-same_accepted old new g e = grind arith
 
 -- Each accepted list is the same.
 each_same : (old new : List LinkState) → IsSamePlan old new → AreGathered old → (k s : ℕ)
     → accepted_in new k s ≡ accepted_in old k s
-each_same old new p g k s = grind (arith, same_accepted, held_at, link_at, gathered_past, get_or_past, no_link, cases_lt)
+each_same old new p g k s = grind (arith, held_at, link_at, get_or_past, no_link, cases_lt)
 
 -- The accepted lists are the same.
 pub accepted_same : (old new : List LinkState) → IsSamePlan old new → AreGathered old → accepted_in new ≡ accepted_in old
 accepted_same old new p g = grind (arith, each_same)
-
--- The same queue is known whole.
-same_whole : (old new : Seen) → IsKnownWhole old → IsSameQueue old new → IsKnownWhole new
-same_whole old new g e = grind arith
 
 -- A network's frames are legal for the accepted messages.
 legal_on : (plan : Plan) (links : List LinkState) (net : Net) (handed : List Entry)
@@ -92,7 +79,7 @@ of_ports phase tx conforms is = grind arith
 -- The messages still to send are kept.
 keeps_messages : (phase : Bool) (old new : Tx) → IsSamePlan old.links new.links → IsInPhase phase old.plan old.links
     → KeepsMessages phase old new
-keeps_messages false old new same is = grind (arith, same_queues, same_totals)
+keeps_messages false old new same is = grind (arith, alike_queues, same_name, held_at, link_at, same_total, get_or_past, no_link, cases_lt)
 keeps_messages true old new same is = accepted_same _ _ same is.0
 
 -- A poll leaves an emitter lawful.

@@ -124,11 +124,6 @@ told_other : (now sub s : ℕ) (frame : List ℕ) (S T : List Entry) → sub_in 
     → length (told (sub_stream s T)) ≡ length (told (sub_stream s S))
 told_other now sub s frame S T of ne more = grind (arith, with_push_out, sub_in)
 
--- The sub-VL has one frame more.
-told_own : (now sub : ℕ) (frame : List ℕ) (S T : List Entry) → sub_in frame ≡ sub → T ≡ S ++ entry now frame ∷ []
-    → length (told (sub_stream sub T)) ≡ length (told (sub_stream sub S)) + 1
-told_own now sub frame S T of more = grind (arith, with_push_in, sub_in, length-map, length_push)
-
 module _ (now end_system : ℕ) (link : LinkPlan) (accepted : ℕ → List Sent) (S T : List Entry)
     (g : Gains now end_system link accepted S T) where
   -- The sub-VLs below owe the same.
@@ -143,7 +138,7 @@ module _ (now end_system : ℕ) (link : LinkPlan) (accepted : ℕ → List Sent)
   one_less : (n : ℕ) → g.sub < n → owed end_system link accepted T n + 1 ≤ owed end_system link accepted S n
   one_less zero lt = absurd (omega arith)
   one_less (suc n) lt = ⊎_elim
-      (grind (arith, below_same, told_own))
+      (grind (arith, below_same, with_push_in, sub_in, length-map, length_push))
       (λ (ne : n ≡ g.sub → ⊥).
       let before = one_less n (omega (arith, ne)) in
       let other = told_other now g.sub n g.frame S T g.of ne g.stream in

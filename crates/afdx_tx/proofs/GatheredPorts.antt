@@ -2,16 +2,6 @@
 use Rattle.afdx_tx.proofs.Names.{ℕ, ◌≡◌, ◌<◌, List, length, arith, ap, ◌∙◌, subst, Contains, All-contains, PortPlan, Plan, IsPlan, port_plan_at, link_place, part_of, brought_by, known_of, LinkState, held_at, link_at, back_of, Lines, Tx, AreLinksOf, HaveOwnItems, IsSound, queues_in, PortView, BelongsTo, AreOpenedWith, HasPlace, HasEveryPlace, index_of, AreGathered, OnlyTakeBack, IsTakenBack, GathersLinks, GathersPorts, IsGatheredLink, IsGatheredTx, HasOwnPart, held_for, Published, Reaches}
 use Rattle.afdx_tx.proofs.PortMessages.{own_messages, port_within}
 use Rattle.afdx_tx.proofs.KeptLinks.{kept_sound, KeepLinks}
-use Rattle.afdx_tx.proofs.TakenBack.{back_kept}
-
--- Only the queues have changed.
-gathered_kept : (old new : List LinkState) → GathersLinks old new → KeepLinks old new
-gathered_kept old new g = grind arith
-
--- A gathered link is the same as before the senders were taken back, apart from its queues.
-link_gathered : (old mid new : List LinkState) (k : ℕ) → k < length mid → OnlyTakeBack old mid → GathersLinks mid new
-    → IsGatheredLink (link_at old k) (link_at new k)
-link_gathered old mid new k lt takes gathers = grind arith
 
 -- Each queue is gathered.
 pub all_gathered : (mid new : List LinkState) → GathersLinks mid new → AreGathered new

@@ -27,18 +27,6 @@ pub record KeepLinks (old new : List LinkState) : Type 0 where
 taken_by_same : (old new : Held) → KeepsSub old new → taken_by new ≡ taken_by old
 taken_by_same old new s = cc
 
--- The fragments are the same.
-shown_same : (old new : Held) → KeepsSub old new → sub_fragments new.of 0 (taken_by new) ≡ sub_fragments old.of 0 (taken_by old)
-shown_same old new s = cc
-
--- The sub-VL is tied to the same stream.
-tied_same : (old new : Held) (stream : List Entry) → KeepsSub old new → IsTied old stream → IsTied new stream
-tied_same old new stream s tied = grind arith
-
--- The sub-VL lacks fragments in the same stream.
-behind_same : (old new : Held) (stream : List Entry) → KeepsSub old new → IsBehind old stream → IsBehind new stream
-behind_same old new stream s b = grind arith
-
 -- The link keeps its invariant.
 own_same : (old new : LinkState) → KeepsLink old new → IsLinkOfPlan old.end_system old.plan old.pace old.subs
     → IsLinkOfPlan new.end_system new.plan new.pace new.subs
@@ -110,29 +98,15 @@ pub record IsPublishing (links : List LinkState) (old new : List Published) (man
   pub first : (k : ℕ) → k < many → published new k ≡ with_entry (published old k) (link_at links k).counts
   pub rest : (k : ℕ) → many ≤ k → published new k ≡ published old k
 
-pub publishing_all : (links : List LinkState) (old new : List Published) → IsPublishing links old new (length links)
-    → PublishesCounts links old new
-publishing_all links old new p = grind arith
-
--- The last published counts are then the current ones.
-pub reaches_all : (links : List LinkState) (old new : List Published) → length old ≡ length links
-    → PublishesCounts links old new → Reaches links new
-reaches_all links old new count p = grind (arith, last_or-push, link_at, falls_not_same)
-
 -- With nothing published, no published count is above the current one.
 pub reaches_none : (links : List LinkState) (board : List Published) → length board ≡ length links
     → ((k : ℕ) → (published board k).history ≡ []) → Reaches links board
 reaches_none links board count none = grind arith
 
--- No count of a link falls as the log grows.
-rises_on : (old new : LinkState) (before entries after : List Entry) → new.plan ≡ old.plan → after ≡ before ++ entries
-    → IsKept old before → IsKept new after → NoFieldFalls old.counts new.counts
-rises_on old new before entries after plan grown was is = grind (arith, link_stream, with_append, link_in, counts_more)
-
 -- The published counts are at most the current ones as the log grows.
 pub reaches_on : (old new : List LinkState) (board : List Published) (before entries after : List Entry) → IsSamePlan old new
     → after ≡ before ++ entries → AreKept old before → AreKept new after → Reaches old board → Reaches new board
-reaches_on old new board before entries after same grown was is r = grind (arith, falls_not_through, last_of, link_at, rises_on)
+reaches_on old new board before entries after same grown was is r = grind (arith, falls_not_through, last_of, link_at, link_stream, with_append, link_in, counts_more)
 
 -- The published counts are at most the current ones while only queues change.
 pub reaches_kept : (old new : List LinkState) (board : List Published) → KeepLinks old new → Reaches old board → Reaches new board

@@ -31,17 +31,13 @@ spaced_side net gap before (x ∷ xs) ys h = (
   rw (twin_sub net x.frame) (spaced_side net gap (Some (stamp_of x)) xs ys h.1),
 )
 
--- A known frame, turned to a network, is known there.
-known_twin : (links : List LinkPlan) (net : Net) (e : Entry) → IsKnown links A e.frame → IsKnown links net (side net e).frame
-known_twin links net e h = grind (arith, length-twin, twin_link, twin_sub, twin_interface)
-
 -- A network's entries of a known log are known there.
 known_sent : (links : List LinkPlan) (net : Net) (ls : List Logged) (rest : List Entry)
     → AreKnown links A (entries_of ls ++ rest) → AreKnown links net (sent_to net ls)
 known_sent links net [] rest h = tt
 known_sent links net (l ∷ ls) rest h =
     let known = known_sent links net ls rest h.1 in
-    grind (arith, known_twin)
+    grind (arith, length-twin, twin_link, twin_sub, twin_interface)
 
 -- the log is legal
 pub record IsLogLegal (plan : Plan) (accepted : Accepted) (H : List Entry) : Type 0 where

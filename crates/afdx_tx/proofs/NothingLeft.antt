@@ -44,18 +44,10 @@ run_drained now config links news lines after of g r =
     (turns_seen (IsTurnAt now links news) (DrainsAt now config (accepted_in links)) 0 (length links) lines after
     (λ k from lt before behind did t. drains_at now config links news of g k (omega arith) before behind did t) r.turns)
 
--- A drained queue has nothing left.
-drained_rest : (seen : Seen) → TellsDrained true seen → rest_of seen ≡ []
-drained_rest seen d = grind arith
-
 -- A link that is done is wholly released.
 link_done : (link : LinkState) (log : List Entry) → IsOwn link → IsKept link log → IsLinkGathered link
     → TellsLinkDone true link → IsLinkDone link.end_system link.plan (lists_of link.subs) log
-link_done link log own kept known done = grind (arith, all_released, stands_of, drained_rest, held_at)
-
--- A queue that isn't drained has something left.
-left_rest : (seen : Seen) → IsKnownWhole seen → TellsDrained false seen → rest_of seen ≡ [] → ⊥
-left_rest seen g d = grind arith
+link_done link log own kept known done = grind (arith, all_released, stands_of, held_at)
 
 -- a sub-VL of the link isn't wholly released
 pub record HasOwing (link : LinkState) (log : List Entry) : Type 0 where
@@ -63,19 +55,15 @@ pub record HasOwing (link : LinkState) (log : List Entry) : Type 0 where
   pub within : sub < link.plan.sub_vls
   pub owes : Owes link.end_system link.plan (lists_of link.subs) log sub
 
--- If a frame was lost.
-lost_owes : (link : LinkState) (log : List Entry) → IsOwn link → IsKept link log → link.lost ≡ true → HasOwing link log
-lost_owes link log own kept lost = grind (arith, owes_taken, sub_fragments, taken_by, held_at)
-
 -- If something is left and no frame was lost.
 left_owes : (link : LinkState) (log : List Entry) → IsOwn link → IsKept link log → IsLinkGathered link
     → HasSubLeft link.subs → link.lost ≡ false → HasOwing link log
-left_owes link log own kept known left whole = grind (arith, stands_of, owes_taken, held_at, owes_rest, left_rest)
+left_owes link log own kept known left whole = grind (arith, stands_of, owes_taken, held_at, owes_rest)
 
 -- A link that isn't done owes a fragment.
 link_owes : (link : LinkState) (log : List Entry) → IsOwn link → IsKept link log → IsLinkGathered link
     → TellsLinkDone false link → HasOwing link log
-link_owes link log own kept g d = grind (arith, cases_Bool, lost_owes, left_owes, both_ways)
+link_owes link log own kept g d = grind (arith, cases_Bool, owes_taken, sub_fragments, taken_by, held_at, left_owes, both_ways)
 
 -- If all links are done, all accepted messages are wholly released.
 done_true : (config : Plan) (links : List LinkState) (lines : Lines) (moment : ℕ)

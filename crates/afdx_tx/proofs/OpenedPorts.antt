@@ -2,7 +2,7 @@
 use Rattle.afdx_tx.proofs.Names.{ℕ, ◌≡◌, ◌+◌, ◌<◌, List, [], ◌∷◌, ◌++◌, length, take, get_or, set, arith, refl, ap, ◌∙◌, sym, below_more, Option, None, and_right, ne_eqb, length-append, get_or_append_left, get_or_push, length-set, LinkPlan, PortPlan, Plan, IsPlan, link_plan_at, port_plan_at, link_place, most_calls, QueueName, SenderView, new_receiver, new_sender, SubVl, Seen, receiving, gathered, queue_of, ports_of, Held, LinkState, held_at, link_at, nothing_held, no_link, MakesSender, LacksSender, SubMakesSender, LinkMakesSender, ports_of_sub, held_queue, link_queues, queues_in, IsOpenedSub, AreOpenedSubs, IsOpenedLink, AreOpenedLinks, queue_at, index_of, IsFreshPort, each_set, both_ways, ext_get_or, All-nil, link_in, Logged, fresh_lines, fresh_log, fresh_in_step, IsItem, no_link_plan, AreFreshLinks, plans, IsSound}
 use Rattle.std.proofs.Math.ListN.{get_or-map}
 use Rattle.afdx_tx.proofs.KeptLinks.{one_count, one_each}
-use Rattle.afdx_tx.proofs.PortLink.{few_ports, IsAt, seats, seats_within, index_at, seat_at, others_at, other_at}
+use Rattle.afdx_tx.proofs.PortLink.{few_ports, IsAt, seats, seats_within, index_at, seat_at, others_at}
 use Rattle.afdx_tx.proofs.SoundEmitter.{alike_queues}
 use Rattle.afdx_tx.proofs.PollTurns.{plan_at_is, plans_length}
 
@@ -45,12 +45,6 @@ lacks_at config links place k s valid at are =
     let few = few_ports config (link_plan_at config.links k).id.0 s valid in
     let more = seat_at config place k s at in
     grind (arith, seats_within, link_plan_at, ports_of, held_at, link_at, index_of)
-
--- A queue has one sender more.
-makes_seen : (old : Seen) (calls : ℕ) (sender : SenderView) (new : Seen) (queue : QueueName) (capacity n : ℕ)
-    → MakesSender old calls sender new → old ≡ receiving (new_receiver queue capacity n)
-    → (new ≡ receiving (new_receiver queue capacity (n + 1))) × (sender ≡ new_sender queue capacity calls n)
-makes_seen old calls sender new queue capacity n makes is = grind arith
 
 -- A sub-VL has one sender more.
 makes_sub : (own : SubVl) (ports : List PortPlan) (n : ℕ) (old : Held) (calls : ℕ) (sender : SenderView) (new : Held)
@@ -101,12 +95,8 @@ opened_more config links place k s calls sender new valid at are makes =
       count = length-set links k new ∙ are.count;
       each = each_set P links k new no_link within
           (λ _. link_more config (link_at links k) place k s calls sender new at (are.each k at.link) makes)
-          (grind (arith, with_subs, take, link_plan_at, link_at, others_at, other_at));
+          (grind (arith, with_subs, take, link_plan_at, link_at, others_at));
     }
-
--- The queues have the same identities.
-makes_name : (old : Seen) (calls : ℕ) (sender : SenderView) (new : Seen) → MakesSender old calls sender new → queue_of new ≡ queue_of old
-makes_name old calls sender new makes = grind arith
 
 pub names_more : (links : List LinkState) (k s calls : ℕ) (sender : SenderView) (new : LinkState) → k < length links
     → LinkMakesSender (link_at links k) s calls sender new → queues_in (set links k new) ≡ queues_in links
@@ -121,7 +111,7 @@ pub fresh_port : (config : Plan) (links : List LinkState) (place k s : ℕ) (pla
     → LinkMakesSender (link_at links k) s most_calls sender new
     → plan ≡ port_plan_at config.ports place → k ≡ link_place config plan → s ≡ plan.sub
     → IsFreshPort config (queues_in links) place (record { place = place; plan = plan; sender = sender })
-fresh_port config links place k s plan sender new at are makes is link sub = grind (arith, sub_at, makes_seen, most_calls, index_of, queue_at, queues_in, link_plan_at, queue_at_is, queue_of, new_sender)
+fresh_port config links place k s plan sender new at are makes is link sub = grind (arith, sub_at, most_calls, index_of, queue_at, queues_in, link_plan_at, queue_at_is, queue_of, new_sender)
 
 -- A fresh emitter is sound.
 pub fresh_sound : (config : Plan) (links : List LinkState) → IsPlan config

@@ -12,14 +12,6 @@ known_rest : (seen : Seen) → known_of seen ≡ taken_of seen ++ rest_of seen
 known_rest (receiving r) = sym (append-nil r.taken)
 known_rest (gathered g) = refl
 
--- If a poll found nothing, nothing is left.
-rest_none : (old new : Seen) → IsKnownWhole old → FindsNothing old new → rest_of old ≡ []
-rest_none old new g f = grind arith
-
--- If a poll found a message, something is left.
-rest_some : (old : Seen) (message : ℕ × List ℕ) (new : Seen) → IsKnownWhole old → Finds old message new → rest_of old ≡ [] → ⊥
-rest_some old message new g f none = grind arith
-
 -- The fragments of two lists of messages.
 fragments_append : (end_system room : ℕ) (net : Net) (place : ℕ) (xs ys : List Sent)
     → fragments_from end_system room net place (xs ++ ys)
@@ -106,13 +98,13 @@ module _ (end_system : ℕ) (link : LinkPlan) (log : List Entry) (s : ℕ) (subs
   -- A polled sub-VL that has nothing is wholly released.
   pub passed_released : (new : Held) → Stands end_system link log s (held_at subs s) → Asks false (held_at subs s) new
       → IsReleased end_system link (lists_of subs) log s
-  passed_released new at p = grind (arith, all_released, rest_none)
+  passed_released new at p = grind (arith, all_released)
 
   -- A polled sub-VL that has something isn't wholly released.
   pub asked_owes : (new : Held) → Stands end_system link log s (held_at subs s) → Asks true (held_at subs s) new
       → Owes end_system link (lists_of subs) log s
   asked_owes new at (inl g) = grind (arith, owes_taken)
-  asked_owes new at (inr p) = grind (arith, owes_rest, rest_some)
+  asked_owes new at (inr p) = grind (arith, owes_rest)
 
 -- No sub-VL is both.
 pub owes_not : (end_system : ℕ) (link : LinkPlan) (accepted : ℕ → List Sent) (log : List Entry) (s : ℕ)

@@ -84,14 +84,10 @@ logged_planned : (plan : Plan) (lines : Lines) → IsPlan plan → AreCarried pl
 unfolding log
 logged_planned plan lines valid carried known = grind (arith, planned)
 
--- An entry for both networks is for each.
-both_names : (net : Net) (networks : Networks) → is_both networks ≡ true → names net networks ≡ true
-both_names net networks is = grind arith
-
 -- On such links, a network's frames are the twins of the log.
 both_sent : (links : List LinkPlan) (net : Net) (ls : List Logged) → All (IsPlanned links) ls
     → on_both links (sent_to net ls) ≡ map (side net) (on_both links (entries_of ls))
-both_sent links net ls own = grind (arith, picked, is_on_both, twin_link, both_names)
+both_sent links net ls own = grind (arith, picked, is_on_both, twin_link)
 
 -- Two lists with a common extension agree as far as the shorter one reaches.
 taken_front : (xs ys zs ws : List Entry) → xs ++ ys ≡ zs ++ ws → length zs ≤ length xs → take (length zs) xs ≡ zs

@@ -5,10 +5,6 @@ use Rattle.afdx_tx.proofs.Names.{ℕ, ◌≡◌, ◌≢◌, ◌<◌, List, [], �
 pub later_on : (last : Option Stamp) (m n : ℕ) → m ≤ n → IsLater last m → IsLater last n
 later_on last m n le later = grind arith
 
--- The relation is reflexive.
-pub same_link : (link : LinkState) → IsSameLink link link
-same_link link = grind arith
-
 -- The turn of one link, at its place.
 pub turned_at : (now i : ℕ) (links : List LinkState) (item new : LinkState) (lines after : Lines) (did : Served)
     → item ≡ link_at links i → i < length links → AreServedBy now links → (link_at links i).lost ≡ false
@@ -119,16 +115,11 @@ steady_more now i old links lines after new did s apart lt t later =
     )) in
     grind (arith, known_after, carried_after)
 
--- If nothing entered the log, no release is reported.
-told_same : (now : ℕ) (rs : List Release) (before lines after : Lines) → log after ≡ log lines
-    → IsTold now rs before lines → IsTold now (rs ++ []) before after
-told_same now rs before lines after e t = grind (arith, append-nil)
-
 -- The release of a turn is reported after the earlier ones.
 pub told_more : (now : ℕ) (did : Served) (link new : LinkState) (rs : List Release) (before lines after : Lines)
     → Turned now link new lines after did → IsTold now rs before lines
     → IsTold now (rs ++ turn_release link.plan.id did) before after
-told_more now Nothing link new rs before lines after t h = grind (arith, told_same)
+told_more now Nothing link new rs before lines after t h = grind (arith, append-nil)
 told_more now (Released sub number) link new rs before lines after t h =
     let r = t.serves.2 in
     let e = entry now r.frame in
@@ -142,7 +133,7 @@ told_more now (Released sub number) link new rs before lines after t h =
       named = map-append release_of h.entries (e ∷ []) ∙ rw (h.named, same) refl;
       moments = grind (arith, map-append);
     }
-told_more now Lost link new rs before lines after t h = grind (arith, told_same, log_same)
+told_more now Lost link new rs before lines after t h = grind (arith, append-nil, log_same)
 
 -- A turn releases at most one frame.
 pub few_released : (vl : VlId) (did : Served) (rs : List Release) (i : ℕ) → length rs ≤ i
@@ -161,12 +152,6 @@ turns_on : (now i : ℕ) (old news : List LinkState) (before lines after : Lines
 turns_on now i old news before lines after did turns turn = rw add-one
     (turns_push (IsTurnAt now old news) 0 i before lines after did
     turns (grind arith))
-
--- The turn of a link that may not release a frame.
-idle_turn : (now : ℕ) (link : LinkState) (lines : Lines) → may_release now link.plan link.pace lines ≡ false
-    → (stands_for link.plan.networks lines ≡ true → link.lost ≡ false) → IsKept link (log lines)
-    → IsTurn now link link lines lines Nothing
-idle_turn now link lines may_not_now whole kept = grind arith
 
 -- One more link has had its turn.
 pub polling_more : (now i : ℕ) (old links : List LinkState) (before lines after : Lines) (new : LinkState) (did : Served)

@@ -89,11 +89,6 @@ module _ (config : Plan) (place k s : ℕ) (at : IsAt config place k s) where
   pub seat_at : seats config.ports (place + 1) (link_plan_at config.links k).id.0 s ≡ index_of config.ports place + 1
   seat_at = grind (arith, index_at, own_at, seats_more)
 
--- The port is of no other link.
-pub other_at : (config : Plan) (place k s other t : ℕ) → IsPlan config → IsAt config place k s → other < length config.links
-    → (other ≡ k → ⊥) → on_sub_vl (link_plan_at config.links other).id.0 t (port_plan_at config.ports place) ≡ false
-other_at config place k s other t valid at lt ne = grind arith
-
 -- The numbers of the other sub-VLs are the same.
 pub others_at : (config : Plan) (place vl t : ℕ) → place < length config.ports
     → on_sub_vl vl t (port_plan_at config.ports place) ≡ false

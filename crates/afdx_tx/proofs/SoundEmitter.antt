@@ -99,14 +99,6 @@ pub alike_queues : (old new : List LinkState) → length new ≡ length old
 alike_queues old new count subs each = map_alike link_queues new old no_link count
     (λ k lt. map_alike held_queue (link_at new k).subs (link_at old k).subs nothing_held (subs k lt) (λ s _. each k s lt))
 
--- The total of a sub-VL is the same.
-pub same_totals : (old new : List LinkState) → IsSamePlan old new → (k s : ℕ) → total_in new k s ≡ total_in old k s
-same_totals old new p k s = grind (arith, same_total, held_at, link_at, get_or_past, no_link, cases_lt)
-
--- The queues of all links are the same.
-pub same_queues : (old new : List LinkState) → IsSamePlan old new → queues_in new ≡ queues_in old
-same_queues old new p = grind (arith, alike_queues, same_name, held_at, link_at)
-
 -- The frames of a network take turns if the log does.
 turns_keeps : (plan : Plan) (net : Net) (stands : Bool) (handed : List Entry) (lines : Lines) → Keeps net stands handed lines.logged
     → AreCarried plan.links lines.logged → TakeTurnsOn plan (log lines) → TakeTurnsOn plan handed

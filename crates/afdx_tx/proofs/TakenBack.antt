@@ -5,19 +5,6 @@ use Rattle.afdx_tx.proofs.KeptLinks.{one_link, one_count, one_each, KeepLinks}
 use Rattle.afdx_tx.proofs.SoundEmitter.{plan_is, count_is}
 use Rattle.afdx_tx.proofs.PortLink.{seats, seats_more, on_sub_vl, link_within}
 
--- The relation is reflexive.
-only_here : (seen : Seen) → OnlyTakesBack seen seen
-only_here seen = grind arith
-
--- Taking back one sender.
-only_one : (old : Seen) (sender : SenderView) (new : Seen) → TakesBack old sender new → OnlyTakesBack old new
-only_one old sender new takes = grind arith
-
--- All else of the queue is the same.
-only_read : {X : Type 0} (read : Seen → X) → ((r : ReceiverView) (back : List Brought) → read (receiving (record r { back = back })) ≡ read (receiving r))
-    → (old new : Seen) → OnlyTakesBack old new → read new ≡ read old
-only_read read same old new only = grind arith
-
 -- The queue still has its receiver.
 only_receiving : (old new : Seen) → OnlyTakesBack old new → IsReceiving old → IsReceiving new
 only_receiving old new only may = grind arith
@@ -51,10 +38,6 @@ take_one links k s sender new within takes =
 -- The relation of links is transitive.
 pub take_on : (a b c : List LinkState) → OnlyTakeBack a b → OnlyTakeBack b c → OnlyTakeBack a c
 take_on a b c p q = grind arith
-
--- Only the queues have changed.
-pub back_kept : (old new : List LinkState) → OnlyTakeBack old new → KeepLinks old new
-back_kept old new t = grind arith
 
 -- The queue of each sub-VL has the same identity.
 pub back_name : (old new : List LinkState) (k s : ℕ) → OnlyTakeBack old new

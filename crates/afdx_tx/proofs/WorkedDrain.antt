@@ -50,11 +50,6 @@ first_turn = (
   },
 )
 
--- The second poll has nothing to transmit.
-second_turn : Drains 2000 1 demo_link (one_byte_accepted 0) one_line one_line Nothing
-unfolding log checksum addresses header_front internet_header link_header udp_header datagram unnumbered
-second_turn = grind (arith, only_one, released)
-
 -- Nothing was released before.
 fresh : (k : ℕ) → k < 1 → IsLater (latest None (stream_at demo_plan k no_lines)) 0
 unfolding log
@@ -74,7 +69,7 @@ drains_one = record {
   drained = (
     one_line,
     (one_line, Released 0 0, first_turn, refl),
-    grind (arith, second_turn),
+    grind (arith, only_one, released),
   );
   stand = only_one _ refl;
   owed = only_one _ (omega (arith, one_owed));
