@@ -11,14 +11,9 @@ use Rattle.afdx_tx.proofs.SoundEmitter.{sound_legal, sound_streams, sound_turns}
 use Rattle.vl_link.proofs.QueueLooks.{still_receiving}
 use Rattle.afdx_tx.proofs.OwedFragments.{owed_split, untaken}
 
--- Each accepted list is the same.
-each_same : (old new : List LinkState) → IsSamePlan old new → AreGathered old → (k s : ℕ)
-    → accepted_in new k s ≡ accepted_in old k s
-each_same old new p g k s = grind (arith, held_at, link_at, get_or_past, no_link, cases_lt)
-
 -- The accepted lists are the same.
 pub accepted_same : (old new : List LinkState) → IsSamePlan old new → AreGathered old → accepted_in new ≡ accepted_in old
-accepted_same old new p g = grind (arith, each_same)
+accepted_same old new p g = grind (arith, held_at, link_at, get_or_past, no_link, cases_lt)
 
 -- A network's frames are legal for the accepted messages.
 legal_on : (plan : Plan) (links : List LinkState) (net : Net) (handed : List Entry)

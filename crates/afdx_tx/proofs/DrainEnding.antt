@@ -40,7 +40,6 @@ own_turn : (now end_system : ℕ) (link : LinkPlan) (accepted : ℕ → List Sen
 own_turn now end_system link accepted lines after Nothing due t stands = grind arith
 own_turn now end_system link accepted lines after (Released sub number) due t stands =
     let r = t.2 in
-    let view = accepted_view end_system link accepted (log lines) in
     let owes = r.choice.chosen in
     inr (record {
       sub = sub;
@@ -102,9 +101,9 @@ turns_come now plan accepted k i (suc many) lines after le lt ne due t stands = 
     (λ (here : i ≡ k).
     let own = own_turn now plan.end_system (link_plan_at plan.links k) (accepted k) lines t.0 t.1 due
     (subst (λ (j : ℕ). DrainsAt now plan accepted j lines t.0 t.1) here t.2)
-    (stood_before t.0 after (link_plan_at plan.links k).networks (drains_endure now plan accepted (i + 1) many t.0 after t.3) stands) in
+    (grind (arith, drains_endure)) in
     let rest = other_turns now plan accepted k (i + 1) many t.0 after
-    (λ j jle jlt. ne j (omega arith) (λ e. absurd (omega (arith, e, here)))) t.3 in
+    (grind arith) t.3 in
     rw rest own)
     (λ (later : i ≡ k → ⊥).
     let same = other_turn now plan.end_system (link_plan_at plan.links i) (accepted i) lines t.0 t.1
@@ -175,7 +174,7 @@ ends : (plan : Plan) (accepted : Accepted) (k : ℕ) (moments : List ℕ) (lines
 ends plan accepted k [] lines after start gap valid lt small later apart p stands few = grind arith
 ends plan accepted k (now ∷ moments) lines after start gap valid lt small later apart p stands few = ⊎_elim
     (λ still. ends plan accepted k moments p.0 after now gap valid lt small
-    (rw still.0 (later_on _ start now (omega (arith, apart.0)) later)) apart.1 p.2 stands (inl (rw still.0 still.1)))
+    (grind arith) apart.1 p.2 stands (inl (rw still.0 still.1)))
     (λ g. ends plan accepted k moments p.0 after now gap valid lt small
     (gained_later now _ _ _ _ _ g) apart.1 p.2 stands
     (⊎_elim (λ all. absurd (none_gained now _ _ _ _ _ g all))
@@ -183,8 +182,8 @@ ends plan accepted k (now ∷ moments) lines after start gap valid lt small late
     let less = one_less now _ _ _ _ _ g (link_plan_at plan.links k).sub_vls g.within in
     inr (omega (arith, less, owes))) few))
     (turns_come now plan accepted k 0 (length plan.links) lines p.0 (omega arith) (omega arith)
-    (λ j jlt ne e. ne (valid.links_apart j k (omega arith) lt (λ i. record { 0 = e i })))
-    (due_by _ gap start now _ small apart.0 later) p.1 (stood_before p.0 after (link_plan_at plan.links k).networks (drained_endure plan accepted moments p.0 after p.2) stands))
+    (grind arith)
+    (due_by _ gap start now _ small apart.0 later) p.1 (grind (arith, drained_endure)))
 
 -- The same of all links.
 pub drain_ends_holds : DrainEnds

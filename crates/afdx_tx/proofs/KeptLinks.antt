@@ -59,8 +59,8 @@ kept_sound config old new lines moment g s =
       valid = s.valid;
       of_plan = plans_after config old new s.of_plan
           (grind arith)
-          (λ k lt. own_same _ _ (g.each k (here k lt)) (s.of_plan.each k (here k lt)));
-      kept = λ k lt. kept_same _ _ _ (g.each k (here k lt)) (s.of_plan.each k (here k lt)) (s.kept k (here k lt));
+          (grind arith);
+      kept = grind (arith, kept_same);
       later = λ k lt. rw (g.each k (here k lt)).same (s.later k (here k lt));
       mirrored = s.mirrored;
       known = s.known;

@@ -58,9 +58,8 @@ prefix_side net s end_system room messages S D f p =
     let U = sub_stream s f.behind in
     let cut = ap (sub_stream s) f.is ∙ with_append (λ (e : Entry). sub_in e.frame) s f.front f.behind in
     let whole : told T ++ (told U ++ p.0) ≡ fragments end_system room A messages =
-    sym (append_assoc (told T) (told U) p.0)
-    ∙ ap (λ x. x ++ p.0) (sym (map-append (λ (e : Entry). blanked e.frame) T U) ∙ ap told (sym cut)) ∙ p.1 in
-    let mine = ap (λ x. told (sub_stream s x)) f.got ∙ ap told (with_map _ (λ (e : Entry). sub_in e.frame) (side net) s (λ e. twin_sub net e.frame) f.front) ∙ told_side net T in (
+    grind (arith, append_assoc, told, map-append, blanked) in
+    let mine = ap (λ x. told (sub_stream s x)) f.got ∙ ap told (grind (arith, with_map, sub_in, side, twin_sub)) ∙ told_side net T in (
       map (twin_of net) (told U ++ p.0),
       ap (λ x. x ++ map (twin_of net) (told U ++ p.0)) mine
           ∙ sym (map-append (twin_of net) (told T) (told U ++ p.0))

@@ -31,20 +31,20 @@ pub first_of_more : (now : ℕ) (links : List LinkState) (lines : Lines) (many :
     (λ at. BecomesDue now at (link_at links many).plan (link_at links many).pace lines)
     → IsFirstDue now links lines (many + 1) (earlier first own)
 first_of_more now links lines many None None none as_is =
-    none_more now links lines many (2 ^ 64) none (stays now (link_at links many).plan (link_at links many).pace lines as_is)
+    none_more now links lines many (2 ^ 64) none (grind arith)
 first_of_more now links lines many None (Some at) none due = grind arith
 first_of_more now links lines many (Some at) None first as_is =
     let plan = (link_at links many).plan in let pace = (link_at links many).pace in (
       one_more now links lines many at first.0,
       none_more now links lines many at first.1
-          (λ rests. sooner now (2 ^ 64) at plan pace lines (omega (arith, first.0.due.few)) (stays now plan pace lines as_is rests)),
+          (grind arith),
     )
 first_of_more now links lines many (Some at) (Some other) first due = elim (cases_lt other at) [
   | inl lt ↦
       let is : other ≡ min at other = omega (arith, lt) in
       subst (λ (t : ℕ). IsFirstDue now links lines (many + 1) (Some t)) is (
         record { place = many; within = omega arith; due = due },
-        none_more now links lines many other (none_sooner now links lines many at other (omega (arith, lt)) first.1) (λ rests. due.until),
+        grind arith,
       )
   | inr ge ↦
       let is : at ≡ min at other = omega (arith, ge) in

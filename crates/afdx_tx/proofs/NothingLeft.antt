@@ -17,14 +17,14 @@ drain_turn now end_system link new lines after did e own g t =
     (accepted_view link.end_system link.plan (lists_of link.subs) (log lines)) lines after did
     (λ s rests. tt)
     (λ may.
-    let at = λ (s : ℕ) (lt : s < link.plan.sub_vls). let within : s < length link.subs = omega (arith, own.count, own.sub_vls) in
-    stands_of link (log lines) s own (t.tied (and_parts _ _ may).1) within (g s within) in
+    let at = λ (s : ℕ) (lt : s < link.plan.sub_vls). let within : s < length link.subs = grind arith in
+    stands_of link (log lines) s own (grind arith) within (g s within) in
     record {
       lacks = λ s lt p. passed_released link.end_system link.plan (log lines) s link.subs (held_at new.subs s) (at s lt) p;
       rests = λ s e. tt;
       gives = λ s frame lt f. asked_owes link.end_system link.plan (log lines) s link.subs f.mid (at s lt) f.asked;
     })
-    (rw (own.gap, own.sub_vls) at t.serves))
+    (grind arith))
 
 -- The turn of the link at a place.
 drains_at : (now : ℕ) (config : Plan) (links news : List LinkState) → AreLinksOf config links → AreGathered links
@@ -44,32 +44,22 @@ run_drained now config links news lines after of g r =
     (turns_seen (IsTurnAt now links news) (DrainsAt now config (accepted_in links)) 0 (length links) lines after
     (λ k from lt before behind did t. drains_at now config links news of g k (omega arith) before behind did t) r.turns)
 
--- A link that is done is wholly released.
-link_done : (link : LinkState) (log : List Entry) → IsOwn link → IsKept link log → IsLinkGathered link
-    → TellsLinkDone true link → IsLinkDone link.end_system link.plan (lists_of link.subs) log
-link_done link log own kept known done = grind (arith, all_released, stands_of, held_at)
-
 -- a sub-VL of the link isn't wholly released
 pub record HasOwing (link : LinkState) (log : List Entry) : Type 0 where
   pub sub : ℕ
   pub within : sub < link.plan.sub_vls
   pub owes : Owes link.end_system link.plan (lists_of link.subs) log sub
 
--- If something is left and no frame was lost.
-left_owes : (link : LinkState) (log : List Entry) → IsOwn link → IsKept link log → IsLinkGathered link
-    → HasSubLeft link.subs → link.lost ≡ false → HasOwing link log
-left_owes link log own kept known left whole = grind (arith, stands_of, owes_taken, held_at, owes_rest)
-
 -- A link that isn't done owes a fragment.
 link_owes : (link : LinkState) (log : List Entry) → IsOwn link → IsKept link log → IsLinkGathered link
     → TellsLinkDone false link → HasOwing link log
-link_owes link log own kept g d = grind (arith, cases_Bool, owes_taken, sub_fragments, taken_by, held_at, left_owes, both_ways)
+link_owes link log own kept g d = grind (arith, cases_Bool, owes_taken, sub_fragments, taken_by, held_at, stands_of, owes_rest, both_ways)
 
 -- If all links are done, all accepted messages are wholly released.
 done_true : (config : Plan) (links : List LinkState) (lines : Lines) (moment : ℕ)
     → IsSound config links lines moment → AreGathered links → TellsAllDone true links
     → IsAllDone config (accepted_in links) (log lines)
-done_true config links lines moment sound known done = grind (arith, count_is, plan_is, link_done, link_at, log, no_link)
+done_true config links lines moment sound known done = grind (arith, count_is, plan_is, all_released, stands_of, held_at, link_at, log, no_link)
 
 -- If one isn't, some message isn't wholly released.
 done_false : (config : Plan) (links : List LinkState) (lines : Lines) (moment : ℕ)

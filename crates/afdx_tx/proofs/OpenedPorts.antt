@@ -40,8 +40,6 @@ pub lacks_at : (config : Plan) (links : List LinkState) (place k s : ℕ) → Is
     → AreOpenedLinks config (take place config.ports) links (length config.links)
     → (k < length links) × (s < length (link_at links k).subs) × LacksSender (held_at (link_at links k).subs s)
 lacks_at config links place k s valid at are =
-    let sub = rw at.sub at at.over.sub in
-    let opened = sub_at config links place k s at are in
     let few = few_ports config (link_plan_at config.links k).id.0 s valid in
     let more = seat_at config place k s at in
     grind (arith, seats_within, link_plan_at, ports_of, held_at, link_at, index_of)
@@ -73,9 +71,7 @@ link_more config old place k s calls sender new at opened makes =
       count = length-set old.subs s (held_at new.subs s) ∙ opened.subs.count;
       each = λ t lt. each_set P old.subs s (held_at new.subs s) nothing_held
           (let count = opened.subs.count in omega arith)
-          (λ _. rw (seat_at config place k s at) (makes_sub (own s) (ports_of_sub config.ports plan.id.0 s)
-          (index_of config.ports place) (held_at old.subs s) calls sender (held_at new.subs s)
-          (rw (index_at config place k s at) (opened.subs.each s sub)) makes.makes))
+          (λ _. rw (seat_at config place k s at) (grind arith))
           (λ t ne tlt. rw (others_at config place plan.id.0 t at.within
           (and_right _ _ (ne_eqb _ _ (λ q. ne (sym q ∙ at.sub))))) (opened.subs.each t tlt))
           t lt;
@@ -126,17 +122,13 @@ fresh_sound config links valid f =
             ∙ (opened k (omega (arith, plans_length links))).plan);
         end_system = λ k lt. (opened k lt).end_system;
         each = grind arith;
-        ports = λ k s lt slt.
-            let link = opened k lt in
-            (link.subs.each s (omega (arith, link.subs.count))).ports_are
-            ∙ ap (λ (p : LinkPlan). ports_of_sub config.ports p.id.0 s) (sym link.plan);
+        ports = grind arith;
       };
       kept = grind (arith, fresh_log, both_ways);
       later = λ k lt. rw (opened k lt).pace tt;
       mirrored = fresh_in_step.mirrored;
       known = rw fresh_log tt;
-      carried = λ k lt. All-nil (λ (l : Logged). link_in l.entry.frame ≡ (link_plan_at config.links k).id.0
-          → l.networks ≡ (link_plan_at config.links k).networks);
+      carried = grind arith;
       whole = λ k lt stands. (opened k lt).lost;
       items = λ k s lt slt.
           let subs = (opened k lt).subs in

@@ -91,8 +91,7 @@ module _ (end_system : ℕ) (link : LinkPlan) (log : List Entry) (s : ℕ) (subs
             some = λ none. fragments_some (record { end_system = end_system; link = link; sub = s }) place
                 (sent_of held.ports message)
                 (nils _ _ (nils held.left next none).1).0;
-            ahead = owed_split end_system room A held
-                ∙ rw (e, at.taken) (append_assoc (told_of link.id.0 s log) held.left next);
+            ahead = grind (arith, owed_split, append_assoc, told_of);
           }
 
   -- A polled sub-VL that has nothing is wholly released.

@@ -21,7 +21,7 @@ of_port port P (m ∷ more) all = by_test (of_port port P more) (nat_eq m.port.i
         → (t : Bool) → nat_eq m.port.id.0 port.id.0 ≡ t → All P (if t then m.bytes ∷ messages_of port more else messages_of port more)
         → All (λ (sent : Sent). sent.port ≡ port → P sent.bytes) (m ∷ more)
     by_test rest true is those = All-cons (λ (sent : Sent). sent.port ≡ port → P sent.bytes) m more
-        (λ own. All-head P m.bytes (messages_of port more) those)
+        (grind (arith, All-head, messages_of))
         (rest (All-tail P m.bytes (messages_of port more) those))
     by_test rest false is those = All-cons (λ (sent : Sent). sent.port ≡ port → P sent.bytes) m more
         (grind arith)
@@ -34,11 +34,10 @@ own_fit : (old new : Tx) (ports : List PortView) (place : ℕ) → AreOpenedWith
 own_fit old new ports place opened g lt i d below own_port =
     let port : PortPlan = port_plan_at new.plan.ports place in
     let own = g.own place (subst (λ (plan : Plan). place < length plan.ports) g.plan lt) in
-    let belongs : IsPortOfTx old own.port = All-contains (IsPortOfTx old) ports own.port opened own.inside in
-    let is : own.port.plan ≡ port_plan_at new.plan.ports place = belongs.plan ∙ ap (port_plan_at old.plan.ports) own.at
-    ∙ ap (λ (plan : Plan). port_plan_at plan.ports place) (sym g.plan) in
+    let belongs : IsPortOfTx old own.port = grind arith in
+    let is : own.port.plan ≡ port_plan_at new.plan.ports place = grind arith in
     let may : All (λ (bytes : List ℕ). MaySend (port_plan_at new.plan.ports place) (length bytes)) own.port.sender.own =
-    subst (λ (p : PortPlan). All (λ (bytes : List ℕ). MaySend p (length bytes)) own.port.sender.own) is own.messages in
+    grind arith in
     let most = (of_port port (λ (bytes : List ℕ). MaySend (port_plan_at new.plan.ports place) (length bytes))
     (accepted_in new.links (link_place new.plan port) port.sub) (rw own.accepted may) i d below own_port).most in
     rw own_port most
@@ -52,7 +51,7 @@ gathered_allowed old new ports valid opened g queued k s inside below i d lt =
     let at : get_or new.plan.ports of.port.0 m.port ≡ m.port = of.port.2 in
     let same : port_plan_at new.plan.ports of.port.0 ≡ m.port = get_or_default new.plan.ports of.port.0 _ m.port of.port.1 ∙ at in
     let link : link_place new.plan (port_plan_at new.plan.ports of.port.0) ≡ k =
-    ap (link_place new.plan) same ∙ own_link new.plan k s m valid inside of in
+    grind (arith, own_link) in
     let sub : (port_plan_at new.plan.ports of.port.0).sub ≡ s = ap (λ (p : PortPlan). p.sub) same ∙ of.its in
     record {
       queued = of;

@@ -51,8 +51,8 @@ own_of lines vl networks m own = sym (longer_is (link_stream vl (log lines)) (li
         → (length (link_stream vl (log lines)) ≤ length (link_stream vl lines.a))
         ⊎ (length (link_stream vl (log lines)) ≤ length (link_stream vl lines.b))
     one Both own = ⊎_elim
-        (λ none. inl (all_handed A lines.a_stands lines.a lines vl Both m.first own refl (ap (λ (ls : List Logged). link_stream vl (entries_of ls)) none)))
-        (λ none. inr (all_handed B lines.b_stands lines.b lines vl Both m.second own refl (ap (λ (ls : List Logged). link_stream vl (entries_of ls)) none)))
+        (λ none. inl (all_handed A lines.a_stands lines.a lines vl Both m.first own refl (grind arith)))
+        (λ none. inr (all_handed B lines.b_stands lines.b lines vl Both m.second own refl (grind arith)))
         m.one
     one OnlyA own = inl (all_handed A lines.a_stands lines.a lines vl OnlyA m.first own refl
         (whole_alone A lines.a_stands lines.a lines vl OnlyA m.first own refl))

@@ -57,15 +57,14 @@ known_after : (now i : ℕ) (old : List LinkState) (did : Served) (links : List 
     → IsSamePlan old links → i < length links → IsOwn (link_at links i)
     → Turned now (link_at links i) new lines after did → AreKnown (plans old) A (log lines)
     → AreKnown (plans old) A (log after)
-known_after now i old Nothing links new lines after same lt own t h = rw (t.serves.1) h
+known_after now i old Nothing links new lines after same lt own t h = grind arith
 known_after now i old (Released sub number) links new lines after same lt own t h =
     let r = t.serves.2 in
     let il : i < length old = omega (arith, same.count) in
     let plan = plan_at_is old i il ∙ sym (same.each i il).plan in
-    let below = released_below now number (link_at links i) _ sub lines after r own in
     rw (log_more lines after (logged_for (link_at links i).plan.networks (entry now r.frame)) r.enters)
     (grind (arith, known_push, plans_length))
-known_after now i old Lost links new lines after same lt own t h = rw (log_same lines after t.serves.1.same) h
+known_after now i old Lost links new lines after same lt own t h = grind (arith, log_same)
 
 -- After a turn the log is carried by its links' networks.
 carried_after : (now i : ℕ) (old : List LinkState) (did : Served) (links : List LinkState) (new : LinkState) (lines after : Lines)
@@ -80,10 +79,7 @@ carried_after now i old (Released sub number) links new lines after apart same l
     let P = λ (l : Logged). link_in l.entry.frame ≡ (link_plan_at (plans old) k).id.0 → l.networks ≡ (link_plan_at (plans old) k).networks in
     let plan = (same.each i il).plan in
     let made = λ (n : ℕ). let v : VlId = record { 0 = n } in v in
-    rw r.enters (All-push P lines.logged (logged_for (link_at links i).plan.networks (entry now r.frame)) (h k klt) (λ of.
-    ap (λ (p : LinkPlan). p.networks) (plan ∙ sym (plan_at_is old i il))
-    ∙ ap (λ (j : ℕ). (link_plan_at (plans old) j).networks) (apart i k il kl
-    (ap (λ (p : LinkPlan). p.id) (sym plan) ∙ ap made (sym r.of.link ∙ of) ∙ ap (λ (p : LinkPlan). p.id) (plan_at_is old k kl)))))
+    rw r.enters (All-push P lines.logged (logged_for (link_at links i).plan.networks (entry now r.frame)) (h k klt) (grind (arith, plan_at_is)))
 carried_after now i old Lost links new lines after apart same lt t h k klt = rw t.serves.1.same (h k klt)
 
 -- Each turn keeps the invariant of turns.
@@ -107,9 +103,7 @@ steady_more now i old links lines after new did s apart lt t later =
     (λ j jlt ne. (
       s.same.each j (omega (arith, s.same.count)),
       s.each j jlt,
-      kept_stream (link_at links j) (log lines) (log after) (other_stream now (link_at links j).plan.id.0 did
-          (link_at links i) new
-          lines after t own (apart_now old links i j apart s.same lt jlt ne)) (s.kept j jlt),
+      kept_stream (link_at links j) (log lines) (log after) (grind (arith, other_stream, link_at, apart_now)) (s.kept j jlt),
       s.later j jlt,
       λ q qlt. s.items j q jlt qlt,
     )) in
@@ -162,18 +156,17 @@ pub polling_more : (now i : ℕ) (old links : List LinkState) (before lines afte
 polling_more now i old links before lines after new did released p apart lt turned later endure =
     let kept = p.steady.kept i lt in
     let shown : IsTurn now (link_at links i) new lines after did =
-    record { same = turned.same; tied = λ _. kept.tied turned.whole; serves = rw (kept.paced turned.whole) at turned.serves } in
+    grind arith in
     let turn : IsTurnAt now old (set links i new) i lines after did =
     rw (get_or-set_same links i new no_link lt, ← p.rest i (omega arith)) shown in
     record {
       steady = steady_more now i old links lines after new did p.steady apart lt turned later;
       turns = turns_on now i old (set links i new) before lines after did
-          (turns_seen (IsTurnAt now old links) (IsTurnAt now old (set links i new)) 0 i before lines
-          (λ k le klt mid behind done t. rw (get_or-set_other links i k new no_link (λ e. omega arith)) t) p.turns) turn;
+          (grind (arith, turns_seen, set, get_or-set_other, no_link)) turn;
       rest = λ k le. get_or-set_other links i k new no_link (λ e. omega arith) ∙ p.rest k (omega arith);
       whole = λ k klt. at_each (λ j l. stands_for l.plan.networks after ≡ true → l.lost ≡ false) links i new lt
           (whole_after now did (link_at links i) new lines after turned)
-          (λ j jlt ne stands. p.whole j jlt (stood_before lines after (link_at links j).plan.networks endure stands))
+          (grind arith)
           k (omega (arith, length-set links i new));
       told = told_more now did (link_at links i) new released before lines after turned p.told;
       room = few_released (link_at links i).plan.id did released i p.room;
@@ -191,7 +184,7 @@ polling_on now i old links before lines released p lt may_not_now =
     record {
       steady = p.steady;
       turns = turns_on now i old links before lines lines Nothing p.turns turn;
-      rest = λ k le. p.rest k (omega arith);
+      rest = grind arith;
       whole = p.whole;
       told = p.told;
       room = omega arith;

@@ -64,7 +64,7 @@ sound_after config old new lines now valid of s mirrored whole =
 module _ (config : Plan) (links : List LinkState) (lines : Lines) (moment : ℕ) (s : IsSound config links lines moment)
   where
     plan_here : (k : ℕ) → k < length config.links → link_plan_at config.links k ≡ (link_at links k).plan
-    plan_here k lt = plan_is config links s.of_plan k (omega (arith, count_is config links s.of_plan))
+    plan_here k lt = grind (arith, plan_is, count_is)
 
     -- The frames of both networks are legal for the messages taken.
     pub sound_legal : IsLegal config (taken_in links) lines.a lines.b
@@ -80,16 +80,12 @@ module _ (config : Plan) (links : List LinkState) (lines : Lines) (moment : ℕ)
 
     -- Each link's stream is the longer of its two.
     pub sound_streams : AreOwnStreams config (log lines) lines.a lines.b
-    sound_streams = own_streams config lines s.mirrored s.carried
+    sound_streams = grind (arith, own_streams)
 
     -- The counts of each link are those of its own stream.
     pub sound_counts : (k : ℕ) → k < length links
         → (link_at links k).counts ≡ counts_in (own_stream (link_plan_at config.links k).id.0 lines.a lines.b)
-    sound_counts k lt =
-        let inside : k < length config.links = omega (arith, count_is config links s.of_plan) in
-        (s.kept k lt).counted ∙ ap (λ (p : LinkPlan). counts_in (link_stream p.id.0 (log lines)))
-        (sym (plan_here k inside))
-        ∙ ap counts_in (sound_streams k inside)
+    sound_counts k lt = grind (arith, count_is, plan_here, sound_streams)
 
 -- The queues of all links are the same if those of the sub-VLs are.
 pub alike_queues : (old new : List LinkState) → length new ≡ length old
