@@ -14,41 +14,26 @@ use Rattle.vl_link.specs.Seen.{Finds, taken_of}
 use Rattle.vl_link.proofs.SubInStep.{moves_of, gave_same, same_sub_here, same_sub_on}
 use Rattle.run_laws.specs.WorkedRun.{short_port, short_sent, short_frame, front_entry}
 use Rattle.run_laws.specs.EmitterRun.{three_link, three_plan, long_sent, three_accepted, end_frame, line_after, long_sub, short_sub, subs_of, tx_of, ComesInTurn, ThirdReleased, WaitsItsTurn}
-use Rattle.run_laws.proofs.WorkedRuns.{has_room, takes, not_released}
+use Rattle.run_laws.proofs.WorkedRuns.{has_room, not_released}
 use Rattle.run_laws.proofs.NextRun.{next_in_run_holds}
 use Rattle.run_laws.proofs.MessageRun.{message_in_run_holds}
 
 by_three : (P : ℕ → Type 0) → P 0 → P 1 → P 2 → (s : ℕ) → s < 3 → P s
-by_three P first second third zero lt = first
-by_three P first second third (suc zero) lt = second
-by_three P first second third (suc (suc zero)) lt = third
-by_three P first second third (suc (suc (suc s))) lt = absurd (omega arith)
-
-short_allowed : (sub : ℕ) → Contains three_plan.ports (short_port sub) → IsAllowed three_plan 0 sub (short_sent sub)
-short_allowed sub port = grind arith
+by_three P first second third s lt = grind arith
 
 first_allowed : IsAllowed three_plan 0 1 (short_sent 1)
-first_allowed = short_allowed 1 (1, omega arith, refl)
+first_allowed = grind arith
 
 second_allowed : IsAllowed three_plan 0 2 (short_sent 2)
-second_allowed = short_allowed 2 (2, omega arith, refl)
+second_allowed = grind arith
 
 queued : (sub many : ℕ) → IsQueued three_plan 0 sub (short_sent sub)
     → All (IsQueued three_plan 0 sub) (sent_by (short_port sub ∷ []) (replicate many (0, 1 ∷ [])))
-queued sub zero q = All-nil (IsQueued three_plan 0 sub)
+queued sub zero q = grind arith
 queued sub (suc many) q = All-cons (IsQueued three_plan 0 sub) (short_sent sub) _ q (queued sub many q)
 
 ready : (left : List (List ℕ)) (first second : ℕ) (lines : Lines) → IsReady (tx_of three_plan three_link (subs_of left first second) lines)
-ready left first second lines = record {
-  count = refl;
-  links = below_one _ (record { plan_is = refl; gap = refl; sub_vls = refl });
-  allowed = λ k s lt. by_link k lt s;
-}
-  where
-    by_link : (k : ℕ) → k < 1 → (s : ℕ) → s < (link_plan_at three_plan.links k).sub_vls
-        → All (IsQueued three_plan k s) (taken_in (tx_of three_plan three_link (subs_of left first second) lines).links k s)
-    by_link = below_one _ (by_three _ (All-from_recursion (IsQueued three_plan 0 0) (long_sent ∷ []) (grind arith, tt))
-        (queued 1 first first_allowed.queued) (queued 2 second second_allowed.queued))
+ready left first second lines = grind (arith, by_three, queued, first_allowed, second_allowed)
 
 -- Whatever sub-VL 1 takes, its poll isn't one that finds nothing.
 finds : (before after : List (ℕ × List ℕ)) → Passes (short_sub 1 before) (short_sub 1 after) → ⊥
@@ -106,7 +91,7 @@ gives now sub number frame left new_left first new_first second new_second lines
             before = λ k lt. absurd (omega arith);
             others = λ s other. others s (λ e. other 0 (omega arith) (sym is ∙ sym e));
           };
-          of = record { size = omega arith; link = own; of_sub = of; carries = carries; interface = interface };
+          of = grind arith;
           enters = enters;
           stands = stands;
           endure = endure;
@@ -129,16 +114,8 @@ starts : (sub many after : ℕ) (frame : List ℕ)
 starts sub many after frame found left = record {
   mid = record (short_sub sub (replicate after (0, 1 ∷ []))) { left = blanked frame ∷ [] };
   asked = grind arith;
-  gives = record { next = refl; same = refl };
+  gives = grind arith;
 }
-
--- a list of three that differs in one place
-rest_is : (a b c x y z : Held) (s i : ℕ) → (0 ≢ i → x ≡ a) → (1 ≢ i → y ≡ b) → (2 ≢ i → z ≡ c) → s ≢ i
-    → held_at (x ∷ y ∷ z ∷ []) s ≡ held_at (a ∷ b ∷ c ∷ []) s
-rest_is a b c x y z zero i first second third other = first other
-rest_is a b c x y z (suc zero) i first second third other = second other
-rest_is a b c x y z (suc (suc zero)) i first second third other = third other
-rest_is a b c x y z (suc (suc (suc s))) i first second third other = refl
 
 abbrev end_left : List (List ℕ)
 end_left = blanked (end_frame A) ∷ []
@@ -146,30 +123,30 @@ end_left = blanked (end_frame A) ∷ []
 first_poll : FindsIt three_plan 0 1 2 3000 (line_after 1) (line_after 2)
 unfolding log checksum addresses header_front internet_header link_header udp_header datagram unnumbered cutting fragments_at
 first_poll = gives 3000 1 1 (short_frame 1 0 1 A) end_left end_left 0 1 0 0 (line_after 1) (line_after 2) refl refl refl
-    (starts 1 0 1 (short_frame 1 0 1 A) refl refl) (λ s. rest_is _ _ _ _ _ _ s 1 (λ e. refl) (λ e. absurd (e refl)) (λ e. refl)) (by_three _ refl refl refl)
-    refl refl refl refl refl refl refl (record { a = takes _ _; b = takes _ _ })
+    (starts 1 0 1 (short_frame 1 0 1 A) refl refl) (grind arith) (by_three _ refl refl refl)
+    refl refl refl refl refl refl refl (grind arith)
 
 second_poll : FindsIt three_plan 0 1 2 6000 (line_after 2) (line_after 3)
 unfolding log checksum addresses header_front internet_header link_header udp_header datagram unnumbered cutting fragments_at
 second_poll = gives 6000 2 2 (short_frame 2 0 2 A) end_left end_left 1 1 0 1 (line_after 2) (line_after 3) refl refl refl
-    (starts 2 0 1 (short_frame 2 0 2 A) refl refl) (λ s. rest_is _ _ _ _ _ _ s 2 (λ e. refl) (λ e. refl) (λ e. absurd (e refl))) (by_three _ refl refl refl)
-    refl refl refl refl refl refl refl (record { a = takes _ _; b = takes _ _ })
+    (starts 2 0 1 (short_frame 2 0 2 A) refl refl) (grind arith) (by_three _ refl refl refl)
+    refl refl refl refl refl refl refl (grind arith)
 
 third_poll : FindsIt three_plan 0 1 2 9000 (line_after 3) (line_after 4)
 unfolding log checksum addresses header_front internet_header link_header udp_header datagram unnumbered cutting fragments_at
 third_poll = gives 9000 0 3 (end_frame A) end_left [] 1 1 1 1 (line_after 3) (line_after 4) refl refl refl
-    (record { mid = long_sub end_left; asked = inl (record { some = λ e. cc; same = refl }); gives = record { next = refl; same = refl } })
-    (λ s. rest_is _ _ _ _ _ _ s 0 (λ e. absurd (e refl)) (λ e. refl) (λ e. refl)) (by_three _ refl refl refl)
-    refl refl refl refl refl refl refl (record { a = takes _ _; b = takes _ _ })
+    (record { mid = long_sub end_left; asked = grind arith; gives = record { next = refl; same = refl } })
+    (grind arith) (by_three _ refl refl refl)
+    refl refl refl refl refl refl refl (grind arith)
 
 fourth_poll : FindsIt three_plan 0 1 2 12000 (line_after 4) (line_after 5)
 unfolding log checksum addresses header_front internet_header link_header udp_header datagram unnumbered cutting fragments_at
 fourth_poll = gives 12000 1 4 (short_frame 1 1 4 A) [] [] 1 2 1 1 (line_after 4) (line_after 5) refl refl refl
-    (starts 1 1 2 (short_frame 1 1 4 A) refl refl) (λ s. rest_is _ _ _ _ _ _ s 1 (λ e. refl) (λ e. absurd (e refl)) (λ e. refl)) (by_three _ refl refl refl)
-    refl refl refl refl refl refl refl (record { a = takes _ _; b = takes _ _ })
+    (starts 1 1 2 (short_frame 1 1 4 A) refl refl) (grind arith) (by_three _ refl refl refl)
+    refl refl refl refl refl refl refl (grind arith)
 
 finding : ArePolls (FindsIt three_plan 0 1 2) (6000 ∷ 9000 ∷ 12000 ∷ []) (line_after 2) (line_after 5)
-finding = (line_after 3, second_poll, (line_after 4, third_poll, (line_after 5, fourth_poll, refl)))
+finding = grind (arith, second_poll, third_poll, fourth_poll)
 
 each_poll : {P Q : ℕ → (lines after : Lines) → Type 0} → ((now : ℕ) (lines after : Lines) → P now lines after → Q now lines after)
     → (moments : List ℕ) (lines after : Lines) → ArePolls P moments lines after → ArePolls Q moments lines after
@@ -215,7 +192,7 @@ sooner_is : ThirdReleased 11999 → ⊥
 unfolding log checksum addresses header_front internet_header link_header udp_header datagram unnumbered cutting fragments_at
 sooner_is = not_released three_plan 0 1 11999 (three_accepted 0 1) (stream_at three_plan 0 (line_after 2))
     (entry 6000 (short_frame 2 0 2 A) ∷ entry 9000 (end_frame A) ∷ []) (entry 12000 (short_frame 1 1 4 A) ∷ [])
-    (stream_at three_plan 0 (line_after 5)) refl (All-from_recursion (λ (e : Entry). 11999 < e.at) (entry 12000 (short_frame 1 1 4 A) ∷ []) (omega arith, tt)) (omega arith)
+    (stream_at three_plan 0 (line_after 5)) refl (grind arith) (omega arith)
 
 pub waits_its_turn : WaitsItsTurn
 unfolding cutting fragments_at

@@ -5,7 +5,7 @@ use Rattle.afdx_tx.specs.Publishing.{Publishes}
 use Rattle.afdx_tx.proofs.ClosedEmitter.{ClosedLinks, closes_links}
 
 by_own : (plan : Plan) (tx : Tx) → tx.plan ≡ plan → IsReadyFor plan tx → IsReady tx
-by_own plan tx of ready = subst (λ (p : Plan). IsReadyFor p tx) (sym of) ready
+by_own plan tx of ready = grind arith
 
 opened : (config : Plan) (tx : Tx) → IsFreshTx config tx → IsReady tx
 opened config tx f = grind arith
@@ -29,7 +29,7 @@ polled now old new ready plan run allowed = by_own old.plan new plan (record {
 closed : (old new : Tx) (vl sub total : ℕ) → IsReady old → ClosesTx old vl sub total new → IsReady new
 closed old new vl sub total ready c =
     let links : ClosedLinks old.links new.links = closes_links old vl sub total new c in
-    by_own old.plan new (ap (λ (t : Tx). t.plan) c.same) (record {
+    by_own old.plan new (grind arith) (record {
       count = links.count ∙ ready.count;
       links = grind arith;
       allowed = λ k s lt slt.
@@ -39,7 +39,7 @@ closed old new vl sub total ready c =
     })
 
 published : (old new : Tx) → IsReady old → Publishes old new → IsReady new
-published old new ready p = subst IsReady (sym p.same) (record { count = ready.count; links = ready.links; allowed = ready.allowed })
+published old new ready p = subst IsReady (sym p.same) (grind arith)
 
 pub kept_ready : KeptReady
 kept_ready = record { opened = opened; polled = polled; closed = closed; published = published }

@@ -28,9 +28,9 @@ finding_steps : (plan : Plan) (accepted : Accepted) (k x many : ℕ) → IsPlan 
 finding_steps plan accepted k x many valid inside most = record {
   endure = λ now lines after p. ⊎_elim (λ finds. emitter_endures now plan lines after finds.poll)
       (λ drains. drain_endures now plan accepted lines after drains) p;
-  step = λ now lines after. find_step now plan accepted k x many lines after valid inside most;
-  waits = λ rest S is some. lt-ltb (length (seen_of x S)) many (omega arith);
-  still = λ now rest released S M is adds. let seen = adds_seen now x released S M adds in omega arith;
+  step = grind (arith, find_step);
+  waits = grind arith;
+  still = grind (arith, adds_seen);
 }
 
 front_of : {X : Type 0} (xs ys us vs : List X) → xs ++ us ≡ ys ++ vs → length xs ≤ length ys → IsPrefixOf xs ys
@@ -39,7 +39,7 @@ front_of (x ∷ xs) [] us vs is le = absurd (omega arith)
 front_of (x ∷ xs) (y ∷ ys) us vs is le =
     let parts = cons_parts is in
     let rest = front_of xs ys us vs parts.1 (omega arith) in
-    (rest.0, cons_same parts.0 rest.1)
+    grind arith
 
 wide_room : (plan : Plan) (k : ℕ) → IsPlan plan → k < length plan.links → 8 ≤ room_of (link_plan_at plan.links k).lmax
 wide_room plan k valid inside = grind arith
@@ -53,7 +53,7 @@ module _ (plan : Plan) (k s : ℕ) (valid : IsPlan plan) (inside : k < length pl
 
   own_few : (m : Sent) → IsAllowed plan k s m
       → pieces_of (room_of (link_plan_at plan.links k).lmax) (length m.bytes) ≤ port_pieces (link_plan_at plan.links k) m.port
-  own_few m of = pieces_mono _ (length m.bytes) m.port.max (wide_room plan k valid inside) of.most
+  own_few m of = pieces_mono _ (length m.bytes) m.port.max (grind arith) of.most
 
   all_few : (messages : List Sent) → All (IsAllowed plan k s) messages → All Few messages
   all_few messages of i d lt = grind (arith, own_few, port_most)

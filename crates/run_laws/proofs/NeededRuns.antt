@@ -14,33 +14,28 @@ use Rattle.afdx_laws.proofs.ListLemmas.{nil_isnt_cons}
 use Rattle.run_laws.specs.MessageInRun.{AreReleasedBy}
 use Rattle.run_laws.specs.EmitterRun.{fresh, sub_of}
 use Rattle.run_laws.specs.WorkedRun.{other_frame, other_line, tight_link, short_port, byte_plan, short_sent, bytes_accepted, short_frame, no_line, byte_line, failed_line, NeedsItsPremises}
-use Rattle.run_laws.proofs.WorkedRuns.{takes, releases, has_room, not_released}
+use Rattle.run_laws.proofs.WorkedRuns.{releases, has_room, not_released}
 use Rattle.run_laws.proofs.Ran.{seen_append}
 
-accepted_are : (earlier : ℕ) → bytes_accepted (suc earlier) 0 0 ≡ replicate earlier (short_sent 0) ++ short_sent 0 ∷ []
-    → All (IsAllowed byte_plan 0 0) (bytes_accepted (suc earlier) 0 0)
-    → IsAccepted byte_plan (bytes_accepted (suc earlier)) 0 0 (replicate earlier (short_sent 0)) (short_sent 0) []
-accepted_are earlier are all = record { link = omega arith; sub = omega arith; are = are; allowed = below_both _ _ refl all }
-
 one_is : IsAccepted byte_plan (bytes_accepted 1) 0 0 [] (short_sent 0) []
-one_is = accepted_are 0 refl (All-from_recursion (IsAllowed byte_plan 0 0) (short_sent 0 ∷ []) ((grind arith), tt))
+one_is = grind arith
 
 two_are : IsAccepted byte_plan (bytes_accepted 2) 0 0 (short_sent 0 ∷ []) (short_sent 0) []
-two_are = accepted_are 1 refl (All-from_recursion (IsAllowed byte_plan 0 0) (short_sent 0 ∷ short_sent 0 ∷ []) ((grind arith), ((grind arith), tt)))
+two_are = grind arith
 
 -- a poll that transmits the first of one or two messages
 sends : (now more : ℕ) → Drains now 1 tight_link (bytes_accepted (suc more) 0) no_line (byte_line now) (Released 0 0)
 unfolding log checksum addresses header_front internet_header link_header udp_header datagram unnumbered cutting fragments_at
 sends now more = releases now 0 tight_link (bytes_accepted (suc more) 0) no_line (byte_line now) (short_frame 0 0 0 A) refl refl (omega arith) refl
-    (record { left = fragments_of byte_plan 0 (replicate (suc more) (short_sent 0)); some = λ e. cc; ahead = refl })
-    refl refl refl refl refl refl refl (record { a = takes _ _; b = takes _ _ })
+    (grind arith)
+    refl refl refl refl refl refl refl (grind arith)
 
 finds : (many before now : ℕ) (lines after : Lines) (did : Served) → Drains now 1 tight_link (bytes_accepted many 0) lines after did
     → AreFinding byte_plan (bytes_accepted many) 0 0 before (now ∷ []) lines after
 finds many before now lines after did turn = (after, inr (after, did, turn, refl), refl)
 
 in_time : AreTimely 1000 0 1000 0 (1000 ∷ [])
-in_time = (omega arith, λ near. inl (omega arith, omega arith), omega arith)
+in_time = grind arith
 
 -- the sub-VL, by its queue
 abbrev held : ReceiverView → Held
@@ -52,10 +47,10 @@ finds_none : (queue : ReceiverView) (lines : Lines) → All (IsQueued byte_plan 
     → IsTied (held queue) (sub_stream 0 (stream_at byte_plan 0 lines)) → EmitterPolls byte_plan 1000 lines lines
 finds_none queue lines queued due tied = polls_by 1000 byte_plan tight_link (held queue ∷ []) (held (looked queue) ∷ []) lines lines Nothing
     (grind arith)
-    refl same (below_one _ tied) (inr (due, record { each = below_one _ passes; others = others }), refl)
+    refl same (below_one _ tied) (grind arith, refl)
   where
     passes : Passes (held queue) (held (looked queue))
-    passes = record { whole = refl; nothing = refl; same = refl }
+    passes = (grind arith)
 
     same : (s : ℕ) → IsSameSub (held_at (held queue ∷ []) s) (held_at (held (looked queue) ∷ []) s)
     same zero = moves_of (held queue) (held (looked queue)) (inl passes)
@@ -70,7 +65,7 @@ misses : (earlier : ℕ) (lines : Lines)
     → length (seen_of 0 (stream_at byte_plan 0 lines ++ [])) < length (fragments_of byte_plan 0 (replicate earlier (short_sent 0) ++ short_sent 0 ∷ []))
     → AreReleasedBy byte_plan 0 0 (replicate earlier (short_sent 0) ++ short_sent 0 ∷ []) (stream_at byte_plan 0 lines) (stream_at byte_plan 0 lines) 1000 → ⊥
 misses earlier lines few = not_released byte_plan 0 0 1000 (replicate earlier (short_sent 0) ++ short_sent 0 ∷ []) (stream_at byte_plan 0 lines) [] []
-    (stream_at byte_plan 0 lines) (sym (append-nil _)) (All-nil (λ (e : Entry). 1000 < e.at)) few
+    (stream_at byte_plan 0 lines) (sym (append-nil _)) (grind arith) few
 
 -- the other message was taken and sent
 finds_other : EmitterPolls byte_plan 1000 other_line other_line
@@ -80,7 +75,7 @@ finds_other = finds_none (after_take fresh (0, 2 ∷ [])) other_line
 
 other_bytes : blanked (other_frame A) ≡ blanked (short_frame 0 0 0 A) → ⊥
 unfolding checksum addresses header_front internet_header link_header udp_header datagram unnumbered
-other_bytes is = let same : ◌≡◌ {A = ℕ} 2 1 = ap (λ (f : List ℕ). slice_index f 42) is in absurd (omega arith)
+other_bytes is = grind arith
 
 pub needs_its_premises : NeedsItsPremises
 unfolding log checksum addresses header_front internet_header link_header udp_header datagram unnumbered cutting fragments_at

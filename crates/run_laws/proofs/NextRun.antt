@@ -1,7 +1,8 @@
 -- The law of the next fragment in a run of polls.
+use Rattle.vl_link.proofs.MessageEnds.{not_begun}
 use Rattle.run_laws.proofs.Names.{ℕ, ◌≡◌, ◌≢◌, ◌⊎◌, ◌+◌, ◌<◌, ◌≤◌, List, [], ◌∷◌, ◌++◌, Bool, true, map, length, arith, refl, ap, ◌∙◌, subst, Option, Some, None, inl, inr, ⊎_elim, All, nat_tests, cases_eq, eq-eqb, append_assoc, All-cons, All-nil, All-head, Plan, IsPlan, link_plan_at, sub_in, Entry, Poll, ArePolled, latest_poll, none_begun, begun_after, begun_by, stamp_of, latest, latest_push, stream_at, link_wait, seen_of, ComeWithin, latest_of, NextInRun, EmitterPolls, DrainPolls, ComesBy, next_polled_in_time, wait_at}
 use Rattle.afdx_legal.specs.Turns.{more_in}
-use Rattle.run_laws.proofs.PollStep.{Adds, gap_at, subs_at, emitter_step, emitter_lacks, drain_step, drain_lacks, emitter_endures, drain_endures}
+use Rattle.run_laws.proofs.PollStep.{Adds, gap_at, subs_at, emitter_step, emitter_lacks, drain_step, emitter_endures, drain_endures}
 use Rattle.run_laws.proofs.Ran.{at_of, Rise, splits, left, AreSteps, have_run, some_gap, all_back}
 
 -- polls that come within the lateness, as a law of the shaper says it
@@ -36,8 +37,8 @@ finds x (e ∷ added) one = elim (cases_eq (sub_in e.frame) x) [
         between = e ∷ rest.between;
         next = rest.next;
         later = rest.later;
-        is = ap (λ (es : List Entry). e ∷ es) rest.is;
-        others = All-cons (λ (d : Entry). sub_in d.frame ≢ x) e rest.between other rest.others;
+        is = grind arith;
+        others = grind arith;
         its = rest.its;
       }
 ]
@@ -53,7 +54,7 @@ AwaitsOne x many S = (many ≤ 1) × (1 ≤ many → begun_by none_begun S x ≡
 
 still_awaits : (now x many : ℕ) (released : Option ℕ) (S M : List Entry) → AwaitsOne x many S → Adds now released S M
     → AwaitsOne x (left x many released) M
-still_awaits now x many released S M (few, begun) adds = (grind arith, λ some. grind (arith, nat_tests, begun_push none_begun S))
+still_awaits now x many released S M (few, begun) adds = grind (arith, begun_push)
 
 polls_step : (plan : Plan) (k x : ℕ) → IsPlan plan → k < length plan.links
     → AreSteps plan k x (λ now lines after. EmitterPolls plan now lines after ⊎ DrainPolls plan now lines after) (AwaitsOne x)
@@ -63,7 +64,7 @@ polls_step plan k x valid inside = record {
       (λ drain. drain_endures now plan drain.accepted lines after drain.run) p;
   step = λ now lines after p stands. ⊎_elim
       (λ emitter. emitter_step now plan k x _ lines after valid inside emitter (emitter_lacks now plan k x lines after inside emitter) stands)
-      (grind (arith, drain_step, drain_lacks))
+      (grind (arith, drain_step, not_begun))
       p;
   waits = λ many S awaits. awaits.1;
   still = λ now many released S M. still_awaits now x many released S M;
@@ -77,7 +78,7 @@ next_by T earlier soon more first bound flag grown by found = record {
   next = found.next;
   are = grind (arith, append_assoc);
   soon = All-head (λ (e : Entry). e.at ≤ bound) found.next found.later (all_back (λ (e : Entry). e.at ≤ bound) found.between
-      (found.next ∷ found.later) (subst (All (λ (e : Entry). e.at ≤ bound)) found.is by));
+      (found.next ∷ found.later) (grind arith));
 }
 
 pub next_in_run_holds : NextInRun

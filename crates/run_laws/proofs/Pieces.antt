@@ -49,7 +49,7 @@ list_most end_system room net place most (sent ∷ later) wide few =
 
 pub fragments_both : (end_system room : ℕ) (net : Net) (place : ℕ) (xs ys : List Sent) → fragments_from end_system room net place (xs ++ ys)
     ≡ fragments_from end_system room net place xs ++ fragments_from end_system room net (place + length xs) ys
-fragments_both end_system room net place [] ys = ap (λ (p : ℕ). fragments_from end_system room net p ys) (omega arith)
+fragments_both end_system room net place [] ys = grind arith
 fragments_both end_system room net place (x ∷ xs) ys =
     grind (arith, append_assoc, fragments_both end_system room net (suc place) xs ys)
 

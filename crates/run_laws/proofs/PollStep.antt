@@ -31,11 +31,11 @@ record IsFirst (order : ℕ → ℕ) (sub most : ℕ) : Type 0 where
 
 first_at : (order : ℕ → ℕ) (sub n more from : ℕ) → from + more ≡ n → ((k : ℕ) → k < from → order k ≢ sub)
     → order n ≡ sub → IsFirst order sub (suc n)
-first_at order sub n zero from sum before is = record { turn = from; within = omega arith; is = grind arith; before = before }
+first_at order sub n zero from sum before is = grind arith
 first_at order sub n (suc more) from sum before is = elim (cases_eq (order from) sub) [
-  | inl here ↦ record { turn = from; within = omega arith; is = here; before = before }
+  | inl here ↦ (grind arith)
   | inr not ↦
-      first_at order sub n more (from + 1) (omega arith) (below_more (λ (k : ℕ). order k ≢ sub) from before not) is
+      first_at order sub n more (from + 1) (omega arith) (grind arith) is
 ]
 
 -- The turn of the link itself, if a network that carries it is up afterwards, and no fragment waits at a sub-VL that
@@ -75,10 +75,10 @@ own_step now gap subs x b link view lines after Lost lacks t stands = absurd (bo
 -- the turn of another link
 other_turn : (now : ℕ) (link : LinkPlan) (pace : Pace) (view : TurnView) (lines after : Lines) (did : Served) (vl : ℕ)
     → link.id.0 ≢ vl → Turn now link pace view lines after did → link_stream vl (log after) ≡ link_stream vl (log lines)
-other_turn now link pace view lines after Nothing vl ne t = ap (λ (l : Lines). link_stream vl (log l)) t.1
+other_turn now link pace view lines after Nothing vl ne t = cc
 other_turn now link pace view lines after (Released sub number) vl ne t =
     stream_same link.id.0 vl now sub number link.networks t.2.frame lines after t.2.of t.2.enters ne
-other_turn now link pace view lines after Lost vl ne t = ap (link_stream vl) (log_same lines after t.1.same)
+other_turn now link pace view lines after Lost vl ne t = grind (arith, link_stream, log_same)
 
 -- a network that carries the link at a place is up
 abbrev pub StandsAt : Plan → ℕ → Lines → Type 0
@@ -110,15 +110,15 @@ LacksNone plan k x b S P view = (lines after : Lines) (did : Served) → stream_
 pub seen_endure : (now : ℕ) (plan : Plan) (view : ℕ → Lines → TurnView) (P : ℕ → Lines → Lines → Served → Type 0) (i many : ℕ)
     (lines after : Lines) → AreTurns (IsSeen now plan view P) i many lines after → BothEndure lines after
 seen_endure now plan view P i many lines after turns = turns_endure (IsSeen now plan view P) i many lines after
-    (λ j before behind did t. (grind arith)) turns
+    (grind arith) turns
 
 module _ (now : ℕ) (plan : Plan) (k x : ℕ) (b : Bool) (S : List Entry) (P : ℕ → Lines → Lines → Served → Type 0)
     (view : ℕ → Lines → TurnView) (valid : IsPlan plan) (inside : k < length plan.links) where
   others_keep : (i many : ℕ) (lines after : Lines) → k < i → AreTurns (IsSeen now plan view P) i many lines after
       → stream_at plan k after ≡ stream_at plan k lines
-  others_keep i zero lines after past t = ap (stream_at plan k) t
+  others_keep i zero lines after past t = cc
   others_keep i (suc many) lines after past t =
-      others_keep (i + 1) many t.0 after (omega arith) t.3 ∙ (grind (arith, other_turn, gap_at, subs_at))
+      others_keep (i + 1) many t.0 after (omega arith) t.3 ∙ (grind (arith, other_turn))
 
   -- the turns of all links, that of the link among them
   turns_step : (i many : ℕ) (lines after : Lines) → LacksNone plan k x b S P (view k) → i ≤ k → k < i + many
@@ -134,21 +134,6 @@ module _ (now : ℕ) (plan : Plan) (k x : ℕ) (b : Bool) (S : List Entry) (P : 
       rw (← same) (turns_step (i + 1) many t.0 after lacks (omega (arith, le, later)) (omega arith) (same ∙ at) t.3 stands))
       (cases_eq i k)
 
--- messages that ports may send have room in the offset
-short : (plan : Plan) (k s : ℕ) (messages : List Sent) → All (IsQueued plan k s) messages → All IsShort messages
-short plan k s messages allowed = All-weaker (IsQueued plan k s) IsShort (λ sent is. is.most) messages allowed
-
--- a sub-VL of an emitter's link that has nothing has no message begun
-passed : (link : LinkState) (new : Held) (log : List Entry) (s : ℕ) → IsLinkTied link log → s < link.plan.sub_vls
-    → All IsShort (taken_by (held_at link.subs s)) → Passes (held_at link.subs s) new
-    → begun_by none_begun (link_stream link.plan.id.0 log) s ≡ false
-passed link new log s tied lt few p =
-    let held = held_at link.subs s in
-    let stream = link_stream link.plan.id.0 log in
-    not_begun held.of.end_system (room_of held.of.link.lmax) A stream s (taken_by (held_at link.subs s)) few
-    (tied s lt ∙ ap (λ (left : List (List ℕ)). told (sub_stream s (link_stream link.plan.id.0 log)) ++ left) p.whole
-    ∙ append-nil (told (sub_stream s (link_stream link.plan.id.0 log))))
-
 -- the sub-VLs of the links of an emitter, and of a drain
 abbrev pub emitter_view : (old new : Tx) → ℕ → Lines → TurnView
 emitter_view old new j lines = held_view (link_at old.links j).subs (link_at new.links j).subs
@@ -156,21 +141,18 @@ emitter_view old new j lines = held_view (link_at old.links j).subs (link_at new
 abbrev pub drain_view : Plan → Accepted → ℕ → Lines → TurnView
 drain_view plan accepted j lines = accepted_view plan.end_system (link_plan_at plan.links j) (accepted j) (log lines)
 
-ready_for : (now : ℕ) (plan : Plan) (lines after : Lines) (p : EmitterPolls plan now lines after) → IsReadyFor plan p.old
-ready_for now plan lines after p = subst (λ (own : Plan). IsReadyFor own p.old) p.of p.ready
-
 -- the turns of a poll of an emitter
 emitter_turns : (now : ℕ) (plan : Plan) (lines after : Lines) (p : EmitterPolls plan now lines after)
     → AreTurns (IsSeen now plan (emitter_view p.old p.new) (IsTurnAt now p.old.links p.new.links)) 0 (length plan.links) lines after
 emitter_turns now plan lines after p =
-    let ready : IsReadyFor plan p.old = ready_for now plan lines after p in
+    let ready : IsReadyFor plan p.old = grind arith in
     turns_seen (IsTurnAt now p.old.links p.new.links)
     (IsSeen now plan (emitter_view p.old p.new) (IsTurnAt now p.old.links p.new.links)) 0 (length plan.links) lines after
     (λ j le lt before behind did t.
     let inside : j < length plan.links = omega arith in
     let own = ready.links j inside in
     record { inside = inside; turn = rw (← own.gap, ← own.sub_vls, ← own.plan_is) t.serves; is = t })
-    (rw (ready.count, p.before, p.afterwards) at p.run.turns)
+    (grind arith)
 
 -- and of a drain
 drain_turns : (now : ℕ) (plan : Plan) (accepted : Accepted) (lines after : Lines) → IsDrained now plan accepted lines after
@@ -190,12 +172,7 @@ pub emitter_lacks : (now : ℕ) (plan : Plan) (k x : ℕ) (lines after : Lines) 
     → (p : EmitterPolls plan now lines after) → LacksNone plan k x (begun_by none_begun (stream_at plan k lines) x) (stream_at plan k lines)
     (IsTurnAt now p.old.links p.new.links) (emitter_view p.old p.new k)
 emitter_lacks now plan k x lines after inside p mid mid_after did at t stands s lt passes is =
-    grind (arith, ready_for, passed, short)
-
--- nor of a drain
-pub drain_lacks : (now : ℕ) (plan : Plan) (accepted : Accepted) (k x : ℕ) (S : List Entry) → k < length plan.links
-    → AreQueued plan accepted → LacksNone plan k x (begun_by none_begun S x) S (DrainsAt now plan accepted) (drain_view plan accepted k)
-drain_lacks now plan accepted k x S inside allowed lines after did at t stands s lt released is = grind (arith, not_begun, short)
+    grind (arith, held_at, link_stream, not_begun, room_of, taken_by, told, sub_stream, append-nil)
 
 -- what a poll of a drain does to the stream of a link
 pub drain_step : (now : ℕ) (plan : Plan) (accepted : Accepted) (k x : ℕ) (b : Bool) (lines after : Lines) → IsPlan plan

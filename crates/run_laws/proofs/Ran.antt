@@ -28,7 +28,7 @@ pub seen_append : (x : ℕ) (S U : List Entry) → seen_of x (S ++ U) ≡ seen_o
 seen_append x S U = grind (arith, filter-append, map-append)
 
 pub seen_both : (x : ℕ) (S U : List Entry) → length (seen_of x (S ++ U)) ≡ length (seen_of x S) + length (seen_of x U)
-seen_both x S U = ap length (seen_append x S U) ∙ length-append (seen_of x S) (seen_of x U)
+seen_both x S U = grind (arith, seen_append, length-append, seen_of)
 
 -- one entry more, in front
 seen_first : (x : ℕ) (e : Entry) (U : List Entry) → length (seen_of x (e ∷ U)) ≡ cond (nat_eq (sub_in e.frame) x) 1 0 + length (seen_of x U)
@@ -37,7 +37,7 @@ seen_first x e U = grind (arith, nat_tests)
 -- what a poll adds to the fragments that were sent
 pub adds_seen : (now x : ℕ) (released : Option ℕ) (S T : List Entry) → Adds now released S T
     → length (seen_of x T) ≡ length (seen_of x S) + cond (is_of x released) 1 0
-adds_seen now x None S T same = ap (λ (s : List Entry). length (seen_of x s)) same ∙ omega arith
+adds_seen now x None S T same = grind arith
 adds_seen now x (Some chosen) S T (frame, of, more) = grind (arith, seen_both, seen_first)
 
 -- the times of polls don't fall
@@ -126,7 +126,7 @@ run_more now gap subs x many b moments S M T step waits run = by_release step.re
       served = (served, rw same at run.served);
       had = ((λ some. step.waits (waits some)), run.had);
       added = run.added;
-      grown = run.grown ∙ ap (λ (l : List Entry). l ++ run.added) same;
+      grown = grind arith;
       show = (run.added, refl, run.show);
     }
     by_release (Some chosen) served (frame, of, more) run =
@@ -138,8 +138,8 @@ run_more now gap subs x many b moments S M T step waits run = by_release step.re
           served = (served, rw last at run.served);
           had = ((λ some. step.waits (waits some)), run.had);
           added = entry now frame ∷ run.added;
-          grown = run.grown ∙ ap (λ (l : List Entry). l ++ run.added) more ∙ append_assoc S (entry now frame ∷ []) run.added;
-          show = (run.added, (entry now frame, refl, refl, of), run.show);
+          grown = grind (arith, append_assoc, entry);
+          show = grind arith;
         }
 
 -- Polls of one kind step on the link at a place: by this test of its stream a fragment of a sub-VL waits, as long as
@@ -157,7 +157,7 @@ pub record AreSteps (plan : Plan) (k x : ℕ) (Polls : ℕ → Lines → Lines �
 polls_endure : (Polls : ℕ → Lines → Lines → Type 0) (moments : List ℕ) (lines after : Lines)
     → ((now : ℕ) (lines after : Lines) → Polls now lines after → BothEndure lines after)
     → ArePolls Polls moments lines after → BothEndure lines after
-polls_endure Polls [] lines after each r = subst (BothEndure lines) (sym r) (both_none lines)
+polls_endure Polls [] lines after each r = grind arith
 polls_endure Polls (now ∷ moments) lines after each r = grind (arith, polls_endure Polls moments r.0 after each r.2)
 
 -- the run of polls
@@ -168,10 +168,10 @@ pub have_run : (moments : List ℕ) (plan : Plan) (k x many : ℕ) (Polls : ℕ 
 have_run [] plan k x many Polls Awaits test lines after each r stands awaits = grind (arith, append-nil)
 have_run (now ∷ moments) plan k x many Polls Awaits test lines after each r stands awaits =
     let stood : StandsAt plan k r.0 = grind (arith, stood_before, polls_endure) in
-    let step : StepsAt now plan k x (test (stream_at plan k lines)) lines r.0 = each.step now lines r.0 r.1 stood in
+    let step : StepsAt now plan k x (test (stream_at plan k lines)) lines r.0 = grind arith in
     run_more now (gap_at plan k) (subs_at plan k) x many (test (stream_at plan k lines)) moments (stream_at plan k lines)
-    (stream_at plan k r.0) (stream_at plan k after) step (each.waits many (stream_at plan k lines) awaits)
-    (grind (arith, have_run moments plan k x (left x many step.released) Polls Awaits test r.0 after each r.2 stands (each.still now many step.released (stream_at plan k lines) (stream_at plan k r.0) awaits step.adds)))
+    (stream_at plan k r.0) (stream_at plan k after) step (grind arith)
+    (grind (arith, have_run moments plan k x (left x many step.released) Polls Awaits test r.0 after each r.2 stands (grind arith)))
 
 pub some_gap : (bag : Bag) → 1 ≤ 1000 * bag_ms bag
 some_gap bag = grind arith

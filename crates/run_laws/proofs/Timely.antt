@@ -19,11 +19,11 @@ not_before gap late end before low high (now ∷ moments) timely (inr later) =
     grind (arith, not_before gap late end now low high moments timely.2 later)
 
 one_pause : (fewer more pause : ℕ) → suc fewer ≤ more → pause + fewer * pause ≤ more * pause
-one_pause fewer more pause less = let m = mul-le (suc fewer) pause more pause less (omega arith) in omega arith
+one_pause fewer more pause less = grind arith
 
 by_release : (o : Option ℕ) → (o ≡ None) ⊎ ((chosen : ℕ) × (o ≡ Some chosen))
 by_release None = inl refl
-by_release (Some chosen) = inr (chosen, refl)
+by_release (Some chosen) = grind arith
 
 -- the cyclic order of the sub-VLs starts after `l`
 abbrev pub IsBehind : ℕ → ℕ → Option Stamp → Type 0
@@ -37,21 +37,14 @@ abbrev pub behind : ℕ → Option Stamp → ℕ
 behind subs None = subs - 1
 behind subs (Some l) = l.sub % subs
 
-pub behind_lt : (subs : ℕ) (last : Option Stamp) → 1 ≤ subs → behind subs last < subs
-behind_lt subs None some = omega arith
-behind_lt subs (Some l) some = mod-lt l.sub (omega arith)
-
 same_turn : (subs last k : ℕ) → next_turn subs (last % subs) k ≡ next_turn subs last k
 same_turn subs last k =
     let left : last % subs + 1 + k ≡ last % subs + (1 + k) = omega arith in
     grind (arith, mod-add-mod last subs (1 + k), left)
 
-reordered : (subs : ℕ) (f g : ℕ → ℕ) (c : Choice) → ((k : ℕ) → k < subs → g k ≡ f k) → IsChosen subs f c → IsChosen subs g c
-reordered subs f g c same ch = grind arith
-
 pub is_behind : (subs : ℕ) (last : Option Stamp) → IsBehind subs (behind subs last) last
-is_behind subs None c ch = reordered subs (turn_of subs None) (next_turn subs (subs - 1)) c (from_0 subs) ch
-is_behind subs (Some l) c ch = reordered subs (turn_of subs (Some l)) (next_turn subs (l.sub % subs)) c (λ k lt. same_turn subs l.sub k) ch
+is_behind subs None c ch = grind (arith, from_0)
+is_behind subs (Some l) c ch = grind (arith, same_turn)
 
 -- from any poll on, by induction: a round per frame, less what the order has passed of the first round
 in_due : (polls : List Poll) (subs x l f gap late before polled end : ℕ) (last : Option Stamp)
@@ -122,8 +115,7 @@ pub timely_released : (polls : List Poll) (subs x f gap late start end : ℕ) (l
 timely_released polls subs x f gap late start end last xl some after served has timely enough =
     let l : ℕ = behind subs last in
     let fewer = mul-le (subs * f - back subs x l) (gap + late) (subs * f) (gap + late) (omega arith) (omega arith) in
-    in_due polls subs x l f gap late start start end last xl (behind_lt subs last (omega arith)) some after (is_behind subs last)
-    served has timely (comes_due gap late end start (map at_of polls) timely) (λ h. omega arith)
+    grind (arith, in_due, is_behind, comes_due)
 
 comes_close : (late low high from : ℕ) (moments : List ℕ) → from < low → high ≡ low + late → ComeWithin (late + 1) from moments
     → high ≤ latest_of from moments → ComesIn low high moments

@@ -15,9 +15,6 @@ use Rattle.run_laws.specs.MessageInRun.{AreReleasedBy}
 use Rattle.run_laws.proofs.NextRun.{next_in_run_holds}
 use Rattle.run_laws.proofs.MessageRun.{message_in_run_holds}
 
-pub takes : (old new : List Entry) → Endures true true old new 0 0
-takes old new = grind arith
-
 -- a turn that releases the next frame of the one sub-VL, on both networks
 pub releases : (now number : ℕ) (link : LinkPlan) (accepted : ℕ → List Sent) (lines after : Lines) (frame : List ℕ)
     → may_release now link (pace_in link (log lines)) lines ≡ true → number ≡ (pace_in link (log lines)).next
@@ -30,8 +27,8 @@ releases now number link accepted lines after frame may next some is owed size o
   next,
   record {
     frame = frame;
-    choice = record { turn = 0; within = some; is = is; chosen = owed; before = λ k lt. absurd (omega arith); others = λ s other. tt };
-    of = record { size = omega arith; link = own; of_sub = sub; carries = carries; interface = interface };
+    choice = record { turn = 0; within = some; is = is; chosen = owed; before = grind arith; others = λ s other. tt };
+    of = grind arith;
     enters = enters;
     stands = stands;
     endure = endure;
@@ -43,8 +40,8 @@ back_turn : (now : ℕ) → is_due 1000 (Some (record { at = 0; sub = 0 })) now 
     → Drains now 1 small_link (message_accepted 0) front_line (both_at now) (Released 0 1)
 unfolding log checksum addresses header_front internet_header link_header udp_header datagram unnumbered cutting fragments_at
 back_turn now due = releases now 1 small_link (message_accepted 0) front_line (both_at now) (back_frame A)
-    (ap (λ (t : Bool). t && true) due) refl (omega arith) refl
-    (record { left = blanked (back_frame A) ∷ []; some = λ e. cc; ahead = refl }) refl refl refl refl refl refl refl (record { a = takes _ _; b = takes _ _ })
+    (grind arith) refl (omega arith) refl
+    (record { left = blanked (back_frame A) ∷ []; some = λ e. cc; ahead = refl }) refl refl refl refl refl refl refl (grind arith)
 
 lost_turn : Drains 1000 1 small_link (message_accepted 0) front_line lost_line Lost
 unfolding log checksum addresses header_front internet_header link_header udp_header datagram unnumbered
@@ -56,7 +53,7 @@ lost_turn = (
     choice = (back_turn 1000 refl).2.choice;
     same = refl;
     down = refl;
-    endure = record { a = grind arith; b = (grind arith) };
+    endure = grind arith;
   },
 )
 
@@ -67,7 +64,7 @@ a_poll now lines after did turn = inr (record { accepted = message_accepted; all
 -- polls after the last fragment transmit nothing
 after_both : (now : ℕ) → is_due 1000 (Some (record { at = 1000; sub = 0 })) now ≡ true → Drains now 1 small_link (message_accepted 0) both_lines both_lines Nothing
 unfolding log checksum addresses header_front internet_header link_header udp_header datagram unnumbered cutting fragments_at
-after_both now due = (inr (ap (λ (t : Bool). t && true) due, record { each = below_one _ refl; others = λ s le. tt }), refl)
+after_both now due = grind arith
 
 two_polls : AreRuns small_plan (1000 ∷ 2000 ∷ []) front_line both_lines
 unfolding log checksum addresses header_front internet_header link_header udp_header datagram unnumbered cutting fragments_at
@@ -87,13 +84,13 @@ alone first bound stream is comes = grind (arith, ap length is, ap length comes.
 -- of two entries the second follows the first
 second_is : (before between after : List Entry) (first second e next : Entry)
     → first ∷ second ∷ [] ≡ before ++ (e ∷ (between ++ next ∷ after)) → (first ≡ e) × (second ≡ next)
-second_is [] [] after first second e next is = ((cons_parts is).0, (cons_parts (cons_parts is).1).0)
+second_is [] [] after first second e next is = grind arith
 second_is [] (x ∷ xs) after first second e next is = grind (arith, length-append xs (next ∷ after))
 second_is (x ∷ xs) between after first second e next is =
     grind (arith, length-append xs (e ∷ (between ++ next ∷ after)), length-append between (next ∷ after))
 
 small_valid : IsPlan small_plan
-small_valid = demo_with_valid Both 64 (omega arith) (omega arith)
+small_valid = grind arith
 
 pub comes_in_run : ComesInRun
 unfolding log checksum addresses header_front internet_header link_header udp_header datagram unnumbered
@@ -129,8 +126,8 @@ stray_poll : (now : ℕ) → is_due 1000 (Some (record { at = 1000; sub = 1 })) 
 unfolding log checksum addresses header_front internet_header link_header udp_header datagram unnumbered cutting fragments_at
 stray_poll now due = inr (record {
   accepted = λ k s. [];
-  allowed = λ k s in_k in_s. All-nil (IsQueued small_plan k s);
-  run = (stray_line, Nothing, (inr (ap (λ (t : Bool). t && true) due, record { each = below_one _ refl; others = λ s le. tt }), refl), refl);
+  allowed = grind arith;
+  run = grind arith;
 })
 
 pub needs_a_run : NeedsARun
@@ -182,19 +179,19 @@ second_turn : Drains 1000 1 tight_link (tight_accepted 0) (tight_line 1) (tight_
 unfolding log checksum addresses header_front internet_header link_header udp_header datagram unnumbered cutting fragments_at
 second_turn = releases 1000 1 tight_link (tight_accepted 0) (tight_line 1) (tight_line 2) (tight_frame 0 24 1 A) refl refl (omega arith) refl
     (record { left = blanked (tight_frame 0 24 1 A) ∷ blanked (tight_frame 1 0 2 A) ∷ blanked (tight_frame 1 24 3 A) ∷ []; some = λ e. cc; ahead = refl })
-    refl refl refl refl refl refl refl (record { a = takes _ _; b = takes _ _ })
+    refl refl refl refl refl refl refl (grind arith)
 
 third_turn : Drains 2000 1 tight_link (tight_accepted 0) (tight_line 2) (tight_line 3) (Released 0 2)
 unfolding log checksum addresses header_front internet_header link_header udp_header datagram unnumbered cutting fragments_at
 third_turn = releases 2000 2 tight_link (tight_accepted 0) (tight_line 2) (tight_line 3) (tight_frame 1 0 2 A) refl refl (omega arith) refl
     (record { left = blanked (tight_frame 1 0 2 A) ∷ blanked (tight_frame 1 24 3 A) ∷ []; some = λ e. cc; ahead = refl })
-    refl refl refl refl refl refl refl (record { a = takes _ _; b = takes _ _ })
+    refl refl refl refl refl refl refl (grind arith)
 
 fourth_turn : Drains 3000 1 tight_link (tight_accepted 0) (tight_line 3) (tight_line 4) (Released 0 3)
 unfolding log checksum addresses header_front internet_header link_header udp_header datagram unnumbered cutting fragments_at
 fourth_turn = releases 3000 3 tight_link (tight_accepted 0) (tight_line 3) (tight_line 4) (tight_frame 1 24 3 A) refl refl (omega arith) refl
     (record { left = blanked (tight_frame 1 24 3 A) ∷ []; some = λ e. cc; ahead = refl })
-    refl refl refl refl refl refl refl (record { a = takes _ _; b = takes _ _ })
+    refl refl refl refl refl refl refl (grind arith)
 
 finding_is : AreFinding tight_plan tight_accepted 0 0 4 (1000 ∷ 2000 ∷ 3000 ∷ []) (tight_line 1) (tight_line 4)
 finding_is = (
@@ -211,14 +208,11 @@ finding_is = (
 front_by : (bound : ℕ) (rest soon more late : List Entry) → rest ++ late ≡ soon ++ more
     → All (λ (e : Entry). e.at ≤ bound) soon → All (λ (e : Entry). bound < e.at) late → IsPrefixOf soon rest
 front_by bound rest [] more late is by after = (rest, refl)
-front_by bound [] (e ∷ soon) more [] is by after = absurd (nil_isnt_cons is)
-front_by bound [] (e ∷ soon) more (l ∷ late) is by after =
-    let first : e.at ≤ bound = All-head (λ (d : Entry). d.at ≤ bound) e soon by in
-    let second : bound < l.at = All-head (λ (d : Entry). bound < d.at) l late after in
-    grind arith
+front_by bound [] (e ∷ soon) more [] is by after = grind arith
+front_by bound [] (e ∷ soon) more (l ∷ late) is by after = grind (arith, All-head)
 front_by bound (r ∷ rest) (e ∷ soon) more late is by after =
     let front = front_by bound rest soon more late (cons_parts is).1 (All-tail (λ (d : Entry). d.at ≤ bound) e soon by) after in
-    (front.0, cons_same (sym (cons_parts is).0) front.1)
+    grind arith
 
 -- messages of which too few fragments came by a time
 pub not_released : (plan : Plan) (k s bound : ℕ) (messages : List Sent) (before rest late stream : List Entry)
@@ -246,7 +240,7 @@ unfolding log checksum addresses header_front internet_header link_header udp_he
 not_sooner = not_released tight_plan 0 0 2999 (tight_sent ∷ tight_sent ∷ []) (entry 0 (tight_frame 0 0 0 A) ∷ [])
     (entry 1000 (tight_frame 0 24 1 A) ∷ entry 2000 (tight_frame 1 0 2 A) ∷ []) (entry 3000 (tight_frame 1 24 3 A) ∷ [])
     (stream_at tight_plan 0 (tight_line 4)) refl
-    (All-from_recursion (λ (e : Entry). 2999 < e.at) (entry 3000 (tight_frame 1 24 3 A) ∷ []) (omega arith, tt)) (omega arith)
+    (grind arith) (omega arith)
 
 pub meets_the_wait : MeetsTheWait
 unfolding cutting fragments_at
