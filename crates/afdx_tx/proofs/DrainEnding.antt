@@ -1,6 +1,7 @@
 -- Each poll of a drain at which a link is due sends one of its frames, until it owes none.
 use Rattle.afdx_tx.proofs.Names.{ℕ, zero, suc, ◌≡◌, ◌≢◌, ◌⊎◌, ◌+◌, ◌-◌, ◌<◌, ◌≤◌, List, [], ◌∷◌, ◌++◌, true, length, arith, refl, ap, ◌∙◌, sym, subst, Option, Some, None, inl, inr, ⊎_elim, both_ways, cases_eq, le-leb, length-append, length-map, length_push, LinkPlan, Plan, IsPlan, link_plan_at, bag_micros, room_of, A, sub_in, Sent, fragments, Entry, entry, Lines, BothEndure, stands_for, log, both_none, both_on, stood_before, log_same, Stamp, IsLater, is_due, Served, Nothing, Released, Lost, AreTurns, choice_below, turn_endures, turns_endure, latest, link_stream, sub_stream, told, Accepted, Drains, DrainsAt, pace_in, accepted_view, owed, stream_at, owed_at, AreApartBy, AreDrained, DrainEnds}
-use Rattle.vl_link.proofs.PaceOfStream.{stream_more, stream_same}
+use Rattle.vl_link.proofs.PaceOfStream.{stream_more}
+use Rattle.vl_link.proofs.LinkTurn.{other_turn, turn_at}
 use Rattle.afdx_legal.proofs.LongerStream.{latest_push, with_push_in, with_push_out}
 use Rattle.afdx_tx.proofs.PollTurns.{later_on}
 
@@ -51,31 +52,10 @@ own_turn now end_system link accepted lines after (Released sub number) due t st
     })
 own_turn now end_system link accepted lines after Lost due t stands = grind arith
 
--- The turn of another link.
-other_turn : (now end_system : ℕ) (link : LinkPlan) (accepted : ℕ → List Sent) (lines after : Lines) (did : Served) (vl : ℕ)
-    → link.id.0 ≢ vl → Drains now end_system link accepted lines after did
-    → link_stream vl (log after) ≡ link_stream vl (log lines)
-other_turn now end_system link accepted lines after did vl ne t = grind (arith, stream_same, link_stream, log_same)
-
 -- A network that is down after turns was down before, or failed.
 drains_endure : (now : ℕ) (plan : Plan) (accepted : Accepted) (i many : ℕ) (lines after : Lines)
     → AreTurns (DrainsAt now plan accepted) i many lines after → BothEndure lines after
 drains_endure now plan accepted i many lines after turns = grind (arith, turns_endure, turn_endures, link_plan_at, pace_in, log, accepted_view)
-
--- the link at this place isn't that one
-abbrev IsOther : Plan → ℕ → ℕ → Type 0
-IsOther plan k j = (link_plan_at plan.links j).id.0 ≢ (link_plan_at plan.links k).id.0
-
--- The turns of other links.
-other_turns : (now : ℕ) (plan : Plan) (accepted : Accepted) (k i many : ℕ) (lines after : Lines)
-    → ((j : ℕ) → i ≤ j → j < i + many → IsOther plan k j)
-    → AreTurns (DrainsAt now plan accepted) i many lines after
-    → stream_at plan k after ≡ stream_at plan k lines
-other_turns now plan accepted k i zero lines after ne t = cc
-other_turns now plan accepted k i (suc many) lines after ne t =
-    other_turns now plan accepted k (i + 1) many t.0 after (grind arith) t.3
-    ∙ other_turn now plan.end_system (link_plan_at plan.links i) (accepted i) lines t.0 t.1 (link_plan_at plan.links k).id.0
-    (grind arith) t.2
 
 -- the effect of a poll on the stream of the link at a place
 abbrev ComesAt : ℕ → Plan → Accepted → ℕ → (S T : List Entry) → Type 0
@@ -90,28 +70,18 @@ abbrev StandsAt : Plan → ℕ → Lines → Type 0
 StandsAt plan k lines = stands_for (link_plan_at plan.links k).networks lines ≡ true
 
 -- The turns of all links, this one among them.
-turns_come : (now : ℕ) (plan : Plan) (accepted : Accepted) (k i many : ℕ) (lines after : Lines)
-    → i ≤ k → k < i + many
-    → ((j : ℕ) → j < i + many → (j ≡ k → ⊥) → IsOther plan k j)
+turns_come : (now : ℕ) (plan : Plan) (accepted : Accepted) (k : ℕ) (lines after : Lines) → IsPlan plan → k < length plan.links
     → IsDueBy now plan k (stream_at plan k lines)
-    → AreTurns (DrainsAt now plan accepted) i many lines after → StandsAt plan k after
+    → AreTurns (DrainsAt now plan accepted) 0 (length plan.links) lines after → StandsAt plan k after
     → ComesAt now plan accepted k (stream_at plan k lines) (stream_at plan k after)
-turns_come now plan accepted k i zero lines after le lt ne due t stands = absurd (omega arith)
-turns_come now plan accepted k i (suc many) lines after le lt ne due t stands = ⊎_elim
-    (λ (here : i ≡ k).
-    let own = own_turn now plan.end_system (link_plan_at plan.links k) (accepted k) lines t.0 t.1 due
-    (subst (λ (j : ℕ). DrainsAt now plan accepted j lines t.0 t.1) here t.2)
-    (grind (arith, drains_endure)) in
-    let rest = other_turns now plan accepted k (i + 1) many t.0 after
-    (grind arith) t.3 in
-    rw rest own)
-    (λ (later : i ≡ k → ⊥).
-    let same = other_turn now plan.end_system (link_plan_at plan.links i) (accepted i) lines t.0 t.1
-    (link_plan_at plan.links k).id.0 (ne i (omega arith) later) t.2 in
-    let further : i + 1 ≤ k = omega (arith, le, later) in
-    rw (← same) (turns_come now plan accepted k (i + 1) many t.0 after further (omega arith)
-    (λ j jlt. ne j (omega arith)) (rw same due) t.3 stands))
-    (cases_eq i k)
+turns_come now plan accepted k lines after valid lt due turns stands =
+    let at = turn_at (DrainsAt now plan accepted) (stream_at plan k) k 0 (length plan.links) lines after
+    (omega arith) (omega arith)
+    (λ j jlt ne before behind did t. other_turn now (link_plan_at plan.links k).id.0 (link_plan_at plan.links j) _ _ before
+    behind did (λ e. ne (valid.links_apart j k (omega arith) lt (λ i. record { 0 = e i }))) t)
+    (λ j before behind did t. turn_endures now (link_plan_at plan.links j) _ _ before behind did t) turns in
+    rw (at.kept, ← at.same) (own_turn now plan.end_system (link_plan_at plan.links k) (accepted k) at.before at.behind at.did
+    (rw at.same due) at.turn (stood_before at.behind after (link_plan_at plan.links k).networks at.endures stands))
 
 -- The link is due one gap after any time that isn't before its last release.
 due_by : (bag gap before now : ℕ) (last : Option Stamp) → bag ≤ gap → before + gap ≤ now → IsLater last before
@@ -181,8 +151,7 @@ ends plan accepted k (now ∷ moments) lines after start gap valid lt small late
     (λ (owes : owed_at plan accepted k lines < suc (length moments)).
     let less = one_less now _ _ _ _ _ g (link_plan_at plan.links k).sub_vls g.within in
     inr (omega (arith, less, owes))) few))
-    (turns_come now plan accepted k 0 (length plan.links) lines p.0 (omega arith) (omega arith)
-    (grind arith)
+    (turns_come now plan accepted k lines p.0 valid lt
     (due_by _ gap start now _ small apart.0 later) p.1 (grind (arith, drained_endure)))
 
 -- The same of all links.

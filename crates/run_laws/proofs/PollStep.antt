@@ -2,7 +2,9 @@
 use Rattle.run_laws.proofs.Names.{ℕ, zero, suc, ◌≡◌, ◌≢◌, ◌+◌, ◌<◌, List, [], ◌∷◌, ◌++◌, Bool, true, false, ◌&&◌, ◌||◌, nat_eq, arith, refl, ap, ◌∙◌, sym, subst, Option, Some, None, inl, inr, ⊎_elim, ◌≤◌, length, nat_tests, both_ways, cases_eq, and_from, eq-eqb, LinkPlan, sub_in, Entry, entry, Lines, stands_for, log, BothEndure, Pace, turn_of, IsServed, Served, Nothing, Released, Lost, TurnView, Turn, AreTurns, pace_of, Held, LinkState, held_at, link_at, taken_by, held_view, Passes, none_begun, begun_by, latest, link_stream, sub_stream, told, All, append-nil, All-weaker, Plan, IsPlan, link_plan_at, bag_micros, room_of, A, Sent, stood_before, turns_endure, turns_seen, Accepted, IsQueued, AreQueued, Tx, IsTurnAt, DrainsAt, IsDrained, accepted_view, stream_at, IsReadyFor, EmitterPolls}
 use borrow.Author.Count.{below_more}
 use Rattle.redundant_mux.proofs.MirroredLines.{log_same}
-use Rattle.vl_link.proofs.PaceOfStream.{stream_more, stream_same}
+use Rattle.vl_link.proofs.PaceOfStream.{stream_more}
+use Rattle.vl_link.proofs.LinkTurn.{other_turn, turn_at}
+use Rattle.vl_link.proofs.TurnLaws.{turn_endures}
 use Rattle.vl_link.specs.Kept.{IsLinkTied}
 use Rattle.vl_link.proofs.MessageEnds.{IsShort, not_begun}
 
@@ -72,14 +74,6 @@ own_step now gap subs x b link view lines after (Released sub number) lacks t st
     }
 own_step now gap subs x b link view lines after Lost lacks t stands = absurd (both_ways _ t.1.down stands)
 
--- the turn of another link
-other_turn : (now : ℕ) (link : LinkPlan) (pace : Pace) (view : TurnView) (lines after : Lines) (did : Served) (vl : ℕ)
-    → link.id.0 ≢ vl → Turn now link pace view lines after did → link_stream vl (log after) ≡ link_stream vl (log lines)
-other_turn now link pace view lines after Nothing vl ne t = cc
-other_turn now link pace view lines after (Released sub number) vl ne t =
-    stream_same link.id.0 vl now sub number link.networks t.2.frame lines after t.2.of t.2.enters ne
-other_turn now link pace view lines after Lost vl ne t = grind (arith, link_stream, log_same)
-
 -- a network that carries the link at a place is up
 abbrev pub StandsAt : Plan → ℕ → Lines → Type 0
 StandsAt plan k lines = stands_for (link_plan_at plan.links k).networks lines ≡ true
@@ -112,27 +106,22 @@ pub seen_endure : (now : ℕ) (plan : Plan) (view : ℕ → Lines → TurnView) 
 seen_endure now plan view P i many lines after turns = turns_endure (IsSeen now plan view P) i many lines after
     (grind arith) turns
 
-module _ (now : ℕ) (plan : Plan) (k x : ℕ) (b : Bool) (S : List Entry) (P : ℕ → Lines → Lines → Served → Type 0)
-    (view : ℕ → Lines → TurnView) (valid : IsPlan plan) (inside : k < length plan.links) where
-  others_keep : (i many : ℕ) (lines after : Lines) → k < i → AreTurns (IsSeen now plan view P) i many lines after
-      → stream_at plan k after ≡ stream_at plan k lines
-  others_keep i zero lines after past t = cc
-  others_keep i (suc many) lines after past t =
-      others_keep (i + 1) many t.0 after (omega arith) t.3 ∙ (grind (arith, other_turn))
-
-  -- the turns of all links, that of the link among them
-  turns_step : (i many : ℕ) (lines after : Lines) → LacksNone plan k x b S P (view k) → i ≤ k → k < i + many
-      → stream_at plan k lines ≡ S → AreTurns (IsSeen now plan view P) i many lines after → StandsAt plan k after
-      → StepsAt now plan k x b lines after
-  turns_step i zero lines after lacks le lt at t stands = absurd (omega arith)
-  turns_step i (suc many) lines after lacks le lt at t stands = ⊎_elim
-      (λ (here : i ≡ k).
-      let stood : StandsAt plan k t.0 = grind (arith, stood_before, seen_endure) in
-      grind (arith, stood_before, others_keep, own_step, gap_at, subs_at))
-      (λ (later : i ≢ k).
-      let same : stream_at plan k t.0 ≡ stream_at plan k lines = grind (arith, other_turn, gap_at, subs_at) in
-      rw (← same) (turns_step (i + 1) many t.0 after lacks (omega (arith, le, later)) (omega arith) (same ∙ at) t.3 stands))
-      (cases_eq i k)
+-- the turns of all links, that of the link among them
+turns_step : (now : ℕ) (plan : Plan) (k x : ℕ) (b : Bool) (P : ℕ → Lines → Lines → Served → Type 0) (view : ℕ → Lines → TurnView)
+    (lines after : Lines) → IsPlan plan → k < length plan.links → LacksNone plan k x b (stream_at plan k lines) P (view k)
+    → AreTurns (IsSeen now plan view P) 0 (length plan.links) lines after → StandsAt plan k after
+    → StepsAt now plan k x b lines after
+turns_step now plan k x b P view lines after valid inside lacks turns stands =
+    let at = turn_at (IsSeen now plan view P) (stream_at plan k) k 0 (length plan.links) lines after (omega arith) (omega arith)
+    (λ j jlt ne before behind did t. other_turn now (link_plan_at plan.links k).id.0 (link_plan_at plan.links j) _ _ before
+    behind did (λ e. ne (valid.links_apart j k t.inside inside (λ i. record { 0 = e i }))) t.turn)
+    (λ j before behind did t. turn_endures now (link_plan_at plan.links j) _ _ before behind did t.turn) turns in
+    let link = link_plan_at plan.links k in
+    let up = stood_before at.behind after link.networks at.endures stands in
+    let before = stood_before at.before at.behind link.networks
+    (turn_endures now link _ _ at.before at.behind at.did at.turn.turn) up in
+    rw (at.kept, ← at.same) (own_step now (gap_at plan k) (subs_at plan k) x b link (view k at.before) at.before at.behind at.did
+    (lacks at.before at.behind at.did at.same at.turn.is before) at.turn.turn up)
 
 -- the sub-VLs of the links of an emitter, and of a drain
 abbrev pub emitter_view : (old new : Tx) → ℕ → Lines → TurnView

@@ -1,7 +1,7 @@
 -- One turn of a link, and its stream.
-use Rattle.vl_link.proofs.Names.{ℕ, ◌≡◌, ◌≢◌, ◌<◌, List, length, false, arith, ap, ◌∙◌, sym, subst, inl, inr, ⊎_elim, Option, None, cases_eq, and_parts, both_ways, room_of, sequence_number, A, sub_in, fragments, Entry, entry, Lines, log, log_same, Stamp, Pace, IsLater, Served, Nothing, Released, Lost, SubVl, counts_in, link_stream, sub_stream, told, entry_number, IsNumbered, IsSpaced, IsApart, IsPrefixOf, TurnView, Releases, Loses, is_lost, Held, LinkState, held_at, GivesFrame, held_view, Serves, Follows, HasOwnItems, IsSameLink, IsLinkOfPlan, sub_fragments, taken_by, IsKept, IsTied, IsLinkTied, none_begun, ShowsChoices, spaced_push, numbered_push, due_apart, with_push_in, with_push_out}
+use Rattle.vl_link.proofs.Names.{ℕ, zero, suc, refl, LinkPlan, Turn, AreTurns, BothEndure, ◌≤◌, ◌+◌, ◌≡◌, ◌≢◌, ◌<◌, List, length, false, arith, ap, ◌∙◌, sym, subst, inl, inr, ⊎_elim, Option, None, cases_eq, and_parts, both_ways, room_of, sequence_number, A, sub_in, fragments, Entry, entry, Lines, log, log_same, Stamp, Pace, IsLater, Served, Nothing, Released, Lost, SubVl, counts_in, link_stream, sub_stream, told, entry_number, IsNumbered, IsSpaced, IsApart, IsPrefixOf, TurnView, Releases, Loses, is_lost, Held, LinkState, held_at, GivesFrame, held_view, Serves, Follows, HasOwnItems, IsSameLink, IsLinkOfPlan, sub_fragments, taken_by, IsKept, IsTied, IsLinkTied, none_begun, ShowsChoices, spaced_push, numbered_push, due_apart, with_push_in, with_push_out}
 use Rattle.vl_link.proofs.ShownTurns.{shows_push, choice_shown}
-use Rattle.vl_link.proofs.TurnLaws.{choice_below, choice_other}
+use Rattle.vl_link.proofs.TurnLaws.{choice_below, choice_other, turns_endure}
 use Rattle.vl_link.proofs.SubInStep.{tied_moves, tied_gave, prefix_of, shown, gave_shown}
 use Rattle.vl_link.proofs.PaceOfStream.{stream_more, stream_same}
 
@@ -154,15 +154,73 @@ pub kept_turn : (now : ℕ) (did : Served) (link new : LinkState) (lines after :
     → Turned now link new lines after did → IsOwn link → HasItems link → IsKept link (log lines) → IsKept new (log after)
 kept_turn now did link new lines after t own items k = grind (arith, same_plan, kept_of_plan)
 
+-- The stream of another link, in any view of the sub-VLs.
+pub other_turn : (now vl : ℕ) (link : LinkPlan) (pace : Pace) (view : TurnView) (lines after : Lines) (did : Served)
+    → link.id.0 ≢ vl → Turn now link pace view lines after did → link_stream vl (log after) ≡ link_stream vl (log lines)
+other_turn now vl link pace view lines after Nothing ne t = ap (λ (x : Lines). link_stream vl (log x)) t.1
+other_turn now vl link pace view lines after (Released sub number) ne t =
+    stream_same link.id.0 vl now sub number link.networks t.2.frame lines after t.2.of t.2.enters ne
+other_turn now vl link pace view lines after Lost ne t = ap (link_stream vl) (log_same lines after t.1.same)
+
+-- the turn at this place, of turns of which no other changes what is read
+pub record TurnAt (P : ℕ → Lines → Lines → Served → Type 0) (read : Lines → List Entry) (k : ℕ) (lines after : Lines)
+    : Type 0 where
+  pub before : Lines
+  pub behind : Lines
+  pub did : Served
+  pub turn : P k before behind did
+  pub same : read before ≡ read lines
+  pub kept : read after ≡ read behind
+  pub endures : BothEndure behind after
+
+-- Turns that don't change what is read.
+turns_keep : (P : ℕ → Lines → Lines → Served → Type 0) (read : Lines → List Entry) (i many : ℕ) (lines after : Lines)
+    → ((j : ℕ) → i ≤ j → j < i + many → (before behind : Lines) (did : Served) → P j before behind did
+    → read behind ≡ read before)
+    → AreTurns P i many lines after → read after ≡ read lines
+turns_keep P read i zero lines after keep t = ap read t
+turns_keep P read i (suc many) lines after keep t =
+    turns_keep P read (i + 1) many t.0 after (λ j le lt. keep j (omega arith) (omega arith)) t.3
+    ∙ keep i (omega arith) (omega arith) lines t.0 t.1 t.2
+
+-- Of turns there is one at each place.
+pub turn_at : (P : ℕ → Lines → Lines → Served → Type 0) (read : Lines → List Entry) (k i many : ℕ) (lines after : Lines)
+    → i ≤ k → k < i + many
+    → ((j : ℕ) → j < i + many → j ≢ k → (before behind : Lines) (did : Served) → P j before behind did
+    → read behind ≡ read before)
+    → ((j : ℕ) (before behind : Lines) (did : Served) → P j before behind did → BothEndure before behind)
+    → AreTurns P i many lines after → TurnAt P read k lines after
+turn_at P read k i zero lines after le lt keep endure t = absurd (omega arith)
+turn_at P read k i (suc many) lines after le lt keep endure t = ⊎_elim
+    (λ (here : i ≡ k). record {
+      before = lines;
+      behind = t.0;
+      did = t.1;
+      turn = subst (λ (j : ℕ). P j lines t.0 t.1) here t.2;
+      same = refl;
+      kept = turns_keep P read (i + 1) many t.0 after
+          (λ j jle jlt. keep j (omega arith) (λ e. absurd (omega (arith, e, here)))) t.3;
+      endures = turns_endure P (i + 1) many t.0 after endure t.3;
+    })
+    (λ (ne : i ≢ k).
+    let later : i + 1 ≤ k = omega (arith, le, ne) in
+    let rest = turn_at P read k (i + 1) many t.0 after later (omega arith) (λ j jlt. keep j (omega arith)) endure t.3 in
+    record {
+      before = rest.before;
+      behind = rest.behind;
+      did = rest.did;
+      turn = rest.turn;
+      same = rest.same ∙ keep i (omega arith) ne lines t.0 t.1 t.2;
+      kept = rest.kept;
+      endures = rest.endures;
+    })
+    (cases_eq i k)
+
 -- The stream of another link.
 pub other_stream : (now vl : ℕ) (did : Served) (link new : LinkState) (lines after : Lines)
     → Turned now link new lines after did → IsOwn link → link.plan.id.0 ≢ vl
     → link_stream vl (log after) ≡ link_stream vl (log lines)
-other_stream now vl Nothing link new lines after t own ne = ap (λ (x : Lines). link_stream vl (log x)) t.serves.1
-other_stream now vl (Released sub number) link new lines after t own ne =
-    let at = t.serves.2 in
-    stream_same link.plan.id.0 vl now sub number link.plan.networks at.frame lines after at.of at.enters ne
-other_stream now vl Lost link new lines after t own ne = ap (link_stream vl) (log_same lines after t.serves.1.same)
+other_stream now vl did link new lines after t own ne = grind (arith, other_turn)
 
 -- A link with the same stream keeps the invariant.
 pub kept_stream : (other : LinkState) (H J : List Entry)
