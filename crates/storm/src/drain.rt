@@ -11,7 +11,7 @@ ghost use Rattle.storm.specs.Boards.{cells_of, IsShown};
 
 use crate::fault::Stop;
 use crate::gate::Gate;
-use crate::polling::STEP;
+use crate::polling::{STEP, poll_once};
 use crate::run::{StormDraining, StormTx};
 use afdx_tx::TxPort;
 use std::sync::Wait;
@@ -26,24 +26,6 @@ pub(crate) fn gather_all(tx: StormTx, ports: Vec<TxPort>) -> StormDraining
         Ok(draining) => draining,
         Err(_) => unreachable!(),
     }
-}
-
-/// Polls and publishes. Returns whether a network is up.
-fn drain_once<G: Gate, R: Wait>(rt: &R, draining: &mut StormDraining, gate: &G, now: u64) -> bool
-    requires moment { draining.old.moment ≤ now }
-    requires shown { IsShown draining.old }
-    ensures plan { draining.new.plan ≡ draining.old.plan }
-    ensures accepted { accepted_in draining.new.links ≡ accepted_in draining.old.links }
-    ensures moment { draining.new.moment ≤ now }
-    ensures shown { IsShown draining.new }
-    ensures cells { cells_of draining.new.board ≡ cells_of draining.old.board }
-{
-    let Ok(report) = draining.poll(now) else {
-        return false;
-    };
-    draining.publish(rt);
-    gate.polled(report.released.len());
-    report.standing.a | report.standing.b
 }
 
 /// Polls from poll number `first` on, at most `turns` times, until all that was accepted is transmitted.
@@ -71,7 +53,7 @@ pub(crate) fn drain<G: Gate, R: Wait>(
         if draining.is_done() {
             return Ok(());
         }
-        if !drain_once(rt, draining, gate, (first + turn) * STEP) {
+        if poll_once(rt, draining, gate, (first + turn) * STEP).is_none() {
             return Err(Stop::Memory);
         }
     }

@@ -1,11 +1,14 @@
 //! The main thread's part while workers run.
 ghost use Rattle.std.specs.Prelude.{◌≡◌, ◌*◌, ◌≤◌, IfOk};
 ghost use Rattle.afdx_tx.specs.Emitter.{queues_in};
+ghost use Rattle.afdx_tx.specs.Phases.{KeepsMessages};
 ghost use Rattle.storm.specs.Boards.{cells_of, IsShown};
 
 use crate::fault::Stop;
 use crate::gate::Gate;
 use crate::run::StormTx;
+use afdx_tx::{Emitter, Phase};
+use redundant_mux::MemNetwork;
 use std::sync::Wait;
 use std::sync::atomic::{AtomicU64, Ordering};
 use std::thread;
@@ -14,26 +17,26 @@ use std::thread;
 /// due.
 pub(crate) const STEP: u64 = 128_000;
 
-/// Polls and publishes. Returns whether a network is up.
-fn poll_once<G: Gate, R: Wait>(rt: &R, tx: &mut StormTx, gate: &G, now: u64) -> bool
+/// Polls and publishes. Returns the number of released frames, or `None` if no network is up.
+pub(crate) fn poll_once<G: Gate, P: Phase, R: Wait>(
+    rt: &R,
+    tx: &mut Emitter<MemNetwork, MemNetwork, P>,
+    gate: &G,
+    now: u64,
+) -> Option<usize>
     requires moment { tx.old.moment ≤ now }
     requires shown { IsShown tx.old }
     ensures plan { tx.new.plan ≡ tx.old.plan }
-    ensures queues { queues_in tx.new.links ≡ queues_in tx.old.links }
+    ensures messages { KeepsMessages P.gathered tx.old tx.new }
     ensures moment { tx.new.moment ≤ now }
     ensures shown { IsShown tx.new }
     ensures cells { cells_of tx.new.board ≡ cells_of tx.old.board }
 {
-    let Ok(report) = tx.poll(now) else {
-        return false;
-    };
+    let report = tx.poll(now).ok()?;
     tx.publish(rt);
     let released = report.released.len();
     gate.polled(released);
-    if released == 0 {
-        thread::yield_now();
-    }
-    report.standing.a | report.standing.b
+    (report.standing.a | report.standing.b).then_some(released)
 }
 
 /// Polls and publishes while workers run, at most `turns` times. Returns how often it polled; `Memory` if no
@@ -59,8 +62,10 @@ pub(crate) fn poll_while<G: Gate, R: Wait>(
         if running.load(Ordering::SeqCst) == 0 {
             return Ok(poll);
         }
-        if !poll_once(rt, tx, gate, poll * STEP) {
-            return Err(Stop::Memory);
+        match poll_once(rt, tx, gate, poll * STEP) {
+            None => return Err(Stop::Memory),
+            Some(0) => thread::yield_now(),
+            Some(_) => {}
         }
     }
     Ok(turns)
