@@ -1,6 +1,5 @@
 -- An emitter and its polls, before and after its ports are gathered.
-use Rattle.std.specs.Prelude.{ℕ, ◌≡◌, ◌-◌, ◌^◌, ◌≤◌, length, Bool, true, false, Option, Some, None}
-use Rattle.redundant_mux.specs.declared.mux.Standing.{Standing}
+use Rattle.std.specs.Prelude.{ℕ, ◌≡◌, ◌-◌, ◌^◌, Bool, true, false, Option, Some, None}
 use Rattle.afdx_tx.specs.Emitter.{Tx}
 use Rattle.afdx_tx.specs.NextDue.{TellsNextDue}
 use Rattle.afdx_tx.specs.Phases.{Runs, StaysLawful}
@@ -33,10 +32,3 @@ pub record PollsTx (gathered : Bool) (now : ℕ) (old : Tx) (report : Report) (n
   pub told : Polls now old report new
   pub run : Runs gathered now old new
   pub lawful : StaysLawful gathered old new
-
--- A poll at `now` without a report: the networks that are up, and what the report would have been.
-pub record PollsStage (gathered : Bool) (now : ℕ) (old : Tx) (standing : Standing) (new : Tx) : Type 0 where
-  pub report : Report
-  pub stands : report.standing ≡ standing
-  pub few : length report.released.items ≤ 64
-  pub polls : PollsTx gathered now old report new

@@ -15,14 +15,16 @@ pub enum Stage {
 }
 
 impl Stage {
-    ghost use Rattle.std.specs.Prelude.{◌≡◌, ◌≤◌, ◌↔◌, false, true, IsErr, OnErr, IfOk, IsNone, IfSome};
+    ghost use Rattle.std.specs.Prelude.{◌≡◌, ◌≤◌, ◌↔◌, false, true, IsErr, OnErr, OnOk, IfOk, IsNone, IfSome};
     ghost use Rattle.redundant_mux.specs.Lines.{is_alive};
     ghost use Rattle.afdx_tx.specs.Naming.{LacksLink};
     ghost use Rattle.afdx_tx.specs.NextDue.{TellsNextDue};
     ghost use Rattle.afdx_legal.specs.Counting.{counts_in};
     ghost use Rattle.afdx_legal.specs.Own.{own_stream};
     ghost use Rattle.afdx_handle.specs.Numbers.{line_of};
-    ghost use Rattle.afdx_handle.specs.Polling.{tx_of, is_gathered, PollsStage};
+    ghost use Rattle.afdx_tx.specs.Phases.{Runs, StaysLawful};
+    ghost use Rattle.afdx_tx.specs.Report.{PollsUnreported};
+    ghost use Rattle.afdx_handle.specs.Polling.{tx_of, is_gathered};
 
     /// The time of the last poll, in microseconds.
     pub fn now(&self) -> u64
@@ -86,8 +88,9 @@ impl Stage {
         ensures both_down { IsErr result ↔ (is_alive (tx_of self.old).lines ≡ false) }
         ensures unchanged { OnErr result (self.new ≡ self.old) }
         ensures stage { is_gathered self.new ≡ is_gathered self.old }
-        ensures polled { IfOk result (λ standing.
-            PollsStage (is_gathered self.old) now (tx_of self.old) standing (tx_of self.new)) }
+        ensures lawful { StaysLawful (is_gathered self.old) (tx_of self.old) (tx_of self.new) }
+        ensures told { IfOk result (λ standing. PollsUnreported now (tx_of self.old) standing (tx_of self.new)) }
+        ensures run { OnOk result (Runs (is_gathered self.old) now (tx_of self.old) (tx_of self.new)) }
     {
         match self {
             Stage::Sending(emitter) => Ok(emitter.poll_unreported(now)?),

@@ -9,6 +9,7 @@ invariant_of-self-2 c =
     let b = c.count-b_before.result in
     subst (λ (gathered : Bool). IsEndSystem (end_view gathered (tx_of c.poll.new.self) own.ports.items (vec_capacity own.ports) a b own.block))
     (sym c.in-Ok.ensures.stage)
-    (poll_keeps (the_view own) (tx_of c.poll.new.self) a b c.args.now c.in-Ok.ensures.polled.report c.self.invariant
-    c.in-Ok.ensures.polled.polls c.in-Ok.ensures.polled.few
+    (poll_keeps (the_view own) (tx_of c.poll.new.self) a b c.args.now c.in-Ok.ensures.told.report c.self.invariant
+    (record { told = c.in-Ok.ensures.told.polls; run = c.in-Ok.ensures.run; lawful = c.poll.ensures.lawful })
+    c.in-Ok.ensures.told.few
     (c.count-a_before.ensures ∙ ap length c.network.ensures) (c.count-b_before.ensures ∙ ap length c.network-2.ensures))
