@@ -109,44 +109,21 @@ pub fn gather(alloc: Global, it: EndSystem) -> (EndSystem, u8)
         b,
         block,
     } = it;
-    match stage {
-        Stage::Draining(draining) => {
-            let stage = Stage::Draining(draining);
-            let same = EndSystem {
-                stage,
-                ports,
-                a,
-                b,
-                block,
-            };
-            (same, GATHERED)
-        }
+    let (stage, ports, answer) = match stage {
+        Stage::Draining(draining) => (Stage::Draining(draining), ports, GATHERED),
         Stage::Sending(emitter) => match emitter.gather(ports) {
-            Ok(draining) => {
-                let stage = Stage::Draining(draining);
-                let ports = Vec::new(alloc);
-                let gathered = EndSystem {
-                    stage,
-                    ports,
-                    a,
-                    b,
-                    block,
-                };
-                (gathered, DONE)
-            }
-            Err((emitter, ports)) => {
-                let stage = Stage::Sending(emitter);
-                let same = EndSystem {
-                    stage,
-                    ports,
-                    a,
-                    b,
-                    block,
-                };
-                (same, PORT_MISSING)
-            }
+            Ok(draining) => (Stage::Draining(draining), Vec::new(alloc), DONE),
+            Err((emitter, ports)) => (Stage::Sending(emitter), ports, PORT_MISSING),
         },
-    }
+    };
+    let it = EndSystem {
+        stage,
+        ports,
+        a,
+        b,
+        block,
+    };
+    (it, answer)
 }
 
 /// Takes out the port with this identifier, in a box that is allocated first. `GATHERED` if the ports were gathered,

@@ -1,23 +1,19 @@
-use Rattle.afdx_handle.proofs.Names.{length, sym, ap, subst, ◌∙◌, arith, vec_capacity, IsGatheredTx, LacksPlace, Stage, is_gathered, tx_of, EndView, end_view}
-use Rattle.std.proofs.Common.{refl}
+use Rattle.afdx_handle.proofs.Names.{arith}
+use Rattle.std.proofs.lemmas.Grind.{common_steps}
 use Rattle.afdx_handle.proofs.EndPorts.{gathered_whole}
+use Rattle.afdx_handle.proofs.ports.gather.Goals.{in-Draining, in-Sending+in-Ok, in-Sending+in-Err}
 use Rattle.afdx_handle.proofs.ports.gather.Goals as goal
 
-pub returns-in-Ok-clause-missing : goal.returns-in-Ok-clause-missing
-returns-in-Ok-clause-missing c =
-    let own = c.it.inside in
-    let is = ap (λ (stage : Stage). end_view (is_gathered stage) (tx_of stage) own.ports.items (vec_capacity own.ports) own.a.before own.b.before own.block)
-    (sym c.in-Sending.is) ∙ c.it.view_is in (
-      λ e. absurd (omega (arith, e)),
-      λ lacks. absurd (gathered_whole c.args.it c.in-Ok.draining
-          (subst (λ (it : EndView). IsGatheredTx it.tx it.ports c.in-Ok.draining) is c.in-Ok.ensures.gathered) lacks.1),
-    )
+pub invariant_of-it : goal.invariant_of-it
+invariant_of-it c = elim c.match-stage.branch [
+  | in-Draining w ↦ grind (arith, common_steps)
+  | in-Sending+in-Ok w ↦ grind (arith, common_steps)
+  | in-Sending+in-Err w ↦ grind (arith, common_steps)
+]
 
-pub returns-in-Err-clause-missing : goal.returns-in-Err-clause-missing
-returns-in-Err-clause-missing c =
-    let own = c.it.inside in
-    let is = ap (λ (stage : Stage). end_view (is_gathered stage) (tx_of stage) own.ports.items (vec_capacity own.ports) own.a.before own.b.before own.block)
-    (sym c.in-Sending.is) ∙ c.it.view_is in (
-      λ e. (ap (λ (it : EndView). it.gathered) (sym is), subst (λ (it : EndView). LacksPlace (length it.tx.plan.ports) it.ports) is c.in-Err.ensures.missing),
-      λ lacks. refl,
-    )
+pub returns-clause-missing : goal.returns-clause-missing
+returns-clause-missing c = elim c.match-stage.branch [
+  | in-Draining w ↦ grind (arith, common_steps)
+  | in-Sending+in-Ok w ↦ (λ e. grind arith, λ lacks. absurd (grind (arith, gathered_whole)))
+  | in-Sending+in-Err w ↦ (λ e. (grind arith, rw (← c.it.view_is, w.in-Sending.is) w.in-Err.ensures.missing), λ lacks. grind arith)
+]
