@@ -25,9 +25,7 @@ many_for net logged = length (filter (λ (l : Logged). names net l.networks) log
 
 many_on : (net : Net) (front back : List Logged) → many_for net (front ++ back) ≡ many_for net front + many_for net back
 unfolding many_for
-many_on net front back =
-    ap length (filter-append (λ (l : Logged). names net l.networks) front back)
-    ∙ length-append (filter (λ (l : Logged). names net l.networks) front) (filter (λ (l : Logged). names net l.networks) back)
+many_on net front back = grind (arith, filter-append, names, length-append, filter)
 
 many_most : (net : Net) (logged : List Logged) → many_for net logged ≤ length logged
 unfolding many_for
@@ -40,40 +38,26 @@ GetsWithin net before after = many_for net after.logged + length before.logged �
 
 turn_within : (net : Net) (now : ℕ) (plan : LinkPlan) (pace : Pace) (view : TurnView) (lines after : Lines) (did : Served)
     → Turn now plan pace view lines after did → GetsWithin net lines after
-turn_within net now plan pace view lines after Nothing t = rw t.1 (omega arith)
-turn_within net now plan pace view lines after (Released sub number) t =
-    let more : List Logged = logged_for plan.networks (entry now t.2.frame) ∷ [] in
-    rw t.2.enters (omega (arith, many_on net lines.logged more, many_most net more, length-append lines.logged more))
-turn_within net now plan pace view lines after Lost t = rw t.1.same (omega arith)
+turn_within net now plan pace view lines after Nothing t = grind arith
+turn_within net now plan pace view lines after (Released sub number) t = grind (arith, logged_for, entry, many_on, many_most, length-append)
+turn_within net now plan pace view lines after Lost t = grind arith
 
 turns_within : (net : Net) (P : ℕ → Lines → Lines → Served → Type 0) (k many : ℕ) (lines after : Lines)
     → ((i : ℕ) (before behind : Lines) (did : Served) → P i before behind did → GetsWithin net before behind)
     → AreTurns P k many lines after → GetsWithin net lines after
-turns_within net P k zero lines after f r = rw r (omega arith)
+turns_within net P k zero lines after f r = grind arith
 turns_within net P k (suc many) lines after f r =
     omega (arith, f k lines r.0 r.1 r.2, turns_within net P (k + 1) many r.0 after f r.3)
 
 run_within : (net : Net) (gathered : Bool) (now : ℕ) (old new : Tx) → Runs gathered now old new → GetsWithin net old.lines new.lines
-run_within net false now old new run =
-    turns_within net (IsTurnAt now old.links new.links) 0 (length old.links) old.lines new.lines
-    (λ i before behind did t. let link = link_at old.links i in
-    turn_within net now link.plan (pace_of link.pace.gap link.pace.sub_vls (link_stream link.plan.id.0 (log before)))
-    (held_view link.subs (link_at new.links i).subs) before behind did t.serves) run.turns
-run_within net true now old new run =
-    turns_within net (DrainsAt now old.plan (accepted_in old.links)) 0 (length old.plan.links) old.lines new.lines
-    (λ i before behind did t. let link = link_plan_at old.plan.links i in
-    turn_within net now link (pace_in link (log before))
-    (accepted_view old.plan.end_system link (accepted_in old.links i) (log before)) before behind did t) run
+run_within net false now old new run = grind (arith, turns_within, turn_within)
+run_within net true now old new run = grind (arith, turns_within, turn_within)
 
 -- A network has all of the log apart from what it missed.
 kept_parts : (net : Net) (stands : Bool) (handed : List Entry) (logged : List Logged) (k : Keeps net stands handed logged)
     → many_for net logged ≡ length handed + many_for net k.missed
 unfolding many_for
-kept_parts net stands handed logged k =
-    let seen : List Logged = filter (λ (l : Logged). names net l.networks) k.seen in
-    let got : length handed ≡ length seen =
-    ap length k.got ∙ length-map (entries_of seen) (side net) ∙ length-map seen (λ (l : Logged). l.entry) in
-    ap (many_for net) k.whole ∙ many_on net k.seen k.missed ∙ ap (λ n. n + many_for net k.missed) (sym got)
+kept_parts net stands handed logged k = grind (arith, filter, names, length-map, entries_of, side, entry, many_for, many_on)
 
 -- A network that was up gets at most as many frames as were logged.
 few_for : (net : Net) (stood stands : Bool) (old new : List Entry) (f g : ℕ) (before after : List Logged) (most : ℕ)
@@ -81,9 +65,9 @@ few_for : (net : Net) (stood stands : Bool) (old new : List Entry) (f g : ℕ) (
     → many_for net after ≤ many_for net before + most → length new ≤ length old + most
 unfolding many_for
 few_for net stood stands old new f g before after most keeps kept endures grown = elim (cases_Bool stood) [
-  | inr down ↦ let same : length new ≡ length old = ap length (endures.down down).0 in omega arith
+  | inr down ↦ let same : length new ≡ length old = grind arith in omega arith
   | inl up ↦
-      let all : many_for net keeps.missed ≡ 0 = ap (many_for net) (keeps.all up) in
+      let all : many_for net keeps.missed ≡ 0 = grind arith in
       omega (arith, kept_parts net stood old before keeps, kept_parts net stands new after kept)
 ]
 
@@ -91,22 +75,7 @@ few_for net stood stands old new f g before after most keeps kept endures grown 
 logged_more : (before after : Lines) (entries : List Entry) → log after ≡ log before ++ entries
     → length after.logged ≡ length before.logged + length entries
 unfolding log
-logged_more before after entries told =
-    omega (
-      arith,
-      ap length told,
-      length-append (log before) entries,
-      length-map before.logged (λ (l : Logged). l.entry),
-      length-map after.logged (λ (l : Logged). l.entry),
-    )
-
--- The ports in the end system are still the emitter's.
-still_own : (gathered : Bool) (now : ℕ) (old new : Tx) (report : Report) (ports : List PortView)
-    → PollsTx gathered now old report new → (gathered ≡ false → AreOpenedWith old ports) → gathered ≡ false → AreOpenedWith new ports
-still_own true now old new report ports polls own sending = absurd (let no : true ≡ false = sending in cc)
-still_own false now old new report ports polls own sending =
-    subst (λ (plan : Plan). All (BelongsTo plan (queues_in new.links)) ports) (sym polls.lawful.plan)
-    (subst (λ (queues : List (List (Option QueueName))). All (BelongsTo old.plan queues) ports) (sym polls.lawful.messages.queues) (own refl))
+logged_more before after entries told = grind (arith, length-append, log, length-map, entry)
 
 -- A polled end system keeps its invariant.
 pub poll_keeps : (old : EndView) (new : Tx) (a b now : ℕ) (report : Report) → IsEndSystem old
@@ -124,9 +93,4 @@ poll_keeps old new a b now report kept polls few a_is b_is =
     new.lines.logged 64 kept.mirrored.first polls.lawful.conforms.mirrored.first polls.lawful.endure.a (within A) in
     let few_b = few_for B was.b_stands new.lines.b_stands was.b new.lines.b was.b_failures new.lines.b_failures was.logged
     new.lines.logged 64 kept.mirrored.second polls.lawful.conforms.mirrored.second polls.lawful.endure.b (within B) in
-    record {
-      mirrored = polls.lawful.conforms.mirrored;
-      own = still_own old.gathered now old.tx new report old.ports polls kept.own;
-      few_a = omega (arith, few_a, a_is);
-      few_b = omega (arith, few_b, b_is);
-    }
+    grind arith

@@ -14,6 +14,6 @@ invariant_of-it c = elim c.match-stage.branch [
 pub returns-clause-missing : goal.returns-clause-missing
 returns-clause-missing c = elim c.match-stage.branch [
   | in-Draining w ↦ grind (arith, common_steps)
-  | in-Sending+in-Ok w ↦ (λ e. grind arith, λ lacks. absurd (grind (arith, gathered_whole)))
+  | in-Sending+in-Ok w ↦ (λ e. grind arith, grind (arith, gathered_whole))
   | in-Sending+in-Err w ↦ (λ e. (grind arith, rw (← c.it.view_is, w.in-Sending.is) w.in-Err.ensures.missing), λ lacks. grind arith)
 ]

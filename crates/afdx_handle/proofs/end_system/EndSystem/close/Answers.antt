@@ -5,10 +5,7 @@ use Rattle.afdx_handle.proofs.end_system.EndSystem.close.Goals as goal
 
 -- The end system before the call, in its known stage.
 sends : (c : Joined-close) → end_view false c.in-Sending.emitter c.self.inside.ports.items (vec_capacity c.self.inside.ports) c.self.inside.a.before c.self.inside.b.before c.self.inside.block ≡ c.args.self.now
-sends c =
-    let own = c.self.inside in
-    ap (λ (stage : Stage). end_view (is_gathered stage) (tx_of stage) own.ports.items (vec_capacity own.ports) own.a.before own.b.before own.block)
-    (sym c.in-Sending.is) ∙ c.self.view_is
+sends c = cc
 
 pub returns-clause-no_sub : goal.returns-clause-no_sub
 returns-clause-no_sub c =
