@@ -13,13 +13,6 @@ at_most_push (x ∷ low) (y ∷ high) n m count all le zero lt = all 0 (omega ar
 at_most_push (x ∷ low) (y ∷ high) n m count all le (suc k) lt =
     at_most_push low high n m (omega arith) (λ j below. all (suc j) (omega arith)) le k (omega arith)
 
--- one port more, within its requests
-pub asks_push : {W : Type 0} (f : W → ℕ) (ports : List PortView) (ws : List W) (port : PortView) (w : W)
-    → length ports ≡ length ws → AreAtMost (map asked_by ports) (map f ws) → asked_by port ≤ f w
-    → AreAtMost (map asked_by (ports ++ port ∷ [])) (map f (ws ++ w ∷ []))
-asks_push f ports ws port w count all le = grind (arith, map-append, at_most_push, length-map)
-
 -- what follows where a result is known to be `Ok`, and something holds if it is
 pub at_ok : {A E : Type 0} (r : Result A E) (P Q : A → Type 0) (C : Type 0) → ((x : A) → P x → Q x → C) → IfOk r P → IsOkAnd r Q → C
-at_ok (Ok x) P Q C both p q = both x p q
-at_ok (Err e) P Q C both p q = absurd q
+at_ok r P Q C both p q = grind arith

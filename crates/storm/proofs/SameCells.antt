@@ -26,7 +26,7 @@ cells_agree f g d e (x ∷ xs) (y ∷ ys) count each =
 -- a board whose links have the cells that they had
 pub cells_same : (old new : List Published) → length new ≡ length old
     → ((k : ℕ) → k < length old → (published new k).cell ≡ (published old k).cell) → cells_of new ≡ cells_of old
-cells_same old new count each = cells_agree written written no_published no_published new old count (λ k lt. each k (omega arith))
+cells_same old new count each = cells_agree written written no_published no_published new old count (grind arith)
 
 -- both ends of a new board have the same cells
 pub cells_new : (board : List Published) (monitor : List Watched) → length board ≡ length monitor → AreNew board monitor
@@ -37,10 +37,10 @@ cells_new board monitor count new = cells_agree written read no_published no_see
 pub cell_at : (board : List Published) (monitor : List Watched) (k : ℕ) → cells_of board ≡ cells_read monitor → k < length board
     → (k < length monitor) × ((published board k).cell ≡ (seen monitor k).cell)
 cell_at board monitor k same lt =
-    let there : k < length monitor = omega (arith, ap length same, length-map board written, length-map monitor read) in
+    let there : k < length monitor = grind (arith, length-map, written, read) in
     (there, sym (get_or-map written board k no_published no_cell lt) ∙ ap (λ l. get_or l k no_cell) same ∙ get_or-map read monitor k no_seen no_cell there)
 
 -- a reading leaves a monitor its cells
 pub cells_kept : (old new : List Watched) (k : ℕ) → new ≡ set old k (seen new k) → (seen new k).cell ≡ (seen old k).cell
     → cells_read new ≡ cells_read old
-cells_kept old new k is same = ap (λ l. cells_read l) is ∙ map-set_same read old k (seen new k) no_seen same
+cells_kept old new k is same = grind (arith, cells_read, map-set_same, read, seen, no_seen)

@@ -4,21 +4,14 @@ use Rattle.storm.proofs.SameCells.{cells_same}
 use Rattle.status_board.proofs.Histories.{last_or-push}
 use Rattle.afdx_tx.specs.Publishing.{Publishes, counts_at}
 
--- the counts of links of the same plan and the same frames
-counts_same : (old new : Tx) (k : ℕ) → new.plan ≡ old.plan → new.lines ≡ old.lines → counts_at old k ≡ counts_at new k
-counts_same old new k plan lines = grind arith
-
-links_same : (old new : Tx) → new.plan ≡ old.plan → length new.plan.links ≡ length old.plan.links
-links_same old new plan = ap (λ (p : Plan). length p.links) plan
-
 -- publishing what was counted, after a step that leaves the board
 pub shown_published : (old mid new : Tx) → mid.plan ≡ old.plan → mid.board ≡ old.board → Publishes mid new → IsShown old → IsShown new
-shown_published old mid new plan board p s = grind (arith, links_same, last_or-push, counts_same)
+shown_published old mid new plan board p s = grind (arith, last_or-push)
 
 -- and leaves the cells
 pub cells_published : (old mid new : Tx) → mid.plan ≡ old.plan → mid.board ≡ old.board → Publishes mid new → IsShown old
     → cells_of new.board ≡ cells_of old.board
-cells_published old mid new plan board p s = grind (arith, cells_same, links_same)
+cells_published old mid new plan board p s = grind (arith, cells_same)
 
 -- nothing is counted of the links of a fresh emitter, of which nothing was published
 pub shown_fresh : (config : Plan) (tx : Tx) (monitor : List Watched) → IsFreshTx config tx → AreNew tx.board monitor

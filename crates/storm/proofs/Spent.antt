@@ -16,9 +16,7 @@ asks_at before after turns k d many lt none most =
     let below : k < length before = omega arith in
     let here : k < length (map asked_by after) = omega (arith, length-map after asked_by) in
     let own : get_or (map asked_by after) k 0 ≡ (get_or after k d).sender.asks = get_or-map asked_by after k d 0 lt in
-    let old : get_or (map (asked_after turns) before) k 0 ≡ (get_or before k d).sender.asks + turns =
-    get_or-map (asked_after turns) before k d 0 below in
-    omega (arith, most k here, own, old)
+    grind (arith, map, asked_after, get_or-map)
 
 -- once each port of a fresh emitter sent its messages
 pub spent : (old new : Tx) (n turns : ℕ) (before after : List PortView) → new.plan ≡ old.plan

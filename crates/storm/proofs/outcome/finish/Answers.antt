@@ -9,9 +9,7 @@ count_accepted-accepted-requires g c =
     let joined = c.args.joined in
     let valid : IsPlan joined.tx.plan = subst IsPlan c.config.ensures c.links-count.ensures.valid in
     let all = sum_spent joined.tx c.args.load.messages c.args.load.turns joined.ports.items c.requires.joined.spent in
-    let most : length joined.tx.plan.ports * c.args.load.messages ≤ 256 * c.args.load.messages = mul-le-mul_right c.args.load.messages valid.ports.1 in
-    subst (λ (ports : List PortView). sum_by (λ (port : PortView). length port.sender.own) ports < 2 ^ 64) (sym c.as_slice.ensures.value)
-    (omega (arith, all, most, c.requires.messages))
+    grind arith
 
 pub gather_all-draining-requires-clause-every : goal.gather_all-draining-requires-clause-every
 gather_all-draining-requires-clause-every g c = every_place c.args.joined.tx c.args.load.messages c.args.load.turns c.args.joined.ports.items c.requires.joined.spent

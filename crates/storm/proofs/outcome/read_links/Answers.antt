@@ -7,10 +7,10 @@ pub read_last-requires : goal.read_last-requires
 read_last-requires g c =
     let old = c.loop-link.invariant in
     let here : c.loop-link.link < length c.loop-link.draining.board =
-    omega (arith, c.loop-link-test.true, c.requires.links, c.requires.shown.count, ap (λ (t : Tx). length t.board) old.draining) in
+    grind arith in
     let cell = cell_at c.loop-link.draining.board c.loop-link.monitor c.loop-link.link
-    (ap (λ (t : Tx). cells_of t.board) old.draining ∙ c.requires.cells ∙ sym old.cells) here in
-    record { published = here; read = cell.0; same = cell.1 }
+    (grind arith) here in
+    grind arith
 
 pub loop-link-preserved : goal.loop-link-preserved
 loop-link-preserved g c = grind (arith, cells_kept, read_more)

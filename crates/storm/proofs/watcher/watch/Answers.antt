@@ -1,9 +1,8 @@
 use Rattle.storm.proofs.Names.{arith, rules, refl}
-use Rattle.storm.proofs.Watched.{first_none}
 use Rattle.storm.proofs.watcher.watch.Goals as goal
 
 pub loop-link-init : goal.loop-link-init
-loop-link-init g c = record { reads = first_none _ _; links = search rules; back = refl }
+loop-link-init g c = grind arith
 
 pub loop-link-preserved : goal.loop-link-preserved
 loop-link-preserved g c = grind arith

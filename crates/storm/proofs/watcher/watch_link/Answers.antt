@@ -1,9 +1,9 @@
 use Rattle.storm.proofs.Names.{arith, rules, refl}
-use Rattle.storm.proofs.Watched.{only_none, only_more}
+use Rattle.storm.proofs.Watched.{only_more}
 use Rattle.storm.proofs.watcher.watch_link.Goals as goal
 
 pub loop-init : goal.loop-init
-loop-init g c = record { reads = only_none _ _; links = refl; back = refl; above = search rules }
+loop-init g c = grind arith
 
 pub loop-preserved : goal.loop-preserved
 loop-preserved g c =
