@@ -5,7 +5,7 @@ use Rattle.afdx_tx.proofs.Names.{same_total}
 use Rattle.afdx_tx.proofs.Names.{Accepted, Tx, IsSound, Conforms, ℕ, ◌≡◌, ◌<◌, List, ◌++◌, length, arith, refl, ap, ◌∙◌, sym, subst, Result, Ok, Err, OnOk, append_assoc, get_or_past, cases_lt, Plan, link_plan_at, room_of, Net, A, B, Entry, Seen, IsKnownWhole, IsSameQueue, known_of, told_of, IsLegalOn, IsLegal, Held, LinkState, held_at, link_at, nothing_held, no_link, IsSameSub, IsSamePlan, taken_in, AreGathered, accepted_by, accepted_in, Bool, true, false, AreLinksOf, IsRun, BothEndure}
 use Rattle.afdx_legal.specs.Allowed.{AreAllowed}
 use Rattle.afdx_tx.proofs.PortMessages.{taken_allowed, accepted_allowed}
-use Rattle.afdx_tx.specs.Phases.{AreOfPorts, IsInPhase, KeepsMessages, Runs, StaysLawful}
+use Rattle.afdx_tx.specs.Phases.{AreOfPorts, IsInPhase, KeepsMessages, KeepsPhase, Runs, StaysLawful}
 use Rattle.afdx_tx.proofs.NothingLeft.{run_drained}
 use Rattle.afdx_tx.proofs.SoundEmitter.{sound_legal, sound_streams, sound_turns}
 use Rattle.vl_link.proofs.QueueLooks.{still_receiving}
@@ -77,11 +77,13 @@ keeps_messages : (phase : Bool) (old new : Tx) → IsSamePlan old.links new.link
 keeps_messages false old new same is = grind (arith, alike_queues, same_name, held_at, link_at, same_total, get_or_past, no_link, cases_lt)
 keeps_messages true old new same is = accepted_same _ _ same is.0
 
--- A poll leaves an emitter lawful.
-pub stays_lawful : (phase : Bool) (old new : Tx) → IsInPhase phase old.plan old.links → IsSamePlan old.links new.links
+-- A poll leaves an emitter lawful and in its phase.
+pub keeps_phase : (phase : Bool) (old new : Tx) → IsInPhase phase old.plan old.links → IsSamePlan old.links new.links
     → Conforms new → BothEndure old.lines new.lines → new.plan ≡ old.plan → new.board ≡ old.board
-    → StaysLawful phase old new
-stays_lawful phase old new is same conforms endure plan board = grind (arith, of_ports, still_in, keeps_messages)
+    → KeepsPhase phase old new
+keeps_phase phase old new is same conforms endure plan board =
+    let phase_is = still_in phase old.plan new.plan old.links new.links plan same is in
+    record { lawful = grind (arith, of_ports, keeps_messages); phase = phase_is }
 
 -- The links had the turns of their phase.
 pub runs : (phase : Bool) (now : ℕ) (old new : Tx) → AreLinksOf old.plan old.links → IsInPhase phase old.plan old.links

@@ -46,3 +46,8 @@ pub record StaysLawful (gathered : Bool) (old new : Tx) : Type 0 where
   pub plan : new.plan ≡ old.plan
   pub board : new.board ≡ old.board
   pub messages : KeepsMessages gathered old new
+
+-- A poll leaves an emitter lawful and in its phase.
+pub record KeepsPhase (gathered : Bool) (old new : Tx) : Type 0 where
+  pub lawful : StaysLawful gathered old new
+  pub phase : IsInPhase gathered new.plan new.links

@@ -161,15 +161,15 @@ impl<A: Network + Drop, B: Network + Drop> Model for Transmitter<A, B> {
 }
 
 impl<A: Network + Drop, B: Network + Drop> Transmitter<A, B> {
-    ghost use Rattle.std.specs.Prelude.{◌≡◌, ◌≤◌, ◌↔◌, ℕ, List, [], false, length, IsTrue, IsErr, OnErr, OnOk, IfOk};
+    ghost use Rattle.std.specs.Prelude.{◌≡◌, ◌≤◌, ◌↔◌, ℕ, Bool, List, [], false, length, IsTrue, IsErr, OnErr, OnOk, IfOk};
     ghost use Rattle.status_board.specs.Views.{published};
     ghost use Rattle.afdx_plan.specs.Config.{IsPlan};
-    ghost use Rattle.redundant_mux.specs.Lines.{BothEndure, is_alive, log};
+    ghost use Rattle.redundant_mux.specs.Lines.{is_alive, log};
     ghost use Rattle.afdx_legal.specs.Done.{IsAllDone};
-    ghost use Rattle.afdx_tx.specs.Run.{IsRun};
+    ghost use Rattle.afdx_tx.specs.Phases.{IsInPhase, KeepsPhase, Runs};
     ghost use Rattle.afdx_tx.specs.Report.{PollsWith};
     ghost use Rattle.afdx_tx.specs.declared.report.Release.{Release};
-    ghost use Rattle.afdx_tx.specs.Emitter.{IsFreshTx, AreFreshLinks, AreLinksOf, AreReceiving, IsSamePlan};
+    ghost use Rattle.afdx_tx.specs.Emitter.{IsFreshTx, AreFreshLinks, AreReceiving};
     ghost use Rattle.afdx_tx.specs.Serving.{Conforms};
     ghost use Rattle.afdx_tx.specs.Publishing.{Publishes, ShowsCounts};
     ghost use Rattle.afdx_tx.specs.NextDue.{TellsNextDue};
@@ -254,16 +254,12 @@ impl<A: Network + Drop, B: Network + Drop> Transmitter<A, B> {
         requires none { N.noted notes.old [] }
         ensures both_down { IsErr result ↔ (is_alive self.old.lines ≡ false) }
         ensures unchanged { OnErr result (self.new ≡ self.old) }
-        ensures conforms { Conforms self.new }
-        ensures plan { self.new.plan ≡ self.old.plan }
-        ensures board { self.new.board ≡ self.old.board }
-        ensures same { IsSamePlan self.old.links self.new.links }
-        ensures of_plan { AreLinksOf self.old.plan self.old.links }
-        ensures endure { BothEndure self.old.lines self.new.lines }
+        ensures kept { (gathered : Bool) → IsInPhase gathered self.old.plan self.old.links
+            → KeepsPhase gathered self.old self.new }
         ensures told { IfOk result (λ standing. (released : List Release) × N.noted notes.new released
             × (length released ≤ 64) × PollsWith now self.old released standing self.new) }
-        ensures run { OnOk result
-            (IsRun now self.old.links self.new.links self.old.lines self.new.lines) }
+        ensures run { OnOk result ((gathered : Bool) → IsInPhase gathered self.old.plan self.old.links
+            → Runs gathered now self.old self.new) }
     {
         if !self.mux.stands_for(Networks::Both) {
             return Err(PollFault::BothDown);

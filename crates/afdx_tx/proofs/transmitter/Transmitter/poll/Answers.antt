@@ -1,7 +1,7 @@
-use Rattle.afdx_tx.proofs.Names.{◌≡◌, ◌∙◌, ap, arith, length, refl, with_items_is, with_items, log, IsSound, IsSteady}
+use Rattle.afdx_tx.proofs.Names.{◌≡◌, ◌∙◌, ap, arith, length, refl, with_items_is, with_items, log, IsSound, IsSteady, both_none}
 use Rattle.afdx_tx.proofs.KeptLinks.{reaches_on}
 use Rattle.afdx_tx.proofs.SoundEmitter.{count_is, links_apart, sound_after}
-use Rattle.afdx_tx.proofs.Conforming.{sound_conforms}
+use Rattle.afdx_tx.proofs.Conforming.{keeps_phase, runs, sound_conforms}
 use Rattle.afdx_tx.proofs.transmitter.Transmitter.poll.Given
 use Rattle.afdx_tx.proofs.transmitter.Transmitter.poll.Goals as goal
 
@@ -35,11 +35,17 @@ invariant_of-self g c =
           c.self.invariant.1),
     )
 
-pub returns-clause-conforms : goal.returns-clause-conforms
-returns-clause-conforms g c = sound_conforms _ (sound g c)
+pub returns-clause-kept : goal.returns-clause-kept
+returns-clause-kept g c = rw (← c.self.view_is) (λ gathered is. keeps_phase gathered _ _ is (rw (links_are g c) (steady g c).same)
+    (sound_conforms _ (sound g c)) c.serve_all.ensures.endure refl refl)
 
-pub returns-then-not-stands_for-clause-conforms : goal.returns-then-not-stands_for-clause-conforms
-returns-then-not-stands_for-clause-conforms g c = rw (← c.self.view_is) (sound_conforms _ c.self.invariant.0)
+pub returns-then-not-stands_for-clause-kept : goal.returns-then-not-stands_for-clause-kept
+returns-then-not-stands_for-clause-kept g c = rw (← c.self.view_is) (λ gathered is. keeps_phase gathered _ _ is (grind arith)
+    (sound_conforms _ c.self.invariant.0) (both_none c.self.inside.mux) refl refl)
+
+pub returns-clause-run : goal.returns-clause-run
+returns-clause-run g c = rw (← c.self.view_is) (λ gathered is. runs gathered c.args.now _ _ c.self.invariant.0.of_plan is
+    (rw (links_are g c) (rw c.deref_mut.ensures.value at c.serve_all.ensures.run)))
 
 pub returns-clause-told : goal.returns-clause-told
 returns-clause-told g c = grind (arith, sound, count_is)
