@@ -1,14 +1,14 @@
 -- A sound emitter's frames conform, for the accepted messages too.
+use Rattle.afdx_tx.proofs.PortMessages.{taken_allowed}
 use Rattle.afdx_tx.proofs.SoundEmitter.{alike_queues}
 use Rattle.afdx_tx.proofs.Names.{same_name}
 use Rattle.afdx_tx.proofs.Names.{same_total}
-use Rattle.afdx_tx.proofs.Names.{Accepted, Tx, IsSound, Conforms, ℕ, ◌≡◌, ◌<◌, List, ◌++◌, length, arith, refl, ap, ◌∙◌, sym, subst, Result, Ok, Err, OnOk, append_assoc, get_or_past, cases_lt, Plan, link_plan_at, room_of, Net, A, B, Entry, Seen, IsKnownWhole, IsSameQueue, known_of, told_of, IsLegalOn, IsLegal, Held, LinkState, held_at, link_at, nothing_held, no_link, IsSameSub, IsSamePlan, taken_in, AreGathered, accepted_by, accepted_in, Bool, true, false, AreLinksOf, IsRun, BothEndure}
+use Rattle.afdx_tx.proofs.Names.{Accepted, Tx, IsSound, Conforms, ℕ, ◌≡◌, List, ◌++◌, arith, sym, subst, append_assoc, get_or_past, cases_lt, Plan, link_plan_at, room_of, Net, A, B, Entry, told_of, IsLegalOn, IsLegal, LinkState, held_at, link_at, no_link, IsSamePlan, taken_in, AreGathered, accepted_in, Bool, true, false, AreLinksOf, IsRun, BothEndure}
 use Rattle.afdx_legal.specs.Allowed.{AreAllowed}
-use Rattle.afdx_tx.proofs.PortMessages.{taken_allowed, accepted_allowed}
-use Rattle.afdx_tx.specs.Phases.{AreOfPorts, IsInPhase, KeepsMessages, KeepsPhase, Runs, StaysLawful}
+use Rattle.afdx_tx.proofs.PortMessages.{accepted_allowed}
+use Rattle.afdx_tx.specs.Phases.{AreOfPorts, IsInPhase, KeepsMessages, KeepsPhase, Runs}
 use Rattle.afdx_tx.proofs.NothingLeft.{run_drained}
 use Rattle.afdx_tx.proofs.SoundEmitter.{sound_legal, sound_streams, sound_turns}
-use Rattle.vl_link.proofs.QueueLooks.{still_receiving}
 use Rattle.afdx_tx.proofs.OwedFragments.{owed_split, untaken}
 
 -- The accepted lists are the same.
@@ -38,10 +38,6 @@ pub legal_accepted : (plan : Plan) (links : List LinkState) (a b : List Entry)
     → IsLegal plan (taken_in links) a b → IsLegal plan (accepted_in links) a b
 legal_accepted plan links a b l =
     record { on_a = legal_on plan links A a l.on_a; on_b = legal_on plan links B b l.on_b; twins = l.twins }
-
--- A consequence of a result that is Ok.
-pub on_ok : {T E : Type 0} (r : Result T E) (P Q : Type 0) → (P → Q) → OnOk r P → OnOk r Q
-on_ok r P Q f h = grind arith
 
 pub sound_conforms : (tx : Tx) → IsSound tx.plan tx.links tx.lines tx.moment → Conforms tx
 sound_conforms tx sound =

@@ -1,9 +1,8 @@
 -- Each poll of a drain at which a link is due sends one of its frames, until it owes none.
-use Rattle.afdx_tx.proofs.Names.{ℕ, zero, suc, ◌≡◌, ◌≢◌, ◌⊎◌, ◌+◌, ◌-◌, ◌<◌, ◌≤◌, List, [], ◌∷◌, ◌++◌, true, length, arith, refl, ap, ◌∙◌, sym, subst, Option, Some, None, inl, inr, ⊎_elim, both_ways, cases_eq, le-leb, length-append, length-map, length_push, LinkPlan, Plan, IsPlan, link_plan_at, bag_micros, room_of, A, sub_in, Sent, fragments, Entry, entry, Lines, BothEndure, stands_for, log, both_none, both_on, stood_before, log_same, Stamp, IsLater, is_due, Served, Nothing, Released, Lost, AreTurns, choice_below, turn_endures, turns_endure, latest, link_stream, sub_stream, told, Accepted, Drains, DrainsAt, pace_in, accepted_view, owed, stream_at, owed_at, AreApartBy, AreDrained, DrainEnds}
+use Rattle.afdx_tx.proofs.Names.{ℕ, zero, suc, ◌≡◌, ◌≢◌, ◌⊎◌, ◌+◌, ◌<◌, ◌≤◌, List, [], ◌∷◌, ◌++◌, true, length, arith, refl, ap, None, inl, inr, ⊎_elim, cases_eq, length-append, length-map, length_push, LinkPlan, Plan, IsPlan, link_plan_at, bag_micros, room_of, A, sub_in, Sent, fragments, Entry, entry, Lines, BothEndure, stands_for, log, both_on, stood_before, IsLater, is_due, Served, Nothing, Released, Lost, AreTurns, turn_endures, turns_endure, latest, link_stream, sub_stream, told, Accepted, Drains, DrainsAt, pace_in, accepted_view, owed, stream_at, owed_at, AreApartBy, AreDrained, DrainEnds}
 use Rattle.vl_link.proofs.PaceOfStream.{stream_more}
 use Rattle.vl_link.proofs.LinkTurn.{other_turn, turn_at}
 use Rattle.afdx_legal.proofs.LongerStream.{latest_push, with_push_in, with_push_out}
-use Rattle.afdx_tx.proofs.PollTurns.{later_on}
 
 -- the fragments of a sub-VL's accepted messages
 abbrev due_of : ℕ → LinkPlan → (ℕ → List Sent) → ℕ → List (List ℕ)
@@ -52,11 +51,6 @@ own_turn now end_system link accepted lines after (Released sub number) due t st
     })
 own_turn now end_system link accepted lines after Lost due t stands = grind arith
 
--- A network that is down after turns was down before, or failed.
-drains_endure : (now : ℕ) (plan : Plan) (accepted : Accepted) (i many : ℕ) (lines after : Lines)
-    → AreTurns (DrainsAt now plan accepted) i many lines after → BothEndure lines after
-drains_endure now plan accepted i many lines after turns = grind (arith, turns_endure, turn_endures, link_plan_at, pace_in, log, accepted_view)
-
 -- the effect of a poll on the stream of the link at a place
 abbrev ComesAt : ℕ → Plan → Accepted → ℕ → (S T : List Entry) → Type 0
 ComesAt now plan accepted k S T = Comes now plan.end_system (link_plan_at plan.links k) (accepted k) S T
@@ -82,11 +76,6 @@ turns_come now plan accepted k lines after valid lt due turns stands =
     (λ j before behind did t. turn_endures now (link_plan_at plan.links j) _ _ before behind did t) turns in
     rw (at.kept, ← at.same) (own_turn now plan.end_system (link_plan_at plan.links k) (accepted k) at.before at.behind at.did
     (rw at.same due) at.turn (stood_before at.behind after (link_plan_at plan.links k).networks at.endures stands))
-
--- The link is due one gap after any time that isn't before its last release.
-due_by : (bag gap before now : ℕ) (last : Option Stamp) → bag ≤ gap → before + gap ≤ now → IsLater last before
-    → is_due bag last now ≡ true
-due_by bag gap before now last small apart later = grind arith
 
 -- The frames of other sub-VLs are the same.
 told_other : (now sub s : ℕ) (frame : List ℕ) (S T : List Entry) → sub_in frame ≡ sub → s ≢ sub → T ≡ S ++ entry now frame ∷ []
@@ -131,7 +120,7 @@ drained_endure : (plan : Plan) (accepted : Accepted) (moments : List ℕ) (lines
     → AreDrained plan accepted moments lines after → BothEndure lines after
 drained_endure plan accepted [] lines after p = grind arith
 drained_endure plan accepted (now ∷ moments) lines after p =
-    both_on lines p.0 after (grind (arith, drains_endure))
+    both_on lines p.0 after (grind (arith, turns_endure, turn_endures, link_plan_at, pace_in, log, accepted_view))
     (drained_endure plan accepted moments p.0 after p.2)
 
 -- A link has all after more polls than the frames that it owes, and keeps it.
@@ -152,7 +141,7 @@ ends plan accepted k (now ∷ moments) lines after start gap valid lt small late
     let less = one_less now _ _ _ _ _ g (link_plan_at plan.links k).sub_vls g.within in
     inr (omega (arith, less, owes))) few))
     (turns_come now plan accepted k lines p.0 valid lt
-    (due_by _ gap start now _ small apart.0 later) p.1 (grind (arith, drained_endure)))
+    (grind arith) p.1 (grind (arith, drained_endure)))
 
 -- The same of all links.
 pub drain_ends_holds : DrainEnds

@@ -1,7 +1,8 @@
 -- The accepted messages of each port that was gathered.
-use Rattle.afdx_tx.proofs.Names.{ℕ, ◌≡◌, ◌<◌, List, length, arith, ap, ◌∙◌, subst, Contains, All-contains, PortPlan, Plan, IsPlan, port_plan_at, link_place, part_of, brought_by, known_of, LinkState, held_at, link_at, back_of, Lines, Tx, AreLinksOf, HaveOwnItems, IsSound, queues_in, PortView, BelongsTo, AreOpenedWith, HasPlace, HasEveryPlace, index_of, AreGathered, OnlyTakeBack, IsTakenBack, GathersLinks, GathersPorts, IsGatheredLink, IsGatheredTx, HasOwnPart, held_for, Published, Reaches}
-use Rattle.afdx_tx.proofs.PortMessages.{own_messages, port_within}
-use Rattle.afdx_tx.proofs.KeptLinks.{kept_sound, KeepLinks}
+use Rattle.afdx_tx.proofs.PortMessages.{own_messages}
+use Rattle.afdx_tx.proofs.Names.{ℕ, ◌≡◌, ◌<◌, List, length, arith, ap, ◌∙◌, subst, Contains, All-contains, PortPlan, Plan, IsPlan, port_plan_at, link_place, part_of, brought_by, known_of, LinkState, held_at, link_at, back_of, Lines, Tx, AreLinksOf, HaveOwnItems, IsSound, queues_in, PortView, BelongsTo, AreOpenedWith, HasPlace, HasEveryPlace, index_of, AreGathered, OnlyTakeBack, IsTakenBack, GathersLinks, GathersPorts, IsGatheredTx, HasOwnPart, held_for, Published, Reaches}
+use Rattle.afdx_tx.proofs.PortMessages.{port_within}
+use Rattle.afdx_tx.proofs.KeptLinks.{kept_sound}
 
 -- Each queue is gathered.
 pub all_gathered : (mid new : List LinkState) → GathersLinks mid new → AreGathered new

@@ -1,5 +1,5 @@
 -- The streams of a network are prefixes of the log's streams.
-use Rattle.afdx_tx.proofs.Names.{ℕ, ◌≡◌, ◌≤◌, List, [], ◌∷◌, ◌++◌, Bool, true, false, length, map, nat_eq, arith, refl, ap, ◌∙◌, sym, subst, inl, inr, All, both_ways, cases_Bool, eqb-true, false_from_ne_true, get_or_append_left, length-append, length-map, All-tail, All-map, All-filter, filter_passes, Networks, Net, link_in, twin_link, Entry, Logged, entries_of, names, only, side, sent_to, Lines, Keeps, entries_append, link_stream, with_append, with_map, filter, log}
+use Rattle.afdx_tx.proofs.Names.{ℕ, ◌≡◌, ◌≤◌, List, [], ◌∷◌, ◌++◌, Bool, true, false, length, map, nat_eq, arith, refl, ap, ◌∙◌, sym, inl, inr, All, both_ways, cases_Bool, eqb-true, false_from_ne_true, get_or_append_left, length-append, length-map, All-tail, All-map, All-filter, filter_passes, Networks, Net, link_in, twin_link, Entry, Logged, entries_of, names, only, side, sent_to, Lines, Keeps, entries_append, link_stream, with_append, with_map, filter, log}
 
 -- The stream of a link, turned to a network.
 pub link_side : (net : Net) (vl : ℕ) (H : List Entry)

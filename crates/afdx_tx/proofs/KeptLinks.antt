@@ -1,7 +1,5 @@
 -- Links one of whose sub-VLs has changed, or only their queues, and the counts published of them.
-use Rattle.afdx_tx.proofs.Names.{ℕ, ◌≡◌, ◌<◌, ◌++◌, List, length, arith, refl, ap, ◌∙◌, sym, subst, Plan, Entry, Lines, log, taken_of, Held, LinkState, held_at, link_at, HasOwnItems, IsLinkOfPlan, taken_by, sub_fragments, IsKept, IsTied, IsBehind, IsSound, ◌≢◌, set, ⊎_elim, cases_eq, length-set, get_or-set_other, each_set, no_link, nothing_held, ◌≤◌, [], link_in, NoFieldFalls, Published, published, last_of, with_entry, link_stream, with_append, AreKept, IsSamePlan, Reaches, PublishesCounts}
-use Rattle.status_board.proofs.Histories.{last_or-push, falls_not_same, falls_not_through}
-use Rattle.afdx_legal.proofs.CountingLemmas.{counts_more}
+use Rattle.afdx_tx.proofs.Names.{ℕ, ◌≡◌, ◌<◌, List, length, arith, refl, sym, subst, Plan, Entry, Lines, log, taken_of, Held, LinkState, held_at, link_at, HasOwnItems, IsLinkOfPlan, taken_by, IsKept, IsSound, set, length-set, get_or-set_other, each_set, no_link, nothing_held, ◌≤◌, [], Published, published, with_entry, Reaches}
 use Rattle.afdx_tx.proofs.SoundEmitter.{plans_after}
 
 -- a sub-VL whose queue may have changed, without any message taken
@@ -26,11 +24,6 @@ pub record KeepLinks (old new : List LinkState) : Type 0 where
 -- The messages taken are the same.
 taken_by_same : (old new : Held) → KeepsSub old new → taken_by new ≡ taken_by old
 taken_by_same old new s = cc
-
--- The link keeps its invariant.
-own_same : (old new : LinkState) → KeepsLink old new → IsLinkOfPlan old.end_system old.plan old.pace old.subs
-    → IsLinkOfPlan new.end_system new.plan new.pace new.subs
-own_same old new g own = grind arith
 
 -- The link keeps its invariant with a log.
 kept_same : (old new : LinkState) (log : List Entry) → KeepsLink old new
@@ -102,12 +95,3 @@ pub record IsPublishing (links : List LinkState) (old new : List Published) (man
 pub reaches_none : (links : List LinkState) (board : List Published) → length board ≡ length links
     → ((k : ℕ) → (published board k).history ≡ []) → Reaches links board
 reaches_none links board count none = grind arith
-
--- The published counts are at most the current ones as the log grows.
-pub reaches_on : (old new : List LinkState) (board : List Published) (before entries after : List Entry) → IsSamePlan old new
-    → after ≡ before ++ entries → AreKept old before → AreKept new after → Reaches old board → Reaches new board
-reaches_on old new board before entries after same grown was is r = grind (arith, falls_not_through, last_of, link_at, link_stream, with_append, link_in, counts_more)
-
--- The published counts are at most the current ones while only queues change.
-pub reaches_kept : (old new : List LinkState) (board : List Published) → KeepLinks old new → Reaches old board → Reaches new board
-reaches_kept old new board g r = grind arith

@@ -1,19 +1,5 @@
 -- The first time at which one link more becomes due.
-use Rattle.afdx_tx.proofs.Names.{ℕ, ◌≡◌, ◌∙◌, ◌≤◌, ◌+◌, sym, subst, arith, inl, inr, true, false, LinkState, link_at, Lines, List, Option, Some, None, ◌^◌, min, cases_lt, MatchOption, LinkPlan, Pace, may_release, RestsUntil, BecomesDue, StaysAsIs, NoneDueBefore, OneDueAt, IsFirstDue, earlier}
-
--- A link that rests until a time rests until each earlier one.
-sooner : (from until before : ℕ) (plan : LinkPlan) (pace : Pace) (lines : Lines) → before ≤ until
-    → RestsUntil from until plan pace lines → RestsUntil from before plan pace lines
-sooner from until before plan pace lines le rests = grind arith
-
-none_sooner : (now : ℕ) (links : List LinkState) (lines : Lines) (many until before : ℕ) → before ≤ until
-    → NoneDueBefore now links lines many until → NoneDueBefore now links lines many before
-none_sooner now links lines many until before le none = grind arith
-
--- A link that stays as it is and may not release a frame rests at all times of 64 bits.
-stays : (now : ℕ) (plan : LinkPlan) (pace : Pace) (lines : Lines) → StaysAsIs now plan pace lines → may_release now plan pace lines ≡ false
-    → RestsUntil now (2 ^ 64) plan pace lines
-stays now plan pace lines h4 rests = grind arith
+use Rattle.afdx_tx.proofs.Names.{ℕ, ◌≡◌, ◌+◌, subst, arith, inl, inr, false, LinkState, link_at, Lines, List, Option, Some, None, ◌^◌, min, cases_lt, MatchOption, may_release, RestsUntil, BecomesDue, StaysAsIs, NoneDueBefore, IsFirstDue, earlier}
 
 -- One link more.
 none_more : (now : ℕ) (links : List LinkState) (lines : Lines) (many until : ℕ) → NoneDueBefore now links lines many until
@@ -21,9 +7,6 @@ none_more : (now : ℕ) (links : List LinkState) (lines : Lines) (many until : �
     → RestsUntil now until (link_at links many).plan (link_at links many).pace lines)
     → NoneDueBefore now links lines (many + 1) until
 none_more now links lines many until none own = grind arith
-
-one_more : (now : ℕ) (links : List LinkState) (lines : Lines) (many at : ℕ) → OneDueAt now links lines many at → OneDueAt now links lines (many + 1) at
-one_more now links lines many at one = grind arith
 
 pub first_of_more : (now : ℕ) (links : List LinkState) (lines : Lines) (many : ℕ) (first own : Option ℕ)
     → IsFirstDue now links lines many first
@@ -35,7 +18,7 @@ first_of_more now links lines many None None none as_is =
 first_of_more now links lines many None (Some at) none due = grind arith
 first_of_more now links lines many (Some at) None first as_is =
     let plan = (link_at links many).plan in let pace = (link_at links many).pace in (
-      one_more now links lines many at first.0,
+      grind arith,
       none_more now links lines many at first.1
           (grind arith),
     )

@@ -1,8 +1,8 @@
 -- The turns of a drain, and whether all accepted messages are wholly released.
-use Rattle.afdx_tx.proofs.Names.{ℕ, ◌≡◌, ◌<◌, List, [], Bool, true, false, length, arith, refl, both_ways, cases_Bool, Plan, Entry, Lines, log, Seen, receiving, gathered, IsKnownWhole, TellsDrained, LinkState, held_at, link_at, no_link, sub_fragments, taken_by, IsKept, IsSound, Owes, IsLinkDone, IsAllDone, AreGathered, accepted_in, TellsAllDone, IsOwn, subst, and_parts, Served, AreTurns, held_view, IsTurn, IsTurnAt, IsRun, AreLinksOf, accepted_view, pace_in, Drains, DrainsAt, IsDrained, turn_seen, turns_seen}
-use Rattle.vl_link.specs.LinkDone.{HasSubLeft, TellsLinkDone}
+use Rattle.afdx_tx.proofs.Names.{ℕ, ◌≡◌, ◌<◌, List, Bool, true, false, length, arith, both_ways, cases_Bool, Plan, Entry, Lines, log, IsKnownWhole, LinkState, held_at, link_at, no_link, sub_fragments, taken_by, IsKept, IsSound, Owes, IsAllDone, AreGathered, accepted_in, TellsAllDone, IsOwn, subst, Served, AreTurns, held_view, IsTurn, IsTurnAt, IsRun, AreLinksOf, accepted_view, pace_in, Drains, DrainsAt, IsDrained, turn_seen, turns_seen}
+use Rattle.vl_link.specs.LinkDone.{TellsLinkDone}
 use Rattle.afdx_tx.proofs.SoundEmitter.{plan_is, count_is}
-use Rattle.afdx_tx.proofs.OwedFragments.{rest_of, stands_of, lists_of, all_released, owes_taken, owes_rest, owes_not, passed_released, asked_owes}
+use Rattle.afdx_tx.proofs.OwedFragments.{stands_of, lists_of, all_released, owes_taken, owes_rest, owes_not, asked_owes}
 
 -- the accepted messages of the link are known whole
 abbrev pub IsLinkGathered : LinkState → Type 0
@@ -20,7 +20,7 @@ drain_turn now end_system link new lines after did e own g t =
     let at = λ (s : ℕ) (lt : s < link.plan.sub_vls). let within : s < length link.subs = grind arith in
     stands_of link (log lines) s own (grind arith) within (g s within) in
     record {
-      lacks = λ s lt p. passed_released link.end_system link.plan (log lines) s link.subs (held_at new.subs s) (at s lt) p;
+      lacks = grind (arith, all_released);
       rests = λ s e. tt;
       gives = λ s frame lt f. asked_owes link.end_system link.plan (log lines) s link.subs f.mid (at s lt) f.asked;
     })
@@ -55,12 +55,6 @@ link_owes : (link : LinkState) (log : List Entry) → IsOwn link → IsKept link
     → TellsLinkDone false link → HasOwing link log
 link_owes link log own kept g d = grind (arith, cases_Bool, owes_taken, sub_fragments, taken_by, held_at, stands_of, owes_rest, both_ways)
 
--- If all links are done, all accepted messages are wholly released.
-done_true : (config : Plan) (links : List LinkState) (lines : Lines) (moment : ℕ)
-    → IsSound config links lines moment → AreGathered links → TellsAllDone true links
-    → IsAllDone config (accepted_in links) (log lines)
-done_true config links lines moment sound known done = grind (arith, count_is, plan_is, all_released, stands_of, held_at, link_at, log, no_link)
-
 -- If one isn't, some message isn't wholly released.
 done_false : (config : Plan) (links : List LinkState) (lines : Lines) (moment : ℕ)
     → IsSound config links lines moment → AreGathered links → TellsAllDone false links
@@ -80,6 +74,6 @@ pub all_done : (done : Bool) (config : Plan) (links : List LinkState) (lines : L
     → IsSound config links lines moment → AreGathered links → TellsAllDone done links
     → (done ≡ true → IsAllDone config (accepted_in links) (log lines))
     × (IsAllDone config (accepted_in links) (log lines) → done ≡ true)
-all_done true config links lines moment s g d = ((λ _. done_true config links lines moment s g d), (λ _. refl))
+all_done true config links lines moment s g d = grind (arith, count_is, plan_is, all_released, stands_of, held_at, link_at, log, no_link)
 all_done false config links lines moment s g d =
     (grind arith, (λ all. absurd (done_false config links lines moment s g d all)))

@@ -1,8 +1,8 @@
 -- New links, while the senders of their ports are made, and an emitter before its first call.
-use Rattle.afdx_tx.proofs.Names.{ℕ, ◌≡◌, ◌+◌, ◌<◌, List, [], ◌∷◌, ◌++◌, length, take, get_or, set, arith, refl, ap, ◌∙◌, sym, below_more, Option, None, and_right, ne_eqb, length-append, get_or_append_left, get_or_push, length-set, LinkPlan, PortPlan, Plan, IsPlan, link_plan_at, port_plan_at, link_place, most_calls, QueueName, SenderView, new_receiver, new_sender, SubVl, Seen, receiving, gathered, queue_of, ports_of, Held, LinkState, held_at, link_at, nothing_held, no_link, MakesSender, LacksSender, SubMakesSender, LinkMakesSender, ports_of_sub, held_queue, link_queues, queues_in, IsOpenedSub, AreOpenedSubs, IsOpenedLink, AreOpenedLinks, queue_at, index_of, IsFreshPort, each_set, both_ways, ext_get_or, All-nil, link_in, Logged, fresh_lines, fresh_log, fresh_in_step, IsItem, no_link_plan, AreFreshLinks, plans, IsSound}
+use Rattle.afdx_tx.proofs.Names.{ℕ, ◌≡◌, ◌+◌, ◌<◌, List, [], ◌∷◌, ◌++◌, length, take, get_or, set, arith, refl, ap, ◌∙◌, sym, below_more, Option, None, and_right, ne_eqb, length-append, get_or_append_left, get_or_push, length-set, LinkPlan, PortPlan, Plan, IsPlan, link_plan_at, port_plan_at, link_place, most_calls, QueueName, SenderView, new_sender, SubVl, queue_of, ports_of, Held, LinkState, held_at, link_at, nothing_held, no_link, LacksSender, LinkMakesSender, ports_of_sub, held_queue, link_queues, queues_in, IsOpenedSub, AreOpenedSubs, IsOpenedLink, AreOpenedLinks, queue_at, index_of, IsFreshPort, each_set, both_ways, ext_get_or, All-nil, fresh_lines, fresh_log, fresh_in_step, IsItem, no_link_plan, AreFreshLinks, plans, IsSound}
 use Rattle.std.proofs.Math.ListN.{get_or-map}
 use Rattle.afdx_tx.proofs.KeptLinks.{one_count, one_each}
-use Rattle.afdx_tx.proofs.PortLink.{few_ports, IsAt, seats, seats_within, index_at, seat_at, others_at}
+use Rattle.afdx_tx.proofs.PortLink.{few_ports, IsAt, seats, seats_within, seat_at, others_at}
 use Rattle.afdx_tx.proofs.SoundEmitter.{alike_queues}
 use Rattle.afdx_tx.proofs.PollTurns.{plan_at_is, plans_length}
 
@@ -28,13 +28,6 @@ links_push config first links n new are opened = record {
       links new no_link n are.count are.each opened;
 }
 
--- The sub-VL of the next port has a sender for each of its earlier ports.
-pub sub_at : (config : Plan) (links : List LinkState) (place k s : ℕ) → IsAt config place k s
-    → AreOpenedLinks config (take place config.ports) links (length config.links)
-    → IsOpenedSub (record { end_system = config.end_system; link = link_plan_at config.links k; sub = s })
-    (ports_of_sub config.ports (link_plan_at config.links k).id.0 s) (index_of config.ports place) (held_at (link_at links k).subs s)
-sub_at config links place k s at are = grind arith
-
 -- The sub-VL of the next port lacks a sender.
 pub lacks_at : (config : Plan) (links : List LinkState) (place k s : ℕ) → IsPlan config → IsAt config place k s
     → AreOpenedLinks config (take place config.ports) links (length config.links)
@@ -44,19 +37,14 @@ lacks_at config links place k s valid at are =
     let more = seat_at config place k s at in
     grind (arith, seats_within, link_plan_at, ports_of, held_at, link_at, index_of)
 
--- A sub-VL has one sender more.
-makes_sub : (own : SubVl) (ports : List PortPlan) (n : ℕ) (old : Held) (calls : ℕ) (sender : SenderView) (new : Held)
-    → IsOpenedSub own ports n old → SubMakesSender old calls sender new → IsOpenedSub own ports (n + 1) new
-makes_sub own ports n old calls sender new opened makes = grind arith
-
 -- A link with other sub-VLs, which have senders for these ports.
-with_subs : (own : ℕ) (ports first more : List PortPlan) (link : LinkPlan) (state : LinkState) (subs : List Held)
+pub with_subs : (own : ℕ) (ports first more : List PortPlan) (link : LinkPlan) (state : LinkState) (subs : List Held)
     → IsOpenedLink own ports first link state → AreOpenedSubs own ports more link subs link.sub_vls
     → IsOpenedLink own ports more link (record state { subs = subs })
 with_subs own ports first more link state subs opened these = grind arith
 
 -- The link of the next port, after its sender was made.
-link_more : (config : Plan) (old : LinkState) (place k s calls : ℕ) (sender : SenderView) (new : LinkState) → IsAt config place k s
+pub link_more : (config : Plan) (old : LinkState) (place k s calls : ℕ) (sender : SenderView) (new : LinkState) → IsAt config place k s
     → IsOpenedLink config.end_system config.ports (take place config.ports) (link_plan_at config.links k) old
     → LinkMakesSender old s calls sender new
     → IsOpenedLink config.end_system config.ports (take (place + 1) config.ports) (link_plan_at config.links k) new
@@ -107,7 +95,7 @@ pub fresh_port : (config : Plan) (links : List LinkState) (place k s : ℕ) (pla
     → LinkMakesSender (link_at links k) s most_calls sender new
     → plan ≡ port_plan_at config.ports place → k ≡ link_place config plan → s ≡ plan.sub
     → IsFreshPort config (queues_in links) place (record { place = place; plan = plan; sender = sender })
-fresh_port config links place k s plan sender new at are makes is link sub = grind (arith, sub_at, most_calls, index_of, queue_at, queues_in, link_plan_at, queue_at_is, queue_of, new_sender)
+fresh_port config links place k s plan sender new at are makes is link sub = grind (arith, most_calls, index_of, queue_at, queues_in, link_plan_at, queue_at_is, queue_of, new_sender)
 
 -- A fresh emitter is sound.
 pub fresh_sound : (config : Plan) (links : List LinkState) → IsPlan config

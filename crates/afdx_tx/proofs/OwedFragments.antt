@@ -1,16 +1,11 @@
 -- The fragments of a sub-VL's accepted messages, and its stream.
-use Rattle.afdx_tx.proofs.Names.{ℕ, suc, ◌≡◌, ◌+◌, ◌<◌, List, [], ◌∷◌, ◌++◌, true, false, length, arith, refl, ap, ◌∙◌, sym, inl, inr, append-nil, append_assoc, map-append, nil_from_length, length-append, room_of, LinkPlan, Net, A, Sent, fragments, fragments_at, fragments_from, Entry, Seen, receiving, gathered, taken_of, FindsNothing, Finds, IsKnownWhole, known_of, told_of, Held, LinkState, held_at, Asks, sent_of, sent_by, taken_by, IsLinkTied, IsReleased, Owes, accepted_by, IsOwn}
+use Rattle.afdx_tx.proofs.Names.{ℕ, suc, ◌≡◌, ◌+◌, ◌<◌, List, [], ◌∷◌, ◌++◌, true, length, arith, refl, ap, ◌∙◌, sym, inl, inr, append-nil, append_assoc, map-append, nil_from_length, length-append, room_of, LinkPlan, Net, A, Sent, fragments, fragments_at, fragments_from, Entry, Seen, receiving, gathered, taken_of, IsKnownWhole, told_of, Held, LinkState, held_at, Asks, sent_of, sent_by, taken_by, IsLinkTied, IsReleased, Owes, accepted_by, IsOwn}
 use Rattle.vl_link.proofs.FragmentsLeft.{fragments_some}
 
 -- the messages known to be left in a queue
 abbrev pub rest_of : Seen → List (ℕ × List ℕ)
 rest_of (receiving r) = []
 rest_of (gathered g) = g.left
-
--- The accepted messages are those taken and those left.
-known_rest : (seen : Seen) → known_of seen ≡ taken_of seen ++ rest_of seen
-known_rest (receiving r) = sym (append-nil r.taken)
-known_rest (gathered g) = refl
 
 -- The fragments of two lists of messages.
 fragments_append : (end_system room : ℕ) (net : Net) (place : ℕ) (xs ys : List Sent)
@@ -33,7 +28,7 @@ untaken end_system room net held =
 pub owed_split : (end_system room : ℕ) (net : Net) (held : Held)
     → fragments end_system room net (accepted_by held)
     ≡ fragments end_system room net (taken_by held) ++ untaken end_system room net held
-owed_split end_system room net held = grind (arith, known_rest, map-append, sent_of, taken_of, rest_of, fragments_append, end_system, taken_by, sent_by)
+owed_split end_system room net held = grind (arith, map-append, sent_of, taken_of, fragments_append, taken_by, sent_by, append-nil)
 
 -- Two lists are empty if together they are.
 nils : {X : Type 0} (xs ys : List X) → xs ++ ys ≡ [] → (xs ≡ []) × (ys ≡ [])
@@ -93,11 +88,6 @@ module _ (end_system : ℕ) (link : LinkPlan) (log : List Entry) (s : ℕ) (subs
                 (nils _ _ (nils held.left next none).1).0;
             ahead = grind (arith, owed_split, append_assoc, told_of);
           }
-
-  -- A polled sub-VL that has nothing is wholly released.
-  pub passed_released : (new : Held) → Stands end_system link log s (held_at subs s) → Asks false (held_at subs s) new
-      → IsReleased end_system link (lists_of subs) log s
-  passed_released new at p = grind (arith, all_released)
 
   -- A polled sub-VL that has something isn't wholly released.
   pub asked_owes : (new : Held) → Stands end_system link log s (held_at subs s) → Asks true (held_at subs s) new

@@ -1,7 +1,7 @@
 -- Each link's stream of the log is the longer of its two, and on links of both networks these are twins.
-use Rattle.afdx_tx.proofs.Names.{ℕ, ◌≡◌, ◌⊎◌, ◌<◌, ◌≤◌, List, [], ◌∷◌, length, map, arith, refl, ap, ◌∙◌, sym, inl, inr, ⊎_elim, All, cases_lt, lt-ltb, le-ltb, append-nil, length-append, length-map, nil_from_length, All-tail, Networks, Plan, link_plan_at, Net, A, B, twin_twice, Entry, Logged, entries_of, side, Lines, IsMirrored, link_stream, longer, own_stream, AreOwnStreams, AreCarried, log, get_or, subst, ◌++◌, Bool, true, take, and_parts, get_or-map, take_all, take-append-le, take-map, filter-append, LinkPlan, IsPlan, link_in, twin_link, names, sent_to, Keeps, IsKnown, AreKnown, is_on_both, on_both, AreTwins, known_all}
+use Rattle.afdx_tx.proofs.Names.{ℕ, ◌≡◌, ◌⊎◌, ◌≤◌, List, [], ◌∷◌, length, map, arith, refl, ap, ◌∙◌, sym, inl, inr, ⊎_elim, All, lt-ltb, le-ltb, append-nil, length-append, length-map, nil_from_length, All-tail, Networks, Plan, link_plan_at, Net, A, B, twin_twice, Entry, Logged, entries_of, side, Lines, IsMirrored, link_stream, longer, own_stream, AreOwnStreams, AreCarried, log, get_or, subst, ◌++◌, Bool, take, get_or-map, take_all, take-append-le, take-map, filter-append, LinkPlan, IsPlan, link_in, twin_link, sent_to, Keeps, IsKnown, AreKnown, is_on_both, on_both, AreTwins, known_all}
 use Rattle.afdx_plan.specs.declared.networks.Networks.TheVariants.{Both, OnlyA, OnlyB}
-use Rattle.afdx_plan.specs.Networks.{carries_a, carries_b, is_both}
+use Rattle.afdx_plan.specs.Networks.{is_both}
 use Rattle.afdx_legal.proofs.OnBoth.{on_both_is}
 use Rattle.afdx_tx.proofs.HandedFronts.{IsFor, IsFront, link_side, front_of, all_handed, whole_alone, picked, all_front, log_parts}
 
@@ -27,17 +27,10 @@ stream_for_a : (lines : Lines) (vl : ℕ) → IsMirrored lines
     → map (side A) (link_stream vl (log lines)) ≡ link_stream vl (log lines)
 stream_for_a lines vl m = sym (link_side A vl (log lines)) ∙ ap (link_stream vl) (log_for_a lines m)
 
--- A prefix as long as the whole is the whole.
-all_of : (net : Net) (S xs : List Entry) → IsFront net S xs → length S ≤ length xs → xs ≡ map (side net) S
-all_of net S xs f long = grind (arith, nil_from_length, length-append, length-map, append-nil)
-
 -- Of two prefixes of a stream, one of which is the whole, the longer is the whole.
 longer_is : (S a b : List Entry) → map (side A) S ≡ S → IsFront A S a → IsFront B S b
     → (length S ≤ length a) ⊎ (length S ≤ length b) → map (side A) (longer a b) ≡ S
-longer_is S a b own f g one = ⊎_elim
-    (λ (lt : length a < length b). rw (lt-ltb _ _ lt, all_of B S b g (grind arith), sides A B S) own)
-    (λ (ge : length b ≤ length a). rw (le-ltb _ _ ge, all_of A S a f (grind arith), sides A A S) own)
-    (grind arith)
+longer_is S a b own f g one = grind (arith, lt-ltb, sides, le-ltb, nil_from_length, length-append, length-map, append-nil)
 
 -- The stream of one link.
 own_of : (lines : Lines) (vl : ℕ) (networks : Networks) → IsMirrored lines → All (IsFor vl networks) lines.logged
@@ -79,13 +72,13 @@ planned plan ls valid known carried i d lt =
     grind (arith, is_on_both, on_both_is, is_both)
 
 -- The logged entries are logged so.
-logged_planned : (plan : Plan) (lines : Lines) → IsPlan plan → AreCarried plan.links lines.logged
+pub logged_planned : (plan : Plan) (lines : Lines) → IsPlan plan → AreCarried plan.links lines.logged
     → AreKnown plan.links A (log lines) → All (IsPlanned plan.links) lines.logged
 unfolding log
 logged_planned plan lines valid carried known = grind (arith, planned)
 
 -- On such links, a network's frames are the twins of the log.
-both_sent : (links : List LinkPlan) (net : Net) (ls : List Logged) → All (IsPlanned links) ls
+pub both_sent : (links : List LinkPlan) (net : Net) (ls : List Logged) → All (IsPlanned links) ls
     → on_both links (sent_to net ls) ≡ map (side net) (on_both links (entries_of ls))
 both_sent links net ls own = grind (arith, picked, is_on_both, twin_link)
 
@@ -96,11 +89,11 @@ taken_front xs ys zs ws same le =
     ∙ take_all (length zs) zs (omega arith)
 
 -- Two prefixes of one list, each turned to its network, are twins.
-front_twins : (xs ys zs ws : List Entry) → xs ++ ys ≡ zs ++ ws → AreTwins side (map (side A) xs) (map (side B) zs)
+pub front_twins : (xs ys zs ws : List Entry) → xs ++ ys ≡ zs ++ ws → AreTwins side (map (side A) xs) (map (side B) zs)
 front_twins xs ys zs ws same = grind (arith, taken_front, length-map, side, take-map, sides)
 
 -- The entries of such links in two lists.
-both_append : (links : List LinkPlan) (xs ys : List Entry) → on_both links (xs ++ ys) ≡ on_both links xs ++ on_both links ys
+pub both_append : (links : List LinkPlan) (xs ys : List Entry) → on_both links (xs ++ ys) ≡ on_both links xs ++ on_both links ys
 both_append links xs ys = grind (arith, filter-append, is_on_both, link_in)
 
 -- On such links the frames of the two networks are twins.

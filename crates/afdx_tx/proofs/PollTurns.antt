@@ -1,9 +1,5 @@
 -- A poll after one more link's turn.
-use Rattle.afdx_tx.proofs.Names.{ℕ, ◌≡◌, ◌≢◌, ◌<◌, List, [], ◌∷◌, ◌++◌, ◌||◌, false, length, map, set, get_or, arith, refl, ap, ◌∙◌, sym, subst, ◌≤◌, Option, Some, None, length-set, ext_get_or, get_or-map, length-map, All-push, VlId, LinkPlan, link_plan_at, A, link_in, Entry, entry, Logged, logged_for, Lines, log, log_more, log_same, Stamp, IsLater, Served, Nothing, Released, Lost, counts_in, link_stream, IsKnown, AreKnown, LinkState, link_at, no_link, no_link_plan, Serves, Follows, IsSameLink, is_lost, plan_of_link, plans, AreApart, AreCarried, AreServedBy, IsSamePlan, IsKept, IsSteady, Turned, IsOwn, HasItems, link_turn, kept_turn, other_stream, kept_stream, released_below, each_set, ◌+◌, add-one, true, inl, append-nil, map-append, append_assoc, length-append, get_or-set_same, get_or-set_other, BothEndure, stands_for, both_on, stood_before, Pace, pace_of, may_release, AreTurns, Release, turn_release, release_of, IsTold, IsPolling, IsTurn, IsTurnAt, turns_seen, turns_push}
-
--- A later time.
-pub later_on : (last : Option Stamp) (m n : ℕ) → m ≤ n → IsLater last m → IsLater last n
-later_on last m n le later = grind arith
+use Rattle.afdx_tx.proofs.Names.{ℕ, ◌≡◌, ◌≢◌, ◌<◌, List, [], ◌∷◌, ◌++◌, ◌||◌, false, length, map, set, get_or, arith, refl, ap, ◌∙◌, sym, subst, ◌≤◌, length-set, ext_get_or, get_or-map, length-map, All-push, VlId, LinkPlan, link_plan_at, A, link_in, Entry, entry, Logged, logged_for, Lines, log, log_more, log_same, IsLater, Served, Nothing, Released, Lost, counts_in, link_stream, IsKnown, AreKnown, LinkState, link_at, no_link, no_link_plan, Serves, Follows, IsSameLink, is_lost, plan_of_link, plans, AreApart, AreCarried, AreServedBy, IsSamePlan, IsKept, IsSteady, Turned, IsOwn, HasItems, link_turn, kept_turn, other_stream, kept_stream, each_set, ◌+◌, add-one, true, append-nil, map-append, append_assoc, length-append, get_or-set_same, get_or-set_other, BothEndure, stands_for, both_on, may_release, AreTurns, Release, turn_release, release_of, IsTold, IsPolling, IsTurn, IsTurnAt, turns_seen, turns_push}
 
 -- The turn of one link, at its place.
 pub turned_at : (now i : ℕ) (links : List LinkState) (item new : LinkState) (lines after : Lines) (did : Served)
@@ -24,11 +20,6 @@ at_each P links i new lt p q k klt =
 -- The relation is transitive.
 trans_same : (a b c : LinkState) → IsSameLink a b → IsSameLink b c → IsSameLink a c
 trans_same a b c p q = grind arith
-
--- Two links of the running list have different identifiers.
-apart_now : (old links : List LinkState) (i k : ℕ) → AreApart old → IsSamePlan old links → i < length links
-    → k < length links → k ≢ i → (link_at links i).plan.id.0 ≢ (link_at links k).plan.id.0
-apart_now old links i k apart same lt klt ne e = grind arith
 
 -- A known frame at the end of a known list.
 known_push : (links : List LinkPlan) (H : List Entry) (e : Entry) → AreKnown links A H
@@ -103,7 +94,7 @@ steady_more now i old links lines after new did s apart lt t later =
     (λ j jlt ne. (
       s.same.each j (omega (arith, s.same.count)),
       s.each j jlt,
-      kept_stream (link_at links j) (log lines) (log after) (grind (arith, other_stream, link_at, apart_now)) (s.kept j jlt),
+      kept_stream (link_at links j) (log lines) (log after) (grind (arith, other_stream, link_at)) (s.kept j jlt),
       s.later j jlt,
       λ q qlt. s.items j q jlt qlt,
     )) in
@@ -140,7 +131,7 @@ whole_after : (now : ℕ) (did : Served) (link new : LinkState) (lines after : L
 whole_after now did link new lines after t stands = grind arith
 
 -- One turn more.
-turns_on : (now i : ℕ) (old news : List LinkState) (before lines after : Lines) (did : Served)
+pub turns_on : (now i : ℕ) (old news : List LinkState) (before lines after : Lines) (did : Served)
     → AreTurns (IsTurnAt now old news) 0 i before lines → IsTurnAt now old news i lines after did
     → AreTurns (IsTurnAt now old news) 0 (i + 1) before after
 turns_on now i old news before lines after did turns turn = rw add-one
@@ -169,7 +160,7 @@ polling_more now i old links before lines after new did released p apart lt turn
           (grind arith)
           k (omega (arith, length-set links i new));
       told = told_more now did (link_at links i) new released before lines after turned p.told;
-      room = few_released (link_at links i).plan.id did released i p.room;
+      room = grind (arith, length-append, turn_release);
       endure = both_on before lines after p.endure endure;
     }
 

@@ -1,5 +1,5 @@
 -- The link of a port, and the number of the first ports of a configuration that are of a sub-VL.
-use Rattle.afdx_tx.proofs.Names.{ℕ, ◌≡◌, ◌<◌, List, Bool, length, arith, ap, ◌∙◌, sym, refl, Option, Some, None, unwrap_or, eq-eqb, lt-ltb, eqb-true, both_ways, cases_lt, position, position_or_len, ◌==◌, VlId, LinkPlan, PortPlan, SendsOver, Plan, IsPlan, HasLink, link_plan_at, no_link_plan, link_place, ◌+◌, ◌≤◌, ◌++◌, true, false, ◌&&◌, nat_eq, cond, take, drop, add-zero, and_from, and_parts, length-append, take-append-drop, filter-append, All-filter, filter_passes, port_plan_at, IsPort, ports_of_sub, index_of, SubVl, All}
+use Rattle.afdx_tx.proofs.Names.{ℕ, ◌≡◌, ◌<◌, List, Bool, length, arith, ◌∙◌, sym, refl, Option, Some, None, unwrap_or, eq-eqb, lt-ltb, eqb-true, both_ways, cases_lt, position, position_or_len, ◌==◌, LinkPlan, PortPlan, SendsOver, Plan, IsPlan, HasLink, link_plan_at, no_link_plan, link_place, ◌+◌, ◌≤◌, ◌++◌, true, false, ◌&&◌, nat_eq, cond, take, drop, add-zero, and_parts, length-append, take-append-drop, filter-append, All-filter, filter_passes, port_plan_at, IsPort, ports_of_sub, index_of, SubVl, All}
 use Rattle.std.proofs.lemmas.List.Sums.{fails_before_first, length-filter}
 use Rattle.std.proofs.lemmas.List.Quantifiers.{position-Some}
 use Rattle.std.proofs.lemmas.List.Filters.{length-filter_more}
@@ -77,17 +77,13 @@ pub record IsAt (config : Plan) (place k s : ℕ) : Type 0 where
   pub sub : (port_plan_at config.ports place).sub ≡ s
 
 module _ (config : Plan) (place k s : ℕ) (at : IsAt config place k s) where
-  -- The port is of that sub-VL.
-  pub own_at : on_sub_vl (link_plan_at config.links k).id.0 s (port_plan_at config.ports place) ≡ true
-  own_at = grind arith
-
   -- Its index is the number of earlier ports of its sub-VL.
   pub index_at : index_of config.ports place ≡ seats config.ports place (link_plan_at config.links k).id.0 s
   index_at = cc
 
   -- The number after it is one higher.
   pub seat_at : seats config.ports (place + 1) (link_plan_at config.links k).id.0 s ≡ index_of config.ports place + 1
-  seat_at = grind (arith, index_at, own_at, seats_more)
+  seat_at = grind (arith, index_at, seats_more)
 
 -- The numbers of the other sub-VLs are the same.
 pub others_at : (config : Plan) (place vl t : ℕ) → place < length config.ports

@@ -1,13 +1,9 @@
 -- The queues of an emitter take back the senders of its ports.
-use Rattle.afdx_tx.proofs.Names.{ℕ, zero, suc, ◌≡◌, ◌+◌, ◌<◌, ◌≤◌, List, [], ◌∷◌, Bool, true, false, cond, length, set, arith, refl, ap, ◌∙◌, sym, subst, ⊎_elim, All, Contains, and_parts, cases_lt, eqb-true, length-set, get_or-set_same, All-contains, Contains-push, Contains-append_left, VlId, PortPlan, Plan, IsPlan, link_plan_at, port_plan_at, link_place, SenderView, ReceiverView, Brought, brought_by, Seen, receiving, gathered, queue_of, IsReceiving, Held, LinkState, held_at, link_at, no_link, TakesBack, back_of, LinkTakesBack, AreLinksOf, AreReceiving, ports_of_sub, queues_in, PortView, HasEveryPlace, BelongsTo, HasOwnMessages, index_of, OnlyTakesBack, OnlyTakeBack, IsTakenBack, AreFull}
+use Rattle.afdx_tx.proofs.Names.{ℕ, zero, suc, ◌≡◌, ◌+◌, ◌<◌, ◌≤◌, List, [], ◌∷◌, Bool, true, false, cond, length, set, arith, refl, ap, ◌∙◌, sym, ⊎_elim, All, Contains, and_parts, eqb-true, length-set, get_or-set_same, All-contains, Contains-push, Contains-append_left, VlId, PortPlan, Plan, IsPlan, link_plan_at, port_plan_at, link_place, SenderView, Brought, brought_by, Seen, receiving, gathered, Held, LinkState, held_at, link_at, no_link, TakesBack, back_of, LinkTakesBack, AreLinksOf, AreReceiving, ports_of_sub, queues_in, PortView, HasEveryPlace, BelongsTo, HasOwnMessages, index_of, OnlyTakesBack, OnlyTakeBack, IsTakenBack, AreFull}
 use Rattle.std.proofs.Math.Seq.{take-length}
-use Rattle.afdx_tx.proofs.KeptLinks.{one_link, one_count, one_each, KeepLinks}
+use Rattle.afdx_tx.proofs.KeptLinks.{one_link, one_count, one_each}
 use Rattle.afdx_tx.proofs.SoundEmitter.{plan_is, count_is}
 use Rattle.afdx_tx.proofs.PortLink.{seats, seats_more, on_sub_vl, link_within}
-
--- The queue still has its receiver.
-only_receiving : (old new : Seen) → OnlyTakesBack old new → IsReceiving old → IsReceiving new
-only_receiving old new only may = grind arith
 
 -- The senders that were back still are, and so is this one.
 more_back : (old : Seen) (sender : SenderView) (new : Seen) (b : Brought) → TakesBack old sender new → Contains (back_of old) b
@@ -34,15 +30,6 @@ take_one links k s sender new within takes =
     let all = one_each links k s new within takes.same SubTakes
     (grind arith) here in
     grind (arith, length-set, one_link, one_count)
-
--- The relation of links is transitive.
-pub take_on : (a b c : List LinkState) → OnlyTakeBack a b → OnlyTakeBack b c → OnlyTakeBack a c
-take_on a b c p q = grind arith
-
--- The queue of each sub-VL has the same identity.
-pub back_name : (old new : List LinkState) (k s : ℕ) → OnlyTakeBack old new
-    → queue_of (held_at (link_at new k).subs s).seen ≡ queue_of (held_at (link_at old k).subs s).seen
-back_name old new k s t = grind arith
 
 -- A port that was taken back still is.
 pub stays_back : (config : Plan) (links : List LinkState) (k s : ℕ) (sender : SenderView) (new : LinkState) (port : PortView)
@@ -98,7 +85,7 @@ full_back config old new ports valid of may takes belong every back k lt s slt =
     let own = ap (λ (h : Held). h.ports) (takes.helds k s) ∙ of.ports k s below sub
     ∙ ap (λ plan. ports_of_sub config.ports plan.id.0 s) (sym planned) in
     record {
-      receiving = only_receiving _ _ (takes.queues k s) (may k s below sub);
+      receiving = grind arith;
       every = λ p plt.
           let there = indexed config.ports (link_plan_at config.links k).id.0 s p (rw own at plt) in
           let place = there.0 in

@@ -1,5 +1,5 @@
 -- The worked drain, by computation.
-use Rattle.afdx_tx.proofs.Names.{◌≡◌, ℕ, zero, suc, ◌<◌, ◌≤◌, [], ◌∷◌, length, true, None, refl, ap, List, arith, inl, inr, IsAllDone, A, blanked, IsLater, latest, IsReleased, Owes, Nothing, Released, Drains, stream_at, owed_at, AreDrained, DrainsOne, no_lines, one_line, fragments_at, log, B, entry, both_hands}
+use Rattle.afdx_tx.proofs.Names.{◌≡◌, ℕ, ◌<◌, [], ◌∷◌, length, true, None, refl, List, arith, IsAllDone, A, IsLater, latest, IsReleased, Owes, Released, Drains, stream_at, owed_at, AreDrained, DrainsOne, no_lines, one_line, fragments_at, log}
 use Rattle.afdx_plan.specs.Demo.{demo_plan, demo_link}
 use Rattle.afdx_plan.proofs.DemoPlan.{demo_valid}
 use Rattle.afdx_frame.specs.Checksum.{checksum}

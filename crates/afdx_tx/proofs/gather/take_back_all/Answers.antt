@@ -1,10 +1,10 @@
-use Rattle.afdx_tx.proofs.Names.{rules, map-id, ℕ, ◌≡◌, ◌<◌, ◌∙◌, length, get_or, set, arith, ap, sym, subst, get_or_default, All-push, All-weaker, PortPlan, link_place, link_at, no_link, queues_in, BelongsTo, queue_for, queue_at, IsTakenBack}
+use Rattle.afdx_tx.proofs.Names.{rules, map-id, ◌≡◌, ◌<◌, ◌∙◌, length, get_or, set, arith, ap, get_or_default, All-push, All-weaker, PortPlan, link_place, link_at, no_link, queues_in, BelongsTo, queue_for, queue_at, IsTakenBack}
 use Rattle.std.proofs.lemmas.Iterator.Adapters.{YieldsList-from_vec}
 use Rattle.std.proofs.lemmas.Iterator.Consumers.{YieldsList-end, YieldsList-turn}
 use Rattle.afdx_tx.proofs.SoundEmitter.{count_is}
 use Rattle.afdx_tx.proofs.OpenedPorts.{queue_at_is}
 use Rattle.afdx_tx.proofs.PortMessages.{sub_within}
-use Rattle.afdx_tx.proofs.TakenBack.{take_one, take_on, back_name, stays_back, comes_back}
+use Rattle.afdx_tx.proofs.TakenBack.{take_one, stays_back, comes_back}
 use Rattle.afdx_tx.proofs.gather.take_back_all.Goals.{After-place, After-into_sender}
 use Rattle.afdx_tx.proofs.gather.take_back_all.Goals as goal
 
@@ -39,11 +39,7 @@ take_back-requires-clause-own c =
     let k = c.link_of-link.result in
     let s = c.port_at-plan.result.sub in
     let belongs = own (goal.at.take_back-requires-clause-own c).After-place in
-    rw (link_is c, c.into_sender.ensures.sender) (back_name old c.loop-port.links k s c.loop-port.invariant.same
-    ∙ sym (queue_at_is old k s)
-    ∙ ap (λ (n : ℕ). queue_at (queues_in old) n s) c.link_of-link.ensures.value
-    ∙ ap (queue_for c.args.config.now (queues_in old)) (plan_is c belongs)
-    ∙ belongs.queue)
+    grind (arith, link_is, queue_at_is, queue_at, queues_in, queue_for, plan_is)
 
 pub loop-port-preserved : goal.loop-port-preserved
 loop-port-preserved c =
@@ -58,7 +54,7 @@ loop-port-preserved c =
     let plan = plan_is before (own (goal.at.loop-port-preserved c).After-place) in
     let takes = rw (c.into_sender.ensures.sender, link_is before) at c.take_back.ensures in
     record {
-      same = take_on c.args.links.now links (set links k new) old.same (take_one links k s port.sender new (within before) takes);
+      same = grind (arith, set, take_one, within);
       back = All-push (IsTakenBack config (set links k new)) c.loop-port.yielded port
           (All-weaker (IsTakenBack config links) (IsTakenBack config (set links k new))
           (λ other was. stays_back config links k s port.sender new other (within before) takes was) c.loop-port.yielded old.back)

@@ -1,6 +1,6 @@
 use Rattle.afdx_tx.proofs.Names.{◌∙◌, ◌<◌, length, arith, subst, get_or_default, LinkState, no_link, ClosesLink}
 use Rattle.afdx_tx.proofs.SoundEmitter.{count_is}
-use Rattle.afdx_tx.proofs.KeptLinks.{kept_sound, reaches_kept}
+use Rattle.afdx_tx.proofs.KeptLinks.{kept_sound}
 use Rattle.afdx_tx.proofs.ClosedEmitter.{links_closed, closed_kept}
 use Rattle.afdx_tx.proofs.transmitter.Transmitter.close.Goals as goal
 
@@ -14,5 +14,5 @@ invariant_of-self g c =
     let kept = closed_kept links _ (links_closed links c.in-Some.place c.args.sub c.close.result c.close.new.self
     (subst (λ (l : LinkState). ClosesLink l c.args.sub c.close.result c.close.new.self) here c.close.ensures) within) in (
       kept_sound c.self.inside.config links _ c.self.inside.mux c.self.inside.moment kept c.self.invariant.0,
-      reaches_kept links _ c.self.inside.board kept c.self.invariant.1,
+      grind arith,
     )

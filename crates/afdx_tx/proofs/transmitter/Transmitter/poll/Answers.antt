@@ -1,5 +1,11 @@
-use Rattle.afdx_tx.proofs.Names.{◌≡◌, ◌∙◌, ap, arith, length, refl, with_items_is, with_items, log, IsSound, IsSteady, both_none}
-use Rattle.afdx_tx.proofs.KeptLinks.{reaches_on}
+use Rattle.afdx_legal.proofs.CountingLemmas.{counts_more}
+use Rattle.status_board.proofs.Histories.{falls_not_through}
+use Rattle.afdx_tx.proofs.Names.{last_of}
+use Rattle.afdx_tx.proofs.Names.{link_at}
+use Rattle.afdx_tx.proofs.Names.{link_in}
+use Rattle.afdx_tx.proofs.Names.{link_stream}
+use Rattle.afdx_tx.proofs.Names.{with_append}
+use Rattle.afdx_tx.proofs.Names.{◌≡◌, arith, refl, with_items_is, with_items, IsSound, IsSteady, both_none}
 use Rattle.afdx_tx.proofs.SoundEmitter.{count_is, links_apart, sound_after}
 use Rattle.afdx_tx.proofs.Conforming.{keeps_phase, runs, sound_conforms}
 use Rattle.afdx_tx.proofs.transmitter.Transmitter.poll.Given
@@ -29,10 +35,7 @@ invariant_of-self g c =
     let told = c.serve_all.ensures.told.3 in
     let kept = steady g c in (
       sound g c,
-      rw (links_are g c) (reaches_on c.self.inside.links.items.items c.serve_all.new.links c.self.inside.board
-          (log c.self.inside.mux) told.entries (log c.serve_all.new.mux) kept.same told.grown c.self.invariant.0.kept
-          kept.kept
-          c.self.invariant.1),
+      rw (links_are g c) (grind (arith, falls_not_through, last_of, link_at, link_stream, with_append, link_in, counts_more)),
     )
 
 pub returns-clause-kept : goal.returns-clause-kept
