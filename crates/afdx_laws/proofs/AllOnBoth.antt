@@ -33,7 +33,7 @@ own_in_b : (vl : ℕ) (a b : List Entry) → length a < length b → AreTwins si
 own_in_b vl a b shorter twins = grind (
   arith,
   nat_tests,
-  stream_front A vl b a (twins.a_shorter (omega arith)),
+  stream_front A vl b a (grind arith),
   take_all,
   side_side A A (link_stream vl b),
   stream_side A vl b,

@@ -8,7 +8,7 @@ use Rattle.afdx_laws.proofs.Receiving.{exactly_once_holds}
 use Rattle.afdx_laws.proofs.Losing.{loss_masked_holds}
 use Rattle.afdx_laws.proofs.ListLemmas.{append_same, map_same}
 use Rattle.afdx_laws.proofs.InOrder.{in_order_holds}
-use Rattle.afdx_laws.proofs.Reading.{same_fragment, read_any, reads_all, reads_frames, of_sub_is, length-datagram, drop-datagram}
+use Rattle.afdx_laws.proofs.Reading.{read_any, reads_all, reads_frames, of_sub_is, length-datagram, drop-datagram}
 
 fragments_received : (got sent : List (List ℕ)) → map (twin_of A) got ≡ map (twin_of A) sent → map fragment_in got ≡ map fragment_in sent
 fragments_received got sent same =
@@ -16,8 +16,8 @@ fragments_received got sent same =
       arith,
       ap (map fragment_in) same,
       map-map,
-      map_same fragment_in (λ f. fragment_in (twin_of A f)) got (λ f. sym (same_fragment A f)),
-      map_same fragment_in (λ f. fragment_in (twin_of A f)) sent (λ f. sym (same_fragment A f)),
+      map_same fragment_in (λ f. fragment_in (twin_of A f)) got (grind arith),
+      map_same fragment_in (λ f. fragment_in (twin_of A f)) sent (grind arith),
     )
 
 sub_take : (sub n : ℕ) (stream : List (List ℕ))
@@ -50,7 +50,7 @@ few_bytes end_system sub accepted sent =
 own_fragments : (sub count : ℕ) (stream got : List (List ℕ)) → map (twin_of A) got ≡ take count (map (twin_of A) stream)
     → of_sub sub (map fragment_in got) ≡ map fragment_in (those_with sub_in sub (take count stream))
 own_fragments sub count stream got first =
-    ap (of_sub sub) (fragments_received got (take count stream) (first ∙ take-map (twin_of A) count stream))
+    ap (of_sub sub) (grind (arith, fragments_received, take, take-map, twin_of))
     ∙ of_sub_is sub (take count stream)
 
 pub first_come : (end_system room sub count : ℕ) (accepted : List Sent) (net : Net) (stream got : List (List ℕ))

@@ -7,7 +7,7 @@ use Rattle.std.proofs.Math.Nat.{mul-add, le-min}
 use Rattle.vl_shaper.specs.declared.shaper.Stamp.{Stamp}
 
 price_le : (charge : Charge) (rule : Rule) (frame : Arrival) → frame.size ≤ rule.lmax → price charge rule frame ≤ rule.lmax * rule.gap
-price_le by_bytes rule frame h = mul-le frame.size rule.gap rule.lmax rule.gap h (omega arith)
+price_le by_bytes rule frame h = grind (arith, mul-le)
 price_le by_frames rule frame h = omega arith
 
 -- the credit when a frame arrives: its price, and what accrued while it was on its way
@@ -76,7 +76,7 @@ are_on_time gap lmax jitter around before (r ∷ s ∷ later) (p ∷ q ∷ passa
 pub stream_passes_holds : StreamPasses
 stream_passes_holds charge gap lmax jitter around stream passages spaced small way =
     none_dropped_holds charge (rule_around gap lmax jitter around) passages
-    (are_on_time gap lmax jitter around None stream passages spaced small way)
+    (grind (arith, are_on_time))
 
 one_passed : (charge : Charge) (rule : Rule) (account : Account) (f : Arrival) (later : List Arrival)
     → price charge rule f ≤ (filled rule account f.at).credit → cost charge rule (passed charge rule account (f ∷ later))

@@ -15,18 +15,18 @@ own_twins net [] all = refl
 own_twins net (x ∷ xs) all = cons_same (all 0 x (omega arith)) (own_twins net xs (λ k d h. all (suc k) d (omega arith)))
 
 pub twin_twin : (first second : Net) (xs : List (List ℕ)) → map (twin_of second) (map (twin_of first) xs) ≡ map (twin_of second) xs
-twin_twin first second xs = map-map (twin_of second) (twin_of first) xs ∙ map_same _ (twin_of second) xs (λ x. twin_twice second first x)
+twin_twin first second xs = grind (arith, map-map, twin_of, map_same, twin_twice)
 
 pub longer_b : (a b : List (List ℕ)) → length a < length b → longer a b ≡ b
-longer_b a b shorter = ap (λ (t : Bool). cond t b a) (lt-ltb (length a) (length b) shorter)
+longer_b a b shorter = grind arith
 
 pub longer_a : (a b : List (List ℕ)) → length b ≤ length a → longer a b ≡ a
-longer_a a b as_long = ap (λ (t : Bool). cond t b a) (le-ltb (length a) (length b) as_long)
+longer_a a b as_long = grind arith
 
 pub sending_to : {end_system room sub : ℕ} {accepted : List Sent} {net : Net} {handed : List (List ℕ)}
     → IsLinkOf end_system room → All (IsSent sub) accepted → IsHanded end_system room sub accepted net handed
     → IsSending end_system room sub accepted net handed
-sending_to link sent own = record { link = link; sent = sent; frames = own.frames; first = own.first }
+sending_to link sent own = grind arith
 
 -- the longer list is sent to one network, and both carry it
 pub record IsCarriedLonger (end_system room sub lag : ℕ) (accepted : List Sent) (a b : List (List ℕ)) : Type 0 where

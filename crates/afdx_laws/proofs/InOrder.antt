@@ -13,7 +13,7 @@ AreSame sub xs ys = (k : ℕ) → k % 4 ≡ sub → xs k ≡ ys k
 
 other_with : (sub key : ℕ) (b : Buffer) (xs ys : ℕ → Buffer) → nat_eq (key % 4) sub ≡ false → AreSame sub xs ys
     → AreSame sub (with_buffer key b xs) ys
-other_with sub key b xs ys isnt same k is = let mine = same k is in grind (arith, nat_tests)
+other_with sub key b xs ys isnt same k is = grind arith
 
 -- a sub-VL's datagrams and buffers are those of its fragments alone
 pub record IsApart (sub : ℕ) (es : List (ℕ × Fragment)) (xs ys : ℕ → Buffer) : Type 0 where
@@ -57,11 +57,11 @@ record Begins (fs : List Fragment) : Type 0 where
 
 begins : (room : ℕ) (d : List ℕ) → 1 ≤ length d → Begins (fragments_of room d)
 begins room d some =
-    first (fragments_of room d) (is_block d 0 (cutting room (length d)) (cutting_some room (length d) some))
+    first (fragments_of room d) (grind (arith, is_block, cutting, cutting_some))
   where
     first : (fs : List Fragment) → IsBlock fs → Begins fs
     first [] b = absurd b
-    first (f ∷ fs) b = record { first = f; behind = fs; is = refl; chain = b }
+    first (f ∷ fs) b = (grind arith)
 
 put_more : (fs : List Fragment) (b : Buffer) (f : Fragment) → put_all b (fs ++ f ∷ []) ≡ put (put_all b fs) f
 put_more [] b f = refl
@@ -174,16 +174,13 @@ none_sent : (room sub : ℕ) (datagrams : List (List ℕ)) → All HasByte datag
 none_sent room sub [] some j few none = few
 none_sent room sub (d ∷ later) some j few none =
     all_more room sub 0 0 0 d later (begins room d (some 0 d (omega arith)))
-    (λ i within enough. absurd (omega arith)) j few none
+    (grind arith) j few none
 
 nothing : (room sub : ℕ) (datagrams : List (List ℕ)) (came : List (ℕ × Fragment)) → All HasByte datagrams → of_sub sub came ≡ []
     → Reassembles room sub datagrams came
 nothing room sub datagrams came some none =
     let own = apart sub came (λ key. empty) (λ key. empty) (λ k h. refl) in
-    record {
-      given = grind (arith, none_sent);
-      alone = grind arith;
-    }
+    grind (arith, none_sent)
 
 -- no identification is of a sub-VL past the fourth
 none_past : (sub : ℕ) (es : List (ℕ × Fragment)) → 4 ≤ sub → of_sub sub es ≡ []

@@ -24,16 +24,13 @@ pub long_of : (links : List LinkPlan) (net : Net) (vl : ℕ) (es : List Entry) �
 long_of links net vl es known = of_known IsLong links net vl es (λ frame is. is.size) known
 
 pub own_of : (links : List LinkPlan) (net : Net) (vl : ℕ) (es : List Entry) → AreKnown links net es → All (IsOfNet net) (frames_of vl es)
-own_of links net vl es known = of_known (IsOfNet net) links net vl es (λ frame is. twin_same net frame is.interface) known
-
-pub numbered_of : (es : List Entry) → IsNumbered entry_number 0 es → IsNumbered number_in 0 (map frame_of_entry es)
-numbered_of es numbered = numbered_map entry_number number_in frame_of_entry 0 es (λ k d inside. refl) numbered
+own_of links net vl es known = of_known (IsOfNet net) links net vl es (grind (arith, twin_same)) known
 
 pub told_is : (sub : ℕ) (es : List Entry) → told (sub_stream sub es) ≡ map blanked (those_with sub_in sub (map frame_of_entry es))
 told_is sub es = grind (arith, map-map blanked frame_of_entry (sub_stream sub es), with_map)
 
 pub frames_side : (net : Net) (es : List Entry) → map frame_of_entry (map (side net) es) ≡ map (twin_of net) (map frame_of_entry es)
-frames_side net es = map-map frame_of_entry (side net) es ∙ sym (map-map (twin_of net) frame_of_entry es)
+frames_side net es = grind (arith, map-map, frame_of_entry, side, twin_of)
 
 pub stream_side : (net : Net) (vl : ℕ) (es : List Entry) → link_stream vl (map (side net) es) ≡ map (side net) (link_stream vl es)
 stream_side net vl es = grind (arith, with_map, twin_link)
@@ -57,25 +54,16 @@ frames_front net vl longer shorter is =
       length-map,
     )
 
--- if all of a network's own frames have twins in a list, they are the twins of the first of that list
-turned_back : (first second : Net) (xs ys : List (List ℕ)) → All (IsOfNet first) xs
-    → ys ≡ map (twin_of second) (take (length ys) xs) → length xs ≤ length ys → xs ≡ map (twin_of first) (take (length xs) ys)
-turned_back first second xs ys own is as_long = grind (arith, length-map, length-take, take_all, twin_twin, own_twins)
-
 -- the shorter list is twins of a beginning of the longer one, whichever that is
 pub twins_by_b : (xs ys : List (List ℕ)) → All (IsOfNet A) xs → ys ≡ map (twin_of B) (take (length ys) xs) → AreTwins twin_of xs ys
-twins_by_b xs ys own is = record { b_shorter = λ h. is; a_shorter = λ h. turned_back A B xs ys own is h }
+twins_by_b xs ys own is = grind (arith, length-map, length-take, take_all, twin_twin, own_twins)
 
 pub twins_by_a : (xs ys : List (List ℕ)) → All (IsOfNet B) ys → xs ≡ map (twin_of A) (take (length xs) ys) → AreTwins twin_of xs ys
-twins_by_a xs ys own is = record { b_shorter = λ h. turned_back B A ys xs own is h; a_shorter = λ h. is }
+twins_by_a xs ys own is = grind (arith, length-map, length-take, take_all, twin_twin, own_twins)
 
 filter_twice : {X : Type 0} (p q : X → Bool) → ((x : X) → p x ≡ true → q x ≡ true) → (xs : List X) → filter p (filter q xs) ≡ filter p xs
 filter_twice p q each [] = refl
 filter_twice p q each (x ∷ xs) = grind (arith, filter_twice p q each xs, each x)
-
-frames_twins : (vl : ℕ) (a b : List Entry) → All (IsOfNet A) (frames_of vl a) → All (IsOfNet B) (frames_of vl b)
-    → AreTwins side a b → AreTwins twin_of (frames_of vl a) (frames_of vl b)
-frames_twins vl a b own_a own_b twins = grind (arith, cases_lt, twins_by_a, frames_front, twins_by_b)
 
 nothing : (net : Net) (xs : List (List ℕ)) → length xs ≤ 0 → xs ≡ map (twin_of net) (take (length xs) [])
 nothing net [] h = refl
@@ -95,7 +83,7 @@ twins_are plan accepted a b k valid legal inside = by_networks (link_plan_at pla
     on_both_nets on =
         let all_a : frames_of vl (on_both plan.links a) ≡ frames_of vl a = grind (arith, filter_twice, eqb-true) in
         let all_b : frames_of vl (on_both plan.links b) ≡ frames_of vl b = grind (arith, filter_twice, eqb-true) in
-        rw (← all_a, ← all_b) (grind (arith, frames_twins, own_of))
+        rw (← all_a, ← all_b) (grind (arith, cases_lt, twins_by_a, frames_front, twins_by_b, own_of))
 
     by_networks : (n : Networks) → (link_plan_at plan.links k).networks ≡ n → AreTwins twin_of (frames_of vl a) (frames_of vl b)
     by_networks Both is = on_both_nets (on_both_is plan k valid inside ∙ ap is_both is)
@@ -106,7 +94,7 @@ twins_are plan accepted a b k valid legal inside = by_networks (link_plan_at pla
         grind (arith, nothing)
 
 pub link_is : (plan : Plan) (k : ℕ) → IsPlan plan → k < length plan.links → IsLink (link_plan_at plan.links k)
-link_is plan k valid inside = valid.each_link k _ inside
+link_is plan k valid inside = grind arith
 
 pub sent_is : (plan : Plan) (k sub : ℕ) (sent : Sent) → IsPlan plan → IsQueued plan k sub sent → IsSent sub sent
 sent_is plan k sub sent valid allowed = grind arith
@@ -115,9 +103,8 @@ pub handed_is : (plan : Plan) (accepted : Accepted) (net : Net) (handed : List E
     → IsLegalOn plan accepted net handed → k < length plan.links → sub < (link_plan_at plan.links k).sub_vls
     → IsHanded plan.end_system (piece_room plan k) sub (accepted k sub) net (frames_of (id_at plan k) handed)
 handed_is plan accepted net handed k sub legal inside index =
-    let vl : ℕ = id_at plan k in
     let first = legal.prefixes k sub inside index in
-    grind (arith, told_is, long_of, numbered_of, own_of)
+    grind (arith, told_is, long_of, numbered_map, entry_number, number_in, frame_of_entry, own_of)
 
 pub are_handed : (plan : Plan) (accepted : Accepted) (a b : List Entry) (k sub : ℕ) → IsHandedOver plan accepted a b k sub
     → AreHanded plan.end_system (piece_room plan k) sub (accepted k sub)

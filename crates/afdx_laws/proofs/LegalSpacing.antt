@@ -36,7 +36,7 @@ short_message end_system lmax place sent net least greatest port =
 
 short_messages : (accepted : List Sent) (end_system lmax sub place : ℕ) (net : Net) → 64 ≤ lmax → lmax ≤ 1518
     → All (IsSent sub) accepted → All (IsShort lmax) (fragments_from end_system (room_of lmax) net place accepted)
-short_messages [] end_system lmax sub place net least greatest sent = All-nil (IsShort lmax)
+short_messages [] end_system lmax sub place net least greatest sent = grind arith
 short_messages (s ∷ later) end_system lmax sub place net least greatest sent =
     All-append (IsShort lmax) (fragments_at end_system (room_of lmax) net place s)
     (fragments_from end_system (room_of lmax) net (suc place) later)

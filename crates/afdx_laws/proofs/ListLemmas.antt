@@ -21,11 +21,10 @@ nil_begins (x ∷ xs) ys e = cc
 pub all_front : {X : Type 0} (P : X → Type 0) (xs rest ys : List X) → xs ++ rest ≡ ys → All P ys → All P xs
 all_front {X = X} P xs rest ys is all =
     subst (λ (zs : List X). All P zs) (take-append_seam xs rest)
-    (All-take P (length xs) (xs ++ rest) (subst (λ (zs : List X). All P zs) (sym is) all))
+    (All-take P (length xs) (xs ++ rest) (grind arith))
 
 pub map_same : {X Y : Type 0} (f g : X → Y) (xs : List X) → ((x : X) → f x ≡ g x) → map f xs ≡ map g xs
-map_same f g [] same = refl
-map_same f g (x ∷ xs) same = cons_same (same x) (map_same f g xs same)
+map_same f g xs same = grind arith
 
 pub other_length : {X : Type 0} {xs ys : List X} → nat_eq (length xs) (length ys) ≡ false → xs ≡ ys → ⊥
 other_length other is = grind arith
@@ -37,7 +36,7 @@ pub below_both : (P : ℕ → ℕ → Type 0) (most : ℕ → ℕ) → most 0 �
 below_both P most one p k s in_k in_s = grind arith
 
 pub fails_by : {P Q : Type 0} → (P → Q) → (Q → ⊥) → BothFail P Q
-fails_by law fails = record { premise = λ p. fails (law p); conclusion = fails }
+fails_by law fails = grind arith
 
 pub needs_each : {X Y Z : Type 0} {P : X → Type 0} {Q : Y → Type 0} {R : Z → Type 0} {Says : X → Y → Z → Type 0}
     {x no_x : X} {y no_y : Y} {z no_z : Z} → ((x : X) (y : Y) (z : Z) → P x → Q y → R z → Says x y z)

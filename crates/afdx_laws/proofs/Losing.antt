@@ -4,7 +4,7 @@ use Rattle.afdx_laws.proofs.Names.{refl, ap, sym, ◌∙◌, arith, Some, None, 
 use Rattle.afdx_laws.proofs.Names.{sequence_number, Net, A, twin_of, Tolerance, State, other, begin, is_accepted, is_valid, is_ahead, received, carried}
 use Rattle.afdx_laws.proofs.Names.{with_seen, with_accepted, seen_on, number_in, same_net, AreWithin, StartsFirst, AreClose, BeginsFirst, frame_at, LossMasked}
 use Rattle.afdx_laws.proofs.Names.{FirstComes, MaskedFromFirst, NumbersClash}
-use Rattle.afdx_laws.proofs.NumberLemmas.{last, new_next, valid_next, old_copy, old_is_ahead, next_is, differ}
+use Rattle.afdx_laws.proofs.NumberLemmas.{last, valid_next, old_copy, old_is_ahead, next_is, differ}
 use Rattle.afdx_laws.proofs.Receiving.{IsPlaced, grows, placed}
 
 is_next : (c i high : ℕ) → high ≤ i + 254 → c ≤ high → i < c + 255 → (high ≡ 0 → i ≡ 0) → (high ≡ 0) ⊎ (1 ≤ c)
@@ -21,7 +21,7 @@ dropped : (check : ℕ) (whole net : Net) (b c i high : ℕ) (state : State) →
     → b ≤ c → c ≤ high → (high ≡ 0 → i ≡ 0) → (high ≡ 0) ⊎ (1 ≤ c) → (same_net whole net ≡ true → i ≡ b)
     → (is_valid check (seen_on net state) (sequence_number i) && is_ahead 1 (last c) (sequence_number i)) ≡ false
     → (cond (same_net whole net) (b + 1) b ≤ c) × (1 ≤ c)
-dropped check whole net b c i high state some seen behind within first begun own drops = grind (arith, valid_next, new_next)
+dropped check whole net b c i high state some seen behind within first begun own drops = grind (arith, valid_next)
 
 -- the stream is accepted in order, at least as far as a place
 pub record Masks {F : Type 0} (h : F → F) (stream got : List F) (c reach : ℕ) : Type 0 where
@@ -93,7 +93,7 @@ starts whole n [] within begins = tt
 starts whole n ((net, i) ∷ es) within begins = grind (arith, within.0.in_order, begins i (carried (other whole) es))
 
 pub first_comes_holds : FirstComes
-first_comes_holds whole n came within begins = record { within = within; first = λ none. starts whole n came within begins }
+first_comes_holds whole n came within begins = grind (arith, starts)
 
 pub masked_from_first_holds : MaskedFromFirst
 masked_from_first_holds whole check stream came some frames within begins = grind (arith, loss_masked_holds, first_comes_holds)

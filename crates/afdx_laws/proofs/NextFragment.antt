@@ -20,7 +20,7 @@ none_in x [] none = tt
 none_in x (e ∷ es) none = grind (arith, nat_tests, none_in x es)
 
 distinct_of : (es : List Entry) → ((y : ℕ) → length (sub_stream y es) ≤ 1) → IsDistinct eqb (subs_of es)
-distinct_of [] one = IsDistinct-from_apart eqb [] (λ i j d before inside. absurd (omega arith))
+distinct_of [] one = grind (arith, IsDistinct-from_apart, eqb)
 distinct_of (e ∷ es) one = IsDistinct-cons eqb (sub_in e.frame) (subs_of es)
     (grind (arith, none_in, eq-eqb))
     (distinct_of es (λ y. fewer y (eqb (sub_in e.frame) y) (one y)))
@@ -29,7 +29,7 @@ distinct_of (e ∷ es) one = IsDistinct-cons eqb (sub_in e.frame) (subs_of es)
     fewer y t one = grind arith
 
 below_of : (n : ℕ) (es : List Entry) → All (IsOfOneOf n) es → (q : ℕ) → list_any (eqb q) (subs_of es) ≡ true → q < n
-below_of n [] of q any = absurd (false≢true any)
+below_of n [] of q any = grind arith
 below_of n (e ∷ es) of q any = grind (arith, nat_tests, below_of n es (λ k d h. of (suc k) d (omega arith)) q, of 0 e (omega arith))
 
 none_of : (x : ℕ) (es : List Entry) → All (λ (e : Entry). sub_in e.frame ≢ x) es → length (sub_stream x es) ≤ 0
@@ -39,7 +39,7 @@ none_of x (e ∷ es) others = rw (ne_eqb (sub_in e.frame) x (others 0 e (omega a
 
 before_is : (x : ℕ) (between : List Entry) (next : Entry) (after : List Entry)
     → All (λ (e : Entry). sub_in e.frame ≢ x) between → sub_in next.frame ≡ x → before_next x (between ++ next ∷ after) ≡ between
-before_is x [] next after others its = rw (eq-eqb (sub_in next.frame) x its) refl
+before_is x [] next after others its = grind arith
 before_is x (e ∷ es) next after others its = grind (
   arith,
   nat_tests,
@@ -60,7 +60,7 @@ between_of : (subs : ℕ) (stream : List Entry) (first : Entry) (between : List 
     → All (IsOfOneOf subs) stream → (n : AreNeighbours stream first between next)
     → All (IsOfOneOf subs) (first ∷ (between ++ next ∷ n.after))
 between_of subs stream first between next of n =
-    tail_at subs n.before (first ∷ (between ++ next ∷ n.after)) (subst (All (IsOfOneOf subs)) n.is of)
+    tail_at subs n.before (first ∷ (between ++ next ∷ n.after)) (grind arith)
 
 pub next_in_a_round : NextInARound
 next_in_a_round subs stream first between next turns of n =
@@ -77,14 +77,13 @@ next_in_a_round subs stream first between next turns of n =
 
 last_within : (most before : ℕ) (es : List Entry) (e : Entry) → FollowWithin most before (es ++ e ∷ [])
     → e.at ≤ before + (length es + 1) * most
-last_within most before [] e h = let a = h.0 in omega arith
+last_within most before [] e h = grind arith
 last_within most before (d ∷ es) e h = grind (arith, last_within most d.at es e h.1)
 
 pub next_in_time : NextInTime
 next_in_time subs gap late stream first between next turns of n follow =
     let round = next_in_a_round subs stream first between next turns of n in
-    let last = last_within (gap + late) first.at between next follow in
-    grind arith
+    grind (arith, last_within)
 
 pub next_polled_in_time : NextPolledInTime
 next_polled_in_time subs x gap late released polls xl some served paced has reach =

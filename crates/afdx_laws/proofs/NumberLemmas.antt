@@ -21,11 +21,8 @@ abbrev pub last : ℕ → Option ℕ
 last zero = None
 last (suc i) = Some (sequence_number i)
 
-pub new_next : (many a : ℕ) → 1 ≤ many → is_ahead many (last a) (sequence_number a) ≡ true
-new_next many a some = grind (arith, ahead_next, next_is)
-
 pub valid_next : (many a : ℕ) → 1 ≤ many → is_valid many (last a) (sequence_number a) ≡ true
-valid_next many a some = grind (arith, new_next)
+valid_next many a some = grind (arith, ahead_next, next_is)
 
 -- an old frame within 255 places isn't new
 pub old_copy : (many a b : ℕ) → a < b → b + many ≤ a + 255 → is_ahead many (last b) (sequence_number a) ≡ false

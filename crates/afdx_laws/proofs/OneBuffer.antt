@@ -25,7 +25,7 @@ keyed_end room most key d fits =
 
 pub sent_end : (datagrams : List (List ℕ)) (room sub place most : ℕ) → All (HasUpTo most) datagrams
     → All (EndsBefore most) (sent_from room sub place datagrams)
-sent_end [] room sub place most fit = All-nil (EndsBefore most)
+sent_end [] room sub place most fit = grind arith
 sent_end (d ∷ later) room sub place most fit =
     All-append (EndsBefore most) (keyed (identification place sub) (fragments_of room d))
     (sent_from room sub (suc place) later)

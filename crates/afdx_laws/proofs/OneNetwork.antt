@@ -20,7 +20,7 @@ all_its : (net : Net) (frames : List (List ℕ)) (before after : List (Net × Li
     → all_from net frames ≡ before ++ e ∷ after → (e.0 ≡ net) × (carried (other net) before ≡ [])
 all_its net [] [] after e is = absurd (nil_isnt_cons is)
 all_its net [] (x ∷ before) after e is = absurd (nil_isnt_cons is)
-all_its net (f ∷ fs) [] after e is = (sym (ap (λ (d : Net × List ℕ). d.0) (cons_parts is).0), refl)
+all_its net (f ∷ fs) [] after e is = grind arith
 all_its net (f ∷ fs) (x ∷ before) after e is =
     let parts = cons_parts is in
     grind (arith, all_its net fs before after e parts.1)

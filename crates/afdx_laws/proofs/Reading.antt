@@ -8,10 +8,6 @@ use Rattle.afdx_frame.proofs.PiecesAre.{pieces_are}
 use Rattle.afdx_frame.proofs.Datagram.{length-udp_header}
 use Rattle.afdx_laws.proofs.ListLemmas.{cons_parts, cons_same, append_same, nil_isnt_cons}
 
--- the interface identifier isn't read
-pub same_fragment : (net : Net) (frame : List ℕ) → fragment_in (twin_of net frame) ≡ fragment_in frame
-same_fragment net frame = grind arith
-
 -- the frame of a piece carries its fragment
 read_piece : (end_system : ℕ) (sent : Sent) (net : Net) (place : ℕ) (piece : Piece) (number : ℕ) → IsPort sent.port
     → length sent.bytes ≤ 8192 → IsPiece (length sent.bytes) piece
@@ -37,7 +33,7 @@ reads_pieces : (ps : List Piece) (end_system : ℕ) (sent : Sent) (net : Net) (p
     → AreRead (map (λ piece. unnumbered end_system sent.port sent.bytes place piece net) ps)
     (keyed (identification place sent.port.sub)
     (map (fragment_of (datagram end_system sent.port sent.bytes)) ps))
-reads_pieces [] end_system sent net place port most are = record { each = tt; are = refl }
+reads_pieces [] end_system sent net place port most are = grind arith
 reads_pieces (p ∷ ps) end_system sent net place port most are =
     grind (arith, read_piece, cons_same, reads_pieces ps end_system sent net place port most are.1)
 
@@ -49,13 +45,12 @@ length-datagram end_system sent = grind (arith, length-append, length-udp_header
 pub drop-datagram : (end_system : ℕ) (sent : Sent) → drop 8 (datagram end_system sent.port sent.bytes) ≡ sent.bytes
 unfolding datagram
 drop-datagram end_system sent = drop_at (udp_header end_system sent.port sent.bytes) sent.bytes 8
-    (length-udp_header end_system sent.port sent.bytes)
+    (grind (arith, length-udp_header))
 
 pub from_start : (room size : ℕ) → 25 ≤ room → room ≤ 1479 → AllByRecursion (IsPiece size) (pieces_from 0 (cutting room (8 + size)))
 from_start room size least greatest =
     let whole : 8 + size - 0 ≡ 8 + size = omega arith in
-    subst (λ (n : ℕ). AllByRecursion (IsPiece size) (pieces_from 0 (cutting room n))) whole
-    (pieces_are (8 + size) room size 0 (omega arith) least greatest (omega arith) (omega arith))
+    grind (arith, pieces_from, cutting, pieces_are)
 
 abbrev pub IsCut : (room end : ℕ) → Piece → Type 0
 IsCut room end piece = (piece.len ≤ room) × (piece.start + piece.len ≤ end)
@@ -72,7 +67,7 @@ cut_by_lies (suc turns) room n start end inside = elim (cases_lt room n) [
 
 pub cutting_lies : (room n : ℕ) → All (IsCut room n) (pieces_from 0 (cutting room n))
 unfolding cutting
-cutting_lies room n = All-from_recursion (IsCut room n) (pieces_from 0 (cutting room n)) (cut_by_lies n room n 0 n (omega arith))
+cutting_lies room n = grind (arith, All-from_recursion, pieces_from, cutting, cut_by_lies)
 
 reads_message : (end_system room : ℕ) (sent : Sent) (net : Net) (place : ℕ) → 25 ≤ room → room ≤ 1479
     → IsPort sent.port → length sent.bytes ≤ 8192 → AreRead (fragments_at end_system room net place sent)
@@ -103,8 +98,8 @@ reads_all (sent ∷ later) end_system room sub place net least greatest are =
 -- frames that are the first of these fragments are read as the first of these
 pub reads_frames : (frames us rest : List (List ℕ)) → AllByRecursion IsRead us → All IsLong frames → us ≡ map blanked frames ++ rest
     → map read_any us ≡ map fragment_in frames ++ map read_any rest
-reads_frames [] us rest each long is = ap (map read_any) is
-reads_frames (f ∷ frames) [] rest each long is = absurd (nil_isnt_cons is)
+reads_frames [] us rest each long is = cc
+reads_frames (f ∷ frames) [] rest each long is = cc
 reads_frames (f ∷ frames) (u ∷ us) rest each long is = grind (
   arith,
   take_all,
@@ -115,4 +110,4 @@ reads_frames (f ∷ frames) (u ∷ us) rest each long is = grind (
 )
 
 pub of_sub_is : (sub : ℕ) (frames : List (List ℕ)) → of_sub sub (map fragment_in frames) ≡ map fragment_in (those_with sub_in sub frames)
-of_sub_is sub frames = with_map sub_in (λ (e : ℕ × Fragment). e.0 % 4) fragment_in sub (λ frame. refl) frames
+of_sub_is sub frames = grind (arith, with_map, sub_in, fragment_in)

@@ -59,7 +59,7 @@ skew_is_near_holds gap delay released at arrivals some apart forward delivered b
     ]
 
 both_delivered : IsDelivered 400 released_at arrival_of both_copies
-both_delivered [] after net frame is = (omega arith, omega arith)
+both_delivered [] after net frame is = grind arith
 both_delivered (x ∷ []) after net frame is = grind arith
 both_delivered (x ∷ y ∷ before) after net frame is = grind (arith, ap length is, length-append)
 

@@ -13,7 +13,7 @@ use Rattle.afdx_laws.proofs.WholeHanded.{own_lists_arrive_holds}
 use Rattle.afdx_laws.proofs.WorkedMessage.{few_are_near, not_first, too_few, close_by_test}
 
 byte_queued : (carriers : Networks) (byte : ℕ) → IsQueued (demo_on carriers) 0 0 (record { port = demo_port; bytes = byte ∷ [] })
-byte_queued carriers byte = record { port = (0, omega arith, refl); over = refl; its = refl; some = omega arith; most = omega arith }
+byte_queued carriers byte = grind arith
 
 one_handed : IsHandedOver demo_plan one_byte_accepted (one_entry A) (one_entry B) 0 0
 unfolding checksum addresses header_front internet_header link_header udp_header datagram unnumbered cutting fragments_at
@@ -25,7 +25,7 @@ one_is_legal = record {
   handed = one_handed;
   carry = record { on_a = ([], refl); on_b = ([], refl); near = few_are_near 1 two_arrivals (omega arith) };
   message = refl;
-  way = (record { released = refl; size = refl; after = omega arith; soon = omega arith }, tt);
+  way = grind arith;
   passes = refl;
 }
 
@@ -57,7 +57,7 @@ one_is_whole = record {
 }
 
 one_on : IsOn demo_plan 0 0 0
-one_on = record { within = omega arith; link = refl; its = refl }
+one_on = grind arith
 
 other_lost : OwnComes other_own two_arrivals → ⊥
 other_lost lists = lost lists.sent (sym one_is_legal.message ∙ lists.are) (lists.ports 0 one_on)
@@ -100,25 +100,12 @@ pub comes_from_one : ComesFromOne
 unfolding checksum addresses header_front internet_header link_header udp_header datagram unnumbered cutting fragments_at
 comes_from_one = grind (arith, byte_queued OnlyA 1, demo_with_valid, nil_isnt_cons)
 
-one_on_both : All IsOnBoth (demo_on Both).links
-one_on_both = All-from_recursion IsOnBoth (demo_on Both).links (refl, tt)
-
 pub are_twins_of_one : AreTwinsOfOne
 unfolding checksum addresses header_front internet_header link_header udp_header datagram unnumbered
-are_twins_of_one = record {
-  both = one_on_both;
-  legal = one_handed.legal;
-  twins = all_on_both_holds (demo_on Both) one_byte_accepted (one_entry A) (one_entry B) one_on_both one_handed.legal;
-  own = refl;
-  alone = λ all. let both : OnlyA ≡ Both = all 0 demo_link (omega arith) in cc;
-  cut = refl;
-}
-
-two_allowed : All (IsQueued demo_plan 0 0) (two_accepted 0 0)
-two_allowed = All-from_recursion (IsQueued demo_plan 0 0) (two_accepted 0 0) (byte_queued Both 1, (byte_queued Both 2, tt))
+are_twins_of_one = grind (arith, one_handed)
 
 swapped_allowed : All (IsQueued demo_plan 0 0) (swapped_accepted 0 0)
-swapped_allowed = All-from_recursion (IsQueued demo_plan 0 0) (swapped_accepted 0 0) (byte_queued Both 2, (byte_queued Both 1, tt))
+swapped_allowed = grind arith
 
 handed_pair : (accepted : Accepted) → All (IsQueued demo_plan 0 0) (accepted 0 0)
     → IsLegal demo_plan accepted (two_entries A) (two_entries B) → PairHanded accepted
@@ -126,16 +113,16 @@ handed_pair accepted allowed legal = grind arith
 
 two_handed : PairHanded two_accepted
 unfolding checksum addresses header_front internet_header link_header udp_header datagram unnumbered cutting fragments_at
-two_handed = grind (arith, handed_pair, two_allowed)
+two_handed = grind (arith, handed_pair)
 
 pair_carried : AreCarriedOf 3 (frames_of 1 (two_entries A)) (frames_of 1 (two_entries B)) both_arrive
 unfolding checksum addresses header_front internet_header link_header udp_header datagram unnumbered
-pair_carried = record { on_a = ([], refl); on_b = (frames_of 1 (two_entries B), refl); near = few_are_near 3 both_arrive (omega arith) }
+pair_carried = record { on_a = ([], refl); on_b = grind arith; near = few_are_near 3 both_arrive (omega arith) }
 
 -- messages in another order don't arrive
 swapped_lost : PairArrives swapped_accepted plain_receiver both_arrive → ⊥
 unfolding checksum addresses header_front internet_header link_header udp_header datagram unnumbered
-swapped_lost = not_first refl refl
+swapped_lost = grind arith
 
 are_swapped : AreSwapped
 are_swapped = record {
@@ -164,13 +151,4 @@ needs_close = record {
 
 pub passes_a_gap_apart : PassesAGapApart
 unfolding checksum addresses header_front internet_header link_header udp_header datagram unnumbered
-passes_a_gap_apart = record {
-  valid = demo_valid;
-  legal = two_handed.legal.on_a;
-  allowed = two_allowed;
-  way = omega arith;
-  passes = refl;
-  early_way = omega arith;
-  early = grind arith;
-  late = grind arith;
-}
+passes_a_gap_apart = grind (arith, two_handed)

@@ -16,7 +16,7 @@ unfolding checksum addresses header_front internet_header link_header udp_header
 both_handed = grind (arith, demo_port_is)
 
 are_sent : IsSending 1 25 0 one_accepted A (both_frames A)
-are_sent = sending_to both_handed.link both_handed.sent both_handed.on_a
+are_sent = grind (arith, both_handed)
 
 carried_le : {F : Type 0} (net : Net) (xs : List (Net × F)) → length (carried net xs) ≤ length xs
 carried_le net [] = omega arith
@@ -27,7 +27,7 @@ few_are_near lag arrivals few_came before after net frame is = grind (arith, ap 
 
 pub one_message_arrives : OneMessageArrives
 unfolding checksum addresses header_front internet_header link_header udp_header datagram unnumbered
-one_message_arrives = record { accepts = refl; message = refl }
+one_message_arrives = grind arith
 
 abbrev pub first_of : (List ℕ → ℕ) → List (List ℕ) → ℕ
 first_of read [] = 0
@@ -51,7 +51,7 @@ too_few {accepted = accepted} n are short within enough first = grind (arith, le
 -- the worked message has two frames, and both are among the stream's first two
 whole_lost : {messages : List (List ℕ)} → messages ≡ [] → AreFirst 1 25 0 one_accepted (take 2 (both_frames A)) messages → ⊥
 unfolding checksum addresses header_front internet_header link_header udp_header datagram unnumbered cutting fragments_at
-whole_lost none = too_few 1 none (omega arith) (omega arith) (omega arith)
+whole_lost none = grind arith
 
 pub needs_handing : NeedsHanding
 unfolding checksum addresses header_front internet_header link_header udp_header datagram unnumbered
@@ -71,11 +71,11 @@ unfolding checksum addresses header_front internet_header link_header udp_header
 needs_a_stream = needs_each
     (λ accepted tolerance arrivals. messages_arrive_holds 1 25 0 3 tolerance accepted A (both_frames A) arrivals)
     are_sent (omega arith) four_carried
-    (not_first one_message_arrives.message refl) (whole_lost refl) (whole_lost refl)
+    (grind arith) (whole_lost refl) (whole_lost refl)
 
 pub accepts_each_once : AcceptsEachOnce
 unfolding checksum addresses header_front internet_header link_header udp_header datagram unnumbered
-accepts_each_once = record { fit = omega arith; stream = are_sent.frames; carry = four_carried; once = refl; round = refl }
+accepts_each_once = grind (arith, are_sent, four_carried)
 
 pub needs_numbers : NeedsNumbers
 needs_numbers = record {
@@ -88,7 +88,7 @@ needs_numbers = record {
 }
 
 bare_three : IsStream (bare_stream (0 ∷ 1 ∷ 2 ∷ []))
-bare_three = record { long = All-from_recursion IsLong (bare_stream (0 ∷ 1 ∷ 2 ∷ [])) (omega arith); numbered = (refl, (refl, (refl, tt))) }
+bare_three = grind arith
 
 pub needs_a_lag : NeedsALag
 needs_a_lag = record {
@@ -119,10 +119,10 @@ within_by_test (e ∷ es) whole n farthest carries test =
 
 pub close_by_test : (came : List (Net × ℕ)) (whole : Net) (n : ℕ)
     → lies_within whole n 0 0 came ≡ true → StartsFirst came → AreClose whole n 0 0 came
-close_by_test came whole n test starts = record { within = within_by_test came whole n 0 0 test; first = λ none. starts }
+close_by_test came whole n test starts = grind (arith, within_by_test)
 
 second_is_close : AreClose B 2 0 0 second_lost
-second_is_close = close_by_test second_lost B 2 refl refl
+second_is_close = grind arith
 
 pub masks_one_loss : MasksOneLoss
 unfolding checksum addresses header_front internet_header link_header udp_header datagram unnumbered
@@ -145,11 +145,11 @@ unfolding checksum addresses header_front internet_header link_header udp_header
 needs_a_whole_network = needs_each
     (λ accepted check came. despite_loss_holds 1 25 0 check B accepted A (both_frames A) came)
     are_sent (omega arith) second_is_close
-    (not_first comes_despite_loss refl) (whole_lost refl) (whole_lost refl)
+    (grind arith) (whole_lost refl) (whole_lost refl)
 
 pub needs_one_whole : NeedsOneWhole
 unfolding checksum addresses header_front internet_header link_header udp_header datagram unnumbered
 needs_one_whole = needs_each
     (λ accepted check came. handed_despite_loss_holds 1 25 0 check B accepted (both_frames A) (both_frames B) came)
     both_handed (omega arith) second_is_close
-    (not_first comes_despite_loss refl) (whole_lost refl) (whole_lost refl)
+    (grind arith) (whole_lost refl) (whole_lost refl)

@@ -6,35 +6,35 @@ use Rattle.afdx_laws.proofs.ListLemmas.{fails_by}
 use Rattle.afdx_laws.proofs.OneBuffer.{one_buffer}
 
 two_some : All HasByte two_datagrams
-two_some = All-from_recursion HasByte two_datagrams (omega arith)
+two_some = grind arith
 
 pub first_is_given : FirstIsGiven
 unfolding cutting
-first_is_given = record { some = two_some; first = (piece 4 1 false 29 4 ∷ [], refl); given = refl; all = λ j few enough. grind arith }
+first_is_given = record { some = two_some; first = (piece 4 1 false 29 4 ∷ [], refl); given = refl; all = grind arith }
 
 pub needs_order : NeedsOrder
 unfolding cutting
 needs_order = grind arith
 
 has_byte : (b : Buffer) (x : ℕ) → b.byte_at 0 ≡ Some x → b ≡ empty → ⊥
-has_byte b x has is = cc (ap (λ (c : Buffer). c.byte_at 0) is)
+has_byte b x has is = grind arith
 
 two_hold : HoldsOne 0 20 (buffers_after (λ key. empty) two_begun) → ⊥
 two_hold one = elim (cases_eq one.key 0) [
   | inl first ↦ has_byte (buffers_after (λ key. empty) two_begun 4) 21 refl
-      (one.others 4 refl (λ is. absurd (omega (arith, is, first))))
+      (one.others 4 refl (grind arith))
   | inr other ↦ has_byte (buffers_after (λ key. empty) two_begun 0) 1 refl (one.others 0 refl (λ is. other (sym is)))
 ]
 
 two_sizes : All (HasUpTo 20) two_datagrams
-two_sizes = All-from_recursion (HasUpTo 20) two_datagrams (omega arith)
+two_sizes = grind arith
 
 pub needs_in_turn : NeedsInTurn
 unfolding cutting
 needs_in_turn = record {
   some = two_some;
   size = two_sizes;
-  begun = fails_by (one_buffer 8 0 20 two_datagrams two_begun (omega arith) two_some two_sizes) two_hold;
+  begun = fails_by (grind arith) two_hold;
   first = (piece 0 2 false 17 4 ∷ piece 4 0 true 21 8 ∷ piece 4 1 false 29 4 ∷ [], refl);
   small = grind arith;
 }

@@ -8,4 +8,4 @@ unfolding checksum addresses header_front internet_header link_header udp_header
 counts_two = grind arith
 
 pub returns : goal.returns
-returns c = record { rise = counts_more; worked = counts_two }
+returns c = grind (arith, counts_more, counts_two)
