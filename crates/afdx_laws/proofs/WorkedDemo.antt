@@ -146,7 +146,8 @@ needs_close = record {
   swapped = are_swapped;
   each = needs_each
       (λ accepted check came. legal_despite_loss_holds demo_plan accepted _ _ 0 0 check B came)
-      two_handed (omega arith) (close_by_test both_from_b B 2 refl refl) (not_first refl refl) (too_few 2 refl (omega arith) (omega arith) (omega arith)) (not_first refl refl);
+      two_handed (omega arith) (close_by_test both_from_b B 2 refl refl) (not_first refl refl) (too_few 2 refl (omega arith) (omega arith) (omega arith))
+      (not_first refl refl);
 }
 
 pub passes_a_gap_apart : PassesAGapApart

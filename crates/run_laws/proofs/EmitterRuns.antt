@@ -169,7 +169,8 @@ comes_in_turn = record {
   wait = refl;
   next = (next_in_run_holds three_plan (3000 ∷ 6000 ∷ 9000 ∷ 12000 ∷ []) (line_after 1) (line_after 5) 0 3000 [] front_entry
       (grind arith) (omega arith) refl refl (omega arith)
-      (each_poll {P = EmitterPolls three_plan} {Q = λ now lines after. EmitterPolls three_plan now lines after ⊎ DrainPolls three_plan now lines after} (λ now lines after p. inl p) (3000 ∷ 6000 ∷ 9000 ∷ 12000 ∷ []) (line_after 1) (line_after 5) polls)
+      (each_poll {P = EmitterPolls three_plan} {Q = λ now lines after. EmitterPolls three_plan now lines after ⊎ DrainPolls three_plan now lines after}
+      (λ now lines after p. inl p) (3000 ∷ 6000 ∷ 9000 ∷ 12000 ∷ []) (line_after 1) (line_after 5) polls)
       refl (omega arith) (omega arith)).0;
 }
 
