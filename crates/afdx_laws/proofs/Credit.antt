@@ -20,7 +20,7 @@ ready_first rule p on = grind arith
 ready_next : (rule : Rule) (credit : ℕ) (p q : Passage) → IsOnTime rule p → IsOnTime rule q → p.released + rule.gap ≤ q.released
     → rule.lmax * (p.arrived - p.released) ≤ credit → IsReady rule (record { credit = credit; since = p.arrived }) q
 ready_next rule credit p q on next apart has =
-    let a1 = on.after in let a2 = next.after in let m = mul-le rule.lmax (rule.gap + (q.arrived - q.released)) rule.lmax (rule.gap + rule.jitter) (omega arith)
+    let m = mul-le rule.lmax (rule.gap + (q.arrived - q.released)) rule.lmax (rule.gap + rule.jitter) (omega arith)
     (omega arith) in
     grind (arith, mul-add rule.lmax (p.arrived - p.released) (q.arrived - p.arrived), mul-le, le-min)
 
@@ -36,7 +36,7 @@ enough charge rule account p ready on = grind (arith, price_le charge rule (arri
 
 all_pass : (charge : Charge) (rule : Rule) (account : Account) (p : Passage) (rest : List Passage)
     → AreOnTime rule (p ∷ rest) → IsReady rule account p → passed charge rule account (map arrival (p ∷ rest)) ≡ map arrival (p ∷ rest)
-all_pass charge rule account p [] on ready = passes charge rule account p [] (enough charge rule account p ready on)
+all_pass charge rule account p [] on ready = grind (arith, passes, enough)
 all_pass charge rule account p (q ∷ rest) on ready =
     let cost = price charge rule (arrival p) in
     let cheap = price_le charge rule (arrival p) (on.0).small in
@@ -65,13 +65,12 @@ are_on_time gap lmax jitter around before [] (p ∷ passages) spaced small way =
 are_on_time gap lmax jitter around before (r ∷ later) (p ∷ []) spaced small way =
     on_time gap lmax jitter around r p (small 0 r (omega arith)) way.0
 are_on_time gap lmax jitter around before (r ∷ []) (p ∷ q ∷ passages) spaced small way = absurd way.1
-are_on_time gap lmax jitter around before (r ∷ s ∷ later) (p ∷ q ∷ passages) spaced small way =
-    let second = (way.1.0).released in (
-      on_time gap lmax jitter around r p (small 0 r (omega arith)) way.0,
-      omega arith,
-      are_on_time gap lmax jitter around (Some (stamp_of r)) (s ∷ later) (q ∷ passages) spaced.1
-          (λ k d h. small (suc k) d (omega arith)) way.1,
-    )
+are_on_time gap lmax jitter around before (r ∷ s ∷ later) (p ∷ q ∷ passages) spaced small way = (
+  on_time gap lmax jitter around r p (small 0 r (omega arith)) way.0,
+  omega arith,
+  are_on_time gap lmax jitter around (Some (stamp_of r)) (s ∷ later) (q ∷ passages) spaced.1
+      (λ k d h. small (suc k) d (omega arith)) way.1,
+)
 
 pub stream_passes_holds : StreamPasses
 stream_passes_holds charge gap lmax jitter around stream passages spaced small way =

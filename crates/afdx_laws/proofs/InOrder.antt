@@ -27,11 +27,8 @@ apart sub (e ∷ es) xs ys same = elim (cases_Bool (nat_eq (e.0 % 4) sub)) [
       let b : Buffer = put (ys e.0) e.1 in
       let rest = apart sub es (with_buffer e.0 (kept_in b (datagram_in b)) xs)
       (with_buffer e.0 (kept_in b (datagram_in b)) ys)
-      (λ k of. ap (λ (c : Buffer). cond (nat_eq k e.0) (kept_in b (datagram_in b)) c) (same k of)) in
-      record {
-        given = grind arith;
-        buffers = λ k of. rw (is, same e.0 (eqb-true (e.0 % 4) sub is)) (rest.buffers k of);
-      }
+      (grind arith) in
+      (grind arith)
   | inr isnt ↦
       let b : Buffer = put (xs e.0) e.1 in
       grind (arith, apart sub es (with_buffer e.0 (kept_in b (datagram_in b)) xs) ys (other_with sub e.0 (kept_in b (datagram_in b)) xs ys isnt same))

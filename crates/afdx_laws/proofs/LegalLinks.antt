@@ -71,27 +71,7 @@ nothing net (x ∷ xs) h = absurd (omega arith)
 
 pub twins_are : (plan : Plan) (accepted : Accepted) (a b : List Entry) (k : ℕ) → IsPlan plan → IsLegal plan accepted a b
     → k < length plan.links → AreTwins twin_of (frames_of (id_at plan k) a) (frames_of (id_at plan k) b)
-twins_are plan accepted a b k valid legal inside = by_networks (link_plan_at plan.links k).networks refl
-  where
-    vl : ℕ
-    vl = id_at plan k
-
-    frames : List Entry → List (List ℕ)
-    frames stream = map (λ (e : Entry). e.frame) stream
-
-    on_both_nets : is_on_both plan.links vl ≡ true → AreTwins twin_of (frames_of vl a) (frames_of vl b)
-    on_both_nets on =
-        let all_a : frames_of vl (on_both plan.links a) ≡ frames_of vl a = grind (arith, filter_twice, eqb-true) in
-        let all_b : frames_of vl (on_both plan.links b) ≡ frames_of vl b = grind (arith, filter_twice, eqb-true) in
-        rw (← all_a, ← all_b) (grind (arith, cases_lt, twins_by_a, frames_front, twins_by_b, own_of))
-
-    by_networks : (n : Networks) → (link_plan_at plan.links k).networks ≡ n → AreTwins twin_of (frames_of vl a) (frames_of vl b)
-    by_networks Both is = on_both_nets (on_both_is plan k valid inside ∙ ap is_both is)
-    by_networks OnlyA is =
-        let none : frames_of vl b ≡ [] = ap frames (legal.on_b.carried k inside (ap (names B) is)) in
-        rw none (record { b_shorter = λ h. refl; a_shorter = nothing A (frames_of vl a) })
-    by_networks OnlyB is =
-        grind (arith, nothing)
+twins_are plan accepted a b k valid legal inside = grind (arith, link_plan_at, id_at, map, is_on_both, twin_of, frames_of, on_both, filter_twice, eqb-true, twins_by_a, frames_front, twins_by_b, own_of, on_both_is, is_both, names, nothing)
 
 pub link_is : (plan : Plan) (k : ℕ) → IsPlan plan → k < length plan.links → IsLink (link_plan_at plan.links k)
 link_is plan k valid inside = grind arith

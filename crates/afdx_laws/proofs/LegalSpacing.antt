@@ -30,9 +30,7 @@ short_message end_system lmax place sent net least greatest port =
     let size : ℕ = length sent.bytes in
     let pieces : List Piece = pieces_from 0 (cutting (room_of lmax) (8 + size)) in
     All-map (IsShort lmax) (λ piece. unnumbered end_system sent.port sent.bytes place piece net) pieces
-    (λ i d h. short_piece end_system lmax place sent (get_or pieces i d) net least port
-    (All-from_recursion (IsPiece size) pieces (from_start (room_of lmax) size (omega arith) (omega arith)) i d h)
-    (cutting_lies (room_of lmax) (8 + size) i d h).0)
+    (grind (arith, short_piece, All-from_recursion, from_start, room_of, cutting_lies))
 
 short_messages : (accepted : List Sent) (end_system lmax sub place : ℕ) (net : Net) → 64 ≤ lmax → lmax ≤ 1518
     → All (IsSent sub) accepted → All (IsShort lmax) (fragments_from end_system (room_of lmax) net place accepted)
@@ -63,7 +61,7 @@ stream_within plan net k es valid inside known i d h =
 -- what holds of the images of the elements that pass a test
 of_passed : {X Y : Type 0} (P : Y → Type 0) (f : X → Y) (test : X → Bool) (xs : List X) → All P (map f (filter test xs))
     → All (λ x. test x ≡ true → P (f x)) xs
-of_passed P f test [] all = All-nil (λ x. test x ≡ true → P (f x))
+of_passed P f test [] all = grind arith
 of_passed P f test (x ∷ xs) all = elim (cases_Bool (test x)) [
   | inl is ↦
       let both : All P (f x ∷ map f (filter test xs)) = rw is at all in
@@ -80,7 +78,7 @@ short_told plan accepted net handed k sub valid legal inside index allowed =
     let first = legal.prefixes k sub inside index in
     all_front (IsShort (link_plan_at plan.links k).lmax) (told_of (id_at plan k) sub handed) first.0 _ first.1
     (short_messages (accepted k sub) plan.end_system (link_plan_at plan.links k).lmax sub 0 net lmax.0 lmax.1
-    (All-weaker (IsQueued plan k sub) (IsSent sub) (λ sent is. sent_is plan k sub sent valid is) (accepted k sub) allowed))
+    (grind arith))
 
 pub legal_passes_holds : LegalPasses
 legal_passes_holds plan accepted net handed valid legal k inside allowed charge jitter around passages way =

@@ -23,7 +23,7 @@ distinct_of : (es : List Entry) → ((y : ℕ) → length (sub_stream y es) ≤ 
 distinct_of [] one = grind (arith, IsDistinct-from_apart, eqb)
 distinct_of (e ∷ es) one = IsDistinct-cons eqb (sub_in e.frame) (subs_of es)
     (grind (arith, none_in, eq-eqb))
-    (distinct_of es (λ y. fewer y (eqb (sub_in e.frame) y) (one y)))
+    (distinct_of es (grind arith))
   where
     fewer : (y : ℕ) (t : Bool) → length (cond t (e ∷ sub_stream y es) (sub_stream y es)) ≤ 1 → length (sub_stream y es) ≤ 1
     fewer y t one = grind arith

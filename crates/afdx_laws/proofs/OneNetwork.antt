@@ -18,8 +18,8 @@ carried_none net (f ∷ fs) = grind (arith, carried_none net fs)
 -- each frame that comes is the network's, and before it nothing came from the other
 all_its : (net : Net) (frames : List (List ℕ)) (before after : List (Net × List ℕ)) (e : Net × List ℕ)
     → all_from net frames ≡ before ++ e ∷ after → (e.0 ≡ net) × (carried (other net) before ≡ [])
-all_its net [] [] after e is = absurd (nil_isnt_cons is)
-all_its net [] (x ∷ before) after e is = absurd (nil_isnt_cons is)
+all_its net [] [] after e is = cc
+all_its net [] (x ∷ before) after e is = cc
 all_its net (f ∷ fs) [] after e is = grind arith
 all_its net (f ∷ fs) (x ∷ before) after e is =
     let parts = cons_parts is in
@@ -34,8 +34,8 @@ many_from net frames = grind (arith, carried_all net frames, carried_none net fr
 -- what came of a network's own frames begins their twins for it, and nothing those for the other
 begins_for : (to net : Net) (came mine : List (List ℕ)) → All (IsOfNet net) mine → IsPrefixOf came mine
     → IsPrefixOf (carried to (all_from net came)) (map (twin_of to) mine)
-begins_for A A came mine own begins = rw (carried_all A came, own_twins A mine own) begins
-begins_for B B came mine own begins = rw (carried_all B came, own_twins B mine own) begins
+begins_for A A came mine own begins = grind (arith, carried_all, own_twins)
+begins_for B B came mine own begins = grind (arith, carried_all, own_twins)
 begins_for A B came mine own begins = rw (carried_none B came) (map (twin_of A) mine, refl)
 begins_for B A came mine own begins = rw (carried_none A came) (map (twin_of B) mine, refl)
 
