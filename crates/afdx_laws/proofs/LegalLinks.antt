@@ -76,9 +76,6 @@ twins_are plan accepted a b k valid legal inside = grind (arith, link_plan_at, i
 pub link_is : (plan : Plan) (k : ℕ) → IsPlan plan → k < length plan.links → IsLink (link_plan_at plan.links k)
 link_is plan k valid inside = grind arith
 
-pub sent_is : (plan : Plan) (k sub : ℕ) (sent : Sent) → IsPlan plan → IsQueued plan k sub sent → IsSent sub sent
-sent_is plan k sub sent valid allowed = grind arith
-
 pub handed_is : (plan : Plan) (accepted : Accepted) (net : Net) (handed : List Entry) (k sub : ℕ)
     → IsLegalOn plan accepted net handed → k < length plan.links → sub < (link_plan_at plan.links k).sub_vls
     → IsHanded plan.end_system (piece_room plan k) sub (accepted k sub) net (frames_of (id_at plan k) handed)
@@ -90,13 +87,7 @@ pub are_handed : (plan : Plan) (accepted : Accepted) (a b : List Entry) (k sub :
     → AreHanded plan.end_system (piece_room plan k) sub (accepted k sub)
     (frames_of (id_at plan k) a) (frames_of (id_at plan k) b)
 are_handed plan accepted a b k sub h =
-    grind (
-      arith,
-      handed_is plan accepted A a k sub h.legal.on_a h.inside h.index,
-      handed_is plan accepted B b k sub h.legal.on_b h.inside h.index,
-      twins_are plan accepted a b k h.valid h.legal h.inside,
-      sent_is,
-    )
+    grind (arith, handed_is plan accepted A a k sub h.legal.on_a h.inside h.index, handed_is plan accepted B b k sub h.legal.on_b h.inside h.index, twins_are plan accepted a b k h.valid h.legal h.inside)
 
 pub legal_arrive_holds : LegalArrive
 legal_arrive_holds plan accepted a b k sub lag tolerance arrivals handed fit carry =

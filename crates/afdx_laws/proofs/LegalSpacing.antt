@@ -6,7 +6,7 @@ use Rattle.afdx_laws.proofs.Names.{pieces_from, Sent, fragments_from, blanked, u
 use Rattle.afdx_laws.proofs.Names.{Accepted, IsKnown, AreKnown, IsLegalOn, IsQueued, known_all, IsLong, IsSent, IsUpTo, id_at, LegalPasses, fragments_at}
 use Rattle.afdx_laws.proofs.ListLemmas.{all_front}
 use Rattle.afdx_laws.proofs.Reading.{cutting_lies, from_start}
-use Rattle.afdx_laws.proofs.LegalLinks.{link_is, sent_is}
+use Rattle.afdx_laws.proofs.LegalLinks.{link_is}
 use Rattle.afdx_laws.proofs.Credit.{stream_passes_holds}
 
 -- a frame without its number is short enough: the number and the check sequence take five bytes

@@ -4,12 +4,12 @@ use Rattle.afdx_laws.proofs.Names.{refl, ap, sym, ◌∙◌, arith, Some, None, 
 use Rattle.afdx_laws.proofs.Names.{sequence_number, Net, A, twin_of, Tolerance, State, other, begin, is_accepted, is_valid, is_ahead, received, carried}
 use Rattle.afdx_laws.proofs.Names.{with_seen, with_accepted, seen_on, number_in, same_net, AreWithin, StartsFirst, AreClose, BeginsFirst, frame_at, LossMasked}
 use Rattle.afdx_laws.proofs.Names.{FirstComes, MaskedFromFirst, NumbersClash}
-use Rattle.afdx_laws.proofs.NumberLemmas.{last, valid_next, old_copy, old_is_ahead, next_is, differ}
+use Rattle.afdx_laws.proofs.NumberLemmas.{last, valid_next, old_is_ahead, next_is, differ}
 use Rattle.afdx_laws.proofs.Receiving.{IsPlaced, grows, placed}
 
 is_next : (c i high : ℕ) → high ≤ i + 254 → c ≤ high → i < c + 255 → (high ≡ 0 → i ≡ 0) → (high ≡ 0) ⊎ (1 ≤ c)
     → is_ahead 1 (last c) (sequence_number i) ≡ true → i ≡ c
-is_next c i high near within far first begun new = grind (arith, old_copy, next_is, differ)
+is_next c i high near within far first begun new = grind (arith, next_is, differ)
 
 count_whole : {F : Type 0} (whole net : Net) (frame : F) (b : ℕ) (es : List (Net × F))
     → cond (same_net whole net) (b + 1) b + length (carried whole es) ≡ b + length

@@ -24,10 +24,6 @@ last (suc i) = Some (sequence_number i)
 pub valid_next : (many a : ℕ) → 1 ≤ many → is_valid many (last a) (sequence_number a) ≡ true
 valid_next many a some = grind (arith, ahead_next, next_is)
 
--- an old frame within 255 places isn't new
-pub old_copy : (many a b : ℕ) → a < b → b + many ≤ a + 255 → is_ahead many (last b) (sequence_number a) ≡ false
-old_copy many a b older near = grind (arith, ahead_old)
-
 ahead_last : (many j : ℕ) → ahead (suc many) (sequence_number j) (sequence_number (suc j + many)) ≡ true
 ahead_last zero j = grind (arith, next_is j)
 ahead_last (suc many) j = grind (arith, ahead_last many (suc j), next_is j)
