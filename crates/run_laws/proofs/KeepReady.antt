@@ -24,7 +24,7 @@ polled now old new ready plan run allowed = by_own old.plan new plan (record {
   where
     same : (k : ℕ) → k < length old.links → IsSameLink (link_at old.links k) (link_at new.links k)
     same k lt = turns_each (IsTurnAt now old.links new.links) (λ (i : ℕ). IsSameLink (link_at old.links i) (link_at new.links i))
-        0 (length old.links) old.lines new.lines (λ i before behind did t. t.same) run.turns k (omega arith) (omega arith)
+        0 (length old.links) old.lines new.lines (grind arith) run.turns k (omega arith) (omega arith)
 
 closed : (old new : Tx) (vl sub total : ℕ) → IsReady old → ClosesTx old vl sub total new → IsReady new
 closed old new vl sub total ready c =

@@ -116,12 +116,7 @@ turns_step now plan k x b P view lines after valid inside lacks turns stands =
     (λ j jlt ne before behind did t. other_turn now (link_plan_at plan.links k).id.0 (link_plan_at plan.links j) _ _ before
     behind did (λ e. ne (valid.links_apart j k t.inside inside (λ i. record { 0 = e i }))) t.turn)
     (λ j before behind did t. turn_endures now (link_plan_at plan.links j) _ _ before behind did t.turn) turns in
-    let link = link_plan_at plan.links k in
-    let up = stood_before at.behind after link.networks at.endures stands in
-    let before = stood_before at.before at.behind link.networks
-    (turn_endures now link _ _ at.before at.behind at.did at.turn.turn) up in
-    rw (at.kept, ← at.same) (own_step now (gap_at plan k) (subs_at plan k) x b link (view k at.before) at.before at.behind at.did
-    (lacks at.before at.behind at.did at.same at.turn.is before) at.turn.turn up)
+    grind (arith, own_step)
 
 -- the sub-VLs of the links of an emitter, and of a drain
 abbrev pub emitter_view : (old new : Tx) → ℕ → Lines → TurnView

@@ -67,11 +67,11 @@ past_none x bound before (p ∷ polls) past rise =
 -- what polls release by a time comes first
 pub splits : (polls : List Poll) (added : List Entry) (x bound before : ℕ) → Rise before polls → Show polls added
     → IsSplit x bound (released_by x bound polls) added
-splits [] added x bound before rise show = record { soon = []; more = added; is = refl; by = All-nil _; seen = omega arith }
+splits [] added x bound before rise show = grind arith
 splits (p ∷ polls) added x bound before rise show = elim (cases_lt bound p.at) [
   | inl past ↦
       let none = past_none x bound p.at (p ∷ polls) past (omega arith, rise.1) in
-      record { soon = []; more = added; is = refl; by = All-nil _; seen = omega arith }
+      (grind arith)
   | inr soon ↦ by_release soon p.released refl show.1 (splits polls show.0 x bound p.at rise.1 show.2)
 ]
   where
@@ -80,7 +80,7 @@ splits (p ∷ polls) added x bound before rise show = elim (cases_lt bound p.at)
     by_release soon None is same rest =
         let few = rest.seen in
         let whole : released_by x bound (p ∷ polls) ≡ released_by x bound polls = grind (arith, counted x bound p polls) in
-        record { soon = rest.soon; more = rest.more; is = same ∙ rest.is; by = rest.by; seen = omega arith }
+        (grind arith)
     by_release soon (Some chosen) is (e, more, at, of) rest =
         let whole = counted x bound p polls in
         let first = seen_first x e rest.soon in
