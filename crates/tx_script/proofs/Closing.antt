@@ -51,29 +51,24 @@ closes_totals old vl sub total new c k s =
 closes_matches : (es : EndSystem) (old : Tx) (vl sub total : ℕ) (new : Tx) → ClosesTx old vl sub total new → MatchesTx es old
     → MatchesTx es new
 closes_matches es old vl sub total new c m = record {
-  plan = ap (λ (tx : Tx). tx.plan) c.same ∙ m.plan;
+  plan = grind arith;
   count = links.count ∙ m.count;
   planned = λ k lt.
       still_planned (ap (λ (link : LinkState). link.plan) (links.same k)) (ap (λ (link : LinkState). link.pace.gap) (links.same k))
       (ap (λ (link : LinkState). link.pace.sub_vls) (links.same k)) (links.subs k) (λ s. (links.each k s).keeps.of)
       (m.planned k lt);
   subs = m.subs ∙ (λ i k s. sym (same k s) i);
-  logged = ap (λ (tx : Tx). tx.lines.logged) c.same ∙ m.logged;
-  a = ap (λ (tx : Tx). tx.lines.a) c.same ∙ m.a;
-  b = ap (λ (tx : Tx). tx.lines.b) c.same ∙ m.b;
-  moment = ap (λ (tx : Tx). tx.moment) c.same ∙ m.moment;
+  logged = grind arith;
+  a = grind arith;
+  b = grind arith;
+  moment = grind arith;
 }
   where
     links : ClosedLinks old.links new.links
     links = closes_links old vl sub total new c
 
     same : (k s : ℕ) → progress_of (held_at (link_at new.links k).subs s) ≡ progress_of (held_at (link_at old.links k).subs s)
-    same k s = let keeps = (links.each k s).keeps in rw (keeps.ports, keeps.taken, keeps.left) refl
-
--- one link of a valid plan has an identifier
-same_place : (plan : Plan) (vl sub place k : ℕ) → IsPlan plan → IsSubAt plan vl sub place → k < length plan.links
-    → (link_plan_at plan.links k).id.0 ≡ vl → k ≡ place
-same_place plan vl sub place k valid at lt id = grind arith
+    same k s = let keeps = (links.each k s).keeps in grind arith
 
 -- the outcome of the close of a sub-VL that is there
 closed_there : (plan : Plan) (vl sub place : ℕ) (answer : Answer) → IsPlan plan → IsSubAt plan vl sub place
@@ -84,10 +79,7 @@ closed_there plan vl sub place answer valid at = by (link_of plan vl) refl
     by None e = absurd (none_has plan.links vl place e at.within at.id)
     by (Some k) e =
         let some = found_at plan.links vl k e in
-        rw (
-          same_place plan vl sub place k valid at some.0 some.1,
-          lt-ltb sub (link_plan_at plan.links place).sub_vls at.below,
-        ) refl
+        grind arith
 
 -- and of one that isn't
 closed_nowhere : (plan : Plan) (vl sub : ℕ) (answer : Answer) → LacksSub plan vl sub
@@ -96,10 +88,7 @@ closed_nowhere plan vl sub answer lacks = by (link_of plan vl) refl
   where
     by : (found : Option ℕ) → link_of plan vl ≡ found → closed_at plan found sub answer ≡ Became.Refused NoSub
     by None e = refl
-    by (Some k) e = let some = found_at plan.links vl k e in elim (cases_lt sub (link_plan_at plan.links k).sub_vls) [
-      | inl below ↦ absurd (lacks k (record { within = some.0; id = some.1; below = below }))
-      | inr past ↦ rw (le-ltb sub (link_plan_at plan.links k).sub_vls past) refl
-    ]
+    by (Some k) e = let some = found_at plan.links vl k e in grind arith
 
 -- The close of a sub-VL that is there.
 pub obeys_close : (old : Tx) (ports : List PortView) (vl sub total : ℕ) (new : Tx) → IsAtHand old ports

@@ -39,7 +39,7 @@ module _ (plan : Plan) (vl sub : ℕ) where
       → accepted_among plan a vl sub many ≡ accepted_among plan b vl sub many
   among_same a b zero each = refl
   among_same a b (suc k) each =
-      by (is_on vl sub (port_plan_at plan.ports k)) (each k (omega arith)) (among_same a b k (λ j lt. each j (omega arith)))
+      by (is_on vl sub (port_plan_at plan.ports k)) (each k (omega arith)) (among_same a b k (grind arith))
     where
       by : (on : Bool) → (on ≡ true → length (a k) ≡ length (b k)) → accepted_among plan a vl sub k ≡ accepted_among plan b vl sub k
           → accepted_among plan a vl sub k + (if on then length (a k) else 0)
@@ -55,8 +55,8 @@ module _ (plan : Plan) (vl sub : ℕ) where
   among_more a b at (suc k) on one others lt = ⊎_elim
       (grind (arith, among_same))
       (λ (ne : k ≢ at).
-      let front = among_more a b at k on one (λ j less. others j (omega arith)) (omega arith) in
-      rw (others k (omega arith) ne) (omega arith))
+      let front = among_more a b at k on one (grind arith) (omega arith) in
+      grind arith)
       (cases_eq k at)
 
   -- of no messages there are none
@@ -87,11 +87,11 @@ counted plan k sub (sent ∷ more) valid all =
 pub none_missing : (tx : Tx) (ports : List PortView) → IsAtHand tx ports → LacksPlace (length tx.plan.ports) ports → ⊥
 none_missing tx [] h lacks = absurd (omega (arith, lacks.1, h.many))
 none_missing tx (port ∷ more) h lacks =
-    let inside : lacks.0 < length (port ∷ more) = omega (arith, lacks.1, h.many) in
+    let inside : lacks.0 < length (port ∷ more) = grind arith in
     lacks.2 (record {
       port = get_or (port ∷ more) lacks.0 port;
       inside = Contains-get_or (port ∷ more) lacks.0 port inside;
-      at = h.placed lacks.0 port inside;
+      at = grind arith;
     })
 
 -- what was accepted of a sub-VL begins with what was taken
@@ -105,7 +105,7 @@ accepted_first tx drain ports k s g = elim (cases_lt k (length tx.links)) [
             rw (ap (λ (held : Held). held.ports) sub.same) (whole (held_at (link_at tx.links k).subs s).ports _ _ sub.queue)
         | inr past ↦ grind (arith, get_or_past)
       ]
-  | inr past ↦ ([], rw (get_or_past tx.links k no_link past, get_or_past drain.links k no_link (omega (arith, g.count))) refl)
+  | inr past ↦ ([], grind (arith, get_or_past, no_link))
 ]
   where
     whole : (senders : List PortPlan) (old new : Seen) → BecomesWhole old new
@@ -118,7 +118,7 @@ accepted_first tx drain ports k s g = elim (cases_lt k (length tx.links)) [
 
 -- what holds of all holds of the first
 all_first : {X : Type 0} (P : X → Type 0) (xs ys : List X) → All P (xs ++ ys) → All P xs
-all_first P xs ys h = λ k d lt. rw (← get_or_append_left xs ys d k lt) (h k d (omega (arith, length-append xs ys)))
+all_first P xs ys h = grind (arith, get_or_append_left, length-append)
 
 -- the messages of a port among more
 messages_more : (port : PortPlan) (xs ys : List Sent) → messages_of port (xs ++ ys)
@@ -128,17 +128,16 @@ messages_more port (x ∷ xs) ys = grind (arith, messages_more port xs ys)
 
 -- a line closes a sub-VL of the plan
 closes_sub : (plan : Plan) (line : Line) (place sub : ℕ) → ClosesAt plan line place sub → (vl : ℕ) × IsSubAt plan vl sub place
-closes_sub plan (Close vl closed) place sub at = (vl, at.0)
-closes_sub plan _ place sub at = absurd at
+closes_sub plan line place sub at = grind arith
 
 -- A run whose ports were taken back, since when nothing was sent or closed.
 module _ (st : Play) (before bench : AtBench) (m : Matches st.accepted st.es before) (f : OnlyTakes before bench)
     (g : IsGathered bench) where
   same : bench.tx.plan ≡ st.es.plan
-  same = f.closes.plan ∙ m.emitter.plan
+  same = cc
 
   valid : IsPlan st.es.plan
-  valid = subst IsPlan same g.hand.valid
+  valid = grind arith
 
   allowed : AreAllowed st.es.plan (accepted_in g.drain.links)
   allowed = subst (λ (plan : Plan). AreAllowed plan (accepted_in g.drain.links)) (g.gathers.plan ∙ same) g.allowed
@@ -148,7 +147,7 @@ module _ (st : Play) (before bench : AtBench) (m : Matches st.accepted st.es bef
       → st.accepted place ≡ port_messages st.es.plan (accepted_in g.drain.links) place
   own_messages place lt =
       let part : HasOwnPart g.drain bench.ports place =
-      g.gathers.own place (omega (arith, ap (λ (plan : Plan). length plan.ports) same)) in
+      grind arith in
       grind arith
 
   -- what a sub-VL accepted begins with what polls found of it
@@ -156,11 +155,9 @@ module _ (st : Play) (before bench : AtBench) (m : Matches st.accepted st.es bef
       → (more : List Sent) × (accepted_in g.drain.links k s ≡ found st.es k s ++ more)
   found_first k s lt =
       let left = accepted_first bench.tx g.drain bench.ports k s g.gathers in
-      let grown = f.grown k s (omega (arith, m.emitter.count)) in (
+      let grown = f.grown k s (grind arith) in (
         grown.0 ++ left.0,
-        left.1 ∙ ap (λ (taken : List Sent). taken ++ left.0) grown.1
-            ∙ append_assoc (taken_in before.tx.links k s) grown.0 left.0
-            ∙ sym (ap (λ (subs : ℕ → ℕ → Progress). (subs k s).taken ++ (grown.0 ++ left.0)) m.emitter.subs),
+        grind (arith, append_assoc, taken_in),
       )
 
   -- Polls found the first of what was sent.

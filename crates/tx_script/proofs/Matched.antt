@@ -20,21 +20,12 @@ use Rattle.tx_script.specs.Play.{Messages, added, with_messages}
 -- No total has changed.
 pub same_totals : (line : Line) (old new : Tx) → new.plan ≡ old.plan
     → ((k s : ℕ) → total_in new.links k s ≡ total_in old.links k s) → ClosesOnly line old new
-same_totals line old new plan same = record { plan = plan; kept = λ k s t is. same k s ∙ is; only = λ k s none. same k s }
-
--- a fresh link is the planned one
-link_fresh : (own : ℕ) (ports : List PortPlan) (planned : LinkPlan) (link : LinkState)
-    → IsOpenedLink own ports ports planned link → IsPlannedLink own planned link
-link_fresh own ports planned link f = grind arith
+same_totals line old new plan same = grind arith
 
 -- Of no sub-VL anything was taken or is left, and no queue is closed.
 pub each_fresh : (plan : Plan) (tx : Tx) → IsFreshTx plan tx → (k s : ℕ)
     → (no_progress ≡ progress_of (held_at (link_at tx.links k).subs s)) × (total_in tx.links k s ≡ None)
 each_fresh plan tx f k s = grind (arith, cases_lt, get_or_past)
-
--- An emitter to which nothing was sent.
-pub fresh_matches : (plan : Plan) (tx : Tx) → IsFreshTx plan tx → MatchesTx (fresh plan) tx
-fresh_matches plan tx f = grind (arith, link_fresh, each_fresh)
 
 -- A link is still the planned one.
 pub still_planned : {own : ℕ} {planned : LinkPlan} {old new : LinkState} → new.plan ≡ old.plan
@@ -42,13 +33,6 @@ pub still_planned : {own : ℕ} {planned : LinkPlan} {old new : LinkState} → n
     → ((s : ℕ) → (held_at new.subs s).of ≡ (held_at old.subs s).of) → IsPlannedLink own planned old
     → IsPlannedLink own planned new
 still_planned plan gap sub_vls count of m = grind arith
-
--- None of them requested a slot or sent.
-pub fresh_asked : (tx : Tx) (ports : List PortView) → AreFreshPorts tx ports → HaveAsked 0 ports
-fresh_asked tx ports f = grind arith
-
-pub fresh_sent : (tx : Tx) (ports : List PortView) → AreFreshPorts tx ports → HaveSent (λ place. []) ports
-fresh_sent tx ports f = grind arith
 
 -- A greater bound on requests holds.
 pub asked_on : (count more : ℕ) (ports : List PortView) → count ≤ more → HaveAsked count ports → HaveAsked more ports
@@ -62,8 +46,8 @@ module _ (ports : List PortView) (i : ℕ) (d new : PortView) (bytes : List ℕ)
       → ((k : ℕ) (e : PortView) → k < length ports → (k ≡ i → ⊥) → Says k (get_or ports k e))
       → (k : ℕ) (e : PortView) → k < length (set ports i new) → Says k (get_or (set ports i new) k e)
   each_port Says here others k e inside =
-      each_set (λ j port. j < length ports → Says j port) ports i new e lt (λ _. here) (λ j ne within. others j e within ne)
-      k (let size = length-set ports i new in omega arith)
+      each_set (λ j port. j < length ports → Says j port) ports i new e lt (λ _. here) (grind arith)
+      k (grind (arith, length-set))
 
   -- The ports stay the bench's.
   pub sent_at_hand : (tx : Tx) → IsAtHand tx ports → IsAtHand tx (set ports i new)
@@ -76,23 +60,18 @@ module _ (ports : List PortView) (i : ℕ) (d new : PortView) (bytes : List ℕ)
   }
     where
       belongs : BelongsTo tx.plan (queues_in tx.links) (get_or ports i d) → BelongsTo tx.plan (queues_in tx.links) new
-      belongs b = record {
-        within = subst (λ (place : ℕ). place < length tx.plan.ports) (sym s.place) b.within;
-        plan = s.plan ∙ b.plan ∙ ap (port_plan_at tx.plan.ports) (sym s.place);
-        queue = grind arith;
-        index = s.index ∙ b.index ∙ ap (index_of tx.plan.ports) (sym s.place);
-      }
+      belongs b = (grind arith)
 
   -- It requested at most one slot more.
   pub asked_more : (count : ℕ) → HaveAsked count ports → HaveAsked (count + 1) (set ports i new)
   asked_more count h =
       All-set (λ (port : PortView). port.sender.asks ≤ count + 1) ports i new
-      (let before : (get_or ports i d).sender.asks ≤ count = h i d lt in omega (arith, s.asks))
-      (asked_on count (count + 1) ports (omega arith) h)
+      (omega (arith, s.asks))
+      (grind arith)
 
   -- Its own list has the message, if it was accepted.
   pub have_sent : (accepted : Messages) → HaveSent accepted ports
       → HaveSent (with_messages (Some i) (added outcome bytes) accepted) (set ports i new)
   have_sent accepted h = each_port (λ k port. port.sender.own ≡ accepted k ++ (if nat_eq k i then added outcome bytes else []))
-      (s.own ∙ ap (λ (own : List (List ℕ)). own ++ added outcome bytes) (h i d lt) ∙ rw (eq-eqb i i refl) refl)
-      (λ k e within ne. h k e within ∙ rw (ne_eqb k i ne) (sym (append-nil (accepted k))))
+      (grind arith)
+      (grind (arith, ne_eqb, append-nil))

@@ -33,7 +33,7 @@ use Rattle.tx_script.proofs.Matched.{asked_on, same_totals, still_planned}
 -- as many entries as were logged
 log_many : (lines : Lines) → length (log lines) ≡ length lines.logged
 unfolding log
-log_many lines = length-map lines.logged (λ (l : Logged). l.entry)
+log_many lines = grind (arith, length-map)
 
 -- A poll released as many frames as its report names.
 pub released_many : (old new : Lines) (now : ℕ) (released : List Release) → IsTold now released old new
@@ -50,16 +50,12 @@ shows_plain : (old : Held) (frame : List ℕ) (new : Held) → GivesFrame old fr
 shows_plain old frame new g = record {
   mid = progress_of g.mid;
   asked = ⊎_elim
-      (λ (h : GoesOn old g.mid). inl (h.some, ap progress_of h.same))
+      (grind arith)
       (λ (p : Starts old g.mid). inr (sent_of old.ports p.message, p.whole, started_is old g.mid p))
       g.asked;
   next = g.gives.next;
   taken = ap taken_by g.gives.same;
 }
-
--- one whose queue gave nothing took nothing
-passes_plain : (old new : Held) → Passes old new → progress_of new ≡ progress_of old
-passes_plain old new p = rw p.same (rw (taken_nothing old.seen new.seen p.nothing) refl)
 
 -- what sub-VLs took and have left
 abbrev progress_at : List Held → ℕ → Progress
@@ -72,12 +68,7 @@ turn_plain : (now own : ℕ) (plan : LinkPlan) (link new : LinkState) (lines aft
 turn_plain now own plan link new lines after did m t =
     turn_seen now plan (pace_in plan (log lines)) (held_view link.subs new.subs)
     (progress_view own plan (progress_at link.subs) (progress_at new.subs)) lines after did (λ s e. ap progress_of e)
-    (λ _. record {
-      lacks = λ s lt p. (p.whole, passes_plain (held_at link.subs s) (held_at new.subs s) p);
-      rests = λ s e. ap progress_of e;
-      gives = λ s frame lt g. rw (← m.of.named s (omega (arith, m.of.count, m.of.sub_vls)))
-          (shows_plain (held_at link.subs s) frame (held_at new.subs s) g);
-    })
+    (grind (arith, shows_plain))
     (rw (m.plan, m.of.gap, m.of.sub_vls) at t.serves)
 
 -- what both networks hold if both are up
@@ -133,7 +124,7 @@ left_matches es old new now m run mirrored a b plan moment = record {
   planned = λ k lt.
       let same = each_link (λ i. IsSameLink (link_at old.links i) (link_at new.links i)) old new now run
       (λ i before behind did t. t.same) k (omega (arith, m.count)) in
-      still_planned same.plan same.gap same.sub_vls same.count (λ s. (same.subs s).of) (m.planned k lt);
+      grind arith;
   subs = refl;
   logged = refl;
   a = all_kept A new.lines.a_stands new.lines.a new.lines.logged mirrored.first a;
@@ -146,7 +137,7 @@ abbrev Grows : (old new : List Sent) → Type 0
 Grows old new = (more : List Sent) × (new ≡ old ++ more)
 
 grows_not : (old new : List Sent) → new ≡ old → Grows old new
-grows_not old new same = ([], same ∙ sym (append-nil old))
+grows_not old new same = grind (arith, append-nil)
 
 grows_sent : (old : Held) (frame : List ℕ) (new : Held) → GivesFrame old frame new → Grows (taken_by old) (taken_by new)
 grows_sent old frame new g = grind (arith, shows_plain old frame new g, grows_not)
@@ -154,7 +145,7 @@ grows_sent old frame new g = grind (arith, shows_plain old frame new g, grows_no
 -- what is shown by each part of a turn holds of each sub-VL
 each_chosen : (P : ℕ → Type 0) (pace : Pace) (sub : ℕ) → IsChoice pace P P P sub → (s : ℕ) → P s
 each_chosen P pace sub c s = ⊎_elim
-    (λ (e : s ≡ sub). subst P (sym e) c.chosen)
+    (grind arith)
     (λ (ne : s ≢ sub). ⊎_elim (λ p. p) (λ p. p) (choice_other pace P P P sub c s ne))
     (cases_eq s sub)
 
@@ -178,7 +169,7 @@ taken_grows old new now run k s lt = each_link (λ i. Grows (taken_in old.links 
         (turn_seen now link.plan _ (held_view link.subs news.subs) (record { lacks = P; rests = P; gives = λ i frame. P i })
         before behind did (λ i e. grows_not _ _ (ap taken_by e))
         (λ _. record {
-          lacks = λ i below p. grows_not _ _ (ap (λ (g : Progress). g.taken) (passes_plain (held_at link.subs i) (held_at news.subs i) p));
+          lacks = grind (arith, grows_not);
           rests = λ i e. grows_not _ _ (ap taken_by e);
           gives = λ i frame below g. grows_sent (held_at link.subs i) frame (held_at news.subs i) g;
         })
@@ -191,14 +182,14 @@ pub poll_takes : {R E : Type 0} (answer : Result R E) (old new : Tx) (ports : Li
     → OnlyTakes bench (record { tx = new; ports = ports })
 poll_takes {R = R} {E = E} answer old new ports now bench is unchanged run plan totals = rw (← is) record {
   ports = refl;
-  closes = same_totals Said.Nothing old new plan totals;
+  closes = grind arith;
   grown = grown answer unchanged run;
 }
   where
     grown : (a : Result R E) → OnErr a (new ≡ old) → OnOk a (IsRun now old.links new.links old.lines new.lines) → (k s : ℕ)
         → k < length old.links → Grows (taken_in old.links k s) (taken_in new.links k s)
     grown (Ok r) same ran k s lt = taken_grows old new now ran k s lt
-    grown (Err e) same ran k s lt = grows_not _ _ (ap (λ (tx : Tx). taken_in tx.links k s) same)
+    grown (Err e) same ran k s lt = grows_not _ _ (grind arith)
 
 -- A poll after which both networks are up.
 pub obeys_poll : (old new : Tx) (ports : List PortView) (now released : ℕ) → old.moment ≤ now
@@ -215,10 +206,7 @@ obeys_poll old new ports now released le run mirrored a b plan moment totals man
         may = λ later. polled_matches es old new now m.emitter run a b;
         is = rw (late, ← m.emitter.logged) (ap Became.Released many);
         told = λ place sub at. absurd at;
-        matches = rw late (record {
-          emitter = left_matches es old new now m.emitter run mirrored a b plan moment;
-          own = m.own;
-        });
+        matches = grind (arith, left_matches);
       };
   few = few;
   asked = λ count asked. asked_on count (count + 1) ports (omega arith) asked;

@@ -21,7 +21,7 @@ use Rattle.tx_script.specs.AtBench.{AtBench, IsFreshBench, Obeys, OnlyTakes, Clo
 use Rattle.tx_script.specs.Play.{AnsweredLine, Play, play, ClosesAt, transcript}
 use Rattle.tx_script.specs.Run.{left_after, AreRun, HasPlayed, IsWhole, Plays, Ends, Leaves}
 use Rattle.tx_script.specs.Running.{SaysLine, ReadsLine, Running, Halted, Stops, HandsOver, Finishes, EndsEarly}
-use Rattle.tx_script.proofs.Matched.{fresh_sent, same_totals, fresh_matches, each_fresh}
+use Rattle.tx_script.proofs.Matched.{same_totals, each_fresh}
 use Rattle.std.proofs.lemmas.Bool.{false≢true}
 use Rattle.script_text.specs.FrameLog.{FrameLog}
 use Rattle.tx_script.specs.declared.played.Played.{Played}
@@ -38,8 +38,7 @@ pub record IsWithin (sums : Sums) (count : ℕ) : Type 0 where
 pub within_more : (outcome : Outcome) (sums : Sums) (count : ℕ) → HasFew outcome → IsWithin sums count
     → IsWithin (counted outcome sums) (count + 1)
 unfolding counted
-within_more Quiet sums count few w = record { accepted = omega arith; refused = omega arith; frames = omega arith }
-within_more _ sums count few w = record { accepted = omega arith; refused = omega arith; frames = omega arith }
+within_more outcome sums count few w = grind arith
 
 -- some lines of a text were run, and these bytes are left
 pub record Goes (plan : Plan) (text : List ℕ) (left old new : Option (List ℕ)) (bench : AtBench) (count : ℕ)
@@ -66,7 +65,7 @@ running_none plan (Some text) old bench is_fresh = record {
   sums_are = refl;
   ran = record {
     lines = tt;
-    matches = grind (arith, fresh_matches, fresh_sent);
+    matches = grind (arith, each_fresh);
     told = λ k d lt. absurd (omega arith);
     others = λ place sub none. (each_fresh plan bench.tx is_fresh.tx place sub).1;
     wrote = Appends-nil old;
@@ -131,9 +130,7 @@ module _ (plan : Plan) (bytes left old mid : Option (List ℕ)) (bench : AtBench
 ends_more : (plan : Plan) (text : List ℕ) (Ran More : List AnsweredLine → Type 0) (Halts Begun : Type 0)
     → ((turns : List AnsweredLine) → Ran turns → More turns) → (result : Result Sums RunFault)
     → (result ≡ Err Fault.Memory → Begun) → Ends plan text Ran Halts result → Ends plan text More Begun result
-ends_more plan text Ran More Halts Begun more (Err Fault.Write) begun h = tt
-ends_more plan text Ran More Halts Begun more (Err Fault.Memory) begun h = begun refl
-ends_more plan text Ran More Halts Begun more _ begun h = grind arith
+ends_more plan text Ran More Halts Begun more result begun h = grind arith
 
 -- The lines of a text stopped, and its streams may have been written.
 module _ (plan : Plan) (text : List ℕ) (old mid fin : Option (List ℕ)) (bench : AtBench) where
@@ -144,7 +141,7 @@ module _ (plan : Plan) (text : List ℕ) (old mid fin : Option (List ℕ)) (benc
       grind (
         arith,
         finds_first (play plan turns) before bench ran.matches since gathered,
-        totals_are (play plan turns) before bench ran.matches since gathered turns (told_still _ before.tx bench.tx turns since.closes ran.told),
+        totals_are (play plan turns) before bench ran.matches since gathered turns (grind arith),
         told_still _ before.tx bench.tx turns since.closes ran.told,
       )
 
@@ -171,14 +168,14 @@ module _ (plan : Plan) (text : List ℕ) (old mid fin : Option (List ℕ)) (benc
     whole,
     ends_more plan text (Running plan text old mid bench) (HasPlayed plan text old fin a.handed b.handed)
         (Halted plan text old mid bench) ⊥ (λ turns ran. has_played a b turns ran w.1) ended
-        (λ is. false≢true (sym (rw is at whole))) stops,
+        (grind arith) stops,
   )
   finished ended (Broken told) whole stops w = rw w (refl, tt)
 
   -- The lines stopped at a fault.
   pub early : (fault : RunFault) (played : Played) → Stops plan text old mid bench (Err fault)
       → EndsEarly fault bench mid fin played → Plays plan text old fin played
-  early fault played stops (inl w) = finished (Err fault) played w.0 stops w.1
+  early fault played stops (inl w) = grind (arith, finished)
   early fault played stops (inr w) = rw w.1 (w.0, silent fault stops w.0)
     where
       silent : (end : RunFault) → Stops plan text old mid bench (Err end) → ends_writing end ≡ true
@@ -187,11 +184,11 @@ module _ (plan : Plan) (text : List ℕ) (old mid fin : Option (List ℕ)) (benc
           let st : Play = play plan halted.turns in
           record {
             turns = halted.turns;
-            run = are_run halted.before halted.turns halted.ran halted.since w.3;
+            run = grind (arith, are_run);
             written = st.notes;
             unwritten = _;
             begins = refl;
-            wrote = Appends-kept old mid fin st.notes halted.ran.wrote w.2;
+            wrote = grind arith;
           }
       silent Fault.Write halted ends = tt
       silent _ halted ends = absurd (false≢true ends)

@@ -24,10 +24,6 @@ use Rattle.tx_script.specs.EndSystem.{EndSystem}
 use Rattle.tx_script.specs.Play.{Answer, Messages, takes, closes, fills, place_of, passed_on, queued, sent_to, script_refusal, outcome_of}
 use Rattle.tx_script.proofs.Matched.{sent_at_hand, asked_more, have_sent, same_totals}
 
--- a message that the port may send
-may_pass : (port : PortPlan) (size : ℕ) → MaySend port size → length_refusal port size ≡ None
-may_pass port size may = grind arith
-
 -- a sender but for its counts of requests and of loads of the closed flag, and what it found
 abbrev asked_so : SenderView → SenderView → SenderView
 asked_so old new = record old { asks = new.asks; load = new.load; glances = new.glances; shut = new.shut }
@@ -44,7 +40,7 @@ queue_refused : (old new : PortView) (bytes : List ℕ) (why : QueueWhy) (answer
     → Sends old bytes new (Became.Refused refusal)
 queue_refused old new bytes why answer refusal r is =
     let so = asks why new.sender r.queue in
-    rw r.same (refused_by old new.sender bytes answer refusal (rw (may_pass old.plan (length bytes) r.may) is) so.0 so.1)
+    rw r.same (refused_by old new.sender bytes answer refusal (grind arith) so.0 so.1)
   where
     asks : (by : QueueWhy) (s : SenderView) → IsRefused old.sender by s
         → (s ≡ asked_so old.sender s) × (s.asks ≤ old.sender.asks + 1)
@@ -60,7 +56,7 @@ sends_refused old new bytes Why.Empty some r =
     rw r.1 (refused_by old old.sender bytes fills Empty (rw (eq-eqb (length bytes) 0 r.0) refl) refl (omega arith))
 sends_refused old new bytes Why.TooLong some r =
     let long : length_refusal old.plan (length bytes) ≡ Some Why.TooLong =
-    rw (ne_eqb (length bytes) 0 (λ e. absurd (omega (arith, r.0))), lt-ltb old.plan.max (length bytes) r.0) refl in
+    grind arith in
     rw r.1 (refused_by old old.sender bytes fills TooLong (rw long refl) refl (omega arith))
 sends_refused old new bytes Why.Closed some r = queue_refused old new bytes Queue.Closed closes Closed r refl
 sends_refused old new bytes Why.Exhausted some r = absurd (some refl)
@@ -75,7 +71,7 @@ obeys_still line bench outcome few ok = grind arith
 -- The same of a bench that is this one.
 pub at_bench : {line : Line} {old bench new : AtBench} {outcome : Outcome} → old ≡ bench → Obeys line old new outcome
     → Obeys line bench new outcome
-at_bench same obeys = rw (← same) obeys
+at_bench same obeys = grind arith
 
 -- A message for no port.
 pub obeys_nowhere : (bench : AtBench) (id : ℕ) (bytes : List ℕ) → place_of bench.tx.plan id ≡ None
@@ -99,7 +95,7 @@ obeys_send tx ports id place d new bytes outcome h found lt s = record {
           (have_sent ports place d new bytes outcome lt s accepted m.own);
     };
   };
-  few = rw s.is (few (length_refusal (get_or ports place d).plan (length bytes)) s.answer);
+  few = grind arith;
   asked = asked_more ports place d new bytes outcome lt s;
   closes = same_totals (Send id bytes) tx tx refl (λ k s. refl);
 }

@@ -1,11 +1,11 @@
 use Rattle.std.proofs.Common.{arith}
 use Rattle.std.proofs.lemmas.Result.{err_from_is_err_and}
-use Rattle.tx_script.proofs.Matched.{fresh_asked, asked_on}
+use Rattle.tx_script.proofs.Matched.{asked_on}
 use Rattle.tx_script.proofs.RunLemmas.{running_none, running_turn, within_more, stop_memory, stop_fault}
 use Rattle.tx_script.proofs.obey_lines.obey_lines.Goals as goal
 
 pub loop-count-init : goal.loop-count-init
-loop-count-init g c = grind (arith, fresh_asked, running_none)
+loop-count-init g c = grind (arith, running_none)
 
 pub returns-in_err-said : goal.returns-in_err-said
 returns-in_err-said g c =
@@ -37,4 +37,4 @@ pub returns-in-Ok-Some : goal.returns-in-Ok-Some
 returns-in-Ok-Some g c = grind arith
 
 pub obey-requires : goal.obey-requires
-obey-requires g c = asked_on c.loop-count.count _ _ (omega arith) c.loop-count.invariant.asked
+obey-requires g c = grind arith
