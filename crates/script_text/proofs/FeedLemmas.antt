@@ -10,8 +10,8 @@ use Rattle.script_text.specs.Lines.{before_feed, IsPlain, TakesPlain}
 -- `place` bytes, none of them a line feed, before a line feed or the end
 pub before_at : (text : List ℕ) (place : ℕ) → ((k : ℕ) → k < place → ¬ ((get_or text k 0 == 10) ≡ true))
     → (place < length text → (get_or text place 0 == 10) ≡ true) → take place text ≡ before_feed text
-before_at [] place none feed = take_all place [] (omega arith)
-before_at (x ∷ xs) zero none feed = let is : (x == 10) ≡ true = feed (omega arith) in rw is refl
+before_at [] place none feed = grind (arith, take_all)
+before_at (x ∷ xs) zero none feed = grind arith
 before_at (x ∷ xs) (suc place) none feed =
     let other : (x == 10) ≡ false = false_from_ne_true (x == 10) (none 0 (omega arith)) in
     rw other (ap (λ r. x ∷ r) (before_at xs place (λ k lt. none (suc k) (omega arith)) (λ lt. feed (omega arith))))
@@ -23,13 +23,13 @@ record IsBefore (text front : List ℕ) : Type 0 where
   plain : IsPlain front
 
 before_is : (text : List ℕ) → IsBefore text (before_feed text)
-before_is [] = record { others = []; is = refl; plain = refl }
+before_is [] = grind arith
 before_is (x ∷ xs) = by (x == 10) refl (before_is xs)
   where
     by : (b : Bool) → (x == 10) ≡ b → IsBefore xs (before_feed xs)
         → IsBefore (x ∷ xs) (if b then [] else x ∷ before_feed xs)
-    by true e h = record { others = x ∷ xs; is = refl; plain = refl }
-    by false e h = record { others = h.others; is = ap (λ (r : List ℕ). x ∷ r) h.is; plain = rw e h.plain }
+    by true e h = (grind arith)
+    by false e h = (grind arith)
 
 -- the same of a range of a buffer
 before_range : (buffer : List ℕ) (start end : ℕ) (plain : List ℕ)

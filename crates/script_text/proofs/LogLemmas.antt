@@ -12,7 +12,7 @@ use Rattle.script_text.specs.declared.frame_log.Mark.{Mark}
 pub spelled_more : (marks : List Mark) (bytes : List ℕ) (mark : Mark) (frame : List ℕ)
     → sum_by (λ (m : Mark). m.len) marks ≡ length bytes → mark.len ≡ length frame
     → spelled (marks ++ mark ∷ []) (bytes ++ frame) ≡ spelled marks bytes ++ entry mark.at frame ∷ []
-spelled_more [] [] mark frame all len = ap (λ (f : List ℕ). entry mark.at f ∷ []) (take_all mark.len frame (omega arith))
+spelled_more [] [] mark frame all len = grind (arith, entry, take_all)
 spelled_more [] (b ∷ bs) mark frame all len = absurd (omega (arith, all))
 spelled_more (m ∷ ms) bytes mark frame all len =
     let more = sum_by-cons (λ (k : Mark). k.len) m ms in
@@ -27,7 +27,6 @@ pub kept_tail : (mark : Mark) (marks : List Mark) (bytes : List ℕ) → AreInLo
     → AreInLog marks (drop mark.len bytes)
 kept_tail mark marks bytes h = record {
   all =
-      let all = h.all in
       let more = sum_by-cons (λ (k : Mark). k.len) mark marks in
       omega (arith, length-drop mark.len bytes);
   short = λ k d lt. h.short (suc k) d (omega arith);

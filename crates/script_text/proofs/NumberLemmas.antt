@@ -16,7 +16,7 @@ read_on_next n w i h = rw (drop_more w i 0 h)
 
 -- the number so far is no greater than the whole
 pub too_great : (n most : ℕ) (w : List ℕ) (i : ℕ) → i < length w → most < n * 10 + (get_or w i 0 - 48) → most < read_on n (drop i w)
-too_great n most w i h great = rw (read_on_next n w i h) (omega (arith, great, read_on_le (n * 10 + (get_or w i 0 - 48)) (drop (i + 1) w)))
+too_great n most w i h great = grind (arith, read_on_next, read_on_le)
 
 -- a numeral in range
 pub number_some : (most : ℕ) (w : List ℕ) (n : ℕ) → is_numeral w ≡ true → n ≡ read_on 0 w → n ≤ most → Some n ≡ number_of most w
@@ -26,7 +26,7 @@ number_some most w n is e h = grind arith
 -- one that is too great
 pub number_none : (most : ℕ) (w : List ℕ) → is_numeral w ≡ true → most < read_on 0 w → None ≡ number_of most w
 unfolding number_of
-number_none most w is h = rw (is, lt-leb (read_on 0 w) most h) refl
+number_none most w is h = grind arith
 
 -- at the end the number is whole
 pub read_on_end : (n : ℕ) (w : List ℕ) (i : ℕ) → length w ≤ i → read_on n (drop i w) ≡ n

@@ -23,7 +23,7 @@ record FirstPart (text : List ℕ) (m : ℕ) : Type 0 where
 first_part : (text : List ℕ) (m : ℕ) → m ≤ length text → ((k : ℕ) → k < m → is_blank (get_or text k 0) ≡ false)
     → (m < length text → is_blank (get_or text m 0) ≡ true) → FirstPart text m
 unfolding words_of
-first_part [] zero le h gap = record { others = []; is = refl; words = refl }
+first_part [] zero le h gap = grind arith
 first_part [] (suc m) le h gap = absurd (omega arith)
 first_part (x ∷ xs) zero le h gap =
     let blank : is_blank x ≡ true = gap (omega arith) in
@@ -31,11 +31,7 @@ first_part (x ∷ xs) zero le h gap =
 first_part (x ∷ xs) (suc m) le h gap =
     let first : is_blank x ≡ false = h 0 (omega arith) in
     let rest = first_part xs m (omega arith) (λ k lt. h (suc k) (omega arith)) (λ lt. gap (omega arith)) in
-    record { others = rest.others; is = rw first (ap (onto_first x) rest.is); words = rest.words }
-
-word_counts : (word : List ℕ) (parts : List (List ℕ)) → 0 < length word
-    → filter is_some_text (word ∷ parts) ≡ word ∷ filter is_some_text parts
-word_counts word parts h = grind arith
+    grind arith
 
 -- nothing but blanks
 pub next_none : (line text : List ℕ) (n : ℕ) → text ≡ drop n line
@@ -55,13 +51,4 @@ pub next_some : (line text word rest : List ℕ) (n m : ℕ) → text ≡ drop n
     → (m < length text → is_blank (get_or text m 0) ≡ true) → 0 < length text → words_of line ≡ word ∷ words_of rest
 unfolding words_of
 next_some line text word rest n m is blank found word_is rest_is le inside gap long =
-    grind (
-      arith,
-      first_part text m le inside gap,
-      get_or-drop n line 0 0,
-      add-zero n,
-      length-drop n line,
-      length-take m text,
-      skip_front,
-      word_counts,
-    )
+    grind (arith, first_part text m le inside gap, get_or-drop n line 0 0, add-zero n, length-drop n line, length-take m text, skip_front)

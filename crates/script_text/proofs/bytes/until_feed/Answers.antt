@@ -9,5 +9,5 @@ returns-in-Some c = grind (arith, before_at)
 pub returns-in-None : goal.returns-in-None
 returns-in-None c =
     let none = c.in-None.ensures in
-    sym (take_all (length c.args.text.now) c.args.text.now (omega arith))
-    ∙ before_at c.args.text.now (length c.args.text.now) (λ k lt. none k (omega arith) lt) (λ within. absurd (omega arith))
+    sym (grind (arith, take_all))
+    ∙ before_at c.args.text.now (length c.args.text.now) (grind arith) (grind arith)

@@ -5,9 +5,9 @@ use Rattle.script_text.proofs.decimal.number.Goals as goal
 pub returns-in-None-clause-value : goal.returns-in-None-clause-value
 returns-in-None-clause-value c =
     let over : c.args.most < c.loop-digit.value * 10 + (get_or c.args.word.now c.loop-digit.digit-index 0 - 48) =
-    omega (arith, c.in-None.ensures, c.ranges.most.fits) in
+    grind arith in
     let great = too_great c.loop-digit.value c.args.most c.args.word.now c.loop-digit.digit-index c.loop-digit-test.true over in
-    number_none c.args.most c.args.word.now (sym c.if-not-is_numeral.ensures) (rw c.loop-digit.invariant at great)
+    grind (arith, number_none)
 
 pub returns-then-value-most-clause-value : goal.returns-then-value-most-clause-value
 returns-then-value-most-clause-value c = grind (arith, number_some, read_on_end)

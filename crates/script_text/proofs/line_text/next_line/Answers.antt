@@ -11,7 +11,7 @@ returns-in-Ok-None-2-clause-long g c line =
     let taken = rw c.in-Ok-None.field-0-is at c.in-Ok-None.ensures.taken in
     let long = c.of_len.ensures.long line in
     eof_long _ _ _ _ (read_plain _ _ _ _ _ c.loop-bytes.invariant c.in_ok-take_plain.ensures) taken
-    (c.in-Ok-None.ensures.ended c.in-Ok-None.field-0-is) (omega (arith, long))
+    (grind arith) (omega (arith, long))
 
 pub returns-in-Ok-Some-eq10-clause-taken : goal.returns-in-Ok-Some-eq10-clause-taken
 returns-in-Ok-Some-eq10-clause-taken g c line =

@@ -12,4 +12,4 @@ returns c =
     c.text_at.ensures.found
     c.split_at-2.ensures.front c.split_at-2.ensures.back c.blank_at.ensures.within c.blank_at.ensures.before
     c.blank_at.ensures.found
-    (grind (arith, nat_tests, c.if-is_empty.ensures))
+    (grind arith)
