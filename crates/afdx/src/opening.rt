@@ -7,7 +7,7 @@ ghost use Rattle.afdx_plan.specs.PlanFaults.{fault_number};
 ghost use Rattle.afdx_tx.specs.Ports.{PortView, IsPortOfTx, LacksPlace};
 ghost use Rattle.afdx_handle.specs.Numbers.{IsOneOf};
 ghost use Rattle.afdx_handle.specs.EndSystem.{EndView, has_id, GathersEnd, GivesBack, TakesPort, IsOpened};
-ghost use Rattle.afdx_handle.specs.Explaining.{IsExplainedIn};
+ghost use Rattle.afdx_handle.specs.Listing.{IsExplainedIn};
 ghost use Rattle.afdx_handle.specs.Held.{end_of, port_of, port_block, HoldsNothing, HoldsOne, HoldsEnd, HoldsPort, HoldsSame, EndDoes};
 
 use crate::content::{at_end, with_end, with_port};

@@ -1,10 +1,10 @@
 //! The calls that read an end system. `afdx.h` declares its handle with `const`.
 ghost use Rattle.std.specs.Prelude.{◌≡◌, ◌≢◌, ◌⊎◌, ◌↔◌, ◌<◌, ◌≤◌, ◌++◌, [], ◌∷◌, None, Some, IsSome, IsNone, IsSomeAnd, false, length, drop};
-ghost use Rattle.afdx_tx.specs.Naming.{LacksLink};
+ghost use Rattle.afdx_tx.specs.Emitter.{LacksLink};
 ghost use Rattle.afdx_handle.specs.Numbers.{AreCountsOf, IsOneOf, net_of};
 ghost use Rattle.afdx_handle.specs.EndSystem.{made_for, made_at, IsAllSent};
 ghost use Rattle.afdx_legal.specs.Counting.{counts_in};
-ghost use Rattle.afdx_legal.specs.Own.{own_stream};
+ghost use Rattle.afdx_legal.specs.Streams.{own_stream};
 ghost use Rattle.afdx_handle.specs.Polling.{IsNextDue};
 ghost use Rattle.afdx_handle.specs.Listing.{with_front, port_ids, link_ids, all_made, bytes_of, lengths_of};
 ghost use Rattle.std.specs.List.{concat};

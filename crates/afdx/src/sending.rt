@@ -3,7 +3,7 @@ ghost use Rattle.std.specs.Prelude.{◌≡◌, ◌≢◌, ◌⊎◌, ◌↔◌, 
 ghost use Rattle.redundant_mux.specs.Lines.{is_alive};
 ghost use Rattle.afdx_tx.specs.declared.fault.Refusal.{Refusal};
 ghost use Rattle.afdx_tx.specs.Ports.{MaySend, Accepts, Refuses};
-ghost use Rattle.afdx_tx.specs.Closing.{LacksSub};
+ghost use Rattle.afdx_tx.specs.Calls.{LacksSub};
 ghost use Rattle.afdx_handle.specs.Numbers.{IsOneOf, net_of, refusal_number, standing_bits};
 ghost use Rattle.afdx_handle.specs.EndSystem.{PollsEnd, ClosesEnd};
 ghost use Rattle.afdx_handle.specs.Held.{end_of, port_of, HoldsNothing, HoldsEnd, HoldsPort, HoldsSame, EndDoes, PortDoes};

@@ -2,7 +2,7 @@
 //! transcripts, reports on configurations, and throws storms of messages at an end system.
 #![tactic(auto)]
 
-ghost use Rattle.plan_report.specs.Words.{IsInRange};
+ghost use Rattle.plan_report.specs.Status.{IsInRange};
 
 mod files;
 mod report;

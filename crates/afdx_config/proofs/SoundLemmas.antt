@@ -7,7 +7,7 @@ use Rattle.afdx_config.proofs.Names.{fields_in, link_of, port_of, plan_of, field
 use Rattle.afdx_config.proofs.Names.{IsDocument, IsSoundTable, Document, data_of, map-map, LinkPlan, PortPlan}
 use Rattle.afdx_config.proofs.Names.{Place, key_finding, each_row}
 use Rattle.afdx_config.specs.Format.{id_range}
-use Rattle.afdx_config.specs.Entries.{number_in}
+use Rattle.afdx_config.specs.Tables.{number_in}
 use Rattle.afdx_config.specs.Findings.{table_findings}
 use Rattle.afdx_config.proofs.SectionLemmas.{option_maps}
 use Rattle.std.proofs.Common.{arith}

@@ -1,5 +1,5 @@
--- The values of links and ports that have no fault.
-use Rattle.std.specs.Prelude.{codes, ℕ, List, map, Bool, is_none, Option, Some, None, option_and_then, unwrap_or}
+-- The values of links and ports that have no fault, and the faults of 7 to 14 in them.
+use Rattle.std.specs.Prelude.{codes, ℕ, List, map, Bool, is_none, Option, Some, None, option_and_then, unwrap_or, ◌&&◌, not}
 use Rattle.toml.specs.Data.{Members}
 use Rattle.afdx_plan.specs.declared.fault.ConfigFault.{ConfigFault}
 use Rattle.afdx_plan.specs.declared.identifiers.Kind.TheVariants.{Sampling}
@@ -7,9 +7,11 @@ use Rattle.afdx_config.specs.declared.format.Content.TheVariants.{Whole, PortKin
 use Rattle.afdx_config.specs.Format.{needed, optional, id_range, lmax_range, max_range, partition_range, sub_range, subs_range, udp_range}
 use Rattle.afdx_plan.specs.declared.rows.LinkRow.{LinkRow}
 use Rattle.afdx_plan.specs.declared.rows.PortRow.{PortRow}
-use Rattle.afdx_config.specs.Entries.{text_at, number_in}
-use Rattle.afdx_config.specs.Tables.{field_fault, rows_at}
+use Rattle.afdx_config.specs.Tables.{text_at, number_in, field_fault, rows_at}
 use Rattle.afdx_config.specs.Values.{kind_of, address_of}
+use Rattle.std.specs.List.{list_any}
+use Rattle.afdx_plan.specs.PlanFaults.{Parts, misfits, parts_show}
+use Rattle.afdx_plan.specs.declared.rows.Misfit.{Misfit}
 
 -- a value, if its key has no fault
 abbrev pub if_sound : {X : Type 0} → Option ConfigFault → X → Option X
@@ -58,3 +60,27 @@ cells_of document = record {
   has_links = is_none (field_fault document (needed (codes "vl") Rows));
   has_ports = is_none (field_fault document (needed (codes "port") Rows));
 }
+
+-- the array of links and their identifiers have no fault
+abbrev pub all_named : Cells → Bool
+all_named cells = cells.has_links && not (list_any (λ (link : LinkRow). is_none link.id) cells.links)
+
+-- the port does not fit its link in this way
+abbrev pub is_misfit : Misfit → Cells → PortRow → Bool
+is_misfit misfit cells port = misfits (λ (link : LinkRow). link) (all_named cells) cells.links misfit port
+
+-- links and ports, which the rules of plans look at
+abbrev pub sides : Cells → Parts LinkRow PortRow
+sides cells = record {
+  links = cells.links;
+  ports = cells.ports;
+  of_link = λ link. link;
+  of_port = λ port. port;
+  named = all_named cells;
+  has_links = cells.has_links;
+  has_ports = cells.has_ports;
+}
+
+-- links and ports have a fault of 7 to 14
+abbrev pub cells_show : ConfigFault → Cells → Bool
+cells_show fault cells = parts_show (sides cells) fault

@@ -10,10 +10,8 @@ use Rattle.afdx_plan.specs.declared.rows.PortRow.{PortRow}
 use Rattle.afdx_config.specs.declared.findings.Place.{Place}
 use Rattle.afdx_config.specs.declared.findings.Place.TheVariants.{Top, EndSystem, Link, Port}
 use Rattle.afdx_config.specs.Format.{Field, document_fields, end_fields, link_fields, port_fields, fields_in}
-use Rattle.afdx_config.specs.Cells.{Cells, cells_of}
-use Rattle.afdx_config.specs.CellFaults.{is_misfit, sides}
-use Rattle.afdx_config.specs.Entries.{member_keys}
-use Rattle.afdx_config.specs.Tables.{field_fault, key_fault, rows_at, section_at, is_version_2}
+use Rattle.afdx_config.specs.Cells.{Cells, cells_of, is_misfit, sides}
+use Rattle.afdx_config.specs.Tables.{member_keys, field_fault, key_fault, rows_at, section_at, is_version_2}
 
 -- a fault, its place, its key, and the other table of a fault of two
 pub record Finding : Type 0 where

@@ -11,8 +11,7 @@ use Rattle.afdx_plan.specs.declared.identifiers.Kind.TheVariants.{Sampling}
 use Rattle.afdx_plan.specs.declared.identifiers.UdpSum.TheVariants.{Omitted}
 use Rattle.afdx_plan.specs.declared.networks.Networks.TheVariants.{Both}
 use Rattle.afdx_config.specs.Format.{capacity_range, id_range, lmax_range, max_range, partition_range, sub_range, subs_range, udp_range}
-use Rattle.afdx_config.specs.Entries.{whole_at, text_at, number_in}
-use Rattle.afdx_config.specs.Tables.{section_at, rows_at}
+use Rattle.afdx_config.specs.Tables.{whole_at, text_at, number_in, section_at, rows_at}
 use Rattle.afdx_config.specs.Values.{bag_of, networks_of, kind_of, address_of, checksum_of}
 use Rattle.afdx_plan.specs.Config.{Plan}
 

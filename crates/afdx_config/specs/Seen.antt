@@ -1,5 +1,5 @@
--- The specification values of findings in the code.
-use Rattle.std.specs.Prelude.{◌≡◌, ◌≤◌, ◌++◌, ⊤, List, [], ◌∷◌, length, map, take, string_bytes, Option, Some, None}
+-- The specification values of documents, formats and findings in the code.
+use Rattle.std.specs.Prelude.{◌≡◌, ◌≤◌, ◌++◌, ⊤, List, [], ◌∷◌, length, map, take, string_bytes, Option, Some, None, codes, option_map}
 use Rattle.std.specs.List.{AllByRecursion}
 use Rattle.afdx_plan.specs.declared.fault.ConfigFault.{ConfigFault}
 use Rattle.afdx_config.specs.Cells.{Cells}
@@ -7,6 +7,14 @@ use Rattle.afdx_config.specs.Findings.{Finding, by_fault, lines_limit, number_of
 use Rattle.afdx_config.specs.declared.rows.Rows.{Rows}
 use Rattle.afdx_config.specs.declared.findings.Finding.{Finding as Written}
 use Rattle.afdx_config.specs.declared.findings.Found.{Found}
+use Rattle.toml.specs.Data.{Members}
+use Rattle.toml.specs.View.{table_view}
+use Rattle.afdx_plan.specs.Config.{Plan, plan_of_parts}
+use Rattle.afdx_config.specs.Format.{Field}
+use Rattle.afdx_config.specs.Tables.{field_fault, section_at, rows_at}
+use Rattle.afdx_config.specs.declared.format.Field.{Field as Written}
+use Rattle.afdx_config.specs.declared.document.Document.{Document}
+use Rattle.afdx_config.specs.declared.parts.Parts.{Parts}
 
 -- the finding
 abbrev pub finding_of : Written → Finding
@@ -44,3 +52,29 @@ pub record Holds (found : Found) (all : List Finding) : Type 0 where
 -- these findings were added
 abbrev pub Adds : Found → Found → List Finding → Type 0
 Adds old new more = (all : List Finding) → Holds old all → Holds new (all ++ more)
+
+-- the field of the specification
+abbrev pub field_of : Written → Field
+field_of written = record {
+  key = written.0.now;
+  is_needed = written.1;
+  content = written.2;
+}
+
+-- the data of a document
+abbrev pub data_of : Document → Members
+data_of document = table_view document.top.now
+
+-- the tables are those of the document
+pub record IsDocument (document : Document) : Type 0 where
+  pub end_is : option_map (λ t. table_view t.now) document.end ≡ section_at (codes "end_system") (data_of document)
+  pub links_are : map (λ r. table_view r.now) document.links.items ≡ rows_at (codes "vl") (data_of document)
+  pub ports_are : map (λ r. table_view r.now) document.ports.items ≡ rows_at (codes "port") (data_of document)
+
+-- no key of this format has a fault in the table
+abbrev pub IsSoundTable : List Field → Members → Type 0
+IsSoundTable fields members = AllByRecursion (λ field. field_fault members field ≡ None) fields
+
+-- the plan of parts that are not yet checked against each other
+abbrev pub plan_in : Parts → Plan
+plan_in parts = plan_of_parts parts.end_system parts.links.items parts.ports.items

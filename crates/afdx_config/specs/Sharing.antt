@@ -1,11 +1,12 @@
--- Keys of ports.
-use Rattle.std.specs.Prelude.{ℕ, ◌+◌, List, [], ◌∷◌, Bool, ◌==◌, ◌&&◌, nat_eq, if◌then◌else◌, Option, Some, None, option_and_then}
+-- Rows by their keys, and the keys of ports.
+use Rattle.std.specs.Prelude.{ℕ, ◌+◌, List, [], ◌∷◌, Bool, ◌==◌, ◌&&◌, nat_eq, if◌then◌else◌, Option, Some, None, option_and_then, false}
 use Rattle.std.specs.Cmp.Lexicographic.{slice_cmp}
 use Rattle.std.specs.Option.{option_map_or}
 use Rattle.std.specs.Ordering.{is_eq, nat_cmp, ordering_then}
 use Rattle.std.specs.declared.cmp.Ordering.{Ordering}
 use Rattle.afdx_plan.specs.PlanFaults.{both}
 use Rattle.afdx_plan.specs.declared.rows.PortRow.{PortRow}
+use Rattle.std.specs.List.{position}
 
 -- five values, if there is each
 abbrev pub all_five : {A B C D E : Type 0} → Option A → Option B → Option C → Option D → Option E → Option (A × B × C × D × E)
@@ -56,3 +57,12 @@ sub_in _ _ = None
 -- the port is on this sub-VL
 abbrev pub is_on_sub : ℕ × ℕ → PortRow → Bool
 is_on_sub q port = both nat_eq port.vl (Some q.0) && both nat_eq port.sub (Some q.1)
+
+-- a row has this key
+abbrev pub is_key : {K : Type 0} → (K → K → Ordering) → K → Option K → Bool
+is_key cmp key None = false
+is_key cmp key (Some other) = is_eq (cmp other key)
+
+-- the index of the first row with the key, if there is a key
+abbrev pub first_row : {K : Type 0} → (K → K → Ordering) → List (Option K) → Option K → Option ℕ
+first_row cmp keys key = option_and_then (λ k. position (is_key cmp k) keys) key

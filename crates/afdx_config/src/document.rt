@@ -1,10 +1,9 @@
 //! The document of a configuration and its tables.
 ghost use Rattle.std.specs.Prelude.{◌≡◌, map, IfOk, option_map};
 ghost use Rattle.toml.specs.View.{table_view, items_view};
-ghost use Rattle.afdx_config.specs.Entries.{tables_among};
+ghost use Rattle.afdx_config.specs.Tables.{tables_among, rows_at, section_at, is_version_2};
 ghost use Rattle.afdx_config.specs.Format.{fields_in};
-ghost use Rattle.afdx_config.specs.Tables.{rows_at, section_at, is_version_2};
-ghost use Rattle.afdx_config.specs.Views.{IsDocument, data_of, field_of};
+ghost use Rattle.afdx_config.specs.Seen.{IsDocument, data_of, field_of};
 
 use crate::entries::{number_or_0, value_at};
 use crate::format::Field;

@@ -2,7 +2,7 @@
 ghost use Rattle.std.specs.Prelude.{◌≡◌, ◌≤◌, option_map, option_copied};
 ghost use Rattle.toml.specs.Data.{get_member};
 ghost use Rattle.toml.specs.View.{view, table_view};
-ghost use Rattle.afdx_config.specs.Entries.{whole_at, text_at, number_at, number_in};
+ghost use Rattle.afdx_config.specs.Tables.{whole_at, text_at, number_at, number_in};
 
 use crate::format::Range;
 use toml::{Table, Value};

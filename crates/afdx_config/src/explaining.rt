@@ -5,8 +5,7 @@ ghost use Rattle.toml.specs.View.{table_view};
 ghost use Rattle.afdx_config.specs.Cells.{cells_of};
 ghost use Rattle.afdx_config.specs.Explained.{column_after, line_of, Explains, HasLines, TellsDocument, TellsStop, TellsToml};
 ghost use Rattle.afdx_config.specs.Findings.{plan_findings, value_findings};
-ghost use Rattle.afdx_config.specs.Seen.{Holds, finding_of};
-ghost use Rattle.afdx_config.specs.Views.{IsDocument, data_of};
+ghost use Rattle.afdx_config.specs.Seen.{Holds, finding_of, IsDocument, data_of};
 
 use crate::document::Document;
 use crate::findings::{Finding, Found, Place, add};

@@ -3,10 +3,9 @@ ghost use Rattle.std.specs.Prelude.{◌≡◌, map, find, is_none, bytes_eq, opt
 ghost use Rattle.std.specs.List.{list_any};
 ghost use Rattle.toml.specs.Data.{as_table, get_member, integer, string};
 ghost use Rattle.toml.specs.View.{table_view, items_view, view};
-ghost use Rattle.afdx_config.specs.Entries.{lies_outside};
-ghost use Rattle.afdx_config.specs.Tables.{has_other_item, content_fault, fault_under, field_fault, is_key_of, key_fault, lacks_all};
+ghost use Rattle.afdx_config.specs.Tables.{lies_outside, has_other_item, content_fault, fault_under, field_fault, is_key_of, key_fault, lacks_all};
 ghost use Rattle.std.specs.BTreeMap.{keys};
-ghost use Rattle.afdx_config.specs.Views.{field_of};
+ghost use Rattle.afdx_config.specs.Seen.{field_of};
 
 use crate::entries::value_at;
 use crate::format::{Content, Field, Range};

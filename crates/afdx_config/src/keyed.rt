@@ -2,7 +2,7 @@
 ghost use Rattle.std.specs.Prelude.{◌≡◌, ℕ, map, slice_get, option_copied, IfOk, option_and_then};
 ghost use Rattle.std.specs.List.{position};
 ghost use Rattle.std.specs.BTreeMap.{get};
-ghost use Rattle.afdx_config.specs.Keyed.{is_key, first_row};
+ghost use Rattle.afdx_config.specs.Sharing.{is_key, first_row};
 
 use std::alloc::{AllocError, Global};
 use std::collections::BTreeMap;

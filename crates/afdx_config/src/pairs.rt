@@ -2,9 +2,8 @@
 ghost use Rattle.std.specs.Prelude.{◌≡◌, ◌+◌, ◌^◌, ◌<◌, map, IfOk, OnOk};
 ghost use Rattle.afdx_plan.specs.PlanFaults.{same_link, same_port, same_flow};
 ghost use Rattle.afdx_config.specs.Findings.{each_row, pair_finding, pair_findings, row_like};
-ghost use Rattle.afdx_config.specs.Keyed.{first_row};
+ghost use Rattle.afdx_config.specs.Sharing.{first_row, flow_of};
 ghost use Rattle.afdx_config.specs.Seen.{Adds};
-ghost use Rattle.afdx_config.specs.Sharing.{flow_of};
 ghost use Rattle.afdx_config.specs.declared.findings.Place.TheVariants.{Link, Port};
 
 use crate::findings::{Added, Found, Place, add, row_like};

@@ -3,10 +3,10 @@ ghost use Rattle.std.specs.Prelude.{◌≡◌, codes, map, IfOk, All};
 ghost use Rattle.std.specs.Option.{option_map_or};
 ghost use Rattle.toml.specs.View.{table_view};
 ghost use Rattle.afdx_plan.specs.Plan.{IsLink, IsPort};
-ghost use Rattle.afdx_config.specs.Entries.{number_in};
+ghost use Rattle.afdx_config.specs.Tables.{number_in};
 ghost use Rattle.afdx_config.specs.Format.{id_range};
 ghost use Rattle.afdx_config.specs.PlanOf.{link_of, port_of, plan_of};
-ghost use Rattle.afdx_config.specs.Views.{IsDocument, data_of, plan_in};
+ghost use Rattle.afdx_config.specs.Seen.{IsDocument, data_of, plan_in};
 
 use crate::document::Document;
 use crate::entries::{number, text, whole_number};

@@ -4,8 +4,7 @@ ghost use Rattle.afdx_plan.specs.declared.fault.ConfigFault.{ConfigFault};
 ghost use Rattle.afdx_config.specs.PlanOf.{plan_of};
 ghost use Rattle.afdx_config.specs.Faults.{IsPlanOf, IsLeastFault};
 ghost use Rattle.afdx_config.specs.Findings.{findings};
-ghost use Rattle.afdx_config.specs.Seen.{fault_of, finding_of};
-ghost use Rattle.afdx_config.specs.Views.{IsDocument, data_of};
+ghost use Rattle.afdx_config.specs.Seen.{fault_of, finding_of, IsDocument, data_of};
 
 use crate::document::Document;
 use crate::findings::Found;

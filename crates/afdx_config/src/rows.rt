@@ -4,7 +4,7 @@ ghost use Rattle.toml.specs.Data.{Members};
 ghost use Rattle.toml.specs.View.{table_view};
 ghost use Rattle.afdx_config.specs.Cells.{if_sound, sound_number, link_row, port_row, cells_of};
 ghost use Rattle.afdx_config.specs.Tables.{field_fault};
-ghost use Rattle.afdx_config.specs.Views.{field_of};
+ghost use Rattle.afdx_config.specs.Seen.{field_of};
 
 use crate::entries::{number, text};
 use crate::fields::{field_fault, lacks_all};

@@ -7,8 +7,7 @@ ghost use Rattle.toml.specs.View.{table_view};
 ghost use Rattle.afdx_config.specs.Findings.{each_row, key_finding, row_like, table_findings, value_findings};
 ghost use Rattle.afdx_config.specs.Tables.{key_fault};
 ghost use Rattle.afdx_config.specs.Cells.{cells_of};
-ghost use Rattle.afdx_config.specs.Seen.{Adds, cells_in};
-ghost use Rattle.afdx_config.specs.Views.{IsDocument, data_of, field_of};
+ghost use Rattle.afdx_config.specs.Seen.{Adds, cells_in, IsDocument, data_of, field_of};
 ghost use Rattle.afdx_config.specs.Format.{end_fields};
 ghost use Rattle.afdx_config.specs.declared.findings.Place.TheVariants.{EndSystem};
 

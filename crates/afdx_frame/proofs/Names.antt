@@ -9,17 +9,15 @@ unfoldable pub use Rattle.afdx_frame.specs.Frame.{addresses, datagram, header_fr
 pub use Rattle.afdx_frame.specs.Frame.{datagram_len, fragment_word, frame_of, interface_byte, udp_field, udp_front}
 pub use Rattle.afdx_frame.specs.Header.{IsFrameOf, link_in, number_in, sub_in}
 pub use Rattle.afdx_frame.specs.Profile.{HasAddresses, HasLinkHeader, HasZeroPadding, fragment_field, total_length, word_at}
-pub use Rattle.afdx_frame.specs.ReadBack.{IsPiece, Says}
+pub use Rattle.afdx_frame.specs.ReadBack.{IsPiece, Says, ChangedWordsFail, ChecksumsPass, IsWordChanged, ReassembledPass}
 pub use Rattle.afdx_frame.specs.Reassembly.{AnyOrder, Buffer, Fragment, NotBefore, bytes_from, bytes_to, covers, empty, fragment_of, fragments_of, joined, put, put_all}
 unfoldable pub use Rattle.afdx_frame.specs.Template.{unfilled}
 pub use Rattle.afdx_frame.specs.Template.{udp_ports}
-pub use Rattle.afdx_frame.specs.UdpCheck.{ChangedWordsFail, ChecksumsPass, IsWordChanged, ReassembledPass}
 pub use Rattle.afdx_frame.specs.declared.net.Net.{Net}
 pub use Rattle.afdx_frame.specs.declared.net.Net.TheVariants.{A, B}
 pub use Rattle.afdx_frame.specs.declared.piece.Piece.{Piece}
 pub use Rattle.afdx_plan.specs.Address.{destination_of, two_bytes}
-pub use Rattle.afdx_plan.specs.Numbers.{identification}
-pub use Rattle.afdx_plan.specs.Room.{room_of, step_of}
+pub use Rattle.afdx_plan.specs.Plan.{identification, room_of, step_of}
 pub use Rattle.afdx_plan.specs.declared.port_plan.PortPlan.{PortPlan}
 pub use Rattle.std.proofs.Common.{Bool, List, MatchOption, None, Option, Some, [], ap, append-nil, append_assoc, arith, drop, eq-eqb, false, get_or, inl, inr}
 pub use Rattle.std.proofs.Common.{length, map, max, nat_le, nat_lt, not, refl, replicate, rules, set, slice_index, subst, suc, sum, sym, take, true}

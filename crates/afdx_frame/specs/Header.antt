@@ -1,8 +1,10 @@
--- What switches and receivers read in any frame: link, sub-VL, sequence number and network.
-use Rattle.std.specs.Prelude.{◌≡◌, ℕ, ◌-◌, ◌%◌, ◌≤◌, List, length, slice_index}
+-- What switches and receivers read in any frame, and the same frame for another network (ARINC 664 Part 7, redundancy).
+use Rattle.std.specs.Prelude.{◌≡◌, ℕ, ◌-◌, ◌%◌, ◌≤◌, List, length, slice_index, slice_set}
 use Rattle.afdx_frame.specs.declared.net.Net.{Net}
-use Rattle.afdx_frame.specs.Frame.{interface_byte}
+use Rattle.afdx_frame.specs.Frame.{interface_byte, frame_of}
 use Rattle.afdx_frame.specs.Profile.{word_at}
+use Rattle.afdx_plan.specs.declared.port_plan.PortPlan.{PortPlan}
+use Rattle.afdx_frame.specs.declared.piece.Piece.{Piece}
 
 -- the identifier of the virtual link, from the destination MAC address
 abbrev pub link_in : List ℕ → ℕ
@@ -23,3 +25,12 @@ pub record IsFrameOf (vl sub number : ℕ) (net : Net) (frame : List ℕ) : Type
   pub of_sub : sub_in frame ≡ sub
   pub carries : number_in frame ≡ number
   pub interface : slice_index frame 11 ≡ interface_byte net
+
+-- the frame with the network's interface identifier, if it is long enough to have one
+abbrev pub twin_of : Net → List ℕ → List ℕ
+twin_of net frame = slice_set frame 11 (interface_byte net)
+
+-- The twin of a frame is the frame for that network.
+abbrev pub TwinOfFrame : Type 0
+TwinOfFrame = (end_system : ℕ) (port : PortPlan) (message : List ℕ) (place : ℕ) (piece : Piece) (first second : Net) (number : ℕ)
+    → twin_of second (frame_of end_system port message place piece first number) ≡ frame_of end_system port message place piece second number

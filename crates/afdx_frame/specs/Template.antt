@@ -1,4 +1,4 @@
--- The headers of a port's frames, made once for all of them.
+-- The headers of a port's frames, made once for all of them, and the buffer of a frame.
 use Rattle.std.specs.Prelude.{◌≡◌, ℕ, ◌≤◌, List, ◌++◌, replicate}
 use Rattle.afdx_plan.specs.Plan.{IsPort}
 use Rattle.afdx_plan.specs.declared.port_plan.PortPlan.{PortPlan}
@@ -28,3 +28,7 @@ pub record IsTemplate (port : PortPlan) (headers : List ℕ) (sum : ℕ) : Type 
   pub headers_are : headers ≡ unfilled port
   pub sum_is : sum ≡ word_sum (addresses 0 port)
   pub most : sum ≤ 400000
+
+-- the frame that was written last
+pub record Buffered : Type 0 where
+  pub items : List ℕ

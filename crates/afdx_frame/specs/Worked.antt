@@ -3,20 +3,18 @@ use Rattle.std.specs.Prelude.{◌≡◌, ℕ, ◌+◌, List, [], ◌∷◌, ◌�
 use Rattle.std.specs.List.{AllByRecursion}
 use Rattle.afdx_frame.specs.Checksum.{IsChecksum, word_sum, checksum, IsUdpChecksum, udp_checksum}
 use Rattle.afdx_frame.specs.Cutting.{IsCutting, cutting, pieces_from, piece_at, Cutting}
-use Rattle.afdx_frame.specs.ReadBack.{IsPiece, Says}
+use Rattle.afdx_frame.specs.ReadBack.{IsPiece, Says, PassesUdpCheck, IsWordChanged}
 use Rattle.afdx_plan.specs.Demo.{demo_port}
 use Rattle.afdx_plan.specs.Plan.{IsPort}
 use Rattle.afdx_frame.specs.declared.net.Net.{Net}
 use Rattle.afdx_frame.specs.declared.net.Net.TheVariants.{A, B}
 use Rattle.afdx_frame.specs.declared.piece.Piece.{Piece}
-use Rattle.afdx_frame.specs.Frame.{frame_of, addresses, datagram}
+use Rattle.afdx_frame.specs.Frame.{frame_of, addresses, datagram, greatest_message}
 use Rattle.afdx_frame.specs.Fragments.{Sent, fragments, fragments_at, fragments_left}
-use Rattle.afdx_frame.specs.Roles.{greatest_message}
-use Rattle.afdx_frame.specs.Twin.{twin_of}
+use Rattle.afdx_frame.specs.Header.{twin_of}
 use Rattle.afdx_frame.specs.Reassembly.{Fragment, empty, put_all, datagram_in, fragments_of}
 use Rattle.afdx_plan.specs.declared.identifiers.UdpSum.TheVariants.{Generated}
 use Rattle.afdx_plan.specs.declared.port_plan.PortPlan.{PortPlan}
-use Rattle.afdx_frame.specs.UdpCheck.{PassesUdpCheck, IsWordChanged}
 
 -- the demonstration port's internet header for a message of one byte, without its checksum
 abbrev pub demo_header : List ℕ

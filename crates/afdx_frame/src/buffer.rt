@@ -1,6 +1,6 @@
 //! The buffer of a frame, which is overwritten in place.
 ghost use Rattle.std.specs.Prelude.{◌≡◌, ◌≤◌, [], length, take};
-ghost use Rattle.afdx_frame.specs.Twin.{twin_of};
+ghost use Rattle.afdx_frame.specs.Header.{twin_of};
 
 use crate::field;
 use crate::net::{Frame, GREATEST_FRAME, Net, SHORTEST_FRAME};
@@ -21,7 +21,7 @@ pub struct FrameBuffer {
 impl Model for FrameBuffer {
     ghost use Rattle.std.specs.Prelude.{◌≤◌, take};
     ghost use Rattle.afdx_frame.specs.declared.net.TheConstants.{GREATEST_FRAME};
-    ghost use Rattle.afdx_frame.specs.Buffered.{Buffered};
+    ghost use Rattle.afdx_frame.specs.Template.{Buffered};
 
     ghost Value = { Buffered };
 

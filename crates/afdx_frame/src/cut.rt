@@ -1,9 +1,7 @@
 //! A message, cut into frames, one piece per call.
 ghost use Rattle.std.specs.Prelude.{◌≡◌, ℕ, ◌+◌, ◌≤◌, ◌<◌, ◌-◌, ◌↔◌, length, [], ◌∷◌, List, IsTrue, true, false, MatchOption, vec_len, vec_capacity};
-ghost use Rattle.afdx_plan.specs.Plan.{IsPort, SendsOver};
-ghost use Rattle.afdx_plan.specs.Room.{room_of};
-ghost use Rattle.afdx_frame.specs.Frame.{frame_of};
-ghost use Rattle.afdx_frame.specs.Roles.{greatest_message, greatest_datagram};
+ghost use Rattle.afdx_plan.specs.Plan.{IsPort, SendsOver, room_of};
+ghost use Rattle.afdx_frame.specs.Frame.{frame_of, greatest_message, greatest_datagram};
 ghost use Rattle.afdx_frame.specs.Header.{IsFrameOf};
 ghost use Rattle.afdx_frame.specs.Fragments.{blanked, fragments_at, fragments_left};
 ghost use Rattle.afdx_frame.specs.declared.net.Net.{Net as Network};

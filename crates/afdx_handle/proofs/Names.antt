@@ -8,7 +8,7 @@ pub use Rattle.afdx_handle.specs.Polling.{PollsTx, is_gathered, tx_of}
 pub use Rattle.afdx_handle.specs.contracts.end_system.EndSystem.{the_view}
 pub use Rattle.afdx_handle.specs.declared.home.Home.{Home}
 pub use Rattle.afdx_handle.specs.declared.stage.Stage.{Stage}
-pub use Rattle.afdx_tx.specs.Drain.{DrainsAt, accepted_in, accepted_view, pace_in}
+pub use Rattle.afdx_tx.specs.Run.{DrainsAt, accepted_in, accepted_view, pace_in}
 pub use Rattle.afdx_tx.specs.Emitter.{Tx, queues_in}
 pub use Rattle.afdx_tx.specs.Gathering.{IsGatheredTx}
 pub use Rattle.afdx_tx.specs.Ports.{AreOpenedWith, BelongsTo, IsPortOfTx, LacksPlace, PortView}

@@ -2,16 +2,16 @@
 use Rattle.std.specs.Prelude.{ℕ, ◌≡◌, ◌≤◌, ◌+◌, ◌-◌, List, [], ◌∷◌, ◌++◌, length, Bool, true, false, nat_eq, IsPermutation}
 use Rattle.afdx_frame.specs.declared.net.Net.{Net}
 use Rattle.afdx_frame.specs.declared.net.Net.TheVariants.{A, B}
-use Rattle.redundant_mux.specs.Outbox.{entry_at}
+use Rattle.redundant_mux.specs.Memory.{entry_at}
 use Rattle.redundant_mux.specs.Lines.{log, IsMirrored}
-use Rattle.afdx_legal.specs.Done.{IsAllDone}
+use Rattle.afdx_legal.specs.Accepted.{IsAllDone}
 use Rattle.afdx_plan.specs.Config.{Plan}
 use Rattle.afdx_config.specs.Faults.{IsPlanOf}
 use denote.RawPtr.{Ptr}
 use Rattle.afdx_tx.specs.Emitter.{Tx, IsFreshTx}
-use Rattle.afdx_tx.specs.Drain.{accepted_in}
+use Rattle.afdx_tx.specs.Run.{accepted_in}
 use Rattle.afdx_tx.specs.Ports.{PortView, IsPortOfTx, AreOpenedWith, AreFreshPorts}
-use Rattle.afdx_tx.specs.Closing.{ClosesTx}
+use Rattle.afdx_tx.specs.Calls.{ClosesTx}
 use Rattle.afdx_tx.specs.Gathering.{IsGatheredTx}
 use Rattle.afdx_tx.specs.declared.report.Report.{Report}
 use Rattle.afdx_handle.specs.Numbers.{line_of}

@@ -1,9 +1,13 @@
--- The content of a handle, by kind.
+-- The content of a handle, by kind, and how a call borrows it.
 use Rattle.std.specs.Prelude.{◌≡◌, ◌⊎◌, Option, Some, None, IsNone, IsSome, IsSomeAnd}
 use Rattle.afdx_tx.specs.Ports.{PortView}
 use denote.RawPtr.{Ptr}
 use Rattle.afdx_handle.specs.EndSystem.{EndView}
 use Rattle.afdx_handle.specs.declared.home.Home.{Home}
+use Rattle.std.specs.Borrow.{Lends, MutBor, Fml}
+use Rattle.afdx_handle.specs.declared.seal.Sealed.{Sealed}
+use Rattle.afdx_handle.specs.contracts.home.Home.{the_row as home_row}
+use Rattle.afdx_handle.specs.contracts.seal.Sealed.{the_row}
 use Rattle.afdx_handle.specs.declared.home.Home.TheVariants as is
 
 -- the end system, if it holds one
@@ -53,3 +57,11 @@ EndDoes old new Does = HoldsEnd old (λ before. HoldsEnd new (Does before))
 -- the relation between the port before and afterwards, which is of the same end system
 abbrev pub PortDoes : Option Home → Option Home → (PortView → PortView → Type 0) → Type 0
 PortDoes old new Does = HoldsPort old (λ before. HoldsPort new (Does before)) × (port_block new ≡ port_block old)
+
+-- the seal with another home
+abbrev pub with_home : Sealed → Home → Sealed
+with_home seal home = record seal { home = Some home }
+
+-- once the borrow ends, the seal holds the last home behind the result
+abbrev pub LendsHome : MutBor Sealed → MutBor Home → Fml
+LendsHome s r = Lends the_row home_row s r (with_home s.now)

@@ -1,8 +1,6 @@
+pub mod EndSystem
+pub mod Held
+pub mod Listing
 pub mod Numbers
 pub mod Polling
-pub mod EndSystem
 pub mod Sealed
-pub mod Held
-pub mod Lending
-pub mod Listing
-pub mod Explaining

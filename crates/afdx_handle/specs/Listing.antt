@@ -1,10 +1,12 @@
--- The lists of an end system, and where they are written.
-use Rattle.std.specs.Prelude.{ℕ, ◌++◌, List, map, length, drop}
+-- The lists and texts of an end system, and where they are written.
+use Rattle.std.specs.Prelude.{ℕ, ◌++◌, List, map, length, drop, ◌≡◌, take}
 use Rattle.std.specs.List.{concat, range_with_len}
 use Rattle.afdx_plan.specs.declared.link_plan.LinkPlan.{LinkPlan}
 use Rattle.afdx_plan.specs.declared.port_plan.PortPlan.{PortPlan}
 use Rattle.afdx_frame.specs.declared.net.Net.{Net}
 use Rattle.afdx_handle.specs.EndSystem.{EndView, made_for, made_at}
+use Rattle.afdx_config.specs.Findings.{Finding}
+use Rattle.afdx_config.specs.Explained.{Explains}
 
 -- a list with these elements written over its front
 abbrev pub with_front : {X : Type 0} → List X → List X → List X
@@ -40,3 +42,12 @@ lengths_of frames = map (λ (frame : List ℕ). length frame) frames
 -- their length in all
 abbrev pub bytes_of : List (List ℕ) → ℕ
 bytes_of frames = length (concat frames)
+
+-- the explanation of the text has `size` bytes, and as many of them as fit were written over the buffer's front
+pub record IsExplainedIn (text old new : List ℕ) (size : ℕ) : Type 0 where
+  pub first : List Finding
+  pub count : ℕ
+  pub told : List ℕ
+  pub explains : Explains text first count told
+  pub size_is : size ≡ length told
+  pub front : new ≡ with_front (take (length old) told) old

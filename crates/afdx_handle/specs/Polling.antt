@@ -1,7 +1,7 @@
 -- An emitter and its polls, before and after its ports are gathered.
 use Rattle.std.specs.Prelude.{ℕ, ◌≡◌, ◌-◌, ◌^◌, Bool, true, false, Option, Some, None}
 use Rattle.afdx_tx.specs.Emitter.{Tx}
-use Rattle.afdx_tx.specs.NextDue.{TellsNextDue}
+use Rattle.afdx_tx.specs.Calls.{TellsNextDue}
 use Rattle.afdx_tx.specs.Phases.{Runs, StaysLawful}
 use Rattle.afdx_tx.specs.Report.{Polls}
 use Rattle.afdx_tx.specs.declared.report.Report.{Report}

@@ -50,10 +50,10 @@ impl Model for EndSystem {
 impl EndSystem {
     ghost use Rattle.std.specs.Prelude.{◌≡◌, ◌≢◌, ◌<◌, ◌≤◌, ◌+◌, ◌++◌, ◌⊎◌, ◌↔◌, false, true, length, drop, IsErr, IfErr, IfOk};
     ghost use Rattle.redundant_mux.specs.Lines.{is_alive};
-    ghost use Rattle.afdx_tx.specs.Closing.{LacksSub};
-    ghost use Rattle.afdx_tx.specs.Naming.{LacksLink};
+    ghost use Rattle.afdx_tx.specs.Calls.{LacksSub};
+    ghost use Rattle.afdx_tx.specs.Emitter.{LacksLink};
     ghost use Rattle.afdx_legal.specs.Counting.{counts_in};
-    ghost use Rattle.afdx_legal.specs.Own.{own_stream};
+    ghost use Rattle.afdx_legal.specs.Streams.{own_stream};
     ghost use Rattle.afdx_handle.specs.Numbers.{line_of, standing_bits};
     ghost use Rattle.afdx_handle.specs.Polling.{IsNextDue};
     ghost use Rattle.afdx_handle.specs.EndSystem.{PollsEnd, ClosesEnd, before_of, made_for, made_at, IsAllSent};

@@ -1,7 +1,6 @@
 //! The faults of a configuration's text, explained to C.
 ghost use Rattle.std.specs.Prelude.{◌≡◌, ◌≢◌, ◌⊎◌, ◌<◌, ◌≤◌, [], ◌∷◌, length, take};
-ghost use Rattle.afdx_handle.specs.Explaining.{IsExplainedIn};
-ghost use Rattle.afdx_handle.specs.Listing.{with_front};
+ghost use Rattle.afdx_handle.specs.Listing.{IsExplainedIn, with_front};
 ghost use Rattle.afdx_handle.specs.Numbers.{IsOneOf};
 
 use crate::answer::{DONE, MEMORY, SMALL_BUFFER};

@@ -25,7 +25,7 @@ impl Model for Sealed {
 
 impl Sealed {
     ghost use Rattle.std.specs.Borrow.{sem};
-    ghost use Rattle.afdx_handle.specs.Lending.{LendsHome};
+    ghost use Rattle.afdx_handle.specs.Held.{LendsHome};
 
     fn of_parts(parts: Parts<Home, Global>) -> Sealed
         ensures { result.home ≡ Some parts.value }

@@ -17,10 +17,10 @@ pub enum Stage {
 impl Stage {
     ghost use Rattle.std.specs.Prelude.{◌≡◌, ◌≤◌, ◌↔◌, false, true, IsErr, OnErr, OnOk, IfOk, IsNone, IfSome};
     ghost use Rattle.redundant_mux.specs.Lines.{is_alive};
-    ghost use Rattle.afdx_tx.specs.Naming.{LacksLink};
-    ghost use Rattle.afdx_tx.specs.NextDue.{TellsNextDue};
+    ghost use Rattle.afdx_tx.specs.Emitter.{LacksLink};
+    ghost use Rattle.afdx_tx.specs.Calls.{TellsNextDue};
     ghost use Rattle.afdx_legal.specs.Counting.{counts_in};
-    ghost use Rattle.afdx_legal.specs.Own.{own_stream};
+    ghost use Rattle.afdx_legal.specs.Streams.{own_stream};
     ghost use Rattle.afdx_handle.specs.Numbers.{line_of};
     ghost use Rattle.afdx_tx.specs.Phases.{Runs, StaysLawful};
     ghost use Rattle.afdx_tx.specs.Report.{PollsUnreported};

@@ -3,7 +3,7 @@ use Rattle.afdx_laws.proofs.Names.{◌≡◌, ℕ, ◌≤◌, ◌<◌, true, Lis
 use Rattle.afdx_laws.proofs.Names.{nat_tests, cases_lt, length-map, length-take, take_all, LinkPlan, Net, A, B, link_in, twin_twice}
 use Rattle.afdx_laws.proofs.Names.{Entry, side, link_stream, IsKnown, AreKnown, is_on_both, on_both, AreTwins, own_stream, IsOnBoth, AllOnBoth, map-map}
 use Rattle.std.proofs.lemmas.List.Folds.{list_any_at}
-use Rattle.afdx_legal.specs.Own.{longer}
+use Rattle.afdx_legal.specs.Streams.{longer}
 use Rattle.afdx_laws.proofs.ListLemmas.{cons_same, map_same}
 use Rattle.afdx_laws.proofs.LegalLinks.{stream_side, stream_front}
 

@@ -16,10 +16,7 @@ pub use Rattle.std.specs.List.{AllByRecursion, AllZip, IsDistinct, list_any}
 pub use Rattle.std.specs.Prelude.{All, None, Option, Some, filter, if◌then◌else◌, slice_index}
 pub use Rattle.afdx_plan.proofs.DemoPlan.{demo_port_is, demo_valid}
 pub use Rattle.afdx_plan.specs.Config.{IsPlan, Plan, link_plan_at}
-pub use Rattle.afdx_plan.specs.Networks.{is_both}
-pub use Rattle.afdx_plan.specs.Numbers.{identification, sequence_number}
-pub use Rattle.afdx_plan.specs.Plan.{IsLink, IsPort, bag_micros}
-pub use Rattle.afdx_plan.specs.Room.{room_of, step_of}
+pub use Rattle.afdx_plan.specs.Plan.{is_both, identification, sequence_number, IsLink, IsPort, bag_micros, room_of, step_of}
 pub use Rattle.afdx_plan.specs.declared.link_plan.LinkPlan.{LinkPlan}
 pub use Rattle.afdx_plan.specs.declared.networks.Networks.{Networks}
 pub use Rattle.afdx_plan.specs.declared.networks.Networks.TheVariants.{Both, OnlyA, OnlyB}
@@ -33,21 +30,18 @@ pub use Rattle.afdx_frame.specs.Fragments.{Sent, blanked, fragments, fragments_f
 unfoldable pub use Rattle.afdx_frame.specs.Fragments.{fragments_at}
 pub use Rattle.afdx_frame.specs.Frame.{interface_byte}
 unfoldable pub use Rattle.afdx_frame.specs.Frame.{addresses, datagram, header_front, internet_header, link_header, udp_header, unnumbered}
-pub use Rattle.afdx_frame.specs.Header.{link_in, number_in, sub_in}
+pub use Rattle.afdx_frame.specs.Header.{link_in, number_in, sub_in, twin_of}
 pub use Rattle.afdx_frame.specs.Profile.{word_at}
 pub use Rattle.afdx_frame.specs.ReadBack.{IsPiece}
 pub use Rattle.afdx_frame.specs.Reassembly.{Buffer, Fragment, bytes_to, datagram_in, empty, end_of, fragment_of, fragments_of, put, put_all}
-pub use Rattle.afdx_frame.specs.Twin.{twin_of}
 pub use Rattle.afdx_frame.specs.declared.net.Net.{Net}
 pub use Rattle.afdx_frame.specs.declared.net.Net.TheVariants.{A, B}
 pub use Rattle.afdx_frame.specs.declared.piece.Piece.{Piece}
-pub use Rattle.redundant_mux.specs.Entry.{Entry, entry}
-pub use Rattle.redundant_mux.specs.Logged.{names, side}
+pub use Rattle.redundant_mux.specs.Lines.{Entry, entry, names, side}
 pub use Rattle.afdx_legal.proofs.StreamLemmas.{known_all, numbered_at, numbered_map, with_append, with_map}
-pub use Rattle.afdx_legal.specs.Allowed.{IsAllowed, IsQueued, messages_of}
+pub use Rattle.afdx_legal.specs.Accepted.{IsAllowed, IsQueued, messages_of}
 pub use Rattle.afdx_legal.specs.Legal.{Accepted, AreKnown, AreTwins, IsKnown, IsLegal, IsLegalOn, is_on_both, on_both}
-pub use Rattle.afdx_legal.specs.Own.{own_stream}
-pub use Rattle.afdx_legal.specs.Streams.{IsNumbered, IsPrefixOf, IsSpaced, entry_number, link_stream, stamp_of, sub_stream, those_with, told, told_of}
+pub use Rattle.afdx_legal.specs.Streams.{own_stream, IsNumbered, IsPrefixOf, IsSpaced, entry_number, link_stream, stamp_of, sub_stream, those_with, told, told_of}
 pub use Rattle.afdx_laws.specs.Buffers.{FirstIsGiven, HandedNeedOne, HasUpTo, HoldsAFrame, HoldsOne, IsOneEnough, LegalNeedOne, LegalNeedOneDespite}
 pub use Rattle.afdx_laws.specs.Buffers.{NeedsInTurn, NeedsOrder, OneBuffer, buffers_after, piece, two_begun, two_datagrams}
 pub use Rattle.afdx_laws.specs.Delivery.{AreCarriedOf, AreFirst, AreGiven, AreHanded, DespiteLoss, HandedArrive}

@@ -6,9 +6,9 @@ use Rattle.std.proofs.Common.{Some}
 use Rattle.std.proofs.lemmas.Map.Keys.{IsDistinct-cons, IsDistinct-from_apart}
 use Rattle.std.proofs.lemmas.Map.Steps.{length-le_from_distinct_below}
 use Rattle.vl_shaper.proofs.Polled.{polled_in_time_holds}
-use Rattle.afdx_legal.specs.Turns.{before_next, IsFollowedInTurn, TakesTurns}
+use Rattle.afdx_legal.specs.Streams.{before_next, IsFollowedInTurn, TakesTurns}
 use Rattle.afdx_laws.specs.NextFragment.{AreNeighbours, IsOfOneOf, NextInARound, FollowWithin, NextInTime, NextPolledInTime, link_wait, longest_wait, NextInPlan, LieTwoGapsApart}
-use Rattle.afdx_legal.specs.WorkedTurns.{TurnsAreTold}
+use Rattle.afdx_legal.specs.Worked.{TurnsAreTold}
 use Rattle.afdx_laws.proofs.ListLemmas.{all_front}
 use Rattle.afdx_laws.proofs.LegalSpacing.{stream_within}
 

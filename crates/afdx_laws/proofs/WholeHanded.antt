@@ -2,8 +2,8 @@
 use Rattle.afdx_laws.proofs.Names.{◌≡◌, ℕ, List, length, map, ap, arith, All-weaker, take_all, length-map, Plan, link_plan_at, Net, A, Sent, fragments, sub_in}
 use Rattle.afdx_laws.proofs.Names.{twin_of, twin_sub, Entry, those_with, link_stream, Accepted, own_stream, with_map, most_carried, longer, id_at, piece_room}
 use Rattle.afdx_laws.proofs.Names.{frames_of, longer_of, IsAllowed, IsQueued, OwnListsArrive}
-use Rattle.afdx_legal.specs.Own.{longer as longer_stream}
-use Rattle.afdx_legal.specs.Done.{IsReleased}
+use Rattle.afdx_legal.specs.Streams.{longer as longer_stream}
+use Rattle.afdx_legal.specs.Accepted.{IsReleased}
 use Rattle.afdx_laws.proofs.LegalLinks.{told_is, frames_side, legal_arrive_holds}
 
 abbrev many_of : ℕ → List (List ℕ) → ℕ

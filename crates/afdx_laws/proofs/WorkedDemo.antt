@@ -4,7 +4,7 @@ use Rattle.afdx_laws.proofs.Names.{IsPlan, Networks, Both, OnlyA, demo_valid, A,
 use Rattle.afdx_laws.proofs.Names.{IsOn, IsOnBoth, IsHandedOver, plain_receiver, checksum, cutting, fragments_at, addresses, header_front, internet_header}
 use Rattle.afdx_laws.proofs.Names.{link_header, udp_header, datagram, unnumbered}
 use Rattle.afdx_plan.specs.Demo.{demo_plan, demo_port, demo_link}
-use Rattle.afdx_legal.specs.WorkedMessage.{one_byte_accepted, one_byte}
+use Rattle.afdx_legal.specs.Worked.{one_byte_accepted, one_byte}
 use Rattle.afdx_laws.specs.WorkedPlan.{one_entry, two_arrivals, OneIsLegal, LegalDespiteOneLoss, one_own, other_own, OwnComes, OneIsWhole, NeedsAll, demo_on, ComesFromOne, AreTwinsOfOne, two_accepted, swapped_accepted, two_entries, PairHanded, AreSwapped, both_arrive, PairArrives, NeedsLegal, both_from_b, NeedsClose, PassesAGapApart}
 use Rattle.afdx_laws.proofs.AllOnBoth.{all_on_both_holds}
 use Rattle.afdx_laws.proofs.LegalLinks.{legal_arrive_holds, legal_despite_loss_holds}

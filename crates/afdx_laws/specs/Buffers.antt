@@ -6,7 +6,7 @@ use Rattle.afdx_frame.specs.declared.net.Net.{Net}
 use Rattle.afdx_frame.specs.Header.{number_in}
 use Rattle.afdx_frame.specs.Fragments.{Sent}
 use Rattle.afdx_frame.specs.Reassembly.{Fragment, Buffer, empty, put, datagram_in}
-use Rattle.redundant_mux.specs.Entry.{Entry}
+use Rattle.redundant_mux.specs.Lines.{Entry}
 use Rattle.afdx_legal.specs.Streams.{IsPrefixOf}
 use Rattle.afdx_legal.specs.Legal.{Accepted}
 use Rattle.afdx_frame.specs.declared.net.Net.TheVariants.{A, B}

@@ -5,12 +5,12 @@ use Rattle.afdx_plan.specs.Demo.{demo_port}
 use Rattle.afdx_frame.specs.declared.net.Net.TheVariants.{A}
 use Rattle.afdx_frame.specs.Cutting.{piece_at}
 use Rattle.afdx_frame.specs.Frame.{frame_of}
-use Rattle.redundant_mux.specs.Entry.{Entry, entry}
+use Rattle.redundant_mux.specs.Lines.{Entry, entry}
 use Rattle.status_board.specs.declared.counts.Counts.{Counts}
-use Rattle.status_board.specs.History.{zeros, NoFieldFalls}
+use Rattle.status_board.specs.Views.{zeros, NoFieldFalls}
 use Rattle.afdx_legal.specs.Streams.{IsSpaced}
 use Rattle.afdx_legal.specs.Counting.{capped, counts_in}
-use Rattle.afdx_legal.specs.WorkedMessage.{one_entry_at}
+use Rattle.afdx_legal.specs.Worked.{one_entry_at}
 
 -- no count falls while a spaced stream grows
 abbrev pub CountsRise : Type 0

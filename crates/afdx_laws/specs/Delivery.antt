@@ -1,15 +1,13 @@
 -- The receiving end: from the fragments of a link to datagrams, and from its frames to the messages of its sub-VLs.
 use Rattle.std.specs.Prelude.{◌≡◌, ℕ, suc, ◌%◌, ◌≤◌, nat_eq, if◌then◌else◌, Option, Some, None, List, [], ◌∷◌, ◌++◌, length, map, take, All, ◌-◌, ◌<◌, nat_le, drop, nat_lt}
-use Rattle.afdx_plan.specs.Numbers.{identification}
+use Rattle.afdx_plan.specs.Plan.{identification, IsPort}
 use Rattle.afdx_frame.specs.Reassembly.{Fragment, Buffer, empty, put, datagram_in, fragments_of}
 use Rattle.afdx_legal.specs.Streams.{those_with, IsPrefixOf}
-use Rattle.afdx_plan.specs.Plan.{IsPort}
 use Rattle.afdx_frame.specs.declared.net.Net.{Net}
 use Rattle.afdx_frame.specs.declared.net.Net.TheVariants.{A, B}
 use Rattle.afdx_frame.specs.Profile.{word_at, total_length, fragment_field}
-use Rattle.afdx_frame.specs.Header.{sub_in, number_in}
+use Rattle.afdx_frame.specs.Header.{sub_in, number_in, twin_of}
 use Rattle.afdx_frame.specs.Fragments.{Sent, blanked, fragments}
-use Rattle.afdx_frame.specs.Twin.{twin_of}
 use Rattle.afdx_legal.specs.Legal.{AreTwins}
 use Rattle.afdx_laws.specs.Receiver.{Tolerance, IsFitFor, begin, received, carried, IsStream, AreCarried, most_carried, IsNear}
 use Rattle.afdx_laws.specs.Loss.{AreClose, next_alone, frames_at}

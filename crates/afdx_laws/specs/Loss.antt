@@ -1,10 +1,9 @@
 -- Losses: one network may lose, repeat and reorder frames, as long as the other carries them all.
 use Rattle.std.specs.Prelude.{◌≡◌, ℕ, ◌+◌, ◌-◌, ◌≤◌, ◌<◌, max, Bool, true, false, cond, Some, List, [], ◌∷◌, length, map, take, slice_index_or}
-use Rattle.afdx_plan.specs.Numbers.{sequence_number}
+use Rattle.afdx_plan.specs.Plan.{sequence_number}
 use Rattle.afdx_frame.specs.declared.net.Net.{Net}
 use Rattle.afdx_frame.specs.declared.net.Net.TheVariants.{A, B}
-use Rattle.afdx_frame.specs.Header.{number_in}
-use Rattle.afdx_frame.specs.Twin.{twin_of}
+use Rattle.afdx_frame.specs.Header.{number_in, twin_of}
 use Rattle.afdx_laws.specs.Receiver.{Tolerance, other, begin, is_accepted, received, carried, IsStream}
 
 abbrev pub same_net : Net → Net → Bool

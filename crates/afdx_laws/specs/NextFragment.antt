@@ -5,13 +5,12 @@ use Rattle.afdx_plan.specs.Plan.{bag_micros}
 use Rattle.afdx_plan.specs.declared.link_plan.LinkPlan.{LinkPlan}
 use Rattle.afdx_frame.specs.declared.net.Net.{Net}
 use Rattle.afdx_frame.specs.Header.{sub_in}
-use Rattle.redundant_mux.specs.Entry.{Entry}
+use Rattle.redundant_mux.specs.Lines.{Entry}
 use Rattle.vl_shaper.specs.Polls.{Poll, AreServed, ArePolled, latest_poll, HasAtPolls, released_by}
-use Rattle.afdx_legal.specs.Streams.{link_stream}
+use Rattle.afdx_legal.specs.Streams.{link_stream, more_in, TakesTurns, TakeTurnsOn}
 use Rattle.afdx_legal.specs.Legal.{Accepted, IsLegalOn}
-use Rattle.afdx_legal.specs.Turns.{more_in, TakesTurns, TakeTurnsOn}
 use Rattle.afdx_plan.specs.Demo.{demo_plan}
-use Rattle.afdx_legal.specs.WorkedTurns.{turn_entry, in_turn}
+use Rattle.afdx_legal.specs.Worked.{turn_entry, in_turn}
 use Rattle.vl_shaper.specs.WorkedPolls.{busy_poll, idle_poll, six_polls, late_polls}
 use Rattle.afdx_laws.specs.Plans.{id_at}
 use Rattle.afdx_laws.specs.Rows.{Holds}

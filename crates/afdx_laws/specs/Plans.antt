@@ -1,23 +1,18 @@
 -- Every link of a plan: from legal transmission through the switch to the messages at the receiving ends.
 use Rattle.std.specs.Prelude.{◌≡◌, ℕ, ◌≤◌, ◌<◌, List, length, map, take, All}
 use Rattle.std.specs.List.{AllZip}
-use Rattle.afdx_plan.specs.Config.{Plan, IsPlan, link_plan_at, port_plan_at}
-use Rattle.afdx_plan.specs.Plan.{bag_micros}
-use Rattle.afdx_plan.specs.Places.{link_place}
-use Rattle.afdx_plan.specs.Room.{room_of}
+use Rattle.afdx_plan.specs.Config.{Plan, IsPlan, link_plan_at, port_plan_at, link_place}
+use Rattle.afdx_plan.specs.Plan.{bag_micros, room_of}
 use Rattle.afdx_plan.specs.declared.link_plan.LinkPlan.{LinkPlan}
 use Rattle.afdx_plan.specs.declared.networks.Networks.TheVariants.{Both}
 use Rattle.afdx_frame.specs.declared.net.Net.{Net}
 use Rattle.afdx_frame.specs.declared.net.Net.TheVariants.{A, B}
 use Rattle.afdx_frame.specs.Fragments.{Sent}
 use Rattle.afdx_frame.specs.Header.{number_in}
-use Rattle.redundant_mux.specs.Entry.{Entry}
-use Rattle.redundant_mux.specs.Logged.{only, side}
-use Rattle.afdx_legal.specs.Streams.{link_stream, IsPrefixOf}
+use Rattle.redundant_mux.specs.Lines.{Entry, only, side}
+use Rattle.afdx_legal.specs.Streams.{link_stream, IsPrefixOf, longer as longer_stream, own_stream}
 use Rattle.afdx_legal.specs.Legal.{Accepted, IsLegalOn, IsLegal, on_both, AreTwins}
-use Rattle.afdx_legal.specs.Allowed.{IsQueued, messages_of}
-use Rattle.afdx_legal.specs.Done.{IsHandedWhole}
-use Rattle.afdx_legal.specs.Own.{longer as longer_stream, own_stream}
+use Rattle.afdx_legal.specs.Accepted.{IsQueued, messages_of, IsHandedWhole}
 use Rattle.afdx_laws.specs.Policer.{Charge, Rule, Passage, AllPass, IsOnItsWay, rule_around}
 use Rattle.afdx_laws.specs.Receiver.{Tolerance, IsFitFor, begin, received, carried, most_carried}
 use Rattle.afdx_laws.specs.Loss.{AreClose, next_alone, frames_at}

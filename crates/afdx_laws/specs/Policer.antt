@@ -1,7 +1,7 @@
 -- The policer of a switch (ARINC 664 Part 7, traffic policing): a token bucket for each virtual link.
 use Rattle.std.specs.Prelude.{◌≡◌, ℕ, ◌+◌, ◌-◌, ◌*◌, ◌≤◌, ◌<◌, min, nat_le, if◌then◌else◌, None, List, [], ◌∷◌, length, map, sum_by, All, replicate}
 use Rattle.std.specs.List.{AllZip}
-use Rattle.redundant_mux.specs.Entry.{Entry, entry}
+use Rattle.redundant_mux.specs.Lines.{Entry, entry}
 use Rattle.afdx_legal.specs.Streams.{IsSpaced}
 use Rattle.afdx_laws.specs.Rows.{BothFail}
 

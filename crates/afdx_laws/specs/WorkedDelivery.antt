@@ -7,9 +7,8 @@ use Rattle.afdx_frame.specs.declared.net.Net.TheVariants.{A, B}
 use Rattle.afdx_frame.specs.Cutting.{piece_at}
 use Rattle.afdx_frame.specs.Frame.{frame_of}
 use Rattle.afdx_frame.specs.Fragments.{Sent}
-use Rattle.afdx_frame.specs.Header.{number_in}
-use Rattle.afdx_plan.specs.Numbers.{sequence_number}
-use Rattle.afdx_frame.specs.Twin.{twin_of}
+use Rattle.afdx_frame.specs.Header.{number_in, twin_of}
+use Rattle.afdx_plan.specs.Plan.{sequence_number}
 use Rattle.afdx_laws.specs.Receiver.{Tolerance, IsFitFor, begin, received, State, most_carried, IsStream, AreCarried, IsOnce, carried}
 use Rattle.afdx_laws.specs.Loss.{next_alone, AreWithin, AreClose, IsMasked, BeginsFirst, frames_at, one_lost}
 use Rattle.afdx_laws.specs.Delivery.{messages_in, AreFirst, IsSending, AreHanded, AreCarriedOf, longer}

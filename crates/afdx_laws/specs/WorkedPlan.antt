@@ -13,14 +13,11 @@ use Rattle.afdx_frame.specs.Cutting.{piece_at}
 use Rattle.afdx_frame.specs.Frame.{frame_of}
 use Rattle.afdx_frame.specs.Fragments.{Sent}
 use Rattle.afdx_frame.specs.Header.{number_in}
-use Rattle.redundant_mux.specs.Entry.{Entry, entry}
-use Rattle.redundant_mux.specs.Logged.{only}
-use Rattle.afdx_legal.specs.Streams.{link_stream, IsPrefixOf}
+use Rattle.redundant_mux.specs.Lines.{Entry, entry, only}
+use Rattle.afdx_legal.specs.Streams.{link_stream, IsPrefixOf, own_stream}
 use Rattle.afdx_legal.specs.Legal.{Accepted, IsLegalOn, IsLegal, on_both}
-use Rattle.afdx_legal.specs.Allowed.{IsQueued}
-use Rattle.afdx_legal.specs.Done.{IsHandedWhole}
-use Rattle.afdx_legal.specs.Own.{own_stream}
-use Rattle.afdx_legal.specs.WorkedMessage.{one_byte, one_byte_accepted, one_frame, one_entry_at}
+use Rattle.afdx_legal.specs.Accepted.{IsQueued, IsHandedWhole}
+use Rattle.afdx_legal.specs.Worked.{one_byte, one_byte_accepted, one_frame, one_entry_at}
 use Rattle.afdx_laws.specs.Policer.{Passage, AllPass, IsOnItsWay, by_bytes, by_frames, passage}
 use Rattle.afdx_laws.specs.Receiver.{Tolerance, IsFitFor, begin, received, carried, most_carried}
 use Rattle.afdx_laws.specs.Loss.{AreClose}

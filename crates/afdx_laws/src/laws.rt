@@ -8,7 +8,7 @@
 //!
 //! Each law comes with worked cases. `worked` computes one case. `needed`, or the name of a premise, shows that the
 //! premises hold there, and gives cases in which one of them fails, and the conclusion with it.
-ghost use Rattle.afdx_legal.specs.WorkedTurns.{TurnsAreTold};
+ghost use Rattle.afdx_legal.specs.Worked.{TurnsAreTold};
 ghost use Rattle.afdx_laws.specs.Buffers.{OneBuffer, HandedNeedOne, LegalNeedOne, LegalNeedOneDespite, HoldsTheSecond, NeedsInTurn, HoldsAFrame, FirstIsGiven, NeedsOrder};
 ghost use Rattle.afdx_laws.specs.Counted.{CountsRise, CountsTwo};
 ghost use Rattle.afdx_laws.specs.Delivery.{InOrder, DespiteLoss, MessagesArrive, HandedArrive, HandedDespiteLoss};

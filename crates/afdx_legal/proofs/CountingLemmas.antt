@@ -3,9 +3,9 @@ use Rattle.std.proofs.Common.{ℕ, ◌≡◌, ◌+◌, ◌-◌, ◌^◌, ◌≤�
 use Rattle.std.proofs.Math.Nat.{min-le_left, min-le_right, le-min}
 use Rattle.std.proofs.lemmas.List.Sums.{sum_by-append}
 use Rattle.std.proofs.lemmas.List.Elements.{filter-append}
-use Rattle.redundant_mux.specs.Entry.{Entry}
+use Rattle.redundant_mux.specs.Lines.{Entry}
 use Rattle.vl_shaper.specs.declared.shaper.Stamp.{Stamp}
-use Rattle.status_board.specs.History.{NoFieldFalls}
+use Rattle.status_board.specs.Views.{NoFieldFalls}
 use Rattle.afdx_legal.specs.Streams.{stamp_of, IsSpaced}
 use Rattle.afdx_legal.specs.Counting.{capped, bytes_in, ends_message, messages_ended, moment_after, counts_in}
 

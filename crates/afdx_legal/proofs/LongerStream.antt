@@ -3,8 +3,8 @@ use Rattle.std.proofs.Common.{ℕ, ◌≡◌, ◌≢◌, ◌+◌, ◌-◌, ◌�
 use Rattle.std.proofs.lemmas.List.{append-nil}
 use Rattle.std.proofs.lemmas.Bool.{leb-true, eq-eqb, ne_eqb}
 use Rattle.afdx_legal.proofs.StreamLemmas.{with_append}
-use Rattle.afdx_plan.specs.Numbers.{sequence_number}
-use Rattle.redundant_mux.specs.Entry.{Entry}
+use Rattle.afdx_plan.specs.Plan.{sequence_number}
+use Rattle.redundant_mux.specs.Lines.{Entry}
 use Rattle.vl_shaper.specs.declared.shaper.Stamp.{Stamp}
 use Rattle.vl_shaper.specs.Pace.{is_due, IsLater}
 use Rattle.afdx_legal.specs.Streams.{those_with, stamp_of, latest, entry_number, IsApart, IsSpaced, IsNumbered}

@@ -3,10 +3,10 @@ use Rattle.std.proofs.Common.{ℕ, ◌≡◌, zero, suc, ◌+◌, ◌<◌, List,
 use Rattle.std.specs.Prelude.{All}
 use Rattle.std.proofs.lemmas.Bool.{cases_Bool}
 use Rattle.std.proofs.lemmas.List.Elements.{filter-append, All-cons, All-nil, All-tail}
-use Rattle.afdx_plan.specs.Numbers.{sequence_number}
+use Rattle.afdx_plan.specs.Plan.{sequence_number}
 use Rattle.afdx_plan.specs.declared.link_plan.LinkPlan.{LinkPlan}
 use Rattle.afdx_frame.specs.declared.net.Net.{Net}
-use Rattle.redundant_mux.specs.Entry.{Entry}
+use Rattle.redundant_mux.specs.Lines.{Entry}
 use Rattle.afdx_legal.specs.Streams.{those_with, IsNumbered}
 use Rattle.afdx_legal.specs.Legal.{IsKnown, AreKnown}
 

@@ -3,12 +3,10 @@ use Rattle.std.proofs.Common.{ℕ, ◌≡◌, ◌≤◌, List, [], ◌∷◌, �
 use Rattle.std.proofs.lemmas.Bool.{cases_Bool}
 use Rattle.afdx_frame.specs.declared.net.Net.{Net}
 use Rattle.afdx_frame.specs.Header.{sub_in}
-use Rattle.afdx_frame.specs.Roles.{more_fragments}
+use Rattle.afdx_frame.specs.Frame.{more_fragments}
 use Rattle.afdx_frame.proofs.Twins.{twin_sub, twin_word}
-use Rattle.redundant_mux.specs.Entry.{Entry}
-use Rattle.redundant_mux.specs.Logged.{side}
-use Rattle.afdx_legal.specs.Streams.{sub_stream}
-use Rattle.afdx_legal.specs.Turns.{more_in, before_next, TakesTurns}
+use Rattle.redundant_mux.specs.Lines.{Entry, side}
+use Rattle.afdx_legal.specs.Streams.{sub_stream, more_in, before_next, TakesTurns}
 
 -- a frame's twin has the same flag of more fragments
 twin_more : (net : Net) (e : Entry) → more_in (side net e).frame ≡ more_in e.frame

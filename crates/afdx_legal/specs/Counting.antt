@@ -2,8 +2,8 @@
 use Rattle.std.specs.Prelude.{ℕ, ◌-◌, ◌^◌, List, [], ◌∷◌, Bool, nat_lt, min, length, filter}
 use Rattle.std.specs.List.{sum_by}
 use Rattle.afdx_frame.specs.Profile.{fragment_field}
-use Rattle.afdx_frame.specs.Roles.{more_fragments}
-use Rattle.redundant_mux.specs.Entry.{Entry}
+use Rattle.afdx_frame.specs.Frame.{more_fragments}
+use Rattle.redundant_mux.specs.Lines.{Entry}
 use Rattle.status_board.specs.declared.counts.Counts.{Counts}
 
 -- a count saturates at 2^64 - 1

@@ -2,17 +2,14 @@
 use Rattle.std.specs.Prelude.{ℕ, ◌≡◌, ◌≤◌, ◌<◌, List, [], ◌∷◌, Bool, false, ◌&&◌, nat_eq, length, map, take, filter, slice_index, None}
 use Rattle.std.specs.List.{list_any}
 use Rattle.afdx_plan.specs.Config.{Plan, link_plan_at}
-use Rattle.afdx_plan.specs.Plan.{bag_micros}
-use Rattle.afdx_plan.specs.Networks.{is_both}
-use Rattle.afdx_plan.specs.Room.{room_of}
+use Rattle.afdx_plan.specs.Plan.{bag_micros, is_both, room_of}
 use Rattle.afdx_plan.specs.declared.link_plan.LinkPlan.{LinkPlan}
 use Rattle.afdx_frame.specs.declared.net.Net.{Net}
 use Rattle.afdx_frame.specs.declared.net.Net.TheVariants.{A, B}
 use Rattle.afdx_frame.specs.Frame.{interface_byte}
 use Rattle.afdx_frame.specs.Header.{link_in, sub_in}
 use Rattle.afdx_frame.specs.Fragments.{Sent, fragments}
-use Rattle.redundant_mux.specs.Entry.{Entry}
-use Rattle.redundant_mux.specs.Logged.{names, side}
+use Rattle.redundant_mux.specs.Lines.{Entry, names, side}
 use Rattle.afdx_legal.specs.Streams.{link_stream, told_of, entry_number, IsNumbered, IsSpaced, IsPrefixOf}
 
 -- The accepted list of each sub-VL, by the place of its link in the plan and its index.

@@ -1,9 +1,5 @@
-pub mod Streams
-pub mod Legal
-pub mod Allowed
-pub mod Own
-pub mod Done
-pub mod WorkedMessage
+pub mod Accepted
 pub mod Counting
-pub mod Turns
-pub mod WorkedTurns
+pub mod Legal
+pub mod Streams
+pub mod Worked

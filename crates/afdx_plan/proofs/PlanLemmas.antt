@@ -17,11 +17,10 @@ use Rattle.afdx_plan.specs.declared.link_plan.LinkPlan.{LinkPlan}
 use Rattle.afdx_plan.specs.declared.port_plan.PortPlan.{PortPlan}
 use Rattle.afdx_plan.specs.Address.{destination_of}
 use Rattle.afdx_plan.specs.Plan.{IsLink, IsPort, IsUnicast}
-use Rattle.afdx_plan.specs.Config.{Plan, IsPlan, HasLink, AreSameFlow, link_plan_at, port_plan_at, ports_on}
+use Rattle.afdx_plan.specs.Config.{Plan, IsPlan, HasLink, AreSameFlow, link_plan_at, port_plan_at, ports_on, FlowsApart}
 use Rattle.afdx_plan.specs.PlanFaults.{fault_number, has_pair, same_link, same_port, is_row_of, misfits, same_flow, share_unicast, are_one_destination, is_no_count, is_packed, plan_shows, least_plan_fault, link_whole, port_whole, PlanRule, plan_rules, breaks, parts_of}
 use Rattle.afdx_plan.specs.declared.rows.Misfit.TheVariants.{NoLink, NoSub, TooLong}
 use Rattle.afdx_plan.specs.declared.fault.ConfigFault.{ConfigFault}
-use Rattle.afdx_plan.specs.Flows.{FlowsApart}
 
 -- the rules of plans over links and ports of a plan
 abbrev has_same_vl : LinkPlan → LinkPlan → Bool

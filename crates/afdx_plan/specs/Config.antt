@@ -1,13 +1,13 @@
--- Plans of end systems, and which are valid.
-use Rattle.std.specs.Prelude.{◌≡◌, ℕ, ◌-◌, ◌<◌, ◌≤◌, List, length, get_or, count_by, nat_eq, ◌&&◌, Some, None, All, Contains}
+-- Plans of end systems, which are valid, and messages that a receiver could mistake for each other.
+use Rattle.std.specs.Prelude.{◌≡◌, ℕ, ◌-◌, ◌<◌, ◌≤◌, List, length, get_or, count_by, nat_eq, ◌&&◌, Some, None, All, Contains, ◌==◌, unwrap_or, position, ◌%◌}
 use Rattle.afdx_plan.specs.declared.bag.Bag.TheVariants.{Ms1}
 use Rattle.afdx_plan.specs.declared.identifiers.Kind.TheVariants.{Sampling, Queuing}
 use Rattle.afdx_plan.specs.declared.identifiers.UdpSum.TheVariants.{Omitted}
 use Rattle.afdx_plan.specs.declared.link_plan.LinkPlan.{LinkPlan}
 use Rattle.afdx_plan.specs.declared.networks.Networks.TheVariants.{Both}
 use Rattle.afdx_plan.specs.declared.port_plan.PortPlan.{PortPlan}
-use Rattle.afdx_plan.specs.Address.{destination_address}
-use Rattle.afdx_plan.specs.Plan.{IsLink, IsPort, SendsOver}
+use Rattle.afdx_plan.specs.Address.{destination_address, source_address}
+use Rattle.afdx_plan.specs.Plan.{IsLink, IsPort, SendsOver, identification}
 
 -- the plan of an end system
 pub record Plan : Type 0 where
@@ -91,3 +91,16 @@ pub record IsPlan (plan : Plan) : Type 0 where
       → (address : List ℕ) → p.unicast ≡ Some address → q.unicast ≡ Some address
       → p.partition ≡ q.partition → p.vl ≡ q.vl
   pub few_ports : (vl sub : ℕ) → ports_on plan.ports vl sub ≤ 64
+
+-- the index of a port's link in the plan
+abbrev pub link_place : Plan → PortPlan → ℕ
+link_place plan port = unwrap_or (position (λ (link : LinkPlan). link.id.0 == port.vl.0) plan.links) 0
+
+-- Two messages of a plan's ports, number i and number j of their sub-VLs, share both addresses and the
+-- identification only if they are of one sub-VL and i and j differ by a multiple of 16,384.
+abbrev pub FlowsApart : Plan → Type 0
+FlowsApart plan = (p q : PortPlan) (i j : ℕ) → Contains plan.ports p → Contains plan.ports q
+    → source_address plan.end_system p.partition ≡ source_address plan.end_system q.partition
+    → destination_address p ≡ destination_address q
+    → identification i p.sub ≡ identification j q.sub
+    → (p.vl ≡ q.vl) × (p.sub ≡ q.sub) × (i % 16384 ≡ j % 16384)

@@ -1,10 +1,5 @@
-pub mod Room
-pub mod Plan
 pub mod Address
-pub mod Numbers
-pub mod Networks
-pub mod Flows
 pub mod Config
 pub mod Demo
+pub mod Plan
 pub mod PlanFaults
-pub mod Places

@@ -1,9 +1,11 @@
--- Ranges and units of the numbers of a plan.
-use Rattle.std.specs.Prelude.{◌≡◌, ℕ, ◌+◌, ◌*◌, ◌<◌, ◌≤◌, List, length, slice_index, sum_by, IfSome}
+-- Ranges and units of the numbers of a plan, the numbers that messages and frames carry, and the networks of a link.
+use Rattle.std.specs.Prelude.{◌≡◌, ℕ, ◌+◌, ◌*◌, ◌<◌, ◌≤◌, List, length, slice_index, sum_by, IfSome, ◌-◌, ◌%◌, nat_eq, if◌then◌else◌, ◌/◌, Bool, true, false, ◌&&◌}
 use Rattle.afdx_plan.specs.declared.bag.Bag.{Bag}
 use Rattle.afdx_plan.specs.declared.bag.Bag.TheVariants.{Ms1, Ms2, Ms4, Ms8, Ms16, Ms32, Ms64, Ms128}
 use Rattle.afdx_plan.specs.declared.link_plan.LinkPlan.{LinkPlan}
 use Rattle.afdx_plan.specs.declared.port_plan.PortPlan.{PortPlan}
+use Rattle.afdx_plan.specs.declared.networks.Networks.{Networks}
+use Rattle.afdx_plan.specs.declared.networks.Networks.TheVariants.{Both, OnlyA, OnlyB}
 
 -- the bandwidth allocation gap in milliseconds
 abbrev pub bag_ms : Bag → ℕ
@@ -52,3 +54,38 @@ pub record SendsOver (port : PortPlan) (link : LinkPlan) : Type 0 where
 -- the jitter in nanoseconds: 40,000, and 80 for each byte of each greatest frame and the 20 bytes around it
 abbrev pub jitter_of : List LinkPlan → ℕ
 jitter_of links = 40000 + 80 * sum_by (λ link. 20 + link.lmax) links
+
+-- the identification (RFC 791, 3.1) of message number `place` of a sub-VL. By our choice its two lowest
+-- bits are the sub-VL.
+abbrev pub identification : ℕ → ℕ → ℕ
+identification place sub = (4 * place + sub) % 65536
+
+-- the sequence number of frame number `i` of a link (ARINC 664 Part 7, redundancy): 0, then 1 to 255,
+-- and after 255 again 1
+abbrev pub sequence_number : ℕ → ℕ
+sequence_number i = if nat_eq i 0 then 0 else (i - 1) % 255 + 1
+
+-- the most bytes of a datagram in a frame of at most `lmax` bytes. The frame needs 14 bytes of link
+-- header, 20 of internet header, 1 of sequence number and 4 of check sequence.
+abbrev pub room_of : ℕ → ℕ
+room_of lmax = lmax - 39
+
+-- the same rounded down to whole units of 8 bytes (RFC 791, 3.2)
+abbrev pub step_of : ℕ → ℕ
+step_of room = 8 * (room / 8)
+
+-- network A carries the link
+abbrev pub carries_a : Networks → Bool
+carries_a Both = true
+carries_a OnlyA = true
+carries_a OnlyB = false
+
+-- network B carries the link
+abbrev pub carries_b : Networks → Bool
+carries_b Both = true
+carries_b OnlyA = false
+carries_b OnlyB = true
+
+-- both networks carry the link
+abbrev pub is_both : Networks → Bool
+is_both networks = carries_a networks && carries_b networks

@@ -1,6 +1,6 @@
 //! Laws of plans. Each function is empty; its contract is the law.
 ghost use Rattle.afdx_plan.specs.PlanFaults.{ValidPlansShowNoFault};
-ghost use Rattle.afdx_plan.specs.Flows.{FlowsApart};
+ghost use Rattle.afdx_plan.specs.Config.{FlowsApart};
 
 use crate::config::Config;
 

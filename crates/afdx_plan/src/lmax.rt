@@ -1,6 +1,6 @@
 //! The greatest frame of a link.
 ghost use Rattle.std.specs.Prelude.{◌≡◌, ◌≤◌};
-ghost use Rattle.afdx_plan.specs.Room.{room_of};
+ghost use Rattle.afdx_plan.specs.Plan.{room_of};
 
 use std::marker::Model;
 

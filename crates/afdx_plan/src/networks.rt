@@ -10,7 +10,7 @@ pub enum Networks {
 
 impl Networks {
     ghost use Rattle.std.specs.Prelude.{◌≡◌};
-    ghost use Rattle.afdx_plan.specs.Networks.{carries_a, carries_b};
+    ghost use Rattle.afdx_plan.specs.Plan.{carries_a, carries_b};
 
     /// Whether network A is one of them.
     #[inline(always)]

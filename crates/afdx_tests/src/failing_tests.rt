@@ -1,7 +1,7 @@
 //! A test of a network that needs no memory.
 ghost use Rattle.std.specs.Prelude.{◌≡◌, ◌<◌, [], length, map};
 ghost use Rattle.arrayvec.specs.ArrayVec.{array_vec_len};
-ghost use Rattle.redundant_mux.specs.Entry.{entry};
+ghost use Rattle.redundant_mux.specs.Lines.{entry};
 
 use crate::play::assert_report;
 use crate::rig::send;

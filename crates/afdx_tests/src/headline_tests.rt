@@ -3,14 +3,13 @@
 ghost use Rattle.std.specs.Prelude.{◌≡◌, ℕ, ◌∷◌, [], IfSome};
 ghost use Rattle.afdx_plan.specs.Demo.{demo_plan};
 ghost use Rattle.redundant_mux.specs.Lines.{log};
-ghost use Rattle.afdx_legal.specs.Done.{IsAllDone, IsHandedWhole};
-ghost use Rattle.afdx_legal.specs.Own.{AreOwnStreams};
-ghost use Rattle.afdx_tx.specs.Drain.{accepted_in};
+ghost use Rattle.afdx_legal.specs.Accepted.{IsAllDone, IsHandedWhole};
+ghost use Rattle.afdx_legal.specs.Streams.{AreOwnStreams};
+ghost use Rattle.afdx_tx.specs.Run.{accepted_in};
 ghost use Rattle.afdx_tx.specs.Emitter.{queues_in, total_in};
 ghost use Rattle.afdx_tx.specs.Gathering.{IsGatheredTx};
 ghost use Rattle.afdx_tx.specs.Ports.{Accepts, IsPortOfTx};
-ghost use Rattle.afdx_tests.specs.Closing.{HasAccepted};
-ghost use Rattle.afdx_tests.specs.Headline.{IsUnused, SentTwo, two_messages};
+ghost use Rattle.afdx_tests.specs.Headline.{HasAccepted, IsUnused, SentTwo, two_messages};
 
 use crate::rig::{Drain, Sending, send};
 use crate::testing::*;

@@ -1,6 +1,6 @@
 //! A test of a long run, and tests of its network, which keeps no frame and takes only the right ones.
 ghost use Rattle.std.specs.Prelude.{◌≡◌, ◌<◌, []};
-ghost use Rattle.redundant_mux.specs.Logged.{entries_of};
+ghost use Rattle.redundant_mux.specs.Lines.{entries_of};
 ghost use Rattle.status_board.specs.Views.{links_of};
 
 use crate::play::assert_report;

@@ -1,6 +1,6 @@
 //! The order of the networks: at one time each frame goes to A, and then to B.
 ghost use Rattle.std.specs.Prelude.{◌≡◌, []};
-ghost use Rattle.redundant_mux.specs.Logged.{entries_of};
+ghost use Rattle.redundant_mux.specs.Lines.{entries_of};
 
 use crate::rig::send;
 use crate::testing::*;

@@ -1,6 +1,6 @@
 //! The sub-VLs of a link take turns: what the networks took, by the emitter's contract and frame by frame.
 ghost use Rattle.std.specs.Prelude.{◌≡◌};
-ghost use Rattle.afdx_legal.specs.Turns.{TakeTurns};
+ghost use Rattle.afdx_legal.specs.Streams.{TakeTurns};
 
 use crate::rig::*;
 use crate::testing::*;

@@ -7,40 +7,32 @@ pub use Rattle.afdx_frame.specs.declared.net.Net.{Net}
 pub use Rattle.afdx_frame.specs.declared.net.Net.TheVariants.{A, B}
 pub use Rattle.afdx_legal.proofs.StreamLemmas.{known_all, with_append, with_map}
 pub use Rattle.afdx_legal.specs.Counting.{counts_in}
-pub use Rattle.afdx_legal.specs.Done.{IsAllDone, IsLinkDone, IsReleased, Owes}
+pub use Rattle.afdx_legal.specs.Accepted.{IsAllDone, IsLinkDone, IsReleased, Owes}
 pub use Rattle.afdx_legal.specs.Legal.{Accepted, AreKnown, AreTwins, IsKnown, IsLegal, IsLegalOn, is_on_both, on_both}
-pub use Rattle.afdx_legal.specs.Own.{AreOwnStreams, longer, own_stream}
+pub use Rattle.afdx_legal.specs.Streams.{AreOwnStreams, longer, own_stream}
 pub use Rattle.afdx_legal.specs.Streams.{IsNumbered, IsPrefixOf, IsSpaced, entry_number, latest, link_stream, stamp_of, sub_stream, told, told_of}
-pub use Rattle.afdx_plan.specs.Config.{HasLink, IsPlan, Plan, link_plan_at, port_plan_at}
-pub use Rattle.afdx_plan.specs.Places.{link_place}
-pub use Rattle.afdx_plan.specs.Plan.{IsPort, SendsOver, bag_micros}
-pub use Rattle.afdx_plan.specs.Room.{room_of}
+pub use Rattle.afdx_plan.specs.Config.{HasLink, IsPlan, Plan, link_plan_at, port_plan_at, link_place}
+pub use Rattle.afdx_plan.specs.Plan.{IsPort, SendsOver, bag_micros, room_of}
 pub use Rattle.afdx_plan.specs.declared.identifiers.VlId.{VlId}
 pub use Rattle.afdx_plan.specs.declared.link_plan.LinkPlan.{LinkPlan}
 pub use Rattle.afdx_plan.specs.declared.networks.Networks.{Networks}
 pub use Rattle.afdx_plan.specs.declared.port_plan.PortPlan.{PortPlan}
-pub use Rattle.afdx_tx.specs.Closing.{ClosesTx, LacksSub}
-pub use Rattle.afdx_tx.specs.Drain.{AreGathered, Drains, DrainsAt, IsDrained, accepted_by, accepted_in, accepted_view, pace_in}
+pub use Rattle.afdx_tx.specs.Calls.{ClosesTx, LacksSub, IsFirstDue, NoneDueBefore, OneDueAt, earlier, Publishes, PublishesCounts, Reaches}
+pub use Rattle.afdx_tx.specs.Run.{AreGathered, Drains, DrainsAt, IsDrained, accepted_by, accepted_in, accepted_view, pace_in, IsRun, IsTurn, IsTurnAt}
 pub use Rattle.afdx_tx.specs.DrainEnds.{AreApartBy, AreDrained, DrainEnds, DrainsOne, no_lines, one_line, owed, owed_at, stream_at}
 pub use Rattle.afdx_tx.specs.Emitter.{AreApart, AreCarried, AreFreshLinks, AreKept, AreLinks, AreLinksOf, AreOpenedLinks, AreOpenedSubs, AreReceiving}
 pub use Rattle.afdx_tx.specs.Emitter.{AreServedBy, AreWhole, HaveOwnItems, IsOpenedLink, IsOpenedSub, IsSamePlan, IsSound, Tx, held_queue, link_queues}
 pub use Rattle.afdx_tx.specs.Emitter.{plan_of_link, plans, ports_of_sub, queues_in, taken_in, total_in}
 pub use Rattle.afdx_tx.specs.Gathering.{AreFull, GathersLinks, GathersPorts, HasOwnPart, IsGatheredLink, IsGatheredTx, IsTakenBack, OnlyTakeBack, OnlyTakesBack, held_for}
-pub use Rattle.afdx_tx.specs.NextDue.{IsFirstDue, NoneDueBefore, OneDueAt, earlier}
 pub use Rattle.afdx_tx.specs.Ports.{AreOpenedWith, BelongsTo, HasEveryPlace, HasOwnMessages, HasPlace, IsFreshPort, IsFreshSender, PortView, index_of, queue_at, queue_for}
-pub use Rattle.afdx_tx.specs.Publishing.{Publishes, PublishesCounts, Reaches}
 pub use Rattle.afdx_tx.specs.Report.{IsTold, release_of, turn_release}
-pub use Rattle.afdx_tx.specs.Run.{IsRun, IsTurn, IsTurnAt}
-pub use Rattle.afdx_tx.specs.Serving.{Conforms, IsPolling, IsSteady, TellsAllDone}
+pub use Rattle.afdx_tx.specs.Phases.{Conforms, IsPolling, IsSteady, TellsAllDone}
 pub use Rattle.afdx_tx.specs.declared.report.Release.{Release}
 pub use Rattle.redundant_mux.proofs.Enduring.{both_hands, both_none, both_on, stood_before}
 pub use Rattle.redundant_mux.proofs.MirroredLines.{entries_append, fresh_in_step, fresh_lines, fresh_log, log_more, log_same}
-pub use Rattle.redundant_mux.specs.Entry.{Entry, entry}
+pub use Rattle.redundant_mux.specs.Lines.{Entry, entry, BothEndure, IsMirrored, Keeps, Lines, stands_for, Logged, entries_of, logged_for, names, only, sent_to, side}
 unfoldable pub use Rattle.redundant_mux.specs.Lines.{log}
-pub use Rattle.redundant_mux.specs.Lines.{BothEndure, IsMirrored, Keeps, Lines, stands_for}
-pub use Rattle.redundant_mux.specs.Logged.{Logged, entries_of, logged_for, names, only, sent_to, side}
-pub use Rattle.status_board.specs.History.{NoFieldFalls, zeros}
-pub use Rattle.status_board.specs.Views.{Published, last_of, published, with_entry}
+pub use Rattle.status_board.specs.Views.{NoFieldFalls, zeros, Published, last_of, published, with_entry}
 pub use Rattle.std.proofs.Common.{Bool, Err, IfOk, List, None, Ok, OnErr, Option, Result, Some, [], add-one, add-zero, ap, arith, below_more, cond, drop}
 pub use Rattle.std.proofs.Common.{drop-cons, eqb, false, filter, get_or, inl, inr, length, map, map-id, min, nat_eq, refl, rules, set, subst, suc, sym, take}
 pub use Rattle.std.proofs.Common.{true, unwrap_or, zero, zero-le, ℕ, ⊎_elim, ◌&&◌, ◌++◌, ◌+◌, ◌-◌, ◌<◌, ◌^◌, ◌||◌, ◌∙◌, ◌∷◌, ◌≡◌, ◌≢◌, ◌≤◌, ◌⊎◌}
@@ -60,11 +52,9 @@ pub use Rattle.vl_link.proofs.Choosing.{each_set}
 pub use Rattle.vl_link.proofs.LinkTurn.{HasItems, IsOwn, Turned, kept_stream, kept_turn, link_turn, other_stream, released_below}
 pub use Rattle.vl_link.proofs.QueueLooks.{items_taken, same_name, same_total}
 pub use Rattle.vl_link.proofs.TurnLaws.{choice_below, may_not, turn_endures, turn_seen, turns_endure, turns_push, turns_seen}
-pub use Rattle.vl_link.specs.Closing.{Closes, ClosesLink, ClosesSub}
-pub use Rattle.vl_link.specs.Due.{BecomesDue, RestsUntil, StaysAsIs}
+pub use Rattle.vl_link.specs.Calls.{Closes, ClosesLink, ClosesSub, BecomesDue, RestsUntil, StaysAsIs, BecomesWhole, GathersLink}
 pub use Rattle.vl_link.specs.Kept.{IsBehind, IsKept, IsLinkTied, IsTied}
-pub use Rattle.vl_link.specs.LinkGathering.{BecomesWhole, GathersLink}
-pub use Rattle.vl_link.specs.LinkSenders.{LacksSender, LinkMakesSender, LinkTakesBack, MakesSender, SubMakesSender, TakesBack, back_of}
+pub use Rattle.vl_link.specs.Calls.{LacksSender, LinkMakesSender, LinkTakesBack, MakesSender, SubMakesSender, TakesBack, back_of}
 pub use Rattle.vl_link.specs.Links.{Asks, Follows, HasOwnItems, Held, IsLinkOfPlan, IsSameLink, IsSameSub, LinkState, Serves, held_at, held_view, link_at}
 pub use Rattle.vl_link.specs.Links.{no_link, no_link_plan, nothing_held, pace_of, sent_by, sent_of, sub_fragments, taken_by}
 pub use Rattle.vl_link.specs.Seen.{Finds, FindsNothing, IsKnownWhole, IsReceiving, IsSameQueue, Seen, TellsDrained, gathered, known_of, ports_of, queue_of}

@@ -3,7 +3,7 @@ use Rattle.afdx_tx.proofs.Names.{ℕ, ◌≡◌, ◌<◌, List, Bool, length, ar
 use Rattle.std.proofs.lemmas.List.Sums.{fails_before_first, length-filter}
 use Rattle.std.proofs.lemmas.List.Quantifiers.{position-Some}
 use Rattle.std.proofs.lemmas.List.Filters.{length-filter_more}
-use Rattle.vl_link.specs.Subs.{IsPortOf}
+use Rattle.vl_link.specs.Kept.{IsPortOf}
 
 -- whether the link has this identifier
 abbrev has_id : ℕ → LinkPlan → Bool

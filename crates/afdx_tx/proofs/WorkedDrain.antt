@@ -9,9 +9,9 @@ use Rattle.std.specs.Prelude.{Bool, false}
 use Rattle.std.proofs.lemmas.Bool.{false≢true}
 use Rattle.redundant_mux.specs.Lines.{Lines}
 use Rattle.vl_link.specs.Turn.{may_release}
-use Rattle.afdx_tx.specs.Drain.{pace_in}
+use Rattle.afdx_tx.specs.Run.{pace_in}
 use Rattle.afdx_tx.specs.DrainEnds.{line_of, failed_line, two_moments, one_line_at, two_accepted, StartsAfter, AreEnough, LeavesOne, NeedsItsPolls}
-use Rattle.afdx_legal.specs.WorkedMessage.{one_byte_accepted, one_frame}
+use Rattle.afdx_legal.specs.Worked.{one_byte_accepted, one_frame}
 
 -- There is one link, and one sub-VL.
 only_one : (P : ℕ → Type 0) → P 0 → (k : ℕ) → k < 1 → P k

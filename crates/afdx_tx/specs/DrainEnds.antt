@@ -2,21 +2,18 @@
 use Rattle.std.specs.Prelude.{Bool, false, ℕ, zero, suc, ◌≡◌, ◌+◌, ◌-◌, ◌<◌, ◌≤◌, List, [], ◌∷◌, length, true, None}
 use Rattle.afdx_plan.specs.Config.{Plan, IsPlan, link_plan_at}
 use Rattle.afdx_plan.specs.Demo.{demo_plan}
-use Rattle.afdx_plan.specs.Plan.{bag_micros}
-use Rattle.afdx_plan.specs.Room.{room_of}
+use Rattle.afdx_plan.specs.Plan.{bag_micros, room_of}
 use Rattle.afdx_plan.specs.declared.link_plan.LinkPlan.{LinkPlan}
 use Rattle.afdx_plan.specs.declared.networks.Networks.TheVariants.{Both}
 use Rattle.afdx_frame.specs.declared.net.Net.TheVariants.{A, B}
 use Rattle.afdx_frame.specs.Fragments.{Sent, fragments}
-use Rattle.redundant_mux.specs.Entry.{Entry, entry}
-use Rattle.redundant_mux.specs.Logged.{logged_for}
-use Rattle.redundant_mux.specs.Lines.{Lines, lines_of, stands_for, log}
+use Rattle.redundant_mux.specs.Lines.{Entry, entry, logged_for, Lines, lines_of, stands_for, log}
 use Rattle.vl_shaper.specs.Pace.{IsLater}
 use Rattle.afdx_legal.specs.Streams.{link_stream, sub_stream, told, latest}
 use Rattle.afdx_legal.specs.Legal.{Accepted}
-use Rattle.afdx_legal.specs.Done.{IsAllDone}
-use Rattle.afdx_legal.specs.WorkedMessage.{one_byte, one_byte_accepted, one_frame, one_entry_at}
-use Rattle.afdx_tx.specs.Drain.{IsDrained}
+use Rattle.afdx_legal.specs.Accepted.{IsAllDone}
+use Rattle.afdx_legal.specs.Worked.{one_byte, one_byte_accepted, one_frame, one_entry_at}
+use Rattle.afdx_tx.specs.Run.{IsDrained}
 
 -- the number of fragments of the accepted messages of a link's first sub-VLs that its stream lacks
 abbrev pub owed : ℕ → LinkPlan → (ℕ → List Sent) → List Entry → ℕ → ℕ

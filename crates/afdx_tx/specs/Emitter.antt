@@ -1,20 +1,16 @@
 -- An emitter, as contracts see it.
 use Rattle.std.specs.Prelude.{ℕ, ◌≡◌, ◌<◌, ◌&&◌, List, [], length, map, filter, true, false, nat_eq, Option, None, All}
 use Rattle.afdx_plan.specs.Config.{Plan, link_plan_at, IsPlan}
-use Rattle.afdx_plan.specs.Plan.{bag_micros}
+use Rattle.afdx_plan.specs.Plan.{bag_micros, sequence_number}
 use Rattle.afdx_plan.specs.declared.link_plan.LinkPlan.{LinkPlan}
 use Rattle.afdx_plan.specs.declared.port_plan.PortPlan.{PortPlan}
-use Rattle.afdx_plan.specs.Numbers.{sequence_number}
 use Rattle.afdx_frame.specs.declared.net.Net.TheVariants.{A}
 use Rattle.afdx_frame.specs.Header.{link_in}
-use Rattle.redundant_mux.specs.Entry.{Entry}
-use Rattle.redundant_mux.specs.Logged.{Logged}
-use Rattle.redundant_mux.specs.Lines.{Lines, log, stands_for, IsMirrored}
+use Rattle.redundant_mux.specs.Lines.{Entry, Logged, Lines, log, stands_for, IsMirrored}
 use Rattle.vl_shaper.specs.Pace.{IsLater}
 use Rattle.subvl_queue.specs.Views.{QueueName, new_receiver}
 use Rattle.vl_link.specs.declared.sub_vl.SubVl.{SubVl}
-use Rattle.status_board.specs.History.{zeros}
-use Rattle.status_board.specs.Views.{Published}
+use Rattle.status_board.specs.Views.{zeros, Published}
 use Rattle.vl_link.specs.Seen.{receiving, queue_of, total_of, IsReceiving}
 use Rattle.afdx_legal.specs.Legal.{Accepted, AreKnown}
 use Rattle.vl_link.specs.Links.{Held, LinkState, held_at, link_at, taken_by, HasOwnItems, IsLinkOfPlan, IsSameLink}
@@ -187,3 +183,12 @@ pub record IsFreshTx (config : Plan) (tx : Tx) : Type 0 where
   pub b_stands : tx.lines.b_stands ≡ true
   pub logged : tx.lines.logged ≡ []
   pub moment : tx.moment ≡ 0
+
+-- the link at this place of the plan has this identifier
+pub record IsLinkAt (plan : Plan) (vl place : ℕ) : Type 0 where
+  pub within : place < length plan.links
+  pub id : (link_plan_at plan.links place).id.0 ≡ vl
+
+-- no link of the plan has this identifier
+abbrev pub LacksLink : Plan → ℕ → Type 0
+LacksLink plan vl = (place : ℕ) → IsLinkAt plan vl place → ⊥

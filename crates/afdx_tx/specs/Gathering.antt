@@ -1,18 +1,16 @@
 -- Taking back the ports of an emitter.
 use Rattle.std.specs.Prelude.{ℕ, ◌≡◌, ◌<◌, List, length, All, Contains}
-use Rattle.afdx_plan.specs.Config.{Plan, port_plan_at}
+use Rattle.afdx_plan.specs.Config.{Plan, port_plan_at, link_place}
 use Rattle.afdx_plan.specs.declared.port_plan.PortPlan.{PortPlan}
 use Rattle.subvl_queue.specs.Messages.{part_of}
 use Rattle.subvl_queue.specs.Views.{StandAt, brought_by}
-use Rattle.afdx_legal.specs.Allowed.{port_messages}
+use Rattle.afdx_legal.specs.Accepted.{port_messages}
 use Rattle.vl_link.specs.Seen.{Seen, receiving, gathered, known_of}
 use Rattle.vl_link.specs.Links.{Held, LinkState, held_at, link_at}
 use Rattle.afdx_tx.specs.Emitter.{Tx}
-use Rattle.afdx_plan.specs.Places.{link_place}
 use Rattle.afdx_tx.specs.Ports.{PortView, HasOwnMessages, index_of}
-use Rattle.afdx_tx.specs.Drain.{accepted_in}
-use Rattle.vl_link.specs.LinkSenders.{back_of}
-use Rattle.vl_link.specs.LinkGathering.{BecomesWhole, GathersLink, AreFullSubs}
+use Rattle.afdx_tx.specs.Run.{accepted_in}
+use Rattle.vl_link.specs.Calls.{back_of, BecomesWhole, GathersLink, AreFullSubs}
 
 -- a queue that may have taken back senders; all else is unchanged
 abbrev pub OnlyTakesBack : (old new : Seen) → Type 0

@@ -1,6 +1,6 @@
 -- Ports, each of which sends into the queue of its sub-VL.
-use Rattle.std.specs.Prelude.{ℕ, ◌≡◌, ◌<◌, ◌≤◌, List, [], length, take, get_or, slice_index_or, All, Contains, Option, Some, None}
-use Rattle.afdx_plan.specs.Config.{Plan, link_plan_at, port_plan_at}
+use Rattle.std.specs.Prelude.{ℕ, ◌≡◌, ◌<◌, ◌≤◌, List, [], length, take, get_or, slice_index_or, All, Contains, Option, Some, None, nat_lt, nat_eq, if◌then◌else◌}
+use Rattle.afdx_plan.specs.Config.{Plan, link_plan_at, port_plan_at, link_place}
 use Rattle.afdx_plan.specs.declared.port_plan.PortPlan.{PortPlan}
 use Rattle.subvl_queue.specs.Messages.{most_calls}
 use Rattle.subvl_queue.specs.Views.{QueueName, SenderView, new_sender, IsPlaced, IsRefused}
@@ -8,7 +8,6 @@ use Rattle.subvl_queue.specs.declared.refused.Why.{Why}
 use Rattle.subvl_queue.specs.declared.refused.Why.TheVariants.{Closed as QueueClosed, Exhausted as QueueExhausted, Full as QueueFull}
 use Rattle.afdx_tx.specs.declared.fault.Refusal.{Refusal}
 use Rattle.afdx_tx.specs.declared.fault.Refusal.TheVariants.{Empty, TooLong, Closed, Exhausted, Full}
-use Rattle.afdx_plan.specs.Places.{link_place}
 use Rattle.afdx_tx.specs.Emitter.{Tx, queues_in, ports_of_sub}
 
 -- A port: its place in the configuration, its entry there, and its sender.
@@ -119,3 +118,11 @@ abbrev pub refusal_of : Why → Refusal
 refusal_of QueueClosed = Closed
 refusal_of QueueExhausted = Exhausted
 refusal_of QueueFull = Full
+
+-- The reason that a port refuses a message by its length, whatever its queue holds: it is empty, or
+-- it is over the port's greatest message.
+abbrev pub length_refusal : PortPlan → ℕ → Option Refusal
+length_refusal port size =
+    if nat_eq size 0 then Some Empty
+    else if nat_lt port.max size then Some TooLong
+    else None

@@ -12,9 +12,9 @@ pub type Draining<A, B> = Emitter<A, B, Drain>;
 impl<A: Network + Drop, B: Network + Drop> Emitter<A, B, Drain> {
     ghost use Rattle.std.specs.Prelude.{◌≡◌, ◌<◌, ◌↔◌, length, slice_set, IsTrue};
     ghost use Rattle.redundant_mux.specs.Lines.{log};
-    ghost use Rattle.afdx_legal.specs.Done.{IsAllDone};
-    ghost use Rattle.afdx_tx.specs.Drain.{accepted_in};
-    ghost use Rattle.afdx_tx.specs.Serving.{Conforms};
+    ghost use Rattle.afdx_legal.specs.Accepted.{IsAllDone};
+    ghost use Rattle.afdx_tx.specs.Run.{accepted_in};
+    ghost use Rattle.afdx_tx.specs.Phases.{Conforms};
     ghost use Rattle.status_board.specs.Views.{published, seen, last_of, links_of, IsReading};
 
     /// Whether at least one network accepted each fragment of each accepted message. After a frame

@@ -36,10 +36,8 @@ impl<A: Network + Drop, B: Network + Drop, P: Phase> Emitter<A, B, P> {
     ghost use Rattle.std.specs.Prelude.{◌≡◌, ◌≤◌, ◌↔◌, false, IsErr, OnErr, OnOk, IfOk};
     ghost use Rattle.redundant_mux.specs.Lines.{is_alive};
     ghost use Rattle.afdx_tx.specs.Report.{Polls, PollsUnreported};
-    ghost use Rattle.afdx_tx.specs.Serving.{Conforms};
-    ghost use Rattle.afdx_tx.specs.Phases.{AreOfPorts, Runs, StaysLawful};
-    ghost use Rattle.afdx_tx.specs.Publishing.{Publishes, ShowsCounts};
-    ghost use Rattle.afdx_tx.specs.NextDue.{TellsNextDue};
+    ghost use Rattle.afdx_tx.specs.Phases.{Conforms, AreOfPorts, Runs, StaysLawful};
+    ghost use Rattle.afdx_tx.specs.Calls.{Publishes, ShowsCounts, TellsNextDue};
 
     /// The configuration that it was opened with.
     pub fn config(&self) -> &Config
@@ -150,13 +148,13 @@ impl<A: Network + Drop, B: Network + Drop, P: Phase> Emitter<A, B, P> {
 
 impl<A: Network + Drop, B: Network + Drop> Emitter<A, B> {
     ghost use Rattle.std.specs.Prelude.{◌≡◌, ◌↔◌, length, IsErr, OnErr, IfOk, IfErr};
-    ghost use Rattle.afdx_legal.specs.Allowed.{AreAllowed};
-    ghost use Rattle.afdx_tx.specs.Drain.{accepted_in};
+    ghost use Rattle.afdx_legal.specs.Accepted.{AreAllowed};
+    ghost use Rattle.afdx_tx.specs.Run.{accepted_in};
     ghost use Rattle.afdx_tx.specs.Emitter.{queues_in};
-    ghost use Rattle.afdx_tx.specs.Serving.{Conforms};
+    ghost use Rattle.afdx_tx.specs.Phases.{Conforms};
     ghost use Rattle.afdx_tx.specs.Ports.{AreOpenedWith, LacksPlace};
     ghost use Rattle.afdx_tx.specs.Gathering.{IsGatheredTx};
-    ghost use Rattle.afdx_tx.specs.Closing.{LacksSub, ClosesTx};
+    ghost use Rattle.afdx_tx.specs.Calls.{LacksSub, ClosesTx};
 
     /// Closes a sub-VL, by its link and its index there, and returns the number of accepted
     /// messages. None is accepted from then on: each later close returns the same number, and so

@@ -35,8 +35,7 @@ impl Model for TxPort {
 impl TxPort {
     ghost use Rattle.std.specs.Prelude.{◌≡◌, ◌<◌, [], length, IfOk, IfErr};
     ghost use Rattle.afdx_plan.specs.Plan.{IsPort};
-    ghost use Rattle.afdx_tx.specs.Ports.{PortView, MaySend, HasOwnMessages, Accepts, Refuses};
-    ghost use Rattle.afdx_tx.specs.Sending.{length_refusal};
+    ghost use Rattle.afdx_tx.specs.Ports.{PortView, MaySend, HasOwnMessages, Accepts, Refuses, length_refusal};
 
     // The port at a place of a configuration, with a sender of its sub-VL's queue.
     pub(crate) fn new(plan: PortPlan, place: usize, sender: Sender) -> TxPort

@@ -1,9 +1,8 @@
 //! The places of ports, links and sub-VLs in a configuration.
 ghost use Rattle.std.specs.Prelude.{◌≡◌, ◌<◌, length, IfSome, IfNone};
-ghost use Rattle.afdx_plan.specs.Config.{HasLink, IsPlan, link_plan_at, port_plan_at};
+ghost use Rattle.afdx_plan.specs.Config.{HasLink, IsPlan, link_plan_at, port_plan_at, link_place};
 ghost use Rattle.afdx_plan.specs.Plan.{IsPort, SendsOver};
-ghost use Rattle.afdx_plan.specs.Places.{link_place};
-ghost use Rattle.afdx_tx.specs.Closing.{IsSubAt, LacksSub};
+ghost use Rattle.afdx_tx.specs.Calls.{IsSubAt, LacksSub};
 
 use afdx_plan::{Config, PortPlan, VlId};
 

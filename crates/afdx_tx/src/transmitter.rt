@@ -5,9 +5,8 @@ ghost use Rattle.redundant_mux.specs.Lines.{BothEndure};
 ghost use Rattle.afdx_tx.specs.Run.{IsRun};
 ghost use Rattle.afdx_tx.specs.Report.{IsTold, turn_release};
 ghost use Rattle.afdx_tx.specs.Emitter.{AreApart, AreServedBy, AreWhole};
-ghost use Rattle.afdx_tx.specs.NextDue.{earlier, IsFirstDue};
-ghost use Rattle.afdx_tx.specs.Serving.{IsSteady, TellsAllDone};
-ghost use Rattle.afdx_tx.specs.Publishing.{Reaches, PublishesCounts};
+ghost use Rattle.afdx_tx.specs.Calls.{earlier, IsFirstDue, Reaches, PublishesCounts};
+ghost use Rattle.afdx_tx.specs.Phases.{IsSteady, TellsAllDone};
 
 use crate::fault::{NoSuchSub, PollFault};
 use crate::gather::gather_links;
@@ -144,7 +143,7 @@ pub struct Transmitter<A: Network + Drop, B: Network + Drop> {
 impl<A: Network + Drop, B: Network + Drop> Model for Transmitter<A, B> {
     ghost use Rattle.std.specs.Box.{boxed_slice_items};
     ghost use Rattle.afdx_tx.specs.Emitter.{Tx, IsSound};
-    ghost use Rattle.afdx_tx.specs.Publishing.{Reaches};
+    ghost use Rattle.afdx_tx.specs.Calls.{Reaches};
 
     ghost Value = { Tx };
 
@@ -165,19 +164,15 @@ impl<A: Network + Drop, B: Network + Drop> Transmitter<A, B> {
     ghost use Rattle.status_board.specs.Views.{published};
     ghost use Rattle.afdx_plan.specs.Config.{IsPlan};
     ghost use Rattle.redundant_mux.specs.Lines.{is_alive, log};
-    ghost use Rattle.afdx_legal.specs.Done.{IsAllDone};
-    ghost use Rattle.afdx_tx.specs.Phases.{IsInPhase, KeepsPhase, Runs};
+    ghost use Rattle.afdx_legal.specs.Accepted.{IsAllDone, AreAllowed};
+    ghost use Rattle.afdx_tx.specs.Phases.{IsInPhase, KeepsPhase, Runs, Conforms};
     ghost use Rattle.afdx_tx.specs.Report.{PollsWith};
     ghost use Rattle.afdx_tx.specs.declared.report.Release.{Release};
     ghost use Rattle.afdx_tx.specs.Emitter.{IsFreshTx, AreFreshLinks, AreReceiving};
-    ghost use Rattle.afdx_tx.specs.Serving.{Conforms};
-    ghost use Rattle.afdx_tx.specs.Publishing.{Publishes, ShowsCounts};
-    ghost use Rattle.afdx_tx.specs.NextDue.{TellsNextDue};
-    ghost use Rattle.afdx_legal.specs.Allowed.{AreAllowed};
-    ghost use Rattle.afdx_tx.specs.Drain.{AreGathered, accepted_in};
+    ghost use Rattle.afdx_tx.specs.Calls.{Publishes, ShowsCounts, TellsNextDue, LacksSub, ClosesTx};
+    ghost use Rattle.afdx_tx.specs.Run.{AreGathered, accepted_in};
     ghost use Rattle.afdx_tx.specs.Ports.{AreOpenedWith, HasEveryPlace};
     ghost use Rattle.afdx_tx.specs.Gathering.{IsGatheredTx};
-    ghost use Rattle.afdx_tx.specs.Closing.{LacksSub, ClosesTx};
 
     /// Over new links of a configuration, networks that have accepted no frame, and an empty board.
     pub fn over(config: Config, links: Vec<Link>, a: A, b: B, board: Board) -> Transmitter<A, B>

@@ -1,8 +1,7 @@
 -- The frames of a capture are in the order of their times.
 use Rattle.std.proofs.Common.{arith, ℕ, List}
-use Rattle.redundant_mux.specs.Entry.{Entry}
-use Rattle.capture.specs.InTime.{RiseFrom, moments, captured_moments, IsInTime}
-use Rattle.capture.specs.Order.{Captured}
+use Rattle.redundant_mux.specs.Lines.{Entry}
+use Rattle.capture.specs.Order.{RiseFrom, moments, captured_moments, IsInTime, Captured}
 use Rattle.capture.proofs.Orders.{IsBefore, Merges, none, next_a, next_b, order_merges}
 
 -- what rises rises from a frame that isn't later than the first

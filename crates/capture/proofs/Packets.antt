@@ -1,7 +1,7 @@
 -- The blocks of packets.
 use Rattle.std.proofs.Common.{◌≡◌, ℕ, ◌+◌, ◌++◌, length, length-append, append_assoc, arith}
 use Rattle.std.proofs.lemmas.List.{length-replicate}
-use Rattle.redundant_mux.specs.Entry.{Entry}
+use Rattle.redundant_mux.specs.Lines.{Entry}
 use Rattle.capture.specs.Capture.{word, fill, filled, block, packet_body, packet_front}
 
 -- how many bytes are in a packet

@@ -3,7 +3,7 @@ use Rattle.std.proofs.Common.{◌≡◌, ℕ, zero, suc, ◌+◌, ◌%◌, ◌^�
 use Rattle.std.specs.Prelude.{codes, All, if◌then◌else◌}
 use Rattle.std.proofs.lemmas.List.Elements.{All-head, All-tail}
 use Rattle.afdx_frame.specs.declared.net.Net.{Net}
-use Rattle.redundant_mux.specs.Entry.{Entry}
+use Rattle.redundant_mux.specs.Lines.{Entry}
 use Rattle.capture.specs.Capture.{word, half, block, section_block, section_body, interface_block, interface_body, interface_of, packet_body, packet_block, packet_blocks, header_blocks}
 use Rattle.capture.specs.Order.{Captured}
 use Rattle.capture.specs.ReadBack.{Fits, frames_on, ReadsBack}

@@ -4,7 +4,7 @@ use borrow.Author.Tests.{le-leb}
 use Rattle.std.proofs.lemmas.List.{take_at, drop_at}
 use Rattle.std.specs.Cmp.Derive.{both_true}
 use Rattle.byteorder.specs.Numbers.{little_number-reads_back}
-use Rattle.redundant_mux.specs.Entry.{Entry, entry}
+use Rattle.redundant_mux.specs.Lines.{Entry, entry}
 use Rattle.capture.specs.Capture.{word, fill, block, packet_body}
 use Rattle.capture.specs.ReadBack.{Fits}
 use Rattle.capture.specs.Reader.{Block, Capture, Packet, first_word, is_block, first_block, is_packet, with_packet}

@@ -1,8 +1,10 @@
--- The order of the frames of two networks in a capture.
-use Rattle.std.specs.Prelude.{nat_lt, if◌then◌else◌, List, [], ◌∷◌, map}
+-- The order of the frames of two networks in a capture, and iterating over them.
+use Rattle.std.specs.Prelude.{nat_lt, if◌then◌else◌, List, [], ◌∷◌, map, ◌≡◌, ◌≤◌, length, Option, Some, None, ℕ, ⊤}
 use Rattle.afdx_frame.specs.declared.net.Net.{Net}
 use Rattle.afdx_frame.specs.declared.net.Net.TheVariants.{A, B}
-use Rattle.redundant_mux.specs.Entry.{Entry}
+use Rattle.redundant_mux.specs.Lines.{Entry, entry}
+use Rattle.afdx_frame.specs.declared.net.TheConstants.{GREATEST_FRAME}
+use Rattle.capture.specs.declared.in_order.Packet.{Packet}
 
 -- a frame with its network
 pub record Captured : Type 0 where
@@ -28,3 +30,30 @@ abbrev pub next_net : List Entry → List Entry → Net
 next_net [] bs = B
 next_net (a ∷ xs) [] = A
 next_net (a ∷ xs) (b ∷ bs) = if nat_lt b.at a.at then B else A
+
+-- a packet's network, time and bytes
+abbrev pub shown : Packet → Captured
+shown packet = on packet.net (entry packet.at packet.frame.now)
+
+-- the first packet is given, and the others are left
+abbrev pub TakesPacket : List Captured → Option Packet → List Captured → Type 0
+TakesPacket old None new = (old ≡ []) × (new ≡ [])
+TakesPacket old (Some packet) new =
+    (old ≡ shown packet ∷ new) × (length packet.frame.now ≤ GREATEST_FRAME)
+
+-- times rise, or stay, from one on
+abbrev pub RiseFrom : ℕ → List ℕ → Type 0
+RiseFrom moment [] = ⊤
+RiseFrom moment (next ∷ others) = (moment ≤ next) × RiseFrom next others
+
+-- the times of frames, and of frames in a capture
+abbrev pub moments : List Entry → List ℕ
+moments es = map (λ (e : Entry). e.at) es
+
+abbrev pub captured_moments : List Captured → List ℕ
+captured_moments cs = map (λ (c : Captured). c.entry.at) cs
+
+-- if the times of both lists rise, so do those of the capture
+abbrev pub IsInTime : Type 0
+IsInTime = (a b : List Entry) → RiseFrom 0 (moments a) → RiseFrom 0 (moments b)
+    → RiseFrom 0 (captured_moments (in_order a b))

@@ -1,8 +1,7 @@
 //! The order of the frames of two logs.
 ghost use Rattle.std.specs.Prelude.{◌≡◌, List};
 ghost use Rattle.std.specs.Iterator.{item_count};
-ghost use Rattle.capture.specs.InOrder.{TakesPacket};
-ghost use Rattle.capture.specs.Order.{Captured, in_order, next_net as net_of_next};
+ghost use Rattle.capture.specs.Order.{TakesPacket, Captured, in_order, next_net as net_of_next};
 
 use afdx_frame::Net;
 use script_text::{FrameLog, LogFrames};

@@ -1,7 +1,6 @@
 //! Laws of the definitions. Their functions do nothing: the contract is the law.
-ghost use Rattle.capture.specs.InTime.{IsInTime};
-ghost use Rattle.capture.specs.ReadBack.{ReadsBack};
-ghost use Rattle.capture.specs.Worked.{ReadsTwoFrames, RiseInTwoFrames};
+ghost use Rattle.capture.specs.Order.{IsInTime};
+ghost use Rattle.capture.specs.ReadBack.{ReadsBack, ReadsTwoFrames, RiseInTwoFrames};
 
 /// A reader accepts what is written for a capture, and has of each interface the frames of its network,
 /// in their order, with their times: for all frames of at most 1,514 bytes, sent at any times of 64

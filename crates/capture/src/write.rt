@@ -2,7 +2,7 @@
 ghost use Rattle.std.specs.Prelude.{◌≡◌, ◌≤◌, [], ◌∷◌, length, OnOk};
 ghost use Rattle.std.specs.Io.KnownBytes.{Appends};
 ghost use Rattle.capture.specs.Capture.{capture_bytes, header_blocks, section_block, interface_block, packet_block, packet_front, filled, fill, word, interface_of};
-ghost use Rattle.capture.specs.InOrder.{shown};
+ghost use Rattle.capture.specs.Order.{shown};
 
 use crate::in_order::{InOrder, Packet};
 use afdx_frame::{GREATEST_FRAME, Net};

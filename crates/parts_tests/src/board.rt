@@ -1,7 +1,6 @@
 //! Tests of a status board, on one thread and read in a thread of its own.
 ghost use Rattle.std.specs.Prelude.{◌≡◌, ◌*◌, ◌<◌, ◌≤◌, length};
-ghost use Rattle.status_board.specs.History.{NoFieldFalls, zeros};
-ghost use Rattle.status_board.specs.Views.{last_of, links_of};
+ghost use Rattle.status_board.specs.Views.{NoFieldFalls, zeros, last_of, links_of};
 
 use crate::testing::*;
 use status_board::{Board, Counts, Monitor, laws, open_board};

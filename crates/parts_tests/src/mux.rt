@@ -1,6 +1,6 @@
 //! Tests of two networks.
 ghost use Rattle.std.specs.Prelude.{◌≡◌};
-ghost use Rattle.afdx_frame.specs.Twin.{twin_of};
+ghost use Rattle.afdx_frame.specs.Header.{twin_of};
 ghost use Rattle.afdx_frame.specs.declared.net.Net.TheVariants.{A as ForA};
 
 use crate::frame::{FIRST_FRAME, FIRST_FRAME_FOR_B};

@@ -1,8 +1,7 @@
 -- The greatest load that a plan puts on its networks, on the wire.
 use Rattle.std.specs.Prelude.{ℕ, ◌+◌, ◌*◌, ◌/◌, List, Bool, nat_lt, sum_by, if◌then◌else◌}
 use Rattle.std.specs.Int.{div_ceil}
-use Rattle.afdx_plan.specs.Networks.{carries_a, carries_b}
-use Rattle.afdx_plan.specs.Plan.{bag_ms}
+use Rattle.afdx_plan.specs.Plan.{carries_a, carries_b, bag_ms}
 use Rattle.afdx_plan.specs.declared.link_plan.LinkPlan.{LinkPlan}
 use Rattle.afdx_plan.specs.declared.networks.Networks.{Networks}
 use Rattle.plan_analysis.specs.declared.network_row.NetworkName.{NetworkName}

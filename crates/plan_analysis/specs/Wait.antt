@@ -1,10 +1,8 @@
 -- The longest wait of a message, and the sustained rate of a port, from the plan alone.
 use Rattle.std.specs.Prelude.{ℕ, ◌+◌, ◌-◌, ◌*◌, ◌/◌, ◌&&◌, nat_eq, max, List, [], ◌∷◌, if◌then◌else◌}
 use Rattle.std.specs.Int.{div_ceil}
-use Rattle.afdx_plan.specs.Config.{Plan, link_plan_at}
-use Rattle.afdx_plan.specs.Places.{link_place}
-use Rattle.afdx_plan.specs.Plan.{bag_ms, bag_micros}
-use Rattle.afdx_plan.specs.Room.{room_of, step_of}
+use Rattle.afdx_plan.specs.Config.{Plan, link_plan_at, link_place}
+use Rattle.afdx_plan.specs.Plan.{bag_ms, bag_micros, room_of, step_of}
 use Rattle.afdx_plan.specs.declared.link_plan.LinkPlan.{LinkPlan}
 use Rattle.afdx_plan.specs.declared.port_plan.PortPlan.{PortPlan}
 

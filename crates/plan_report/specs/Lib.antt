@@ -3,5 +3,3 @@ pub mod Halting
 pub mod Reading
 pub mod Report
 pub mod Status
-pub mod Words
-pub mod WordsTold

@@ -1,12 +1,16 @@
--- The exit statuses of the program.
-use Rattle.std.specs.Prelude.{ℕ, nat_eq, if◌then◌else◌}
+-- The ranges of a command line, the messages about its words, and the exit statuses of the program.
+use Rattle.std.specs.Prelude.{ℕ, nat_eq, if◌then◌else◌, ◌≤◌, ⊤, ◌≡◌, ◌⊎◌}
 use Rattle.plan_report.specs.declared.failure.Failure.{Failure}
 use Rattle.plan_report.specs.declared.failure.Failure.TheVariants.{Config, Run, Short, Turns}
 use Rattle.plan_report.specs.declared.status.End.{End}
 use Rattle.plan_report.specs.declared.status.End.TheVariants.{Told, Ran, FaultsTold, WordsRefused, Failed}
-use Rattle.afdx_plan.specs.declared.fault.ConfigFault.TheVariants as Plan
 use Rattle.script_text.specs.declared.run_fault.RunFault.{RunFault}
 use Rattle.script_text.specs.declared.run_fault.RunFault.TheVariants.{Line, Lines, Read, Write, Memory}
+use Rattle.plan_report.specs.declared.words.Words.{Words}
+use Rattle.plan_report.specs.declared.words.Words.TheVariants.{Report, Storm}
+use Rattle.clap.specs.declared.error.kind.ErrorKind.{ErrorKind}
+use Rattle.clap.specs.declared.error.kind.ErrorKind.TheVariants.{DisplayHelp, DisplayVersion, OutOfMemory}
+use Rattle.afdx_plan.specs.declared.fault.ConfigFault.TheVariants as Plan
 
 -- 2 if the script has a fault, 4 if an allocation, a read or a write failed
 abbrev pub run_status : RunFault → ℕ
@@ -32,3 +36,21 @@ exit_status (Ran summary) = if nat_eq summary.refused 0 then 0 else 3
 exit_status FaultsTold = 2
 exit_status WordsRefused = 2
 exit_status (Failed failure) = failure_status failure
+
+-- the numbers of a storm and of a report lie in their ranges
+abbrev pub IsInRange : Words → Type 0
+IsInRange (Storm config messages turns) =
+    ((1 ≤ messages) × (messages ≤ 65535)) × ((1 ≤ turns) × (turns ≤ 1000000000))
+IsInRange (Report config lateness html) = lateness ≤ 1000000
+IsInRange _ = ⊤
+
+-- a message was written, or standard output failed
+abbrev pub IsHelpEnd : End → Type 0
+IsHelpEnd end = (end ≡ Told) ⊎ (end ≡ Failed (Run Write))
+
+-- how the program ends if the words name no command: help or the version, no memory, or wrong words
+abbrev pub EndsWords : ErrorKind → End → Type 0
+EndsWords DisplayHelp end = IsHelpEnd end
+EndsWords DisplayVersion end = IsHelpEnd end
+EndsWords OutOfMemory end = end ≡ Failed (Run Memory)
+EndsWords _ end = end ≡ WordsRefused

@@ -1,7 +1,7 @@
 //! The words of the command line.
 ghost use Rattle.std.specs.Prelude.{◌≡◌, ◌≤◌, ◌⊎◌, Some, None, IfOk, IfSome, IfNone, IsErr};
-ghost use Rattle.script_text.specs.Numbers.{number_of};
-ghost use Rattle.plan_report.specs.Words.{IsInRange};
+ghost use Rattle.script_text.specs.Command.{number_of};
+ghost use Rattle.plan_report.specs.Status.{IsInRange};
 
 use crate::words_report::{report_command, report_words};
 use clap::error::ErrorKind;

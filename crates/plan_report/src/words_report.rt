@@ -1,6 +1,6 @@
 //! The words of `report`.
 ghost use Rattle.std.specs.Prelude.{◌≤◌, IfOk, IfSome};
-ghost use Rattle.plan_report.specs.Words.{IsInRange};
+ghost use Rattle.plan_report.specs.Status.{IsInRange};
 
 use crate::words::{Words, flag, given_path, over_config, refuse_number};
 use clap::{ArgMatches, Command, Error, value_parser};

@@ -1,6 +1,6 @@
 //! The messages about the words.
 ghost use Rattle.clap.specs.Values.{kind_of};
-ghost use Rattle.plan_report.specs.WordsTold.{EndsWords};
+ghost use Rattle.plan_report.specs.Status.{EndsWords};
 
 use crate::failure::Failure;
 use crate::status::End;

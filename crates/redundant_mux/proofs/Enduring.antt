@@ -2,8 +2,7 @@
 use Rattle.std.proofs.Common.{ℕ, ◌≡◌, List, Bool, true, ⊎_elim, arith}
 use Rattle.std.proofs.lemmas.Bool.{cases_Bool, both_ways, and_parts, and_from, or_cases, or_left, or_right}
 use Rattle.afdx_plan.specs.declared.networks.Networks.{Networks}
-use Rattle.redundant_mux.specs.Entry.{Entry}
-use Rattle.redundant_mux.specs.Lines.{Lines, Handing, Endures, BothEndure, stands_for}
+use Rattle.redundant_mux.specs.Lines.{Entry, Lines, Handing, Endures, BothEndure, stands_for}
 
 -- No hand keeps the relation.
 endures_none : (s : Bool) (h : List Entry) (f : ℕ) → Endures s s h h f f

@@ -4,11 +4,10 @@ use Rattle.std.proofs.lemmas.List.{map-append, append-nil, append_assoc}
 use Rattle.std.proofs.lemmas.List.Elements.{filter-append, All-nil, All-push}
 use Rattle.std.proofs.lemmas.Bool.{cases_Bool}
 use Rattle.afdx_plan.specs.declared.networks.Networks.{Networks}
-use Rattle.afdx_plan.specs.Networks.{carries_a, carries_b}
+use Rattle.afdx_plan.specs.Plan.{carries_a, carries_b}
 use Rattle.afdx_frame.specs.declared.net.Net.{Net}
 use Rattle.afdx_frame.specs.declared.net.Net.TheVariants.{A, B}
-use Rattle.redundant_mux.specs.Entry.{Entry}
-use Rattle.redundant_mux.specs.Logged.{Logged, logged_for, entries_of, names, only, side, sent_to}
+use Rattle.redundant_mux.specs.Lines.{Entry, Logged, logged_for, entries_of, names, only, side, sent_to}
 use Rattle.redundant_mux.specs.Lines.{Lines, lines_of, Handing, Keeps, IsMirrored, AreInStep, stands_for, log}
 
 -- The entries of two lists.

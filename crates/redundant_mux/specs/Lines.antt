@@ -1,11 +1,53 @@
--- The frames that two networks accepted, and which networks are up.
-use Rattle.std.specs.Prelude.{ℕ, ◌≡◌, ◌⊎◌, ◌↔◌, ◌+◌, ◌≤◌, List, [], ◌∷◌, ◌++◌, Bool, true, false, ◌&&◌, ◌||◌, All}
+-- The frames that two networks accepted, in one log and by network, and which networks are up.
+use Rattle.std.specs.Prelude.{ℕ, List, Bool, map, filter, nat_eq, ◌≡◌, ◌⊎◌, ◌↔◌, ◌+◌, ◌≤◌, [], ◌∷◌, ◌++◌, true, false, ◌&&◌, ◌||◌, All}
 use Rattle.afdx_plan.specs.declared.networks.Networks.{Networks}
-use Rattle.afdx_plan.specs.Networks.{carries_a, carries_b}
+use Rattle.afdx_plan.specs.declared.networks.Networks.TheVariants.{OnlyA, OnlyB}
+use Rattle.afdx_plan.specs.Plan.{carries_a, carries_b}
 use Rattle.afdx_frame.specs.declared.net.Net.{Net}
 use Rattle.afdx_frame.specs.declared.net.Net.TheVariants.{A, B}
-use Rattle.redundant_mux.specs.Entry.{Entry}
-use Rattle.redundant_mux.specs.Logged.{Logged, entries_of, only, side, sent_to}
+use Rattle.afdx_frame.specs.Header.{twin_of}
+
+-- its time in microseconds, and its bytes
+pub record Entry : Type 0 where
+  pub at : ℕ
+  pub frame : List ℕ
+
+abbrev pub entry : ℕ → List ℕ → Entry
+entry at frame = record { at = at; frame = frame }
+
+-- an entry, with its frame for network A, and the networks that it is for
+pub record Logged : Type 0 where
+  pub networks : Networks
+  pub entry : Entry
+
+abbrev pub logged_for : Networks → Entry → Logged
+logged_for networks e = record { networks = networks; entry = e }
+
+-- the entries of a log
+abbrev pub entries_of : List Logged → List Entry
+entries_of logged = map (λ (l : Logged). l.entry) logged
+
+-- what the reads of a flag found, from a log of them: the time of an entry is 1 if the flag was set, otherwise 0
+abbrev pub reads_of : List Logged → List Bool
+reads_of logged = map (λ (l : Logged). nat_eq l.entry.at 1) logged
+
+-- the network is among those named
+abbrev pub names : Net → Networks → Bool
+names A networks = carries_a networks
+names B networks = carries_b networks
+
+-- this network alone
+abbrev pub only : Net → Networks
+only A = OnlyA
+only B = OnlyB
+
+-- the entry with its frame for this network
+abbrev pub side : Net → Entry → Entry
+side net e = record { at = e.at; frame = twin_of net e.frame }
+
+-- what a network gets of a log
+abbrev pub sent_to : Net → List Logged → List Entry
+sent_to net logged = map (side net) (entries_of (filter (λ (l : Logged). names net l.networks) logged))
 
 -- The frames that each network accepted, its failures, and whether it is up. `logged` has in order
 -- the frames that at least one network accepted.

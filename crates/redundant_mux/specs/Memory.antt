@@ -1,7 +1,8 @@
--- A network in memory.
-use Rattle.std.specs.Prelude.{ℕ, List, [], Option, map}
-use Rattle.redundant_mux.specs.Entry.{Entry, entry}
+-- Networks in memory: one that keeps all frames, and one that keeps the last that it accepted.
+use Rattle.std.specs.Prelude.{ℕ, List, [], Option, map, ◌≡◌, ◌⊎◌, ◌↔◌, ◌+◌, ◌%◌, ◌^◌, ◌<◌, ◌≤◌, ◌∷◌, ◌++◌, Bool, true, length, get_or}
+use Rattle.redundant_mux.specs.Lines.{Entry, entry}
 use Rattle.redundant_mux.specs.declared.memory.Handed.{Handed}
+use Rattle.redundant_mux.specs.declared.outbox.Kept.{Kept}
 
 -- the frames that it accepted, its capacity in frames, the number of failures and of calls, and the
 -- number of the call that fails, from 1
@@ -21,3 +22,42 @@ entry_of one = entry one.at one.frame.items
 
 abbrev pub entries : List Handed → List Entry
 entries handed = map entry_of handed
+
+-- all frames that it accepted, its number of failures, and what each call found when it read the flag
+pub record OutboxView : Type 0 where
+  pub handed : List Entry
+  pub failures : ℕ
+  pub reads : List Bool
+
+-- an outbox that had no call
+abbrev pub fresh_outbox : OutboxView
+fresh_outbox = record { handed = []; failures = 0; reads = [] }
+
+-- A call fails exactly if the flag is set or 2^64 - 1 frames were accepted.
+abbrev pub FailsBy : (is_set : Bool) → OutboxView → (fails : Type 0) → Type 0
+FailsBy is_set old fails = fails ↔ ((is_set ≡ true) ⊎ (2 ^ 64 ≤ length old.handed + 1))
+
+-- A call reads the flag once, and fails by what it found.
+pub record FailsByFlag (old new : OutboxView) (fails : Type 0) : Type 0 where
+  pub is_set : Bool
+  pub reads : new.reads ≡ old.reads ++ is_set ∷ []
+  pub by : FailsBy is_set old fails
+
+abbrev pub kept_entry : Kept → Entry
+kept_entry one = entry one.at one.frame.items
+
+-- the entry with this number, from 0
+abbrev pub entry_at : List Entry → ℕ → Entry
+entry_at handed number = get_or handed number (entry 0 [])
+
+-- the number is one of the last 64 below the count
+pub record IsAmongLast (count number : ℕ) : Type 0 where
+  pub below : number < count
+  pub late : count ≤ number + 64
+
+-- Of the `count` frames that it accepted, the last 64 are kept, frame n in slot n modulo 64.
+pub record KeepsLast (slots : List Kept) (count : ℕ) (handed : List Entry) : Type 0 where
+  pub room : length slots ≡ 64
+  pub counted : count ≡ length handed
+  pub each : (number : ℕ) (other : Kept) → IsAmongLast count number
+      → kept_entry (get_or slots (number % 64) other) ≡ entry_at handed number

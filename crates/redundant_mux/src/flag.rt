@@ -17,7 +17,7 @@ pub struct Flag {
 
 impl Model for Flag {
     ghost use Rattle.std.specs.Prelude.{List, Bool};
-    ghost use Rattle.redundant_mux.specs.Logged.{reads_of};
+    ghost use Rattle.redundant_mux.specs.Lines.{reads_of};
 
     ghost Value = { List Bool };
 

@@ -1,8 +1,8 @@
 //! A network in memory.
 ghost use Rattle.std.specs.Prelude.{◌≡◌, ◌≢◌, ℕ, ◌+◌, ◌^◌, ◌<◌, ◌≤◌, List, [], ◌∷◌, ◌++◌, None, Some, true, false, length, OnOk, OnErr, IsErr, min, map, vec_len, vec_capacity};
-ghost use Rattle.afdx_frame.specs.Twin.{twin_of};
+ghost use Rattle.afdx_frame.specs.Header.{twin_of};
 ghost use Rattle.afdx_frame.specs.declared.net.Net.TheVariants.{A as ForA, B as ForB};
-ghost use Rattle.redundant_mux.specs.Entry.{entry};
+ghost use Rattle.redundant_mux.specs.Lines.{entry};
 ghost use Rattle.redundant_mux.specs.Memory.{entries};
 
 use crate::network::{HandFault, Network};

@@ -1,11 +1,9 @@
 //! One frame for two networks.
 ghost use Rattle.std.specs.Prelude.{◌≡◌, ℕ, ◌≤◌, ◌↔◌, [], ◌∷◌, ◌++◌, true, false, length, IsErr, OnErr, IfOk};
-ghost use Rattle.afdx_plan.specs.Networks.{carries_a, carries_b};
-ghost use Rattle.afdx_frame.specs.Twin.{twin_of};
+ghost use Rattle.afdx_plan.specs.Plan.{carries_a, carries_b};
+ghost use Rattle.afdx_frame.specs.Header.{twin_of};
 ghost use Rattle.afdx_frame.specs.declared.net.Net.TheVariants.{A as ForA, B as ForB};
-ghost use Rattle.redundant_mux.specs.Entry.{entry};
-ghost use Rattle.redundant_mux.specs.Logged.{logged_for};
-ghost use Rattle.redundant_mux.specs.Lines.{Handing, BothEndure, some_of, stands_for, IsMirrored};
+ghost use Rattle.redundant_mux.specs.Lines.{entry, logged_for, Handing, BothEndure, some_of, stands_for, IsMirrored};
 
 use crate::network::Network;
 use crate::trail::Trail;

@@ -1,8 +1,8 @@
 //! The interface of a network.
 ghost use Rattle.std.specs.Prelude.{◌≡◌, ℕ, ◌+◌, ◌^◌, ◌<◌, ◌≤◌, List, [], ◌∷◌, ◌++◌, length, OnOk, OnErr};
-ghost use Rattle.afdx_frame.specs.Twin.{twin_of};
+ghost use Rattle.afdx_frame.specs.Header.{twin_of};
 ghost use Rattle.afdx_frame.specs.declared.net.Net.TheVariants.{A as ForA, B as ForB};
-ghost use Rattle.redundant_mux.specs.Entry.{Entry, entry};
+ghost use Rattle.redundant_mux.specs.Lines.{Entry, entry};
 
 use afdx_frame::{FrameBuffer, GREATEST_FRAME, Net};
 

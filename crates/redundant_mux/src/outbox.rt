@@ -1,8 +1,8 @@
 //! A network that keeps the last frames that it accepted.
 ghost use Rattle.std.specs.Prelude.{◌≡◌, ◌+◌, ◌≤◌, ◌^◌, ◌<◌, [], ◌∷◌, ◌++◌, if◌then◌else◌, length, IfOk, OnOk, OnErr, IsErr};
-ghost use Rattle.afdx_frame.specs.Twin.{twin_of};
+ghost use Rattle.afdx_frame.specs.Header.{twin_of};
 ghost use Rattle.afdx_frame.specs.declared.net.Net.TheVariants.{A as ForA, B as ForB};
-ghost use Rattle.redundant_mux.specs.Entry.{entry};
+ghost use Rattle.redundant_mux.specs.Lines.{entry};
 
 use crate::flag::Flag;
 use crate::network::{HandFault, Network};
@@ -39,8 +39,8 @@ pub struct Outbox {
 
 impl Model for Outbox {
     ghost use Rattle.std.specs.Box.{boxed_slice_items};
-    ghost use Rattle.redundant_mux.specs.Logged.{entries_of};
-    ghost use Rattle.redundant_mux.specs.Outbox.{OutboxView, KeepsLast};
+    ghost use Rattle.redundant_mux.specs.Lines.{entries_of};
+    ghost use Rattle.redundant_mux.specs.Memory.{OutboxView, KeepsLast};
 
     ghost Value = { OutboxView };
 
@@ -60,7 +60,7 @@ pub struct Failing<'a> {
 }
 
 impl<'a> Model for Failing<'a> {
-    ghost use Rattle.redundant_mux.specs.Outbox.{OutboxView};
+    ghost use Rattle.redundant_mux.specs.Memory.{OutboxView};
 
     ghost Value = { OutboxView };
 
@@ -83,7 +83,7 @@ fn make_slots(alloc: Global) -> Result<Vec<Kept>, AllocError>
 
 impl Outbox {
     ghost use Rattle.std.specs.Prelude.{◌≡◌, ◌↔◌, [], length, IsSome, IfSome, IfOk};
-    ghost use Rattle.redundant_mux.specs.Outbox.{IsAmongLast, entry_at, kept_entry, fresh_outbox, FailsBy};
+    ghost use Rattle.redundant_mux.specs.Memory.{IsAmongLast, entry_at, kept_entry, fresh_outbox, FailsBy};
 
     /// An outbox without frames. No later call allocates.
     pub fn new(alloc: Global) -> Result<Outbox, AllocError>
@@ -157,7 +157,7 @@ impl Outbox {
 }
 
 impl Network for Outbox {
-    ghost use Rattle.redundant_mux.specs.Outbox.{OutboxView, FailsByFlag};
+    ghost use Rattle.redundant_mux.specs.Memory.{OutboxView, FailsByFlag};
 
     ghost handed = { λ o. o.handed };
 

@@ -1,8 +1,7 @@
 //! The accepted frames, for proofs alone.
 ghost use Rattle.std.specs.Prelude.{◌≡◌, List, [], ◌∷◌, ◌++◌};
 ghost use Rattle.std.specs.Borrow.{ftrue};
-ghost use Rattle.redundant_mux.specs.Entry.{entry};
-ghost use Rattle.redundant_mux.specs.Logged.{Logged, logged_for};
+ghost use Rattle.redundant_mux.specs.Lines.{entry, Logged, logged_for};
 
 use afdx_plan::Networks;
 use std::marker::Model;

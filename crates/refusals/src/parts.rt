@@ -1,6 +1,6 @@
 //! Calls the parts of an end system. What is printed after `made` allocates nothing.
 ghost use Rattle.std.specs.Prelude.{◌≡◌, length};
-ghost use Rattle.afdx_frame.specs.Twin.{twin_of};
+ghost use Rattle.afdx_frame.specs.Header.{twin_of};
 ghost use Rattle.afdx_frame.specs.declared.net.Net.TheVariants.{A as ForA};
 ghost use Rattle.subvl_queue.specs.Views.{AreOf};
 

@@ -1,6 +1,6 @@
 //! A network that allocates nothing once it is made.
 ghost use Rattle.std.specs.Prelude.{◌≡◌, [], map, IfOk};
-ghost use Rattle.redundant_mux.specs.Entry.{entry};
+ghost use Rattle.redundant_mux.specs.Lines.{entry};
 
 use crate::trouble::*;
 use afdx_frame::Frame;

@@ -1,7 +1,6 @@
 -- An emitter stays ready.
 use Rattle.run_laws.proofs.Names.{ℕ, ◌≡◌, ◌<◌, List, length, arith, ap, ◌∙◌, sym, subst, All, Plan, LinkState, link_at, IsSameLink, turns_each, IsQueued, AreQueued, Tx, taken_in, IsFreshTx, IsRun, IsTurnAt, IsPlanned, IsReadyFor, IsReady, KeptReady}
-use Rattle.afdx_tx.specs.Closing.{ClosesTx}
-use Rattle.afdx_tx.specs.Publishing.{Publishes}
+use Rattle.afdx_tx.specs.Calls.{ClosesTx, Publishes}
 use Rattle.afdx_tx.proofs.ClosedEmitter.{ClosedLinks, closes_links}
 
 by_own : (plan : Plan) (tx : Tx) → tx.plan ≡ plan → IsReadyFor plan tx → IsReady tx

@@ -8,10 +8,8 @@ pub use Rattle.std.proofs.lemmas.Nat.{mul-le}
 pub use Rattle.std.proofs.lemmas.Result.{on_ok_weaker}
 pub use Rattle.std.specs.Prelude.{All, Contains, slice_index}
 pub use native.Mathlib.Nat.{mul-suc, suc-mul}
-pub use Rattle.afdx_plan.specs.Config.{IsPlan, Plan, link_plan_at}
-pub use Rattle.afdx_plan.specs.Places.{link_place}
-pub use Rattle.afdx_plan.specs.Plan.{IsLink, bag_micros, bag_ms}
-pub use Rattle.afdx_plan.specs.Room.{room_of, step_of}
+pub use Rattle.afdx_plan.specs.Config.{IsPlan, Plan, link_plan_at, link_place}
+pub use Rattle.afdx_plan.specs.Plan.{IsLink, bag_micros, bag_ms, room_of, step_of}
 pub use Rattle.afdx_plan.specs.declared.link_plan.LinkPlan.{LinkPlan}
 pub use Rattle.afdx_plan.specs.declared.port_plan.PortPlan.{PortPlan}
 pub use Rattle.afdx_frame.specs.Cutting.{cut_by, pieces_from}
@@ -23,25 +21,23 @@ unfoldable pub use Rattle.afdx_frame.specs.Frame.{addresses, datagram, header_fr
 pub use Rattle.afdx_frame.specs.Header.{link_in, number_in, sub_in}
 pub use Rattle.afdx_frame.specs.declared.net.Net.TheVariants.{A}
 pub use Rattle.redundant_mux.proofs.Enduring.{both_none, stood_before}
-pub use Rattle.redundant_mux.specs.Entry.{Entry, entry}
-pub use Rattle.redundant_mux.specs.Lines.{BothEndure, Endures, Lines, stands_for}
+pub use Rattle.redundant_mux.specs.Lines.{Entry, entry, BothEndure, Endures, Lines, stands_for}
 unfoldable pub use Rattle.redundant_mux.specs.Lines.{log}
 pub use Rattle.vl_shaper.specs.Pace.{IsLater, Pace, is_due, turn_of}
 pub use Rattle.vl_shaper.specs.Polls.{ArePolled, AreServed, HasAtPolls, IsServed, Poll, is_of, latest_poll, released_by}
 pub use Rattle.afdx_legal.proofs.LongerStream.{latest_push}
-pub use Rattle.afdx_legal.specs.Allowed.{AreAllowed, AreQueued, IsAllowed, IsQueued}
+pub use Rattle.afdx_legal.specs.Accepted.{AreAllowed, AreQueued, IsAllowed, IsQueued}
 pub use Rattle.afdx_legal.specs.Legal.{Accepted}
 pub use Rattle.afdx_legal.specs.Streams.{IsPrefixOf, latest, link_stream, stamp_of, sub_stream, told}
 pub use Rattle.vl_link.proofs.TurnLaws.{turns_each, turns_endure, turns_seen}
 pub use Rattle.vl_link.specs.Links.{Held, IsSameLink, LinkState, Passes, held_at, held_view, link_at, no_link_plan, pace_of, taken_by}
-pub use Rattle.vl_link.specs.Shown.{begun_after, begun_by, none_begun}
+pub use Rattle.vl_link.specs.Kept.{begun_after, begun_by, none_begun}
 pub use Rattle.vl_link.specs.Turn.{AreTurns, Turn, TurnView, may_release}
 pub use Rattle.vl_link.specs.declared.served.Served.{Served}
 pub use Rattle.vl_link.specs.declared.served.Served.TheVariants.{Lost, Nothing, Released}
-pub use Rattle.afdx_tx.specs.Drain.{Drains, DrainsAt, IsDrained, accepted_in, accepted_view, pace_in}
+pub use Rattle.afdx_tx.specs.Run.{Drains, DrainsAt, IsDrained, accepted_in, accepted_view, pace_in, IsRun, IsTurnAt}
 pub use Rattle.afdx_tx.specs.DrainEnds.{stream_at}
 pub use Rattle.afdx_tx.specs.Emitter.{IsFreshTx, Tx, taken_in}
-pub use Rattle.afdx_tx.specs.Run.{IsRun, IsTurnAt}
 pub use Rattle.plan_analysis.specs.Wait.{message_wait, most_pieces, pieces_of, pieces_on, port_pieces, queued_before, worst_wait}
 pub use Rattle.afdx_laws.proofs.ListLemmas.{all_front, below_both, below_one, cons_parts, cons_same}
 pub use Rattle.afdx_laws.proofs.NextFragment.{next_polled_in_time, wait_at}

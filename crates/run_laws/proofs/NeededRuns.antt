@@ -5,7 +5,7 @@ use Rattle.afdx_frame.specs.Checksum.{checksum}
 use Rattle.subvl_queue.specs.Views.{after_take, ReceiverView, looked}
 use Rattle.vl_link.specs.Kept.{IsTied}
 use Rattle.vl_link.specs.Turn.{may_release}
-use Rattle.afdx_tx.specs.Drain.{pace_in}
+use Rattle.afdx_tx.specs.Run.{pace_in}
 use Rattle.afdx_legal.specs.Streams.{sub_stream}
 use Rattle.run_laws.proofs.EmitterRuns.{polls_by}
 use Rattle.vl_link.specs.Links.{taken_by, IsSameSub}

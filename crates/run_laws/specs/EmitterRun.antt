@@ -18,11 +18,10 @@ use Rattle.status_board.specs.Views.{no_cell}
 use Rattle.vl_shaper.specs.Pace.{IsLater}
 use Rattle.afdx_legal.specs.Counting.{counts_in}
 use Rattle.afdx_legal.specs.Legal.{Accepted}
-use Rattle.afdx_legal.specs.Streams.{latest, link_stream, IsPrefixOf}
-use Rattle.afdx_legal.specs.Turns.{more_in}
+use Rattle.afdx_legal.specs.Streams.{latest, link_stream, IsPrefixOf, more_in}
 use Rattle.vl_link.specs.Seen.{receiving}
 use Rattle.vl_link.specs.Links.{Held}
-use Rattle.afdx_tx.specs.Drain.{pace_in}
+use Rattle.afdx_tx.specs.Run.{pace_in}
 use Rattle.afdx_tx.specs.Emitter.{Tx}
 use Rattle.afdx_tx.specs.DrainEnds.{stream_at}
 use Rattle.plan_analysis.specs.Wait.{worst_wait}

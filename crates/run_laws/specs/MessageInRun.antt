@@ -1,18 +1,16 @@
 -- How long an accepted message waits in a run of polls, whatever the other ports send.
 use Rattle.std.specs.Prelude.{ℕ, ◌≡◌, ◌⊎◌, ◌+◌, ◌≤◌, ◌<◌, true, List, [], ◌∷◌, ◌++◌, length, All, None}
 use Rattle.afdx_plan.specs.Config.{Plan, IsPlan, link_plan_at}
-use Rattle.afdx_plan.specs.Plan.{bag_micros}
-use Rattle.afdx_plan.specs.Room.{room_of}
+use Rattle.afdx_plan.specs.Plan.{bag_micros, room_of}
 use Rattle.afdx_frame.specs.declared.net.Net.TheVariants.{A}
 use Rattle.afdx_frame.specs.Fragments.{Sent, fragments}
-use Rattle.redundant_mux.specs.Entry.{Entry}
-use Rattle.redundant_mux.specs.Lines.{Lines, stands_for}
+use Rattle.redundant_mux.specs.Lines.{Entry, Lines, stands_for}
 use Rattle.vl_shaper.specs.Pace.{IsLater}
 use Rattle.afdx_legal.specs.Streams.{sub_stream, told, latest, IsPrefixOf}
 use Rattle.afdx_legal.specs.Legal.{Accepted}
-use Rattle.afdx_legal.specs.Allowed.{AreAllowed}
+use Rattle.afdx_legal.specs.Accepted.{AreAllowed}
 use Rattle.vl_link.specs.Links.{Passes, held_at, link_at}
-use Rattle.afdx_tx.specs.Drain.{IsDrained}
+use Rattle.afdx_tx.specs.Run.{IsDrained}
 use Rattle.afdx_tx.specs.DrainEnds.{stream_at}
 use Rattle.plan_analysis.specs.Wait.{worst_wait}
 use Rattle.run_laws.specs.Runs.{ArePolls, EmitterPolls, ComeWithin, latest_of}

@@ -2,18 +2,15 @@
 use Rattle.std.specs.Prelude.{ℕ, ◌≡◌, ◌⊎◌, ◌<◌, List, [], ◌∷◌, length, ◌+◌, ◌≤◌, true, ◌++◌}
 use Rattle.afdx_plan.specs.Config.{Plan, link_plan_at, IsPlan}
 use Rattle.afdx_plan.specs.Plan.{bag_micros}
-use Rattle.redundant_mux.specs.Lines.{Lines, stands_for}
+use Rattle.redundant_mux.specs.Lines.{Lines, stands_for, Entry}
 use Rattle.afdx_legal.specs.Legal.{Accepted}
-use Rattle.afdx_legal.specs.Allowed.{AreQueued}
+use Rattle.afdx_legal.specs.Accepted.{AreQueued}
 use Rattle.vl_link.specs.Links.{LinkState, link_at}
 use Rattle.afdx_tx.specs.Emitter.{Tx, taken_in, IsFreshTx}
-use Rattle.afdx_tx.specs.Run.{IsRun}
-use Rattle.afdx_tx.specs.Closing.{ClosesTx}
-use Rattle.afdx_tx.specs.Publishing.{Publishes}
-use Rattle.afdx_tx.specs.Drain.{IsDrained}
+use Rattle.afdx_tx.specs.Run.{IsRun, IsDrained}
+use Rattle.afdx_tx.specs.Calls.{ClosesTx, Publishes}
 use Rattle.afdx_frame.specs.Header.{sub_in}
-use Rattle.redundant_mux.specs.Entry.{Entry}
-use Rattle.afdx_legal.specs.Turns.{more_in}
+use Rattle.afdx_legal.specs.Streams.{more_in}
 use Rattle.afdx_tx.specs.DrainEnds.{stream_at}
 use Rattle.afdx_laws.specs.NextFragment.{AreNeighbours, link_wait, longest_wait}
 

@@ -6,11 +6,9 @@ use Rattle.afdx_plan.specs.declared.link_plan.LinkPlan.{LinkPlan}
 use Rattle.afdx_plan.specs.declared.networks.Networks.TheVariants.{Both}
 use Rattle.afdx_frame.specs.declared.net.Net.TheVariants.{A, B}
 use Rattle.afdx_frame.specs.Header.{sub_in}
-use Rattle.redundant_mux.specs.Entry.{Entry, entry}
-use Rattle.redundant_mux.specs.Logged.{logged_for}
-use Rattle.redundant_mux.specs.Lines.{Lines, lines_of, stands_for}
+use Rattle.redundant_mux.specs.Lines.{Entry, entry, logged_for, Lines, lines_of, stands_for}
 use Rattle.afdx_legal.specs.Legal.{Accepted}
-use Rattle.afdx_legal.specs.Turns.{more_in}
+use Rattle.afdx_legal.specs.Streams.{more_in, latest, IsPrefixOf}
 use Rattle.afdx_tx.specs.DrainEnds.{stream_at}
 use Rattle.afdx_laws.specs.NextFragment.{link_wait}
 use Rattle.afdx_laws.specs.Rows.{Holds}
@@ -21,7 +19,6 @@ use Rattle.afdx_frame.specs.Cutting.{piece_at}
 use Rattle.afdx_frame.specs.Frame.{frame_of}
 use Rattle.afdx_frame.specs.Fragments.{Sent}
 use Rattle.vl_shaper.specs.Pace.{IsLater}
-use Rattle.afdx_legal.specs.Streams.{latest, IsPrefixOf}
 use Rattle.plan_analysis.specs.Wait.{worst_wait}
 use Rattle.run_laws.specs.Runs.{AreRuns, EmitterPolls, ComeWithin, latest_of, ComesBy}
 use Rattle.run_laws.specs.MessageInRun.{AreTimely, fragments_of, seen_of, IsAccepted, HasPlace, AreFinding, AreReleasedBy}

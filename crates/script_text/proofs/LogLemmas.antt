@@ -4,7 +4,7 @@ use Rattle.std.specs.List.{sum_by}
 use Rattle.std.proofs.lemmas.List.{take_all, take-append-le, drop-append-le, length-take-le}
 use Rattle.std.proofs.lemmas.List.Sums.{sum_by-cons}
 use Rattle.std.proofs.lemmas.Bool.{cases_lt}
-use Rattle.redundant_mux.specs.Entry.{Entry, entry}
+use Rattle.redundant_mux.specs.Lines.{Entry, entry}
 use Rattle.script_text.specs.FrameLog.{spelled, AreInLog, bytes_in, LacksRoom}
 use Rattle.script_text.specs.declared.frame_log.Mark.{Mark}
 

@@ -3,7 +3,7 @@ use Rattle.std.proofs.Common.{◌≡◌, ℕ, ◌+◌, ◌-◌, ◌*◌, ◌≤�
 use Rattle.std.proofs.lemmas.List.{drop_more, drop_all}
 use Rattle.std.specs.Prelude.{Some, None}
 use Rattle.std.proofs.lemmas.Bool.{lt-leb}
-use Rattle.script_text.specs.Numbers.{read_on, number_of, is_numeral}
+use Rattle.script_text.specs.Command.{read_on, number_of, is_numeral}
 
 -- more digits
 pub read_on_le : (n : ℕ) (cs : List ℕ) → n ≤ read_on n cs

@@ -2,7 +2,7 @@
 use Rattle.std.proofs.Common.{◌≡◌, ℕ, ◌<◌, ◌≤◌, true, false, List, [], ◌∷◌, length, take, drop, get_or, refl, ap, suc, zero, ◌∙◌, arith, filter, length-take, length-drop, add-zero}
 use Rattle.std.specs.List.{slice_split, onto_first}
 use Rattle.std.proofs.lemmas.List.{get_or-drop}
-use Rattle.script_text.specs.Words.{is_blank, is_some_text, words_of}
+use Rattle.script_text.specs.Command.{is_blank, is_some_text, words_of}
 
 -- blanks in front make no word
 skip_front : (line : List ℕ) (n : ℕ) → ((k : ℕ) → k < n → is_blank (get_or line k 0) ≡ true)

@@ -1,9 +1,35 @@
--- The words of a command, and what single words of it write.
-use Rattle.std.specs.Prelude.{codes, ℕ, Bool, ◌==◌, if◌then◌else◌, List, [], ◌∷◌, slice_index, Option, Some, None, Result, Ok, Err}
+-- The words of a line and of a command, and the numbers among them.
+use Rattle.std.specs.Prelude.{ℕ, ◌+◌, ◌-◌, ◌*◌, Bool, not, ◌&&◌, ◌==◌, nat_le, if◌then◌else◌, List, [], ◌∷◌, length, Option, Some, None, ◌||◌, filter, codes, slice_index, Result, Ok, Err}
+use Rattle.std.specs.List.{list_all, slice_split}
+use Rattle.std.specs.Char.{is_ascii_digit}
 use Rattle.std.specs.Str.{bytes_eq}
 use Rattle.hex.specs.Hex.{decode_of}
-use Rattle.script_text.specs.Numbers.{number_of}
-use Rattle.script_text.specs.Words.{words_of}
+
+-- the number whose digits are those of n and then these
+abbrev pub read_on : ℕ → List ℕ → ℕ
+read_on n [] = n
+read_on n (c ∷ cs) = read_on (n * 10 + (c - 48)) cs
+
+-- one digit or more
+abbrev pub is_numeral : List ℕ → Bool
+is_numeral word = not (length word == 0) && list_all is_ascii_digit word
+
+-- the number that a word writes in decimal digits alone, if it is at most the greatest
+unfoldable pub number_of : ℕ → List ℕ → Option ℕ
+number_of most word =
+    if is_numeral word && nat_le (read_on 0 word) most then Some (read_on 0 word) else None
+
+-- a space or a tab
+abbrev pub is_blank : ℕ → Bool
+is_blank c = (c == 32) || (c == 9)
+
+-- a text of one byte at least
+abbrev pub is_some_text : List ℕ → Bool
+is_some_text text = not (length text == 0)
+
+-- the words of a line: the texts between its blanks
+unfoldable pub words_of : List ℕ → List (List ℕ)
+words_of line = filter is_some_text (slice_split is_blank line)
 
 -- no words if the first one begins with a number sign (35)
 abbrev pub without_note : List (List ℕ) → List (List ℕ)

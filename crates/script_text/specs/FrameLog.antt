@@ -1,9 +1,10 @@
--- The frames of a network that keeps all bytes in one buffer.
-use Rattle.std.specs.Prelude.{ℕ, ◌≡◌, ◌+◌, ◌<◌, ◌≤◌, ◌⊎◌, List, [], ◌∷◌, length, take, drop, All}
+-- The frames of a network that keeps all bytes in one buffer, and iterating over them.
+use Rattle.std.specs.Prelude.{ℕ, ◌≡◌, ◌+◌, ◌<◌, ◌≤◌, ◌⊎◌, List, [], ◌∷◌, length, take, drop, All, Option, Some, None}
 use Rattle.std.specs.List.{sum_by}
 use Rattle.afdx_frame.specs.declared.net.TheConstants.{GREATEST_FRAME}
-use Rattle.redundant_mux.specs.Entry.{Entry, entry}
+use Rattle.redundant_mux.specs.Lines.{Entry, entry}
 use Rattle.script_text.specs.declared.frame_log.Mark.{Mark}
+use Rattle.std.specs.Borrow.{Bor}
 
 -- the frames, for how many frames and for how many bytes there is memory, and how often a hand failed
 pub record FrameLog : Type 0 where
@@ -30,3 +31,14 @@ spelled (mark ∷ marks) bytes = entry mark.at (take mark.len bytes) ∷ spelled
 pub record AreInLog (marks : List Mark) (bytes : List ℕ) : Type 0 where
   pub all : sum_by (λ (mark : Mark). mark.len) marks ≡ length bytes
   pub short : All (λ (mark : Mark). mark.len ≤ GREATEST_FRAME) marks
+
+-- the time of the first frame
+abbrev pub first_moment : List Entry → Option ℕ
+first_moment [] = None
+first_moment (e ∷ es) = Some e.at
+
+-- the first frame is given, with its time, and the others are left
+abbrev pub TakesFrame : List Entry → Option (ℕ × Bor (List ℕ)) → List Entry → Type 0
+TakesFrame old None new = (old ≡ []) × (new ≡ [])
+TakesFrame old (Some given) new =
+    (old ≡ entry given.0 given.1.now ∷ new) × (length given.1.now ≤ GREATEST_FRAME)

@@ -1,10 +1,6 @@
 pub mod Command
 pub mod Faults
+pub mod FrameLog
 pub mod Lines
 pub mod Meaning
-pub mod Numbers
-pub mod Words
-pub mod FrameLog
-pub mod LogFrames
-pub mod Summary
 pub mod Transcript

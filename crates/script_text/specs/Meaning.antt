@@ -1,9 +1,12 @@
--- What a line without a fault says.
-use Rattle.std.specs.Prelude.{◌≡◌, ℕ, if◌then◌else◌, List, [], ◌∷◌, unwrap_or, None}
+-- What a line without a fault says, and what is counted of the lines of a run.
+use Rattle.std.specs.Prelude.{◌≡◌, ℕ, if◌then◌else◌, List, [], ◌∷◌, unwrap_or, None, ◌+◌, ◌≤◌, ⊤}
 use Rattle.script_text.specs.Command.{command_of, is_send, is_at, is_close, port_number, moment_of, link_number, sub_number, message_of}
 use Rattle.script_text.specs.Faults.{send_fault, at_fault, close_fault}
 use Rattle.script_text.specs.declared.line.Line.{Line}
 use Rattle.script_text.specs.declared.line.Line.TheVariants.{Send, At, Close, Nothing}
+use Rattle.script_text.specs.declared.outcome.Outcome.{Outcome}
+use Rattle.script_text.specs.declared.outcome.Outcome.TheVariants.{Quiet, Accepted, Refused, Released, Closed}
+use Rattle.script_text.specs.declared.summary.Summary.{Summary as Sums}
 
 -- what the words after `send` say
 abbrev pub said_send : List (List ℕ) → Line
@@ -44,3 +47,16 @@ IsSaidAt ws line = (at_fault ws ≡ None) × (line ≡ said_at ws)
 -- the words after `close` have no fault and say this
 abbrev pub IsSaidClose : List (List ℕ) → Line → Type 0
 IsSaidClose ws line = (close_fault ws ≡ None) × (line ≡ said_close ws)
+
+-- the counts after one more line
+unfoldable pub counted : Outcome → Sums → Sums
+counted Quiet sums = sums
+counted Accepted sums = record sums { accepted = sums.accepted + 1 }
+counted (Refused refusal) sums = record sums { refused = sums.refused + 1 }
+counted (Released frames) sums = record sums { frames = sums.frames + frames }
+counted (Closed total) sums = sums
+
+-- a line releases at most one frame of each of 64 links
+abbrev pub HasFew : Outcome → Type 0
+HasFew (Released frames) = frames ≤ 64
+HasFew _ = ⊤

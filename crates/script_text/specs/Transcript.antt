@@ -5,7 +5,7 @@ use Rattle.std.specs.List.{flat_map}
 use Rattle.afdx_frame.specs.declared.net.Net.{Net}
 use Rattle.afdx_frame.specs.declared.net.Net.TheVariants.{A, B}
 use Rattle.hex.specs.Hex.{encode_lower}
-use Rattle.redundant_mux.specs.Entry.{Entry}
+use Rattle.redundant_mux.specs.Lines.{Entry}
 use Rattle.script_text.specs.declared.outcome.Outcome.{Outcome}
 use Rattle.script_text.specs.declared.outcome.Outcome.TheVariants as Became
 use Rattle.script_text.specs.declared.refusal.Refusal.{Refusal}

@@ -1,6 +1,6 @@
 //! A network that keeps its frames.
 ghost use Rattle.std.specs.Prelude.{◌≡◌, ◌+◌, ◌^◌, ◌<◌, ◌≤◌, [], ◌∷◌, ◌++◌, true, false, length, OnOk, OnErr, vec_capacity};
-ghost use Rattle.redundant_mux.specs.Entry.{entry};
+ghost use Rattle.redundant_mux.specs.Lines.{entry};
 ghost use Rattle.script_text.specs.FrameLog.{AreInLog, spelled};
 
 use crate::log_frames::LogFrames;

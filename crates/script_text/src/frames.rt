@@ -1,7 +1,7 @@
 //! Writing the frames of a transcript.
 ghost use Rattle.std.specs.Prelude.{◌≡◌, ◌≤◌, length, IfErr, OnOk};
 ghost use Rattle.std.specs.Io.KnownBytes.{Appends};
-ghost use Rattle.redundant_mux.specs.Entry.{entry};
+ghost use Rattle.redundant_mux.specs.Lines.{entry};
 ghost use Rattle.script_text.specs.Transcript.{net_name as name_of_net, frame_line, frame_lines, streams};
 
 use crate::frame_log::FrameLog;

@@ -1,9 +1,8 @@
 //! Reading a line.
 ghost use Rattle.std.specs.Prelude.{◌≡◌, ◌≢◌, ◌⊎◌, None, Some, IfOk, IfErr};
-ghost use Rattle.script_text.specs.Command.{message_of};
+ghost use Rattle.script_text.specs.Command.{message_of, words_of};
 ghost use Rattle.script_text.specs.Faults.{IsFirstFault, IsFaultless, send_fault, at_fault, close_fault};
 ghost use Rattle.script_text.specs.Meaning.{meaning_of, IsSaidSend, IsSaidAt, IsSaidClose};
-ghost use Rattle.script_text.specs.Words.{words_of};
 
 use crate::decimal::number;
 use crate::line::Line;

@@ -1,6 +1,6 @@
 //! The words of a line.
 ghost use Rattle.std.specs.Prelude.{◌≡◌, ◌<◌, ◌≤◌, ℕ, [], ◌∷◌, true, false, length, slice_index, MatchOption};
-ghost use Rattle.script_text.specs.Words.{is_blank as is_blank_byte, words_of};
+ghost use Rattle.script_text.specs.Command.{is_blank as is_blank_byte, words_of};
 
 fn is_blank(byte: u8) -> bool
     ensures { result ≡ is_blank_byte byte }

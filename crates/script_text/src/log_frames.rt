@@ -1,9 +1,8 @@
 //! Iterating over the frames of a log.
 ghost use Rattle.std.specs.Prelude.{List, map};
 ghost use Rattle.std.specs.Iterator.{item_count};
-ghost use Rattle.redundant_mux.specs.Entry.{Entry};
-ghost use Rattle.script_text.specs.FrameLog.{AreInLog, spelled};
-ghost use Rattle.script_text.specs.LogFrames.{TakesFrame, first_moment};
+ghost use Rattle.redundant_mux.specs.Lines.{Entry};
+ghost use Rattle.script_text.specs.FrameLog.{AreInLog, spelled, TakesFrame, first_moment};
 
 use crate::frame_log::Mark;
 use std::marker::Model;

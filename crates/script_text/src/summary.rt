@@ -1,6 +1,6 @@
 //! The counts of a run.
 ghost use Rattle.std.specs.Prelude.{◌≡◌, ◌+◌, ◌^◌, ◌<◌};
-ghost use Rattle.script_text.specs.Summary.{counted, HasFew};
+ghost use Rattle.script_text.specs.Meaning.{counted, HasFew};
 
 use crate::outcome::Outcome;
 
@@ -15,7 +15,7 @@ pub struct Summary {
 
 impl Summary {
     /// The counts after one more line.
-    #[tactic(auto, unfolding(crate::specs::Summary::counted))]
+    #[tactic(auto, unfolding(crate::specs::Meaning::counted))]
     pub fn count(self, outcome: Outcome) -> Summary
         requires accepted { self.accepted < 2 ^ 63 }
         requires refused { self.refused < 2 ^ 63 }

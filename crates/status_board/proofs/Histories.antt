@@ -3,7 +3,7 @@ use Rattle.std.proofs.Common.{◌≡◌, ℕ, ◌+◌, List, [], ◌∷◌, ◌+
 use Rattle.std.proofs.lemmas.List.{map-append, nil_from_length}
 use Rattle.status_board.specs.declared.counts.Counts.{Counts}
 use Rattle.status_board.specs.declared.rule.Stamped.{Stamped}
-use Rattle.status_board.specs.History.{NoFieldFalls, last_or, RisesFrom, value_of, IsRising, StartsWith}
+use Rattle.status_board.specs.Views.{NoFieldFalls, last_or, RisesFrom, value_of, IsRising, StartsWith}
 use Rattle.status_board.specs.Rule.{counts_of, AreAfter}
 
 -- an entry that is added is the last

@@ -8,9 +8,8 @@ use Rattle.atomic_table.proofs.Lists.{at_set, set_again, set_else}
 use Rattle.status_board.specs.declared.counts.Counts.{Counts}
 use Rattle.status_board.specs.declared.rule.Stamped.{Stamped}
 use Rattle.status_board.specs.declared.rule.View.{View}
-use Rattle.status_board.specs.History.{NoFieldFalls, value_of, zeros}
+use Rattle.status_board.specs.Views.{NoFieldFalls, value_of, zeros, Watched, IsReading}
 use Rattle.status_board.specs.Rule.{stamped, counts_of, opener, Fits, KeepsHistory, Adds, FindsEntry, Agrees, without_reading, as_monitor, as_told, hearing, nobody}
-use Rattle.status_board.specs.Views.{Watched, IsReading}
 use Rattle.status_board.proofs.Histories.{last_or-push, rises-push, starts_same, starts_more, starts_none, counts_of-append, counts_start, are_after-push, never_behind}
 
 -- P of each view after one has changed

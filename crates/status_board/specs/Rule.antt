@@ -5,7 +5,7 @@ use lib.ListN.{get_elem?}
 use Rattle.status_board.specs.declared.counts.Counts.{Counts}
 use Rattle.status_board.specs.declared.rule.Stamped.{Stamped}
 use Rattle.status_board.specs.declared.rule.View.{View}
-use Rattle.status_board.specs.History.{value_of, IsRising, StartsWith}
+use Rattle.status_board.specs.Views.{value_of, IsRising, StartsWith}
 
 abbrev pub stamped : Counts → ℕ → Stamped
 stamped counts loads = record { counts = counts; loads = loads }

@@ -1,7 +1,6 @@
 //! The publishing end of the board, and of one link's cell.
 ghost use Rattle.std.specs.Prelude.{◌≡◌, ◌<◌, length, slice_set};
-ghost use Rattle.status_board.specs.History.{NoFieldFalls, value_of, StartsWith};
-ghost use Rattle.status_board.specs.Views.{published, last_of, with_entry, IsReading};
+ghost use Rattle.status_board.specs.Views.{NoFieldFalls, value_of, StartsWith, published, last_of, with_entry, IsReading};
 ghost use Rattle.status_board.specs.Rule.{hearing};
 ghost use Rattle.crossbeam_utils.specs.Seq.{cell_view, IsSamePass};
 

@@ -1,7 +1,6 @@
 //! Calls that need a board and its monitor together.
 ghost use Rattle.std.specs.Prelude.{◌≡◌, ◌<◌, length, slice_set};
-ghost use Rattle.status_board.specs.History.{StartsWith};
-ghost use Rattle.status_board.specs.Views.{published, last_of, seen, links_of, IsReading};
+ghost use Rattle.status_board.specs.Views.{StartsWith, published, last_of, seen, links_of, IsReading};
 
 use crate::board::Board;
 use crate::counts::Counts;

@@ -7,25 +7,21 @@ pub use Rattle.std.proofs.lemmas.List.{get_or-map, get_or-set_other, length-appe
 pub use Rattle.std.proofs.lemmas.List.Elements.{All-contains, Contains-get_or}
 pub use Rattle.std.specs.Io.KnownBytes.{Appends}
 pub use Rattle.std.specs.List.{sum_by}
-pub use Rattle.afdx_legal.specs.Allowed.{AreAllowed, AreOwn}
+pub use Rattle.afdx_legal.specs.Accepted.{AreAllowed, AreOwn}
 pub use Rattle.afdx_legal.specs.Legal.{Accepted, AreKnown, IsLegal, is_on_both, on_both}
-pub use Rattle.afdx_legal.specs.Own.{AreOwnStreams}
+pub use Rattle.afdx_legal.specs.Streams.{AreOwnStreams}
 pub use Rattle.afdx_plan.specs.Config.{IsPlan, Plan, link_plan_at, port_plan_at}
 pub use Rattle.afdx_plan.specs.declared.link_plan.LinkPlan.{LinkPlan}
-pub use Rattle.afdx_tx.specs.Drain.{accepted_in}
+pub use Rattle.afdx_tx.specs.Run.{accepted_in}
 pub use Rattle.afdx_tx.specs.Emitter.{IsFreshTx, Tx, queues_in}
 pub use Rattle.afdx_tx.specs.Ports.{Accepts, AreFreshPorts, AreOpenedWith, BelongsTo, HasEveryPlace, PortView, Refuses}
 pub use Rattle.plan_report.specs.declared.failure.Failure.{Failure}
-pub use Rattle.redundant_mux.specs.Entry.{Entry}
-pub use Rattle.redundant_mux.specs.Lines.{log}
+pub use Rattle.redundant_mux.specs.Lines.{Entry, log}
 pub use Rattle.redundant_mux.specs.Memory.{entries, entry_of}
-pub use Rattle.status_board.specs.History.{NoFieldFalls, value_of, zeros}
-pub use Rattle.status_board.specs.Views.{AreNew, IsReading, Published, Watched, last_of, links_of, no_cell, published, seen}
+pub use Rattle.status_board.specs.Views.{NoFieldFalls, value_of, zeros, AreNew, IsReading, Published, Watched, last_of, links_of, no_cell, published, seen}
 pub use Rattle.status_board.specs.declared.counts.Counts.{Counts}
 pub use Rattle.subvl_queue.specs.Views.{IsRefused, QueueName, SenderView}
-pub use Rattle.storm.specs.Boards.{IsShown, ReadsFirst, ReadsOnly, all_counts, cells_of, cells_read, own_counts}
-pub use Rattle.storm.specs.Messages.{messages_to, own_messages}
-pub use Rattle.storm.specs.Storms.{HasShortPort, IsPlanRefusal, IsStormRefusal, failure_of}
-pub use Rattle.storm.specs.Totals.{link_lines_to, totals_of}
-pub use Rattle.storm.specs.Workers.{AreAtMost, AreSpent, IsSpent, asked_after, asked_by, named, sent_all}
+pub use Rattle.storm.specs.Threads.{IsShown, ReadsFirst, ReadsOnly, all_counts, cells_of, cells_read, own_counts}
+pub use Rattle.storm.specs.Workers.{messages_to, own_messages, AreAtMost, AreSpent, IsSpent, asked_after, asked_by, named, sent_all}
+pub use Rattle.storm.specs.Storms.{HasShortPort, IsPlanRefusal, IsStormRefusal, failure_of, link_lines_to, totals_of}
 pub use Rattle.storm.specs.declared.fault.StormFault.{StormFault}

@@ -2,7 +2,7 @@
 use Rattle.storm.proofs.Names.{◌≡◌, ◌∙◌, ℕ, ◌+◌, ◌<◌, List, [], ◌∷◌, ◌++◌, length, take, sym, ap, add-one, arith, get_or-map, length-map, take-suc, take-length, Plan, link_plan_at, Entry, Counts, zeros, Watched, last_of, AreNew, cells_of, IsShown, own_counts, all_counts, Tx, IsFreshTx}
 use Rattle.storm.proofs.SameCells.{cells_same}
 use Rattle.status_board.proofs.Histories.{last_or-push}
-use Rattle.afdx_tx.specs.Publishing.{Publishes, counts_at}
+use Rattle.afdx_tx.specs.Calls.{Publishes, counts_at}
 
 -- publishing what was counted, after a step that leaves the board
 pub shown_published : (old mid new : Tx) → mid.plan ≡ old.plan → mid.board ≡ old.board → Publishes mid new → IsShown old → IsShown new

@@ -1,6 +1,6 @@
 -- The frames of a storm, once its ports are taken back and all is sent.
 use Rattle.storm.proofs.Names.{◌≡◌, ◌∙◌, ℕ, ◌<◌, List, length, All, ap, sym, subst, All-contains, Plan, Entry, log, Accepted, IsLegal, AreAllowed, AreOwn, AreOwnStreams, accepted_in, Tx, PortView, own_messages, AreSpent}
-use Rattle.afdx_legal.specs.Done.{IsAllDone, IsHandedWhole}
+use Rattle.afdx_legal.specs.Accepted.{IsAllDone, IsHandedWhole}
 use Rattle.afdx_tx.specs.Gathering.{IsGatheredTx}
 
 -- what was accepted of each port is its own list

@@ -1,6 +1,3 @@
-pub mod Messages
-pub mod Workers
-pub mod Boards
-pub mod Threads
-pub mod Totals
 pub mod Storms
+pub mod Threads
+pub mod Workers

@@ -1,14 +1,57 @@
--- What the threads of a storm begin with, and what they leave.
-use Rattle.std.specs.Prelude.{◌≡◌, ℕ, ◌*◌, ◌≤◌, Bool, false, List, length}
-use Rattle.status_board.specs.Views.{Watched, links_of}
+-- What the threads of a storm begin with, publish and read, and what they leave.
+use Rattle.std.specs.Prelude.{ℕ, ◌≡◌, ◌≢◌, ◌+◌, ◌≤◌, ◌<◌, List, length, map, ◌*◌, Bool, false}
+use Rattle.atomic_table.specs.Seated.{TableId}
+use Rattle.afdx_plan.specs.declared.link_plan.LinkPlan.{LinkPlan}
+use Rattle.redundant_mux.specs.Lines.{Entry}
+use Rattle.status_board.specs.declared.counts.Counts.{Counts}
+use Rattle.status_board.specs.Views.{Published, Watched, last_of, links_of, seen}
+use Rattle.afdx_legal.specs.Streams.{own_stream}
+use Rattle.afdx_legal.specs.Counting.{counts_in}
 use Rattle.afdx_tx.specs.Emitter.{Tx}
+use Rattle.afdx_tx.specs.Calls.{counts_at}
 use Rattle.afdx_tx.specs.Ports.{PortView, AreFreshPorts, AreOpenedWith}
 use Rattle.storm.specs.declared.polling.TheConstants.{STEP}
 use Rattle.storm.specs.declared.run.Joined.{Joined}
 use Rattle.storm.specs.declared.run.Opened.{Opened}
 use Rattle.storm.specs.declared.worker.Load.{Load}
-use Rattle.storm.specs.Boards.{cells_of, cells_read, IsShown, ReadsEach}
 use Rattle.storm.specs.Workers.{AreSpent}
+
+-- the cells of a board's links, in their order
+abbrev pub cells_of : List Published → List TableId
+cells_of board = map (λ (link : Published). link.cell) board
+
+-- the cells that a monitor reads, in their order
+abbrev pub cells_read : List Watched → List TableId
+cells_read monitor = map (λ (link : Watched). link.cell) monitor
+
+-- what was published last of each link of an emitter is the counts of the link's own stream
+pub record IsShown (tx : Tx) : Type 0 where
+  pub count : length tx.board ≡ length tx.plan.links
+  pub each : (k : ℕ) → k < length tx.plan.links → last_of tx.board k ≡ counts_at tx k
+
+-- the counts of a link's own stream of two networks' frames, the longer of its two
+abbrev pub own_counts : (a b : List Entry) → LinkPlan → Counts
+own_counts a b link = counts_in (own_stream link.id.0 a b)
+
+-- those of each link, in their order
+abbrev pub all_counts : List LinkPlan → (a b : List Entry) → List Counts
+all_counts links a b = map (own_counts a b) links
+
+-- one link of a monitor was read `times` times, by one load each, and no other
+pub record ReadsOnly (old new : List Watched) (link times : ℕ) : Type 0 where
+  pub cells : cells_read new ≡ cells_read old
+  pub loads : (seen new link).loads ≡ (seen old link).loads + times
+  pub others : (k : ℕ) → k ≢ link → seen new k ≡ seen old k
+
+-- each of the first links of a monitor was read `times` times, by one load each, and no other
+pub record ReadsFirst (old new : List Watched) (many times : ℕ) : Type 0 where
+  pub cells : cells_read new ≡ cells_read old
+  pub first : (k : ℕ) → k < many → (seen new k).loads ≡ (seen old k).loads + times
+  pub rest : (k : ℕ) → many ≤ k → seen new k ≡ seen old k
+
+-- each link of a monitor was read `times` times, by one load each
+abbrev pub ReadsEach : List Watched → List Watched → ℕ → Type 0
+ReadsEach old new times = ReadsFirst old new (links_of old) times
 
 -- an emitter before its first poll, with its fresh ports and its monitor
 pub record IsReady (tx : Tx) (ports : List PortView) (monitor : List Watched) : Type 0 where

@@ -1,10 +1,24 @@
--- What a worker does to its port.
-use Rattle.std.specs.Prelude.{ℕ, ◌≡◌, ◌+◌, ◌<◌, ◌≤◌, List, ◌++◌, length, slice_index, slice_index_or}
+-- What the ports send, and what a worker does to its port.
+use Rattle.std.specs.Prelude.{ℕ, zero, suc, ◌+◌, List, [], ◌∷◌, ◌++◌, ◌≡◌, ◌<◌, ◌≤◌, length, slice_index, slice_index_or}
+use Rattle.std.specs.Int.{to_be_bytes, w16, w32}
+use Rattle.afdx_plan.specs.Config.{Plan, port_plan_at}
 use Rattle.afdx_plan.specs.declared.port_plan.PortPlan.{PortPlan}
 use Rattle.subvl_queue.specs.Views.{QueueName}
 use Rattle.afdx_tx.specs.Emitter.{Tx}
 use Rattle.afdx_tx.specs.Ports.{PortView, IsPortOfTx}
-use Rattle.storm.specs.Messages.{messages_to, own_messages}
+
+-- a port's message of a number: the port's identifier in two bytes and the number in four, high byte first
+abbrev pub message : ℕ → ℕ → List ℕ
+message id call = to_be_bytes w16 id ++ to_be_bytes w32 call
+
+-- a port's messages 1 to n
+abbrev pub messages_to : ℕ → ℕ → List (List ℕ)
+messages_to id zero = []
+messages_to id (suc n) = messages_to id n ++ message id (n + 1) ∷ []
+
+-- the messages 1 to n of the port at each place of a plan
+abbrev pub own_messages : Plan → ℕ → ℕ → List (List ℕ)
+own_messages plan n place = messages_to (port_plan_at plan.ports place).id.0 n
 
 -- a port without its count of slot requests and what these found
 pub record Named : Type 0 where

@@ -2,7 +2,7 @@
 ghost use Rattle.std.specs.Prelude.{◌≡◌, ◌↔◌, ◌≤◌, length, map, IsTrue, All};
 ghost use Rattle.afdx_frame.specs.Header.{link_in};
 ghost use Rattle.afdx_frame.specs.declared.net.Net.TheVariants.{A as ForA, B as ForB};
-ghost use Rattle.redundant_mux.specs.Logged.{side};
+ghost use Rattle.redundant_mux.specs.Lines.{side};
 ghost use Rattle.redundant_mux.specs.Memory.{entries};
 ghost use Rattle.afdx_legal.specs.Legal.{AreKnown, AreTwins, is_on_both, on_both};
 

@@ -1,13 +1,12 @@
 //! After the joins: takes back the ports, and sends what is left.
 ghost use Rattle.std.specs.Prelude.{◌≡◌, ◌*◌, ◌≤◌, length, OnOk};
 ghost use Rattle.redundant_mux.specs.Lines.{log};
-ghost use Rattle.afdx_legal.specs.Allowed.{AreOwn};
-ghost use Rattle.afdx_legal.specs.Done.{IsAllDone};
-ghost use Rattle.afdx_legal.specs.Own.{AreOwnStreams};
-ghost use Rattle.afdx_tx.specs.Drain.{accepted_in};
+ghost use Rattle.afdx_legal.specs.Accepted.{AreOwn, IsAllDone};
+ghost use Rattle.afdx_legal.specs.Streams.{AreOwnStreams};
+ghost use Rattle.afdx_tx.specs.Run.{accepted_in};
 ghost use Rattle.afdx_tx.specs.Ports.{AreOpenedWith, HasEveryPlace};
 ghost use Rattle.afdx_tx.specs.Gathering.{IsGatheredTx};
-ghost use Rattle.storm.specs.Boards.{cells_of, IsShown};
+ghost use Rattle.storm.specs.Threads.{cells_of, IsShown};
 
 use crate::fault::Stop;
 use crate::gate::Gate;

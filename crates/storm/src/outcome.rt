@@ -1,9 +1,8 @@
 //! A storm over two networks in memory.
 ghost use Rattle.std.specs.Prelude.{◌≡◌, ◌≤◌, ◌<◌, ◌^◌, [], length, IfOk};
 ghost use Rattle.std.specs.List.{sum_by};
-ghost use Rattle.storm.specs.Boards.{cells_of, cells_read, IsShown, all_counts};
+ghost use Rattle.storm.specs.Threads.{cells_of, cells_read, IsShown, all_counts, IsReady, IsJoined};
 ghost use Rattle.storm.specs.Storms.{IsEnded};
-ghost use Rattle.storm.specs.Threads.{IsReady, IsJoined};
 
 use crate::drain::{drain, gather_all};
 use crate::fault::Stop;

@@ -2,7 +2,7 @@
 ghost use Rattle.std.specs.Prelude.{◌≡◌, ◌*◌, ◌≤◌, IfOk};
 ghost use Rattle.afdx_tx.specs.Emitter.{queues_in};
 ghost use Rattle.afdx_tx.specs.Phases.{KeepsMessages};
-ghost use Rattle.storm.specs.Boards.{cells_of, IsShown};
+ghost use Rattle.storm.specs.Threads.{cells_of, IsShown};
 
 use crate::fault::Stop;
 use crate::gate::Gate;

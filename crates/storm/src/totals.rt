@@ -1,7 +1,7 @@
 //! Writing the totals of a storm.
 ghost use Rattle.std.specs.Prelude.{◌≡◌, length, OnOk};
 ghost use Rattle.std.specs.Io.KnownBytes.{Appends};
-ghost use Rattle.storm.specs.Totals.{link_line, link_lines_to, networks_line, watcher_line, totals_of};
+ghost use Rattle.storm.specs.Storms.{link_line, link_lines_to, networks_line, watcher_line, totals_of};
 
 use crate::report::StormReport;
 use afdx_plan::{LinkPlan, VlId};
@@ -11,7 +11,7 @@ use std::io::{self, Write};
 /// Writes the totals of a storm over these links, in the order of their plan: how many messages were
 /// accepted, the counts of each link, whether both networks have the same frames, and whether a count was
 /// seen to fall.
-#[tactic(auto, unfolding(crate::specs::Totals::totals_text, crate::specs::Totals::accepted_line))]
+#[tactic(auto, unfolding(crate::specs::Storms::totals_text, crate::specs::Storms::accepted_line))]
 pub fn write_totals<W: Write>(
     writer: &mut W,
     links: &[LinkPlan],
@@ -39,7 +39,7 @@ fn write_links<W: Write>(writer: &mut W, links: &[LinkPlan], report: &StormRepor
     Ok(())
 }
 
-#[tactic(auto, unfolding(crate::specs::Totals::link_line))]
+#[tactic(auto, unfolding(crate::specs::Storms::link_line))]
 fn write_link<W: Write>(writer: &mut W, id: VlId, counts: &Counts) -> io::Result<()>
     ensures { OnOk result (Appends (W.contents writer.old) (W.contents writer.new)
         (link_line id.0 counts.now)) }
@@ -54,7 +54,7 @@ fn write_link<W: Write>(writer: &mut W, id: VlId, counts: &Counts) -> io::Result
     )
 }
 
-#[tactic(auto, unfolding(crate::specs::Totals::networks_line))]
+#[tactic(auto, unfolding(crate::specs::Storms::networks_line))]
 fn write_networks<W: Write>(writer: &mut W, equal: bool) -> io::Result<()>
     ensures { OnOk result (Appends (W.contents writer.old) (W.contents writer.new)
         (networks_line equal)) }
@@ -66,7 +66,7 @@ fn write_networks<W: Write>(writer: &mut W, equal: bool) -> io::Result<()>
     }
 }
 
-#[tactic(auto, unfolding(crate::specs::Totals::watcher_line))]
+#[tactic(auto, unfolding(crate::specs::Storms::watcher_line))]
 fn write_watcher<W: Write>(writer: &mut W, back: bool) -> io::Result<()>
     ensures { OnOk result (Appends (W.contents writer.old) (W.contents writer.new)
         (watcher_line back)) }

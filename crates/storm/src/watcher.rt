@@ -1,8 +1,7 @@
 //! A thread that reads the board while it is written.
 ghost use Rattle.std.specs.Prelude.{◌≡◌, ◌<◌, false, IfOk, ◌↔◌};
-ghost use Rattle.status_board.specs.History.{NoFieldFalls};
-ghost use Rattle.status_board.specs.Views.{links_of};
-ghost use Rattle.storm.specs.Boards.{ReadsOnly, ReadsEach};
+ghost use Rattle.status_board.specs.Views.{NoFieldFalls, links_of};
+ghost use Rattle.storm.specs.Threads.{ReadsOnly, ReadsEach};
 
 use crate::fault::Stop;
 use crate::gate::Gate;
@@ -20,7 +19,7 @@ pub(crate) struct WatchesAll {
 
 impl Promise<(Monitor, bool)> for WatchesAll {
     ghost use Rattle.std.specs.Prelude.{◌≡◌, false};
-    ghost use Rattle.storm.specs.Boards.{ReadsEach};
+    ghost use Rattle.storm.specs.Threads.{ReadsEach};
 
     ghost kept_by = { λ p r. ReadsEach p.before.value r.0 p.times × (r.1 ≡ false) };
 }

@@ -1,7 +1,6 @@
 //! The sends of one worker.
 ghost use Rattle.std.specs.Prelude.{◌≡◌, ◌≤◌, [], ◌∷◌, OnOk, IfOk};
-ghost use Rattle.storm.specs.Messages.{message};
-ghost use Rattle.storm.specs.Workers.{named, with_more, sent_all, asked_by, asked_after};
+ghost use Rattle.storm.specs.Workers.{message, named, with_more, sent_all, asked_by, asked_after};
 
 use crate::fault::Stop;
 use crate::gate::Gate;

@@ -9,7 +9,7 @@ pub use Rattle.std.proofs.lemmas.Bool.{cases_Bool, eqb-false, eqb-true, ltb-fals
 pub use Rattle.std.proofs.lemmas.List.{get_or_append_left, get_or_push, map-append, map-id, take-append-drop, take-append-le}
 pub use Rattle.std.proofs.lemmas.List.Elements.{All-cons, All-nil, Contains-append_right}
 pub use Rattle.std.specs.Prelude.{Contains, IfSome, Option, bit_or}
-pub use Rattle.subvl_queue.specs.Gathers.{IsGathered, brought_back, brought_of, items_of, own_of, places_of, whole}
+pub use Rattle.subvl_queue.specs.Views.{IsGathered, brought_back, brought_of, items_of, own_of, places_of, whole}
 pub use Rattle.subvl_queue.specs.Messages.{AreItems, IsItem, part_of}
 pub use Rattle.subvl_queue.specs.Queue.{Busy, Cell, CellOk, Collects, Fits, Gone, Has, InPhase, Joined, Knows, Phase, Queue, Totals, Whole, asks_of, budget}
 pub use Rattle.subvl_queue.specs.Queue.{budget_of, found_of, free, full, hand_of, holder, in_hand, in_room, owned, reading, shown, shut_bit, total, wait_of, waiting, writing}

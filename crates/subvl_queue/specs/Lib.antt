@@ -2,4 +2,3 @@ pub mod Messages
 pub mod Queue
 pub mod Steps
 pub mod Views
-pub mod Gathers

@@ -3,8 +3,7 @@ ghost use Rattle.std.specs.Prelude.{◌≡◌, ◌^◌, ◌<◌, ◌≤◌, [], 
 ghost use Rattle.subvl_queue.specs.declared.rule.Role.TheVariants.{Receiver as AsReceiver};
 ghost use Rattle.subvl_queue.specs.Messages.{IsMessage};
 ghost use Rattle.subvl_queue.specs.Queue.{RestsAs};
-ghost use Rattle.subvl_queue.specs.Gathers.{items_of, IsGathered, whole};
-ghost use Rattle.subvl_queue.specs.Views.{TellsLeft};
+ghost use Rattle.subvl_queue.specs.Views.{items_of, IsGathered, whole, TellsLeft};
 
 use crate::item::Item;
 use crate::receiver::fetch;
@@ -28,8 +27,7 @@ impl Model for Gathered {
     ghost use Rattle.std.specs.Prelude.{drop};
     ghost use Rattle.subvl_queue.specs.declared.rule.Role.TheVariants.{Receiver as AsReceiver};
     ghost use Rattle.subvl_queue.specs.Queue.{RestsAs, IsSlotOf};
-    ghost use Rattle.subvl_queue.specs.Gathers.{items_of, IsGathered, whole};
-    ghost use Rattle.subvl_queue.specs.Views.{GatheredView};
+    ghost use Rattle.subvl_queue.specs.Views.{items_of, IsGathered, whole, GatheredView};
 
     ghost Value = { GatheredView };
 

@@ -58,8 +58,7 @@ impl Model for Receiver {
     ghost use Rattle.std.specs.Prelude.{◌≡◌, ◌^◌, ◌≤◌, [], length, None, IfSome};
     ghost use Rattle.subvl_queue.specs.declared.rule.Role.TheVariants.{Receiver as AsReceiver};
     ghost use Rattle.subvl_queue.specs.Queue.{RestsAs, IsSlotOf};
-    ghost use Rattle.subvl_queue.specs.Gathers.{items_of, brought_back};
-    ghost use Rattle.subvl_queue.specs.Views.{ReceiverView};
+    ghost use Rattle.subvl_queue.specs.Views.{items_of, brought_back, ReceiverView};
 
     ghost Value = { ReceiverView };
 

@@ -4,8 +4,7 @@ ghost use Rattle.subvl_queue.specs.declared.rule.Role.TheVariants.{Sender as AsS
 ghost use Rattle.subvl_queue.specs.Messages.{most_bytes};
 ghost use Rattle.subvl_queue.specs.Queue.{IsAtTable, RestsAs};
 ghost use Rattle.subvl_queue.specs.Steps.{new_seat, drawn, asked_with_room, RefusedBy};
-ghost use Rattle.subvl_queue.specs.Gathers.{own_of, places_of};
-ghost use Rattle.subvl_queue.specs.Views.{new_sender, IsPlaced, IsRefused};
+ghost use Rattle.subvl_queue.specs.Views.{own_of, places_of, new_sender, IsPlaced, IsRefused};
 
 use crate::item::Message;
 use crate::refused::{Refused, Why};
@@ -74,8 +73,7 @@ impl Model for Sender {
     ghost use Rattle.std.specs.Prelude.{◌≡◌, ◌^◌, ◌≤◌, length};
     ghost use Rattle.subvl_queue.specs.declared.rule.Role.TheVariants.{Sender as AsSender};
     ghost use Rattle.subvl_queue.specs.Queue.{RestsAs, IsSlotOf};
-    ghost use Rattle.subvl_queue.specs.Gathers.{own_of, places_of};
-    ghost use Rattle.subvl_queue.specs.Views.{SenderView};
+    ghost use Rattle.subvl_queue.specs.Views.{own_of, places_of, SenderView};
 
     ghost Value = { SenderView };
 

@@ -1,7 +1,7 @@
 //! Times the cutting of messages into frames for two networks.
 ghost use Rattle.std.specs.Prelude.{◌≡◌, ◌<◌, [], IfOk};
 ghost use Rattle.afdx_plan.specs.Plan.{SendsOver};
-ghost use Rattle.redundant_mux.specs.Logged.{entries_of};
+ghost use Rattle.redundant_mux.specs.Lines.{entries_of};
 
 use crate::trouble::{Ended, Global, Trouble};
 use crate::{Letter, Load, Watch, message, plan};

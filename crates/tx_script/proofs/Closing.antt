@@ -2,11 +2,11 @@
 use Rattle.std.proofs.Common.{ℕ, ◌≡◌, ◌<◌, ◌+◌, List, length, arith, refl, ap, ◌∙◌, sym, subst, inl, inr, Option, Some, None}
 use Rattle.std.proofs.lemmas.Bool.{cases_lt, lt-ltb, le-ltb}
 use Rattle.afdx_plan.specs.Config.{Plan, IsPlan, link_plan_at}
-use Rattle.vl_link.specs.Closing.{Closes}
+use Rattle.vl_link.specs.Calls.{Closes}
 use Rattle.vl_link.specs.Links.{Held, LinkState, held_at, link_at, nothing_held, no_link}
 use Rattle.vl_link.specs.Seen.{Seen, receiving, gathered, total_of}
 use Rattle.vl_link.proofs.Choosing.{each_set}
-use Rattle.afdx_tx.specs.Closing.{IsSubAt, LacksSub, ClosesTx}
+use Rattle.afdx_tx.specs.Calls.{IsSubAt, LacksSub, ClosesTx}
 use Rattle.afdx_tx.specs.Emitter.{Tx, total_in}
 use Rattle.afdx_tx.specs.Ports.{PortView}
 use Rattle.afdx_tx.proofs.PortLink.{none_has, found_at}

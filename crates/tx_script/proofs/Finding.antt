@@ -6,17 +6,16 @@ use Rattle.std.specs.Cmp.Derive.{both_true}
 use Rattle.std.proofs.lemmas.Bool.{cases_eq, eq-eqb, cases_lt, eqb-true, and_parts}
 use Rattle.std.proofs.lemmas.List.{get_or_default, get_or_past, get_or_append_left, length-append, map-append}
 use Rattle.std.proofs.lemmas.List.Elements.{All-tail, All-weaker, Contains-get_or}
-use Rattle.afdx_plan.specs.Config.{Plan, IsPlan, link_plan_at, port_plan_at}
+use Rattle.afdx_plan.specs.Config.{Plan, IsPlan, link_plan_at, port_plan_at, link_place}
 use Rattle.afdx_plan.specs.declared.port_plan.PortPlan.{PortPlan}
 use Rattle.afdx_frame.specs.Fragments.{Sent}
-use Rattle.afdx_legal.specs.Allowed.{IsAllowed, messages_of, AreAllowed, port_messages}
+use Rattle.afdx_legal.specs.Accepted.{IsAllowed, messages_of, AreAllowed, port_messages}
 use Rattle.tx_script.specs.Play.{Messages, is_on, accepted_among, AnsweredLine, Play, FindsFirst, IsTotal, AreTotals, ClosesAt, found}
-use Rattle.afdx_plan.specs.Places.{link_place}
-use Rattle.vl_link.specs.LinkGathering.{BecomesWhole}
+use Rattle.vl_link.specs.Calls.{BecomesWhole}
 use Rattle.vl_link.specs.Links.{no_link, Held, held_at, link_at, sent_of, sent_by}
 use Rattle.vl_link.specs.Seen.{Seen, receiving, gathered, taken_of, known_of}
-use Rattle.afdx_tx.specs.Closing.{IsSubAt}
-use Rattle.afdx_tx.specs.Drain.{accepted_in}
+use Rattle.afdx_tx.specs.Calls.{IsSubAt}
+use Rattle.afdx_tx.specs.Run.{accepted_in}
 use Rattle.afdx_tx.specs.Emitter.{Tx, taken_in}
 use Rattle.afdx_tx.specs.Gathering.{IsGatheredTx, HasOwnPart}
 use Rattle.afdx_tx.specs.Ports.{PortView, LacksPlace}

@@ -7,9 +7,7 @@ use Rattle.afdx_plan.specs.declared.link_plan.LinkPlan.{LinkPlan}
 use Rattle.afdx_frame.specs.declared.net.Net.{Net}
 use Rattle.afdx_frame.specs.declared.net.Net.TheVariants.{A, B}
 use Rattle.afdx_frame.specs.Fragments.{Sent}
-use Rattle.redundant_mux.specs.Entry.{Entry}
-use Rattle.redundant_mux.specs.Logged.{Logged, sent_to}
-use Rattle.redundant_mux.specs.Lines.{Lines, log, Keeps, IsMirrored}
+use Rattle.redundant_mux.specs.Lines.{Entry, Logged, sent_to, Lines, log, Keeps, IsMirrored}
 use Rattle.vl_shaper.specs.Pace.{Pace}
 use Rattle.vl_link.specs.declared.served.Served.{Served}
 use Rattle.vl_link.specs.declared.served.Served.TheVariants.{Nothing, Released, Lost}
@@ -18,11 +16,10 @@ use Rattle.vl_link.specs.Links.{Held, LinkState, held_at, link_at, GoesOn, Start
 use Rattle.vl_link.proofs.QueueLooks.{taken_nothing, taken_finds}
 use Rattle.vl_link.proofs.TurnLaws.{choice_other, turn_seen, turns_seen, turns_each}
 use Rattle.afdx_tx.specs.declared.report.Release.{Release}
-use Rattle.afdx_tx.specs.Drain.{pace_in}
+use Rattle.afdx_tx.specs.Run.{pace_in, IsTurn, IsTurnAt, IsRun}
 use Rattle.afdx_tx.specs.Emitter.{Tx, taken_in, total_in}
 use Rattle.afdx_tx.specs.Ports.{PortView}
 use Rattle.afdx_tx.specs.Report.{IsTold}
-use Rattle.afdx_tx.specs.Run.{IsTurn, IsTurnAt, IsRun}
 use Rattle.script_text.specs.declared.line.Line.TheVariants as Said
 use Rattle.script_text.specs.declared.outcome.Outcome.TheVariants as Became
 use Rattle.tx_script.specs.EndSystem.{Progress, EndSystem, started, SendsFrame, progress_view, HasTurnAt, HasPolled}

@@ -8,8 +8,7 @@ use Rattle.std.proofs.lemmas.Option.{IfSome_then}
 use Rattle.afdx_plan.specs.Config.{Plan}
 use Rattle.afdx_tx.specs.Emitter.{Tx}
 use Rattle.script_text.specs.Lines.{first_line}
-use Rattle.script_text.specs.Meaning.{meaning_of}
-use Rattle.script_text.specs.Summary.{counted, HasFew}
+use Rattle.script_text.specs.Meaning.{meaning_of, counted, HasFew}
 use Rattle.script_text.specs.Transcript.{note_of, streams, ends_writing}
 use Rattle.script_text.specs.declared.line.Line.{Line as Said}
 use Rattle.script_text.specs.declared.outcome.Outcome.{Outcome}

@@ -10,15 +10,14 @@ use Rattle.subvl_queue.specs.declared.refused.Why.TheVariants as Queue
 use Rattle.afdx_tx.specs.declared.fault.Refusal.{Refusal as SendRefusal}
 use Rattle.afdx_tx.specs.declared.fault.Refusal.TheVariants as Why
 use Rattle.afdx_tx.specs.Emitter.{Tx}
-use Rattle.afdx_tx.specs.Ports.{PortView, MaySend, Refuses, QueueRefuses}
-use Rattle.afdx_tx.specs.Sending.{length_refusal}
+use Rattle.afdx_tx.specs.Ports.{PortView, MaySend, Refuses, QueueRefuses, length_refusal}
 use Rattle.script_text.specs.declared.line.Line.{Line}
 use Rattle.script_text.specs.declared.line.Line.TheVariants.{Send}
 use Rattle.script_text.specs.declared.refusal.Refusal.{Refusal}
 use Rattle.script_text.specs.declared.refusal.Refusal.TheVariants.{Empty, TooLong, Closed, Full, NoPort}
 use Rattle.script_text.specs.declared.outcome.Outcome.{Outcome}
 use Rattle.script_text.specs.declared.outcome.Outcome.TheVariants as Became
-use Rattle.script_text.specs.Summary.{HasFew}
+use Rattle.script_text.specs.Meaning.{HasFew}
 use Rattle.tx_script.specs.AtBench.{AtBench, IsAtHand, Matches, Sends, Obeys, ObeysAt}
 use Rattle.tx_script.specs.EndSystem.{EndSystem}
 use Rattle.tx_script.specs.Play.{Answer, Messages, takes, closes, fills, place_of, passed_on, queued, sent_to, script_refusal, outcome_of}

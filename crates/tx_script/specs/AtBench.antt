@@ -6,14 +6,12 @@ use Rattle.afdx_frame.specs.Fragments.{Sent}
 use Rattle.afdx_frame.specs.declared.net.Net.TheVariants.{A, B}
 use Rattle.subvl_queue.specs.Messages.{most_calls}
 use Rattle.vl_link.specs.Links.{Held, LinkState, IsLinkOfPlan, held_at, link_at, taken_by}
-use Rattle.afdx_legal.specs.Allowed.{AreAllowed}
-use Rattle.afdx_tx.specs.Drain.{accepted_in}
+use Rattle.afdx_legal.specs.Accepted.{AreAllowed}
+use Rattle.afdx_tx.specs.Run.{accepted_in}
 use Rattle.afdx_tx.specs.Emitter.{Tx, IsFreshTx, taken_in, total_in}
 use Rattle.afdx_tx.specs.Gathering.{IsGatheredTx}
-use Rattle.afdx_tx.specs.Ports.{PortView, AreOpenedWith, AreFreshPorts}
-use Rattle.afdx_tx.specs.Sending.{length_refusal}
-use Rattle.script_text.specs.Meaning.{meaning_of}
-use Rattle.script_text.specs.Summary.{HasFew}
+use Rattle.afdx_tx.specs.Ports.{PortView, AreOpenedWith, AreFreshPorts, length_refusal}
+use Rattle.script_text.specs.Meaning.{meaning_of, HasFew}
 use Rattle.script_text.specs.declared.line.Line.{Line}
 use Rattle.script_text.specs.declared.line.Line.TheVariants.{Nothing}
 use Rattle.script_text.specs.declared.outcome.Outcome.{Outcome}

@@ -4,14 +4,12 @@ use Rattle.afdx_plan.specs.Config.{Plan, link_plan_at}
 use Rattle.afdx_plan.specs.declared.link_plan.LinkPlan.{LinkPlan}
 use Rattle.afdx_frame.specs.declared.net.Net.{Net}
 use Rattle.afdx_frame.specs.Fragments.{Sent, blanked}
-use Rattle.redundant_mux.specs.Entry.{Entry}
-use Rattle.redundant_mux.specs.Logged.{Logged, sent_to}
-use Rattle.redundant_mux.specs.Lines.{Lines, log as log_of}
+use Rattle.redundant_mux.specs.Lines.{Entry, Logged, sent_to, Lines, log as log_of}
 use Rattle.vl_link.specs.declared.served.Served.{Served}
 use Rattle.vl_link.specs.declared.sub_vl.SubVl.{SubVl}
 use Rattle.vl_link.specs.Turn.{TurnView, Turn, AreTurns}
 use Rattle.vl_link.specs.Links.{message_fragments}
-use Rattle.afdx_tx.specs.Drain.{pace_in}
+use Rattle.afdx_tx.specs.Run.{pace_in}
 
 -- A sub-VL: the messages that were taken from its queue, and the fragments left of the last one.
 pub record Progress : Type 0 where

@@ -6,13 +6,12 @@ use Rattle.afdx_plan.specs.declared.port_plan.PortPlan.{PortPlan}
 use Rattle.afdx_frame.specs.declared.net.Net.TheVariants.{A, B}
 use Rattle.afdx_tx.specs.declared.fault.Refusal.{Refusal as SendRefusal}
 use Rattle.afdx_tx.specs.declared.fault.Refusal.TheVariants as Why
-use Rattle.afdx_tx.specs.Closing.{IsSubAt}
-use Rattle.afdx_tx.specs.Sending.{length_refusal}
+use Rattle.afdx_tx.specs.Calls.{IsSubAt}
+use Rattle.afdx_tx.specs.Ports.{length_refusal}
 use Rattle.afdx_legal.specs.Legal.{Accepted as Sents}
-use Rattle.afdx_legal.specs.Allowed.{AreAllowed, port_messages}
+use Rattle.afdx_legal.specs.Accepted.{AreAllowed, port_messages}
 use Rattle.tx_script.specs.EndSystem.{EndSystem, HasPolled, fresh, handed}
-use Rattle.script_text.specs.Meaning.{meaning_of}
-use Rattle.script_text.specs.Summary.{counted}
+use Rattle.script_text.specs.Meaning.{meaning_of, counted}
 use Rattle.script_text.specs.Transcript.{note_of, streams}
 use Rattle.script_text.specs.declared.line.Line.{Line}
 use Rattle.script_text.specs.declared.line.Line.TheVariants.{Send, At, Close, Nothing}

@@ -3,7 +3,7 @@ use Rattle.std.specs.Prelude.{◌≡◌, ℕ, ◌+◌, ◌<◌, ◌≤◌, List,
 use Rattle.std.specs.Io.KnownBytes.{Appends}
 use Rattle.afdx_plan.specs.Config.{Plan}
 use Rattle.afdx_frame.specs.declared.net.Net.TheVariants.{A, B}
-use Rattle.redundant_mux.specs.Entry.{Entry}
+use Rattle.redundant_mux.specs.Lines.{Entry}
 use Rattle.script_text.specs.Faults.{IsFirstFault, IsFaultless}
 use Rattle.script_text.specs.Lines.{first_line, after_feed}
 use Rattle.script_text.specs.Meaning.{meaning_of}

@@ -1,7 +1,7 @@
 -- The regulation of a link after a frame.
 use Rattle.vl_link.proofs.Names.{arith, ℕ, ◌≡◌, ◌≢◌, ◌+◌, List, [], ◌∷◌, ◌++◌, ap, ◌∙◌, sym, Some, length_push, sequence_number, link_in, sub_in, IsFrameOf, Entry, entry, Lines, log, log_more, Pace, link_stream, A, pace_of, latest_push, with_push_in, with_push_out}
 use Rattle.afdx_plan.specs.declared.networks.Networks.{Networks}
-use Rattle.redundant_mux.specs.Logged.{logged_for}
+use Rattle.redundant_mux.specs.Lines.{logged_for}
 
 -- The frame is appended to the link's stream.
 pub stream_more : (vl now sub number : ℕ) (networks : Networks) (frame : List ℕ) (lines after : Lines)

@@ -1,14 +1,45 @@
--- The invariant of a link and its stream.
-use Rattle.std.specs.Prelude.{ℕ, ◌≡◌, ◌<◌, ◌++◌, List, [], true, false, None}
-use Rattle.afdx_plan.specs.Room.{room_of}
+-- The invariants of a sub-VL and of a link, and the choices that the link's stream shows.
+use Rattle.std.specs.Prelude.{ℕ, Bool, true, false, nat_eq, if◌then◌else◌, Option, Some, List, [], ◌∷◌, ◌≡◌, ◌<◌, ◌++◌, None, ◌≤◌, ◌%◌, length, All, IfSome}
+use Rattle.afdx_frame.specs.Header.{sub_in}
+use Rattle.redundant_mux.specs.Lines.{Entry, log}
+use Rattle.vl_shaper.specs.Pace.{Choice, IsChosen, turn_of}
+use Rattle.vl_shaper.specs.declared.shaper.Stamp.{Stamp}
+use Rattle.afdx_legal.specs.Streams.{stamp_of, more_in, link_stream, sub_stream, told, told_of, entry_number, IsNumbered, IsSpaced, IsPrefixOf}
+use Rattle.afdx_plan.specs.Plan.{room_of, IsLink, IsPort, SendsOver}
 use Rattle.afdx_frame.specs.declared.net.Net.TheVariants.{A}
 use Rattle.afdx_frame.specs.Fragments.{fragments}
-use Rattle.redundant_mux.specs.Entry.{Entry}
-use Rattle.redundant_mux.specs.Lines.{log}
 use Rattle.afdx_legal.specs.Counting.{counts_in}
-use Rattle.afdx_legal.specs.Streams.{link_stream, sub_stream, told, told_of, entry_number, IsNumbered, IsSpaced, IsPrefixOf}
-use Rattle.vl_link.specs.Links.{Held, LinkState, held_at, taken_by, sub_fragments, pace_of}
-use Rattle.vl_link.specs.Shown.{none_begun, ShowsChoices}
+use Rattle.vl_link.specs.Links.{Held, LinkState, held_at, taken_by, sub_fragments, pace_of, left_of}
+use Rattle.afdx_plan.specs.declared.port_plan.PortPlan.{PortPlan}
+use Rattle.afdx_frame.specs.Cutting.{Cutting}
+use Rattle.vl_link.specs.declared.sub_vl.SubVl.{SubVl}
+use Rattle.vl_link.specs.declared.queue.Queue.{Queue}
+use Rattle.vl_link.specs.declared.queue.Queue.TheVariants.{Receiving, Gathered, Empty}
+use Rattle.vl_link.specs.Seen.{Seen, receiving, gathered, nothing_seen, taken_of, ports_of}
+
+-- the sub-VLs with a begun message that has more fragments to come: none at first
+abbrev pub none_begun : ℕ → Bool
+none_begun sub = false
+
+-- the same after an entry
+abbrev pub begun_after : (ℕ → Bool) → Entry → ℕ → Bool
+begun_after begun e sub = if nat_eq (sub_in e.frame) sub then more_in e.frame else begun sub
+
+-- the same after these entries
+abbrev pub begun_by : (ℕ → Bool) → List Entry → ℕ → Bool
+begun_by begun [] = begun
+begun_by begun (e ∷ es) = begun_by (begun_after begun e) es
+
+-- A choice as a stream shows it: the sub-VLs with a begun message and the chosen one had something.
+abbrev pub shown_choice : (ℕ → Bool) → ℕ → Choice
+shown_choice begun sub = record { has = λ s. if nat_eq s sub then true else begun s; sub = sub }
+
+-- each entry of a stream is of the chosen sub-VL
+abbrev pub ShowsChoices : ℕ → Option Stamp → (ℕ → Bool) → List Entry → Type 0
+ShowsChoices subs last begun [] = Unit {0}
+ShowsChoices subs last begun (e ∷ es) =
+    IsChosen subs (turn_of subs last) (shown_choice begun (sub_in e.frame))
+    × ShowsChoices subs (Some (stamp_of e)) (begun_after begun e) es
 
 -- A sub-VL's stream, and the fragments left of the message being sent, are together the fragments
 -- of the messages that it took.
@@ -48,3 +79,31 @@ pub record IsKept (link : LinkState) (log : List Entry) : Type 0 where
   pub tied : link.lost ≡ false → IsLinkTied link log
   pub behind : link.lost ≡ true → IsSubBehind link log
   pub counted : link.counts ≡ counts_in (link_stream link.plan.id.0 log)
+
+-- the receiver, or all ends; a queue that was moved out counts as one without ports
+abbrev pub seen_of : Queue → Seen
+seen_of (Receiving r) = receiving r
+seen_of (Gathered g) = gathered g
+seen_of Empty = nothing_seen
+
+-- a port of this sub-VL
+pub record IsPortOf (owner : SubVl) (sender : PortPlan) : Type 0 where
+  pub port : IsPort sender
+  pub over : SendsOver sender owner.link
+  pub of_sub : sender.sub ≡ owner.sub
+
+-- The message being sent is of this sub-VL. With its last fragment its memory was freed.
+pub record IsCutOf (owner : SubVl) (cut : Cutting) : Type 0 where
+  pub over : SendsOver cut.port owner.link
+  pub of_sub : cut.port.sub ≡ owner.sub
+  pub free : left_of owner (Some cut) ≡ [] → cut.capacity ≡ 0
+
+-- The ports are of this sub-VL, and the queue has no more senders than ports. The place of the next
+-- message is the number of messages taken modulo 16,384.
+pub record IsSub (owner : SubVl) (ports : List PortPlan) (sending : Option Cutting)
+    (seen : Seen) (next : ℕ) : Type 0 where
+  pub link : IsLink owner.link
+  pub senders : All (IsPortOf owner) ports
+  pub count : ports_of seen ≤ length ports
+  pub sending_is : IfSome sending (IsCutOf owner)
+  pub place : next ≡ length (taken_of seen) % 16384

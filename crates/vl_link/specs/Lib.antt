@@ -1,11 +1,5 @@
+pub mod Calls
+pub mod Kept
+pub mod Links
 pub mod Seen
 pub mod Turn
-pub mod Due
-pub mod Links
-pub mod Subs
-pub mod Kept
-pub mod LinkDone
-pub mod LinkSenders
-pub mod LinkGathering
-pub mod Closing
-pub mod Shown

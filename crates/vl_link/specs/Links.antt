@@ -1,16 +1,13 @@
 -- A link of an emitter, and the effect of one turn.
 use Rattle.std.specs.Prelude.{ℕ, ◌≡◌, ◌⊎◌, ◌<◌, List, [], ◌∷◌, Bool, true, false, length, map, get_or, Option, Some, None}
 use Rattle.afdx_plan.specs.Config.{link_plan_at, port_plan_at}
-use Rattle.afdx_plan.specs.Plan.{bag_micros}
-use Rattle.afdx_plan.specs.Numbers.{sequence_number}
-use Rattle.afdx_plan.specs.Room.{room_of}
+use Rattle.afdx_plan.specs.Plan.{bag_micros, sequence_number, room_of}
 use Rattle.afdx_plan.specs.declared.link_plan.LinkPlan.{LinkPlan}
 use Rattle.afdx_plan.specs.declared.port_plan.PortPlan.{PortPlan}
 use Rattle.afdx_frame.specs.declared.net.Net.TheVariants.{A}
 use Rattle.afdx_frame.specs.Cutting.{Cutting}
 use Rattle.afdx_frame.specs.Fragments.{Sent, blanked, fragments_at, fragments_from, fragments_left}
-use Rattle.redundant_mux.specs.Entry.{Entry}
-use Rattle.redundant_mux.specs.Lines.{Lines, log}
+use Rattle.redundant_mux.specs.Lines.{Entry, Lines, log}
 use Rattle.subvl_queue.specs.Messages.{IsItem, AreItems}
 use Rattle.vl_shaper.specs.Pace.{Pace, turn_of}
 use Rattle.vl_link.specs.Turn.{TurnView, IsChoice, Turn}
@@ -18,7 +15,7 @@ use Rattle.vl_link.specs.declared.served.Served.{Served}
 use Rattle.vl_link.specs.declared.served.Served.TheVariants.{Nothing, Released, Lost}
 use Rattle.vl_link.specs.declared.sub_vl.SubVl.{SubVl}
 use Rattle.status_board.specs.declared.counts.Counts.{Counts}
-use Rattle.status_board.specs.History.{zeros}
+use Rattle.status_board.specs.Views.{zeros}
 use Rattle.afdx_legal.specs.Streams.{link_stream, latest}
 use Rattle.vl_link.specs.Seen.{Seen, taken_of, known_of, nothing_seen, FindsNothing, Finds, IsSameQueue}
 

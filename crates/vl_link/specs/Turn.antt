@@ -3,9 +3,7 @@ use Rattle.std.specs.Prelude.{ℕ, zero, suc, ◌≡◌, ◌⊎◌, ◌+◌, ◌
 use Rattle.afdx_plan.specs.declared.link_plan.LinkPlan.{LinkPlan}
 use Rattle.afdx_frame.specs.declared.net.Net.TheVariants.{A}
 use Rattle.afdx_frame.specs.Header.{IsFrameOf}
-use Rattle.redundant_mux.specs.Entry.{Entry, entry}
-use Rattle.redundant_mux.specs.Logged.{logged_for}
-use Rattle.redundant_mux.specs.Lines.{Lines, BothEndure, stands_for}
+use Rattle.redundant_mux.specs.Lines.{Entry, entry, logged_for, Lines, BothEndure, stands_for}
 use Rattle.vl_shaper.specs.Pace.{Pace, is_due, turn_of}
 use Rattle.vl_link.specs.declared.served.Served.{Served}
 use Rattle.vl_link.specs.declared.served.Served.TheVariants.{Nothing, Released, Lost}

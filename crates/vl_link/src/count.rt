@@ -1,8 +1,8 @@
 //! The counts of a link's frames.
 ghost use Rattle.std.specs.Prelude.{◌≡◌, ◌≤◌, ◌++◌, List, length, nat_lt, if◌then◌else◌};
 ghost use Rattle.afdx_frame.specs.Profile.{fragment_field};
-ghost use Rattle.afdx_frame.specs.Roles.{more_fragments};
-ghost use Rattle.redundant_mux.specs.Entry.{Entry};
+ghost use Rattle.afdx_frame.specs.Frame.{more_fragments};
+ghost use Rattle.redundant_mux.specs.Lines.{Entry};
 ghost use Rattle.afdx_legal.specs.Counting.{counts_in};
 ghost use Rattle.vl_link.specs.Turn.{entered, HasHeaders};
 

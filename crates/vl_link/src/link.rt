@@ -5,8 +5,7 @@ ghost use Rattle.redundant_mux.specs.Lines.{BothEndure, log};
 ghost use Rattle.afdx_legal.specs.Streams.{link_stream};
 ghost use Rattle.vl_link.specs.Links.{pace_of, AreSubsOf, AreSameSubs, Serves, Follows, IsPicked, PassedOver};
 ghost use Rattle.vl_link.specs.Turn.{entered, may_release, HasHeaders};
-ghost use Rattle.vl_link.specs.LinkDone.{TellsSubsDone};
-ghost use Rattle.vl_link.specs.LinkGathering.{AreFullSubs, GathersSubs};
+ghost use Rattle.vl_link.specs.Calls.{TellsSubsDone, AreFullSubs, GathersSubs};
 
 use crate::count::counts_after;
 use crate::served::Served;
@@ -134,24 +133,19 @@ impl Model for Link {
 
 impl Link {
     ghost use Rattle.std.specs.Prelude.{◌≡◌, ℕ, ◌||◌, length, true, false, None};
-    ghost use Rattle.afdx_plan.specs.Numbers.{sequence_number};
-    ghost use Rattle.afdx_plan.specs.Plan.{IsLink, bag_micros};
+    ghost use Rattle.afdx_plan.specs.Plan.{sequence_number, IsLink, bag_micros};
     ghost use Rattle.vl_shaper.specs.Pace.{IsLater};
     ghost use Rattle.redundant_mux.specs.Lines.{BothEndure, log};
     ghost use Rattle.afdx_legal.specs.Streams.{link_stream};
     ghost use Rattle.afdx_legal.specs.Counting.{counts_in};
-    ghost use Rattle.status_board.specs.History.{zeros};
+    ghost use Rattle.status_board.specs.Views.{zeros};
     ghost use Rattle.vl_link.specs.Links.{LinkState, AreNamed, Serves, Follows, IsSameLink, pace_of};
     ghost use Rattle.vl_link.specs.Turn.{is_lost, may_release};
-    ghost use Rattle.vl_link.specs.Due.{BecomesDue, StaysAsIs};
-    ghost use Rattle.vl_link.specs.LinkDone.{TellsLinkDone};
-    ghost use Rattle.vl_link.specs.LinkGathering.{AreFullSubs, GathersLink};
+    ghost use Rattle.vl_link.specs.Calls.{BecomesDue, StaysAsIs, TellsLinkDone, AreFullSubs, GathersLink, LacksSender, LinkMakesSender, LinkTakesBack, ClosesLink};
     ghost use Rattle.std.specs.Prelude.{◌<◌, ◌≤◌, Some, IfOk, IfErr, MatchOption};
     ghost use Rattle.subvl_queue.specs.Messages.{most_calls};
     ghost use Rattle.vl_link.specs.Seen.{IsReceiving, queue_of};
-    ghost use Rattle.vl_link.specs.LinkSenders.{LacksSender, LinkMakesSender, LinkTakesBack};
     ghost use Rattle.vl_link.specs.Links.{held_at};
-    ghost use Rattle.vl_link.specs.Closing.{ClosesLink};
 
     /// A link of these sub-VLs, those of its plan, which has released nothing.
     pub fn new(end_system: u16, plan: LinkPlan, subs: Vec<Sub>) -> Link

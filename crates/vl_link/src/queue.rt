@@ -14,7 +14,7 @@ impl Queue {
     ghost use Rattle.std.specs.Prelude.{IfSome, IfNone};
     ghost use Rattle.subvl_queue.specs.Messages.{IsItem};
     ghost use Rattle.vl_link.specs.Seen.{ports_of, FindsNothing, Finds, TellsDrained};
-    ghost use Rattle.vl_link.specs.Subs.{seen_of};
+    ghost use Rattle.vl_link.specs.Kept.{seen_of};
 
     /// Takes the next message, if one is ready. Never waits.
     #[inline(always)]

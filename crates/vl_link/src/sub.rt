@@ -5,7 +5,7 @@ ghost use Rattle.afdx_frame.specs.declared.net.Net.TheVariants.{A as ForA};
 ghost use Rattle.afdx_frame.specs.Cutting.{uncut};
 ghost use Rattle.afdx_frame.specs.Fragments.{blanked};
 ghost use Rattle.afdx_frame.specs.Header.{IsFrameOf};
-ghost use Rattle.afdx_frame.specs.Roles.{greatest_message};
+ghost use Rattle.afdx_frame.specs.Frame.{greatest_message};
 ghost use Rattle.vl_link.specs.Links.{left_of, TellsCutting};
 
 use crate::queue::Queue;
@@ -32,7 +32,7 @@ pub struct Sub {
 impl Model for Sub {
     ghost use Rattle.std.specs.Box.{boxed_slice_items};
     ghost use Rattle.vl_link.specs.Links.{Held, left_of};
-    ghost use Rattle.vl_link.specs.Subs.{IsSub, seen_of};
+    ghost use Rattle.vl_link.specs.Kept.{IsSub, seen_of};
 
     ghost Value = { Held };
 
@@ -49,13 +49,10 @@ impl Model for Sub {
 impl Sub {
     ghost use Rattle.vl_link.specs.Seen.{receiving};
     ghost use Rattle.vl_link.specs.Links.{Held, Asks};
-    ghost use Rattle.vl_link.specs.LinkDone.{TellsSubDone};
-    ghost use Rattle.vl_link.specs.Subs.{IsPortOf};
-    ghost use Rattle.vl_link.specs.LinkGathering.{IsFullSub, GathersSub};
+    ghost use Rattle.vl_link.specs.Calls.{TellsSubDone, IsFullSub, GathersSub, LacksSender, SubMakesSender, SubTakesBack, ClosesSub};
+    ghost use Rattle.vl_link.specs.Kept.{IsPortOf};
     ghost use Rattle.subvl_queue.specs.Messages.{most_calls};
     ghost use Rattle.vl_link.specs.Seen.{IsReceiving, queue_of};
-    ghost use Rattle.vl_link.specs.LinkSenders.{LacksSender, SubMakesSender, SubTakesBack};
-    ghost use Rattle.vl_link.specs.Closing.{ClosesSub};
 
     /// A sub-VL of the ports of these templates, over a queue with no more senders than ports, which has taken
     /// nothing.

@@ -1,6 +1,6 @@
 -- How long a message waits on its link, in choices among the link's sub-VLs and by the clock.
 use Rattle.std.specs.Prelude.{ℕ, ◌≡◌, ◌+◌, ◌-◌, ◌*◌, ◌<◌, ◌≤◌, List, [], ◌∷◌, true, nat_eq, count_by, length, map, take, All}
-use Rattle.vl_shaper.specs.Choices.{Choice, AreChosen}
+use Rattle.vl_shaper.specs.Pace.{Choice, AreChosen}
 
 -- the number of choices of a sub-VL
 abbrev pub turns_of : ℕ → List Choice → ℕ

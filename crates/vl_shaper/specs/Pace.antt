@@ -1,5 +1,5 @@
--- The regulation of a virtual link (ARINC 664 Part 7, bandwidth allocation gap and sub-VLs).
-use Rattle.std.specs.Prelude.{ℕ, ◌+◌, ◌-◌, ◌%◌, ◌<◌, ◌≤◌, Bool, true, nat_le, Option, Some, None}
+-- The regulation of a virtual link (ARINC 664 Part 7, bandwidth allocation gap and sub-VLs), and its choices in cyclic order.
+use Rattle.std.specs.Prelude.{ℕ, ◌+◌, ◌-◌, ◌%◌, ◌<◌, ◌≤◌, Bool, true, nat_le, Option, Some, None, ◌≡◌, ◌≢◌, List, [], ◌∷◌, false, nat_eq, count_by}
 use Rattle.vl_shaper.specs.declared.shaper.Stamp.{Stamp}
 
 -- a link's gap in microseconds, its number of sub-VLs, its last release, and the next sequence number
@@ -39,3 +39,37 @@ pub record IsShaped (gap sub_vls : ℕ) (last : Option Stamp) : Type 0 where
   pub some : 1 ≤ sub_vls
   pub few : sub_vls ≤ 4
   pub below : IsBelow sub_vls last
+
+-- the sub-VLs that had something, and the chosen one
+pub record Choice : Type 0 where
+  pub has : ℕ → Bool
+  pub sub : ℕ
+
+-- the sub-VL of turn number k, from 0, after this last served sub-VL
+abbrev pub next_turn : ℕ → ℕ → ℕ → ℕ
+next_turn subs last k = (last + 1 + k) % subs
+
+-- the chosen sub-VL is the first in the order of turns that had something
+pub record IsChosen (subs : ℕ) (order : ℕ → ℕ) (choice : Choice) : Type 0 where
+  pub turn : ℕ
+  pub within : turn < subs
+  pub is : choice.sub ≡ order turn
+  pub had : choice.has choice.sub ≡ true
+  pub before : (k : ℕ) → k < turn → choice.has (order k) ≡ false
+
+-- each choice is the first in cyclic order that had something
+abbrev pub AreChosen : ℕ → ℕ → List Choice → Type 0
+AreChosen subs last [] = Unit {0}
+AreChosen subs last (choice ∷ choices) =
+    IsChosen subs (next_turn subs last) choice × AreChosen subs choice.sub choices
+
+-- the sub-VL had something at each of these choices, and was never chosen
+abbrev pub IsPassedOver : ℕ → List Choice → Type 0
+IsPassedOver x [] = Unit {0}
+IsPassedOver x (choice ∷ choices) = (choice.has x ≡ true) × (choice.sub ≢ x) × IsPassedOver x choices
+
+-- Between two neighbouring choices of a sub-VL that had something at each choice between them, each
+-- other sub-VL is chosen at most once.
+abbrev pub OneEach : Type 0
+OneEach = (subs x y : ℕ) (between : List Choice) → x < subs → AreChosen subs x between
+    → IsPassedOver x between → count_by (λ (c : Choice). nat_eq c.sub y) between ≤ 1

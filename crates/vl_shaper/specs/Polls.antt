@@ -1,7 +1,6 @@
 -- How long a message waits on its link, by the polls of the link.
 use Rattle.std.specs.Prelude.{ℕ, ◌≡◌, ◌+◌, ◌-◌, ◌*◌, ◌<◌, ◌≤◌, Bool, true, false, nat_eq, nat_le, ◌&&◌, cond, count_by, Option, Some, None, List, [], ◌∷◌}
-use Rattle.vl_shaper.specs.Choices.{IsChosen}
-use Rattle.vl_shaper.specs.Pace.{is_due, turn_of, IsBelow, IsLater}
+use Rattle.vl_shaper.specs.Pace.{IsChosen, is_due, turn_of, IsBelow, IsLater}
 use Rattle.vl_shaper.specs.declared.shaper.Stamp.{Stamp}
 
 -- a poll of a link: its time, the sub-VLs that have something, and the sub-VL of the released frame, if there is one

@@ -1,6 +1,6 @@
 -- Worked choices among a link's sub-VLs, and worked releases of a link of two.
 use Rattle.std.specs.Prelude.{ℕ, ◌≡◌, ◌+◌, ◌*◌, ◌<◌, ◌≤◌, true, nat_eq, List, [], ◌∷◌, length, take, All}
-use Rattle.vl_shaper.specs.Choices.{Choice, AreChosen, IsPassedOver}
+use Rattle.vl_shaper.specs.Pace.{Choice, AreChosen, IsPassedOver}
 use Rattle.vl_shaper.specs.Latency.{turns_of, HasUntil, Release, choices_of, IsPaced, IsBy}
 
 -- a choice at which each sub-VL had something

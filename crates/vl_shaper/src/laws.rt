@@ -1,5 +1,5 @@
 //! Laws of the definitions. These functions do nothing: the contract is the law.
-ghost use Rattle.vl_shaper.specs.Choices.{OneEach};
+ghost use Rattle.vl_shaper.specs.Pace.{OneEach};
 ghost use Rattle.vl_shaper.specs.Latency.{BoundIsMet, InTime, QueuedMessage};
 ghost use Rattle.vl_shaper.specs.Polls.{PolledInTime};
 ghost use Rattle.vl_shaper.specs.WorkedChoices.{ChoosesOneEach, LeavesOneBehind, ReleasesTooLate, WaitsBehindOne, WaitsFourChoices};

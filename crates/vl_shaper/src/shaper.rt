@@ -1,7 +1,6 @@
 //! Sequence numbers, gap and cyclic order of a virtual link.
 ghost use Rattle.std.specs.Prelude.{◌≡◌, ℕ, ◌+◌, ◌-◌, ◌*◌, ◌%◌, ◌^◌, ◌<◌, ◌≤◌, None, Some, true, MatchOption};
-ghost use Rattle.afdx_plan.specs.Plan.{bag_micros};
-ghost use Rattle.afdx_plan.specs.Numbers.{sequence_number};
+ghost use Rattle.afdx_plan.specs.Plan.{bag_micros, sequence_number};
 ghost use Rattle.vl_shaper.specs.Pace.{Pace, is_due, due_from, IsLater, turn_of};
 
 use afdx_plan::Bag;

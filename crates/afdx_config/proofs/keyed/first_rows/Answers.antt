@@ -1,5 +1,5 @@
 use Rattle.std.proofs.Common.{◌∙◌, sym, refl}
-use Rattle.afdx_config.specs.Keyed.{is_key}
+use Rattle.afdx_config.specs.Sharing.{is_key}
 use Rattle.afdx_config.proofs.KeyedLemmas.{first_from, none_left, all_left}
 use Rattle.afdx_config.proofs.keyed.first_rows.Goals as goal
 

@@ -1,7 +1,7 @@
 use Rattle.std.proofs.Common.{◌≡◌, drop}
 use Rattle.std.specs.List.{position_from}
 use Rattle.std.specs.BTreeMap.{get}
-use Rattle.afdx_config.specs.Keyed.{is_key}
+use Rattle.afdx_config.specs.Sharing.{is_key}
 use Rattle.afdx_config.proofs.keyed.first_rows.Given as goal
 
 abbrev pub invariant-loop-i : goal.invariant-loop-i

@@ -1,12 +1,12 @@
 use Rattle.std.proofs.Common.{ℕ, ◌≡◌, ◌∙◌, List, [], ◌∷◌, sym, subst}
 use Rattle.std.specs.Prelude.{IfOk}
 use Rattle.afdx_plan.specs.Config.{Plan}
-use Rattle.afdx_tx.specs.Closing.{ClosesTx, IsSubAt}
+use Rattle.afdx_tx.specs.Calls.{ClosesTx, IsSubAt}
 use Rattle.afdx_tx.specs.Emitter.{Tx, queues_in, total_in}
 use Rattle.afdx_tx.specs.Gathering.{IsGatheredTx}
 use Rattle.afdx_tx.specs.Ports.{PortView, BelongsTo}
 use Rattle.afdx_tx.proofs.ClosedTotals.{closes_total, total_whole}
-use Rattle.afdx_tests.specs.Closing.{HasAccepted}
+use Rattle.afdx_tests.specs.Headline.{HasAccepted}
 use Rattle.afdx_tests.proofs.headline_tests.close_poll_and_gather.Goals as goal
 
 -- the messages that a sub-VL accepted in all, if it was closed, the emitter polled and its ports taken back

@@ -1,5 +1,5 @@
 use Rattle.std.proofs.Common.{◌≡◌}
-use Rattle.afdx_tx.specs.Drain.{accepted_in}
+use Rattle.afdx_tx.specs.Run.{accepted_in}
 use Rattle.afdx_tests.proofs.headline_tests.drain_whole.Given as goal
 
 abbrev pub invariant-loop-turn : goal.invariant-loop-turn

@@ -2,13 +2,11 @@ use Rattle.std.proofs.Common.{ℕ, ◌≡◌, ◌<◌, ◌∙◌, List, [], ◌�
 use Rattle.std.proofs.lemmas.List.Elements.{All-contains, All-cons, All-nil}
 use Rattle.afdx_plan.specs.Config.{Plan}
 use Rattle.afdx_plan.specs.Demo.{demo_plan}
-use Rattle.redundant_mux.specs.Entry.{Entry}
-use Rattle.redundant_mux.specs.Lines.{Lines, log}
+use Rattle.redundant_mux.specs.Lines.{Entry, Lines, log}
 use Rattle.afdx_legal.specs.Legal.{Accepted, IsLegal}
-use Rattle.afdx_legal.specs.Allowed.{AreAllowed, AreOwn}
-use Rattle.afdx_legal.specs.Done.{IsAllDone, IsHandedWhole}
-use Rattle.afdx_legal.specs.Own.{AreOwnStreams}
-use Rattle.afdx_tx.specs.Drain.{accepted_in}
+use Rattle.afdx_legal.specs.Accepted.{AreAllowed, AreOwn, IsAllDone, IsHandedWhole}
+use Rattle.afdx_legal.specs.Streams.{AreOwnStreams}
+use Rattle.afdx_tx.specs.Run.{accepted_in}
 use Rattle.afdx_tx.specs.Emitter.{Tx, queues_in}
 use Rattle.afdx_tx.specs.Gathering.{IsGatheredTx}
 use Rattle.afdx_tx.specs.Ports.{PortView, BelongsTo}

@@ -1,5 +1,5 @@
 use Rattle.std.proofs.Common.{◌≡◌, drop}
-use Rattle.script_text.specs.Numbers.{read_on}
+use Rattle.script_text.specs.Command.{read_on}
 use Rattle.script_text.proofs.decimal.number.Given as goal
 
 abbrev pub invariant-loop-digit : goal.invariant-loop-digit

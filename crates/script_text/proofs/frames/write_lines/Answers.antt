@@ -1,6 +1,6 @@
 use Rattle.std.proofs.Common.{[], ◌∙◌, sym}
 use Rattle.std.proofs.KnownBytes.{Appends-nil}
-use Rattle.redundant_mux.specs.Entry.{entry}
+use Rattle.redundant_mux.specs.Lines.{entry}
 use Rattle.script_text.specs.Transcript.{frame_line, frame_lines}
 use Rattle.script_text.proofs.Written.{written_none, written_turn, written_all}
 use Rattle.script_text.proofs.frames.write_lines.Goals as goal

@@ -1,5 +1,5 @@
 use Rattle.std.proofs.Common.{◌≡◌, ℕ, ◌<◌, get_or, true}
-use Rattle.script_text.specs.Words.{is_blank}
+use Rattle.script_text.specs.Command.{is_blank}
 use Rattle.script_text.proofs.line_words.text_at.Given as goal
 
 abbrev pub invariant-loop-place : goal.invariant-loop-place

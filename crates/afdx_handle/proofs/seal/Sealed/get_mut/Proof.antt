@@ -3,7 +3,7 @@ use Rattle.afdx_handle.proofs.Names.{MutBor, List, [], ◌∷◌, refl, sym, ap,
 use mir.Raw.{raw as bare}
 use Rattle.afdx_handle.proofs.AsBox.{held_of}
 use Rattle.afdx_handle.specs.Sealed.{sealed_owns}
-use Rattle.afdx_handle.specs.Lending.{with_home}
+use Rattle.afdx_handle.specs.Held.{with_home}
 use Rattle.afdx_handle.specs.declared.home.Home.{Home}
 use Rattle.afdx_handle.specs.contracts.home.Home.{the_row as R}
 use Rattle.afdx_handle.specs.contracts.seal.Sealed.{the_row as S, the_type}

@@ -1,6 +1,5 @@
 use Rattle.std.proofs.Common.{arith, ap}
-use Rattle.redundant_mux.specs.Entry.{entry}
-use Rattle.redundant_mux.specs.Lines.{lines_of, IsMirrored}
+use Rattle.redundant_mux.specs.Lines.{entry, lines_of, IsMirrored}
 use Rattle.redundant_mux.proofs.MirroredLines.{handed_on}
 use Rattle.redundant_mux.proofs.mux.Mux.hand_lent.Given
 use Rattle.redundant_mux.proofs.mux.Mux.hand_lent.Goals as goal

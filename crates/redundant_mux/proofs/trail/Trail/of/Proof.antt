@@ -21,7 +21,7 @@ use denote.Builtin.{RefOf}
 use denote.Ref.{shr_vals, shr_Tells}
 use denote.Triple.Entry.{alive}
 use denote.Triple.Walked.{Stays, stay_dropped, walk_of, Goes-dropped}
-use Rattle.redundant_mux.specs.Logged.{Logged}
+use Rattle.redundant_mux.specs.Lines.{Logged}
 use Rattle.redundant_mux.specs.contracts.trail.Trail.{the_row}
 use Rattle.redundant_mux.specs.contracts.trail.Trail.of as f
 use Rattle.redundant_mux.proofs.trail.Trail.of.Statement.{statement}

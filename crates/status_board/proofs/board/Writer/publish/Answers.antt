@@ -1,6 +1,6 @@
 use Rattle.std.proofs.Common.{arith, ap, ◌∙◌}
 use Rattle.crossbeam_utils.specs.Seq.{cell_view}
-use Rattle.status_board.specs.History.{value_of, zeros}
+use Rattle.status_board.specs.Views.{value_of, zeros}
 use Rattle.status_board.specs.Rule.{counts_of}
 use Rattle.status_board.proofs.Histories.{last_or-push}
 use Rattle.status_board.proofs.Steps.{publishes, adds_entry}

@@ -1,9 +1,8 @@
 use Rattle.std.proofs.Common.{arith, sym, subst}
 use Rattle.crossbeam_utils.specs.Seq.{cell_view}
 use Rattle.status_board.specs.declared.rule.View.{View}
-use Rattle.status_board.specs.History.{StartsWith}
+use Rattle.status_board.specs.Views.{StartsWith, Watched, IsReading}
 use Rattle.status_board.specs.Rule.{FindsEntry}
-use Rattle.status_board.specs.Views.{Watched, IsReading}
 use Rattle.status_board.proofs.Histories.{starts_both, counts_start}
 use Rattle.status_board.proofs.Steps.{reads, reading}
 use Rattle.status_board.proofs.board.Writer.read_last.Goals as goal

@@ -1,5 +1,5 @@
 use Rattle.vl_link.proofs.Names.{ℕ, ◌≡◌, ◌&&◌, Bool, true, false, inl, inr, refl, rules, cases_Bool, LinkPlan, Lines, stands_for, Pace, is_due}
-use Rattle.vl_link.specs.Due.{StaysAsIs}
+use Rattle.vl_link.specs.Calls.{StaysAsIs}
 use Rattle.vl_link.proofs.link.Link.next_due.Goals.{then-due-via-then-due, then-due-via-else-due+then-not-stands_for}
 use Rattle.vl_link.proofs.link.Link.next_due.Goals as goal
 

@@ -1,5 +1,5 @@
 use Rattle.vl_link.proofs.Names.{arith}
-use Rattle.vl_link.specs.Subs.{IsCutOf}
+use Rattle.vl_link.specs.Kept.{IsCutOf}
 use Rattle.vl_link.proofs.FragmentsLeft.{done_tells}
 use Rattle.vl_link.proofs.QueueLooks.{kept_cut}
 use Rattle.vl_link.proofs.sub.Sub.write_next.Goals as goal

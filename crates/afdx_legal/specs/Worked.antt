@@ -1,7 +1,27 @@
--- Worked turns: streams of a link of two sub-VLs.
-use Rattle.std.specs.Prelude.{ℕ, Bool, true, false, if◌then◌else◌, List, [], ◌∷◌, ◌++◌, replicate}
-use Rattle.redundant_mux.specs.Entry.{Entry, entry}
-use Rattle.afdx_legal.specs.Turns.{TakesTurns}
+-- A worked transmission and worked turns.
+use Rattle.std.specs.Prelude.{ℕ, List, [], ◌∷◌, Bool, true, false, if◌then◌else◌, ◌++◌, replicate}
+use Rattle.afdx_plan.specs.Demo.{demo_port}
+use Rattle.afdx_frame.specs.declared.net.Net.{Net}
+use Rattle.afdx_frame.specs.Cutting.{piece_at}
+use Rattle.afdx_frame.specs.Frame.{frame_of}
+use Rattle.afdx_frame.specs.Fragments.{Sent}
+use Rattle.redundant_mux.specs.Lines.{Entry, entry}
+use Rattle.afdx_legal.specs.Legal.{Accepted}
+use Rattle.afdx_legal.specs.Streams.{TakesTurns}
+
+abbrev pub one_byte : Sent
+one_byte = record { port = demo_port; bytes = 1 ∷ [] }
+
+-- the accepted messages of the one sub-VL
+abbrev pub one_byte_accepted : Accepted
+one_byte_accepted k sub = one_byte ∷ []
+
+abbrev pub one_frame : Net → List ℕ
+one_frame net = frame_of 1 demo_port (1 ∷ []) 0 (piece_at 1479 9 0) net 0
+
+-- what was sent to the network, at `now`
+abbrev pub one_entry_at : ℕ → Net → List Entry
+one_entry_at now net = entry now (one_frame net) ∷ []
 
 -- an entry in which only the sub-VL and the flag of more fragments matter
 abbrev pub turn_entry : ℕ → ℕ → Bool → Entry
