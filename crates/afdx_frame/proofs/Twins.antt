@@ -1,7 +1,9 @@
--- Twins of any frame, and of the fragments of a list of messages.
-use Rattle.afdx_frame.proofs.Names.{◌≡◌, ◌≢◌, ℕ, suc, ◌+◌, ◌%◌, ◌≤◌, List, [], ◌∷◌, length, map, refl, arith, slice_index, length-set, length-take, get_or-set_same, get_or-set_other, set-get_or, set-set, set_past, map-append, take-set-lt, identification, Net, interface_byte, link_header, unnumbered, word_at, link_in, sub_in, number_in, Sent, blanked, fragments_at, fragments_from}
+-- Twins of any frame, and the fragments of a list of messages and of a cut.
+use Rattle.afdx_frame.proofs.Names.{◌≡◌, ◌≢◌, ℕ, suc, ◌+◌, ◌%◌, ◌≤◌, List, [], ◌∷◌, length, map, refl, arith, slice_index, length-set, length-take, get_or-set_same, get_or-set_other, set-get_or, set-set, set_past, map-append, take-set-lt, identification, Net, interface_byte, link_header, unnumbered, word_at, link_in, sub_in, number_in, Sent, blanked, fragments_at, fragments_from, uncut, ◌-◌, ◌++◌, append_assoc, append-nil, Option, MatchOption, PortPlan, cutting, pieces_from, pieces_left, Cutting, TakesFirst, SameMessage, fragments_left, take-append_seam, frame_of}
 use Rattle.std.proofs.lemmas.Simd.{map-map}
 use Rattle.afdx_frame.specs.Header.{twin_of}
+use Rattle.std.proofs.Common.{length-append}
+use Rattle.afdx_frame.specs.Template.{Buffered}
 
 -- A word without that byte is the same in a twin.
 pub twin_word : (net : Net) (frame : List ℕ) (k : ℕ) → k ≢ 11 → k + 1 ≢ 11 → word_at (twin_of net frame) k ≡ word_at frame k
@@ -52,3 +54,40 @@ pub fragments_again : (end_system room : ℕ) (net : Net) (place : ℕ) (sent : 
     → fragments_at end_system room net (place % 16384) sent ≡ fragments_at end_system room net place sent
 unfolding fragments_at unnumbered
 fragments_again end_system room net place sent = simp (ident_again place sent.port.sub)
+
+-- One message more appends its fragments.
+pub fragments_more : (messages : List Sent) (end_system room : ℕ) (net : Net) (place : ℕ) (sent : Sent)
+    → fragments_from end_system room net place (messages ++ sent ∷ [])
+    ≡ fragments_from end_system room net place messages
+    ++ fragments_at end_system room net (place + length messages) sent
+fragments_more [] end_system room net place sent = grind (arith, append-nil)
+fragments_more (first ∷ later) end_system room net place sent =
+    let there : suc place + length later ≡ place + suc (length later) = omega arith in
+    rw (fragments_more later end_system room net (suc place) sent, there, append_assoc) refl
+
+-- All pieces are left of a cut that has given none.
+pub pieces_whole : (room : ℕ) (port : PortPlan) (place : ℕ) (bytes : List ℕ) (capacity : ℕ)
+    → pieces_left room (uncut port place bytes capacity) ≡ pieces_from 0 (cutting room (8 + length bytes))
+unfolding pieces_left
+pieces_whole room port place bytes capacity = grind arith
+
+-- All fragments are left of a cut that has given none.
+pub cut_whole : (end_system room : ℕ) (net : Net) (place capacity : ℕ) (sent : Sent)
+    → fragments_left end_system room net (uncut sent.port place sent.bytes capacity) ≡ fragments_at end_system room net place sent
+unfolding fragments_at pieces_left
+cut_whole end_system room net place capacity sent = grind arith
+
+-- A frame without its sequence number.
+blanked_push : (front : List ℕ) (number : ℕ) → blanked (front ++ number ∷ []) ≡ front
+blanked_push front number =
+    let size : length (front ++ number ∷ []) - 1 ≡ length front = omega (arith, length-append front (number ∷ [])) in
+    grind (arith, take-append_seam)
+
+-- A step of a cut, stated by the fragments that are left.
+pub step_fragments : (end_system room : ℕ) (net : Net) (number : ℕ) (old new : Cutting) (result : Option Buffered)
+    → TakesFirst (λ piece frame. frame.items ≡ frame_of end_system old.port old.bytes old.place piece net number)
+    (pieces_left room old) result (pieces_left room new)
+    → SameMessage old new
+    → MatchOption result (fragments_left end_system room net old ≡ [])
+    (λ frame. fragments_left end_system room net old ≡ blanked frame.items ∷ fragments_left end_system room net new)
+step_fragments end_system room net number old new result takes same = grind (arith, blanked_push)

@@ -1,6 +1,5 @@
 pub mod AsBox
 pub mod EndPorts
 pub mod FewFrames
-pub mod Fronts
 pub mod MadeFrames
 mod Names

@@ -1,13 +1,9 @@
 -- Each link of a plan, by what was transmitted legally.
-use Rattle.afdx_laws.proofs.Names.{◌≡◌, ℕ, ◌≤◌, nat_eq, List, length, map, take, drop, refl, ap, sym, ◌∙◌, arith, ◌<◌, Bool, true, [], ◌∷◌, All}
-use Rattle.afdx_laws.proofs.Names.{filter, take-append_seam, take-append-drop, length-map, length-take, take_all, take-map, All-weaker, All-map, All-filter}
-use Rattle.afdx_laws.proofs.Names.{map-map, LinkPlan, Net, A, B, blanked, Sent, link_in, sub_in, number_in, twin_of, twin_same, twin_link, Entry}
-use Rattle.afdx_laws.proofs.Names.{side, names, those_with, link_stream, sub_stream, told, entry_number, IsNumbered, IsKnown, AreKnown, AreTwins, Accepted}
-use Rattle.afdx_laws.proofs.Names.{is_on_both, on_both, IsLegal, IsLegalOn, known_all, with_append, with_map, numbered_map, IsLong, IsOfNet, IsHanded}
-use Rattle.afdx_laws.proofs.Names.{AreHanded, frames_of, id_at, piece_room, IsHandedOver, LegalArrive, LegalDespiteLoss, cases_lt, eqb-true, Plan, IsPlan}
-use Rattle.afdx_laws.proofs.Names.{link_plan_at, is_both, Networks, Both, OnlyA, OnlyB, IsLink, IsSent, IsQueued}
-use Rattle.afdx_legal.proofs.OnBoth.{on_both_is}
+use Rattle.afdx_laws.proofs.Names.{◌≡◌, ℕ, ◌≤◌, nat_eq, List, length, map, take, drop, refl, ap, sym, ◌∙◌, arith, ◌<◌, Bool, true, [], ◌∷◌, All, filter, take-append_seam, take-append-drop, length-map, length-take, take_all, take-map, All-weaker, All-map, All-filter, map-map, LinkPlan, Net, A, B, blanked, Sent, link_in, sub_in, number_in, twin_of, twin_same, twin_link, Entry, side, names, those_with, link_stream, sub_stream, told, entry_number, IsNumbered, IsKnown, AreKnown, AreTwins, Accepted, is_on_both, on_both, IsLegal, IsLegalOn, known_all, with_append, with_map, numbered_map, IsLong, IsOfNet, IsHanded, AreHanded, frames_of, id_at, piece_room, IsHandedOver, LegalArrive, LegalDespiteLoss, cases_lt, eqb-true, Plan, IsPlan, link_plan_at, is_both, Networks, Both, OnlyA, OnlyB, IsLink, IsSent, IsQueued, fragments, twin_sub, own_stream, most_carried, longer, longer_of, IsAllowed, OwnListsArrive}
+use Rattle.afdx_legal.proofs.StreamLemmas.{on_both_is}
 use Rattle.afdx_laws.proofs.HandedOver.{own_twins, twin_twin, handed_arrive_holds, handed_despite_loss_holds}
+use Rattle.afdx_legal.specs.Streams.{longer as longer_stream}
+use Rattle.afdx_legal.specs.Accepted.{IsReleased}
 
 abbrev frame_of_entry : Entry → List ℕ
 frame_of_entry e = e.frame
@@ -96,3 +92,40 @@ legal_arrive_holds plan accepted a b k sub lag tolerance arrivals handed fit car
 pub legal_despite_loss_holds : LegalDespiteLoss
 legal_despite_loss_holds plan accepted a b k sub check whole came handed some close =
     handed_despite_loss_holds _ _ _ _ _ _ _ _ _ (are_handed plan accepted a b k sub handed) some close
+
+abbrev many_of : ℕ → List (List ℕ) → ℕ
+many_of sub frames = length (those_with sub_in sub frames)
+
+many_twins : (net : Net) (sub : ℕ) (frames : List (List ℕ)) → many_of sub (map (twin_of net) frames) ≡ many_of sub frames
+many_twins net sub frames = grind (arith, ap length (with_map sub_in sub_in (twin_of net) sub (λ f. twin_sub net f) frames), length-map)
+
+longer_frames : (xs ys : List Entry) → map (λ (e : Entry). e.frame) (longer_stream xs ys)
+    ≡ longer (map (λ (e : Entry). e.frame) xs) (map (λ (e : Entry). e.frame) ys)
+longer_frames xs ys = grind (arith, length-map)
+
+-- of a sub-VL that is wholly released, all fragments are in the longer list
+all_handed : (plan : Plan) (accepted : Accepted) (log a b : List Entry) (k sub : ℕ)
+    → link_stream (id_at plan k) log ≡ own_stream (id_at plan k) a b
+    → IsReleased plan.end_system (link_plan_at plan.links k) (accepted k) log sub
+    → length (fragments plan.end_system (piece_room plan k) A (accepted k sub))
+    ≡ many_of sub (longer (frames_of (id_at plan k) a) (frames_of (id_at plan k) b))
+all_handed plan accepted log a b k sub own released = grind (arith, told_is, length-map, frames_side, many_twins, longer_frames)
+
+pub own_lists_arrive_holds : OwnListsArrive
+own_lists_arrive_holds plan own a b valid handed k sub inside index lag tolerance arrivals fit carry whole =
+    let sent : List Sent = handed.accepted k sub in
+    let first = legal_arrive_holds plan handed.accepted a b k sub lag tolerance arrivals
+    (record {
+      valid = valid;
+      legal = handed.legal;
+      inside = inside;
+      index = index;
+      allowed = All-weaker (IsAllowed plan k sub) (IsQueued plan k sub) (λ m is. is.queued) sent (handed.allowed k sub inside index);
+    })
+    fit carry in
+    let all = all_handed plan handed.accepted handed.log a b k sub (handed.streams k inside)
+    (handed.done k inside sub index) in
+    let came = ap (many_of sub) (take_all (most_carried arrivals) (longer_of (id_at plan k) a b) whole) in
+    let taken = ap (λ (xs : List Sent). length (fragments plan.end_system (piece_room plan k) A xs))
+    (take_all (length sent) sent (omega arith)) in
+    grind (arith, take_all, length-map)

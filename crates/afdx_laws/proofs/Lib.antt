@@ -1,4 +1,3 @@
-pub mod AllOnBoth
 pub mod Arriving
 pub mod Credit
 pub mod HandedOver
@@ -9,13 +8,11 @@ pub mod ListLemmas
 pub mod Losing
 mod Names
 pub mod NextFragment
-pub mod NumberLemmas
 pub mod OneBuffer
 pub mod OneNetwork
 pub mod Reading
 pub mod Receiving
 pub mod Skewed
-pub mod WholeHanded
 pub mod WorkedDemo
 pub mod WorkedMessage
 pub mod WorkedPieces

@@ -1,5 +1,5 @@
--- Lists, what holds of the one place of a list, and worked cases in which premises fail.
-use Rattle.afdx_laws.proofs.Names.{◌≡◌, ℕ, ◌<◌, false, nat_eq, List, [], ◌∷◌, ◌++◌, length, map, refl, sym, subst, arith, All, take-append_seam, All-take}
+-- Lists, numbers that differ, and worked cases in which premises fail.
+use Rattle.afdx_laws.proofs.Names.{◌≡◌, ℕ, ◌<◌, false, nat_eq, List, [], ◌∷◌, ◌++◌, length, map, refl, sym, subst, arith, All, take-append_seam, All-take, zero, suc, ◌+◌, ◌-◌, ◌≤◌, true, Option, Some, None, sequence_number, next_number, ahead, is_ahead, is_valid}
 use Rattle.afdx_laws.specs.Rows.{BothFail, NeedsEach}
 
 pub cons_parts : {X : Type 0} {x y : X} {xs ys : List X} → x ∷ xs ≡ y ∷ ys → (x ≡ y) × (xs ≡ ys)
@@ -42,3 +42,34 @@ pub needs_each : {X Y Z : Type 0} {P : X → Type 0} {Q : Y → Type 0} {R : Z �
     {x no_x : X} {y no_y : Y} {z no_z : Z} → ((x : X) (y : Y) (z : Z) → P x → Q y → R z → Says x y z)
     → P x → Q y → R z → (Says no_x y z → ⊥) → (Says x no_y z → ⊥) → (Says x y no_z → ⊥) → NeedsEach P Q R Says x no_x y no_y z no_z
 needs_each {x = x} {no_x = no_x} {y = y} {no_y = no_y} {z = z} {no_z = no_z} law p q r no_p no_q no_r = grind arith
+
+pub next_is : (i : ℕ) → next_number (sequence_number i) ≡ sequence_number (suc i)
+next_is i = grind arith
+
+-- numbers differ within 255 places
+pub differ : (a k : ℕ) → a < k → k < a + 255 → sequence_number a ≡ sequence_number k → ⊥
+differ a k later near same = grind arith
+
+ahead_next : (many j n : ℕ) → 1 ≤ many → n ≡ next_number j → ahead many j n ≡ true
+ahead_next many j n some e = grind arith
+
+pub ahead_old : (many j a : ℕ) → a ≤ j → j + many < a + 255 → ahead many (sequence_number j) (sequence_number a) ≡ false
+ahead_old zero j a old near = refl
+ahead_old (suc many) j a old near = grind (arith, ahead_old many (suc j) a, next_is j, differ a (suc j))
+
+-- the number of the frame before a place
+abbrev pub last : ℕ → Option ℕ
+last zero = None
+last (suc i) = Some (sequence_number i)
+
+pub valid_next : (many a : ℕ) → 1 ≤ many → is_valid many (last a) (sequence_number a) ≡ true
+valid_next many a some = grind (arith, ahead_next, next_is)
+
+ahead_last : (many j : ℕ) → ahead (suc many) (sequence_number j) (sequence_number (suc j + many)) ≡ true
+ahead_last zero j = grind (arith, next_is j)
+ahead_last (suc many) j = grind (arith, ahead_last many (suc j), next_is j)
+
+-- an old frame whose number is in the window
+pub old_is_ahead : (window j place : ℕ) → 1 ≤ window → 1 ≤ place → place + 255 ≡ j + window
+    → ahead window (sequence_number j) (sequence_number place) ≡ true
+old_is_ahead window j place some old is = grind (arith, ahead_last (window - 1) j)

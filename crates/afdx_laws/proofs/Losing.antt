@@ -4,7 +4,7 @@ use Rattle.afdx_laws.proofs.Names.{refl, ap, sym, ◌∙◌, arith, Some, None, 
 use Rattle.afdx_laws.proofs.Names.{sequence_number, Net, A, twin_of, Tolerance, State, other, begin, is_accepted, is_valid, is_ahead, received, carried}
 use Rattle.afdx_laws.proofs.Names.{with_seen, with_accepted, seen_on, number_in, same_net, AreWithin, StartsFirst, AreClose, BeginsFirst, frame_at, LossMasked}
 use Rattle.afdx_laws.proofs.Names.{FirstComes, MaskedFromFirst, NumbersClash}
-use Rattle.afdx_laws.proofs.NumberLemmas.{last, valid_next, old_is_ahead, next_is, differ}
+use Rattle.afdx_laws.proofs.ListLemmas.{last, valid_next, old_is_ahead, next_is, differ}
 use Rattle.afdx_laws.proofs.Receiving.{IsPlaced, grows, placed}
 
 is_next : (c i high : ℕ) → high ≤ i + 254 → c ≤ high → i < c + 255 → (high ≡ 0 → i ≡ 0) → (high ≡ 0) ⊎ (1 ≤ c)

@@ -1,11 +1,11 @@
--- What is transmitted of a link on one network arrives from that network.
-use Rattle.afdx_laws.proofs.Names.{◌≡◌, ℕ, List, [], ◌∷◌, ◌++◌, length, map, refl, ap, sym, subst, arith, All, take-append_seam, Plan, Net, A, B}
-use Rattle.afdx_laws.proofs.Names.{number_in, twin_of, Entry, IsPrefixOf, Accepted, begin, received, other, carried, IsNear, most_carried}
-use Rattle.afdx_laws.proofs.Names.{messages_in, AreFirst, IsOfNet, IsHanded, id_at, piece_room, frames_of, handed_to, all_from, IsHandedOver, OneNetworkArrives}
-use Rattle.afdx_laws.proofs.ListLemmas.{cons_parts, nil_isnt_cons}
+-- What is transmitted of a link on one network arrives from that network, and of links on both nothing is cut.
+use Rattle.afdx_laws.proofs.Names.{◌≡◌, ℕ, List, [], ◌∷◌, ◌++◌, length, map, refl, ap, sym, subst, arith, All, take-append_seam, Plan, Net, A, B, number_in, twin_of, Entry, IsPrefixOf, Accepted, begin, received, other, carried, IsNear, most_carried, messages_in, AreFirst, IsOfNet, IsHanded, id_at, piece_room, frames_of, handed_to, all_from, IsHandedOver, OneNetworkArrives, ◌≤◌, ◌<◌, true, take, nat_tests, cases_lt, length-map, length-take, take_all, LinkPlan, link_in, twin_twice, side, link_stream, IsKnown, AreKnown, is_on_both, on_both, AreTwins, own_stream, IsOnBoth, AllOnBoth, map-map}
+use Rattle.afdx_laws.proofs.ListLemmas.{cons_parts, nil_isnt_cons, cons_same, map_same}
 use Rattle.afdx_laws.proofs.Arriving.{messages_arrive_holds}
 use Rattle.afdx_laws.proofs.HandedOver.{own_twins, sending_to}
-use Rattle.afdx_laws.proofs.LegalLinks.{are_handed}
+use Rattle.afdx_laws.proofs.LegalLinks.{are_handed, stream_side, stream_front}
+use Rattle.std.proofs.lemmas.List.Folds.{list_any_at}
+use Rattle.afdx_legal.specs.Streams.{longer}
 
 carried_all : (net : Net) (frames : List (List ℕ)) → carried net (all_from net frames) ≡ frames
 carried_all net [] = refl
@@ -57,3 +57,38 @@ one_network_arrives_holds plan accepted a b k sub net tolerance came handed alon
     (messages_arrive_holds plan.end_system (piece_room plan k) sub 0 tolerance (accepted k sub) net mine
     (all_from net came) (sending_to both.link both.sent its) fit
     (grind (arith, begins_for, never_behind)))
+
+known_on_both : (links : List LinkPlan) (net : Net) (frame : List ℕ) → All IsOnBoth links → IsKnown links net frame
+    → is_on_both links (link_in frame) ≡ true
+known_on_both links net frame all known = grind (arith, list_any_at)
+
+none_cut : (links : List LinkPlan) (net : Net) (es : List Entry) → All IsOnBoth links → AreKnown links net es → on_both links es ≡ es
+none_cut links net [] all known = refl
+none_cut links net (e ∷ es) all known =
+    rw (known_on_both links net e.frame all known.0)
+    (cons_same refl (none_cut links net es all known.1))
+
+side_side : (net other : Net) (es : List Entry) → map (side net) (map (side other) es) ≡ map (side net) es
+side_side net other es = grind (arith, map-map, map_same, twin_twice)
+
+no_longer : (net : Net) (whole front : List Entry) → front ≡ map (side net) (take (length front) whole) → length front ≤ length whole
+no_longer net whole front is = grind (arith, ap length is, length-map, length-take)
+
+-- a link's own stream is in the longer list
+own_in_a : (vl : ℕ) (a b : List Entry) → length b ≤ length a → AreTwins side a b
+    → own_stream vl a b ≡ link_stream vl (map (side A) (longer a b))
+own_in_a vl a b as_long twins = grind (arith, stream_front B vl a b (twins.b_shorter as_long), stream_side A vl a, no_longer)
+
+own_in_b : (vl : ℕ) (a b : List Entry) → length a < length b → AreTwins side a b
+    → own_stream vl a b ≡ link_stream vl (map (side A) (longer a b))
+own_in_b vl a b shorter twins = grind (
+  arith,
+  nat_tests,
+  stream_front A vl b a (grind arith),
+  take_all,
+  side_side A A (link_stream vl b),
+  stream_side A vl b,
+)
+
+pub all_on_both_holds : AllOnBoth
+all_on_both_holds plan accepted a b all legal = grind (arith, none_cut, cases_lt, own_in_b, own_in_a)

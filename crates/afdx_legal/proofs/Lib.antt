@@ -1,5 +1,1 @@
 pub mod StreamLemmas
-pub mod LongerStream
-pub mod CountingLemmas
-pub mod TurnsOfFront
-pub mod OnBoth

@@ -1,5 +1,5 @@
--- An emitter with one closed sub-VL is still sound.
-use Rattle.afdx_tx.proofs.Names.{ℕ, ◌≡◌, ◌<◌, ◌≤◌, List, length, set, arith, subst, Result, Ok, Err, OnErr, IfOk, cases_lt, length-set, get_or_past, Plan, IsPlan, link_plan_at, queue_of, Held, LinkState, held_at, link_at, no_link, ClosesLink, Tx, queues_in, LacksSub, ClosesTx}
+-- An emitter with one closed sub-VL is still sound, and the total is what it accepted.
+use Rattle.afdx_tx.proofs.Names.{ℕ, ◌≡◌, ◌<◌, ◌≤◌, List, length, set, arith, subst, Result, Ok, Err, OnErr, IfOk, cases_lt, length-set, get_or_past, Plan, IsPlan, link_plan_at, queue_of, Held, LinkState, held_at, link_at, no_link, ClosesLink, Tx, queues_in, LacksSub, ClosesTx, Some, length-map, known_of, total_of, nothing_held, sent_of, total_in, PortView, accepted_in, IsGatheredTx}
 use Rattle.afdx_tx.proofs.SoundEmitter.{alike_queues}
 use Rattle.afdx_tx.proofs.KeptLinks.{KeepsSub, KeepLinks, one_link, one_count, one_each}
 
@@ -57,3 +57,13 @@ pub answered_queues : {E : Type 0} (answer : Result ℕ E) (old : Tx) (vl sub : 
     → IfOk answer (λ (total : ℕ). ClosesTx old vl sub total new) → queues_in new.links ≡ queues_in old.links
 answered_queues (Ok total) old vl sub new unchanged closed = queues_same old.links new.links (closes_links old vl sub total new closed)
 answered_queues (Err fault) old vl sub new unchanged closed = cc
+
+-- A closed sub-VL has its total.
+pub closes_total : (old : Tx) (vl sub total : ℕ) (new : Tx) (c : ClosesTx old vl sub total new)
+    → total_in new.links c.place sub ≡ Some total
+closes_total old vl sub total new c = grind arith
+
+-- The total of a sub-VL is the number of its accepted messages once the ports are gathered.
+pub total_whole : (old : Tx) (ports : List PortView) (new : Tx) (k s total : ℕ) → IsGatheredTx old ports new
+    → total_in old.links k s ≡ Some total → length (accepted_in new.links k s) ≡ total
+total_whole old ports new k s total g shown = grind (arith, total_of, held_at, no_link, link_at, nothing_held, length-map, known_of, sent_of, get_or_past)

@@ -1,5 +1,4 @@
 pub mod ClosedEmitter
-pub mod ClosedTotals
 pub mod Conforming
 pub mod DrainEnding
 pub mod GatheredPorts

@@ -28,7 +28,7 @@ pub use Rattle.afdx_tx.specs.Ports.{AreOpenedWith, BelongsTo, HasEveryPlace, Has
 pub use Rattle.afdx_tx.specs.Report.{IsTold, release_of, turn_release}
 pub use Rattle.afdx_tx.specs.Phases.{Conforms, IsPolling, IsSteady, TellsAllDone}
 pub use Rattle.afdx_tx.specs.declared.report.Release.{Release}
-pub use Rattle.redundant_mux.proofs.Enduring.{both_hands, both_none, both_on, stood_before}
+pub use Rattle.redundant_mux.proofs.MirroredLines.{both_hands, both_none, both_on, stood_before}
 pub use Rattle.redundant_mux.proofs.MirroredLines.{entries_append, fresh_in_step, fresh_lines, fresh_log, log_more, log_same}
 pub use Rattle.redundant_mux.specs.Lines.{Entry, entry, BothEndure, IsMirrored, Keeps, Lines, stands_for, Logged, entries_of, logged_for, names, only, sent_to, side}
 unfoldable pub use Rattle.redundant_mux.specs.Lines.{log}

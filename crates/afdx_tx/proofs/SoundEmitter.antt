@@ -4,7 +4,7 @@ use Rattle.afdx_tx.proofs.LegalLists.{legal_of}
 use Rattle.afdx_tx.proofs.OwnStreams.{own_streams}
 use Rattle.afdx_tx.proofs.PollTurns.{map_alike, plan_at_is, plans_length}
 use Rattle.afdx_legal.specs.Streams.{TakeTurnsOn, TakeTurns}
-use Rattle.afdx_legal.proofs.TurnsOfFront.{turns_side}
+use Rattle.afdx_legal.proofs.StreamLemmas.{turns_side}
 use Rattle.vl_link.specs.Kept.{none_begun}
 use Rattle.vl_link.proofs.ShownTurns.{takes_turns}
 use Rattle.afdx_tx.proofs.HandedFronts.{front_of}

@@ -1,4 +1,3 @@
-mod InTimes
 mod Orders
 mod Packets
 mod ReadBacks

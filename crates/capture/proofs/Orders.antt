@@ -1,10 +1,10 @@
--- The frames of two networks in order, one after the other.
-use Rattle.std.proofs.Common.{◌≡◌, ◌≤◌, Bool, true, false, List, [], ◌∷◌, map, refl, arith}
+-- The frames of two networks in order, one after the other, which is that of their times.
+use Rattle.std.proofs.Common.{◌≡◌, ◌≤◌, Bool, true, false, List, [], ◌∷◌, map, refl, arith, ℕ}
 use Rattle.std.specs.Prelude.{nat_lt, if◌then◌else◌}
 use borrow.Author.Tests.{ltb-true, ltb-false}
 use Rattle.afdx_frame.specs.declared.net.Net.TheVariants.{A, B}
 use Rattle.redundant_mux.specs.Lines.{Entry}
-use Rattle.capture.specs.Order.{Captured, on, before_others, in_order, next_net}
+use Rattle.capture.specs.Order.{Captured, on, before_others, in_order, next_net, RiseFrom, moments, captured_moments, IsInTime}
 
 -- a frame that comes next is the first
 pub order_a : (xs bs rest : List Entry) (e : Entry) → A ≡ next_net xs bs → xs ≡ e ∷ rest
@@ -57,3 +57,17 @@ pub order_merges : (a b : List Entry) → Merges a b (in_order a b)
 unfolding in_order
 order_merges [] b = merges_b b
 order_merges (x ∷ xs) b = merges_a x xs (λ bs. order_merges xs bs) b
+
+-- what rises rises from a frame that isn't later than the first
+rise_on : (e : Entry) (es : List Entry) (from : ℕ) → IsBefore e es → RiseFrom from (moments es)
+    → RiseFrom e.at (moments es)
+rise_on e from before h = grind arith
+
+merges_rise : {a b : List Entry} {cs : List Captured} → Merges a b cs → (from : ℕ) → RiseFrom from (moments a)
+    → RiseFrom from (moments b) → RiseFrom from (captured_moments cs)
+merges_rise none from h k = tt
+merges_rise (next_a {e} {a} {b} before m) from h k = (h.0, merges_rise m e.at h.1 (rise_on e b from before k))
+merges_rise (next_b {e} {a} before m) from h k = (k.0, merges_rise m e.at (rise_on e a from before h) k.1)
+
+pub in_time : IsInTime
+in_time a b h k = merges_rise (order_merges a b) 0 h k

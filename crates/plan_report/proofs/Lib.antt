@@ -1,2 +1,1 @@
-pub mod FaultsLemmas
-mod ReadingLemmas
+pub mod ReadingLemmas

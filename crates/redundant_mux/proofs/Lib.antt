@@ -1,2 +1,1 @@
 pub mod MirroredLines
-pub mod Enduring

@@ -20,12 +20,12 @@ pub use Rattle.afdx_frame.specs.Frame.{interface_byte}
 unfoldable pub use Rattle.afdx_frame.specs.Frame.{addresses, datagram, header_front, internet_header, link_header, udp_header, unnumbered}
 pub use Rattle.afdx_frame.specs.Header.{link_in, number_in, sub_in}
 pub use Rattle.afdx_frame.specs.declared.net.Net.TheVariants.{A}
-pub use Rattle.redundant_mux.proofs.Enduring.{both_none, stood_before}
+pub use Rattle.redundant_mux.proofs.MirroredLines.{both_none, stood_before}
 pub use Rattle.redundant_mux.specs.Lines.{Entry, entry, BothEndure, Endures, Lines, stands_for}
 unfoldable pub use Rattle.redundant_mux.specs.Lines.{log}
 pub use Rattle.vl_shaper.specs.Pace.{IsLater, Pace, is_due, turn_of}
 pub use Rattle.vl_shaper.specs.Polls.{ArePolled, AreServed, HasAtPolls, IsServed, Poll, is_of, latest_poll, released_by}
-pub use Rattle.afdx_legal.proofs.LongerStream.{latest_push}
+pub use Rattle.afdx_legal.proofs.StreamLemmas.{latest_push}
 pub use Rattle.afdx_legal.specs.Accepted.{AreAllowed, AreQueued, IsAllowed, IsQueued}
 pub use Rattle.afdx_legal.specs.Legal.{Accepted}
 pub use Rattle.afdx_legal.specs.Streams.{IsPrefixOf, latest, link_stream, stamp_of, sub_stream, told}

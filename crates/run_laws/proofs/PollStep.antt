@@ -2,7 +2,7 @@
 use Rattle.run_laws.proofs.Names.{ℕ, zero, suc, ◌≡◌, ◌≢◌, ◌+◌, ◌<◌, List, [], ◌∷◌, ◌++◌, Bool, true, false, ◌&&◌, ◌||◌, nat_eq, arith, refl, ap, ◌∙◌, sym, subst, Option, Some, None, inl, inr, ⊎_elim, ◌≤◌, length, nat_tests, both_ways, cases_eq, and_from, eq-eqb, LinkPlan, sub_in, Entry, entry, Lines, stands_for, log, BothEndure, Pace, turn_of, IsServed, Served, Nothing, Released, Lost, TurnView, Turn, AreTurns, pace_of, Held, LinkState, held_at, link_at, taken_by, held_view, Passes, none_begun, begun_by, latest, link_stream, sub_stream, told, All, append-nil, All-weaker, Plan, IsPlan, link_plan_at, bag_micros, room_of, A, Sent, stood_before, turns_endure, turns_seen, Accepted, IsQueued, AreQueued, Tx, IsTurnAt, DrainsAt, IsDrained, accepted_view, stream_at, IsReadyFor, EmitterPolls}
 use borrow.Author.Count.{below_more}
 use Rattle.redundant_mux.proofs.MirroredLines.{log_same}
-use Rattle.vl_link.proofs.PaceOfStream.{stream_more}
+use Rattle.vl_link.proofs.Choosing.{stream_more}
 use Rattle.vl_link.proofs.LinkTurn.{other_turn, turn_at}
 use Rattle.vl_link.proofs.TurnLaws.{turn_endures}
 use Rattle.vl_link.specs.Kept.{IsLinkTied}

@@ -1,7 +1,6 @@
 mod FeedLemmas
 mod LineLemmas
+mod LogLemmas
 mod MeaningLemmas
-mod NumberLemmas
 mod WordLemmas
 pub mod Written
-mod LogLemmas

@@ -5,7 +5,7 @@ ghost use Rattle.std.specs.List.{list_all};
 ghost use Rattle.script_text.specs.Command.{number_of, is_numeral as is_numeral_text};
 
 /// Parses a word of decimal digits alone; `None` if it is another word, or its number is over `most`.
-#[tactic(auto, using(crate::proofs::NumberLemmas::number_rules), unfolding(crate::specs::Command::number_of))]
+#[tactic(auto, using(crate::proofs::WordLemmas::number_rules), unfolding(crate::specs::Command::number_of))]
 pub fn number(word: &[u8], most: u64) -> Option<u64>
     ensures value { result ≡ number_of most word.now }
     ensures most { IfSome result (λ n. n ≤ most) }

@@ -1,6 +1,8 @@
--- The ports of an emitter, once each of them sent its messages.
-use Rattle.storm.proofs.Names.{◌≡◌, ◌∙◌, ℕ, zero, suc, ◌+◌, ◌*◌, ◌<◌, ◌≤◌, List, [], ◌∷◌, length, map, get_or, refl, ap, sym, arith, sum_by, get_or-map, length-map, length-append, Contains-get_or, Plan, port_plan_at, SenderView, Tx, queues_in, PortView, BelongsTo, AreOpenedWith, AreFreshPorts, HasEveryPlace, messages_to, named, sent_all, asked_by, asked_after, AreAtMost, IsSpent, AreSpent}
+-- The ports of an emitter, once each of them sent its messages, and how many slots one requested.
+use Rattle.storm.proofs.Names.{◌≡◌, ◌∙◌, ℕ, zero, suc, ◌+◌, ◌*◌, ◌<◌, ◌≤◌, List, [], ◌∷◌, length, map, get_or, refl, ap, sym, arith, sum_by, get_or-map, length-map, length-append, Contains-get_or, Plan, port_plan_at, SenderView, Tx, queues_in, PortView, BelongsTo, AreOpenedWith, AreFreshPorts, HasEveryPlace, messages_to, named, sent_all, asked_by, asked_after, AreAtMost, IsSpent, AreSpent, ◌++◌, map-append, set, get_or-set_other, Counts, Watched, seen, IsReading, ReadsOnly, ReadsFirst}
 use Rattle.std.proofs.lemmas.List.Sums.{sum_by-cons}
+use Rattle.std.proofs.Common.{Result, Ok, Err, IfOk, IsOkAnd}
+use Rattle.storm.proofs.SameCells.{cells_kept, no_seen}
 
 -- a fresh port that sent its messages
 spent_port : (old new : Tx) (n turns k : ℕ) (before after : PortView) → new.plan ≡ old.plan → queues_in new.links ≡ queues_in old.links
@@ -66,3 +68,24 @@ sum_same f m (port ∷ more) each =
 pub sum_spent : (tx : Tx) (n turns : ℕ) (ports : List PortView) → AreSpent tx n turns ports
     → sum_by (λ (port : PortView). length port.sender.own) ports ≡ length tx.plan.ports * n
 sum_spent tx n turns ports spent = grind (arith, sum_same, length-messages)
+
+-- one number more, which isn't above the other
+pub at_most_push : (low high : List ℕ) (n m : ℕ) → length low ≡ length high → AreAtMost low high → n ≤ m
+    → (k : ℕ) → k < length (low ++ n ∷ []) → get_or (low ++ n ∷ []) k 0 ≤ get_or (high ++ m ∷ []) k 0
+at_most_push [] [] n m count all le zero lt = le
+at_most_push [] [] n m count all le (suc k) lt = absurd (omega arith)
+at_most_push [] (y ∷ high) n m count all le k lt = absurd (omega arith)
+at_most_push (x ∷ low) [] n m count all le k lt = absurd (omega arith)
+at_most_push (x ∷ low) (y ∷ high) n m count all le zero lt = all 0 (omega arith)
+at_most_push (x ∷ low) (y ∷ high) n m count all le (suc k) lt =
+    at_most_push low high n m (omega arith) (λ j below. all (suc j) (omega arith)) le k (omega arith)
+
+-- what follows where a result is known to be `Ok`, and something holds if it is
+pub at_ok : {A E : Type 0} (r : Result A E) (P Q : A → Type 0) (C : Type 0) → ((x : A) → P x → Q x → C) → IfOk r P → IsOkAnd r Q → C
+at_ok r P Q C both p q = grind arith
+
+-- one reading more of a link
+pub only_more : (old mid new : List Watched) (link times : ℕ) (found : Counts) → ReadsOnly old mid link times
+    → IsReading (seen mid link) found (seen new link) → new ≡ set mid link (seen new link)
+    → ReadsOnly old new link (times + 1)
+only_more old mid new link times found before reading is = grind (arith, cells_kept, get_or-set_other, no_seen)

@@ -1,7 +1,16 @@
--- The frames of a storm, once its ports are taken back and all is sent.
-use Rattle.storm.proofs.Names.{◌≡◌, ◌∙◌, ℕ, ◌<◌, List, length, All, ap, sym, subst, All-contains, Plan, Entry, log, Accepted, IsLegal, AreAllowed, AreOwn, AreOwnStreams, accepted_in, Tx, PortView, own_messages, AreSpent}
+-- The frames of a storm, once its ports are taken back and all is sent, and why one is refused.
+use Rattle.storm.proofs.Names.{◌≡◌, ◌∙◌, ℕ, ◌<◌, List, length, All, ap, sym, subst, All-contains, Plan, Entry, log, Accepted, IsLegal, AreAllowed, AreOwn, AreOwnStreams, accepted_in, Tx, PortView, own_messages, AreSpent, ◌+◌, ◌≤◌, cond, take, get_or, arith, length-map, get_or-map, LinkPlan, entry_of, entries, AreKnown, is_on_both, on_both, refl, Failure, StormFault, HasShortPort, IsPlanRefusal, IsStormRefusal, failure_of}
 use Rattle.afdx_legal.specs.Accepted.{IsAllDone, IsHandedWhole}
 use Rattle.afdx_tx.specs.Gathering.{IsGatheredTx}
+use Rattle.std.proofs.lemmas.List.Filters.{length-filter_more}
+use Rattle.afdx_frame.specs.Header.{link_in}
+use Rattle.afdx_frame.specs.declared.net.Net.{Net}
+use Rattle.redundant_mux.specs.declared.memory.Handed.{Handed}
+use Rattle.afdx_legal.proofs.StreamLemmas.{known_all}
+use Rattle.afdx_config.specs.Faults.{IsPlanOf}
+use Rattle.storm.specs.declared.fault.StormFault.TheVariants.{Short, Turns, Memory}
+use Rattle.plan_report.specs.declared.failure.Failure.TheVariants as Failures
+use Rattle.script_text.specs.declared.run_fault.RunFault.TheVariants as Ran
 
 -- what was accepted of each port is its own list
 gathered_own : (tx gathered : Tx) (n turns : ℕ) (ports : List PortView) → AreSpent tx n turns ports → IsGatheredTx tx ports gathered
@@ -37,3 +46,44 @@ handed_whole tx gathered drained n turns ports a b spent g plan accepted done st
       streams = streams;
       done = done;
     })))
+
+-- known frames have a destination address
+pub have_links : (links : List LinkPlan) (net : Net) (es : List Entry) → AreKnown links net es → All (λ (e : Entry). 6 ≤ length e.frame) es
+have_links links net es known i spare inside = omega (arith, (known_all links net es known i spare inside).size)
+
+-- the entry at a place
+entry_at : (handed : List Handed) (i : ℕ) (one : Handed) → i < length handed → one ≡ get_or handed i one
+    → get_or (entries handed) i (entry_of one) ≡ entry_of one
+entry_at handed i one inside is = get_or-map entry_of handed i one (entry_of one) inside ∙ ap entry_of (sym is)
+
+-- so has the one at a place
+pub has_link : (handed : List Handed) (i : ℕ) (one : Handed) → i < length handed → one ≡ get_or handed i one
+    → All (λ (e : Entry). 6 ≤ length e.frame) (entries handed) → 6 ≤ length one.frame.items
+has_link handed i one inside is all = grind (arith, entry_at handed i one inside is, length-map handed entry_of)
+
+-- one frame more
+pub count_more : (links : List LinkPlan) (handed : List Handed) (i : ℕ) (one : Handed) → i < length handed → one ≡ get_or handed i one
+    → length (on_both links (take (i + 1) (entries handed)))
+    ≡ length (on_both links (take i (entries handed))) + cond (is_on_both links (link_in one.frame.items)) 1 0
+count_more links handed i one inside is =
+    length-filter_more (λ (e : Entry). is_on_both links (link_in e.frame)) (entries handed) i (entry_of one) (omega (arith, length-map handed entry_of))
+    ∙ ap (λ (e : Entry). length (on_both links (take i (entries handed))) + cond (is_on_both links (link_in e.frame)) 1 0)
+    (entry_at handed i one inside is)
+
+-- what a storm that ended early is reported as
+pub refuses_plan : (plan : Plan) (fault : StormFault) → (fault ≡ Short → HasShortPort plan) → (HasShortPort plan → fault ≡ Short)
+    → IsPlanRefusal plan (failure_of fault)
+refuses_plan plan Short is short = is refl
+refuses_plan plan Turns is short = λ some. let no : Turns ≡ Short = short some in cc
+refuses_plan plan Memory is short = λ some. let no : Memory ≡ Short = short some in cc
+
+-- so it is of the plan of a text
+pub refuses_text : (text : List ℕ) (plan : Plan) (failure : Failure) → IsPlanOf text plan → IsPlanRefusal plan failure
+    → IsStormRefusal text failure
+refuses_text text plan Failures.Short is refusal = record { plan = plan; is_plan = is; refusal = refusal }
+refuses_text text plan Failures.Turns is refusal = record { plan = plan; is_plan = is; refusal = refusal }
+refuses_text text plan (Failures.Run Ran.Write) is refusal = record { plan = plan; is_plan = is; refusal = refusal }
+refuses_text text plan (Failures.Run Ran.Memory) is refusal = tt
+refuses_text text plan (Failures.Run Ran.Read) is refusal = tt
+refuses_text text plan (Failures.Run _) is refusal = absurd refusal
+refuses_text text plan (Failures.Config fault) is refusal = absurd refusal

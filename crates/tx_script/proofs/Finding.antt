@@ -19,7 +19,7 @@ use Rattle.afdx_tx.specs.Run.{accepted_in}
 use Rattle.afdx_tx.specs.Emitter.{Tx, taken_in}
 use Rattle.afdx_tx.specs.Gathering.{IsGatheredTx, HasOwnPart}
 use Rattle.afdx_tx.specs.Ports.{PortView, LacksPlace}
-use Rattle.afdx_tx.proofs.ClosedTotals.{total_whole}
+use Rattle.afdx_tx.proofs.ClosedEmitter.{total_whole}
 use Rattle.afdx_tx.proofs.PortLink.{link_within}
 use Rattle.script_text.specs.Meaning.{meaning_of}
 use Rattle.script_text.specs.declared.line.Line.{Line}

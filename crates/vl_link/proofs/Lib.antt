@@ -1,9 +1,7 @@
 pub mod Choosing
-pub mod FragmentsLeft
 pub mod LinkTurn
 pub mod MessageEnds
 mod Names
-pub mod PaceOfStream
 pub mod QueueLooks
 pub mod ShownTurns
 pub mod SubInStep

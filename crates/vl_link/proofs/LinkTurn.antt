@@ -3,7 +3,7 @@ use Rattle.vl_link.proofs.Names.{ℕ, zero, suc, refl, LinkPlan, Turn, AreTurns,
 use Rattle.vl_link.proofs.ShownTurns.{shows_push, choice_shown}
 use Rattle.vl_link.proofs.TurnLaws.{choice_below, choice_other, turns_endure}
 use Rattle.vl_link.proofs.SubInStep.{tied_moves, tied_gave, prefix_of, shown, gave_shown}
-use Rattle.vl_link.proofs.PaceOfStream.{stream_more, stream_same}
+use Rattle.vl_link.proofs.Choosing.{stream_more, stream_same}
 
 -- a turn of a link whose regulation agrees with its stream
 pub record Turned (now : ℕ) (link new : LinkState) (lines after : Lines) (did : Served) : Type 0 where

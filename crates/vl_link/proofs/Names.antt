@@ -8,7 +8,7 @@ pub use Rattle.afdx_frame.specs.Fragments.{Sent, blanked, fragments, fragments_f
 unfoldable pub use Rattle.afdx_frame.specs.Frame.{header_front, internet_header, link_header, unnumbered}
 pub use Rattle.afdx_frame.specs.Header.{IsFrameOf, link_in, sub_in}
 pub use Rattle.afdx_frame.specs.declared.net.Net.TheVariants.{A}
-pub use Rattle.afdx_legal.proofs.LongerStream.{due_apart, latest_push, numbered_push, spaced_push, with_push_in, with_push_out}
+pub use Rattle.afdx_legal.proofs.StreamLemmas.{due_apart, latest_push, numbered_push, spaced_push, with_push_in, with_push_out}
 pub use Rattle.afdx_legal.specs.Counting.{counts_in, ends_message, messages_ended, moment_after}
 pub use Rattle.afdx_legal.specs.Streams.{IsApart, IsNumbered, IsPrefixOf, IsSpaced, entry_number, latest, link_stream, stamp_of, sub_stream, told}
 pub use Rattle.afdx_legal.specs.Streams.{TakesTurns, before_next, more_in}
@@ -35,6 +35,6 @@ pub use Rattle.vl_link.specs.Turn.{AreTurns, IsChoice, Loses, NoneHas, Releases,
 pub use Rattle.vl_link.specs.declared.served.Served.{Served}
 pub use Rattle.vl_link.specs.declared.served.Served.TheVariants.{Lost, Nothing, Released}
 pub use Rattle.vl_link.specs.declared.sub_vl.SubVl.{SubVl}
-pub use Rattle.vl_shaper.proofs.Turns.{turn_below, turn_onto}
+pub use Rattle.vl_shaper.proofs.OneEach.{turn_below, turn_onto}
 pub use Rattle.vl_shaper.specs.Pace.{IsBelow, IsLater, Pace, is_due, turn_of}
 pub use Rattle.vl_shaper.specs.declared.shaper.Stamp.{Stamp}

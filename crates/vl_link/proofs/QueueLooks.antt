@@ -1,5 +1,5 @@
--- A queue after a poll, and the invariant of its sub-VL.
-use Rattle.vl_link.proofs.Names.{ℕ, ◌≡◌, List, [], ◌∷◌, ◌++◌, Some, arith, sym, subst, append_assoc, length-append, get_or_append_left, All-push, Seen, receiving, gathered, taken_of, known_of, ports_of, queue_of, total_of, FindsNothing, Finds, IsReceiving, IsSameQueue, ◌+◌, ◌%◌, Option, PortPlan, Cutting, SubVl, IsSub, IsCutOf}
+-- A queue after a poll, the fragments left, and the invariant of its sub-VL.
+use Rattle.vl_link.proofs.Names.{ℕ, ◌≡◌, List, [], ◌∷◌, ◌++◌, Some, arith, sym, subst, append_assoc, length-append, get_or_append_left, All-push, Seen, receiving, gathered, taken_of, known_of, ports_of, queue_of, total_of, FindsNothing, Finds, IsReceiving, IsSameQueue, ◌+◌, ◌%◌, Option, PortPlan, Cutting, SubVl, IsSub, IsCutOf, ◌≢◌, ◌<◌, length, map, refl, Bool, true, not, room_of, A, cutting, pieces_from, pieces_left, Sent, cutting_some, TellsCutting, left_of, message_fragments, fragments_at, unnumbered}
 use Rattle.subvl_queue.specs.Messages.{IsItem, AreItems}
 
 -- A poll that found nothing took nothing.
@@ -60,3 +60,24 @@ kept_finds of ports sending cut old new place message h finds own = grind (arith
 pub kept_cut : (of : SubVl) (ports : List PortPlan) (sending : Option Cutting) (cut : Cutting) (seen : Seen) (place : ℕ)
     → IsSub of ports sending seen place → IsCutOf of cut → IsSub of ports (Some cut) seen place
 kept_cut of ports sending cut seen place h own = grind arith
+
+-- Only an empty list has an empty image.
+map_nil : {X Y : Type 0} (f : X → Y) (xs : List X) → map f xs ≡ [] → xs ≡ []
+map_nil f [] e = refl
+map_nil f (x ∷ xs) e = cc
+
+-- A cut is done exactly if none of its fragments is left.
+pub done_tells : (of : SubVl) (cut : Cutting) (done : Bool)
+    → ((room : ℕ) → (done ≡ true → pieces_left room cut ≡ []) × (pieces_left room cut ≡ [] → done ≡ true))
+    → TellsCutting (not done) (left_of of (Some cut))
+done_tells of cut done h = grind (arith, map_nil)
+
+-- Each message has a fragment.
+pub fragments_some : (of : SubVl) (place : ℕ) (sent : Sent) → message_fragments of place sent ≢ []
+unfolding fragments_at
+fragments_some of place sent = some (cutting (room_of of.link.lmax) (8 + length sent.bytes)) (cutting_some _ _ (omega arith))
+  where
+    some : (lengths : List ℕ) → 0 < length lengths
+        → map (λ piece. unnumbered of.end_system sent.port sent.bytes place piece A) (pieces_from 0 lengths) ≢ []
+    some [] h = λ e. absurd (omega arith)
+    some (len ∷ rest) h = λ e. cc

@@ -1,4 +1,4 @@
-use Rattle.afdx_handle.proofs.Fronts.{set_map}
+use Rattle.afdx_handle.proofs.MadeFrames.{set_map}
 use Rattle.afdx_handle.proofs.Names.{link_id}
 use Rattle.afdx_handle.proofs.listing.write_link_ids.Goals as goal
 

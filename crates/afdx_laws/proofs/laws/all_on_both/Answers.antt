@@ -1,4 +1,4 @@
-use Rattle.afdx_laws.proofs.AllOnBoth.{all_on_both_holds}
+use Rattle.afdx_laws.proofs.OneNetwork.{all_on_both_holds}
 use Rattle.afdx_laws.proofs.WorkedDemo.{are_twins_of_one}
 use Rattle.afdx_laws.proofs.laws.all_on_both.Goals as goal
 

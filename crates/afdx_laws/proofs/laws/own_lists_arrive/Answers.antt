@@ -1,4 +1,4 @@
-use Rattle.afdx_laws.proofs.WholeHanded.{own_lists_arrive_holds}
+use Rattle.afdx_laws.proofs.LegalLinks.{own_lists_arrive_holds}
 use Rattle.afdx_laws.proofs.WorkedDemo.{one_is_whole, needs_all}
 use Rattle.afdx_laws.proofs.laws.own_lists_arrive.Goals as goal
 

@@ -5,7 +5,7 @@ use Rattle.afdx_tx.specs.Calls.{ClosesTx, IsSubAt}
 use Rattle.afdx_tx.specs.Emitter.{Tx, queues_in, total_in}
 use Rattle.afdx_tx.specs.Gathering.{IsGatheredTx}
 use Rattle.afdx_tx.specs.Ports.{PortView, BelongsTo}
-use Rattle.afdx_tx.proofs.ClosedTotals.{closes_total, total_whole}
+use Rattle.afdx_tx.proofs.ClosedEmitter.{closes_total, total_whole}
 use Rattle.afdx_tests.specs.Headline.{HasAccepted}
 use Rattle.afdx_tests.proofs.headline_tests.close_poll_and_gather.Goals as goal
 

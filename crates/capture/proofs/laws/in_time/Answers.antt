@@ -1,6 +1,6 @@
 use Rattle.std.proofs.Common.{arith}
 use Rattle.capture.specs.Order.{in_order}
-use Rattle.capture.proofs.InTimes.{in_time}
+use Rattle.capture.proofs.Orders.{in_time}
 use Rattle.capture.proofs.laws.in_time.Goals as goal
 
 pub returns-clause-time : goal.returns-clause-time

@@ -1,6 +1,6 @@
 use Rattle.std.proofs.Common.{map}
 use Rattle.afdx_config.specs.Seen.{finding_of}
-use Rattle.plan_report.proofs.FaultsLemmas.{tells_faults}
+use Rattle.plan_report.proofs.ReadingLemmas.{tells_faults}
 use Rattle.plan_report.proofs.reading.tell_faults.Goals as goal
 
 pub returns-in-Ok-write_all-clause-ok : goal.returns-in-Ok-write_all-clause-ok

@@ -1,5 +1,5 @@
 use Rattle.std.proofs.Common.{◌<◌, ◌+◌, ◌*◌, ◌-◌, sym, arith, get_or}
-use Rattle.script_text.proofs.NumberLemmas.{number_none, number_some, too_great, read_on_end}
+use Rattle.script_text.proofs.WordLemmas.{number_none, number_some, too_great, read_on_end}
 use Rattle.script_text.proofs.decimal.number.Goals as goal
 
 pub returns-in-None-clause-value : goal.returns-in-None-clause-value

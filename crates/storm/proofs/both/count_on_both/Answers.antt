@@ -1,5 +1,5 @@
 use Rattle.storm.proofs.Names.{arith, common_steps}
-use Rattle.storm.proofs.OnBoth.{has_link, count_more}
+use Rattle.storm.proofs.Whole.{has_link, count_more}
 use Rattle.storm.proofs.both.count_on_both.Goals as goal
 
 pub link_of-requires : goal.link_of-requires

@@ -1,6 +1,6 @@
 use Rattle.std.proofs.lemmas.Option.{IfSome_then}
 use Rattle.std.proofs.lemmas.Result.{on_ok_weaker, IfErr-weaker}
-use Rattle.storm.proofs.StormLemmas.{refuses_text}
+use Rattle.storm.proofs.Whole.{refuses_text}
 use Rattle.storm.proofs.command.bench_storm.Goals as goal
 
 pub returns-clause-ok : goal.returns-clause-ok

@@ -1,5 +1,5 @@
 use Rattle.storm.proofs.Names.{List, ◌∙◌, subst, sym, Appends, LinkPlan, Failure, IsPlanRefusal, totals_of}
-use Rattle.storm.proofs.StormLemmas.{refuses_plan}
+use Rattle.storm.proofs.Whole.{refuses_plan}
 use Rattle.storm.proofs.command.throw_storm.Goals as goal
 
 pub returns-in-Ok-write_totals-clause-ok : goal.returns-in-Ok-write_totals-clause-ok

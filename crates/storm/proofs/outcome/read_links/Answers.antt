@@ -1,6 +1,5 @@
 use Rattle.storm.proofs.Names.{◌<◌, length, sym, ap, ◌∙◌, arith, Tx, cells_of}
-use Rattle.storm.proofs.SameCells.{cell_at, cells_kept}
-use Rattle.storm.proofs.ShownCounts.{read_more, read_all}
+use Rattle.storm.proofs.SameCells.{cell_at, cells_kept, read_more, read_all}
 use Rattle.storm.proofs.outcome.read_links.Goals as goal
 
 pub read_last-requires : goal.read_last-requires

@@ -1,4 +1,4 @@
-use Rattle.storm.proofs.ShownCounts.{shown_published, cells_published}
+use Rattle.storm.proofs.SameCells.{shown_published, cells_published}
 use Rattle.storm.proofs.polling.poll_once.Goals as goal
 
 pub returns-clause-shown : goal.returns-clause-shown

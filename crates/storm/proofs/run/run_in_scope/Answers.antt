@@ -1,6 +1,5 @@
 use Rattle.storm.proofs.Names.{rules, ◌≡◌, ◌∙◌, map, subst, named, sent_all, asked_by, asked_after, AreAtMost}
-use Rattle.storm.proofs.Asks.{at_ok}
-use Rattle.storm.proofs.Spent.{spent}
+use Rattle.storm.proofs.Spent.{at_ok, spent}
 use Rattle.storm.proofs.run.run_in_scope.Goals as goal
 
 pub returns-in-Ok : goal.returns-in-Ok

@@ -1,5 +1,5 @@
 use Rattle.storm.proofs.Names.{arith, rules, refl}
-use Rattle.storm.proofs.Watched.{only_more}
+use Rattle.storm.proofs.Spent.{only_more}
 use Rattle.storm.proofs.watcher.watch_link.Goals as goal
 
 pub loop-init : goal.loop-init

@@ -1,6 +1,6 @@
 use Rattle.vl_link.proofs.Names.{arith, ◌∙◌, sym, and_parts, append-nil, A, twin_same, log_same}
 use Rattle.vl_link.proofs.SubInStep.{passed_same, chosen_left, chosen_gives, frame_at, set_same, none_has}
-use Rattle.vl_link.proofs.PaceOfStream.{follows_more, stream_more}
+use Rattle.vl_link.proofs.Choosing.{follows_more, stream_more}
 use Rattle.vl_link.proofs.link.serve_due.Goals as goal
 
 pub stamp-number-requires-clause-due : goal.stamp-number-requires-clause-due

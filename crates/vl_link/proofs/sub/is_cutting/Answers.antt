@@ -1,5 +1,5 @@
 use Rattle.vl_link.proofs.Names.{arith}
-use Rattle.vl_link.proofs.FragmentsLeft.{done_tells}
+use Rattle.vl_link.proofs.QueueLooks.{done_tells}
 use Rattle.vl_link.proofs.sub.is_cutting.Goals as goal
 
 pub returns-in-Some : goal.returns-in-Some

@@ -1,7 +1,7 @@
 use Rattle.afdx_frame.proofs.Names.{◌+◌, ◌≤◌, length, arith, rules, IsFrameOf}
 use Rattle.afdx_frame.proofs.CuttingLemmas.{left_none, left_first}
 use Rattle.afdx_frame.proofs.Says.{header_says}
-use Rattle.afdx_frame.proofs.FragmentLemmas.{step_fragments}
+use Rattle.afdx_frame.proofs.Twins.{step_fragments}
 use Rattle.afdx_frame.proofs.cut.Cut.write_next.Goals as goal
 
 pub returns-in_default-clause-frame : goal.returns-in_default-clause-frame

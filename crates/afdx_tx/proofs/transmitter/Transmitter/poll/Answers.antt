@@ -1,4 +1,4 @@
-use Rattle.afdx_legal.proofs.CountingLemmas.{counts_more}
+use Rattle.afdx_legal.proofs.StreamLemmas.{counts_more}
 use Rattle.status_board.proofs.Histories.{falls_not_through}
 use Rattle.afdx_tx.proofs.Names.{last_of}
 use Rattle.afdx_tx.proofs.Names.{link_at}

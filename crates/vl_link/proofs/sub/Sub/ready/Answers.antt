@@ -1,7 +1,6 @@
 use Rattle.vl_link.proofs.Names.{ℕ, ◌≡◌, ◌∙◌, ◌%◌, ◌<◌, ap, sym, arith, [], Bool, false, Option, length, get_or_read, room_of, Cutting, A, fragments_again, SubVl, taken_of, TellsCutting, left_of, message_fragments, sent_of, IsPortOf, seen_of}
-use Rattle.afdx_frame.proofs.FragmentLemmas.{cut_whole}
-use Rattle.vl_link.proofs.FragmentsLeft.{fragments_some}
-use Rattle.vl_link.proofs.QueueLooks.{kept_finds}
+use Rattle.afdx_frame.proofs.Twins.{cut_whole}
+use Rattle.vl_link.proofs.QueueLooks.{fragments_some, kept_finds}
 use Rattle.vl_link.proofs.sub.Sub.ready.Goals as goal
 
 -- The message's port is one of the sub-VL's.

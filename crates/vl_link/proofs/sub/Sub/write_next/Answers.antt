@@ -1,7 +1,6 @@
 use Rattle.vl_link.proofs.Names.{arith}
 use Rattle.vl_link.specs.Kept.{IsCutOf}
-use Rattle.vl_link.proofs.FragmentsLeft.{done_tells}
-use Rattle.vl_link.proofs.QueueLooks.{kept_cut}
+use Rattle.vl_link.proofs.QueueLooks.{done_tells, kept_cut}
 use Rattle.vl_link.proofs.sub.Sub.write_next.Goals as goal
 use Rattle.vl_link.proofs.sub.Sub.write_next.Goals.{then-is_done, else-is_done}
 
