@@ -2,7 +2,7 @@
 use Rattle.std.specs.Prelude.{codes, ℕ, List, map, Bool, is_none, Option, Some, None, option_and_then, unwrap_or, ◌&&◌, not}
 use Rattle.toml.specs.Data.{Members}
 use Rattle.afdx_plan.specs.declared.fault.ConfigFault.{ConfigFault}
-use Rattle.afdx_plan.specs.declared.identifiers.Kind.TheVariants.{Sampling}
+use Rattle.afdx_plan.specs.declared.port_plan.Kind.TheVariants.{Sampling}
 use Rattle.afdx_config.specs.declared.format.Content.TheVariants.{Whole, PortKind, Address, Rows}
 use Rattle.afdx_config.specs.Format.{needed, optional, id_range, lmax_range, max_range, partition_range, sub_range, subs_range, udp_range}
 use Rattle.afdx_plan.specs.declared.rows.LinkRow.{LinkRow}

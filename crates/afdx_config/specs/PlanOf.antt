@@ -6,10 +6,10 @@ use Rattle.std.specs.Option.{option_map_or}
 use Rattle.toml.specs.Data.{Members}
 use Rattle.afdx_plan.specs.declared.link_plan.LinkPlan.{LinkPlan}
 use Rattle.afdx_plan.specs.declared.port_plan.PortPlan.{PortPlan}
-use Rattle.afdx_plan.specs.declared.bag.Bag.TheVariants.{Ms1}
-use Rattle.afdx_plan.specs.declared.identifiers.Kind.TheVariants.{Sampling}
-use Rattle.afdx_plan.specs.declared.identifiers.UdpSum.TheVariants.{Omitted}
-use Rattle.afdx_plan.specs.declared.networks.Networks.TheVariants.{Both}
+use Rattle.afdx_plan.specs.declared.link_plan.Bag.TheVariants.{Ms1}
+use Rattle.afdx_plan.specs.declared.port_plan.Kind.TheVariants.{Sampling}
+use Rattle.afdx_plan.specs.declared.port_plan.UdpSum.TheVariants.{Omitted}
+use Rattle.afdx_plan.specs.declared.link_plan.Networks.TheVariants.{Both}
 use Rattle.afdx_config.specs.Format.{capacity_range, id_range, lmax_range, max_range, partition_range, sub_range, subs_range, udp_range}
 use Rattle.afdx_config.specs.Tables.{whole_at, text_at, number_in, section_at, rows_at}
 use Rattle.afdx_config.specs.Values.{bag_of, networks_of, kind_of, address_of, checksum_of}

@@ -13,7 +13,7 @@ use Rattle.afdx_frame.specs.Frame.{frame_of, addresses, datagram, greatest_messa
 use Rattle.afdx_frame.specs.Fragments.{Sent, fragments, fragments_at, fragments_left}
 use Rattle.afdx_frame.specs.Header.{twin_of}
 use Rattle.afdx_frame.specs.Reassembly.{Fragment, empty, put_all, datagram_in, fragments_of}
-use Rattle.afdx_plan.specs.declared.identifiers.UdpSum.TheVariants.{Generated}
+use Rattle.afdx_plan.specs.declared.port_plan.UdpSum.TheVariants.{Generated}
 use Rattle.afdx_plan.specs.declared.port_plan.PortPlan.{PortPlan}
 
 -- the demonstration port's internet header for a message of one byte, without its checksum

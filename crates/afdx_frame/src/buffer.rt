@@ -1,10 +1,10 @@
 //! The buffer of a frame, which is overwritten in place.
-ghost use Rattle.std.specs.Prelude.{◌≡◌, ◌≤◌, [], length, take};
+ghost use Rattle.std.specs.Prelude.{◌≡◌, ◌≤◌, [], length, take, ◌+◌, ◌++◌};
 ghost use Rattle.afdx_frame.specs.Header.{twin_of};
+ghost use Rattle.arrayvec.specs.ArrayVec.{array_vec_len};
 
 use crate::field;
 use crate::net::{Frame, GREATEST_FRAME, Net, SHORTEST_FRAME};
-use crate::put::{append, put};
 use crate::write::interface;
 use arrayvec::ArrayVec;
 use std::marker::Model;
@@ -107,4 +107,27 @@ pub fn twin(frame: &Frame, net: Net) -> Frame
     out.fill(frame);
     out.turn(net);
     out.to_frame()
+}
+
+/// Appends bytes.
+#[inline(always)]
+pub(crate) fn append(out: &mut Frame, bytes: &[u8])
+    requires { array_vec_len out.old + length bytes.now ≤ GREATEST_FRAME }
+    ensures items { out.new.items ≡ out.old.items ++ bytes.now }
+    ensures len { array_vec_len out.new ≡ array_vec_len out.old + length bytes.now }
+{
+    match out.try_extend_from_slice(bytes) {
+        Ok(()) => {}
+        Err(_) => unreachable!(),
+    }
+}
+
+/// Overwrites bytes from an index on.
+#[tactic(auto, using(std::proofs::lemmas::Slice::overwrites))]
+#[inline(always)]
+pub(crate) fn put(out: &mut [u8; GREATEST_FRAME], at: usize, bytes: &[u8])
+    requires { at + length bytes.now ≤ GREATEST_FRAME }
+    ensures { take (at + length bytes.now) out.new ≡ take at out.old ++ bytes.now }
+{
+    out[at..at + bytes.len()].copy_from_slice(bytes);
 }

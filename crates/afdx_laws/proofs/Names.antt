@@ -18,8 +18,8 @@ pub use Rattle.afdx_plan.proofs.DemoPlan.{demo_port_is, demo_valid}
 pub use Rattle.afdx_plan.specs.Config.{IsPlan, Plan, link_plan_at}
 pub use Rattle.afdx_plan.specs.Plan.{is_both, identification, sequence_number, IsLink, IsPort, bag_micros, room_of, step_of}
 pub use Rattle.afdx_plan.specs.declared.link_plan.LinkPlan.{LinkPlan}
-pub use Rattle.afdx_plan.specs.declared.networks.Networks.{Networks}
-pub use Rattle.afdx_plan.specs.declared.networks.Networks.TheVariants.{Both, OnlyA, OnlyB}
+pub use Rattle.afdx_plan.specs.declared.link_plan.Networks.{Networks}
+pub use Rattle.afdx_plan.specs.declared.link_plan.Networks.TheVariants.{Both, OnlyA, OnlyB}
 pub use Rattle.afdx_frame.proofs.CuttingLemmas.{cut_last, cut_more, cutting_some, step_le}
 pub use Rattle.afdx_frame.proofs.Says.{length-frame, payload_says, says, total_ok}
 pub use Rattle.afdx_frame.proofs.Twins.{twin_link, twin_number, twin_same, twin_sub, twin_twice}

@@ -4,7 +4,7 @@ use Rattle.std.specs.List.{AllZip}
 use Rattle.afdx_plan.specs.Config.{Plan, IsPlan, link_plan_at, port_plan_at, link_place}
 use Rattle.afdx_plan.specs.Plan.{bag_micros, room_of}
 use Rattle.afdx_plan.specs.declared.link_plan.LinkPlan.{LinkPlan}
-use Rattle.afdx_plan.specs.declared.networks.Networks.TheVariants.{Both}
+use Rattle.afdx_plan.specs.declared.link_plan.Networks.TheVariants.{Both}
 use Rattle.afdx_frame.specs.declared.net.Net.{Net}
 use Rattle.afdx_frame.specs.declared.net.Net.TheVariants.{A, B}
 use Rattle.afdx_frame.specs.Fragments.{Sent}

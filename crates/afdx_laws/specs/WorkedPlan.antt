@@ -5,8 +5,8 @@ use Rattle.std.specs.Prelude.{◌≡◌, ℕ, List, [], ◌∷◌, take, All, �
 use Rattle.std.specs.List.{AllZip}
 use Rattle.afdx_plan.specs.Config.{IsPlan, Plan, link_plan_at}
 use Rattle.afdx_plan.specs.Demo.{demo_plan, demo_link, demo_port}
-use Rattle.afdx_plan.specs.declared.networks.Networks.{Networks}
-use Rattle.afdx_plan.specs.declared.networks.Networks.TheVariants.{Both, OnlyA}
+use Rattle.afdx_plan.specs.declared.link_plan.Networks.{Networks}
+use Rattle.afdx_plan.specs.declared.link_plan.Networks.TheVariants.{Both, OnlyA}
 use Rattle.afdx_frame.specs.declared.net.Net.{Net}
 use Rattle.afdx_frame.specs.declared.net.Net.TheVariants.{A, B}
 use Rattle.afdx_frame.specs.Cutting.{piece_at}

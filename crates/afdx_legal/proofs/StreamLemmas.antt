@@ -17,7 +17,7 @@ use Rattle.afdx_legal.specs.Counting.{capped, bytes_in, ends_message, messages_e
 use Rattle.std.proofs.lemmas.List.{append-nil, get_or_default}
 use Rattle.vl_shaper.specs.Pace.{is_due, IsLater}
 use Rattle.std.proofs.lemmas.List.Folds.{list_any_at, list_any_none}
-use Rattle.afdx_plan.specs.declared.identifiers.VlId.{VlId}
+use Rattle.afdx_plan.specs.declared.port_plan.VlId.{VlId}
 use Rattle.afdx_plan.specs.Config.{Plan, IsPlan, link_plan_at}
 use Rattle.afdx_frame.specs.Header.{sub_in}
 use Rattle.afdx_frame.specs.Frame.{more_fragments}

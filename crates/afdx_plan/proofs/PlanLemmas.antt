@@ -10,9 +10,9 @@ use Rattle.std.proofs.lemmas.List.Folds.{list_any_at, list_any_none}
 use Rattle.std.proofs.lemmas.List.Sums.{sum_by-cons}
 use Rattle.std.proofs.lemmas.Slice.Eq.{bytes_eq-Decides}
 use Rattle.std.proofs.lemmas.Bool.Decides.{nat_tests}
-use Rattle.afdx_plan.specs.declared.identifiers.VlId.{VlId}
-use Rattle.afdx_plan.specs.declared.identifiers.PortId.{PortId}
-use Rattle.afdx_plan.specs.declared.identifiers.Kind.TheVariants.{Sampling}
+use Rattle.afdx_plan.specs.declared.port_plan.VlId.{VlId}
+use Rattle.afdx_plan.specs.declared.port_plan.PortId.{PortId}
+use Rattle.afdx_plan.specs.declared.port_plan.Kind.TheVariants.{Sampling}
 use Rattle.afdx_plan.specs.declared.link_plan.LinkPlan.{LinkPlan}
 use Rattle.afdx_plan.specs.declared.port_plan.PortPlan.{PortPlan}
 use Rattle.afdx_plan.specs.Address.{destination_of}

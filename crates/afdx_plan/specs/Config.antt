@@ -1,10 +1,10 @@
 -- Plans of end systems, which are valid, and messages that a receiver could mistake for each other.
 use Rattle.std.specs.Prelude.{◌≡◌, ℕ, ◌-◌, ◌<◌, ◌≤◌, List, length, get_or, count_by, nat_eq, ◌&&◌, Some, None, All, Contains, ◌==◌, unwrap_or, position, ◌%◌}
-use Rattle.afdx_plan.specs.declared.bag.Bag.TheVariants.{Ms1}
-use Rattle.afdx_plan.specs.declared.identifiers.Kind.TheVariants.{Sampling, Queuing}
-use Rattle.afdx_plan.specs.declared.identifiers.UdpSum.TheVariants.{Omitted}
+use Rattle.afdx_plan.specs.declared.link_plan.Bag.TheVariants.{Ms1}
+use Rattle.afdx_plan.specs.declared.port_plan.Kind.TheVariants.{Sampling, Queuing}
+use Rattle.afdx_plan.specs.declared.port_plan.UdpSum.TheVariants.{Omitted}
 use Rattle.afdx_plan.specs.declared.link_plan.LinkPlan.{LinkPlan}
-use Rattle.afdx_plan.specs.declared.networks.Networks.TheVariants.{Both}
+use Rattle.afdx_plan.specs.declared.link_plan.Networks.TheVariants.{Both}
 use Rattle.afdx_plan.specs.declared.port_plan.PortPlan.{PortPlan}
 use Rattle.afdx_plan.specs.Address.{destination_address, source_address}
 use Rattle.afdx_plan.specs.Plan.{IsLink, IsPort, SendsOver, identification}

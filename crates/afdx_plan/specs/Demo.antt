@@ -1,10 +1,10 @@
 -- The demonstration configuration: one end system with one link and one port.
 use Rattle.std.specs.Prelude.{[], ◌∷◌, None}
-use Rattle.afdx_plan.specs.declared.bag.Bag.TheVariants.{Ms1}
-use Rattle.afdx_plan.specs.declared.identifiers.Kind.TheVariants.{Queuing}
-use Rattle.afdx_plan.specs.declared.identifiers.UdpSum.TheVariants.{Omitted}
+use Rattle.afdx_plan.specs.declared.link_plan.Bag.TheVariants.{Ms1}
+use Rattle.afdx_plan.specs.declared.port_plan.Kind.TheVariants.{Queuing}
+use Rattle.afdx_plan.specs.declared.port_plan.UdpSum.TheVariants.{Omitted}
 use Rattle.afdx_plan.specs.declared.link_plan.LinkPlan.{LinkPlan}
-use Rattle.afdx_plan.specs.declared.networks.Networks.TheVariants.{Both}
+use Rattle.afdx_plan.specs.declared.link_plan.Networks.TheVariants.{Both}
 use Rattle.afdx_plan.specs.declared.port_plan.PortPlan.{PortPlan}
 use Rattle.afdx_plan.specs.Config.{Plan}
 

@@ -1,11 +1,11 @@
 -- Ranges and units of the numbers of a plan, the numbers that messages and frames carry, and the networks of a link.
 use Rattle.std.specs.Prelude.{◌≡◌, ℕ, ◌+◌, ◌*◌, ◌<◌, ◌≤◌, List, length, slice_index, sum_by, IfSome, ◌-◌, ◌%◌, nat_eq, if◌then◌else◌, ◌/◌, Bool, true, false, ◌&&◌}
-use Rattle.afdx_plan.specs.declared.bag.Bag.{Bag}
-use Rattle.afdx_plan.specs.declared.bag.Bag.TheVariants.{Ms1, Ms2, Ms4, Ms8, Ms16, Ms32, Ms64, Ms128}
+use Rattle.afdx_plan.specs.declared.link_plan.Bag.{Bag}
+use Rattle.afdx_plan.specs.declared.link_plan.Bag.TheVariants.{Ms1, Ms2, Ms4, Ms8, Ms16, Ms32, Ms64, Ms128}
 use Rattle.afdx_plan.specs.declared.link_plan.LinkPlan.{LinkPlan}
 use Rattle.afdx_plan.specs.declared.port_plan.PortPlan.{PortPlan}
-use Rattle.afdx_plan.specs.declared.networks.Networks.{Networks}
-use Rattle.afdx_plan.specs.declared.networks.Networks.TheVariants.{Both, OnlyA, OnlyB}
+use Rattle.afdx_plan.specs.declared.link_plan.Networks.{Networks}
+use Rattle.afdx_plan.specs.declared.link_plan.Networks.TheVariants.{Both, OnlyA, OnlyB}
 
 -- the bandwidth allocation gap in milliseconds
 abbrev pub bag_ms : Bag → ℕ

@@ -4,8 +4,8 @@ use Rattle.std.specs.List.{list_any}
 use Rattle.std.specs.Option.{option_map_or}
 use Rattle.afdx_plan.specs.declared.link_plan.LinkPlan.{LinkPlan}
 use Rattle.afdx_plan.specs.declared.port_plan.PortPlan.{PortPlan}
-use Rattle.afdx_plan.specs.declared.identifiers.Kind.{Kind}
-use Rattle.afdx_plan.specs.declared.identifiers.Kind.TheVariants.{Sampling, Queuing}
+use Rattle.afdx_plan.specs.declared.port_plan.Kind.{Kind}
+use Rattle.afdx_plan.specs.declared.port_plan.Kind.TheVariants.{Sampling, Queuing}
 use Rattle.afdx_plan.specs.declared.plan_faults.Clash.{Clash}
 use Rattle.afdx_plan.specs.declared.plan_faults.Clash.TheVariants.{Identifier, Flow, Address}
 use Rattle.afdx_plan.specs.declared.rows.LinkRow.{LinkRow}

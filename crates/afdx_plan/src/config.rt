@@ -1,14 +1,13 @@
-//! Valid plans.
+//! A valid plan, the greatest numbers of one, and its jitter.
 ghost use Rattle.std.specs.Prelude.{◌≡◌, ◌==◌, All, position, IfOk, IfErr, None, Some};
 ghost use Rattle.afdx_plan.specs.Config.{IsPlan, plan_of_parts};
-ghost use Rattle.afdx_plan.specs.Plan.{IsLink, IsPort};
+ghost use Rattle.afdx_plan.specs.Plan.{IsLink, IsPort, jitter_of};
 ghost use Rattle.afdx_plan.specs.PlanFaults.{least_plan_fault};
 
 use crate::fault::ConfigFault;
-use crate::identifiers::{PortId, VlId};
 use crate::link_plan::LinkPlan;
 use crate::plan_faults::plan_fault;
-use crate::port_plan::PortPlan;
+use crate::port_plan::{PortId, PortPlan, VlId};
 use std::marker::Model;
 
 /// A valid plan of an end system: it has none of the faults of `ConfigFault`.
@@ -100,4 +99,33 @@ impl Config {
     {
         self.ports.iter().position(|port| port.id.0 == id.0)
     }
+}
+
+/// The greatest message of a port, in bytes.
+pub const MESSAGE_LIMIT: usize = 8192;
+
+/// The greatest queue of a sub-VL, in messages.
+pub const CAPACITY_LIMIT: usize = 256;
+
+/// The most virtual links of an end system.
+pub const LINKS_LIMIT: usize = 64;
+
+/// The most ports of an end system.
+pub const PORTS_LIMIT: usize = 256;
+
+/// The most ports of a sub-VL.
+pub const SUB_PORTS_LIMIT: usize = 64;
+
+/// The time in nanoseconds that a frame may wait for frames of other links: 40,000, plus for each link
+/// 80 for each byte of its greatest frame and of the 20 bytes around it on the wire. This formula is
+/// only reported; no plan is refused for its jitter.
+pub fn jitter_ns(config: &Config) -> u64
+    ensures { result ≡ jitter_of config.now.links }
+{
+    let links = config.links();
+    let mut bytes = 0u64;
+    for link in links {
+        bytes += 20 + link.lmax.bytes() as u64;
+    }
+    40_000 + 80 * bytes
 }

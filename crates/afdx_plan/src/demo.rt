@@ -2,14 +2,10 @@
 ghost use Rattle.std.specs.Prelude.{◌≡◌, IfOk, IfErr};
 ghost use Rattle.afdx_plan.specs.Demo.{demo_link, demo_port, demo_plan};
 
-use crate::bag::Bag;
 use crate::config::Config;
 use crate::fault::ConfigFault;
-use crate::identifiers::{Kind, PortId, UdpSum, VlId};
-use crate::link_plan::LinkPlan;
-use crate::lmax::Lmax;
-use crate::networks::Networks;
-use crate::port_plan::PortPlan;
+use crate::link_plan::{Bag, LinkPlan, Lmax, Networks};
+use crate::port_plan::{Kind, PortId, PortPlan, UdpSum, VlId};
 use std::alloc::Global;
 
 /// The demonstration configuration: end system 1 with link 1 and port 10. Fails only if an allocation

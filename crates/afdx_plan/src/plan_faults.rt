@@ -5,11 +5,10 @@ ghost use Rattle.afdx_plan.specs.Config.{ports_on};
 ghost use Rattle.afdx_plan.specs.PlanFaults.{has_pair, same_link, clashes, is_row_of, misfits, is_sampling, are_one_address, are_one_destination, same_flow, share_unicast, is_no_count, is_packed, least_plan_fault, link_whole, port_whole};
 ghost use Rattle.afdx_plan.specs.declared.rows.Misfit.TheVariants.{NoLink, NoSub, TooLong};
 
+use crate::config::{LINKS_LIMIT, PORTS_LIMIT, SUB_PORTS_LIMIT};
 use crate::fault::ConfigFault;
-use crate::identifiers::Kind;
-use crate::limits::{LINKS_LIMIT, PORTS_LIMIT, SUB_PORTS_LIMIT};
 use crate::link_plan::LinkPlan;
-use crate::port_plan::PortPlan;
+use crate::port_plan::{Kind, PortPlan};
 
 /// Two links have the same identifier.
 fn two_links_are_one(links: &[LinkPlan]) -> bool

@@ -1,5 +1,4 @@
-//! A port of a plan.
-use crate::identifiers::{Kind, PortId, UdpSum, VlId};
+//! A port of a plan: identifiers, kinds and UDP checksums.
 
 /// The plan of a port.
 #[derive(Clone, Copy, Debug, PartialEq, Eq)]
@@ -20,4 +19,27 @@ pub struct PortPlan {
     pub unicast: Option<[u8; 4]>,
     // the checksum field of its datagrams
     pub checksum: UdpSum,
+}
+
+/// The 16-bit identifier of a virtual link.
+#[derive(Clone, Copy, Debug, PartialEq, Eq)]
+pub struct VlId(pub u16);
+
+/// The 16-bit identifier of a port.
+#[derive(Clone, Copy, Debug, PartialEq, Eq)]
+pub struct PortId(pub u16);
+
+/// The kinds of ports. A message of a sampling port fits into one frame. A message of a queuing port
+/// may be fragmented.
+#[derive(Clone, Copy, Debug, PartialEq, Eq)]
+pub enum Kind {
+    Sampling,
+    Queuing,
+}
+
+/// The checksum field of a port's datagrams (RFC 768): zero, which means none, or the checksum.
+#[derive(Clone, Copy, Debug, PartialEq, Eq)]
+pub enum UdpSum {
+    Omitted,
+    Generated,
 }

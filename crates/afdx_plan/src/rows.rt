@@ -1,5 +1,5 @@
 //! The values that the rules of plans look at.
-use crate::identifiers::Kind;
+use crate::port_plan::Kind;
 
 /// The values of a link that other tables depend on. A value with a fault is `None`.
 #[derive(Clone, Copy)]

@@ -13,9 +13,9 @@ pub use Rattle.afdx_legal.specs.Streams.{AreOwnStreams, longer, own_stream}
 pub use Rattle.afdx_legal.specs.Streams.{IsNumbered, IsPrefixOf, IsSpaced, entry_number, latest, link_stream, stamp_of, sub_stream, told, told_of}
 pub use Rattle.afdx_plan.specs.Config.{HasLink, IsPlan, Plan, link_plan_at, port_plan_at, link_place}
 pub use Rattle.afdx_plan.specs.Plan.{IsPort, SendsOver, bag_micros, room_of}
-pub use Rattle.afdx_plan.specs.declared.identifiers.VlId.{VlId}
+pub use Rattle.afdx_plan.specs.declared.port_plan.VlId.{VlId}
 pub use Rattle.afdx_plan.specs.declared.link_plan.LinkPlan.{LinkPlan}
-pub use Rattle.afdx_plan.specs.declared.networks.Networks.{Networks}
+pub use Rattle.afdx_plan.specs.declared.link_plan.Networks.{Networks}
 pub use Rattle.afdx_plan.specs.declared.port_plan.PortPlan.{PortPlan}
 pub use Rattle.afdx_tx.specs.Calls.{ClosesTx, LacksSub, IsFirstDue, NoneDueBefore, OneDueAt, earlier, Publishes, PublishesCounts, Reaches}
 pub use Rattle.afdx_tx.specs.Run.{AreGathered, Drains, DrainsAt, IsDrained, accepted_by, accepted_in, accepted_view, pace_in, IsRun, IsTurn, IsTurnAt}
@@ -62,6 +62,6 @@ pub use Rattle.vl_link.specs.Seen.{receiving, taken_of, total_of}
 pub use Rattle.vl_link.specs.Turn.{AreTurns, is_lost, may_release}
 pub use Rattle.vl_link.specs.declared.served.Served.{Served}
 pub use Rattle.vl_link.specs.declared.served.Served.TheVariants.{Lost, Nothing, Released}
-pub use Rattle.vl_link.specs.declared.sub_vl.SubVl.{SubVl}
+pub use Rattle.vl_link.specs.declared.sub.SubVl.{SubVl}
 pub use Rattle.vl_shaper.specs.Pace.{IsLater, Pace, is_due}
 pub use Rattle.vl_shaper.specs.declared.shaper.Stamp.{Stamp}

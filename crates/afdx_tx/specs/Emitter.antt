@@ -9,7 +9,7 @@ use Rattle.afdx_frame.specs.Header.{link_in}
 use Rattle.redundant_mux.specs.Lines.{Entry, Logged, Lines, log, stands_for, IsMirrored}
 use Rattle.vl_shaper.specs.Pace.{IsLater}
 use Rattle.subvl_queue.specs.Views.{QueueName, new_receiver}
-use Rattle.vl_link.specs.declared.sub_vl.SubVl.{SubVl}
+use Rattle.vl_link.specs.declared.sub.SubVl.{SubVl}
 use Rattle.status_board.specs.Views.{zeros, Published}
 use Rattle.vl_link.specs.Seen.{receiving, queue_of, total_of, IsReceiving}
 use Rattle.afdx_legal.specs.Legal.{Accepted, AreKnown}

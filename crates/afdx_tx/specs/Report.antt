@@ -1,6 +1,6 @@
 -- The report of a poll.
 use Rattle.std.specs.Prelude.{ℕ, ◌≡◌, ◌≤◌, List, [], ◌∷◌, ◌++◌, length, map}
-use Rattle.afdx_plan.specs.declared.identifiers.VlId.{VlId}
+use Rattle.afdx_plan.specs.declared.port_plan.VlId.{VlId}
 use Rattle.afdx_frame.specs.Header.{link_in, sub_in, number_in}
 use Rattle.redundant_mux.specs.Lines.{Entry, Lines, log}
 use Rattle.redundant_mux.specs.declared.mux.Standing.{Standing}

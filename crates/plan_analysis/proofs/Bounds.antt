@@ -2,7 +2,7 @@
 use Rattle.std.proofs.Common.{ℕ, ◌≡◌, ◌≤◌, List, [], ◌∷◌, ◌++◌, max, arith, refl}
 use Rattle.std.proofs.lemmas.List.Recursion.{max_push}
 use Rattle.afdx_plan.specs.Plan.{bag_micros}
-use Rattle.afdx_plan.specs.declared.bag.Bag.{Bag}
+use Rattle.afdx_plan.specs.declared.link_plan.Bag.{Bag}
 use Rattle.afdx_plan.specs.declared.link_plan.LinkPlan.{LinkPlan}
 use Rattle.afdx_plan.specs.declared.port_plan.PortPlan.{PortPlan}
 use Rattle.plan_analysis.specs.Wait.{pieces_on, most_pieces}

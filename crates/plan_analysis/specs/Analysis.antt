@@ -5,11 +5,11 @@ use Rattle.afdx_plan.specs.Plan.{jitter_of}
 use Rattle.afdx_plan.specs.declared.link_plan.LinkPlan.{LinkPlan}
 use Rattle.afdx_plan.specs.declared.port_plan.PortPlan.{PortPlan}
 use Rattle.plan_analysis.specs.declared.analysis.Analysis.{Analysis}
-use Rattle.plan_analysis.specs.declared.link_row.LinkRow.{LinkRow}
-use Rattle.plan_analysis.specs.declared.network_row.NetworkName.{NetworkName}
-use Rattle.plan_analysis.specs.declared.network_row.NetworkName.TheVariants.{A, B}
-use Rattle.plan_analysis.specs.declared.network_row.NetworkRow.{NetworkRow}
-use Rattle.plan_analysis.specs.declared.port_row.PortRow.{PortRow}
+use Rattle.plan_analysis.specs.declared.analysis.LinkRow.{LinkRow}
+use Rattle.plan_analysis.specs.declared.analysis.NetworkName.{NetworkName}
+use Rattle.plan_analysis.specs.declared.analysis.NetworkName.TheVariants.{A, B}
+use Rattle.plan_analysis.specs.declared.analysis.NetworkRow.{NetworkRow}
+use Rattle.plan_analysis.specs.declared.analysis.PortRow.{PortRow}
 use Rattle.plan_analysis.specs.Load.{window_bits, line_bits, bit_rate, share, is_over}
 use Rattle.plan_analysis.specs.Wait.{link_of, port_pieces, worst_wait, sustained}
 

@@ -3,9 +3,9 @@ use Rattle.std.specs.Prelude.{ℕ, ◌+◌, ◌*◌, ◌/◌, List, Bool, nat_lt
 use Rattle.std.specs.Int.{div_ceil}
 use Rattle.afdx_plan.specs.Plan.{carries_a, carries_b, bag_ms}
 use Rattle.afdx_plan.specs.declared.link_plan.LinkPlan.{LinkPlan}
-use Rattle.afdx_plan.specs.declared.networks.Networks.{Networks}
-use Rattle.plan_analysis.specs.declared.network_row.NetworkName.{NetworkName}
-use Rattle.plan_analysis.specs.declared.network_row.NetworkName.TheVariants.{A, B}
+use Rattle.afdx_plan.specs.declared.link_plan.Networks.{Networks}
+use Rattle.plan_analysis.specs.declared.analysis.NetworkName.{NetworkName}
+use Rattle.plan_analysis.specs.declared.analysis.NetworkName.TheVariants.{A, B}
 
 -- A link's greatest frame in bits, with the 20 bytes around it on the wire: preamble, start delimiter and gap.
 abbrev pub wire_bits : LinkPlan → ℕ

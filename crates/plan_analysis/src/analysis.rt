@@ -1,12 +1,12 @@
-//! The analysis of a plan.
-ghost use Rattle.std.specs.Prelude.{◌≡◌, ◌≤◌, IfOk, map};
-ghost use Rattle.plan_analysis.specs.Analysis.{IsAnalysisOf, link_row as row_of_link, port_row as row_of_port};
+//! The analysis of a plan: its links, networks and ports.
+ghost use Rattle.std.specs.Prelude.{◌≡◌, ◌≤◌, IfOk, map, length};
+ghost use Rattle.plan_analysis.specs.Analysis.{IsAnalysisOf, link_row as row_of_link, port_row as row_of_port, network_row as row_of_network};
+ghost use Rattle.afdx_plan.specs.Plan.{IsLink, IsPort};
+ghost use Rattle.plan_analysis.specs.Wait.{link_of as link_of_port};
 
-use crate::limits::LATENESS_LIMIT;
-use crate::link_row::{LinkRow, link_row};
-use crate::network_row::{NetworkName, NetworkRow, network_row};
-use crate::port_row::{PortRow, port_row};
-use afdx_plan::{Config, LinkPlan, jitter_ns};
+use crate::fragments::{message_wait, most_pieces, port_pieces, sustained};
+use crate::load::{bit_rate, is_over, network_bits, share, window_bits};
+use afdx_plan::{Config, LinkPlan, PortId, PortPlan, VlId, jitter_ns};
 use std::alloc::{AllocError, Global};
 
 /// The analysis of a plan, with rows in the order of the plan.
@@ -60,3 +60,110 @@ fn port_rows(alloc: Global, config: &Config, late: u64) -> Result<Vec<PortRow>, 
         .map(|port| port_row(late, config, port))
         .collect(alloc)
 }
+
+/// The analysis of a virtual link.
+#[derive(Clone, Copy, Debug, PartialEq, Eq)]
+pub struct LinkRow {
+    pub plan: LinkPlan,
+    // the greatest load in bits per second on the wire, rounded up
+    pub load: u64,
+    // the same in hundredths of a percent of 100 Mbit/s, rounded up
+    pub share: u64,
+    // its part of the jitter, in nanoseconds
+    pub jitter: u64,
+}
+
+/// Analyzes a link.
+pub(crate) fn link_row(plan: &LinkPlan) -> LinkRow
+    ensures { result ≡ row_of_link plan.now }
+{
+    let bits = window_bits(plan);
+    LinkRow {
+        plan: *plan,
+        load: bit_rate(bits),
+        share: share(bits),
+        jitter: 80 * (20 + plan.lmax.bytes() as u64),
+    }
+}
+
+/// One of the two networks.
+#[derive(Clone, Copy, Debug, PartialEq, Eq)]
+pub enum NetworkName {
+    A,
+    B,
+}
+
+/// The analysis of a network, from the links that it carries.
+#[derive(Clone, Copy, Debug, PartialEq, Eq)]
+pub struct NetworkRow {
+    pub name: NetworkName,
+    // the greatest load of its links, in bits per second on the wire, rounded up
+    pub load: u64,
+    // the same in hundredths of a percent of 100 Mbit/s, rounded up
+    pub share: u64,
+    // whether the load is more than 100 Mbit/s
+    pub exceeded: bool,
+}
+
+/// Analyzes network `name`, which carries those of `links` that the plan routes over it.
+pub(crate) fn network_row(name: NetworkName, links: &[LinkPlan]) -> NetworkRow
+    requires { length links.now ≤ 64 }
+    ensures { result ≡ row_of_network name links.now }
+{
+    let bits = network_bits(name, links);
+    NetworkRow {
+        name,
+        load: bit_rate(bits),
+        share: share(bits),
+        exceeded: is_over(bits),
+    }
+}
+
+/// The analysis of a port.
+#[derive(Clone, Copy, Debug, PartialEq, Eq)]
+pub struct PortRow {
+    pub id: PortId,
+    pub vl: VlId,
+    // the index of the sub-VL in its link
+    pub sub: u8,
+    // the number of fragments of its greatest message
+    pub fragments: u64,
+    // the longest time from the acceptance of a message to the release of its last fragment, in microseconds
+    pub wait: u64,
+    // the number of greatest messages that the BAG allows in 1,000 seconds
+    pub sustained: u64,
+}
+
+/// Analyzes a port of a plan whose polls come at most `late` microseconds late.
+pub(crate) fn port_row(late: u64, config: &Config, port: &PortPlan) -> PortRow
+    requires late { late ≤ LATENESS_LIMIT }
+    requires port { IsPort port.now }
+    ensures { result ≡ row_of_port late config.now port.now }
+{
+    let link = link_of(config, port);
+    let fragments = port_pieces(link, port);
+    let most = most_pieces(link, port.sub, config.ports());
+    PortRow {
+        id: port.id,
+        vl: port.vl,
+        sub: port.sub,
+        fragments,
+        wait: message_wait(late, link, most, fragments),
+        sustained: sustained(link, port),
+    }
+}
+
+/// The link of a port.
+fn link_of<'a>(config: &'a Config, port: &PortPlan) -> &'a LinkPlan
+    ensures link { result.now ≡ link_of_port config.now port.now }
+    ensures valid { IsLink result.now }
+{
+    let place = config.link_index(port.vl).unwrap_or(0);
+    &config.links()[place]
+}
+
+/// The greatest lateness of a poll that `analyze` accepts, in microseconds.
+pub const LATENESS_LIMIT: u64 = 1_000_000;
+
+/// The jitter limit, in nanoseconds. The report marks a greater jitter as exceeded.
+pub const JITTER_LIMIT: u64 = 500_000;

@@ -4,15 +4,9 @@
 
 mod analysis;
 mod fragments;
-mod limits;
-mod link_row;
 mod load;
-mod network_row;
-mod port_row;
 
-pub use analysis::{Analysis, analyze};
-pub use limits::{JITTER_LIMIT, LATENESS_LIMIT};
-pub use link_row::LinkRow;
+pub use analysis::{
+    Analysis, JITTER_LIMIT, LATENESS_LIMIT, LinkRow, NetworkName, NetworkRow, PortRow, analyze,
+};
 pub use load::carries;
-pub use network_row::{NetworkName, NetworkRow};
-pub use port_row::PortRow;

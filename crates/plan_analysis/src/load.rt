@@ -3,7 +3,7 @@ ghost use Rattle.std.specs.Prelude.{◌≡◌, ◌+◌, ◌*◌, ◌≤◌, All,
 ghost use Rattle.afdx_plan.specs.Plan.{IsLink};
 ghost use Rattle.plan_analysis.specs.Load.{window_bits as bits_of_window, line_bits, bit_rate as rate_of_bits, share as share_of_bits, is_over as is_over_line, carries as is_on};
 
-use crate::network_row::NetworkName;
+use crate::analysis::NetworkName;
 use afdx_plan::{LinkPlan, Networks};
 
 /// The bytes around each frame on the wire: preamble, start delimiter and gap.

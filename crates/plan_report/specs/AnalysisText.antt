@@ -3,15 +3,15 @@ use Rattle.std.specs.Prelude.{codes, ℕ, ◌/◌, ◌%◌, List, [], ◌∷◌,
 use Rattle.std.specs.Fmt.{styled_decimal, format_spec}
 use Rattle.afdx_plan.specs.Plan.{bag_ms}
 use Rattle.afdx_plan.specs.declared.link_plan.LinkPlan.{LinkPlan}
-use Rattle.afdx_plan.specs.declared.networks.Networks.{Networks}
-use Rattle.afdx_plan.specs.declared.networks.Networks.TheVariants.{Both, OnlyA, OnlyB}
-use Rattle.plan_analysis.specs.declared.limits.TheConstants.{JITTER_LIMIT}
+use Rattle.afdx_plan.specs.declared.link_plan.Networks.{Networks}
+use Rattle.afdx_plan.specs.declared.link_plan.Networks.TheVariants.{Both, OnlyA, OnlyB}
+use Rattle.plan_analysis.specs.declared.analysis.TheConstants.{JITTER_LIMIT}
 use Rattle.plan_analysis.specs.declared.analysis.Analysis.{Analysis}
-use Rattle.plan_analysis.specs.declared.link_row.LinkRow.{LinkRow}
-use Rattle.plan_analysis.specs.declared.network_row.NetworkName.{NetworkName}
-use Rattle.plan_analysis.specs.declared.network_row.NetworkName.TheVariants.{A, B}
-use Rattle.plan_analysis.specs.declared.network_row.NetworkRow.{NetworkRow}
-use Rattle.plan_analysis.specs.declared.port_row.PortRow.{PortRow}
+use Rattle.plan_analysis.specs.declared.analysis.LinkRow.{LinkRow}
+use Rattle.plan_analysis.specs.declared.analysis.NetworkName.{NetworkName}
+use Rattle.plan_analysis.specs.declared.analysis.NetworkName.TheVariants.{A, B}
+use Rattle.plan_analysis.specs.declared.analysis.NetworkRow.{NetworkRow}
+use Rattle.plan_analysis.specs.declared.analysis.PortRow.{PortRow}
 
 -- a number at the right end of a column of `width` characters, as `{n:>width}` prints it
 abbrev pub right : ℕ → ℕ → List ℕ

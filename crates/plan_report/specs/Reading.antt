@@ -4,14 +4,14 @@ use Rattle.std.specs.Io.KnownBytes.{Appends}
 use Rattle.plan_report.specs.Report.{report_of}
 use Rattle.plan_report.specs.declared.status.End.{End}
 use Rattle.plan_report.specs.declared.status.End.TheVariants.{Told, FaultsTold}
-use Rattle.plan_report.specs.declared.failure.Failure.{Failure}
-use Rattle.plan_report.specs.declared.failure.Failure.TheVariants.{Config, Run}
+use Rattle.plan_report.specs.declared.status.Failure.{Failure}
+use Rattle.plan_report.specs.declared.status.Failure.TheVariants.{Config, Run}
 use Rattle.afdx_plan.specs.Config.{Plan}
 use Rattle.afdx_config.specs.Faults.{IsPlanOf, IsLeastFault}
 use Rattle.afdx_plan.specs.declared.fault.ConfigFault.TheVariants.{Memory}
 use Rattle.afdx_config.specs.Explained.{Explains}
 use Rattle.afdx_config.specs.Findings.{Finding}
-use Rattle.script_text.specs.declared.run_fault.RunFault.TheVariants as Ran
+use Rattle.script_text.specs.declared.faults.RunFault.TheVariants as Ran
 
 -- the most bytes of a text that is read: 16 MiB
 abbrev pub text_limit : ℕ

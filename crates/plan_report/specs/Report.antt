@@ -3,15 +3,15 @@ use Rattle.std.specs.Prelude.{codes, ℕ, List, [], ◌∷◌, ◌++◌, Option,
 use Rattle.std.specs.Net.Text.{ipv4_text}
 use Rattle.afdx_plan.specs.Config.{Plan}
 use Rattle.afdx_plan.specs.Plan.{bag_ms, jitter_of}
-use Rattle.afdx_plan.specs.declared.identifiers.Kind.{Kind}
-use Rattle.afdx_plan.specs.declared.identifiers.Kind.TheVariants.{Sampling, Queuing}
-use Rattle.afdx_plan.specs.declared.identifiers.UdpSum.{UdpSum}
-use Rattle.afdx_plan.specs.declared.identifiers.UdpSum.TheVariants.{Omitted, Generated}
+use Rattle.afdx_plan.specs.declared.port_plan.Kind.{Kind}
+use Rattle.afdx_plan.specs.declared.port_plan.Kind.TheVariants.{Sampling, Queuing}
+use Rattle.afdx_plan.specs.declared.port_plan.UdpSum.{UdpSum}
+use Rattle.afdx_plan.specs.declared.port_plan.UdpSum.TheVariants.{Omitted, Generated}
 use Rattle.afdx_plan.specs.declared.link_plan.LinkPlan.{LinkPlan}
-use Rattle.afdx_plan.specs.declared.networks.Networks.{Networks}
-use Rattle.afdx_plan.specs.declared.networks.Networks.TheVariants.{Both, OnlyA, OnlyB}
+use Rattle.afdx_plan.specs.declared.link_plan.Networks.{Networks}
+use Rattle.afdx_plan.specs.declared.link_plan.Networks.TheVariants.{Both, OnlyA, OnlyB}
 use Rattle.afdx_plan.specs.declared.port_plan.PortPlan.{PortPlan}
-use Rattle.plan_analysis.specs.declared.limits.TheConstants.{JITTER_LIMIT}
+use Rattle.plan_analysis.specs.declared.analysis.TheConstants.{JITTER_LIMIT}
 
 -- the line of the end system
 unfoldable pub end_system_line : ℕ → List ℕ

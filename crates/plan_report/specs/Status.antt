@@ -1,11 +1,11 @@
 -- The ranges of a command line, the messages about its words, and the exit statuses of the program.
 use Rattle.std.specs.Prelude.{ℕ, nat_eq, if◌then◌else◌, ◌≤◌, ⊤, ◌≡◌, ◌⊎◌}
-use Rattle.plan_report.specs.declared.failure.Failure.{Failure}
-use Rattle.plan_report.specs.declared.failure.Failure.TheVariants.{Config, Run, Short, Turns}
+use Rattle.plan_report.specs.declared.status.Failure.{Failure}
+use Rattle.plan_report.specs.declared.status.Failure.TheVariants.{Config, Run, Short, Turns}
 use Rattle.plan_report.specs.declared.status.End.{End}
 use Rattle.plan_report.specs.declared.status.End.TheVariants.{Told, Ran, FaultsTold, WordsRefused, Failed}
-use Rattle.script_text.specs.declared.run_fault.RunFault.{RunFault}
-use Rattle.script_text.specs.declared.run_fault.RunFault.TheVariants.{Line, Lines, Read, Write, Memory}
+use Rattle.script_text.specs.declared.faults.RunFault.{RunFault}
+use Rattle.script_text.specs.declared.faults.RunFault.TheVariants.{Line, Lines, Read, Write, Memory}
 use Rattle.plan_report.specs.declared.words.Words.{Words}
 use Rattle.plan_report.specs.declared.words.Words.TheVariants.{Report, Storm}
 use Rattle.clap.specs.declared.error.kind.ErrorKind.{ErrorKind}

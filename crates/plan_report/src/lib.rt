@@ -4,7 +4,6 @@
 
 mod analysis_text;
 mod bars;
-mod failure;
 mod halting;
 mod numbers;
 mod page;
@@ -13,15 +12,11 @@ mod report;
 mod status;
 mod style;
 mod words;
-mod words_report;
-mod words_told;
 
 pub use analysis_text::write_analysis;
-pub use failure::Failure;
 pub use halting::Halting;
 pub use page::write_page;
 pub use reading::{TEXT_LIMIT, check, read_plan, tell_faults};
 pub use report::write_report;
-pub use status::{DONE, End, FAILED, LINES_REFUSED, REFUSED, USED_UP, status_of};
-pub use words::{Words, parse, read_words};
-pub use words_told::tell_words;
+pub use status::{DONE, End, FAILED, Failure, LINES_REFUSED, REFUSED, USED_UP, status_of};
+pub use words::{Words, parse, read_words, tell_words};

@@ -4,9 +4,8 @@ ghost use Rattle.std.specs.Io.KnownBytes.{Keeps};
 ghost use Rattle.plan_report.specs.Reading.{IsRefusal, Reports, TellsFaults, end_of, text_limit};
 ghost use Rattle.afdx_config.specs.Faults.{IsPlanOf};
 
-use crate::failure::Failure;
 use crate::report::write_report;
-use crate::status::End;
+use crate::status::{End, Failure};
 use afdx_config::{Explanation, explain, read_config};
 use afdx_plan::Config;
 use script_text::RunFault;

@@ -1,10 +1,11 @@
-//! The ends of the program and their exit statuses.
+//! How a command ends: failures and exit statuses.
 ghost use Rattle.std.specs.Prelude.{◌≡◌};
 ghost use Rattle.plan_report.specs.Status.{exit_status, failure_status as status_of_failure, run_status as status_of_run};
 
-use crate::failure::Failure;
 use afdx_plan::ConfigFault;
 use script_text::{RunFault, Summary};
+use std::error::Error;
+use std::fmt;
 
 /// Success: no line of a script was refused.
 pub const DONE: u8 = 0;
@@ -70,3 +71,32 @@ fn run_status(fault: &RunFault) -> u8
         RunFault::Read | RunFault::Write | RunFault::Memory => FAILED,
     }
 }
+
+/// A failure that ends a command early. `Display` prints the message for standard error.
+#[derive(Clone, Copy, Debug, PartialEq, Eq)]
+pub enum Failure {
+    /// The configuration was refused.
+    Config(ConfigFault),
+    /// The script has a fault; or, in any command, an allocation, a read or a write failed.
+    Run(RunFault),
+    /// The greatest message of a port is too short for the messages of a storm.
+    Short,
+    /// A storm exhausted its turns.
+    Turns,
+}
+
+impl fmt::Display for Failure {
+    fn fmt<W: fmt::Write>(&self, f: &mut fmt::Formatter<W>) -> fmt::Result {
+        match self {
+            Failure::Config(ConfigFault::Memory) => fmt::Display::fmt(&RunFault::Memory, f),
+            Failure::Config(fault) => {
+                write!(f, "configuration refused: {} {fault}", fault.number())
+            }
+            Failure::Run(fault) => fmt::Display::fmt(fault, f),
+            Failure::Short => f.write_str("storm refused: a port's max is below 6"),
+            Failure::Turns => f.write_str("turns used up"),
+        }
+    }
+}
+
+impl Error for Failure {}

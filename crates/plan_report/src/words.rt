@@ -1,12 +1,14 @@
 //! The words of the command line.
 ghost use Rattle.std.specs.Prelude.{◌≡◌, ◌≤◌, ◌⊎◌, Some, None, IfOk, IfSome, IfNone, IsErr};
 ghost use Rattle.script_text.specs.Command.{number_of};
-ghost use Rattle.plan_report.specs.Status.{IsInRange};
+ghost use Rattle.plan_report.specs.Status.{IsInRange, EndsWords};
+ghost use Rattle.clap.specs.Values.{kind_of};
 
-use crate::words_report::{report_command, report_words};
+use crate::status::{End, Failure};
 use clap::error::ErrorKind;
 use clap::{Arg, ArgMatches, Command, Error, value_parser};
-use script_text::number;
+use plan_analysis::LATENESS_LIMIT;
+use script_text::{RunFault, number};
 use std::alloc::{AllocError, Global};
 use std::io;
 use std::rt::Env;
@@ -241,4 +243,61 @@ fn storm_command<'a>(alloc: Global) -> Result<Command<'a>, AllocError> {
         .required(true)
         .value_parser(value_parser!(u64).range(1..1_000_000_001));
     storm.arg(turns)
+}
+
+pub(crate) fn report_words(
+    alloc: Global,
+    matches: &ArgMatches<'_>,
+    config: String,
+) -> Result<Words, Error>
+    ensures { IfOk result IsInRange }
+{
+    match lateness_of(matches) {
+        Some(lateness) => Ok(Words::Report {
+            config,
+            lateness,
+            html: given_path(alloc, matches, "html")?,
+        }),
+        None => refuse_number(alloc),
+    }
+}
+
+/// The greatest lateness of a poll, in microseconds: 0 if no word gives it.
+fn lateness_of(matches: &ArgMatches<'_>) -> Option<u64>
+    ensures { IfSome result (λ lateness. lateness ≤ LATENESS_LIMIT) }
+{
+    match matches.get_str("lateness") {
+        Some(word) => number(word.as_bytes(), LATENESS_LIMIT),
+        None => Some(0),
+    }
+}
+
+pub(crate) fn report_command<'a>(alloc: Global) -> Result<Command<'a>, AllocError> {
+    let about = "Prints the loads, the jitter and the longest waits of a configuration";
+    let report = over_config(alloc, "report", about)?;
+    let help = "How late polls come at most, in microseconds: 0 if left out";
+    let lateness = flag(alloc, "lateness", help)
+        .value_name("micros")
+        .value_parser(value_parser!(u64).range(0..1_000_001));
+    let report = report.arg(lateness)?;
+    let help = "Also writes the report as a page to a file";
+    report.arg(flag(alloc, "html", help).value_name("file"))
+}
+
+/// Prints the message of an error: help and the version to standard output, and what is wrong with the
+/// words to standard error.
+pub fn tell_words<R: Print + Eprint>(rt: &R, error: &Error) -> End
+    ensures { EndsWords (kind_of error.now) result }
+{
+    match error.kind() {
+        ErrorKind::OutOfMemory => End::Failed(Failure::Run(RunFault::Memory)),
+        ErrorKind::DisplayHelp | ErrorKind::DisplayVersion => match error.print(rt) {
+            Ok(()) => End::Told,
+            Err(_) => End::Failed(Failure::Run(RunFault::Write)),
+        },
+        _ => {
+            let _told = error.print(rt);
+            End::WordsRefused
+        }
+    }
 }

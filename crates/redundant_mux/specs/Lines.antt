@@ -1,7 +1,7 @@
 -- The frames that two networks accepted, in one log and by network, and which networks are up.
 use Rattle.std.specs.Prelude.{ℕ, List, Bool, map, filter, nat_eq, ◌≡◌, ◌⊎◌, ◌↔◌, ◌+◌, ◌≤◌, [], ◌∷◌, ◌++◌, true, false, ◌&&◌, ◌||◌, All}
-use Rattle.afdx_plan.specs.declared.networks.Networks.{Networks}
-use Rattle.afdx_plan.specs.declared.networks.Networks.TheVariants.{OnlyA, OnlyB}
+use Rattle.afdx_plan.specs.declared.link_plan.Networks.{Networks}
+use Rattle.afdx_plan.specs.declared.link_plan.Networks.TheVariants.{OnlyA, OnlyB}
 use Rattle.afdx_plan.specs.Plan.{carries_a, carries_b}
 use Rattle.afdx_frame.specs.declared.net.Net.{Net}
 use Rattle.afdx_frame.specs.declared.net.Net.TheVariants.{A, B}

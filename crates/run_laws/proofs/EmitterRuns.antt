@@ -1,6 +1,6 @@
 -- The worked run of polls of an emitter, by computation.
 use Rattle.run_laws.proofs.Names.{Contains, None, inr, ◌⊎◌, DrainPolls, IsDrained, subst, IsLater, link_plan_at, ◌≡◌, ◌≢◌, ℕ, zero, suc, ◌<◌, List, [], ◌∷◌, ◌++◌, length, refl, sym, ◌∙◌, arith, inl, true, All, All-nil, All-cons, All-from_recursion, below_one, cases_eq, ⊎_elim, A, cutting, fragments_at, blanked, addresses, header_front, internet_header, link_header, udp_header, datagram, unnumbered, Entry, entry, Lines, BothEndure, log, stands_for, may_release, turn_of, pace_in, slice_index, link_in, sub_in, number_in, interface_byte, Held, Passes, held_at, IsQueued, IsAllowed, Released, stream_at, EmitterPolls, IsReady, FindsIt, ArePolls, taken_in, HasPlace, fragments_of, seen_of}
-use Rattle.afdx_plan.specs.declared.networks.Networks.TheVariants.{Both}
+use Rattle.afdx_plan.specs.declared.link_plan.Networks.TheVariants.{Both}
 use Rattle.afdx_frame.specs.Checksum.{checksum}
 use Rattle.redundant_mux.specs.Lines.{logged_for}
 use Rattle.std.specs.Prelude.{replicate}

@@ -1,7 +1,7 @@
 -- The worked runs, by computation.
 use Rattle.run_laws.proofs.Names.{All-nil, ◌≡◌, ℕ, ◌+◌, ◌<◌, ◌≤◌, ◌⊎◌, List, [], ◌∷◌, ◌++◌, length, Bool, true, ◌&&◌, refl, ap, sym, ◌∙◌, arith, inl, inr, Some, false≢true, length-append, All-from_recursion, A, cutting, fragments_at, blanked, Sent, addresses, header_front, internet_header, link_header, udp_header, datagram, unnumbered, Entry, entry, Lines, Endures, BothEndure, log, stands_for, LinkPlan, may_release, is_due, turn_of, IsQueued, Served, Nothing, Released, Lost, Drains, pace_in, stream_at, link_wait, EmitterPolls, DrainPolls, AreRuns, ComesBy, cons_parts, below_one, slice_index, link_in, sub_in, number_in, interface_byte, None, All, All-head, All-tail, IsPlan, IsLater, latest, IsPrefixOf, IsAccepted, HasPlace, AreFinding, fragments_of, seen_of}
 use Rattle.afdx_legal.specs.Accepted.{Owes}
-use Rattle.afdx_plan.specs.declared.networks.Networks.TheVariants.{Both}
+use Rattle.afdx_plan.specs.declared.link_plan.Networks.TheVariants.{Both}
 use Rattle.redundant_mux.specs.Lines.{logged_for}
 use Rattle.afdx_laws.specs.WorkedDelivery.{back_frame}
 use Rattle.afdx_laws.proofs.WorkedDemo.{demo_with_valid}

@@ -3,7 +3,7 @@ use Rattle.std.specs.Prelude.{take, length, ◌++◌, replicate, Bool, true, fal
 use Rattle.afdx_plan.specs.Config.{Plan, IsPlan, link_plan_at}
 use Rattle.afdx_plan.specs.Demo.{demo_plan, demo_link, demo_port}
 use Rattle.afdx_plan.specs.declared.link_plan.LinkPlan.{LinkPlan}
-use Rattle.afdx_plan.specs.declared.networks.Networks.TheVariants.{Both}
+use Rattle.afdx_plan.specs.declared.link_plan.Networks.TheVariants.{Both}
 use Rattle.afdx_frame.specs.declared.net.Net.TheVariants.{A, B}
 use Rattle.afdx_frame.specs.Header.{sub_in}
 use Rattle.redundant_mux.specs.Lines.{Entry, entry, logged_for, Lines, lines_of, stands_for}

@@ -5,7 +5,7 @@ use Rattle.script_text.specs.Command.{message_of, port_number, moment_of, link_n
 use Rattle.script_text.specs.Faults.{send_fault, at_fault, close_fault}
 use Rattle.script_text.specs.Meaning.{IsSaidSend, IsSaidAt, IsSaidClose}
 use Rattle.script_text.specs.declared.line.Line.TheVariants.{Send, At, Close}
-use Rattle.script_text.specs.declared.line_fault.LineFault.TheVariants.{Word, Number, Hex, Extra}
+use Rattle.script_text.specs.declared.faults.LineFault.TheVariants.{Word, Number, Hex, Extra}
 
 -- the words after `send`
 pub send_none : (ws : List (List ℕ)) → ws ≡ [] → send_fault ws ≡ Some Word

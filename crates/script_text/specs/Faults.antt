@@ -2,8 +2,8 @@
 use Rattle.std.specs.Prelude.{◌≡◌, ℕ, ◌<◌, Bool, true, false, ◌&&◌, ◌||◌, nat_lt, if◌then◌else◌, ◌+◌, is_none, List, [], ◌∷◌, length, Option, Some, None}
 use Rattle.std.specs.Option.{option_map_or}
 use Rattle.script_text.specs.Command.{command_of, is_send, is_at, is_close, port_number, moment_of, link_number, sub_number, message_of}
-use Rattle.script_text.specs.declared.line_fault.LineFault.{LineFault}
-use Rattle.script_text.specs.declared.line_fault.LineFault.TheVariants.{Word, Number, Hex, Extra, Long, Memory}
+use Rattle.script_text.specs.declared.faults.LineFault.{LineFault}
+use Rattle.script_text.specs.declared.faults.LineFault.TheVariants.{Word, Number, Hex, Extra, Long, Memory}
 
 -- a fault's number
 abbrev pub line_fault_number : LineFault → ℕ

@@ -1,9 +1,9 @@
-//! A network that keeps its frames.
-ghost use Rattle.std.specs.Prelude.{◌≡◌, ◌+◌, ◌^◌, ◌<◌, ◌≤◌, [], ◌∷◌, ◌++◌, true, false, length, OnOk, OnErr, vec_capacity};
-ghost use Rattle.redundant_mux.specs.Lines.{entry};
-ghost use Rattle.script_text.specs.FrameLog.{AreInLog, spelled};
+//! A network that keeps its frames, and iterating over them.
+ghost use Rattle.std.specs.Prelude.{◌≡◌, ◌+◌, ◌^◌, ◌<◌, ◌≤◌, [], ◌∷◌, ◌++◌, true, false, length, OnOk, OnErr, vec_capacity, List, map};
+ghost use Rattle.redundant_mux.specs.Lines.{entry, Entry};
+ghost use Rattle.script_text.specs.FrameLog.{AreInLog, spelled, TakesFrame, first_moment};
+ghost use Rattle.std.specs.Iterator.{item_count};
 
-use crate::log_frames::LogFrames;
 use afdx_frame::GREATEST_FRAME;
 use redundant_mux::{HandFault, Network};
 use std::alloc::Global;
@@ -119,4 +119,56 @@ fn keep(marks: &mut Vec<Mark>, bytes: &mut Vec<u8>, at: u64, frame: &[u8]) -> bo
         return false;
     }
     true
+}
+
+/// The frames of a log that are left, in the order in which they were sent. Each has its time in
+/// microseconds, and its bytes from the destination MAC address to the sequence number. Contracts see the
+/// frames that are left.
+#[derive(Drop)]
+pub struct LogFrames<'a> {
+    marks: &'a [Mark],
+    bytes: &'a [u8],
+}
+
+impl<'a> Model for LogFrames<'a> {
+    ghost Value = { List Entry };
+
+    ghost view = { λ f. spelled f.marks.now f.bytes.now };
+
+    ghost invariant = { λ f. AreInLog f.marks.now f.bytes.now };
+}
+
+impl<'a> LogFrames<'a> {
+    ghost use Rattle.std.specs.Prelude.{◌≡◌};
+
+    pub(crate) fn new(marks: &'a [Mark], bytes: &'a [u8]) -> LogFrames<'a>
+        requires { AreInLog marks.now bytes.now }
+        ensures { result ≡ spelled marks.now bytes.now }
+    {
+        LogFrames { marks, bytes }
+    }
+
+    /// The time of the next frame, in microseconds; `None` if none is left.
+    pub fn next_moment(&self) -> Option<u64>
+        ensures { result ≡ first_moment self.now }
+    {
+        let mark = self.marks.first()?;
+        Some(mark.at)
+    }
+}
+
+impl<'a> Iterator for LogFrames<'a> {
+    type Item = (u64, &'a [u8]);
+
+    ghost next_gives = { TakesFrame };
+
+    ghost remaining = { item_count (λ frames. frames) };
+
+    fn next(&mut self) -> Option<(u64, &'a [u8])> {
+        let (mark, marks) = self.marks.split_first()?;
+        let (frame, bytes) = self.bytes.split_at(mark.len);
+        self.marks = marks;
+        self.bytes = bytes;
+        Some((mark.at, frame))
+    }
 }

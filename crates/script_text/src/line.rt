@@ -1,5 +1,5 @@
 //! What a line of a script says.
-use crate::message::Message;
+use crate::words::Message;
 
 /// What a line says: a port sends a message, one poll at a time in microseconds, the close of a sub-VL of
 /// a virtual link, or nothing, as a blank line and a comment do.

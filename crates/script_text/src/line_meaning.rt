@@ -4,12 +4,10 @@ ghost use Rattle.script_text.specs.Command.{message_of, words_of};
 ghost use Rattle.script_text.specs.Faults.{IsFirstFault, IsFaultless, send_fault, at_fault, close_fault};
 ghost use Rattle.script_text.specs.Meaning.{meaning_of, IsSaidSend, IsSaidAt, IsSaidClose};
 
-use crate::decimal::number;
+use crate::faults::LineFault;
 use crate::line::Line;
-use crate::line_fault::LineFault;
 use crate::line_text::LINE_LIMIT;
-use crate::line_words::next_word;
-use crate::message::Message;
+use crate::words::{Message, next_word, number};
 use std::alloc::Global;
 
 /// Parses a line, given without its end. The error is its first fault in the order `Long`, `Word`,

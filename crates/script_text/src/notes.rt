@@ -1,11 +1,10 @@
-//! Writing the notes of a transcript.
-ghost use Rattle.std.specs.Prelude.{◌≡◌, IfErr, OnOk};
+//! The outcome of a line, its note in a transcript, and the counts of a run.
+ghost use Rattle.std.specs.Prelude.{◌≡◌, IfErr, OnOk, ◌+◌, ◌^◌, ◌<◌};
 ghost use Rattle.std.specs.Io.KnownBytes.{Appends};
 ghost use Rattle.script_text.specs.Transcript.{refusal_name, note_of, refused_note, closed_note};
+ghost use Rattle.script_text.specs.Meaning.{counted, HasFew};
 
-use crate::outcome::Outcome;
-use crate::refusal::Refusal;
-use crate::run_fault::RunFault;
+use crate::faults::{Refusal, RunFault};
 use std::io;
 use std::io::Write;
 
@@ -40,4 +39,46 @@ fn write_closed<W: Write>(writer: &mut W, line: u64, total: u64) -> io::Result<(
         (closed_note line total)) }
 {
     writeln!(writer, "line {line}: closed {total}")
+}
+
+/// The outcome of a line: nothing for a line that says nothing, an accepted message, a refusal, a poll
+/// with the number of frames that it released, or the close of a sub-VL with the number of messages that
+/// it accepted.
+#[derive(Clone, Copy, Debug, PartialEq, Eq)]
+pub enum Outcome {
+    Quiet,
+    Accepted,
+    Refused(Refusal),
+    Released(u64),
+    Closed(u64),
+}
+
+/// How many messages were accepted, how many lines were refused at run time, and how many frames
+/// were released.
+#[derive(Clone, Copy, Debug, PartialEq, Eq)]
+pub struct Summary {
+    pub accepted: u64,
+    pub refused: u64,
+    pub frames: u64,
+}
+
+impl Summary {
+    /// The counts after one more line.
+    #[tactic(auto, unfolding(crate::specs::Meaning::counted))]
+    pub fn count(self, outcome: Outcome) -> Summary
+        requires accepted { self.accepted < 2 ^ 63 }
+        requires refused { self.refused < 2 ^ 63 }
+        requires frames { self.frames < 2 ^ 63 }
+        requires few { HasFew outcome }
+        ensures { result ≡ counted outcome self }
+    {
+        let mut sums = self;
+        match outcome {
+            Outcome::Quiet | Outcome::Closed(_) => {}
+            Outcome::Accepted => sums.accepted += 1,
+            Outcome::Refused(_) => sums.refused += 1,
+            Outcome::Released(frames) => sums.frames += frames,
+        }
+        sums
+    }
 }

@@ -15,7 +15,7 @@ pub use Rattle.afdx_plan.specs.declared.link_plan.LinkPlan.{LinkPlan}
 pub use Rattle.afdx_tx.specs.Run.{accepted_in}
 pub use Rattle.afdx_tx.specs.Emitter.{IsFreshTx, Tx, queues_in}
 pub use Rattle.afdx_tx.specs.Ports.{Accepts, AreFreshPorts, AreOpenedWith, BelongsTo, HasEveryPlace, PortView, Refuses}
-pub use Rattle.plan_report.specs.declared.failure.Failure.{Failure}
+pub use Rattle.plan_report.specs.declared.status.Failure.{Failure}
 pub use Rattle.redundant_mux.specs.Lines.{Entry, log}
 pub use Rattle.redundant_mux.specs.Memory.{entries, entry_of}
 pub use Rattle.status_board.specs.Views.{NoFieldFalls, value_of, zeros, AreNew, IsReading, Published, Watched, last_of, links_of, no_cell, published, seen}

@@ -9,8 +9,8 @@ use Rattle.redundant_mux.specs.declared.memory.Handed.{Handed}
 use Rattle.afdx_legal.proofs.StreamLemmas.{known_all}
 use Rattle.afdx_config.specs.Faults.{IsPlanOf}
 use Rattle.storm.specs.declared.fault.StormFault.TheVariants.{Short, Turns, Memory}
-use Rattle.plan_report.specs.declared.failure.Failure.TheVariants as Failures
-use Rattle.script_text.specs.declared.run_fault.RunFault.TheVariants as Ran
+use Rattle.plan_report.specs.declared.status.Failure.TheVariants as Failures
+use Rattle.script_text.specs.declared.faults.RunFault.TheVariants as Ran
 
 -- what was accepted of each port is its own list
 gathered_own : (tx gathered : Tx) (n turns : ℕ) (ports : List PortView) → AreSpent tx n turns ports → IsGatheredTx tx ports gathered

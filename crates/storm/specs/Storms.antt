@@ -13,14 +13,14 @@ use Rattle.afdx_frame.specs.declared.net.Net.TheVariants.{B}
 use Rattle.redundant_mux.specs.Lines.{Entry, side}
 use Rattle.afdx_legal.specs.Accepted.{IsHandedWhole}
 use Rattle.afdx_legal.specs.Legal.{on_both}
-use Rattle.plan_report.specs.declared.failure.Failure.{Failure}
+use Rattle.plan_report.specs.declared.status.Failure.{Failure}
 use Rattle.storm.specs.declared.fault.StormFault.{StormFault}
 use Rattle.storm.specs.declared.fault.StormFault.TheVariants.{Short, Turns, Memory}
 use Rattle.storm.specs.Threads.{all_counts}
 use Rattle.storm.specs.Workers.{own_messages}
 use Rattle.afdx_plan.specs.declared.fault.ConfigFault.TheVariants as Plans
-use Rattle.script_text.specs.declared.run_fault.RunFault.TheVariants as Ran
-use Rattle.plan_report.specs.declared.failure.Failure.TheVariants as Failures
+use Rattle.script_text.specs.declared.faults.RunFault.TheVariants as Ran
+use Rattle.plan_report.specs.declared.status.Failure.TheVariants as Failures
 
 -- how many messages were accepted
 unfoldable pub accepted_line : ℕ → List ℕ

@@ -20,7 +20,7 @@ pub struct KeptLinks {
 
 impl Model for KeptLinks {
     ghost use Rattle.std.specs.Prelude.{◌≤◌, List, take};
-    ghost use Rattle.afdx_plan.specs.declared.limits.TheConstants.{LINKS_LIMIT};
+    ghost use Rattle.afdx_plan.specs.declared.config.TheConstants.{LINKS_LIMIT};
     ghost use Rattle.afdx_plan.specs.declared.link_plan.LinkPlan.{LinkPlan};
 
     ghost Value = { List LinkPlan };

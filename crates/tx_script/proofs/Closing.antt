@@ -12,8 +12,8 @@ use Rattle.afdx_tx.specs.Ports.{PortView}
 use Rattle.afdx_tx.proofs.PortLink.{none_has, found_at}
 use Rattle.afdx_tx.proofs.ClosedEmitter.{ClosedLinks, closes_within, closes_links}
 use Rattle.script_text.specs.declared.line.Line.TheVariants.{Close}
-use Rattle.script_text.specs.declared.outcome.Outcome.TheVariants as Became
-use Rattle.script_text.specs.declared.refusal.Refusal.TheVariants.{NoSub}
+use Rattle.script_text.specs.declared.notes.Outcome.TheVariants as Became
+use Rattle.script_text.specs.declared.faults.Refusal.TheVariants.{NoSub}
 use Rattle.tx_script.specs.AtBench.{AtBench, IsAtHand, Obeys, progress_of, MatchesTx}
 use Rattle.tx_script.specs.EndSystem.{EndSystem}
 use Rattle.tx_script.specs.Play.{Answer, tells, told_by, closed_at, link_of, ClosesAt}

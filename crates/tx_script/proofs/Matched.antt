@@ -13,7 +13,7 @@ use Rattle.tx_script.specs.AtBench.{IsPlannedLink, progress_of, MatchesTx, Close
 use Rattle.std.proofs.lemmas.List.Elements.{All-set}
 use Rattle.subvl_queue.specs.Messages.{most_calls}
 use Rattle.vl_link.proofs.Choosing.{each_set}
-use Rattle.script_text.specs.declared.outcome.Outcome.{Outcome}
+use Rattle.script_text.specs.declared.notes.Outcome.{Outcome}
 use Rattle.afdx_tx.specs.Ports.{PortView, BelongsTo, AreFreshPorts, index_of}
 use Rattle.tx_script.specs.Play.{Messages, added, with_messages}
 

@@ -21,7 +21,7 @@ use Rattle.afdx_tx.specs.Emitter.{Tx, taken_in, total_in}
 use Rattle.afdx_tx.specs.Ports.{PortView}
 use Rattle.afdx_tx.specs.Report.{IsTold}
 use Rattle.script_text.specs.declared.line.Line.TheVariants as Said
-use Rattle.script_text.specs.declared.outcome.Outcome.TheVariants as Became
+use Rattle.script_text.specs.declared.notes.Outcome.TheVariants as Became
 use Rattle.tx_script.specs.EndSystem.{Progress, EndSystem, started, SendsFrame, progress_view, HasTurnAt, HasPolled}
 use Rattle.tx_script.specs.AtBench.{AtBench, IsPlannedLink, progress_of, MatchesTx, Obeys, OnlyTakes}
 use Rattle.tx_script.specs.Play.{leaves}

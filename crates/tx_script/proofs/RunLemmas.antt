@@ -11,11 +11,11 @@ use Rattle.script_text.specs.Lines.{first_line}
 use Rattle.script_text.specs.Meaning.{meaning_of, counted, HasFew}
 use Rattle.script_text.specs.Transcript.{note_of, streams, ends_writing}
 use Rattle.script_text.specs.declared.line.Line.{Line as Said}
-use Rattle.script_text.specs.declared.outcome.Outcome.{Outcome}
-use Rattle.script_text.specs.declared.outcome.Outcome.TheVariants.{Quiet}
-use Rattle.script_text.specs.declared.run_fault.RunFault.{RunFault}
-use Rattle.script_text.specs.declared.run_fault.RunFault.TheVariants as Fault
-use Rattle.script_text.specs.declared.summary.Summary.{Summary as Sums}
+use Rattle.script_text.specs.declared.notes.Outcome.{Outcome}
+use Rattle.script_text.specs.declared.notes.Outcome.TheVariants.{Quiet}
+use Rattle.script_text.specs.declared.faults.RunFault.{RunFault}
+use Rattle.script_text.specs.declared.faults.RunFault.TheVariants as Fault
+use Rattle.script_text.specs.declared.notes.Summary.{Summary as Sums}
 use Rattle.tx_script.specs.AtBench.{AtBench, IsFreshBench, Obeys, OnlyTakes, ClosesOnly, AreTold, IsGathered}
 use Rattle.tx_script.specs.Play.{AnsweredLine, Play, play, ClosesAt, transcript}
 use Rattle.tx_script.specs.Run.{left_after, AreRun, HasPlayed, IsWhole, Plays, Ends, Leaves}

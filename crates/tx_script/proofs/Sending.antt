@@ -13,10 +13,10 @@ use Rattle.afdx_tx.specs.Emitter.{Tx}
 use Rattle.afdx_tx.specs.Ports.{PortView, MaySend, Refuses, QueueRefuses, length_refusal}
 use Rattle.script_text.specs.declared.line.Line.{Line}
 use Rattle.script_text.specs.declared.line.Line.TheVariants.{Send}
-use Rattle.script_text.specs.declared.refusal.Refusal.{Refusal}
-use Rattle.script_text.specs.declared.refusal.Refusal.TheVariants.{Empty, TooLong, Closed, Full, NoPort}
-use Rattle.script_text.specs.declared.outcome.Outcome.{Outcome}
-use Rattle.script_text.specs.declared.outcome.Outcome.TheVariants as Became
+use Rattle.script_text.specs.declared.faults.Refusal.{Refusal}
+use Rattle.script_text.specs.declared.faults.Refusal.TheVariants.{Empty, TooLong, Closed, Full, NoPort}
+use Rattle.script_text.specs.declared.notes.Outcome.{Outcome}
+use Rattle.script_text.specs.declared.notes.Outcome.TheVariants as Became
 use Rattle.script_text.specs.Meaning.{HasFew}
 use Rattle.tx_script.specs.AtBench.{AtBench, IsAtHand, Matches, Sends, Obeys, ObeysAt}
 use Rattle.tx_script.specs.EndSystem.{EndSystem}

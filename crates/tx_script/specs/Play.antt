@@ -15,11 +15,11 @@ use Rattle.script_text.specs.Meaning.{meaning_of, counted}
 use Rattle.script_text.specs.Transcript.{note_of, streams}
 use Rattle.script_text.specs.declared.line.Line.{Line}
 use Rattle.script_text.specs.declared.line.Line.TheVariants.{Send, At, Close, Nothing}
-use Rattle.script_text.specs.declared.refusal.Refusal.{Refusal}
-use Rattle.script_text.specs.declared.refusal.Refusal.TheVariants.{Empty, TooLong, Closed, Exhausted, Full, NoPort, NoSub, TimeBack}
-use Rattle.script_text.specs.declared.outcome.Outcome.{Outcome}
-use Rattle.script_text.specs.declared.outcome.Outcome.TheVariants as Became
-use Rattle.script_text.specs.declared.summary.Summary.{Summary as Sums}
+use Rattle.script_text.specs.declared.faults.Refusal.{Refusal}
+use Rattle.script_text.specs.declared.faults.Refusal.TheVariants.{Empty, TooLong, Closed, Exhausted, Full, NoPort, NoSub, TimeBack}
+use Rattle.script_text.specs.declared.notes.Outcome.{Outcome}
+use Rattle.script_text.specs.declared.notes.Outcome.TheVariants as Became
+use Rattle.script_text.specs.declared.notes.Summary.{Summary as Sums}
 
 -- a queue takes a message, is closed or is full, a poll leaves the end system so, or a close reports its
 -- total

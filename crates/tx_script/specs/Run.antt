@@ -8,9 +8,9 @@ use Rattle.script_text.specs.Faults.{IsFirstFault, IsFaultless}
 use Rattle.script_text.specs.Lines.{first_line, after_feed}
 use Rattle.script_text.specs.Meaning.{meaning_of}
 use Rattle.script_text.specs.Transcript.{ends_writing}
-use Rattle.script_text.specs.declared.run_fault.RunFault.{RunFault}
-use Rattle.script_text.specs.declared.run_fault.RunFault.TheVariants.{Line, Lines, Read, Write, Memory}
-use Rattle.script_text.specs.declared.summary.Summary.{Summary as Sums}
+use Rattle.script_text.specs.declared.faults.RunFault.{RunFault}
+use Rattle.script_text.specs.declared.faults.RunFault.TheVariants.{Line, Lines, Read, Write, Memory}
+use Rattle.script_text.specs.declared.notes.Summary.{Summary as Sums}
 use Rattle.tx_script.specs.EndSystem.{handed}
 use Rattle.tx_script.specs.Play.{AnsweredLine, Play, play, transcript, IsAnswer, FindsFirst, AreTotals}
 use Rattle.tx_script.specs.declared.played.Played.{Played}

@@ -8,11 +8,11 @@ use Rattle.script_text.specs.Lines.{first_line, after_feed}
 use Rattle.script_text.specs.Meaning.{meaning_of}
 use Rattle.script_text.specs.Transcript.{streams, ends_writing}
 use Rattle.script_text.specs.declared.line.Line.{Line as Said}
-use Rattle.script_text.specs.declared.line_fault.LineFault.{LineFault}
-use Rattle.script_text.specs.declared.line_fault.LineFault.TheVariants.{Memory as OutOfMemory}
-use Rattle.script_text.specs.declared.run_fault.RunFault.{RunFault}
-use Rattle.script_text.specs.declared.run_fault.RunFault.TheVariants.{Line, Lines, Read, Write, Memory}
-use Rattle.script_text.specs.declared.summary.Summary.{Summary as Sums}
+use Rattle.script_text.specs.declared.faults.LineFault.{LineFault}
+use Rattle.script_text.specs.declared.faults.LineFault.TheVariants.{Memory as OutOfMemory}
+use Rattle.script_text.specs.declared.faults.RunFault.{RunFault}
+use Rattle.script_text.specs.declared.faults.RunFault.TheVariants.{Line, Lines, Read, Write, Memory}
+use Rattle.script_text.specs.declared.notes.Summary.{Summary as Sums}
 use Rattle.tx_script.specs.AtBench.{AtBench, Matches, OnlyTakes, AreTold, OthersAreOpen, IsGathered}
 use Rattle.tx_script.specs.Play.{AnsweredLine, play}
 use Rattle.tx_script.specs.Run.{AreLines, Ends}

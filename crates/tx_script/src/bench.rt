@@ -1,7 +1,7 @@
 //! An emitter with its ports, and obeying a line.
 ghost use Rattle.std.specs.Prelude.{◌≡◌, ◌≤◌, IfOk, IfErr};
 ghost use Rattle.script_text.specs.declared.line.Line.TheVariants as Said;
-ghost use Rattle.script_text.specs.declared.run_fault.RunFault.TheVariants as RunFault;
+ghost use Rattle.script_text.specs.declared.faults.RunFault.TheVariants as RunFault;
 ghost use Rattle.tx_script.specs.declared.obey_lines.TheConstants.{LINES_LIMIT};
 ghost use Rattle.subvl_queue.specs.Messages.{most_calls};
 ghost use Rattle.tx_script.specs.AtBench.{HaveAsked, Sends, Obeys, OnlyTakes};
@@ -33,7 +33,7 @@ impl Model for Bench {
 
 impl Bench {
     ghost use Rattle.std.specs.Prelude.{◌≡◌, IfOk, IfErr};
-    ghost use Rattle.script_text.specs.declared.run_fault.RunFault.TheVariants as RunFault;
+    ghost use Rattle.script_text.specs.declared.faults.RunFault.TheVariants as RunFault;
     ghost use Rattle.tx_script.specs.AtBench.{IsFreshBench, IsGathered};
 
     /// A fresh bench. The only fault is Memory.

@@ -34,7 +34,7 @@ pub use Rattle.vl_link.specs.Seen.{Finds, FindsNothing, IsReceiving, IsSameQueue
 pub use Rattle.vl_link.specs.Turn.{AreTurns, IsChoice, Loses, NoneHas, Releases, Turn, TurnView, entered, is_lost, may_release}
 pub use Rattle.vl_link.specs.declared.served.Served.{Served}
 pub use Rattle.vl_link.specs.declared.served.Served.TheVariants.{Lost, Nothing, Released}
-pub use Rattle.vl_link.specs.declared.sub_vl.SubVl.{SubVl}
+pub use Rattle.vl_link.specs.declared.sub.SubVl.{SubVl}
 pub use Rattle.vl_shaper.proofs.OneEach.{turn_below, turn_onto}
 pub use Rattle.vl_shaper.specs.Pace.{IsBelow, IsLater, Pace, is_due, turn_of}
 pub use Rattle.vl_shaper.specs.declared.shaper.Stamp.{Stamp}

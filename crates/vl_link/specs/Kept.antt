@@ -12,7 +12,7 @@ use Rattle.afdx_legal.specs.Counting.{counts_in}
 use Rattle.vl_link.specs.Links.{Held, LinkState, held_at, taken_by, sub_fragments, pace_of, left_of}
 use Rattle.afdx_plan.specs.declared.port_plan.PortPlan.{PortPlan}
 use Rattle.afdx_frame.specs.Cutting.{Cutting}
-use Rattle.vl_link.specs.declared.sub_vl.SubVl.{SubVl}
+use Rattle.vl_link.specs.declared.sub.SubVl.{SubVl}
 use Rattle.vl_link.specs.declared.queue.Queue.{Queue}
 use Rattle.vl_link.specs.declared.queue.Queue.TheVariants.{Receiving, Gathered, Empty}
 use Rattle.vl_link.specs.Seen.{Seen, receiving, gathered, nothing_seen, taken_of, ports_of}

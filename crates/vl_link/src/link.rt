@@ -7,8 +7,7 @@ ghost use Rattle.vl_link.specs.Links.{pace_of, AreSubsOf, AreSameSubs, Serves, F
 ghost use Rattle.vl_link.specs.Turn.{entered, may_release, HasHeaders};
 ghost use Rattle.vl_link.specs.Calls.{TellsSubsDone, AreFullSubs, GathersSubs};
 
-use crate::count::counts_after;
-use crate::served::Served;
+use crate::served::{Served, counts_after};
 use crate::sub::Sub;
 use afdx_frame::FrameBuffer;
 use afdx_plan::{LinkPlan, VlId};

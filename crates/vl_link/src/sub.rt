@@ -9,8 +9,8 @@ ghost use Rattle.afdx_frame.specs.Frame.{greatest_message};
 ghost use Rattle.vl_link.specs.Links.{left_of, TellsCutting};
 
 use crate::queue::Queue;
-use crate::sub_vl::SubVl;
 use afdx_frame::{Cut, FrameBuffer, Net, Template};
+use afdx_plan::LinkPlan;
 use std::alloc::AllocError;
 use std::boxed::BoxedSlice;
 use std::marker::Model;
@@ -207,4 +207,12 @@ fn is_cutting(sending: &Option<Cut>) -> bool
         None => false,
         Some(cut) => !cut.is_done(),
     }
+}
+
+/// A sub-VL: its end system, its link, and its index there.
+#[derive(Clone, Copy, Debug, PartialEq, Eq)]
+pub struct SubVl {
+    pub end_system: u16,
+    pub link: LinkPlan,
+    pub sub: u8,
 }

@@ -1,6 +1,6 @@
 use Rattle.std.proofs.Common.{refl}
 use Rattle.script_text.specs.declared.line.Line.TheVariants.{Nothing}
-use Rattle.script_text.specs.declared.outcome.Outcome.TheVariants.{Quiet}
+use Rattle.script_text.specs.declared.notes.Outcome.TheVariants.{Quiet}
 use Rattle.tx_script.specs.Play.{takes}
 use Rattle.tx_script.proofs.Sending.{obeys_still}
 use Rattle.tx_script.proofs.bench.obey.Goals as goal

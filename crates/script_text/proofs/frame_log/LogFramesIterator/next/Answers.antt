@@ -1,5 +1,5 @@
 use Rattle.script_text.proofs.LogLemmas.{kept_tail}
-use Rattle.script_text.proofs.log_frames.LogFramesIterator.next.Goals as goal
+use Rattle.script_text.proofs.frame_log.LogFramesIterator.next.Goals as goal
 
 pub invariant_of-self : goal.invariant_of-self
 invariant_of-self c =

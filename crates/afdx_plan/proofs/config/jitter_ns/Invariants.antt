@@ -1,5 +1,5 @@
 use Rattle.std.proofs.Common.{◌≡◌, ◌+◌, ◌*◌, ◌≤◌, sum_by, take}
-use Rattle.afdx_plan.proofs.jitter.jitter_ns.Given as goal
+use Rattle.afdx_plan.proofs.config.jitter_ns.Given as goal
 
 abbrev pub invariant-loop-link : goal.invariant-loop-link
 invariant-loop-link l = record {

@@ -1,6 +1,6 @@
 use Rattle.std.proofs.Common.{◌≡◌, drop}
 use Rattle.script_text.specs.Command.{read_on}
-use Rattle.script_text.proofs.decimal.number.Given as goal
+use Rattle.script_text.proofs.words.number.Given as goal
 
 abbrev pub invariant-loop-digit : goal.invariant-loop-digit
 invariant-loop-digit l = read_on l.value (drop l.digit-index l.word) ≡ read_on 0 l.word

@@ -1,6 +1,6 @@
 use Rattle.std.proofs.Common.{◌<◌, ◌+◌, ◌*◌, ◌-◌, sym, arith, get_or}
 use Rattle.script_text.proofs.WordLemmas.{number_none, number_some, too_great, read_on_end}
-use Rattle.script_text.proofs.decimal.number.Goals as goal
+use Rattle.script_text.proofs.words.number.Goals as goal
 
 pub returns-in-None-clause-value : goal.returns-in-None-clause-value
 returns-in-None-clause-value c =

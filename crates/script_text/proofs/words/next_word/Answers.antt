@@ -1,7 +1,7 @@
 use Rattle.std.proofs.lemmas.Bool.Decides.{nat_tests}
 use Rattle.std.proofs.Common.{arith}
 use Rattle.script_text.proofs.WordLemmas.{next_none, next_some}
-use Rattle.script_text.proofs.line_words.next_word.Goals as goal
+use Rattle.script_text.proofs.words.next_word.Goals as goal
 
 pub returns-then-is_empty : goal.returns-then-is_empty
 returns-then-is_empty c = grind (arith, next_none)
