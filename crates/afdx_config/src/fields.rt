@@ -113,7 +113,7 @@ pub(crate) fn fault_unless(is_lacking: bool, table: &Table, field: &Field) -> Op
 }
 
 /// The row of a format that has this key.
-pub(crate) fn row_named<'a>(fields: &'a [Field], key: &str) -> Option<&'a Field>
+pub(crate) fn field_named<'a>(fields: &'a [Field], key: &str) -> Option<&'a Field>
     ensures { option_copied result ≡ find (λ f. bytes_eq key.now (field_of f).key) fields.now }
 {
     fields.iter().find(|field| key == field.0)
@@ -141,7 +141,7 @@ pub(crate) fn lacks_all(table: &Table, fields: &[Field]) -> bool
 pub(crate) fn key_fault(fields: &[Field], key: &str) -> Option<ConfigFault>
     ensures { result ≡ key_fault (map field_of fields.now) key.now }
 {
-    match row_named(fields, key) {
+    match field_named(fields, key) {
         Some(_) => None,
         None => Some(ConfigFault::UnknownKey),
     }

@@ -42,7 +42,7 @@ fn least_fault(alloc: Global, document: &Document<'_>) -> Result<Option<ConfigFa
 /// without faults has few.
 fn read_document(alloc: Global, document: &Document<'_>) -> Result<Config, ConfigFault>
     requires { IsDocument document.now }
-    ensures fine { IfOk result (λ _. findings (data_of document.now) ≡ []) }
+    ensures no_fault { IfOk result (λ _. findings (data_of document.now) ≡ []) }
     ensures plan { IfOk result (λ config. config ≡ plan_of (data_of document.now)) }
     ensures fault { IfErr result (λ fault. fault ≢ ConfigFault.Memory →
         fault_of (findings (data_of document.now)) ≡ Some fault) }

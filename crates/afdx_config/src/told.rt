@@ -4,7 +4,7 @@ ghost use Rattle.afdx_config.specs.Explained.{HasLines, count_line, rest_line};
 ghost use Rattle.afdx_config.specs.Findings.{lines_limit};
 
 use crate::document::{Document, fields_in};
-use crate::fields::{key_fault, row_named};
+use crate::fields::{field_named, key_fault};
 use crate::findings::{Finding, Found, LINES_LIMIT, Place, row_like};
 use crate::format::{Content, DOCUMENT, END, Field, LINK, PORT};
 use crate::subjects::{Text, write_row, write_subject};
@@ -34,7 +34,7 @@ fn fields_at(document: &Document<'_>, place: Place) -> &'static [Field] {
 /// The content of a finding's key.
 fn content_at(document: &Document<'_>, finding: &Finding) -> Option<Content> {
     let fields = fields_at(document, finding.place);
-    let field = row_named(fields, finding.key.as_str())?;
+    let field = field_named(fields, finding.key.as_str())?;
     Some(field.2)
 }
 

@@ -89,7 +89,7 @@ poll_keeps old new a b now report kept polls few a_is b_is =
     let within : (net : Net) → many_for net new.lines.logged ≤ many_for net was.logged + 64 =
     λ net. omega (arith, run_within net old.gathered now old.tx new polls.run, more, reported, few) in
     let few_a = few_for A was.a_stands new.lines.a_stands was.a new.lines.a was.a_failures new.lines.a_failures was.logged
-    new.lines.logged 64 kept.mirrored.first polls.lawful.conforms.mirrored.first polls.lawful.endure.a (within A) in
+    new.lines.logged 64 kept.mirrored.first polls.lawful.conforms.mirrored.first polls.lawful.stays_down.a (within A) in
     let few_b = few_for B was.b_stands new.lines.b_stands was.b new.lines.b was.b_failures new.lines.b_failures was.logged
-    new.lines.logged 64 kept.mirrored.second polls.lawful.conforms.mirrored.second polls.lawful.endure.b (within B) in
+    new.lines.logged 64 kept.mirrored.second polls.lawful.conforms.mirrored.second polls.lawful.stays_down.b (within B) in
     grind arith

@@ -2,7 +2,7 @@
 use Rattle.afdx_laws.proofs.Names.{ℕ, suc, ◌+◌, ◌-◌, ◌≤◌, inl, inr, List, [], ◌∷◌, length, map, get_or, arith, ◌≡◌, ◌<◌, Bool, true, nat_eq, refl, All, filter}
 use Rattle.afdx_laws.proofs.Names.{cases_Bool, eq-eqb, length-append, length-take, All-cons, All-nil, All-append, All-filter, All-from_recursion, All-head}
 use Rattle.afdx_laws.proofs.Names.{All-map, All-tail, All-weaker, filter_passes, Plan, IsPlan, link_plan_at, IsPort, bag_micros, room_of, Net, Piece, cutting}
-use Rattle.afdx_laws.proofs.Names.{pieces_from, Sent, fragments_from, blanked, unnumbered, link_in, sub_in, IsPiece, length-frame, Entry, link_stream, told_of}
+use Rattle.afdx_laws.proofs.Names.{pieces_from, Sent, fragments_from, blanked, unnumbered, link_in, sub_in, IsPiece, length-frame, Entry, link_stream, unnumbered_fragments}
 use Rattle.afdx_laws.proofs.Names.{Accepted, IsKnown, AreKnown, IsLegalOn, IsQueued, known_all, IsLong, IsSent, IsUpTo, id_at, LegalPasses, fragments_at}
 use Rattle.afdx_laws.proofs.ListLemmas.{all_front}
 use Rattle.afdx_laws.proofs.Reading.{cutting_lies, from_start}
@@ -72,11 +72,11 @@ of_passed P f test (x ∷ xs) all = elim (cases_Bool (test x)) [
 
 short_told : (plan : Plan) (accepted : Accepted) (net : Net) (handed : List Entry) (k sub : ℕ) → IsPlan plan
     → IsLegalOn plan accepted net handed → k < length plan.links → sub < (link_plan_at plan.links k).sub_vls
-    → All (IsQueued plan k sub) (accepted k sub) → All (IsShort (link_plan_at plan.links k).lmax) (told_of (id_at plan k) sub handed)
+    → All (IsQueued plan k sub) (accepted k sub) → All (IsShort (link_plan_at plan.links k).lmax) (unnumbered_fragments (id_at plan k) sub handed)
 short_told plan accepted net handed k sub valid legal inside index allowed =
     let lmax = (link_is plan k valid inside).lmax in
     let first = legal.prefixes k sub inside index in
-    all_front (IsShort (link_plan_at plan.links k).lmax) (told_of (id_at plan k) sub handed) first.0 _ first.1
+    all_front (IsShort (link_plan_at plan.links k).lmax) (unnumbered_fragments (id_at plan k) sub handed) first.0 _ first.1
     (short_messages (accepted k sub) plan.end_system (link_plan_at plan.links k).lmax sub 0 net lmax.0 lmax.1
     (grind arith))
 

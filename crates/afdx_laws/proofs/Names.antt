@@ -41,7 +41,7 @@ pub use Rattle.redundant_mux.specs.Lines.{Entry, entry, names, side}
 pub use Rattle.afdx_legal.proofs.StreamLemmas.{known_all, numbered_at, numbered_map, with_append, with_map}
 pub use Rattle.afdx_legal.specs.Accepted.{IsAllowed, IsQueued, messages_of}
 pub use Rattle.afdx_legal.specs.Legal.{Accepted, AreKnown, AreTwins, IsKnown, IsLegal, IsLegalOn, is_on_both, on_both}
-pub use Rattle.afdx_legal.specs.Streams.{own_stream, IsNumbered, IsPrefixOf, IsSpaced, entry_number, link_stream, stamp_of, sub_stream, those_with, told, told_of}
+pub use Rattle.afdx_legal.specs.Streams.{own_stream, IsNumbered, IsPrefixOf, IsSpaced, entry_number, link_stream, stamp_of, sub_stream, those_with, told, unnumbered_fragments}
 pub use Rattle.afdx_laws.specs.Buffers.{FirstIsGiven, HandedNeedOne, HasUpTo, HoldsAFrame, HoldsOne, IsOneEnough, LegalNeedOne, LegalNeedOneDespite}
 pub use Rattle.afdx_laws.specs.Buffers.{NeedsInTurn, NeedsOrder, OneBuffer, buffers_after, piece, two_begun, two_datagrams}
 pub use Rattle.afdx_laws.specs.Delivery.{AreCarriedOf, AreFirst, AreGiven, AreHanded, DespiteLoss, HandedArrive}

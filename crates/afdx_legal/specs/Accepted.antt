@@ -9,7 +9,7 @@ use Rattle.afdx_plan.specs.Plan.{room_of}
 use Rattle.afdx_plan.specs.declared.link_plan.LinkPlan.{LinkPlan}
 use Rattle.afdx_frame.specs.declared.net.Net.TheVariants.{A}
 use Rattle.redundant_mux.specs.Lines.{Entry}
-use Rattle.afdx_legal.specs.Streams.{told_of, AreOwnStreams}
+use Rattle.afdx_legal.specs.Streams.{unnumbered_fragments, AreOwnStreams}
 
 -- A message of a port of the plan, on sub-VL `sub` of link `k`, of a length that any queue takes. A poll knows this of
 -- the messages that it takes while the ports may still send.
@@ -52,7 +52,7 @@ AreOwn plan accepted own = (place : ℕ) → place < length plan.ports → port_
 -- The accepted messages of a sub-VL are wholly released: their fragments are its stream, but for sequence numbers.
 abbrev pub IsReleased : ℕ → LinkPlan → (ℕ → List Sent) → List Entry → ℕ → Type 0
 IsReleased end_system link accepted log sub =
-    fragments end_system (room_of link.lmax) A (accepted sub) ≡ told_of link.id.0 sub log
+    fragments end_system (room_of link.lmax) A (accepted sub) ≡ unnumbered_fragments link.id.0 sub log
 
 -- the stream of a sub-VL lacks fragments of its accepted messages
 pub record Owes (end_system : ℕ) (link : LinkPlan) (accepted : ℕ → List Sent)
@@ -60,7 +60,7 @@ pub record Owes (end_system : ℕ) (link : LinkPlan) (accepted : ℕ → List Se
   pub left : List (List ℕ)
   pub some : left ≡ [] → ⊥
   pub ahead : fragments end_system (room_of link.lmax) A (accepted sub)
-      ≡ told_of link.id.0 sub log ++ left
+      ≡ unnumbered_fragments link.id.0 sub log ++ left
 
 -- every accepted message of a link is wholly released
 abbrev pub IsLinkDone : ℕ → LinkPlan → (ℕ → List Sent) → List Entry → Type 0

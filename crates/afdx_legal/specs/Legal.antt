@@ -10,7 +10,7 @@ use Rattle.afdx_frame.specs.Frame.{interface_byte}
 use Rattle.afdx_frame.specs.Header.{link_in, sub_in}
 use Rattle.afdx_frame.specs.Fragments.{Sent, fragments}
 use Rattle.redundant_mux.specs.Lines.{Entry, names, side}
-use Rattle.afdx_legal.specs.Streams.{link_stream, told_of, entry_number, IsNumbered, IsSpaced, IsPrefixOf}
+use Rattle.afdx_legal.specs.Streams.{link_stream, unnumbered_fragments, entry_number, IsNumbered, IsSpaced, IsPrefixOf}
 
 -- The accepted list of each sub-VL, by the place of its link in the plan and its index.
 abbrev pub Accepted : Type 0
@@ -38,7 +38,7 @@ pub record IsLegalOn (plan : Plan) (accepted : Accepted)
   pub carried : (k : ℕ) → k < length plan.links → names net (link_plan_at plan.links k).networks ≡ false
       → link_stream (link_plan_at plan.links k).id.0 handed ≡ []
   pub prefixes : (k s : ℕ) → k < length plan.links → s < (link_plan_at plan.links k).sub_vls
-      → IsPrefixOf (told_of (link_plan_at plan.links k).id.0 s handed)
+      → IsPrefixOf (unnumbered_fragments (link_plan_at plan.links k).id.0 s handed)
       (fragments plan.end_system (room_of (link_plan_at plan.links k).lmax) net (accepted k s))
   pub numbered : (k : ℕ) → k < length plan.links
       → IsNumbered entry_number 0 (link_stream (link_plan_at plan.links k).id.0 handed)

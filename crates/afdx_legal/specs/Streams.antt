@@ -25,8 +25,8 @@ abbrev pub told : List Entry → List (List ℕ)
 told stream = map (λ (e : Entry). blanked e.frame) stream
 
 -- the fragments of a sub-VL of a link
-abbrev pub told_of : ℕ → ℕ → List Entry → List (List ℕ)
-told_of vl sub handed = told (sub_stream sub (link_stream vl handed))
+abbrev pub unnumbered_fragments : ℕ → ℕ → List Entry → List (List ℕ)
+unnumbered_fragments vl sub handed = told (sub_stream sub (link_stream vl handed))
 
 -- the time and the sub-VL of an entry
 abbrev pub stamp_of : Entry → Stamp

@@ -39,7 +39,7 @@ impl Config {
         requires ports { All IsPort ports.items }
         ensures plan { IfOk result (λ config.
             config ≡ plan_of_parts end_system links.items ports.items) }
-        ensures fine { IfOk result (λ _. least_plan_fault links.items ports.items ≡ None) }
+        ensures no_fault { IfOk result (λ _. least_plan_fault links.items ports.items ≡ None) }
         ensures fault { IfErr result (λ least.
             least_plan_fault links.items ports.items ≡ Some least) }
     {

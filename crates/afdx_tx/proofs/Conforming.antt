@@ -3,7 +3,7 @@ use Rattle.afdx_tx.proofs.PortMessages.{taken_allowed}
 use Rattle.afdx_tx.proofs.SoundEmitter.{alike_queues}
 use Rattle.afdx_tx.proofs.Names.{same_name}
 use Rattle.afdx_tx.proofs.Names.{same_total}
-use Rattle.afdx_tx.proofs.Names.{Accepted, Tx, IsSound, Conforms, ℕ, ◌≡◌, List, ◌++◌, arith, sym, subst, append_assoc, get_or_past, cases_lt, Plan, link_plan_at, room_of, Net, A, B, Entry, told_of, IsLegalOn, IsLegal, LinkState, held_at, link_at, no_link, IsSamePlan, taken_in, AreGathered, accepted_in, Bool, true, false, AreLinksOf, IsRun, BothEndure}
+use Rattle.afdx_tx.proofs.Names.{Accepted, Tx, IsSound, Conforms, ℕ, ◌≡◌, List, ◌++◌, arith, sym, subst, append_assoc, get_or_past, cases_lt, Plan, link_plan_at, room_of, Net, A, B, Entry, unnumbered_fragments, IsLegalOn, IsLegal, LinkState, held_at, link_at, no_link, IsSamePlan, taken_in, AreGathered, accepted_in, Bool, true, false, AreLinksOf, IsRun, BothEndure}
 use Rattle.afdx_legal.specs.Accepted.{AreAllowed}
 use Rattle.afdx_tx.proofs.PortMessages.{accepted_allowed}
 use Rattle.afdx_tx.specs.Phases.{AreOfPorts, IsInPhase, KeepsMessages, KeepsPhase, Runs}
@@ -27,7 +27,7 @@ legal_on plan links net handed l = record {
       let more = untaken plan.end_system room net held in
       let begins = l.prefixes k s lt slt in (
         begins.0 ++ more,
-        grind (arith, append_assoc, told_of, link_plan_at, owed_split),
+        grind (arith, append_assoc, unnumbered_fragments, link_plan_at, owed_split),
       );
   numbered = l.numbered;
   spaced = l.spaced;
@@ -77,7 +77,7 @@ keeps_messages true old new same is = accepted_same _ _ same is.0
 pub keeps_phase : (phase : Bool) (old new : Tx) → IsInPhase phase old.plan old.links → IsSamePlan old.links new.links
     → Conforms new → BothEndure old.lines new.lines → new.plan ≡ old.plan → new.board ≡ old.board
     → KeepsPhase phase old new
-keeps_phase phase old new is same conforms endure plan board =
+keeps_phase phase old new is same conforms stays_down plan board =
     let phase_is = still_in phase old.plan new.plan old.links new.links plan same is in
     record { lawful = grind (arith, of_ports, keeps_messages); phase = phase_is }
 

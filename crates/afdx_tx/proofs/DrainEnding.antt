@@ -1,5 +1,5 @@
 -- Each poll of a drain at which a link is due sends one of its frames, until it owes none.
-use Rattle.afdx_tx.proofs.Names.{ℕ, zero, suc, ◌≡◌, ◌≢◌, ◌⊎◌, ◌+◌, ◌<◌, ◌≤◌, List, [], ◌∷◌, ◌++◌, true, length, arith, refl, ap, None, inl, inr, ⊎_elim, cases_eq, length-append, length-map, length_push, LinkPlan, Plan, IsPlan, link_plan_at, bag_micros, room_of, A, sub_in, Sent, fragments, Entry, entry, Lines, BothEndure, stands_for, log, both_on, stood_before, IsLater, is_due, Served, Nothing, Released, Lost, AreTurns, turn_endures, turns_endure, latest, link_stream, sub_stream, told, Accepted, Drains, DrainsAt, pace_in, accepted_view, owed, stream_at, owed_at, AreApartBy, AreDrained, DrainEnds}
+use Rattle.afdx_tx.proofs.Names.{ℕ, zero, suc, ◌≡◌, ◌≢◌, ◌⊎◌, ◌+◌, ◌<◌, ◌≤◌, List, [], ◌∷◌, ◌++◌, true, length, arith, refl, ap, None, inl, inr, ⊎_elim, cases_eq, length-append, length-map, length_push, LinkPlan, Plan, IsPlan, link_plan_at, bag_micros, room_of, A, sub_in, Sent, fragments, Entry, entry, Lines, BothEndure, any_up, log, both_on, stood_before, IsLater, is_due, Served, Nothing, Released, Lost, AreTurns, turn_endures, turns_endure, latest, link_stream, sub_stream, told, Accepted, Drains, DrainsAt, pace_in, accepted_view, owed, stream_at, owed_at, AreApartBy, AreDrained, DrainEnds}
 use Rattle.vl_link.proofs.Choosing.{stream_more}
 use Rattle.vl_link.proofs.LinkTurn.{other_turn, turn_at}
 use Rattle.afdx_legal.proofs.StreamLemmas.{latest_push, with_push_in, with_push_out}
@@ -35,7 +35,7 @@ longer xs ys (z ∷ zs) some e = omega (arith, ap length e, length-append ys (z 
 -- The turn of the link itself, if a network that carries it is up afterwards.
 own_turn : (now end_system : ℕ) (link : LinkPlan) (accepted : ℕ → List Sent) (lines after : Lines) (did : Served)
     → is_due (bag_micros link.bag) (latest None (link_stream link.id.0 (log lines))) now ≡ true
-    → Drains now end_system link accepted lines after did → stands_for link.networks after ≡ true
+    → Drains now end_system link accepted lines after did → any_up link.networks after ≡ true
     → Comes now end_system link accepted (link_stream link.id.0 (log lines)) (link_stream link.id.0 (log after))
 own_turn now end_system link accepted lines after Nothing due t stands = grind arith
 own_turn now end_system link accepted lines after (Released sub number) due t stands =
@@ -61,7 +61,7 @@ IsDueBy now plan k S = is_due (bag_micros (link_plan_at plan.links k).bag) (late
 
 -- a network that carries the link at a place is up
 abbrev StandsAt : Plan → ℕ → Lines → Type 0
-StandsAt plan k lines = stands_for (link_plan_at plan.links k).networks lines ≡ true
+StandsAt plan k lines = any_up (link_plan_at plan.links k).networks lines ≡ true
 
 -- The turns of all links, this one among them.
 turns_come : (now : ℕ) (plan : Plan) (accepted : Accepted) (k : ℕ) (lines after : Lines) → IsPlan plan → k < length plan.links

@@ -10,7 +10,7 @@ pub use Rattle.afdx_legal.specs.Counting.{counts_in}
 pub use Rattle.afdx_legal.specs.Accepted.{IsAllDone, IsLinkDone, IsReleased, Owes}
 pub use Rattle.afdx_legal.specs.Legal.{Accepted, AreKnown, AreTwins, IsKnown, IsLegal, IsLegalOn, is_on_both, on_both}
 pub use Rattle.afdx_legal.specs.Streams.{AreOwnStreams, longer, own_stream}
-pub use Rattle.afdx_legal.specs.Streams.{IsNumbered, IsPrefixOf, IsSpaced, entry_number, latest, link_stream, stamp_of, sub_stream, told, told_of}
+pub use Rattle.afdx_legal.specs.Streams.{IsNumbered, IsPrefixOf, IsSpaced, entry_number, latest, link_stream, stamp_of, sub_stream, told, unnumbered_fragments}
 pub use Rattle.afdx_plan.specs.Config.{HasLink, IsPlan, Plan, link_plan_at, port_plan_at, link_place}
 pub use Rattle.afdx_plan.specs.Plan.{IsPort, SendsOver, bag_micros, room_of}
 pub use Rattle.afdx_plan.specs.declared.port_plan.VlId.{VlId}
@@ -30,7 +30,7 @@ pub use Rattle.afdx_tx.specs.Phases.{Conforms, IsPolling, IsSteady, TellsAllDone
 pub use Rattle.afdx_tx.specs.declared.report.Release.{Release}
 pub use Rattle.redundant_mux.proofs.MirroredLines.{both_hands, both_none, both_on, stood_before}
 pub use Rattle.redundant_mux.proofs.MirroredLines.{entries_append, fresh_in_step, fresh_lines, fresh_log, log_more, log_same}
-pub use Rattle.redundant_mux.specs.Lines.{Entry, entry, BothEndure, IsMirrored, Keeps, Lines, stands_for, Logged, entries_of, logged_for, names, only, sent_to, side}
+pub use Rattle.redundant_mux.specs.Lines.{Entry, entry, BothEndure, IsMirrored, Keeps, Lines, any_up, Logged, entries_of, logged_for, names, only, sent_to, side}
 unfoldable pub use Rattle.redundant_mux.specs.Lines.{log}
 pub use Rattle.status_board.specs.Views.{NoFieldFalls, zeros, Published, last_of, published, with_entry}
 pub use Rattle.std.proofs.Common.{Bool, Err, IfOk, List, None, Ok, OnErr, Option, Result, Some, [], add-one, add-zero, ap, arith, below_more, cond, drop}

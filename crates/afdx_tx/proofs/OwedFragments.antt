@@ -1,5 +1,5 @@
 -- The fragments of a sub-VL's accepted messages, and its stream.
-use Rattle.afdx_tx.proofs.Names.{ℕ, suc, ◌≡◌, ◌+◌, ◌<◌, List, [], ◌∷◌, ◌++◌, true, length, arith, refl, ap, ◌∙◌, sym, inl, inr, append-nil, append_assoc, map-append, nil_from_length, length-append, room_of, LinkPlan, Net, A, Sent, fragments, fragments_at, fragments_from, Entry, Seen, receiving, gathered, taken_of, IsKnownWhole, told_of, Held, LinkState, held_at, Asks, sent_of, sent_by, taken_by, IsLinkTied, IsReleased, Owes, accepted_by, IsOwn}
+use Rattle.afdx_tx.proofs.Names.{ℕ, suc, ◌≡◌, ◌+◌, ◌<◌, List, [], ◌∷◌, ◌++◌, true, length, arith, refl, ap, ◌∙◌, sym, inl, inr, append-nil, append_assoc, map-append, nil_from_length, length-append, room_of, LinkPlan, Net, A, Sent, fragments, fragments_at, fragments_from, Entry, Seen, receiving, gathered, taken_of, IsKnownWhole, unnumbered_fragments, Held, LinkState, held_at, Asks, sent_of, sent_by, taken_by, IsLinkTied, IsReleased, Owes, accepted_by, IsOwn}
 use Rattle.vl_link.proofs.QueueLooks.{fragments_some}
 
 -- the messages known to be left in a queue
@@ -37,7 +37,7 @@ nils (x ∷ xs) ys e = cc
 
 -- a sub-VL of a link, tied to its stream, with its accepted messages known whole
 pub record Stands (end_system : ℕ) (link : LinkPlan) (log : List Entry) (s : ℕ) (held : Held) : Type 0 where
-  pub taken : fragments end_system (room_of link.lmax) A (taken_by held) ≡ told_of link.id.0 s log ++ held.left
+  pub taken : fragments end_system (room_of link.lmax) A (taken_by held) ≡ unnumbered_fragments link.id.0 s log ++ held.left
   pub seen : IsKnownWhole held.seen
 
 -- Each sub-VL of a tied link is such.
@@ -55,18 +55,18 @@ module _ (end_system : ℕ) (link : LinkPlan) (log : List Entry) (s : ℕ) (subs
   pub all_released : Stands end_system link log s (held_at subs s) → (held_at subs s).left ≡ []
       → rest_of (held_at subs s).seen ≡ []
       → IsReleased end_system link (lists_of subs) log s
-  all_released at none drained = grind (arith, held_at, room_of, owed_split, end_system, append-nil, taken_by, told_of)
+  all_released at none drained = grind (arith, held_at, room_of, owed_split, end_system, append-nil, taken_by, unnumbered_fragments)
 
   -- The stream lacks fragments of the messages taken.
   pub owes_taken : (left : List (List ℕ)) → (left ≡ [] → ⊥)
-      → fragments end_system (room_of link.lmax) A (taken_by (held_at subs s)) ≡ told_of link.id.0 s log ++ left
+      → fragments end_system (room_of link.lmax) A (taken_by (held_at subs s)) ≡ unnumbered_fragments link.id.0 s log ++ left
       → Owes end_system link (lists_of subs) log s
   owes_taken left some e =
       let more = untaken end_system (room_of link.lmax) A (held_at subs s) in
       record {
         left = left ++ more;
         some = grind (arith, nils);
-        ahead = grind (arith, owed_split, room_of, held_at, append_assoc, told_of);
+        ahead = grind (arith, owed_split, room_of, held_at, append_assoc, unnumbered_fragments);
       }
 
   -- A message is left to take.
@@ -86,7 +86,7 @@ module _ (end_system : ℕ) (link : LinkPlan) (log : List Entry) (s : ℕ) (subs
             some = λ none. fragments_some (record { end_system = end_system; link = link; sub = s }) place
                 (sent_of held.ports message)
                 (nils _ _ (nils held.left next none).1).0;
-            ahead = grind (arith, owed_split, append_assoc, told_of);
+            ahead = grind (arith, owed_split, append_assoc, unnumbered_fragments);
           }
 
   -- A polled sub-VL that has something isn't wholly released.
@@ -99,6 +99,6 @@ module _ (end_system : ℕ) (link : LinkPlan) (log : List Entry) (s : ℕ) (subs
 pub owes_not : (end_system : ℕ) (link : LinkPlan) (accepted : ℕ → List Sent) (log : List Entry) (s : ℕ)
     → Owes end_system link accepted log s → IsReleased end_system link accepted log s → ⊥
 owes_not end_system link accepted log s o r =
-    let told = told_of link.id.0 s log in
+    let told = unnumbered_fragments link.id.0 s log in
     let e : length (told ++ o.left) ≡ length told = grind arith in
     grind (arith, nil_from_length, length-append)

@@ -1,5 +1,5 @@
 -- A poll after one more link's turn.
-use Rattle.afdx_tx.proofs.Names.{ℕ, ◌≡◌, ◌≢◌, ◌<◌, List, [], ◌∷◌, ◌++◌, ◌||◌, false, length, map, set, get_or, arith, refl, ap, ◌∙◌, sym, subst, ◌≤◌, length-set, ext_get_or, get_or-map, length-map, All-push, VlId, LinkPlan, link_plan_at, A, link_in, Entry, entry, Logged, logged_for, Lines, log, log_more, log_same, IsLater, Served, Nothing, Released, Lost, counts_in, link_stream, IsKnown, AreKnown, LinkState, link_at, no_link, no_link_plan, Serves, Follows, IsSameLink, is_lost, plan_of_link, plans, AreApart, AreCarried, AreServedBy, IsSamePlan, IsKept, IsSteady, Turned, IsOwn, HasItems, link_turn, kept_turn, other_stream, kept_stream, each_set, ◌+◌, add-one, true, append-nil, map-append, append_assoc, length-append, get_or-set_same, get_or-set_other, BothEndure, stands_for, both_on, may_release, AreTurns, Release, turn_release, release_of, IsTold, IsPolling, IsTurn, IsTurnAt, turns_seen, turns_push}
+use Rattle.afdx_tx.proofs.Names.{ℕ, ◌≡◌, ◌≢◌, ◌<◌, List, [], ◌∷◌, ◌++◌, ◌||◌, false, length, map, set, get_or, arith, refl, ap, ◌∙◌, sym, subst, ◌≤◌, length-set, ext_get_or, get_or-map, length-map, All-push, VlId, LinkPlan, link_plan_at, A, link_in, Entry, entry, Logged, logged_for, Lines, log, log_more, log_same, IsLater, Served, Nothing, Released, Lost, counts_in, link_stream, IsKnown, AreKnown, LinkState, link_at, no_link, no_link_plan, Serves, Follows, IsSameLink, is_lost, plan_of_link, plans, AreApart, AreCarried, AreServedBy, IsSamePlan, IsKept, IsSteady, Turned, IsOwn, HasItems, link_turn, kept_turn, other_stream, kept_stream, each_set, ◌+◌, add-one, true, append-nil, map-append, append_assoc, length-append, get_or-set_same, get_or-set_other, BothEndure, any_up, both_on, may_release, AreTurns, Release, turn_release, release_of, IsTold, IsPolling, IsTurn, IsTurnAt, turns_seen, turns_push}
 
 -- The turn of one link, at its place.
 pub turned_at : (now i : ℕ) (links : List LinkState) (item new : LinkState) (lines after : Lines) (did : Served)
@@ -127,7 +127,7 @@ few_released vl did rs i few = grind (arith, length-append, turn_release)
 
 -- All networks of a link that lost a frame are down.
 whole_after : (now : ℕ) (did : Served) (link new : LinkState) (lines after : Lines)
-    → Turned now link new lines after did → stands_for new.plan.networks after ≡ true → new.lost ≡ false
+    → Turned now link new lines after did → any_up new.plan.networks after ≡ true → new.lost ≡ false
 whole_after now did link new lines after t stands = grind arith
 
 -- One turn more.
@@ -144,7 +144,7 @@ pub polling_more : (now i : ℕ) (old links : List LinkState) (before lines afte
     → Turned now (link_at links i) new lines after did → IsLater new.pace.last now
     → BothEndure lines after → IsPolling now (i + 1) old (set links i new) before after
     (released ++ turn_release (link_at links i).plan.id did)
-polling_more now i old links before lines after new did released p apart lt turned later endure =
+polling_more now i old links before lines after new did released p apart lt turned later stays_down =
     let kept = p.steady.kept i lt in
     let shown : IsTurn now (link_at links i) new lines after did =
     grind arith in
@@ -155,13 +155,13 @@ polling_more now i old links before lines after new did released p apart lt turn
       turns = turns_on now i old (set links i new) before lines after did
           (grind (arith, turns_seen, set, get_or-set_other, no_link)) turn;
       rest = λ k le. get_or-set_other links i k new no_link (λ e. omega arith) ∙ p.rest k (omega arith);
-      whole = λ k klt. at_each (λ j l. stands_for l.plan.networks after ≡ true → l.lost ≡ false) links i new lt
+      whole = λ k klt. at_each (λ j l. any_up l.plan.networks after ≡ true → l.lost ≡ false) links i new lt
           (whole_after now did (link_at links i) new lines after turned)
           (grind arith)
           k (omega (arith, length-set links i new));
       told = told_more now did (link_at links i) new released before lines after turned p.told;
       room = grind (arith, length-append, turn_release);
-      endure = both_on before lines after p.endure endure;
+      stays_down = both_on before lines after p.stays_down stays_down;
     }
 
 -- One more link may not release a frame.
@@ -179,5 +179,5 @@ polling_on now i old links before lines released p lt may_not_now =
       whole = p.whole;
       told = p.told;
       room = omega arith;
-      endure = p.endure;
+      stays_down = p.stays_down;
     }

@@ -46,7 +46,7 @@ first_turn = (
     of = grind arith;
     enters = refl;
     stands = refl;
-    endure = grind arith;
+    stays_down = grind arith;
   },
 )
 

@@ -7,7 +7,7 @@ use Rattle.afdx_plan.specs.declared.link_plan.LinkPlan.{LinkPlan}
 use Rattle.afdx_plan.specs.declared.link_plan.Networks.TheVariants.{Both}
 use Rattle.afdx_frame.specs.declared.net.Net.TheVariants.{A, B}
 use Rattle.afdx_frame.specs.Fragments.{Sent, fragments}
-use Rattle.redundant_mux.specs.Lines.{Entry, entry, logged_for, Lines, lines_of, stands_for, log}
+use Rattle.redundant_mux.specs.Lines.{Entry, entry, logged_for, Lines, lines_of, any_up, log}
 use Rattle.vl_shaper.specs.Pace.{IsLater}
 use Rattle.afdx_legal.specs.Streams.{link_stream, sub_stream, told, latest}
 use Rattle.afdx_legal.specs.Legal.{Accepted}
@@ -50,7 +50,7 @@ DrainEnds = (plan : Plan) (accepted : Accepted) (moments : List ℕ) (lines afte
     → ((k : ℕ) → k < length plan.links → bag_micros (link_plan_at plan.links k).bag ≤ gap)
     → AreApartBy gap start moments
     → AreDrained plan accepted moments lines after
-    → ((k : ℕ) → k < length plan.links → stands_for (link_plan_at plan.links k).networks after ≡ true)
+    → ((k : ℕ) → k < length plan.links → any_up (link_plan_at plan.links k).networks after ≡ true)
     → ((k : ℕ) → k < length plan.links → owed_at plan accepted k lines < length moments)
     → IsAllDone plan accepted (log after)
 
@@ -81,7 +81,7 @@ pub record DrainsOne : Type 0 where
   pub gap : (k : ℕ) → k < length demo_plan.links → bag_micros (link_plan_at demo_plan.links k).bag ≤ 1000
   pub apart : AreApartBy 1000 0 two_moments
   pub drained : AreDrained demo_plan one_byte_accepted two_moments no_lines one_line
-  pub stand : (k : ℕ) → k < length demo_plan.links → stands_for (link_plan_at demo_plan.links k).networks one_line ≡ true
+  pub stand : (k : ℕ) → k < length demo_plan.links → any_up (link_plan_at demo_plan.links k).networks one_line ≡ true
   pub owed : (k : ℕ) → k < length demo_plan.links
       → owed_at demo_plan one_byte_accepted k no_lines < length two_moments
   pub done : IsAllDone demo_plan one_byte_accepted (log one_line)
@@ -103,7 +103,7 @@ abbrev pub IsGap : ℕ → Type 0
 IsGap gap = (k : ℕ) → k < length demo_plan.links → bag_micros (link_plan_at demo_plan.links k).bag ≤ gap
 
 abbrev pub AreUp : Lines → Type 0
-AreUp lines = (k : ℕ) → k < length demo_plan.links → stands_for (link_plan_at demo_plan.links k).networks lines ≡ true
+AreUp lines = (k : ℕ) → k < length demo_plan.links → any_up (link_plan_at demo_plan.links k).networks lines ≡ true
 
 abbrev pub AreEnough : Lines → List ℕ → Type 0
 AreEnough lines moments = (k : ℕ) → k < length demo_plan.links → owed_at demo_plan two_accepted k lines < length moments

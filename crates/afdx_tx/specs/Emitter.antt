@@ -6,7 +6,7 @@ use Rattle.afdx_plan.specs.declared.link_plan.LinkPlan.{LinkPlan}
 use Rattle.afdx_plan.specs.declared.port_plan.PortPlan.{PortPlan}
 use Rattle.afdx_frame.specs.declared.net.Net.TheVariants.{A}
 use Rattle.afdx_frame.specs.Header.{link_in}
-use Rattle.redundant_mux.specs.Lines.{Entry, Logged, Lines, log, stands_for, IsMirrored}
+use Rattle.redundant_mux.specs.Lines.{Entry, Logged, Lines, log, any_up, IsMirrored}
 use Rattle.vl_shaper.specs.Pace.{IsLater}
 use Rattle.subvl_queue.specs.Views.{QueueName, new_receiver}
 use Rattle.vl_link.specs.declared.sub.SubVl.{SubVl}
@@ -96,7 +96,7 @@ AreKept links log = (k : ℕ) → k < length links → IsKept (link_at links k) 
 
 -- no link lost a frame while a network that carries it is up
 abbrev pub AreWhole : List LinkState → Lines → Type 0
-AreWhole links lines = (k : ℕ) → k < length links → stands_for (link_at links k).plan.networks lines ≡ true
+AreWhole links lines = (k : ℕ) → k < length links → any_up (link_at links k).plan.networks lines ≡ true
     → (link_at links k).lost ≡ false
 
 -- each frame of a link of the plan was logged for the networks that carry the link

@@ -52,7 +52,7 @@ pub record IsPolling (now i : ℕ) (old links : List LinkState)
   pub whole : AreWhole links lines
   pub told : IsTold now released before lines
   pub room : length released ≤ i
-  pub endure : BothEndure before lines
+  pub stays_down : BothEndure before lines
 
 -- whether all links are done, or one isn't
 abbrev pub TellsAllDone : Bool → List LinkState → Type 0
@@ -91,7 +91,7 @@ pub record StaysLawful (gathered : Bool) (old new : Tx) : Type 0 where
   -- the messages are of ports that may send them
   pub allowed : AreOfPorts gathered new
   -- a network is down only if it was or failed
-  pub endure : BothEndure old.lines new.lines
+  pub stays_down : BothEndure old.lines new.lines
   -- plan, board and the messages still to send are the same
   pub plan : new.plan ≡ old.plan
   pub board : new.board ≡ old.board

@@ -1,6 +1,6 @@
 -- The turns of an emitter's links, in order: while its ports send, and of what is left once they are taken back.
 use Rattle.std.specs.Prelude.{ℕ, ◌≡◌, List, length, true, ◌<◌}
-use Rattle.redundant_mux.specs.Lines.{Lines, stands_for, log, Entry}
+use Rattle.redundant_mux.specs.Lines.{Lines, any_up, log, Entry}
 use Rattle.vl_link.specs.declared.served.Served.{Served}
 use Rattle.afdx_legal.specs.Streams.{link_stream}
 use Rattle.vl_link.specs.Turn.{AreTurns, TurnView, Turn}
@@ -20,7 +20,7 @@ use Rattle.afdx_legal.specs.Accepted.{IsReleased, Owes}
 pub record IsTurn (now : ℕ) (link new : LinkState)
     (lines after : Lines) (did : Served) : Type 0 where
   pub same : IsSameLink link new
-  pub tied : stands_for link.plan.networks lines ≡ true → IsLinkTied link (log lines)
+  pub tied : any_up link.plan.networks lines ≡ true → IsLinkTied link (log lines)
   pub serves : Serves now link.plan
       (pace_of link.pace.gap link.pace.sub_vls (link_stream link.plan.id.0 (log lines)))
       link.subs new.subs lines after did

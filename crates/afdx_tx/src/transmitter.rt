@@ -73,7 +73,7 @@ fn serve_all<A: Network + Drop, B: Network + Drop, N: Notes>(
     ensures whole { AreWhole links.new mux.new }
     ensures told { (released : List Release) × N.noted notes.new released
         × (length released ≤ length links.old) × IsTold now released mux.old mux.new }
-    ensures endure { BothEndure mux.old mux.new }
+    ensures stays_down { BothEndure mux.old mux.new }
 {
     for link in links.iter_mut() {
         if link.may_release(mux, now) {
@@ -256,7 +256,7 @@ impl<A: Network + Drop, B: Network + Drop> Transmitter<A, B> {
         ensures run { OnOk result ((gathered : Bool) → IsInPhase gathered self.old.plan self.old.links
             → Runs gathered now self.old self.new) }
     {
-        if !self.mux.stands_for(Networks::Both) {
+        if !self.mux.any_up(Networks::Both) {
             return Err(PollFault::BothDown);
         }
         self.moment = now;

@@ -49,9 +49,9 @@ fn assert_hand(rt: &impl Abort, mux: &mut Mux<MemNetwork, MemNetwork>, hand: &Ha
     assert_same(rt, mux.hand(at, &frame_for_a(), networks), wanted);
     let standing = wanted.unwrap_or(NEITHER);
     assert_same(rt, mux.standing(), standing);
-    assert_same(rt, mux.stands_for(OnlyA), standing.a);
-    assert_same(rt, mux.stands_for(OnlyB), standing.b);
-    assert_same(rt, mux.stands_for(Both), standing.a || standing.b);
+    assert_same(rt, mux.any_up(OnlyA), standing.a);
+    assert_same(rt, mux.any_up(OnlyB), standing.b);
+    assert_same(rt, mux.any_up(Both), standing.a || standing.b);
 }
 
 const A_FAILS: &[Hand] = &[

@@ -7,7 +7,7 @@ use Rattle.afdx_plan.specs.declared.link_plan.Networks.{Networks}
 use Rattle.afdx_plan.specs.Plan.{carries_a, carries_b}
 use Rattle.afdx_frame.specs.declared.net.Net.{Net}
 use Rattle.afdx_frame.specs.declared.net.Net.TheVariants.{A, B}
-use Rattle.redundant_mux.specs.Lines.{Entry, Logged, logged_for, entries_of, names, only, side, sent_to, Lines, lines_of, Handing, Keeps, IsMirrored, AreInStep, stands_for, log, Endures, BothEndure}
+use Rattle.redundant_mux.specs.Lines.{Entry, Logged, logged_for, entries_of, names, only, side, sent_to, Lines, lines_of, Handing, Keeps, IsMirrored, AreInStep, any_up, log, Endures, BothEndure}
 
 -- The entries of two lists.
 pub entries_append : (xs ys : List Logged) → entries_of (xs ++ ys) ≡ entries_of xs ++ entries_of ys
@@ -59,14 +59,14 @@ keeps_logged net networks e stood false h h' logged more k p other is = record {
 pub handed_on : (old new : Lines) (networks : Networks) (e : Entry) → IsMirrored old → side A e ≡ e
     → Handing (carries_a networks) e old.a_stands new.a_stands old.a new.a old.a_failures new.a_failures
     → Handing (carries_b networks) (side B e) old.b_stands new.b_stands old.b new.b old.b_failures new.b_failures
-    → (stands_for networks new ≡ true → new.logged ≡ old.logged ++ logged_for networks e ∷ [])
-    → (stands_for networks new ≡ false → new.logged ≡ old.logged)
+    → (any_up networks new ≡ true → new.logged ≡ old.logged ++ logged_for networks e ∷ [])
+    → (any_up networks new ≡ false → new.logged ≡ old.logged)
     → IsMirrored new
 handed_on old new networks e m t p q enters lost =
     let for_a = after_hand (carries_a networks) (side A e) old.a_stands new.a_stands old.a new.a old.a_failures new.a_failures
     (rw t p) in
     let for_b = after_hand (carries_b networks) (side B e) _ _ _ _ _ _ q in
-    elim (cases_Bool (stands_for networks new)) [
+    elim (cases_Bool (any_up networks new)) [
       | inl some ↦
           let first : Keeps A new.a_stands new.a new.logged = keeps_logged A networks e _ _ _ _ _ _ m.first for_a
           (grind arith) (enters some) in
@@ -160,6 +160,6 @@ pub both_on : (before mid after : Lines) → BothEndure before mid → BothEndur
 both_on before mid after p q = grind (arith, endures_on)
 
 -- A network that is up at the end was up before.
-pub stood_before : (before after : Lines) (networks : Networks) → BothEndure before after → stands_for networks after ≡ true
-    → stands_for networks before ≡ true
+pub stood_before : (before after : Lines) (networks : Networks) → BothEndure before after → any_up networks after ≡ true
+    → any_up networks before ≡ true
 stood_before before after networks p some = grind (arith, ⊎_elim, and_parts, or_left, and_from, or_right, or_cases)

@@ -97,8 +97,8 @@ abbrev pub some_of : Networks → (a b : Bool) → Bool
 some_of networks a b = (carries_a networks && a) || (carries_b networks && b)
 
 -- one of the named networks is up
-abbrev pub stands_for : Networks → Lines → Bool
-stands_for networks lines = some_of networks lines.a_stands lines.b_stands
+abbrev pub any_up : Networks → Lines → Bool
+any_up networks lines = some_of networks lines.a_stands lines.b_stands
 
 -- a network is up
 abbrev pub is_alive : Lines → Bool

@@ -3,7 +3,7 @@ ghost use Rattle.std.specs.Prelude.{◌≡◌, ℕ, ◌≤◌, ◌↔◌, [], �
 ghost use Rattle.afdx_plan.specs.Plan.{carries_a, carries_b};
 ghost use Rattle.afdx_frame.specs.Header.{twin_of};
 ghost use Rattle.afdx_frame.specs.declared.net.Net.TheVariants.{A as ForA, B as ForB};
-ghost use Rattle.redundant_mux.specs.Lines.{entry, logged_for, Handing, BothEndure, some_of, stands_for, IsMirrored};
+ghost use Rattle.redundant_mux.specs.Lines.{entry, logged_for, Handing, BothEndure, some_of, any_up, IsMirrored};
 
 use crate::network::Network;
 use crate::trail::Trail;
@@ -147,8 +147,8 @@ impl<A: Network + Drop, B: Network + Drop> Mux<A, B> {
 
     /// Whether one of the named networks is up.
     #[inline(always)]
-    pub fn stands_for(&self, networks: Networks) -> bool
-        ensures { result ≡ stands_for networks self.now }
+    pub fn any_up(&self, networks: Networks) -> bool
+        ensures { result ≡ any_up networks self.now }
     {
         self.standing.has_one_of(networks)
     }
@@ -199,10 +199,10 @@ impl<A: Network + Drop, B: Network + Drop> Mux<A, B> {
         ensures b { Handing (carries_b networks) (entry at (twin_of ForB frame.now.items))
             self.old.b_stands self.new.b_stands
             self.old.b self.new.b self.old.b_failures self.new.b_failures }
-        ensures enters { stands_for networks self.new ≡ true →
+        ensures enters { any_up networks self.new ≡ true →
             self.new.logged ≡ self.old.logged ++ logged_for networks (entry at frame.now.items) ∷ [] }
-        ensures lost { stands_for networks self.new ≡ false → self.new.logged ≡ self.old.logged }
-        ensures endure { BothEndure self.old self.new }
+        ensures lost { any_up networks self.new ≡ false → self.new.logged ≡ self.old.logged }
+        ensures stays_down { BothEndure self.old self.new }
         ensures mirrored { IsMirrored self.new }
         ensures a_stands { IfOk result (λ standing. standing.a ≡ self.new.a_stands) }
         ensures b_stands { IfOk result (λ standing. standing.b ≡ self.new.b_stands) }
@@ -231,10 +231,10 @@ impl<A: Network + Drop, B: Network + Drop> Mux<A, B> {
         ensures b { Handing (carries_b networks) (entry at (twin_of ForB frame.old.items))
             self.old.b_stands self.new.b_stands
             self.old.b self.new.b self.old.b_failures self.new.b_failures }
-        ensures enters { stands_for networks self.new ≡ true →
+        ensures enters { any_up networks self.new ≡ true →
             self.new.logged ≡ self.old.logged ++ logged_for networks (entry at frame.old.items) ∷ [] }
-        ensures lost { stands_for networks self.new ≡ false → self.new.logged ≡ self.old.logged }
-        ensures endure { BothEndure self.old self.new }
+        ensures lost { any_up networks self.new ≡ false → self.new.logged ≡ self.old.logged }
+        ensures stays_down { BothEndure self.old self.new }
         ensures mirrored { IsMirrored self.new }
         ensures a_stands { IfOk result (λ standing. standing.a ≡ self.new.a_stands) }
         ensures b_stands { IfOk result (λ standing. standing.b ≡ self.new.b_stands) }

@@ -110,8 +110,8 @@ fn use_mux(out: &mut Out<'_>, mut mux: Mux<Shelf, Shelf>) {
     let frame = frame_for_a();
     let answer = mux.hand(7, &frame, Networks::Both);
     let standing = mux.standing();
-    let on_a = mux.stands_for(Networks::OnlyA);
-    let on_b = mux.stands_for(Networks::OnlyB);
+    let on_a = mux.any_up(Networks::OnlyA);
+    let on_b = mux.any_up(Networks::OnlyB);
     out.line(format_args!("{answer:?}, {standing:?}, for A {on_a}, for B {on_b}"));
     tell_shelves(out, mux.network_a(), mux.network_b());
     let (a, b) = mux.into_networks();

@@ -1,5 +1,5 @@
 -- The worked run of polls of an emitter, by computation.
-use Rattle.run_laws.proofs.Names.{Contains, None, inr, ◌⊎◌, DrainPolls, IsDrained, subst, IsLater, link_plan_at, ◌≡◌, ◌≢◌, ℕ, zero, suc, ◌<◌, List, [], ◌∷◌, ◌++◌, length, refl, sym, ◌∙◌, arith, inl, true, All, All-nil, All-cons, All-from_recursion, below_one, cases_eq, ⊎_elim, A, cutting, fragments_at, blanked, addresses, header_front, internet_header, link_header, udp_header, datagram, unnumbered, Entry, entry, Lines, BothEndure, log, stands_for, may_release, turn_of, pace_in, slice_index, link_in, sub_in, number_in, interface_byte, Held, Passes, held_at, IsQueued, IsAllowed, Released, stream_at, EmitterPolls, IsReady, FindsIt, ArePolls, taken_in, HasPlace, fragments_of, seen_of}
+use Rattle.run_laws.proofs.Names.{Contains, None, inr, ◌⊎◌, DrainPolls, IsDrained, subst, IsLater, link_plan_at, ◌≡◌, ◌≢◌, ℕ, zero, suc, ◌<◌, List, [], ◌∷◌, ◌++◌, length, refl, sym, ◌∙◌, arith, inl, true, All, All-nil, All-cons, All-from_recursion, below_one, cases_eq, ⊎_elim, A, cutting, fragments_at, blanked, addresses, header_front, internet_header, link_header, udp_header, datagram, unnumbered, Entry, entry, Lines, BothEndure, log, any_up, may_release, turn_of, pace_in, slice_index, link_in, sub_in, number_in, interface_byte, Held, Passes, held_at, IsQueued, IsAllowed, Released, stream_at, EmitterPolls, IsReady, FindsIt, ArePolls, taken_in, HasPlace, fragments_of, seen_of}
 use Rattle.afdx_plan.specs.declared.link_plan.Networks.TheVariants.{Both}
 use Rattle.afdx_frame.specs.Checksum.{checksum}
 use Rattle.redundant_mux.specs.Lines.{logged_for}
@@ -75,8 +75,8 @@ gives : (now sub number : ℕ) (frame : List ℕ) (left new_left : List (List �
     → ((s : ℕ) → s < 3 → IsTied (held_at (subs_of left first second) s) (sub_stream s (stream_at three_plan 0 lines)))
     → length frame ≡ 60 → link_in frame ≡ 1 → sub_in frame ≡ sub → number_in frame ≡ number → slice_index frame 11 ≡ interface_byte A
     → after.logged ≡ lines.logged ++ logged_for Both (entry now frame) ∷ []
-    → stands_for Both after ≡ true → BothEndure lines after → FindsIt three_plan 0 1 2 now lines after
-gives now sub number frame left new_left first new_first second new_second lines after may next is given others tied size own of carries interface enters stands endure = record {
+    → any_up Both after ≡ true → BothEndure lines after → FindsIt three_plan 0 1 2 now lines after
+gives now sub number frame left new_left first new_first second new_second lines after may next is given others tied size own of carries interface enters stands stays_down = record {
   poll = polls_by now three_plan three_link (subs_of left first second) (subs_of new_left new_first new_second) lines after
       (Released sub number) (ready left first second lines) refl same tied (
         may,
@@ -94,7 +94,7 @@ gives now sub number frame left new_left first new_first second new_second lines
           of = grind arith;
           enters = enters;
           stands = stands;
-          endure = endure;
+          stays_down = stays_down;
         },
       );
   finds = λ passes. absurd (finds _ _ passes);

@@ -26,7 +26,7 @@ finding_steps : (plan : Plan) (accepted : Accepted) (k x many : ℕ) → IsPlan 
     → AreSteps plan k x (λ now lines after. FindsIt plan k x many now lines after ⊎ IsDrained now plan accepted lines after)
     (λ rest S. rest ≡ many - length (seen_of x S)) (waiting x many)
 finding_steps plan accepted k x many valid inside most = record {
-  endure = λ now lines after p. ⊎_elim (λ finds. emitter_endures now plan lines after finds.poll)
+  stays_down = λ now lines after p. ⊎_elim (λ finds. emitter_endures now plan lines after finds.poll)
       (λ drains. drain_endures now plan accepted lines after drains) p;
   step = grind (arith, find_step);
   waits = grind arith;

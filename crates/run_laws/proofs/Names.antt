@@ -21,7 +21,7 @@ unfoldable pub use Rattle.afdx_frame.specs.Frame.{addresses, datagram, header_fr
 pub use Rattle.afdx_frame.specs.Header.{link_in, number_in, sub_in}
 pub use Rattle.afdx_frame.specs.declared.net.Net.TheVariants.{A}
 pub use Rattle.redundant_mux.proofs.MirroredLines.{both_none, stood_before}
-pub use Rattle.redundant_mux.specs.Lines.{Entry, entry, BothEndure, Endures, Lines, stands_for}
+pub use Rattle.redundant_mux.specs.Lines.{Entry, entry, BothEndure, Endures, Lines, any_up}
 unfoldable pub use Rattle.redundant_mux.specs.Lines.{log}
 pub use Rattle.vl_shaper.specs.Pace.{IsLater, Pace, is_due, turn_of}
 pub use Rattle.vl_shaper.specs.Polls.{ArePolled, AreServed, HasAtPolls, IsServed, Poll, is_of, latest_poll, released_by}

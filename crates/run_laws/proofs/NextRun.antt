@@ -60,7 +60,7 @@ polls_step : (plan : Plan) (k x : ℕ) → IsPlan plan → k < length plan.links
     → AreSteps plan k x (λ now lines after. EmitterPolls plan now lines after ⊎ DrainPolls plan now lines after) (AwaitsOne x)
     (λ S. begun_by none_begun S x)
 polls_step plan k x valid inside = record {
-  endure = λ now lines after p. ⊎_elim (λ emitter. emitter_endures now plan lines after emitter)
+  stays_down = λ now lines after p. ⊎_elim (λ emitter. emitter_endures now plan lines after emitter)
       (λ drain. drain_endures now plan drain.accepted lines after drain.run) p;
   step = λ now lines after p stands. ⊎_elim
       (λ emitter. emitter_step now plan k x _ lines after valid inside emitter (emitter_lacks now plan k x lines after inside emitter) stands)

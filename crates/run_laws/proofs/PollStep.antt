@@ -1,5 +1,5 @@
 -- What a turn of a link, and a poll of all links, does to the stream of one of them.
-use Rattle.run_laws.proofs.Names.{ℕ, zero, suc, ◌≡◌, ◌≢◌, ◌+◌, ◌<◌, List, [], ◌∷◌, ◌++◌, Bool, true, false, ◌&&◌, ◌||◌, nat_eq, arith, refl, ap, ◌∙◌, sym, subst, Option, Some, None, inl, inr, ⊎_elim, ◌≤◌, length, nat_tests, both_ways, cases_eq, and_from, eq-eqb, LinkPlan, sub_in, Entry, entry, Lines, stands_for, log, BothEndure, Pace, turn_of, IsServed, Served, Nothing, Released, Lost, TurnView, Turn, AreTurns, pace_of, Held, LinkState, held_at, link_at, taken_by, held_view, Passes, none_begun, begun_by, latest, link_stream, sub_stream, told, All, append-nil, All-weaker, Plan, IsPlan, link_plan_at, bag_micros, room_of, A, Sent, stood_before, turns_endure, turns_seen, Accepted, IsQueued, AreQueued, Tx, IsTurnAt, DrainsAt, IsDrained, accepted_view, stream_at, IsReadyFor, EmitterPolls}
+use Rattle.run_laws.proofs.Names.{ℕ, zero, suc, ◌≡◌, ◌≢◌, ◌+◌, ◌<◌, List, [], ◌∷◌, ◌++◌, Bool, true, false, ◌&&◌, ◌||◌, nat_eq, arith, refl, ap, ◌∙◌, sym, subst, Option, Some, None, inl, inr, ⊎_elim, ◌≤◌, length, nat_tests, both_ways, cases_eq, and_from, eq-eqb, LinkPlan, sub_in, Entry, entry, Lines, any_up, log, BothEndure, Pace, turn_of, IsServed, Served, Nothing, Released, Lost, TurnView, Turn, AreTurns, pace_of, Held, LinkState, held_at, link_at, taken_by, held_view, Passes, none_begun, begun_by, latest, link_stream, sub_stream, told, All, append-nil, All-weaker, Plan, IsPlan, link_plan_at, bag_micros, room_of, A, Sent, stood_before, turns_endure, turns_seen, Accepted, IsQueued, AreQueued, Tx, IsTurnAt, DrainsAt, IsDrained, accepted_view, stream_at, IsReadyFor, EmitterPolls}
 use borrow.Author.Count.{below_more}
 use Rattle.redundant_mux.proofs.MirroredLines.{log_same}
 use Rattle.vl_link.proofs.Choosing.{stream_more}
@@ -44,7 +44,7 @@ first_at order sub n (suc more) from sum before is = elim (cases_eq (order from)
 -- has nothing.
 own_step : (now gap subs x : ℕ) (b : Bool) (link : LinkPlan) (view : TurnView) (lines after : Lines) (did : Served)
     → ((s : ℕ) → s < subs → view.lacks s → s ≡ x → b ≡ false)
-    → Turn now link (pace_of gap subs (link_stream link.id.0 (log lines))) view lines after did → stands_for link.networks after ≡ true
+    → Turn now link (pace_of gap subs (link_stream link.id.0 (log lines))) view lines after did → any_up link.networks after ≡ true
     → IsStep now gap subs x b (link_stream link.id.0 (log lines)) (link_stream link.id.0 (log after))
 own_step now gap subs x b link view lines after Nothing lacks t stands =
     let S : List Entry = link_stream link.id.0 (log lines) in
@@ -76,7 +76,7 @@ own_step now gap subs x b link view lines after Lost lacks t stands = absurd (bo
 
 -- a network that carries the link at a place is up
 abbrev pub StandsAt : Plan → ℕ → Lines → Type 0
-StandsAt plan k lines = stands_for (link_plan_at plan.links k).networks lines ≡ true
+StandsAt plan k lines = any_up (link_plan_at plan.links k).networks lines ≡ true
 
 abbrev pub gap_at : Plan → ℕ → ℕ
 gap_at plan k = bag_micros (link_plan_at plan.links k).bag

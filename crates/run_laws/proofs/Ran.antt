@@ -146,7 +146,7 @@ run_more now gap subs x many b moments S M T step waits run = by_release step.re
 -- some are awaited.
 pub record AreSteps (plan : Plan) (k x : ℕ) (Polls : ℕ → Lines → Lines → Type 0) (Awaits : ℕ → List Entry → Type 0)
     (test : List Entry → Bool) : Type 0 where
-  pub endure : (now : ℕ) (lines after : Lines) → Polls now lines after → BothEndure lines after
+  pub stays_down : (now : ℕ) (lines after : Lines) → Polls now lines after → BothEndure lines after
   pub step : (now : ℕ) (lines after : Lines) → Polls now lines after → StandsAt plan k after
       → StepsAt now plan k x (test (stream_at plan k lines)) lines after
   pub waits : (many : ℕ) (S : List Entry) → Awaits many S → 1 ≤ many → test S ≡ true

@@ -1,5 +1,5 @@
 -- The worked runs, by computation.
-use Rattle.run_laws.proofs.Names.{All-nil, ◌≡◌, ℕ, ◌+◌, ◌<◌, ◌≤◌, ◌⊎◌, List, [], ◌∷◌, ◌++◌, length, Bool, true, ◌&&◌, refl, ap, sym, ◌∙◌, arith, inl, inr, Some, false≢true, length-append, All-from_recursion, A, cutting, fragments_at, blanked, Sent, addresses, header_front, internet_header, link_header, udp_header, datagram, unnumbered, Entry, entry, Lines, Endures, BothEndure, log, stands_for, LinkPlan, may_release, is_due, turn_of, IsQueued, Served, Nothing, Released, Lost, Drains, pace_in, stream_at, link_wait, EmitterPolls, DrainPolls, AreRuns, ComesBy, cons_parts, below_one, slice_index, link_in, sub_in, number_in, interface_byte, None, All, All-head, All-tail, IsPlan, IsLater, latest, IsPrefixOf, IsAccepted, HasPlace, AreFinding, fragments_of, seen_of}
+use Rattle.run_laws.proofs.Names.{All-nil, ◌≡◌, ℕ, ◌+◌, ◌<◌, ◌≤◌, ◌⊎◌, List, [], ◌∷◌, ◌++◌, length, Bool, true, ◌&&◌, refl, ap, sym, ◌∙◌, arith, inl, inr, Some, false≢true, length-append, All-from_recursion, A, cutting, fragments_at, blanked, Sent, addresses, header_front, internet_header, link_header, udp_header, datagram, unnumbered, Entry, entry, Lines, Endures, BothEndure, log, any_up, LinkPlan, may_release, is_due, turn_of, IsQueued, Served, Nothing, Released, Lost, Drains, pace_in, stream_at, link_wait, EmitterPolls, DrainPolls, AreRuns, ComesBy, cons_parts, below_one, slice_index, link_in, sub_in, number_in, interface_byte, None, All, All-head, All-tail, IsPlan, IsLater, latest, IsPrefixOf, IsAccepted, HasPlace, AreFinding, fragments_of, seen_of}
 use Rattle.afdx_legal.specs.Accepted.{Owes}
 use Rattle.afdx_plan.specs.declared.link_plan.Networks.TheVariants.{Both}
 use Rattle.redundant_mux.specs.Lines.{logged_for}
@@ -21,8 +21,8 @@ pub releases : (now number : ℕ) (link : LinkPlan) (accepted : ℕ → List Sen
     → 0 < link.sub_vls → 0 ≡ turn_of link.sub_vls (pace_in link (log lines)).last 0 → Owes 1 link accepted (log lines) 0
     → length frame ≡ 60 → link_in frame ≡ link.id.0 → sub_in frame ≡ 0 → number_in frame ≡ number → slice_index frame 11 ≡ interface_byte A
     → after.logged ≡ lines.logged ++ logged_for link.networks (entry now frame) ∷ []
-    → stands_for link.networks after ≡ true → BothEndure lines after → Drains now 1 link accepted lines after (Released 0 number)
-releases now number link accepted lines after frame may next some is owed size own sub carries interface enters stands endure = (
+    → any_up link.networks after ≡ true → BothEndure lines after → Drains now 1 link accepted lines after (Released 0 number)
+releases now number link accepted lines after frame may next some is owed size own sub carries interface enters stands stays_down = (
   may,
   next,
   record {
@@ -31,7 +31,7 @@ releases now number link accepted lines after frame may next some is owed size o
     of = grind arith;
     enters = enters;
     stands = stands;
-    endure = endure;
+    stays_down = stays_down;
   },
 )
 
@@ -53,7 +53,7 @@ lost_turn = (
     choice = (back_turn 1000 refl).2.choice;
     same = refl;
     down = refl;
-    endure = grind arith;
+    stays_down = grind arith;
   },
 )
 

@@ -12,7 +12,7 @@ use Rattle.afdx_frame.specs.Cutting.{piece_at}
 use Rattle.afdx_frame.specs.Frame.{frame_of}
 use Rattle.afdx_frame.specs.Fragments.{Sent}
 use Rattle.afdx_frame.specs.Header.{sub_in}
-use Rattle.redundant_mux.specs.Lines.{Lines, log, stands_for}
+use Rattle.redundant_mux.specs.Lines.{Lines, log, any_up}
 use Rattle.subvl_queue.specs.Views.{ReceiverView, new_receiver, after_take}
 use Rattle.status_board.specs.Views.{no_cell}
 use Rattle.vl_shaper.specs.Pace.{IsLater}
@@ -106,7 +106,7 @@ pub record ComesInTurn : Type 0 where
   pub more : more_in (front_frame A) ≡ true
   pub below : sub_in (front_frame A) < three_link.sub_vls
   pub polls : ArePolls (EmitterPolls three_plan) (3000 ∷ 6000 ∷ 9000 ∷ 12000 ∷ []) (line_after 1) (line_after 5)
-  pub is_up : stands_for three_link.networks (line_after 5) ≡ true
+  pub is_up : any_up three_link.networks (line_after 5) ≡ true
   pub within : ComeWithin 3000 0 (3000 ∷ 6000 ∷ 9000 ∷ 12000 ∷ [])
   pub wait : link_wait 3000 three_link ≡ 12000
   pub next : ComesBy (stream_at three_plan 0 (line_after 5)) front_entry 12000
@@ -126,7 +126,7 @@ pub record WaitsItsTurn : Type 0 where
   pub finding : ArePolls (FindsIt three_plan 0 1 2) (6000 ∷ 9000 ∷ 12000 ∷ []) (line_after 2) (line_after 5)
   pub begins : IsPrefixOf (seen_of 1 (stream_at three_plan 0 (line_after 5)))
       (fragments_of three_plan 0 (three_accepted 0 1))
-  pub is_up : stands_for three_link.networks (line_after 5) ≡ true
+  pub is_up : any_up three_link.networks (line_after 5) ≡ true
   pub timely : AreTimely 1000 2000 12000 3000 (6000 ∷ 9000 ∷ 12000 ∷ [])
   pub released : ThirdReleased 12000
   pub sooner : ThirdReleased 11999 → ⊥

@@ -4,7 +4,7 @@ use Rattle.afdx_plan.specs.Config.{Plan, IsPlan, link_plan_at}
 use Rattle.afdx_plan.specs.Plan.{bag_micros, room_of}
 use Rattle.afdx_frame.specs.declared.net.Net.TheVariants.{A}
 use Rattle.afdx_frame.specs.Fragments.{Sent, fragments}
-use Rattle.redundant_mux.specs.Lines.{Entry, Lines, stands_for}
+use Rattle.redundant_mux.specs.Lines.{Entry, Lines, any_up}
 use Rattle.vl_shaper.specs.Pace.{IsLater}
 use Rattle.afdx_legal.specs.Streams.{sub_stream, told, latest, IsPrefixOf}
 use Rattle.afdx_legal.specs.Legal.{Accepted}
@@ -86,7 +86,7 @@ MessageInRun = (plan : Plan) (accepted : Accepted) (moments : List ℕ) (lines a
     → HasPlace plan k s earlier (stream_at plan k lines)
     → AreFinding plan accepted k s (length (fragments_of plan k (earlier ++ sent ∷ []))) moments lines after
     → IsPrefixOf (seen_of s (stream_at plan k after)) (fragments_of plan k (accepted k s))
-    → stands_for (link_plan_at plan.links k).networks after ≡ true
+    → any_up (link_plan_at plan.links k).networks after ≡ true
     → AreTimely (bag_micros (link_plan_at plan.links k).bag) late (start + worst_wait late plan sent.port) start moments
     → AreReleasedBy plan k s (earlier ++ sent ∷ []) (stream_at plan k lines) (stream_at plan k after)
     (start + worst_wait late plan sent.port)

@@ -2,7 +2,7 @@
 use Rattle.std.specs.Prelude.{ℕ, ◌≡◌, ◌⊎◌, ◌<◌, List, [], ◌∷◌, length, ◌+◌, ◌≤◌, true, ◌++◌}
 use Rattle.afdx_plan.specs.Config.{Plan, link_plan_at, IsPlan}
 use Rattle.afdx_plan.specs.Plan.{bag_micros}
-use Rattle.redundant_mux.specs.Lines.{Lines, stands_for, Entry}
+use Rattle.redundant_mux.specs.Lines.{Lines, any_up, Entry}
 use Rattle.afdx_legal.specs.Legal.{Accepted}
 use Rattle.afdx_legal.specs.Accepted.{AreQueued}
 use Rattle.vl_link.specs.Links.{LinkState, link_at}
@@ -85,7 +85,7 @@ abbrev pub NextInRun : Type 0
 NextInRun = (plan : Plan) (moments : List ℕ) (lines after : Lines) (k late : ℕ) (earlier : List Entry) (first : Entry)
     → IsPlan plan → k < length plan.links → stream_at plan k lines ≡ earlier ++ first ∷ [] → more_in first.frame ≡ true
     → sub_in first.frame < (link_plan_at plan.links k).sub_vls → AreRuns plan moments lines after
-    → stands_for (link_plan_at plan.links k).networks after ≡ true → ComeWithin late first.at moments
+    → any_up (link_plan_at plan.links k).networks after ≡ true → ComeWithin late first.at moments
     → first.at + link_wait late (link_plan_at plan.links k) ≤ latest_of first.at moments
     → ComesBy (stream_at plan k after) first (first.at + link_wait late (link_plan_at plan.links k))
     × ComesBy (stream_at plan k after) first (first.at + longest_wait late plan.links)

@@ -6,7 +6,7 @@ use Rattle.afdx_plan.specs.declared.link_plan.LinkPlan.{LinkPlan}
 use Rattle.afdx_plan.specs.declared.link_plan.Networks.TheVariants.{Both}
 use Rattle.afdx_frame.specs.declared.net.Net.TheVariants.{A, B}
 use Rattle.afdx_frame.specs.Header.{sub_in}
-use Rattle.redundant_mux.specs.Lines.{Entry, entry, logged_for, Lines, lines_of, stands_for}
+use Rattle.redundant_mux.specs.Lines.{Entry, entry, logged_for, Lines, lines_of, any_up}
 use Rattle.afdx_legal.specs.Legal.{Accepted}
 use Rattle.afdx_legal.specs.Streams.{more_in, latest, IsPrefixOf}
 use Rattle.afdx_tx.specs.DrainEnds.{stream_at}
@@ -69,7 +69,7 @@ Comes lines = ComesBy (stream_at small_plan 0 lines) front_entry (0 + link_wait 
 -- released by the bound if and only if all hold.
 pub record RunCase (moments : List ℕ) (lines : Lines) (run up come reach : Bool) : Type 0 where
   pub runs : Holds run (AreRuns small_plan moments front_line lines)
-  pub is_up : Holds up (stands_for (link_plan_at small_plan.links 0).networks lines ≡ true)
+  pub is_up : Holds up (any_up (link_plan_at small_plan.links 0).networks lines ≡ true)
   pub comes : Holds come (ComeWithin 1000 0 moments)
   pub reaches : Holds reach (0 + link_wait 1000 small_link ≤ latest_of 0 moments)
   pub next : Holds (run && up && come && reach) (Comes lines)
@@ -96,7 +96,7 @@ pub record LastCase (lines : Lines) (earlier : List Entry) (frame : List ℕ) (l
   pub ends : Holds last (stream_at small_plan 0 lines ≡ earlier ++ entry 1000 frame ∷ [])
   pub flag : Holds more (more_in frame ≡ true)
   pub inside : Holds below (sub_in frame < small_link.sub_vls)
-  pub is_up : stands_for (link_plan_at small_plan.links 0).networks lines ≡ true
+  pub is_up : any_up (link_plan_at small_plan.links 0).networks lines ≡ true
   pub comes : ComeWithin 1000 1000 (2000 ∷ 3000 ∷ [])
   pub reaches : 1000 + link_wait 1000 small_link ≤ latest_of 1000 (2000 ∷ 3000 ∷ [])
   pub none : ComesBy (stream_at small_plan 0 lines) (entry 1000 frame) (1000 + link_wait 1000 small_link) → ⊥
@@ -158,7 +158,7 @@ pub record MeetsTheWait : Type 0 where
       (tight_line 1) (tight_line 4)
   pub begins : IsPrefixOf (seen_of 0 (stream_at tight_plan 0 (tight_line 4)))
       (fragments_of tight_plan 0 (tight_accepted 0 0))
-  pub is_up : stands_for (link_plan_at tight_plan.links 0).networks (tight_line 4) ≡ true
+  pub is_up : any_up (link_plan_at tight_plan.links 0).networks (tight_line 4) ≡ true
   pub comes : AreTimely 1000 0 3000 0 (1000 ∷ 2000 ∷ 3000 ∷ [])
   pub met : TightReleased 3000
   pub sooner : TightReleased 2999 → ⊥
@@ -214,7 +214,7 @@ pub record ByteCase (many earlier now : ℕ) (lines after : Lines)
       (now ∷ []) lines after)
   pub prefix : Holds begins (IsPrefixOf (seen_of 0 (stream_at byte_plan 0 after))
       (fragments_of byte_plan 0 (bytes_accepted many 0 0)))
-  pub is_up : Holds up (stands_for (link_plan_at byte_plan.links 0).networks after ≡ true)
+  pub is_up : Holds up (any_up (link_plan_at byte_plan.links 0).networks after ≡ true)
   pub comes : Holds timely (AreTimely 1000 0 1000 0 (now ∷ []))
   pub missed : AreReleasedBy byte_plan 0 0 (replicate earlier (short_sent 0) ++ short_sent 0 ∷ [])
       (stream_at byte_plan 0 lines) (stream_at byte_plan 0 after) 1000 → ⊥

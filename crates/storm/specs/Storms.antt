@@ -74,7 +74,7 @@ pub record IsEnded (plan : Plan) (n total : ℕ) (counts : List Counts) (fell : 
   pub whole : IsHandedWhole plan (own_messages plan n) a b
   pub accepted : total ≡ length plan.ports * n
   pub links : counts ≡ all_counts plan.links a b
-  pub back : fell ≡ false
+  pub never_back : fell ≡ false
 
 -- Its report: the networks are equal if and only if their frames of links on both are twins, entry by entry.
 pub record IsReportOf (plan : Plan) (n : ℕ) (report : StormReport) : Type 0 where

@@ -69,7 +69,7 @@ pub record IsJoined (n turns : ℕ) (tx : Tx) (ports : List PortView) (monitor :
   pub moment : tx.moment ≤ polls * STEP
   pub shown : IsShown tx
   pub cells : cells_of tx.board ≡ cells_read monitor
-  pub none_back : back ≡ false
+  pub never_back : back ≡ false
 
 -- what the threads leave of an emitter, its ports and its monitor, once all are joined
 pub record IsRunOf (opened : Opened) (load : Load) (joined : Joined) : Type 0 where

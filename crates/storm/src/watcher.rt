@@ -47,7 +47,7 @@ fn watch_link<G: Gate, R: Wait>(
     requires { link < links_of monitor.old }
     ensures reads { ReadsOnly monitor.old monitor.new link times }
     ensures links { links_of monitor.new ≡ links_of monitor.old }
-    ensures back { result ≡ false }
+    ensures never_back { result ≡ false }
 {
     let mut back = false;
     let mut last = Counts::ZERO;
@@ -70,7 +70,7 @@ fn watch<G: Gate, R: Wait>(
 ) -> (Monitor, bool)
     requires { links_of monitor ≡ links }
     ensures reads { ReadsEach monitor result.0 times }
-    ensures back { result.1 ≡ false }
+    ensures never_back { result.1 ≡ false }
 {
     let mut monitor = monitor;
     let mut back = false;

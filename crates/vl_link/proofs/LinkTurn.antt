@@ -190,8 +190,8 @@ pub turn_at : (P : ℕ → Lines → Lines → Served → Type 0) (read : Lines 
     → read behind ≡ read before)
     → ((j : ℕ) (before behind : Lines) (did : Served) → P j before behind did → BothEndure before behind)
     → AreTurns P i many lines after → TurnAt P read k lines after
-turn_at P read k i zero lines after le lt keep endure t = absurd (omega arith)
-turn_at P read k i (suc many) lines after le lt keep endure t = ⊎_elim
+turn_at P read k i zero lines after le lt keep stays_down t = absurd (omega arith)
+turn_at P read k i (suc many) lines after le lt keep stays_down t = ⊎_elim
     (λ (here : i ≡ k). record {
       before = lines;
       behind = t.0;
@@ -200,11 +200,11 @@ turn_at P read k i (suc many) lines after le lt keep endure t = ⊎_elim
       same = refl;
       kept = turns_keep P read (i + 1) many t.0 after
           (λ j jle jlt. keep j (omega arith) (λ e. absurd (omega (arith, e, here)))) t.3;
-      endures = turns_endure P (i + 1) many t.0 after endure t.3;
+      endures = turns_endure P (i + 1) many t.0 after stays_down t.3;
     })
     (λ (ne : i ≢ k).
     let later : i + 1 ≤ k = omega (arith, le, ne) in
-    let rest = turn_at P read k (i + 1) many t.0 after later (omega arith) (λ j jlt. keep j (omega arith)) endure t.3 in
+    let rest = turn_at P read k (i + 1) many t.0 after later (omega arith) (λ j jlt. keep j (omega arith)) stays_down t.3 in
     record {
       before = rest.before;
       behind = rest.behind;

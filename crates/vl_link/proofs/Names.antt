@@ -16,7 +16,7 @@ pub use Rattle.afdx_plan.specs.Plan.{sequence_number, room_of, step_of}
 pub use Rattle.afdx_plan.specs.declared.link_plan.LinkPlan.{LinkPlan}
 pub use Rattle.afdx_plan.specs.declared.port_plan.PortPlan.{PortPlan}
 pub use Rattle.redundant_mux.proofs.MirroredLines.{log_more, log_same}
-pub use Rattle.redundant_mux.specs.Lines.{Entry, entry, BothEndure, Lines, log, stands_for}
+pub use Rattle.redundant_mux.specs.Lines.{Entry, entry, BothEndure, Lines, log, any_up}
 pub use Rattle.std.proofs.Common.{Bool, List, None, Option, Some, [], ap, arith, below_more, cond, eqb, false, filter, get_or, inl, inr, length, map, nat_le}
 pub use Rattle.std.proofs.Common.{not, refl, rules, set, subst, suc, sym, true, zero, ℕ, ⊎_elim, ◌%◌, ◌&&◌, ◌++◌, ◌+◌, ◌-◌, ◌<◌, ◌∙◌, ◌∷◌, ◌≡◌, ◌≢◌, ◌≤◌, ◌⊎◌}
 pub use Rattle.std.proofs.lemmas.Bool.{and_parts, and_right, both_ways, cases_Bool, cases_eq, cases_lt, eq-eqb, lt-leb, ne_eqb}

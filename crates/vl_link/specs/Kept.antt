@@ -4,7 +4,7 @@ use Rattle.afdx_frame.specs.Header.{sub_in}
 use Rattle.redundant_mux.specs.Lines.{Entry, log}
 use Rattle.vl_shaper.specs.Pace.{Choice, IsChosen, turn_of}
 use Rattle.vl_shaper.specs.declared.shaper.Stamp.{Stamp}
-use Rattle.afdx_legal.specs.Streams.{stamp_of, more_in, link_stream, sub_stream, told, told_of, entry_number, IsNumbered, IsSpaced, IsPrefixOf}
+use Rattle.afdx_legal.specs.Streams.{stamp_of, more_in, link_stream, sub_stream, told, unnumbered_fragments, entry_number, IsNumbered, IsSpaced, IsPrefixOf}
 use Rattle.afdx_plan.specs.Plan.{room_of, IsLink, IsPort, SendsOver}
 use Rattle.afdx_frame.specs.declared.net.Net.TheVariants.{A}
 use Rattle.afdx_frame.specs.Fragments.{fragments}
@@ -71,7 +71,7 @@ pub record IsKept (link : LinkState) (log : List Entry) : Type 0 where
   pub numbered : IsNumbered entry_number 0 (link_stream link.plan.id.0 log)
   pub spaced : IsSpaced link.pace.gap None (link_stream link.plan.id.0 log)
   pub prefixes : (s : ℕ) → s < link.plan.sub_vls
-      → IsPrefixOf (told_of link.plan.id.0 s log)
+      → IsPrefixOf (unnumbered_fragments link.plan.id.0 s log)
       (fragments link.end_system (room_of link.plan.lmax) A (taken_by (held_at link.subs s)))
   pub chosen : ShowsChoices link.pace.sub_vls None none_begun (link_stream link.plan.id.0 log)
   pub paced : link.lost ≡ false

@@ -3,7 +3,7 @@ use Rattle.std.specs.Prelude.{ℕ, zero, suc, ◌≡◌, ◌⊎◌, ◌+◌, ◌
 use Rattle.afdx_plan.specs.declared.link_plan.LinkPlan.{LinkPlan}
 use Rattle.afdx_frame.specs.declared.net.Net.TheVariants.{A}
 use Rattle.afdx_frame.specs.Header.{IsFrameOf}
-use Rattle.redundant_mux.specs.Lines.{Entry, entry, logged_for, Lines, BothEndure, stands_for}
+use Rattle.redundant_mux.specs.Lines.{Entry, entry, logged_for, Lines, BothEndure, any_up}
 use Rattle.vl_shaper.specs.Pace.{Pace, is_due, turn_of}
 use Rattle.vl_link.specs.declared.served.Served.{Served}
 use Rattle.vl_link.specs.declared.served.Served.TheVariants.{Nothing, Released, Lost}
@@ -32,7 +32,7 @@ pub record NoneHas (pace : Pace) (lacks rests : ℕ → Type 0) : Type 0 where
 
 -- a link may release a frame: it is due, and a network that carries it is up
 abbrev pub may_release : ℕ → LinkPlan → Pace → Lines → Bool
-may_release now plan pace lines = is_due pace.gap pace.last now && stands_for plan.networks lines
+may_release now plan pace lines = is_due pace.gap pace.last now && any_up plan.networks lines
 
 -- the chosen sub-VL gave a frame with this number, and a network that carries the link accepted it
 pub record Releases (now : ℕ) (plan : LinkPlan) (pace : Pace) (view : TurnView) (sub number : ℕ)
@@ -41,8 +41,8 @@ pub record Releases (now : ℕ) (plan : LinkPlan) (pace : Pace) (view : TurnView
   pub choice : IsChoice pace (λ s. view.gives s frame) view.lacks view.rests sub
   pub of : IsFrameOf plan.id.0 sub number A frame
   pub enters : after.logged ≡ lines.logged ++ logged_for plan.networks (entry now frame) ∷ []
-  pub stands : stands_for plan.networks after ≡ true
-  pub endure : BothEndure lines after
+  pub stands : any_up plan.networks after ≡ true
+  pub stays_down : BothEndure lines after
 
 -- the last network that carries the link failed with the chosen sub-VL's frame
 pub record Loses (plan : LinkPlan) (pace : Pace) (view : TurnView) (lines after : Lines) : Type 0 where
@@ -50,8 +50,8 @@ pub record Loses (plan : LinkPlan) (pace : Pace) (view : TurnView) (lines after 
   pub frame : List ℕ
   pub choice : IsChoice pace (λ s. view.gives s frame) view.lacks view.rests sub
   pub same : after.logged ≡ lines.logged
-  pub down : stands_for plan.networks after ≡ false
-  pub endure : BothEndure lines after
+  pub down : any_up plan.networks after ≡ false
+  pub stays_down : BothEndure lines after
 
 -- One turn of a link, by its outcome. A link that isn't due, or whose networks are all down, releases nothing and
 -- polls no sub-VL. If no sub-VL has anything, it releases nothing either. Otherwise it releases one frame at `now`

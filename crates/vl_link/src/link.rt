@@ -61,7 +61,7 @@ fn serve_due<A: Network + Drop, B: Network + Drop>(
     ensures gap { shaper.new.gap ≡ shaper.old.gap }
     ensures sub_vls { shaper.new.sub_vls ≡ shaper.old.sub_vls }
     ensures same { AreSameSubs subs.old subs.new }
-    ensures endure { BothEndure mux.old mux.new }
+    ensures stays_down { BothEndure mux.old mux.new }
 {
     let Some(sub) = choose(shaper, subs) else {
         return Served::Nothing;
@@ -70,7 +70,7 @@ fn serve_due<A: Network + Drop, B: Network + Drop>(
     subs[sub as usize].write_next(number, frame);
     // If both networks are down, none is up for the link either.
     let _standing = mux.hand_lent(now, frame, plan.networks);
-    if mux.stands_for(plan.networks) {
+    if mux.any_up(plan.networks) {
         Served::Released { sub, number }
     } else {
         Served::Lost
@@ -208,7 +208,7 @@ impl Link {
         ensures { result ≡ may_release now self.now.plan self.now.pace mux.now }
     {
         // Most links aren't due at most polls, so that test comes first.
-        self.shaper.due(now) && mux.stands_for(self.plan.networks)
+        self.shaper.due(now) && mux.any_up(self.plan.networks)
     }
 
     /// The first time after `now`, in microseconds, at which it may release a frame, if it may not
@@ -223,7 +223,7 @@ impl Link {
         ensures { MatchOption result (StaysAsIs now self.now.plan self.now.pace mux.now)
             (λ at. BecomesDue now at self.now.plan self.now.pace mux.now) }
     {
-        if self.shaper.due(now) || !mux.stands_for(self.plan.networks) {
+        if self.shaper.due(now) || !mux.any_up(self.plan.networks) {
             return None;
         }
         self.shaper.due_from()
@@ -249,7 +249,7 @@ impl Link {
         ensures later { IsLater self.new.pace.last now }
         ensures same { IsSameLink self.old self.new }
         ensures lost { self.new.lost ≡ (self.old.lost || is_lost result) }
-        ensures endure { BothEndure mux.old mux.new }
+        ensures stays_down { BothEndure mux.old mux.new }
     {
         let did = serve_due(
             &self.plan,

@@ -39,7 +39,7 @@ loop-link-preserved g c =
             released = inv.released ++ turn_release (link_at links i).plan.id w.serve-did.result;
             noted = rw named at (w.note.ensures inv.released inv.noted);
             polls = polling_more c.args.now i c.args.links.now links c.args.mux.now c.loop-link.mux w.serve-did.new.mux
-                w.serve-did.new.self w.serve-did.result inv.released p c.requires.apart lt turned e.later e.endure;
+                w.serve-did.new.self w.serve-did.result inv.released p c.requires.apart lt turned e.later e.stays_down;
           })
       | else-may_release w ↦
           let no = rw (asked g c) at (sym c.may_release.ensures ∙ w.if-may_release.false) in

@@ -33,5 +33,5 @@ returns g c =
           ∙ sum_spent joined.tx c.args.load.messages c.args.load.turns joined.ports.items c.requires.joined.spent;
       links = counts_kept joined.tx.plan drained.plan drained.lines.a drained.lines.b _ _ _ c.in_ok-links.ensures.counts
           (c.in_ok-drain.ensures.plan ∙ c.gather_all-draining.ensures.plan) a b;
-      back = c.requires.joined.none_back;
+      never_back = c.requires.joined.never_back;
     }

@@ -22,7 +22,7 @@ returns-in-Ok g c =
         moment = search rules;
         shown = search rules;
         cells = search rules;
-        none_back = search rules;
+        never_back = search rules;
       };
       watched = search rules;
     }

@@ -18,9 +18,9 @@ returns-in_default-clause-serves g c = grind (arith, none_has)
 pub returns-in_default-clause-same : goal.returns-in_default-clause-same
 returns-in_default-clause-same g c = passed_same _ _ _ _ c.in_default.ensures.none
 
-pub returns-then-stands_for-clause-serves : goal.returns-then-stands_for-clause-serves
-returns-then-stands_for-clause-serves g c =
-    let stands = sym c.stands_for.ensures ∙ c.if-stands_for.true in (
+pub returns-then-any_up-clause-serves : goal.returns-then-any_up-clause-serves
+returns-then-any_up-clause-serves g c =
+    let stands = sym c.any_up.ensures ∙ c.if-any_up.true in (
       c.requires.may,
       c.stamp-number.ensures.number,
       record {
@@ -30,30 +30,30 @@ returns-then-stands_for-clause-serves g c =
         of = frame_at _ _ _ _ _ c.index-subs-sub.result _ _ c.in-Some.ensures.chosen c.requires.named c.write_next.ensures.frame;
         enters = grind arith;
         stands = stands;
-        endure = grind arith;
+        stays_down = grind arith;
       },
     )
 
-pub returns-then-stands_for-clause-entered : goal.returns-then-stands_for-clause-entered
-returns-then-stands_for-clause-entered g c =
+pub returns-then-any_up-clause-entered : goal.returns-then-any_up-clause-entered
+returns-then-any_up-clause-entered g c =
     rw c.hand_lent-standing.ensures.same (stream_more c.args.plan.now.id.0 c.args.now _ c.stamp-number.result _ c.write_next.new.out.items _ _
     (frame_at _ _ _ _ _ c.index-subs-sub.result _ _ c.in-Some.ensures.chosen c.requires.named c.write_next.ensures.frame)
     (c.hand_lent-standing.ensures.enters (grind arith)))
 
-pub returns-then-stands_for-clause-paced : goal.returns-then-stands_for-clause-paced
-returns-then-stands_for-clause-paced g c =
+pub returns-then-any_up-clause-paced : goal.returns-then-any_up-clause-paced
+returns-then-any_up-clause-paced g c =
     follows_more c.args.now c.in-Some.sub c.write_next.new.out.items _ _ _ _ c.requires.paced
-    (rw c.hand_lent-standing.ensures.same at (returns-then-stands_for-clause-entered g c))
+    (rw c.hand_lent-standing.ensures.same at (returns-then-any_up-clause-entered g c))
     (frame_at _ _ _ _ _ c.index-subs-sub.result _ _ c.in-Some.ensures.chosen c.requires.named
     c.write_next.ensures.frame).of_sub
     c.stamp-number.ensures.last c.stamp-number.ensures.next
 
-pub returns-then-stands_for-clause-same : goal.returns-then-stands_for-clause-same
-returns-then-stands_for-clause-same g c = grind (arith, set_same)
+pub returns-then-any_up-clause-same : goal.returns-then-any_up-clause-same
+returns-then-any_up-clause-same g c = grind (arith, set_same)
 
-pub returns-else-stands_for-clause-serves : goal.returns-else-stands_for-clause-serves
-returns-else-stands_for-clause-serves g c =
-    let down = sym c.stands_for.ensures ∙ c.if-stands_for.false in (
+pub returns-else-any_up-clause-serves : goal.returns-else-any_up-clause-serves
+returns-else-any_up-clause-serves g c =
+    let down = sym c.any_up.ensures ∙ c.if-any_up.false in (
       c.requires.may,
       record {
         sub = c.in-Some.sub;
@@ -62,12 +62,12 @@ returns-else-stands_for-clause-serves g c =
             (grind arith);
         same = grind arith;
         down = down;
-        endure = grind arith;
+        stays_down = grind arith;
       },
     )
 
-pub returns-else-stands_for-clause-entered : goal.returns-else-stands_for-clause-entered
-returns-else-stands_for-clause-entered g c = grind (arith, log_same, append-nil)
+pub returns-else-any_up-clause-entered : goal.returns-else-any_up-clause-entered
+returns-else-any_up-clause-entered g c = grind (arith, log_same, append-nil)
 
-pub returns-else-stands_for-clause-same : goal.returns-else-stands_for-clause-same
-returns-else-stands_for-clause-same g c = grind (arith, set_same)
+pub returns-else-any_up-clause-same : goal.returns-else-any_up-clause-same
+returns-else-any_up-clause-same g c = grind (arith, set_same)

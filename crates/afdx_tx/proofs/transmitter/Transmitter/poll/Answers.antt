@@ -40,10 +40,10 @@ invariant_of-self g c =
 
 pub returns-clause-kept : goal.returns-clause-kept
 returns-clause-kept g c = rw (← c.self.view_is) (λ gathered is. keeps_phase gathered _ _ is (rw (links_are g c) (steady g c).same)
-    (sound_conforms _ (sound g c)) c.serve_all.ensures.endure refl refl)
+    (sound_conforms _ (sound g c)) c.serve_all.ensures.stays_down refl refl)
 
-pub returns-then-not-stands_for-clause-kept : goal.returns-then-not-stands_for-clause-kept
-returns-then-not-stands_for-clause-kept g c = rw (← c.self.view_is) (λ gathered is. keeps_phase gathered _ _ is (grind arith)
+pub returns-then-not-any_up-clause-kept : goal.returns-then-not-any_up-clause-kept
+returns-then-not-any_up-clause-kept g c = rw (← c.self.view_is) (λ gathered is. keeps_phase gathered _ _ is (grind arith)
     (sound_conforms _ c.self.invariant.0) (both_none c.self.inside.mux) refl refl)
 
 pub returns-clause-run : goal.returns-clause-run
