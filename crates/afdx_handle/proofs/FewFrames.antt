@@ -1,21 +1,16 @@
 -- A poll makes at most as many frames for a network as it reports.
-use Rattle.afdx_handle.proofs.Names.{ℕ, zero, suc, ◌≡◌, ◌≤◌, ◌+◌, length, sym, ap, subst, ◌∙◌, arith, inl, inr, not, filter, Option, All, cases_Bool, filter-append, Lines, Endures, Keeps, DrainsAt, accepted_in, accepted_view, pace_in, Tx, queues_in, PortView, AreOpenedWith, BelongsTo, EndView, end_view, IsEndSystem, Runs, PollsTx, Bool, true, false, length-map, Net, log}
-use Rattle.std.proofs.Common.{List, [], ◌∷◌, ◌++◌, refl}
+use Rattle.afdx_handle.proofs.Names.{ℕ, zero, suc, ◌≡◌, ◌≤◌, ◌+◌, length, sym, ap, ◌∙◌, arith, inl, inr, not, filter, cases_Bool, filter-append, Lines, Endures, Keeps, Tx, EndView, end_view, IsEndSystem, Runs, PollsTx, Bool, true, false, length-map, Net, log}
+use Rattle.std.proofs.Common.{List, ◌++◌, refl}
 use Rattle.std.proofs.lemmas.List.Filters.{length-filter_both}
 use Rattle.std.proofs.lemmas.List.{length-append}
-use Rattle.afdx_plan.specs.Config.{Plan, link_plan_at}
 use Rattle.afdx_plan.specs.declared.link_plan.LinkPlan.{LinkPlan}
 use Rattle.afdx_frame.specs.declared.net.Net.TheVariants.{A, B}
 use Rattle.redundant_mux.specs.Lines.{Entry, entry, Logged, entries_of, logged_for, names, side}
 use Rattle.vl_link.specs.declared.served.Served.{Served}
 use Rattle.vl_link.specs.declared.served.Served.TheVariants.{Nothing, Released, Lost}
-use Rattle.vl_link.specs.Links.{link_at, pace_of, held_view}
 use Rattle.vl_link.specs.Turn.{TurnView, Turn, AreTurns}
 use Rattle.vl_shaper.specs.Pace.{Pace}
-use Rattle.subvl_queue.specs.Views.{QueueName}
-use Rattle.afdx_legal.specs.Streams.{link_stream}
 use Rattle.afdx_tx.specs.Report.{release_of}
-use Rattle.afdx_tx.specs.Run.{IsTurnAt}
 use Rattle.afdx_tx.specs.declared.report.Report.{Report}
 
 -- the number of these entries that a network gets

@@ -1,5 +1,5 @@
 -- Lists that are written from their front on: the frames of a poll, and others.
-use Rattle.afdx_handle.proofs.Names.{ℕ, zero, suc, ◌≡◌, ◌≤◌, ◌+◌, ◌∙◌, length, ap, arith, EndView, length-map, map-append, append-nil, concat, Net, made_at, first_made, bytes_of, lengths_of, sym, ◌<◌, set, take, map, append_assoc, drop-cons, length-take-le, get_or, map_more, drop-drop, with_front}
+use Rattle.afdx_handle.proofs.Names.{ℕ, zero, suc, ◌≡◌, ◌≤◌, ◌+◌, ◌∙◌, length, ap, arith, EndView, length-map, append-nil, concat, Net, made_at, first_made, bytes_of, lengths_of, sym, ◌<◌, set, take, map, append_assoc, drop-cons, length-take-le, get_or, map_more, drop-drop, with_front}
 use Rattle.std.proofs.Common.{List, [], ◌∷◌, ◌++◌, length-append, drop}
 use Rattle.std.proofs.lemmas.List.Folds.{concat-append}
 use Rattle.std.proofs.lemmas.List.FromFn.{map-range_with_len_more, length-map-range_with_len}

@@ -4,14 +4,14 @@ pub use Rattle.afdx_handle.specs.EndSystem.{ClosesEnd, EndView, IsAllSent, IsEnd
 pub use Rattle.afdx_handle.specs.Held.{port_of}
 pub use Rattle.afdx_handle.specs.Listing.{bytes_of, first_made, lengths_of, link_id, port_id, with_front}
 pub use Rattle.afdx_tx.specs.Phases.{Runs}
-pub use Rattle.afdx_handle.specs.Polling.{PollsTx, is_gathered, tx_of}
+pub use Rattle.afdx_handle.specs.Polling.{PollsTx, tx_of}
 pub use Rattle.afdx_handle.specs.contracts.end_system.EndSystem.{the_view}
 pub use Rattle.afdx_handle.specs.declared.home.Home.{Home}
 pub use Rattle.afdx_handle.specs.declared.stage.Stage.{Stage}
-pub use Rattle.afdx_tx.specs.Run.{DrainsAt, accepted_in, accepted_view, pace_in}
-pub use Rattle.afdx_tx.specs.Emitter.{Tx, queues_in}
+pub use Rattle.afdx_tx.specs.Run.{accepted_in}
+pub use Rattle.afdx_tx.specs.Emitter.{Tx}
 pub use Rattle.afdx_tx.specs.Gathering.{IsGatheredTx}
-pub use Rattle.afdx_tx.specs.Ports.{AreOpenedWith, BelongsTo, IsPortOfTx, LacksPlace, PortView}
+pub use Rattle.afdx_tx.specs.Ports.{IsPortOfTx, LacksPlace, PortView}
 pub use Rattle.core.proofs.alloc.Calls.{Goes-blank, handle_tells, token}
 pub use Rattle.core.proofs.mem.Facts.{says_two}
 unfoldable pub use Rattle.redundant_mux.specs.Lines.{log}

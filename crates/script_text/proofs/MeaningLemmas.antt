@@ -1,6 +1,5 @@
 -- The faults of a line, by its words.
-use Rattle.std.proofs.Common.{◌≡◌, ℕ, true, List, [], ◌∷◌, length, refl, arith, Some, None, nat_lt}
-use Rattle.std.proofs.lemmas.Bool.{lt-ltb}
+use Rattle.std.proofs.Common.{◌≡◌, ℕ, List, [], ◌∷◌, arith, Some, None}
 use Rattle.script_text.specs.Command.{message_of, port_number, moment_of, link_number, sub_number}
 use Rattle.script_text.specs.Faults.{send_fault, at_fault, close_fault}
 use Rattle.script_text.specs.Meaning.{IsSaidSend, IsSaidAt, IsSaidClose}

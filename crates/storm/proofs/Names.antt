@@ -1,9 +1,8 @@
 -- The names of other crates, and of this one's definitions, that the proofs here use.
-pub use Rattle.std.proofs.Common.{All, List, Option, [], add-one, ap, arith, cond, false, get_or, length, map, nat_eq, refl, rules, set, subst, suc, sym, take, tests, zero, ℕ, ◌&&◌, ◌*◌, ◌++◌, ◌+◌, ◌<◌, ◌^◌, ◌∙◌, ◌∷◌, ◌≡◌, ◌≤◌}
-pub use Rattle.std.proofs.Math.Nat.{mul-le-mul_right}
+pub use Rattle.std.proofs.Common.{All, List, [], add-one, ap, arith, cond, false, get_or, length, map, nat_eq, refl, rules, set, subst, suc, sym, take, tests, zero, ℕ, ◌&&◌, ◌*◌, ◌++◌, ◌+◌, ◌<◌, ◌∙◌, ◌∷◌, ◌≡◌, ◌≤◌}
 pub use Rattle.std.proofs.Math.Seq.{map-set_same, take-length, take-suc}
 pub use Rattle.std.proofs.lemmas.Grind.{common_steps}
-pub use Rattle.std.proofs.lemmas.List.{get_or-map, get_or-set_other, length-append, length-map, map-append}
+pub use Rattle.std.proofs.lemmas.List.{get_or-map, get_or-set_other, length-append, length-map}
 pub use Rattle.std.proofs.lemmas.List.Elements.{All-contains, Contains-get_or}
 pub use Rattle.std.specs.Io.KnownBytes.{Appends}
 pub use Rattle.std.specs.List.{sum_by}
@@ -14,13 +13,13 @@ pub use Rattle.afdx_plan.specs.Config.{IsPlan, Plan, link_plan_at, port_plan_at}
 pub use Rattle.afdx_plan.specs.declared.link_plan.LinkPlan.{LinkPlan}
 pub use Rattle.afdx_tx.specs.Run.{accepted_in}
 pub use Rattle.afdx_tx.specs.Emitter.{IsFreshTx, Tx, queues_in}
-pub use Rattle.afdx_tx.specs.Ports.{Accepts, AreFreshPorts, AreOpenedWith, BelongsTo, HasEveryPlace, PortView, Refuses}
+pub use Rattle.afdx_tx.specs.Ports.{AreFreshPorts, AreOpenedWith, BelongsTo, HasEveryPlace, PortView}
 pub use Rattle.plan_report.specs.declared.status.Failure.{Failure}
 pub use Rattle.redundant_mux.specs.Lines.{Entry, log}
 pub use Rattle.redundant_mux.specs.Memory.{entries, entry_of}
 pub use Rattle.status_board.specs.Views.{NoFieldFalls, value_of, zeros, AreNew, IsReading, Published, Watched, last_of, links_of, no_cell, published, seen}
 pub use Rattle.status_board.specs.declared.counts.Counts.{Counts}
-pub use Rattle.subvl_queue.specs.Views.{IsRefused, QueueName, SenderView}
+pub use Rattle.subvl_queue.specs.Views.{SenderView}
 pub use Rattle.storm.specs.Threads.{IsShown, ReadsFirst, ReadsOnly, all_counts, cells_of, cells_read, own_counts}
 pub use Rattle.storm.specs.Workers.{messages_to, own_messages, AreAtMost, AreSpent, IsSpent, asked_after, asked_by, named, sent_all}
 pub use Rattle.storm.specs.Storms.{HasShortPort, IsPlanRefusal, IsStormRefusal, failure_of, link_lines_to, totals_of}

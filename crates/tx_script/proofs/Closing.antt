@@ -1,7 +1,6 @@
 -- A sub-VL is closed: the end system that matches stays the same.
-use Rattle.std.proofs.Common.{ℕ, ◌≡◌, ◌<◌, ◌+◌, List, length, arith, refl, ap, ◌∙◌, sym, subst, inl, inr, Option, Some, None}
-use Rattle.std.proofs.lemmas.Bool.{cases_lt, lt-ltb, le-ltb}
-use Rattle.afdx_plan.specs.Config.{Plan, IsPlan, link_plan_at}
+use Rattle.std.proofs.Common.{ℕ, ◌≡◌, ◌+◌, List, arith, refl, ap, ◌∙◌, sym, subst, Option, Some, None}
+use Rattle.afdx_plan.specs.Config.{Plan, IsPlan}
 use Rattle.vl_link.specs.Calls.{Closes}
 use Rattle.vl_link.specs.Links.{Held, LinkState, held_at, link_at, nothing_held, no_link}
 use Rattle.vl_link.specs.Seen.{Seen, receiving, gathered, total_of}

@@ -23,9 +23,7 @@ use Rattle.afdx_tx.proofs.ClosedEmitter.{total_whole}
 use Rattle.afdx_tx.proofs.PortLink.{link_within}
 use Rattle.script_text.specs.Meaning.{meaning_of}
 use Rattle.script_text.specs.declared.line.Line.{Line}
-use Rattle.script_text.specs.declared.line.Line.TheVariants.{Close}
 use Rattle.tx_script.specs.AtBench.{AtBench, IsAtHand, Matches, OnlyTakes, TellsTotal, AreTold, IsGathered}
-use Rattle.tx_script.specs.EndSystem.{Progress}
 
 -- the messages of each port among some
 abbrev pub each_port : Plan → List Sent → Messages

@@ -1,5 +1,5 @@
 -- A poll of an emitter, over what was taken of its sub-VLs and what is left.
-use Rattle.std.proofs.Common.{ℕ, ◌≡◌, ◌≢◌, ◌-◌, ◌+◌, ◌<◌, ◌≤◌, List, [], ◌++◌, Bool, true, false, nat_lt, length, append-nil, arith, refl, ap, ◌∙◌, sym, subst, inl, inr, ⊎_elim, Result, Ok, Err, OnOk, OnErr}
+use Rattle.std.proofs.Common.{ℕ, ◌≡◌, ◌≢◌, ◌-◌, ◌+◌, ◌<◌, ◌≤◌, List, ◌++◌, Bool, true, false, nat_lt, length, append-nil, arith, refl, ap, ◌∙◌, subst, inr, ⊎_elim, Result, Ok, Err, OnOk, OnErr}
 use Rattle.std.proofs.lemmas.Bool.{cases_eq, le-ltb}
 use Rattle.std.proofs.lemmas.List.{length-append, length-map, map-append}
 use Rattle.afdx_plan.specs.Config.{link_plan_at}
@@ -12,8 +12,8 @@ use Rattle.vl_shaper.specs.Pace.{Pace}
 use Rattle.vl_link.specs.declared.served.Served.{Served}
 use Rattle.vl_link.specs.declared.served.Served.TheVariants.{Nothing, Released, Lost}
 use Rattle.vl_link.specs.Turn.{Turn, AreTurns, IsChoice}
-use Rattle.vl_link.specs.Links.{Held, LinkState, held_at, link_at, GoesOn, Starts, Passes, GivesFrame, held_view, sent_of, IsSameLink, taken_by}
-use Rattle.vl_link.proofs.QueueLooks.{taken_nothing, taken_finds}
+use Rattle.vl_link.specs.Links.{Held, LinkState, held_at, link_at, Starts, GivesFrame, held_view, sent_of, IsSameLink, taken_by}
+use Rattle.vl_link.proofs.QueueLooks.{taken_finds}
 use Rattle.vl_link.proofs.TurnLaws.{choice_other, turn_seen, turns_seen, turns_each}
 use Rattle.afdx_tx.specs.declared.report.Release.{Release}
 use Rattle.afdx_tx.specs.Run.{pace_in, IsTurn, IsTurnAt, IsRun}
@@ -25,7 +25,7 @@ use Rattle.script_text.specs.declared.notes.Outcome.TheVariants as Became
 use Rattle.tx_script.specs.EndSystem.{Progress, EndSystem, started, SendsFrame, progress_view, HasTurnAt, HasPolled}
 use Rattle.tx_script.specs.AtBench.{AtBench, IsPlannedLink, progress_of, MatchesTx, Obeys, OnlyTakes}
 use Rattle.tx_script.specs.Play.{leaves}
-use Rattle.tx_script.proofs.Matched.{asked_on, same_totals, still_planned}
+use Rattle.tx_script.proofs.Matched.{asked_on, same_totals}
 
 -- as many entries as were logged
 log_many : (lines : Lines) → length (log lines) ≡ length lines.logged

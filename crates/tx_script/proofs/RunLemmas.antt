@@ -2,7 +2,7 @@
 use Rattle.std.proofs.Common.{◌≡◌, ℕ, ◌+◌, ◌*◌, ◌<◌, ◌≤◌, List, [], ◌∷◌, append-nil, Option, Some, None, refl, ap, sym, ◌∙◌, subst, arith, true, inl, inr, ◌++◌}
 use Rattle.std.specs.Prelude.{IfSome, Ok, Err, Result}
 use Rattle.std.specs.Io.KnownBytes.{Appends}
-use Rattle.std.proofs.KnownBytes.{Appends-nil, Appends-trans, Appends-kept}
+use Rattle.std.proofs.KnownBytes.{Appends-nil, Appends-trans}
 use Rattle.std.proofs.lemmas.List.Elements.{All-head, All-tail}
 use Rattle.std.proofs.lemmas.Option.{IfSome_then}
 use Rattle.afdx_plan.specs.Config.{Plan}
@@ -12,7 +12,6 @@ use Rattle.script_text.specs.Meaning.{meaning_of, counted, HasFew}
 use Rattle.script_text.specs.Transcript.{note_of, streams, ends_writing}
 use Rattle.script_text.specs.declared.line.Line.{Line as Said}
 use Rattle.script_text.specs.declared.notes.Outcome.{Outcome}
-use Rattle.script_text.specs.declared.notes.Outcome.TheVariants.{Quiet}
 use Rattle.script_text.specs.declared.faults.RunFault.{RunFault}
 use Rattle.script_text.specs.declared.faults.RunFault.TheVariants as Fault
 use Rattle.script_text.specs.declared.notes.Summary.{Summary as Sums}

@@ -1,6 +1,6 @@
 -- Obeying a line that sends a message.
 use Rattle.std.proofs.Common.{ℕ, ◌≡◌, ◌≢◌, ◌≤◌, ◌<◌, ◌+◌, ◌==◌, inl, inr, List, [], length, set, get_or, refl, ap, ◌∙◌, sym, arith, append-nil, Option, Some, None}
-use Rattle.std.proofs.lemmas.Bool.{eq-eqb, ne_eqb, lt-ltb}
+use Rattle.std.proofs.lemmas.Bool.{eq-eqb}
 use Rattle.std.proofs.lemmas.List.Quantifiers.{position-Some}
 use Rattle.afdx_plan.specs.Config.{Plan, port_plan_at}
 use Rattle.afdx_plan.specs.declared.port_plan.PortPlan.{PortPlan}
@@ -10,7 +10,7 @@ use Rattle.subvl_queue.specs.declared.refused.Why.TheVariants as Queue
 use Rattle.afdx_tx.specs.declared.fault.Refusal.{Refusal as SendRefusal}
 use Rattle.afdx_tx.specs.declared.fault.Refusal.TheVariants as Why
 use Rattle.afdx_tx.specs.Emitter.{Tx}
-use Rattle.afdx_tx.specs.Ports.{PortView, MaySend, Refuses, QueueRefuses, length_refusal}
+use Rattle.afdx_tx.specs.Ports.{PortView, Refuses, QueueRefuses, length_refusal}
 use Rattle.script_text.specs.declared.line.Line.{Line}
 use Rattle.script_text.specs.declared.line.Line.TheVariants.{Send}
 use Rattle.script_text.specs.declared.faults.Refusal.{Refusal}

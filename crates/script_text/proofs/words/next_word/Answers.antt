@@ -1,4 +1,3 @@
-use Rattle.std.proofs.lemmas.Bool.Decides.{nat_tests}
 use Rattle.std.proofs.Common.{arith}
 use Rattle.script_text.proofs.WordLemmas.{next_none, next_some}
 use Rattle.script_text.proofs.words.next_word.Goals as goal

@@ -1,4 +1,4 @@
-use Rattle.std.proofs.Common.{◌<◌, ◌+◌, ◌*◌, ◌-◌, sym, arith, get_or}
+use Rattle.std.proofs.Common.{◌<◌, ◌+◌, ◌*◌, ◌-◌, arith, get_or}
 use Rattle.script_text.proofs.WordLemmas.{number_none, number_some, too_great, read_on_end}
 use Rattle.script_text.proofs.words.number.Goals as goal
 

@@ -1,4 +1,4 @@
-use Rattle.storm.proofs.Names.{◌≡◌, ◌∙◌, ◌*◌, ◌<◌, ◌≤◌, ◌^◌, List, length, ap, sym, subst, arith, mul-le-mul_right, sum_by, IsPlan, IsLegal, AreAllowed, accepted_in, Tx, PortView}
+use Rattle.storm.proofs.Names.{◌≡◌, ◌∙◌, List, length, ap, subst, arith, sum_by, IsPlan, IsLegal, AreAllowed, accepted_in, Tx, PortView}
 use Rattle.storm.proofs.SameCells.{counts_kept}
 use Rattle.storm.proofs.Spent.{every_place, sum_spent}
 use Rattle.storm.proofs.Whole.{handed_whole}

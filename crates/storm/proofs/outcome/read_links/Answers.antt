@@ -1,4 +1,4 @@
-use Rattle.storm.proofs.Names.{◌<◌, length, sym, ap, ◌∙◌, arith, Tx, cells_of}
+use Rattle.storm.proofs.Names.{◌<◌, length, arith}
 use Rattle.storm.proofs.SameCells.{cell_at, cells_kept, read_more, read_all}
 use Rattle.storm.proofs.outcome.read_links.Goals as goal
 

@@ -1,4 +1,4 @@
-use Rattle.storm.proofs.Names.{arith, rules, refl}
+use Rattle.storm.proofs.Names.{arith}
 use Rattle.storm.proofs.watcher.watch.Goals as goal
 
 pub loop-link-init : goal.loop-link-init

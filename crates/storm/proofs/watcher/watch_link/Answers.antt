@@ -1,4 +1,4 @@
-use Rattle.storm.proofs.Names.{arith, rules, refl}
+use Rattle.storm.proofs.Names.{arith, rules}
 use Rattle.storm.proofs.Spent.{only_more}
 use Rattle.storm.proofs.watcher.watch_link.Goals as goal
 

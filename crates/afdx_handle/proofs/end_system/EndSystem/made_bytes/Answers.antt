@@ -1,4 +1,4 @@
-use Rattle.afdx_handle.proofs.Names.{arith, ap, length}
+use Rattle.afdx_handle.proofs.Names.{arith}
 use Rattle.afdx_handle.proofs.MadeFrames.{bytes_more}
 use Rattle.afdx_handle.proofs.end_system.EndSystem.made_bytes.Goals as goal
 
