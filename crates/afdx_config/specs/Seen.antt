@@ -12,7 +12,7 @@ use Rattle.toml.specs.View.{table_view}
 use Rattle.afdx_plan.specs.Config.{Plan, plan_of_parts}
 use Rattle.afdx_config.specs.Format.{Field}
 use Rattle.afdx_config.specs.Tables.{field_fault, section_at, rows_at}
-use Rattle.afdx_config.specs.declared.format.Field.{Field as Written}
+use Rattle.afdx_config.specs.declared.format.Field.{Field as WrittenField}
 use Rattle.afdx_config.specs.declared.document.Document.{Document}
 use Rattle.afdx_config.specs.declared.parts.Parts.{Parts}
 
@@ -54,7 +54,7 @@ abbrev pub Adds : Found → Found → List Finding → Type 0
 Adds old new more = (all : List Finding) → Holds old all → Holds new (all ++ more)
 
 -- the field of the specification
-abbrev pub field_of : Written → Field
+abbrev pub field_of : WrittenField → Field
 field_of written = record {
   key = written.0.now;
   is_needed = written.1;
