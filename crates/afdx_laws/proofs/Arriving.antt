@@ -11,14 +11,13 @@ use Rattle.afdx_laws.proofs.InOrder.{in_order_holds}
 use Rattle.afdx_laws.proofs.Reading.{read_any, reads_all, reads_frames, of_sub_is, length-datagram, drop-datagram}
 
 fragments_received : (got sent : List (List ℕ)) → map (twin_of A) got ≡ map (twin_of A) sent → map fragment_in got ≡ map fragment_in sent
-fragments_received got sent same =
-    grind (
-      arith,
-      ap (map fragment_in) same,
-      map-map,
-      map_same fragment_in (λ f. fragment_in (twin_of A f)) got (grind arith),
-      map_same fragment_in (λ f. fragment_in (twin_of A f)) sent (grind arith),
-    )
+fragments_received got sent same = grind (
+  arith,
+  ap (map fragment_in) same,
+  map-map,
+  map_same fragment_in (λ f. fragment_in (twin_of A f)) got (grind arith),
+  map_same fragment_in (λ f. fragment_in (twin_of A f)) sent (grind arith),
+)
 
 sub_take : (sub n : ℕ) (stream : List (List ℕ))
     → those_with sub_in sub stream ≡ those_with sub_in sub (take n stream) ++ those_with sub_in sub (drop n stream)
@@ -33,7 +32,7 @@ datagrams_of end_system accepted = map (λ (sent : Sent). datagram end_system se
 
 bytes_of : (end_system many : ℕ) (accepted : List Sent) → map (drop 8) (take many (datagrams_of end_system accepted))
     ≡ take many (map (λ (sent : Sent). sent.bytes) accepted)
-bytes_of end_system many accepted = grind (arith, take-map, datagrams_of, map-map, map_same, drop-datagram)
+bytes_of end_system many accepted = grind (arith, take-map, map-map, map_same, drop-datagram)
 
 pub some_bytes : (end_system sub : ℕ) (accepted : List Sent) → All (IsSent sub) accepted → All HasByte (datagrams_of end_system accepted)
 some_bytes end_system sub accepted sent =
@@ -50,14 +49,13 @@ few_bytes end_system sub accepted sent =
 own_fragments : (sub count : ℕ) (stream got : List (List ℕ)) → map (twin_of A) got ≡ take count (map (twin_of A) stream)
     → of_sub sub (map fragment_in got) ≡ map fragment_in (those_with sub_in sub (take count stream))
 own_fragments sub count stream got first =
-    ap (of_sub sub) (grind (arith, fragments_received, take, take-map, twin_of))
+    ap (of_sub sub) (grind (arith, fragments_received, take, take-map))
     ∙ of_sub_is sub (take count stream)
 
 pub first_come : (end_system room sub count : ℕ) (accepted : List Sent) (net : Net) (stream got : List (List ℕ))
     → IsSending end_system room sub accepted net stream → map (twin_of A) got ≡ take count (map (twin_of A) stream)
     → IsPrefixOf (of_sub sub (map fragment_in got)) (sent_from room sub 0 (datagrams_of end_system accepted))
 first_come end_system room sub count accepted net stream got sending first =
-    let front : List (List ℕ) = those_with sub_in sub (take count stream) in
     let back : List (List ℕ) = those_with sub_in sub (drop count stream) in
     let read = reads_all accepted end_system room sub 0 net sending.link.least sending.link.greatest sending.sent in
     let rest : List (List ℕ) = map blanked back ++ sending.first.0 in
@@ -70,7 +68,7 @@ first_come end_system room sub count accepted net stream got sending first =
     IsLong (take count stream) (All-take IsLong count stream sending.frames.long) in (
       map read_any rest,
       append_same (own_fragments sub count stream got first) refl
-          ∙ sym (reads_frames front (fragments end_system room net accepted) rest read.each long split) ∙ read.are,
+          ∙ sym (grind (arith, reads_frames)) ∙ read.are,
     )
 
 -- what is in frames that are the first of the stream's, at least as many as these
@@ -88,7 +86,7 @@ arrived end_system room sub few many accepted net stream got sending first less 
       all = λ j within enough.
           let read = reads_all (take j accepted) end_system room sub 0 A least sending.link.greatest
           (All-take (IsSent sub) j accepted sending.sent) in
-          ends.2 j (omega (arith, length-map accepted (λ (s : Sent). datagram end_system s.port s.bytes)))
+          ends.2 j (grind (arith, length-map))
           (grind (arith, ap length read.are, take-map, length-map, ap length (own_fragments sub many stream got first), more_of_sub sub few many stream less));
     }
 

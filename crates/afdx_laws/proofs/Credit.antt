@@ -1,7 +1,7 @@
 -- The account of a policer: a spaced stream on its way is on time and passes, and what passes is paid for.
 use Rattle.afdx_laws.proofs.Names.{ℕ, ◌≡◌, ◌+◌, ◌-◌, ◌*◌, ◌≤◌, List, [], ◌∷◌, map, arith, refl, ap, ◌∙◌, suc, mul-le, Arrival, Rule, Account, Charge, by_bytes}
 use Rattle.afdx_laws.proofs.Names.{by_frames, full, filled, paid, price, passed, Passage, arrival, IsOnTime, AreOnTime, NoneDropped, IsUpTo, IsOnItsWay}
-use Rattle.afdx_laws.proofs.Names.{rule_around, StreamPasses, Option, Some, None, All, AllZip, Entry, stamp_of, IsSpaced, inl, inr, cases_lt, le-leb}
+use Rattle.afdx_laws.proofs.Names.{rule_around, StreamPasses, Option, Some, All, AllZip, Entry, stamp_of, IsSpaced, inl, inr, cases_lt, le-leb}
 use Rattle.afdx_laws.proofs.Names.{sum_by-cons, limit, cost, AreBetween, NoMorePasses}
 use Rattle.std.proofs.Math.Nat.{mul-add, le-min}
 use Rattle.vl_shaper.specs.declared.shaper.Stamp.{Stamp}
@@ -36,7 +36,7 @@ enough charge rule account p ready on = grind (arith, price_le charge rule (arri
 
 all_pass : (charge : Charge) (rule : Rule) (account : Account) (p : Passage) (rest : List Passage)
     → AreOnTime rule (p ∷ rest) → IsReady rule account p → passed charge rule account (map arrival (p ∷ rest)) ≡ map arrival (p ∷ rest)
-all_pass charge rule account p [] on ready = grind (arith, passes, enough)
+all_pass charge rule account p [] on ready = grind (arith, enough)
 all_pass charge rule account p (q ∷ rest) on ready =
     let cost = price charge rule (arrival p) in
     let cheap = price_le charge rule (arrival p) (on.0).small in
@@ -44,9 +44,6 @@ all_pass charge rule account p (q ∷ rest) on ready =
     ∙ ap (λ (fs : List Arrival). arrival p ∷ fs)
     (all_pass charge rule (paid (filled rule account p.arrived) cost) q rest on.2
     (grind (arith, ready_next)))
-  where
-    head_on : (rule : Rule) (q : Passage) (rest : List Passage) → AreOnTime rule (q ∷ rest) → IsOnTime rule q
-    head_on rule q rest on = grind arith
 
 pub none_dropped_holds : NoneDropped
 none_dropped_holds charge rule [] on = refl
@@ -81,12 +78,11 @@ one_passed : (charge : Charge) (rule : Rule) (account : Account) (f : Arrival) (
     → price charge rule f ≤ (filled rule account f.at).credit → cost charge rule (passed charge rule account (f ∷ later))
     ≡ price charge rule f + cost charge rule
     (passed charge rule (paid (filled rule account f.at) (price charge rule f)) later)
-one_passed charge rule account f later can =
-    grind (
-      arith,
-      le-leb _ _ can,
-      sum_by-cons (price charge rule) f (passed charge rule (paid (filled rule account f.at) (price charge rule f)) later),
-    )
+one_passed charge rule account f later can = grind (
+  arith,
+  le-leb _ _ can,
+  sum_by-cons (price charge rule) f (passed charge rule (paid (filled rule account f.at) (price charge rule f)) later),
+)
 
 filled_over : (l since now end : ℕ) → since ≤ now → now ≤ end → l * (now - since) + l * (end - now) ≡ l * (end - since)
 filled_over l since now end first second = grind arith

@@ -1,9 +1,9 @@
 -- The longer list is the stream sent to a network: what was transmitted arrives, also despite losses.
-use Rattle.afdx_laws.proofs.Names.{◌≡◌, ℕ, suc, ◌≤◌, ◌<◌, inl, inr, Bool, cond, List, [], ◌∷◌, ◌++◌, length, map, take, drop, refl, ap, ◌∙◌, arith, All}
-use Rattle.afdx_laws.proofs.Names.{cases_lt, lt-ltb, le-ltb, append_assoc, map-append, take-append-drop, map-map, Net, A, B, twin_of, Sent, twin_twice}
+use Rattle.afdx_laws.proofs.Names.{◌≡◌, ℕ, suc, ◌≤◌, ◌<◌, inl, inr, List, [], ◌∷◌, ◌++◌, length, map, take, drop, refl, arith, All}
+use Rattle.afdx_laws.proofs.Names.{cases_lt, append_assoc, map-append, take-append-drop, map-map, Net, A, B, twin_of, Sent, twin_twice}
 use Rattle.afdx_laws.proofs.Names.{IsPrefixOf, carried, AreCarried, IsSent, IsLinkOf, IsSending, IsOfNet, IsHanded, AreHanded, AreCarriedOf, longer}
 use Rattle.afdx_laws.proofs.Names.{HandedArrive, HandedDespiteLoss}
-use Rattle.afdx_laws.proofs.ListLemmas.{cons_same, map_same}
+use Rattle.afdx_laws.proofs.ListLemmas.{cons_same}
 use Rattle.afdx_laws.proofs.Arriving.{messages_arrive_holds, despite_loss_holds}
 
 begins_twins : (net : Net) (n : ℕ) (xs front all : List (List ℕ)) → front ≡ map (twin_of net) (take n all)
@@ -15,7 +15,7 @@ own_twins net [] all = refl
 own_twins net (x ∷ xs) all = cons_same (all 0 x (omega arith)) (own_twins net xs (λ k d h. all (suc k) d (omega arith)))
 
 pub twin_twin : (first second : Net) (xs : List (List ℕ)) → map (twin_of second) (map (twin_of first) xs) ≡ map (twin_of second) xs
-twin_twin first second xs = grind (arith, map-map, twin_of, map_same, twin_twice)
+twin_twin first second xs = grind (arith, map-map, twin_of, twin_twice)
 
 pub longer_b : (a b : List (List ℕ)) → length a < length b → longer a b ≡ b
 longer_b a b shorter = grind arith
@@ -39,16 +39,16 @@ pub carried_longer : (end_system room sub lag : ℕ) (accepted : List Sent) (a b
 carried_longer end_system room sub lag accepted a b handed = elim (cases_lt (length a) (length b)) [
   | inl shorter ↦ record {
     net = B;
-    sending = rw (longer_b a b shorter) (sending_to handed.link handed.sent handed.on_b);
+    sending = grind arith;
     carry = λ arrivals carry. rw (longer_b a b shorter) (record {
-      on_a = begins_twins A (length a) (carried A arrivals) a b (handed.twins.a_shorter (omega arith)) carry.on_a;
-      on_b = rw (own_twins B b handed.on_b.own) carry.on_b;
+      on_a = begins_twins A (length a) (carried A arrivals) a b (grind arith) carry.on_a;
+      on_b = grind (arith, own_twins);
       near = carry.near;
     });
   }
   | inr as_long ↦ record {
     net = A;
-    sending = rw (longer_a a b as_long) (sending_to handed.link handed.sent handed.on_a);
+    sending = grind arith;
     carry = λ arrivals carry. rw (longer_a a b as_long) (grind (arith, own_twins A a handed.on_a.own, begins_twins B (length b) (carried B arrivals) b a (handed.twins.b_shorter as_long) carry.on_b));
   }
 ]

@@ -1,7 +1,7 @@
 -- Fragments in order complete their datagrams in order, and need one buffer.
-use Rattle.afdx_laws.proofs.Names.{◌≡◌, ℕ, zero, suc, ◌+◌, ◌%◌, ◌≤◌, ◌<◌, inl, inr, true, false, nat_eq, cond, List, [], ◌∷◌, ◌++◌, length, map, take, refl, ap}
-use Rattle.afdx_laws.proofs.Names.{sym, ◌∙◌, arith, All, Some, None, nat_tests, cases_lt, cases_Bool, eqb-true, append_assoc, length-append, length-map}
-use Rattle.afdx_laws.proofs.Names.{identification, cutting, pieces_from, cutting_some, Fragment, Buffer, empty, put, put_all, bytes_to, datagram_in}
+use Rattle.afdx_laws.proofs.Names.{◌≡◌, ℕ, zero, suc, ◌+◌, ◌%◌, ◌≤◌, ◌<◌, inl, inr, true, nat_eq, List, [], ◌∷◌, ◌++◌, length, map, take, refl, ap}
+use Rattle.afdx_laws.proofs.Names.{sym, ◌∙◌, arith, All, Some, None, nat_tests, cases_lt, cases_Bool, append_assoc, length-append, length-map}
+use Rattle.afdx_laws.proofs.Names.{identification, pieces_from, cutting_some, Fragment, Buffer, empty, put, put_all, datagram_in}
 use Rattle.afdx_laws.proofs.Names.{fragment_of, fragments_of, IsPrefixOf, with_buffer, kept_in, delivered, of_sub, keyed, sent_from, HasByte, AreGiven}
 use Rattle.afdx_laws.proofs.Names.{InOrder, buffers_after}
 use Rattle.afdx_frame.proofs.Buffers.{any_order_holds}
@@ -11,27 +11,22 @@ use Rattle.afdx_laws.proofs.ListLemmas.{cons_parts, nil_begins}
 abbrev pub AreSame : ℕ → (ℕ → Buffer) → (ℕ → Buffer) → Type 0
 AreSame sub xs ys = (k : ℕ) → k % 4 ≡ sub → xs k ≡ ys k
 
-other_with : (sub key : ℕ) (b : Buffer) (xs ys : ℕ → Buffer) → nat_eq (key % 4) sub ≡ false → AreSame sub xs ys
-    → AreSame sub (with_buffer key b xs) ys
-other_with sub key b xs ys isnt same k is = grind arith
-
 -- a sub-VL's datagrams and buffers are those of its fragments alone
 pub record IsApart (sub : ℕ) (es : List (ℕ × Fragment)) (xs ys : ℕ → Buffer) : Type 0 where
   pub given : of_sub sub (delivered xs es) ≡ delivered ys (of_sub sub es)
   pub buffers : AreSame sub (buffers_after xs es) (buffers_after ys (of_sub sub es))
 
 pub apart : (sub : ℕ) (es : List (ℕ × Fragment)) (xs ys : ℕ → Buffer) → AreSame sub xs ys → IsApart sub es xs ys
-apart sub [] xs ys same = record { given = refl; buffers = same }
+apart sub [] xs ys same = grind arith
 apart sub (e ∷ es) xs ys same = elim (cases_Bool (nat_eq (e.0 % 4) sub)) [
   | inl is ↦
       let b : Buffer = put (ys e.0) e.1 in
       let rest = apart sub es (with_buffer e.0 (kept_in b (datagram_in b)) xs)
-      (with_buffer e.0 (kept_in b (datagram_in b)) ys)
-      (grind arith) in
+      (with_buffer e.0 (kept_in b (datagram_in b)) ys) (grind arith) in
       (grind arith)
   | inr isnt ↦
       let b : Buffer = put (xs e.0) e.1 in
-      grind (arith, apart sub es (with_buffer e.0 (kept_in b (datagram_in b)) xs) ys (other_with sub e.0 (kept_in b (datagram_in b)) xs ys isnt same))
+      grind (arith, apart sub es (with_buffer e.0 (kept_in b (datagram_in b)) xs) ys (grind arith))
 ]
 
 -- all but the last say that more follow
@@ -43,7 +38,7 @@ IsBlock (f ∷ g ∷ rest) = (f.more ≡ true) × IsBlock (g ∷ rest)
 is_block : (d : List ℕ) (start : ℕ) (lens : List ℕ) → 0 < length lens → IsBlock (map (fragment_of d) (pieces_from start lens))
 is_block d start [] some = absurd (omega arith)
 is_block d start (len ∷ []) some = tt
-is_block d start (len ∷ next ∷ lens) some = (grind (arith, nat_tests), is_block d (start + len) (next ∷ lens) (omega arith))
+is_block d start (len ∷ next ∷ lens) some = (grind arith, is_block d (start + len) (next ∷ lens) (omega arith))
 
 -- the first fragment of a datagram, and those after it
 record Begins (fs : List Fragment) : Type 0 where
@@ -54,7 +49,7 @@ record Begins (fs : List Fragment) : Type 0 where
 
 begins : (room : ℕ) (d : List ℕ) → 1 ≤ length d → Begins (fragments_of room d)
 begins room d some =
-    first (fragments_of room d) (grind (arith, is_block, cutting, cutting_some))
+    first (fragments_of room d) (grind (arith, is_block, cutting_some))
   where
     first : (fs : List Fragment) → IsBlock fs → Begins fs
     first [] b = absurd b
@@ -83,19 +78,16 @@ abbrev HoldsSoFar : ℕ → ℕ → (ℕ → Buffer) → List Fragment → Type 
 HoldsSoFar sub key buffers done = (buffers key ≡ put_all empty done)
     × ((k : ℕ) → k % 4 ≡ sub → (k ≡ key → ⊥) → buffers k ≡ empty)
 
-with_same : (key : ℕ) (b : Buffer) (buffers : ℕ → Buffer) → with_buffer key b buffers key ≡ b
-with_same key b buffers = grind (arith, nat_tests)
-
 all_empty : (sub key : ℕ) (buffers : ℕ → Buffer) → ((k : ℕ) → k % 4 ≡ sub → (k ≡ key → ⊥) → buffers k ≡ empty)
     → (k : ℕ) → k % 4 ≡ sub → with_buffer key empty buffers k ≡ empty
-all_empty sub key buffers others k is = grind (arith, nat_tests)
+all_empty sub key buffers others k is = grind arith
 
 -- datagrams of which all fragments came, by those of which all but the first one's came
 all_more : (room sub place n many : ℕ) (d : List ℕ) (later : List (List ℕ)) (block : Begins (fragments_of room d))
     → ((i : ℕ) → i ≤ length later → suc (length block.behind) + length (sent_from room sub (suc place) (take i later)) ≤ n → i < many)
     → (j : ℕ) → j ≤ length (d ∷ later) → length (sent_from room sub place (take j (d ∷ later))) ≤ n → j ≤ many
 all_more room sub place n many d later block each zero few enough = omega arith
-all_more room sub place n many d later block each (suc i) few enough = grind (arith, each i, ap length block.is, length-append, length-map)
+all_more room sub place n many d later block each (suc i) few enough = grind (arith, length-append, length-map)
 
 completes : (b : Buffer) (f : Fragment) (room : ℕ) (done : List Fragment) (d : List ℕ) → 8 ≤ room → 1 ≤ length d
     → fragments_of room d ≡ done ++ f ∷ [] → b ≡ put_all empty done → datagram_in (put b f) ≡ Some d
@@ -113,20 +105,18 @@ goes : (came : List (ℕ × Fragment)) (room sub place : ℕ) (buffers : ℕ →
 goes [] room sub place buffers done f todo d later rest least small some split block none holds is = record {
   many = 0;
   are = refl;
-  all = λ j few enough. absurd (omega arith);
+  all = grind arith;
   alone = record { key = identification place sub; others = holds.1 };
 }
 goes (c ∷ came) room sub place buffers done f (next ∷ todo) d later rest least small some split block none holds is =
     let heads = cons_parts is in
     let k : ℕ = identification place sub in
     let b : Buffer = put (buffers k) f in
-    let yet : b.total ≡ None = rw block.0 none in
-    let nothing : datagram_in b ≡ None = ap (bytes_to b.byte_at) yet in
     let more = goes came room sub place (with_buffer k b buffers)
     (done ++ f ∷ []) next todo d later rest least small some
-    (split ∙ sym (append_assoc done (f ∷ []) (next ∷ todo))) block.1
-    (ap (λ (c : Buffer). c.total) (with_same k b buffers) ∙ yet) (
-    grind (arith, with_same, put_more, nat_tests)
+    (grind (arith, append_assoc)) block.1
+    (grind (arith, nat_tests)) (
+    grind (arith, put_more, nat_tests)
     ) heads.1 in
     rw (← heads.0) (grind arith)
 goes (c ∷ []) room sub place buffers done f [] d [] rest least small some split block none holds is =
@@ -136,7 +126,7 @@ goes (c ∷ []) room sub place buffers done f [] d [] rest least small some spli
       many = 1;
       are = rw whole refl;
       all = λ j few enough. omega arith;
-      alone = rw whole (record { key = 0; others = λ m is_m ne. all_empty sub (identification place sub) buffers holds.1 m is_m });
+      alone = grind arith;
     })
 goes (c ∷ x ∷ came) room sub place buffers done f [] d [] rest least small some split block none holds is = grind arith
 goes (c ∷ came) room sub place buffers done f [] d (e ∷ later) rest least small some split block none holds is =
@@ -149,12 +139,11 @@ goes (c ∷ came) room sub place buffers done f [] d (e ∷ later) rest least sm
     let own : key_e % 4 ≡ sub = omega arith in
     let more = goes came room sub (suc place) (with_buffer k empty buffers) [] block_e.first block_e.behind e later
     rest least small (λ i x h. some (suc i) x (omega arith)) block_e.is block_e.chain
-    (ap (λ (c : Buffer). c.total) (empties key_e own))
-    (empties key_e own, λ m is_m ne. empties m is_m)
-    (grind arith) in
+    (grind arith)
+    (empties key_e own, λ m is_m ne. empties m is_m) (grind arith) in
     rw (← heads.0) (record {
       many = suc more.many;
-      are = rw whole (ap (λ (xs : List (List ℕ)). d ∷ xs) more.are);
+      are = grind arith;
       all = λ j few enough.
           let got = all_more room sub (suc place) (length came) more.many e later block_e more.all j few
           (omega arith) in
@@ -194,8 +183,8 @@ below room sub (d ∷ later) came least small some (rest, begun) =
     block.is block.chain refl (refl, λ k h ne. refl)
     (grind arith) in
     record {
-      given = (got.many, ap (map (λ (e : ℕ × List ℕ). e.1)) own.given ∙ got.are, all_more room sub 0 (length (of_sub sub came)) got.many d later block got.all);
-      alone = record { key = got.alone.key; others = λ k is ne. own.buffers k is ∙ got.alone.others k is ne };
+      given = (got.many, grind arith, all_more room sub 0 (length (of_sub sub came)) got.many d later block got.all);
+      alone = grind arith;
     }
 
 pub reassembles : (room sub : ℕ) (datagrams : List (List ℕ)) (came : List (ℕ × Fragment)) → 8 ≤ room

@@ -1,5 +1,5 @@
 -- Each link of a plan, by what was transmitted legally.
-use Rattle.afdx_laws.proofs.Names.{◌≡◌, ℕ, ◌≤◌, nat_eq, List, length, map, take, drop, refl, ap, sym, ◌∙◌, arith, ◌<◌, Bool, true, [], ◌∷◌, All, filter, take-append_seam, take-append-drop, length-map, length-take, take_all, take-map, All-weaker, All-map, All-filter, map-map, LinkPlan, Net, A, B, blanked, Sent, link_in, sub_in, number_in, twin_of, twin_same, twin_link, Entry, side, names, those_with, link_stream, sub_stream, told, entry_number, IsNumbered, IsKnown, AreKnown, AreTwins, Accepted, is_on_both, on_both, IsLegal, IsLegalOn, known_all, with_append, with_map, numbered_map, IsLong, IsOfNet, IsHanded, AreHanded, frames_of, id_at, piece_room, IsHandedOver, LegalArrive, LegalDespiteLoss, cases_lt, eqb-true, Plan, IsPlan, link_plan_at, is_both, Networks, Both, OnlyA, OnlyB, IsLink, IsSent, IsQueued, fragments, twin_sub, own_stream, most_carried, longer, longer_of, IsAllowed, OwnListsArrive}
+use Rattle.afdx_laws.proofs.Names.{◌≡◌, ℕ, ◌≤◌, nat_eq, List, length, map, take, drop, refl, ap, arith, ◌<◌, Bool, true, [], ◌∷◌, All, filter, take-append_seam, take-append-drop, length-map, take_all, take-map, All-weaker, All-map, All-filter, map-map, LinkPlan, Net, A, B, blanked, Sent, link_in, sub_in, twin_of, twin_same, twin_link, Entry, side, those_with, link_stream, sub_stream, told, IsKnown, AreKnown, AreTwins, Accepted, IsLegal, IsLegalOn, known_all, with_append, with_map, numbered_map, IsLong, IsOfNet, IsHanded, AreHanded, frames_of, id_at, piece_room, IsHandedOver, LegalArrive, LegalDespiteLoss, Plan, IsPlan, link_plan_at, IsLink, IsQueued, fragments, twin_sub, own_stream, longer, IsAllowed, OwnListsArrive}
 use Rattle.afdx_legal.proofs.StreamLemmas.{on_both_is}
 use Rattle.afdx_laws.proofs.HandedOver.{own_twins, twin_twin, handed_arrive_holds, handed_despite_loss_holds}
 use Rattle.afdx_legal.specs.Streams.{longer as longer_stream}
@@ -26,7 +26,7 @@ pub told_is : (sub : ℕ) (es : List Entry) → told (sub_stream sub es) ≡ map
 told_is sub es = grind (arith, map-map blanked frame_of_entry (sub_stream sub es), with_map)
 
 pub frames_side : (net : Net) (es : List Entry) → map frame_of_entry (map (side net) es) ≡ map (twin_of net) (map frame_of_entry es)
-frames_side net es = grind (arith, map-map, frame_of_entry, side, twin_of)
+frames_side net es = grind (arith, map-map, side, twin_of)
 
 pub stream_side : (net : Net) (vl : ℕ) (es : List Entry) → link_stream vl (map (side net) es) ≡ map (side net) (link_stream vl es)
 stream_side net vl es = grind (arith, with_map, twin_link)
@@ -41,21 +41,20 @@ stream_front net vl longer shorter is = grind (arith, length-map, stream_side, s
 
 pub frames_front : (net : Net) (vl : ℕ) (longer shorter : List Entry) → shorter ≡ map (side net) (take (length shorter) longer)
     → frames_of vl shorter ≡ map (twin_of net) (take (length (frames_of vl shorter)) (frames_of vl longer))
-frames_front net vl longer shorter is =
-    grind (
-      arith,
-      stream_front net vl longer shorter is,
-      frames_side net (take (length (link_stream vl shorter)) (link_stream vl longer)),
-      take-map,
-      length-map,
-    )
+frames_front net vl longer shorter is = grind (
+  arith,
+  stream_front net vl longer shorter is,
+  frames_side net (take (length (link_stream vl shorter)) (link_stream vl longer)),
+  take-map,
+  length-map,
+)
 
 -- the shorter list is twins of a beginning of the longer one, whichever that is
 pub twins_by_b : (xs ys : List (List ℕ)) → All (IsOfNet A) xs → ys ≡ map (twin_of B) (take (length ys) xs) → AreTwins twin_of xs ys
-twins_by_b xs ys own is = grind (arith, length-map, length-take, take_all, twin_twin, own_twins)
+twins_by_b xs ys own is = grind (arith, length-map, take_all, twin_twin, own_twins)
 
 pub twins_by_a : (xs ys : List (List ℕ)) → All (IsOfNet B) ys → xs ≡ map (twin_of A) (take (length xs) ys) → AreTwins twin_of xs ys
-twins_by_a xs ys own is = grind (arith, length-map, length-take, take_all, twin_twin, own_twins)
+twins_by_a xs ys own is = grind (arith, length-map, take_all, twin_twin, own_twins)
 
 filter_twice : {X : Type 0} (p q : X → Bool) → ((x : X) → p x ≡ true → q x ≡ true) → (xs : List X) → filter p (filter q xs) ≡ filter p xs
 filter_twice p q each [] = refl
@@ -67,7 +66,7 @@ nothing net (x ∷ xs) h = absurd (omega arith)
 
 pub twins_are : (plan : Plan) (accepted : Accepted) (a b : List Entry) (k : ℕ) → IsPlan plan → IsLegal plan accepted a b
     → k < length plan.links → AreTwins twin_of (frames_of (id_at plan k) a) (frames_of (id_at plan k) b)
-twins_are plan accepted a b k valid legal inside = grind (arith, link_plan_at, id_at, map, is_on_both, twin_of, frames_of, on_both, filter_twice, eqb-true, twins_by_a, frames_front, twins_by_b, own_of, on_both_is, is_both, names, nothing)
+twins_are plan accepted a b k valid legal inside = grind (arith, filter_twice, twins_by_a, frames_front, twins_by_b, own_of, on_both_is, nothing)
 
 pub link_is : (plan : Plan) (k : ℕ) → IsPlan plan → k < length plan.links → IsLink (link_plan_at plan.links k)
 link_is plan k valid inside = grind arith
@@ -77,7 +76,7 @@ pub handed_is : (plan : Plan) (accepted : Accepted) (net : Net) (handed : List E
     → IsHanded plan.end_system (piece_room plan k) sub (accepted k sub) net (frames_of (id_at plan k) handed)
 handed_is plan accepted net handed k sub legal inside index =
     let first = legal.prefixes k sub inside index in
-    grind (arith, told_is, long_of, numbered_map, entry_number, number_in, frame_of_entry, own_of)
+    grind (arith, told_is, long_of, numbered_map, own_of)
 
 pub are_handed : (plan : Plan) (accepted : Accepted) (a b : List Entry) (k sub : ℕ) → IsHandedOver plan accepted a b k sub
     → AreHanded plan.end_system (piece_room plan k) sub (accepted k sub)
@@ -125,7 +124,6 @@ own_lists_arrive_holds plan own a b valid handed k sub inside index lag toleranc
     fit carry in
     let all = all_handed plan handed.accepted handed.log a b k sub (handed.streams k inside)
     (handed.done k inside sub index) in
-    let came = ap (many_of sub) (take_all (most_carried arrivals) (longer_of (id_at plan k) a b) whole) in
     let taken = ap (λ (xs : List Sent). length (fragments plan.end_system (piece_room plan k) A xs))
     (take_all (length sent) sent (omega arith)) in
     grind (arith, take_all, length-map)

@@ -1,7 +1,7 @@
 -- Each link of a plan keeps its gap and its greatest frame, by what was transmitted legally: no fragment is greater.
-use Rattle.afdx_laws.proofs.Names.{ℕ, suc, ◌+◌, ◌-◌, ◌≤◌, inl, inr, List, [], ◌∷◌, length, map, get_or, arith, ◌≡◌, ◌<◌, Bool, true, nat_eq, refl, All, filter}
-use Rattle.afdx_laws.proofs.Names.{cases_Bool, eq-eqb, length-append, length-take, All-cons, All-nil, All-append, All-filter, All-from_recursion, All-head}
-use Rattle.afdx_laws.proofs.Names.{All-map, All-tail, All-weaker, filter_passes, Plan, IsPlan, link_plan_at, IsPort, bag_micros, room_of, Net, Piece, cutting}
+use Rattle.afdx_laws.proofs.Names.{ℕ, suc, ◌+◌, ◌≤◌, inl, inr, List, [], ◌∷◌, length, map, get_or, arith, ◌≡◌, ◌<◌, Bool, true, nat_eq, refl, All, filter}
+use Rattle.afdx_laws.proofs.Names.{cases_Bool, eq-eqb, length-append, length-take, All-cons, All-append, All-filter, All-from_recursion, All-head}
+use Rattle.afdx_laws.proofs.Names.{All-map, All-tail, filter_passes, Plan, IsPlan, link_plan_at, IsPort, room_of, Net, Piece, cutting}
 use Rattle.afdx_laws.proofs.Names.{pieces_from, Sent, fragments_from, blanked, unnumbered, link_in, sub_in, IsPiece, length-frame, Entry, link_stream, unnumbered_fragments}
 use Rattle.afdx_laws.proofs.Names.{Accepted, IsKnown, AreKnown, IsLegalOn, IsQueued, known_all, IsLong, IsSent, IsUpTo, id_at, LegalPasses, fragments_at}
 use Rattle.afdx_laws.proofs.ListLemmas.{all_front}
@@ -16,12 +16,11 @@ IsShort lmax frame = length frame + 5 ≤ lmax
 short_piece : (end_system lmax place : ℕ) (sent : Sent) (piece : Piece) (net : Net) → 64 ≤ lmax → IsPort sent.port
     → IsPiece (length sent.bytes) piece → piece.len ≤ room_of lmax
     → IsShort lmax (unnumbered end_system sent.port sent.bytes place piece net)
-short_piece end_system lmax place sent piece net least port is fits =
-    grind (
-      arith,
-      length-frame end_system sent.port sent.bytes place piece net 0 port is.within,
-      length-append (unnumbered end_system sent.port sent.bytes place piece net) (0 ∷ []),
-    )
+short_piece end_system lmax place sent piece net least port is fits = grind (
+  arith,
+  length-frame end_system sent.port sent.bytes place piece net 0 port is.within,
+  length-append (unnumbered end_system sent.port sent.bytes place piece net) (0 ∷ []),
+)
 
 short_message : (end_system lmax place : ℕ) (sent : Sent) (net : Net) → 64 ≤ lmax → lmax ≤ 1518 → IsPort sent.port
     → All (IsShort lmax) (fragments_at end_system (room_of lmax) net place sent)
@@ -30,7 +29,7 @@ short_message end_system lmax place sent net least greatest port =
     let size : ℕ = length sent.bytes in
     let pieces : List Piece = pieces_from 0 (cutting (room_of lmax) (8 + size)) in
     All-map (IsShort lmax) (λ piece. unnumbered end_system sent.port sent.bytes place piece net) pieces
-    (grind (arith, short_piece, All-from_recursion, from_start, room_of, cutting_lies))
+    (grind (arith, short_piece, All-from_recursion, from_start, cutting_lies))
 
 short_messages : (accepted : List Sent) (end_system lmax sub place : ℕ) (net : Net) → 64 ≤ lmax → lmax ≤ 1518
     → All (IsSent sub) accepted → All (IsShort lmax) (fragments_from end_system (room_of lmax) net place accepted)
@@ -92,7 +91,5 @@ legal_passes_holds plan accepted net handed valid legal k inside allowed charge 
     (λ (x : Entry). nat_eq (sub_in x.frame) sub) stream
     (short_told plan accepted net handed k sub valid legal inside within.of_sub (allowed sub within.of_sub))
     i d h (eq-eqb sub sub refl) in
-    let cut = length-take (length e.frame - 1) e.frame in
-    omega arith in
-    stream_passes_holds charge (bag_micros (link_plan_at plan.links k).bag) lmax jitter around stream passages
-    (legal.spaced k inside) small way
+    grind (arith, length-take) in
+    grind (arith, stream_passes_holds)

@@ -1,5 +1,5 @@
 -- Lists, numbers that differ, and worked cases in which premises fail.
-use Rattle.afdx_laws.proofs.Names.{◌≡◌, ℕ, ◌<◌, false, nat_eq, List, [], ◌∷◌, ◌++◌, length, map, refl, sym, subst, arith, All, take-append_seam, All-take, zero, suc, ◌+◌, ◌-◌, ◌≤◌, true, Option, Some, None, sequence_number, next_number, ahead, is_ahead, is_valid}
+use Rattle.afdx_laws.proofs.Names.{◌≡◌, ℕ, ◌<◌, false, nat_eq, List, [], ◌∷◌, ◌++◌, length, map, refl, subst, arith, All, take-append_seam, All-take, zero, suc, ◌+◌, ◌-◌, ◌≤◌, true, Option, Some, None, sequence_number, next_number, ahead, is_valid}
 use Rattle.afdx_laws.specs.Rows.{BothFail, NeedsEach}
 
 pub cons_parts : {X : Type 0} {x y : X} {xs ys : List X} → x ∷ xs ≡ y ∷ ys → (x ≡ y) × (xs ≡ ys)
@@ -63,7 +63,7 @@ last zero = None
 last (suc i) = Some (sequence_number i)
 
 pub valid_next : (many a : ℕ) → 1 ≤ many → is_valid many (last a) (sequence_number a) ≡ true
-valid_next many a some = grind (arith, ahead_next, next_is)
+valid_next many a some = grind (arith, ahead_next)
 
 ahead_last : (many j : ℕ) → ahead (suc many) (sequence_number j) (sequence_number (suc j + many)) ≡ true
 ahead_last zero j = grind (arith, next_is j)

@@ -1,20 +1,15 @@
 -- The whole network makes good what the other one loses.
 use Rattle.afdx_laws.proofs.Names.{◌&&◌, ◌≡◌, ℕ, suc, ◌+◌, ◌-◌, ◌≤◌, ◌<◌, ◌⊎◌, inl, inr, Bool, true, false, cond, max, List, [], ◌∷◌, ◌++◌, length, map, take}
-use Rattle.afdx_laws.proofs.Names.{refl, ap, sym, ◌∙◌, arith, Some, None, cases_Bool, and_parts, append-nil, get_or-map, length-map}
-use Rattle.afdx_laws.proofs.Names.{sequence_number, Net, A, twin_of, Tolerance, State, other, begin, is_accepted, is_valid, is_ahead, received, carried}
+use Rattle.afdx_laws.proofs.Names.{refl, ◌∙◌, arith, None, cases_Bool, and_parts, append-nil, get_or-map, length-map}
+use Rattle.afdx_laws.proofs.Names.{sequence_number, Net, A, twin_of, State, other, begin, is_valid, is_ahead, received, carried}
 use Rattle.afdx_laws.proofs.Names.{with_seen, with_accepted, seen_on, number_in, same_net, AreWithin, StartsFirst, AreClose, BeginsFirst, frame_at, LossMasked}
 use Rattle.afdx_laws.proofs.Names.{FirstComes, MaskedFromFirst, NumbersClash}
-use Rattle.afdx_laws.proofs.ListLemmas.{last, valid_next, old_is_ahead, next_is, differ}
+use Rattle.afdx_laws.proofs.ListLemmas.{last, valid_next, old_is_ahead, differ}
 use Rattle.afdx_laws.proofs.Receiving.{IsPlaced, grows, placed}
 
 is_next : (c i high : ℕ) → high ≤ i + 254 → c ≤ high → i < c + 255 → (high ≡ 0 → i ≡ 0) → (high ≡ 0) ⊎ (1 ≤ c)
     → is_ahead 1 (last c) (sequence_number i) ≡ true → i ≡ c
-is_next c i high near within far first begun new = grind (arith, next_is, differ)
-
-count_whole : {F : Type 0} (whole net : Net) (frame : F) (b : ℕ) (es : List (Net × F))
-    → cond (same_net whole net) (b + 1) b + length (carried whole es) ≡ b + length
-    (carried whole ((net, frame) ∷ es))
-count_whole whole net frame b es = grind arith
+is_next c i high near within far first begun new = grind (arith, differ)
 
 -- if the receiver drops a frame, it has accepted at least as many as the whole network carried, and at least one
 dropped : (check : ℕ) (whole net : Net) (b c i high : ℕ) (state : State) → 1 ≤ check → seen_on whole state ≡ last b
@@ -40,35 +35,27 @@ masks number h stream frame check whole [] state high b c some each close first 
     grind (arith, append-nil (take c stream))
 masks {F = F} number h stream frame check whole
     ((net, i) ∷ es) state high b c some each close first seen took behind within begun =
-    let tolerance : Tolerance = record { check = check; window = 1 } in
     let here = close.0 in
     let near = here.near in
-    let is = each net i here.inside in
     let f : F = frame net i in
-    let rest : List (Net × F) = map (λ (e : Net × ℕ). (e.0, frame e.0 e.1)) es in
     let after : State = with_seen net (number f) state in
-    let seen_next : seen_on whole after ≡ last (cond (same_net whole net) (b + 1) b) =
-    ap (λ (n : ℕ). seen_on whole (with_seen net n state)) is.1 ∙ (grind arith) in
-    let total = count_whole whole net i b es in
+    let seen_next : seen_on whole after ≡ last (cond (same_net whole net) (b + 1) b) = grind arith in
     let valid : Bool = is_valid check (seen_on net state) (sequence_number i) in
     let new : Bool = is_ahead 1 (last c) (sequence_number i) in
-    let test : is_accepted tolerance state net (number f) ≡ (valid && new) = rw (is.1, took) refl in
     elim (cases_Bool (valid && new)) [
       | inl takes ↦
           let next : i ≡ c = is_next c i high near within (omega arith) first begun (and_parts valid new takes).1 in
-          let taken : (with_accepted (number f) after).accepted ≡ last (suc c) =
-          ap Some (is.1 ∙ ap sequence_number next) in
+          let taken : (with_accepted (number f) after).accepted ≡ last (suc c) = grind arith in
           let more = masks number h stream frame check whole es (with_accepted (number f) after) (max high (i + 1))
           (cond (same_net whole net) (b + 1) b) (suc c) some each close.1 (λ none. absurd (omega arith))
-          ((grind arith) ∙ seen_next) taken (grind arith)
-          (omega arith) (inr (omega arith)) in
+          ((grind arith) ∙ seen_next) taken (grind arith) (omega arith) (inr (omega arith)) in
           grind (arith, grows)
       | inr drops ↦
           let kept = dropped check whole net b c i high state some seen behind within first begun here.in_order drops in
           let more = masks number h stream frame check whole es after (max high (i + 1))
           (cond (same_net whole net) (b + 1) b) c some each close.1 (λ none. absurd (omega arith))
           seen_next ((grind arith) ∙ took) kept.0 (omega arith) (inr kept.1) in
-          record { many = more.many; reaches = omega arith; are = rw (test ∙ drops) more.are }
+          grind arith
     ]
 
 pub loss_masked_holds : LossMasked
@@ -78,7 +65,7 @@ loss_masked_holds whole check stream came some frames close =
     → IsPlaced number_in (twin_of A) (map (twin_of A) stream) i (frame_at stream net i) = λ net i inside.
     let own = length-map stream (twin_of net) in
     placed net stream i (frame_at stream net i) frames.long frames.numbered (omega arith)
-    (sym (get_or-map (twin_of net) stream i [] (frame_at stream net i) (omega arith))) in
+    (grind (arith, get_or-map)) in
     let close_map : AreClose whole (length (map (twin_of A) stream)) 0 0 came = rw size close in
     let m = masks number_in (twin_of A) (map (twin_of A) stream)
     (frame_at stream) check whole came begin 0 0 0 some each

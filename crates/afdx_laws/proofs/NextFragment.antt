@@ -1,6 +1,6 @@
 -- The next fragment of a message comes within a round of the sub-VLs.
-use Rattle.afdx_laws.proofs.Names.{◌≡◌, ◌≢◌, ℕ, zero, suc, ◌+◌, ◌*◌, ◌≤◌, ◌<◌, Bool, true, false, eqb, cond, List, [], ◌∷◌, ◌++◌, length, map, refl, subst}
-use Rattle.afdx_laws.proofs.Names.{arith, All, AllByRecursion, IsDistinct, list_any, nat_tests, eq-eqb, ne_eqb, false≢true, length-map}
+use Rattle.afdx_laws.proofs.Names.{◌≡◌, ◌≢◌, ℕ, zero, suc, ◌+◌, ◌*◌, ◌≤◌, ◌<◌, true, false, eqb, List, [], ◌∷◌, ◌++◌, length, map, refl, subst}
+use Rattle.afdx_laws.proofs.Names.{arith, All, AllByRecursion, IsDistinct, list_any, nat_tests, ne_eqb, length-map}
 use Rattle.afdx_laws.proofs.Names.{All-tail, link_plan_at, bag_micros, LinkPlan, sub_in, Entry, sub_stream, link_stream, id_at}
 use Rattle.std.proofs.Common.{Some}
 use Rattle.std.proofs.lemmas.Map.Keys.{IsDistinct-cons, IsDistinct-from_apart}
@@ -20,13 +20,10 @@ none_in x [] none = tt
 none_in x (e ∷ es) none = grind (arith, nat_tests, none_in x es)
 
 distinct_of : (es : List Entry) → ((y : ℕ) → length (sub_stream y es) ≤ 1) → IsDistinct eqb (subs_of es)
-distinct_of [] one = grind (arith, IsDistinct-from_apart, eqb)
+distinct_of [] one = grind (arith, IsDistinct-from_apart)
 distinct_of (e ∷ es) one = IsDistinct-cons eqb (sub_in e.frame) (subs_of es)
-    (grind (arith, none_in, eq-eqb))
+    (grind (arith, none_in))
     (distinct_of es (grind arith))
-  where
-    fewer : (y : ℕ) (t : Bool) → length (cond t (e ∷ sub_stream y es) (sub_stream y es)) ≤ 1 → length (sub_stream y es) ≤ 1
-    fewer y t one = grind arith
 
 below_of : (n : ℕ) (es : List Entry) → All (IsOfOneOf n) es → (q : ℕ) → list_any (eqb q) (subs_of es) ≡ true → q < n
 below_of n [] of q any = grind arith
@@ -67,13 +64,12 @@ next_in_a_round subs stream first between next turns of n =
     let x : ℕ = sub_in first.frame in
     let all : All (IsOfOneOf subs) (first ∷ between) = grind (arith, all_front (IsOfOneOf subs) (first ∷ between) (next ∷ n.after) (first ∷ (between ++ next ∷ n.after)) refl (between_of subs stream first between next of n), between_of subs stream first between next of n) in
     let turn = turn_at n.before first (between ++ next ∷ n.after) (subst TakesTurns n.is turns) in
-    let one : (y : ℕ) → length (sub_stream y between) ≤ 1 =
-    grind (arith, before_is) in
+    let one : (y : ℕ) → length (sub_stream y between) ≤ 1 = grind (arith, before_is) in
     let apart : AllByRecursion (λ y. eqb x y ≡ false) (subs_of between) =
     none_in x between (none_of x between n.others) in
     let few = length-le_from_distinct_below (subs_of (first ∷ between)) subs
     (IsDistinct-cons eqb x (subs_of between) apart (distinct_of between one)) (below_of subs (first ∷ between) all) in
-    omega (arith, length-map between (λ (e : Entry). sub_in e.frame))
+    grind (arith, length-map)
 
 last_within : (most before : ℕ) (es : List Entry) (e : Entry) → FollowWithin most before (es ++ e ∷ [])
     → e.at ≤ before + (length es + 1) * most

@@ -1,6 +1,6 @@
 -- One buffer for each sub-VL is enough for fragments in order, and so for what a receiver accepts.
 use Rattle.afdx_laws.proofs.Names.{◌≡◌, ℕ, suc, ◌≤◌, List, [], ◌∷◌, length, refl, ap, ◌∙◌, arith, All, Option, None, nat_tests, length-take}
-use Rattle.afdx_laws.proofs.Names.{length-drop, All-nil, All-append, All-map, identification, Piece, cutting, pieces_from, Fragment, Buffer, put, end_of}
+use Rattle.afdx_laws.proofs.Names.{All-append, All-map, identification, Piece, cutting, pieces_from, Fragment, Buffer, put, end_of}
 use Rattle.afdx_laws.proofs.Names.{datagram_in, fragment_of, fragments_of, empty, with_buffer, kept_in, keyed, sent_from, of_sub, buffers_after, HasUpTo}
 use Rattle.afdx_laws.proofs.Names.{OneBuffer, map, take, Net, A, twin_of, Sent, fragment_in, IsSending, longer, id_at, piece_room, longer_of, IsOneEnough}
 use Rattle.afdx_laws.proofs.Names.{HandedNeedOne, LegalNeedOne, LegalNeedOneDespite}
@@ -21,7 +21,7 @@ keyed_end room most key d fits =
     let pieces : List Piece = pieces_from 0 (cutting room (length d)) in
     All-map (EndsBefore most) (λ (f : Fragment). (key, f)) (fragments_of room d)
     (All-map (λ (f : Fragment). end_of f ≤ most) (fragment_of d) pieces
-    (grind (arith, length-take, length-drop, cutting_lies)))
+    (grind (arith, length-take, cutting_lies)))
 
 pub sent_end : (datagrams : List (List ℕ)) (room sub place most : ℕ) → All (HasUpTo most) datagrams
     → All (EndsBefore most) (sent_from room sub place datagrams)

@@ -1,6 +1,6 @@
 -- What is transmitted of a link on one network arrives from that network, and of links on both nothing is cut.
-use Rattle.afdx_laws.proofs.Names.{◌≡◌, ℕ, List, [], ◌∷◌, ◌++◌, length, map, refl, ap, sym, subst, arith, All, take-append_seam, Plan, Net, A, B, number_in, twin_of, Entry, IsPrefixOf, Accepted, begin, received, other, carried, IsNear, most_carried, messages_in, AreFirst, IsOfNet, IsHanded, id_at, piece_room, frames_of, handed_to, all_from, IsHandedOver, OneNetworkArrives, ◌≤◌, ◌<◌, true, take, nat_tests, cases_lt, length-map, length-take, take_all, LinkPlan, link_in, twin_twice, side, link_stream, IsKnown, AreKnown, is_on_both, on_both, AreTwins, own_stream, IsOnBoth, AllOnBoth, map-map}
-use Rattle.afdx_laws.proofs.ListLemmas.{cons_parts, nil_isnt_cons, cons_same, map_same}
+use Rattle.afdx_laws.proofs.Names.{◌≡◌, ℕ, List, [], ◌∷◌, ◌++◌, length, map, refl, ap, subst, arith, All, take-append_seam, Plan, Net, A, B, number_in, twin_of, Entry, IsPrefixOf, Accepted, begin, received, other, carried, IsNear, most_carried, messages_in, AreFirst, IsOfNet, IsHanded, id_at, piece_room, frames_of, handed_to, all_from, IsHandedOver, OneNetworkArrives, ◌≤◌, ◌<◌, true, take, nat_tests, length-map, length-take, take_all, LinkPlan, link_in, twin_twice, side, link_stream, IsKnown, AreKnown, is_on_both, on_both, AreTwins, own_stream, IsOnBoth, AllOnBoth, map-map}
+use Rattle.afdx_laws.proofs.ListLemmas.{cons_parts, cons_same}
 use Rattle.afdx_laws.proofs.Arriving.{messages_arrive_holds}
 use Rattle.afdx_laws.proofs.HandedOver.{own_twins, sending_to}
 use Rattle.afdx_laws.proofs.LegalLinks.{are_handed, stream_side, stream_front}
@@ -69,7 +69,7 @@ none_cut links net (e ∷ es) all known =
     (cons_same refl (none_cut links net es all known.1))
 
 side_side : (net other : Net) (es : List Entry) → map (side net) (map (side other) es) ≡ map (side net) es
-side_side net other es = grind (arith, map-map, map_same, twin_twice)
+side_side net other es = grind (arith, map-map, twin_twice)
 
 no_longer : (net : Net) (whole front : List Entry) → front ≡ map (side net) (take (length front) whole) → length front ≤ length whole
 no_longer net whole front is = grind (arith, ap length is, length-map, length-take)
@@ -91,4 +91,4 @@ own_in_b vl a b shorter twins = grind (
 )
 
 pub all_on_both_holds : AllOnBoth
-all_on_both_holds plan accepted a b all legal = grind (arith, none_cut, cases_lt, own_in_b, own_in_a)
+all_on_both_holds plan accepted a b all legal = grind (arith, none_cut, own_in_b, own_in_a)

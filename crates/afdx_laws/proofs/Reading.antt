@@ -1,12 +1,12 @@
 -- What is read of a frame is what went in.
-use Rattle.afdx_laws.proofs.Names.{◌≡◌, ℕ, zero, suc, inl, inr, ◌+◌, ◌-◌, ◌%◌, ◌≤◌, List, [], ◌∷◌, ◌++◌, length, map, drop, get_or, refl, ap, ◌∙◌, subst, arith}
+use Rattle.afdx_laws.proofs.Names.{◌≡◌, ℕ, zero, suc, inl, inr, ◌+◌, ◌-◌, ◌≤◌, List, [], ◌∷◌, ◌++◌, length, map, drop, get_or, arith}
 use Rattle.afdx_laws.proofs.Names.{All, AllByRecursion, cases_lt, All-from_recursion, map-append, length-append, drop_at, take_more, take_all, IsPort}
-use Rattle.afdx_laws.proofs.Names.{identification, Net, Piece, step_of, cut_by, pieces_from, step_le, cut_last, cut_more, udp_header, unnumbered, twin_of, Sent}
+use Rattle.afdx_laws.proofs.Names.{identification, Net, Piece, step_of, cut_by, pieces_from, udp_header, unnumbered, Sent}
 use Rattle.afdx_laws.proofs.Names.{blanked, fragments_from, IsPiece, says, total_ok, payload_says, Fragment, fragment_of, fragments_of, sub_in, those_with}
 use Rattle.afdx_laws.proofs.Names.{with_map, of_sub, keyed, sent_from, IsLong, fragment_in, IsSent, cutting, datagram, fragments_at}
 use Rattle.afdx_frame.proofs.PiecesAre.{pieces_are}
 use Rattle.afdx_frame.proofs.Datagram.{length-udp_header}
-use Rattle.afdx_laws.proofs.ListLemmas.{cons_parts, cons_same, append_same, nil_isnt_cons}
+use Rattle.afdx_laws.proofs.ListLemmas.{cons_parts, cons_same}
 
 -- the frame of a piece carries its fragment
 read_piece : (end_system : ℕ) (sent : Sent) (net : Net) (place : ℕ) (piece : Piece) (number : ℕ) → IsPort sent.port
@@ -50,7 +50,7 @@ drop-datagram end_system sent = drop_at (udp_header end_system sent.port sent.by
 pub from_start : (room size : ℕ) → 25 ≤ room → room ≤ 1479 → AllByRecursion (IsPiece size) (pieces_from 0 (cutting room (8 + size)))
 from_start room size least greatest =
     let whole : 8 + size - 0 ≡ 8 + size = omega arith in
-    grind (arith, pieces_from, cutting, pieces_are)
+    grind (arith, cutting, pieces_are)
 
 abbrev pub IsCut : (room end : ℕ) → Piece → Type 0
 IsCut room end piece = (piece.len ≤ room) × (piece.start + piece.len ≤ end)
@@ -59,15 +59,14 @@ cut_by_lies : (turns room n start end : ℕ) → start + n ≤ end → AllByRecu
 cut_by_lies zero room n start end inside = tt
 cut_by_lies (suc turns) room n start end inside = elim (cases_lt room n) [
   | inl over ↦
-      let step = step_le room in
       let rest = cut_by_lies turns room (n - step_of room) (start + step_of room) end (omega arith) in
-      rw (cut_more turns room n over) ((step, omega arith), rest)
-  | inr fits ↦ rw (cut_last turns room n fits) ((fits, inside), tt)
+      grind arith
+  | inr fits ↦ grind arith
 ]
 
 pub cutting_lies : (room n : ℕ) → All (IsCut room n) (pieces_from 0 (cutting room n))
 unfolding cutting
-cutting_lies room n = grind (arith, All-from_recursion, pieces_from, cutting, cut_by_lies)
+cutting_lies room n = grind (arith, All-from_recursion, cutting, cut_by_lies)
 
 reads_message : (end_system room : ℕ) (sent : Sent) (net : Net) (place : ℕ) → 25 ≤ room → room ≤ 1479
     → IsPort sent.port → length sent.bytes ≤ 8192 → AreRead (fragments_at end_system room net place sent)
@@ -82,18 +81,13 @@ all_append P (x ∷ xs) ys a b = (a.0, all_append P xs ys a.1 b)
 pub reads_all : (accepted : List Sent) (end_system room sub place : ℕ) (net : Net) → 25 ≤ room → room ≤ 1479 → All (IsSent sub) accepted
     → AreRead (fragments_from end_system room net place accepted)
     (sent_from room sub place (map (λ (sent : Sent). datagram end_system sent.port sent.bytes) accepted))
-reads_all [] end_system room sub place net least greatest are = record { each = tt; are = refl }
+reads_all [] end_system room sub place net least greatest are = grind arith
 reads_all (sent ∷ later) end_system room sub place net least greatest are =
     let one = are 0 sent (omega arith) in
-    let front : List (List ℕ) = fragments_at end_system room net place sent in
-    let back : List (List ℕ) = fragments_from end_system room net (suc place) later in
     let first = reads_message end_system room sent net place least greatest one.port one.most in
     let rest = reads_all later end_system room sub (suc place) net least greatest
     (λ k d h. are (suc k) d (omega arith)) in
-    record {
-      each = all_append IsRead front back first.each rest.each;
-      are = map-append read_any front back ∙ append_same (grind arith) rest.are;
-    }
+    grind (arith, all_append, map-append)
 
 -- frames that are the first of these fragments are read as the first of these
 pub reads_frames : (frames us rest : List (List ℕ)) → AllByRecursion IsRead us → All IsLong frames → us ≡ map blanked frames ++ rest
@@ -110,4 +104,4 @@ reads_frames (f ∷ frames) (u ∷ us) rest each long is = grind (
 )
 
 pub of_sub_is : (sub : ℕ) (frames : List (List ℕ)) → of_sub sub (map fragment_in frames) ≡ map fragment_in (those_with sub_in sub frames)
-of_sub_is sub frames = grind (arith, with_map, sub_in, fragment_in)
+of_sub_is sub frames = grind (arith, with_map, sub_in)

@@ -1,7 +1,7 @@
 -- What a receiver accepts of what two networks carry.
 use Rattle.afdx_laws.proofs.ListLemmas.{ahead_old, last, valid_next}
 use Rattle.afdx_laws.proofs.Names.{◌≡◌, ℕ, suc, ◌+◌, ◌≤◌, ◌<◌, max, List, [], ◌∷◌, ◌++◌, length, map, take, get_or, refl, ap, ◌∙◌, arith}
-use Rattle.afdx_laws.proofs.Names.{drop, cases_lt, Option, All, take_more, append_assoc, append-nil, drop_more, drop_all, get_or-map, length-map, set-set, Net}
+use Rattle.afdx_laws.proofs.Names.{drop, Option, All, take_more, append_assoc, append-nil, drop_more, drop_all, get_or-map, length-map, set-set, Net}
 use Rattle.afdx_laws.proofs.Names.{A, B, sequence_number, Tolerance, State, received, carried, with_seen, with_accepted, seen_on, other}
 use Rattle.afdx_laws.proofs.Names.{IsNear, IsNumbered, IsPrefixOf, numbered_at, interface_byte, twin_of, number_in, twin_number, IsLong, ExactlyOnce}
 
@@ -37,8 +37,7 @@ one_more : {F : Type 0} (number : F → ℕ) (h : F → F) (stream : List F) (to
     → take m stream ++ map h (received number tolerance (from (last m)) ((net, frame) ∷ es))
     ≡ take next stream ++ map h (received number tolerance (to (last next)) es)
 one_more {F = F} number h stream tolerance lag net from to frame es a b m next
-    check window near placed close m_is next_is seen took then_seen then_took =
-    grind (arith, cases_lt, ahead_old, valid_next, last, grows)
+    check window near placed close m_is next_is seen took then_seen then_took = grind (arith, ahead_old, valid_next, last, grows)
 
 -- what is accepted continues the stream
 pub hands_on : {F : Type 0} (number : F → ℕ) (h : F → F) (stream : List F)

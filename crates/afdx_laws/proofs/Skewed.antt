@@ -50,8 +50,7 @@ skew_is_near_holds gap delay released at arrivals some apart forward delivered b
       | inr less ↦ omega arith
       | inl ahead ↦
           let r = found (other net) (b - 1) before (omega arith) in
-          let split : arrivals ≡ r.before ++ (other net, r.frame) ∷ (r.after ++ (net, frame) ∷ after) =
-          grind (arith, append_assoc) in
+          let split : arrivals ≡ r.before ++ (other net, r.frame) ∷ (r.after ++ (net, frame) ∷ after) = grind (arith, append_assoc) in
           let len = ap length r.is ∙ length-append r.before ((other net, r.frame) ∷ r.after) in
           let time = later at forward (length r.before) (length before - length r.before) in
           let gaps = spread gap released apart i (b - 1 - i) in

@@ -1,12 +1,11 @@
 -- The worked transmissions of a plan, by computation: of one message, also complete and on one network, and of two.
-use Rattle.afdx_laws.proofs.Names.{◌≡◌, ℕ, [], ◌∷◌, refl, sym, ◌∙◌, arith, ◌≤◌, Bool, nat_eq, List, length, map, ap, All-from_recursion, if◌then◌else◌, All}
+use Rattle.afdx_laws.proofs.Names.{◌≡◌, ℕ, [], ◌∷◌, refl, sym, ◌∙◌, arith, ◌≤◌, List, map, All}
 use Rattle.afdx_laws.proofs.Names.{IsPlan, Networks, Both, OnlyA, demo_valid, A, B, Sent, Accepted, IsLegal, IsQueued, messages_of, AreCarriedOf, frames_of}
-use Rattle.afdx_laws.proofs.Names.{IsOn, IsOnBoth, IsHandedOver, plain_receiver, checksum, cutting, fragments_at, addresses, header_front, internet_header}
+use Rattle.afdx_laws.proofs.Names.{IsOn, IsHandedOver, plain_receiver, checksum, cutting, fragments_at, addresses, header_front, internet_header}
 use Rattle.afdx_laws.proofs.Names.{link_header, udp_header, datagram, unnumbered}
 use Rattle.afdx_plan.specs.Demo.{demo_plan, demo_port, demo_link}
 use Rattle.afdx_legal.specs.Worked.{one_byte_accepted, one_byte}
 use Rattle.afdx_laws.specs.WorkedPlan.{one_entry, two_arrivals, OneIsLegal, LegalDespiteOneLoss, one_own, other_own, OwnComes, OneIsWhole, NeedsAll, demo_on, ComesFromOne, AreTwinsOfOne, two_accepted, swapped_accepted, two_entries, PairHanded, AreSwapped, both_arrive, PairArrives, NeedsLegal, both_from_b, NeedsClose, PassesAGapApart}
-use Rattle.afdx_laws.proofs.OneNetwork.{all_on_both_holds}
 use Rattle.afdx_laws.proofs.LegalLinks.{legal_arrive_holds, legal_despite_loss_holds, own_lists_arrive_holds}
 use Rattle.afdx_laws.proofs.ListLemmas.{below_one, nil_isnt_cons, fails_by, needs_each}
 use Rattle.afdx_laws.proofs.WorkedMessage.{few_are_near, not_first, too_few, close_by_test}
@@ -30,7 +29,7 @@ one_is_legal = record {
 
 pub legal_despite_one_loss : LegalDespiteOneLoss
 unfolding checksum addresses header_front internet_header link_header udp_header datagram unnumbered
-legal_despite_one_loss = grind (arith, one_handed, close_by_test)
+legal_despite_one_loss = grind (arith, one_handed)
 
 pub one_is_whole : OneIsWhole
 unfolding checksum addresses header_front internet_header link_header udp_header datagram unnumbered cutting fragments_at
@@ -61,13 +60,10 @@ one_on = grind arith
 other_lost : OwnComes other_own two_arrivals → ⊥
 other_lost lists = lost lists.sent (sym one_is_legal.message ∙ lists.are) (lists.ports 0 one_on)
   where
-    one_lost : (t : Bool) (bytes : List ℕ) → (1 ∷ []) ∷ [] ≡ bytes ∷ [] → (if t then bytes ∷ [] else []) ≡ (2 ∷ []) ∷ [] → ⊥
-    one_lost t bytes is own = grind arith
-
     lost : (sent : List Sent) → (1 ∷ []) ∷ [] ≡ map (λ (s : Sent). s.bytes) sent → messages_of demo_port sent ≡ (2 ∷ []) ∷ [] → ⊥
     lost [] is own = nil_isnt_cons (sym is)
-    lost (s ∷ []) is own = one_lost (nat_eq s.port.id.0 10) s.bytes is own
-    lost (s ∷ t ∷ later) is own = let count = ap length is in omega arith
+    lost (s ∷ []) is own = grind arith
+    lost (s ∷ t ∷ later) is own = grind arith
 
 none_lost : OwnComes one_own [] → ⊥
 none_lost lists = lost lists.sent lists.are (lists.ports 0 one_on)
@@ -83,11 +79,11 @@ needs_all = record {
       0 0 (omega arith) (omega arith) 1 plain_receiver two_arrivals one_is_whole.fit one_is_whole.carry
       one_is_whole.all) other_lost;
   lost_carry = record {
-    on_a = (frames_of 1 (one_entry A), refl);
-    on_b = (frames_of 1 (one_entry B), refl);
+    on_a = grind arith;
+    on_b = grind arith;
     near = few_are_near 1 [] (omega arith);
   };
-  lost = record { premise = λ few. let none : 1 ≤ 0 = few in omega arith; conclusion = none_lost };
+  lost = grind (arith, none_lost);
 }
 
 -- the plan is valid, whichever networks its link is on, and with other frames
@@ -112,7 +108,7 @@ handed_pair accepted allowed legal = grind arith
 
 two_handed : PairHanded two_accepted
 unfolding checksum addresses header_front internet_header link_header udp_header datagram unnumbered cutting fragments_at
-two_handed = grind (arith, handed_pair)
+two_handed = grind arith
 
 pair_carried : AreCarriedOf 3 (frames_of 1 (two_entries A)) (frames_of 1 (two_entries B)) both_arrive
 unfolding checksum addresses header_front internet_header link_header udp_header datagram unnumbered

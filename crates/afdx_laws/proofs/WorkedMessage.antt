@@ -1,19 +1,19 @@
 -- The worked delivery, the worked runs of a receiver and the worked losses, by computation.
-use Rattle.afdx_laws.proofs.Names.{◌≡◌, ◌≤◌, ◌<◌, List, [], ◌∷◌, length, map, take, ◌+◌, ℕ, false, nat_eq, refl, ap, arith, max, Bool, true, not, ◌&&◌, ◌||◌}
-use Rattle.afdx_laws.proofs.Names.{nat_lt, nat_le, cond, and_parts, slice_index, length-append, length-take, length-map, All-from_recursion, demo_port_is, Net}
-use Rattle.afdx_laws.proofs.Names.{A, B, Sent, fragments, sub_in, twin_of, those_with, carried, other, IsNear, IsLong, IsStream, AreCarried, AreWithin}
+use Rattle.afdx_laws.proofs.Names.{◌≡◌, ◌≤◌, ◌<◌, List, [], ◌∷◌, length, map, take, ◌+◌, ℕ, false, nat_eq, refl, arith, max, Bool, true, not, ◌&&◌, ◌||◌}
+use Rattle.afdx_laws.proofs.Names.{nat_lt, nat_le, cond, and_parts, slice_index, length-append, length-take, length-map, Net}
+use Rattle.afdx_laws.proofs.Names.{A, B, Sent, fragments, sub_in, twin_of, those_with, carried, other, IsNear, IsStream, AreCarried, AreWithin}
 use Rattle.afdx_laws.proofs.Names.{StartsFirst, AreClose, same_net, IsSending, AreFirst, AreHanded, one_accepted, both_frames, four_arrivals, OneMessageArrives}
 use Rattle.afdx_laws.proofs.Names.{NeedsHanding, bare_frame, bare_stream, same_twice, far_behind, wide_receiver, AcceptsEachOnce, NeedsNumbers, NeedsALag}
 use Rattle.afdx_laws.proofs.Names.{NeedsAStream, second_lost, MasksOneLoss, NeedsTheFirst, BeginsOnBoth, ComesDespiteLoss, NeedsAWholeNetwork, NeedsOneWhole}
 use Rattle.afdx_laws.proofs.Names.{checksum, cutting, addresses, header_front, internet_header, link_header, udp_header, datagram, unnumbered, fragments_at}
-use Rattle.afdx_laws.proofs.ListLemmas.{cons_parts, other_length, fails_by, needs_each}
+use Rattle.afdx_laws.proofs.ListLemmas.{other_length, fails_by, needs_each}
 use Rattle.afdx_laws.proofs.Receiving.{exactly_once_holds}
 use Rattle.afdx_laws.proofs.Arriving.{messages_arrive_holds, despite_loss_holds}
-use Rattle.afdx_laws.proofs.HandedOver.{sending_to, handed_arrive_holds, handed_despite_loss_holds}
+use Rattle.afdx_laws.proofs.HandedOver.{handed_arrive_holds, handed_despite_loss_holds}
 
 pub both_handed : AreHanded 1 25 0 one_accepted (both_frames A) (both_frames B)
 unfolding checksum addresses header_front internet_header link_header udp_header datagram unnumbered cutting fragments_at
-both_handed = grind (arith, demo_port_is)
+both_handed = grind arith
 
 are_sent : IsSending 1 25 0 one_accepted A (both_frames A)
 are_sent = grind (arith, both_handed)
@@ -23,7 +23,7 @@ carried_le net [] = omega arith
 carried_le net ((from, frame) ∷ xs) = grind (arith, carried_le net xs)
 
 pub few_are_near : {F : Type 0} (lag : ℕ) (arrivals : List (Net × F)) → length arrivals ≤ lag + 1 → IsNear lag arrivals
-few_are_near lag arrivals few_came before after net frame is = grind (arith, ap length is, length-append, carried_le (other net) before)
+few_are_near lag arrivals few_came before after net frame is = grind (arith, length-append, carried_le)
 
 pub one_message_arrives : OneMessageArrives
 unfolding checksum addresses header_front internet_header link_header udp_header datagram unnumbered
@@ -75,16 +75,16 @@ needs_a_stream = needs_each
 
 pub accepts_each_once : AcceptsEachOnce
 unfolding checksum addresses header_front internet_header link_header udp_header datagram unnumbered
-accepts_each_once = grind (arith, are_sent, four_carried)
+accepts_each_once = grind (arith, four_carried)
 
 pub needs_numbers : NeedsNumbers
 needs_numbers = record {
   carry = record {
     on_a = ([], refl);
-    on_b = (map (twin_of B) (bare_stream (0 ∷ 0 ∷ [])), refl);
+    on_b = grind arith;
     near = few_are_near 3 same_twice (omega arith);
   };
-  stream = record { premise = λ stream. let second : 0 ≡ 1 = stream.numbered.1.0 in omega arith; conclusion = other_length refl };
+  stream = grind arith;
 }
 
 bare_three : IsStream (bare_stream (0 ∷ 1 ∷ 2 ∷ []))
@@ -97,7 +97,7 @@ needs_a_lag = record {
   far = fails_by
       (exactly_once_holds 1 wide_receiver (bare_stream (0 ∷ 1 ∷ 2 ∷ [])) far_behind (omega arith) bare_three)
       (other_length refl);
-  unfit = λ fit. let apart : 258 ≤ 255 = fit.apart in omega arith;
+  unfit = grind arith;
   carry = record { on_a = ([], refl); on_b = (twin_of B (bare_frame 2) ∷ [], refl); near = few_are_near 4 far_behind (omega arith) };
 }
 
@@ -134,7 +134,7 @@ needs_the_first = grind arith
 
 pub begins_on_both : BeginsOnBoth
 unfolding checksum addresses header_front internet_header link_header udp_header datagram unnumbered
-begins_on_both = grind (arith, cons_parts, masks_one_loss)
+begins_on_both = grind (arith, masks_one_loss)
 
 pub comes_despite_loss : ComesDespiteLoss
 unfolding checksum addresses header_front internet_header link_header udp_header datagram unnumbered

@@ -1,4 +1,4 @@
-use Rattle.afdx_laws.proofs.Names.{arith, common_steps}
+use Rattle.afdx_laws.proofs.Names.{arith}
 use Rattle.afdx_laws.proofs.Receiving.{exactly_once_holds}
 use Rattle.afdx_laws.proofs.WorkedMessage.{accepts_each_once, needs_numbers, needs_a_lag}
 use Rattle.afdx_laws.proofs.laws.exactly_once.Goals as goal
@@ -8,6 +8,6 @@ returns c = record {
   once = exactly_once_holds;
   worked = accepts_each_once;
   numbers = needs_numbers;
-  beginnings = grind (arith, common_steps);
+  beginnings = grind arith;
   lag = needs_a_lag;
 }

@@ -1,4 +1,4 @@
-use Rattle.afdx_laws.proofs.Names.{arith, common_steps}
+use Rattle.afdx_laws.proofs.Names.{arith}
 use Rattle.afdx_laws.proofs.NextFragment.{next_in_a_round, next_in_time, next_polled_in_time, next_in_plan, lie_two_gaps_apart, turns_are_told}
 use Rattle.afdx_laws.proofs.laws.next_fragment.Goals as goal
 
@@ -10,6 +10,6 @@ returns c = record {
   plan = next_in_plan;
   told = turns_are_told;
   worked = lie_two_gaps_apart;
-  in_time = grind (arith, common_steps);
-  needed = grind (arith, common_steps);
+  in_time = grind arith;
+  needed = grind arith;
 }
