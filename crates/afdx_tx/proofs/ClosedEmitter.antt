@@ -55,8 +55,7 @@ closes_links old vl sub total new c =
 -- Closed or refused, the queues have the same identities.
 pub answered_queues : {E : Type 0} (answer : Result ℕ E) (old : Tx) (vl sub : ℕ) (new : Tx) → OnErr answer (new ≡ old)
     → IfOk answer (λ (total : ℕ). ClosesTx old vl sub total new) → queues_in new.links ≡ queues_in old.links
-answered_queues (Ok total) old vl sub new unchanged closed = queues_same old.links new.links (closes_links old vl sub total new closed)
-answered_queues (Err fault) old vl sub new unchanged closed = cc
+answered_queues answer old vl sub new unchanged closed = grind (arith, queues_same, closes_links)
 
 -- A closed sub-VL has its total.
 pub closes_total : (old : Tx) (vl sub total : ℕ) (new : Tx) (c : ClosesTx old vl sub total new)
@@ -66,4 +65,4 @@ closes_total old vl sub total new c = grind arith
 -- The total of a sub-VL is the number of its accepted messages once the ports are gathered.
 pub total_whole : (old : Tx) (ports : List PortView) (new : Tx) (k s total : ℕ) → IsGatheredTx old ports new
     → total_in old.links k s ≡ Some total → length (accepted_in new.links k s) ≡ total
-total_whole old ports new k s total g shown = grind (arith, total_of, held_at, no_link, link_at, nothing_held, length-map, known_of, sent_of, get_or_past)
+total_whole old ports new k s total g shown = grind (arith, length-map, get_or_past)

@@ -13,7 +13,7 @@ use Rattle.afdx_tx.proofs.OwedFragments.{owed_split, untaken}
 
 -- The accepted lists are the same.
 pub accepted_same : (old new : List LinkState) → IsSamePlan old new → AreGathered old → accepted_in new ≡ accepted_in old
-accepted_same old new p g = grind (arith, held_at, link_at, get_or_past, no_link, cases_lt)
+accepted_same old new p g = grind (arith, get_or_past, cases_lt)
 
 -- A network's frames are legal for the accepted messages.
 legal_on : (plan : Plan) (links : List LinkState) (net : Net) (handed : List Entry)
@@ -27,7 +27,7 @@ legal_on plan links net handed l = record {
       let more = untaken plan.end_system room net held in
       let begins = l.prefixes k s lt slt in (
         begins.0 ++ more,
-        grind (arith, append_assoc, unnumbered_fragments, link_plan_at, owed_split),
+        grind (arith, append_assoc, owed_split),
       );
   numbered = l.numbered;
   spaced = l.spaced;
@@ -48,7 +48,7 @@ sound_conforms tx sound =
       turns = sound_turns tx.plan tx.links tx.lines tx.moment sound;
       taken = taken_allowed tx.plan tx.links sound.of_plan sound.items;
       accepted = accepted_allowed tx.plan tx.links sound.of_plan sound.items;
-      tied = λ k lt whole. (sound.kept k lt).tied whole;
+      tied = grind arith;
       mirrored = sound.mirrored;
       streams = sound_streams tx.plan tx.links tx.lines tx.moment sound;
     }
@@ -70,19 +70,16 @@ of_ports phase tx conforms is = grind arith
 -- The messages still to send are kept.
 keeps_messages : (phase : Bool) (old new : Tx) → IsSamePlan old.links new.links → IsInPhase phase old.plan old.links
     → KeepsMessages phase old new
-keeps_messages false old new same is = grind (arith, alike_queues, same_name, held_at, link_at, same_total, get_or_past, no_link, cases_lt)
+keeps_messages false old new same is = grind (arith, alike_queues, same_name, same_total, get_or_past, cases_lt)
 keeps_messages true old new same is = accepted_same _ _ same is.0
 
 -- A poll leaves an emitter lawful and in its phase.
 pub keeps_phase : (phase : Bool) (old new : Tx) → IsInPhase phase old.plan old.links → IsSamePlan old.links new.links
     → Conforms new → BothEndure old.lines new.lines → new.plan ≡ old.plan → new.board ≡ old.board
     → KeepsPhase phase old new
-keeps_phase phase old new is same conforms stays_down plan board =
-    let phase_is = still_in phase old.plan new.plan old.links new.links plan same is in
-    record { lawful = grind (arith, of_ports, keeps_messages); phase = phase_is }
+keeps_phase phase old new is same conforms stays_down plan board = grind (arith, still_in, of_ports, keeps_messages)
 
 -- The links had the turns of their phase.
 pub runs : (phase : Bool) (now : ℕ) (old new : Tx) → AreLinksOf old.plan old.links → IsInPhase phase old.plan old.links
     → IsRun now old.links new.links old.lines new.lines → Runs phase now old new
-runs false now old new of is run = run
-runs true now old new of is run = grind (arith, run_drained)
+runs phase now old new of is run = grind (arith, run_drained)

@@ -44,7 +44,7 @@ own_turn now end_system link accepted lines after (Released sub number) due t st
     inr (record {
       sub = sub;
       within = grind arith;
-      short = longer _ _ owes.left owes.some owes.ahead;
+      short = grind (arith, longer);
       frame = r.frame;
       of = r.of.of_sub;
       stream = stream_more link.id.0 now sub number link.networks r.frame lines after r.of r.enters;
@@ -70,12 +70,8 @@ turns_come : (now : ℕ) (plan : Plan) (accepted : Accepted) (k : ℕ) (lines af
     → ComesAt now plan accepted k (stream_at plan k lines) (stream_at plan k after)
 turns_come now plan accepted k lines after valid lt due turns stands =
     let at = turn_at (DrainsAt now plan accepted) (stream_at plan k) k 0 (length plan.links) lines after
-    (omega arith) (omega arith)
-    (λ j jlt ne before behind did t. other_turn now (link_plan_at plan.links k).id.0 (link_plan_at plan.links j) _ _ before
-    behind did (λ e. ne (valid.links_apart j k (omega arith) lt (λ i. record { 0 = e i }))) t)
-    (λ j before behind did t. turn_endures now (link_plan_at plan.links j) _ _ before behind did t) turns in
-    rw (at.kept, ← at.same) (own_turn now plan.end_system (link_plan_at plan.links k) (accepted k) at.before at.behind at.did
-    (rw at.same due) at.turn (stood_before at.behind after (link_plan_at plan.links k).networks at.endures stands))
+    (omega arith) (omega arith) (grind (arith, other_turn)) (grind (arith, turn_endures)) turns in
+    rw (at.kept, ← at.same) (grind (arith, own_turn, stood_before))
 
 -- The frames of other sub-VLs are the same.
 told_other : (now sub s : ℕ) (frame : List ℕ) (S T : List Entry) → sub_in frame ≡ sub → s ≢ sub → T ≡ S ++ entry now frame ∷ []
@@ -120,7 +116,7 @@ drained_endure : (plan : Plan) (accepted : Accepted) (moments : List ℕ) (lines
     → AreDrained plan accepted moments lines after → BothEndure lines after
 drained_endure plan accepted [] lines after p = grind arith
 drained_endure plan accepted (now ∷ moments) lines after p =
-    both_on lines p.0 after (grind (arith, turns_endure, turn_endures, link_plan_at, pace_in, log, accepted_view))
+    both_on lines p.0 after (grind (arith, turns_endure, turn_endures))
     (drained_endure plan accepted moments p.0 after p.2)
 
 -- A link has all after more polls than the frames that it owes, and keeps it.
@@ -136,10 +132,10 @@ ends plan accepted k (now ∷ moments) lines after start gap valid lt small late
     (grind arith) apart.1 p.2 stands (inl (rw still.0 still.1)))
     (λ g. ends plan accepted k moments p.0 after now gap valid lt small
     (gained_later now _ _ _ _ _ g) apart.1 p.2 stands
-    (⊎_elim (λ all. absurd (none_gained now _ _ _ _ _ g all))
+    (⊎_elim (grind (arith, none_gained))
     (λ (owes : owed_at plan accepted k lines < suc (length moments)).
     let less = one_less now _ _ _ _ _ g (link_plan_at plan.links k).sub_vls g.within in
-    inr (omega (arith, less, owes))) few))
+    grind arith) few))
     (turns_come now plan accepted k lines p.0 valid lt
     (grind arith) p.1 (grind (arith, drained_endure)))
 

@@ -38,7 +38,7 @@ own_part tx new mid ports place valid was takes g same of items opened lt has ba
       messages = came.messages;
       part = moved;
       places = rw (same, ← at) (gathered.gathers.whole.places (brought_by has.port.sender) inside);
-      accepted = own_messages new place has.port.sender.own (rw same valid) of items (rw same lt) moved;
+      accepted = grind (arith, own_messages);
     }
 
 -- The emitter is still sound.

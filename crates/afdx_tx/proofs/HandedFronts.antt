@@ -19,10 +19,7 @@ picked net p twin (l ∷ ls) all =
     let rest = picked net p twin ls (All-tail (IsSent p net true) l ls all) in
     elim (cases_Bool (p l.entry)) [
       | inl is ↦ rw (all 0 l (omega arith) is, twin l.entry, is) (grind arith)
-      | inr isnt ↦ elim (cases_Bool (names net l.networks)) [
-        | inl named ↦ rw (named, twin l.entry, isnt) rest
-        | inr not_named ↦ rw (not_named, isnt) rest
-      ]
+      | inr isnt ↦ grind (arith, cases_Bool)
     ]
 
 -- No element passes.
@@ -79,7 +76,7 @@ module _ (net : Net) (stands : Bool) (handed : List Entry) (lines : Lines) (vl :
 
   -- The stream of a link that it doesn't carry is empty.
   pub unnamed_stream : names net networks ≡ false → link_stream vl handed ≡ []
-  unnamed_stream isnt = grind (arith, link_stream, unpicked, nat_eq, twin_link, sent)
+  unnamed_stream isnt = grind (arith, unpicked, twin_link, sent)
 
   -- The link's stream is what the network saw and what it missed.
   parts : link_stream vl (log lines) ≡ link_stream vl (entries_of k.seen) ++ link_stream vl (entries_of k.missed)
@@ -91,7 +88,7 @@ module _ (net : Net) (stands : Bool) (handed : List Entry) (lines : Lines) (vl :
   -- A network that carries the link and missed nothing of it has the whole stream.
   pub all_handed : names net networks ≡ true → link_stream vl (entries_of k.missed) ≡ []
       → length (link_stream vl (log lines)) ≤ length (link_stream vl handed)
-  all_handed is none = grind (arith, named_stream, length-map, link_stream, entries_of, side, parts, length-append)
+  all_handed is none = grind (arith, named_stream, length-map, parts, length-append)
 
   -- A network that alone carries the link missed nothing of it.
   pub whole_alone : networks ≡ only net → link_stream vl (entries_of k.missed) ≡ []

@@ -29,8 +29,7 @@ taken_by_same old new s = cc
 kept_same : (old new : LinkState) (log : List Entry) → KeepsLink old new
     → IsLinkOfPlan old.end_system old.plan old.pace old.subs → IsKept old log → IsKept new log
 kept_same old new log g own kept =
-    let within : (s : ℕ) → s < old.plan.sub_vls → s < length old.subs =
-    grind arith in
+    let within : (s : ℕ) → s < old.plan.sub_vls → s < length old.subs = grind arith in
     subst (λ (l : LinkState). IsKept l log) (sym g.same)
     (record {
       numbered = kept.numbered;
@@ -51,10 +50,9 @@ kept_sound config old new lines moment g s =
     record {
       valid = s.valid;
       of_plan = plans_after config old new s.of_plan
-          (grind arith)
-          (grind arith);
+          (grind arith) (grind arith);
       kept = grind (arith, kept_same);
-      later = λ k lt. rw (g.each k (here k lt)).same (s.later k (here k lt));
+      later = grind arith;
       mirrored = s.mirrored;
       known = s.known;
       carried = s.carried;
@@ -82,8 +80,7 @@ module _ (links : List LinkState) (k s : ℕ) (new : LinkState) (within : k < le
       → (m t : ℕ) → R (held_at (link_at links m).subs t) (held_at (link_at (set links k new) m).subs t)
   one_each R itself changed m t = each_set (λ i l. R (held_at (link_at links i).subs t) (held_at l.subs t)) links k new
       no_link within
-      (grind (arith, held_at, link_at, subs_are, get_or-set_other, nothing_held))
-      (grind arith) m
+      (grind (arith, subs_are, get_or-set_other)) (grind arith) m
 
 -- the counts of the first links were published, and the others are unchanged
 pub record IsPublishing (links : List LinkState) (old new : List Published) (many : ℕ) : Type 0 where

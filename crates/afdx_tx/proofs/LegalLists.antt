@@ -57,12 +57,11 @@ prefix_side net s end_system room messages S D f p =
     let T = sub_stream s f.front in
     let U = sub_stream s f.behind in
     let cut = ap (sub_stream s) f.is ∙ with_append (λ (e : Entry). sub_in e.frame) s f.front f.behind in
-    let whole : told T ++ (told U ++ p.0) ≡ fragments end_system room A messages =
-    grind (arith, append_assoc, told, map-append, blanked) in
+    let whole : told T ++ (told U ++ p.0) ≡ fragments end_system room A messages = grind (arith, append_assoc, told, map-append, blanked) in
     let mine = ap (λ x. told (sub_stream s x)) f.got ∙ ap told (grind (arith, with_map, sub_in, side, twin_sub)) ∙ told_side net T in (
       map (twin_of net) (told U ++ p.0),
       ap (λ x. x ++ map (twin_of net) (told U ++ p.0)) mine
-          ∙ sym (map-append (twin_of net) (told T) (told U ++ p.0))
+          ∙ sym (grind (arith, map-append))
           ∙ ap (map (twin_of net)) whole
           ∙ twin_fragments end_system room net A 0 messages,
     )
@@ -76,7 +75,7 @@ legal_keeps plan accepted net stands handed lines keeps carried l =
     (link_plan_at plan.links k).id.0 (link_plan_at plan.links k).networks keeps (carried k lt) in
     record {
       known = rw keeps.got (known_sent plan.links net keeps.seen (entries_of keeps.missed)
-          (rw (log_parts lines keeps.seen keeps.missed keeps.whole) at l.known));
+          (grind (arith, log_parts)));
       carried = λ k lt isnt. unnamed_stream net stands handed lines (link_plan_at plan.links k).id.0
           (link_plan_at plan.links k).networks keeps (carried k lt) isnt;
       prefixes = λ k s klt slt. prefix_side net s plan.end_system (room_of (link_plan_at plan.links k).lmax) (accepted k s)
@@ -88,9 +87,7 @@ legal_keeps plan accepted net stands handed lines keeps carried l =
           rw f.got (numbered_side net 0 f.front f.behind
           (rw f.is at (All-filter (λ e. eqb (link_in e.frame) vl) IsLongEntry (log lines)
           (All-weaker (λ (e : Entry). IsKnown plan.links A e.frame) IsLongEntry (λ e is. is.size) (log lines) (known_all plan.links A (log lines) l.known)))) (rw f.is at (l.numbered k klt)));
-      spaced = λ k klt.
-          let f = fronts k klt in
-          rw f.got (spaced_side net _ None f.front f.behind (rw f.is at (l.spaced k klt)));
+      spaced = grind (arith, spaced_side);
     }
 
 -- The frames of both networks are legal if the log is.
@@ -100,5 +97,5 @@ legal_of plan accepted lines valid m carried l =
     record {
       on_a = legal_keeps plan accepted A lines.a_stands lines.a lines m.first carried l;
       on_b = legal_keeps plan accepted B lines.b_stands lines.b lines m.second carried l;
-      twins = both_twins plan lines valid m carried l.known;
+      twins = grind (arith, both_twins);
     }

@@ -16,20 +16,14 @@ pub first_of_more : (now : ℕ) (links : List LinkState) (lines : Lines) (many :
 first_of_more now links lines many None None none as_is =
     none_more now links lines many (2 ^ 64) none (grind arith)
 first_of_more now links lines many None (Some at) none due = grind arith
-first_of_more now links lines many (Some at) None first as_is =
-    let plan = (link_at links many).plan in let pace = (link_at links many).pace in (
-      grind arith,
-      none_more now links lines many at first.1
-          (grind arith),
-    )
+first_of_more now links lines many (Some at) None first as_is = (
+  grind arith,
+  none_more now links lines many at first.1
+      (grind arith),
+)
 first_of_more now links lines many (Some at) (Some other) first due = elim (cases_lt other at) [
   | inl lt ↦
-      let is : other ≡ min at other = omega (arith, lt) in
-      subst (λ (t : ℕ). IsFirstDue now links lines (many + 1) (Some t)) is (
-        record { place = many; within = omega arith; due = due },
-        grind arith,
-      )
+      grind (arith, min)
   | inr ge ↦
-      let is : at ≡ min at other = omega (arith, ge) in
       grind arith
 ]

@@ -53,7 +53,7 @@ pub record HasOwing (link : LinkState) (log : List Entry) : Type 0 where
 -- A link that isn't done owes a fragment.
 link_owes : (link : LinkState) (log : List Entry) → IsOwn link → IsKept link log → IsLinkGathered link
     → TellsLinkDone false link → HasOwing link log
-link_owes link log own kept g d = grind (arith, cases_Bool, owes_taken, sub_fragments, taken_by, held_at, stands_of, owes_rest, both_ways)
+link_owes link log own kept g d = grind (arith, cases_Bool, owes_taken, stands_of, owes_rest, both_ways)
 
 -- If one isn't, some message isn't wholly released.
 done_false : (config : Plan) (links : List LinkState) (lines : Lines) (moment : ℕ)
@@ -74,6 +74,6 @@ pub all_done : (done : Bool) (config : Plan) (links : List LinkState) (lines : L
     → IsSound config links lines moment → AreGathered links → TellsAllDone done links
     → (done ≡ true → IsAllDone config (accepted_in links) (log lines))
     × (IsAllDone config (accepted_in links) (log lines) → done ≡ true)
-all_done true config links lines moment s g d = grind (arith, count_is, plan_is, all_released, stands_of, held_at, link_at, log, no_link)
+all_done true config links lines moment s g d = grind (arith, count_is, plan_is, all_released, stands_of)
 all_done false config links lines moment s g d =
     (grind arith, (λ all. absurd (done_false config links lines moment s g d all)))

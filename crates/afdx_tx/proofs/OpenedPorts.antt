@@ -35,7 +35,7 @@ pub lacks_at : (config : Plan) (links : List LinkState) (place k s : ℕ) → Is
 lacks_at config links place k s valid at are =
     let few = few_ports config (link_plan_at config.links k).id.0 s valid in
     let more = seat_at config place k s at in
-    grind (arith, seats_within, link_plan_at, ports_of, held_at, link_at, index_of)
+    grind (arith, seats_within)
 
 -- A link with other sub-VLs, which have senders for these ports.
 pub with_subs : (own : ℕ) (ports first more : List PortPlan) (link : LinkPlan) (state : LinkState) (subs : List Held)
@@ -56,12 +56,9 @@ link_more config old place k s calls sender new at opened makes =
     → IsOpenedSub (own t) (ports_of_sub config.ports plan.id.0 t) (seats config.ports (place + 1) plan.id.0 t) held in
     rw makes.same (with_subs config.end_system config.ports (take place config.ports) (take (place + 1) config.ports) plan old
     (set old.subs s (held_at new.subs s)) opened (record {
-      count = length-set old.subs s (held_at new.subs s) ∙ opened.subs.count;
+      count = grind (arith, length-set);
       each = λ t lt. each_set P old.subs s (held_at new.subs s) nothing_held
-          (let count = opened.subs.count in omega arith)
-          (λ _. rw (seat_at config place k s at) (grind arith))
-          (λ t ne tlt. rw (others_at config place plan.id.0 t at.within
-          (and_right _ _ (ne_eqb _ _ (λ q. ne (sym q ∙ at.sub))))) (opened.subs.each t tlt))
+          (grind arith) (grind (arith, seat_at)) (grind (arith, others_at, and_right, ne_eqb))
           t lt;
     }))
 
@@ -71,7 +68,7 @@ pub opened_more : (config : Plan) (links : List LinkState) (place k s calls : �
     → LinkMakesSender (link_at links k) s calls sender new
     → AreOpenedLinks config (take (place + 1) config.ports) (set links k new) (length config.links)
 opened_more config links place k s calls sender new valid at are makes =
-    let within : k < length links = let link = at.link in let count = are.count in omega arith in
+    let within : k < length links = grind arith in
     let first = take (place + 1) config.ports in
     let P : ℕ → LinkState → Type 0 = λ m link. m < length config.links
     → IsOpenedLink config.end_system config.ports first (link_plan_at config.links m) link in
@@ -79,7 +76,7 @@ opened_more config links place k s calls sender new valid at are makes =
       count = length-set links k new ∙ are.count;
       each = each_set P links k new no_link within
           (λ _. link_more config (link_at links k) place k s calls sender new at (are.each k at.link) makes)
-          (grind (arith, with_subs, take, link_plan_at, link_at, others_at));
+          (grind (arith, with_subs, others_at));
     }
 
 pub names_more : (links : List LinkState) (k s calls : ℕ) (sender : SenderView) (new : LinkState) → k < length links
@@ -95,7 +92,7 @@ pub fresh_port : (config : Plan) (links : List LinkState) (place k s : ℕ) (pla
     → LinkMakesSender (link_at links k) s most_calls sender new
     → plan ≡ port_plan_at config.ports place → k ≡ link_place config plan → s ≡ plan.sub
     → IsFreshPort config (queues_in links) place (record { place = place; plan = plan; sender = sender })
-fresh_port config links place k s plan sender new at are makes is link sub = grind (arith, most_calls, index_of, queue_at, queues_in, link_plan_at, queue_at_is, queue_of, new_sender)
+fresh_port config links place k s plan sender new at are makes is link sub = grind (arith, queue_at_is)
 
 -- A fresh emitter is sound.
 pub fresh_sound : (config : Plan) (links : List LinkState) → IsPlan config
@@ -106,19 +103,16 @@ fresh_sound config links valid f =
       valid = valid;
       of_plan = record {
         each_plan = ext_get_or no_link_plan (plans links) config.links (plans_length links ∙ f.count)
-            (λ k lt. plan_at_is links k (omega (arith, plans_length links))
-            ∙ (opened k (omega (arith, plans_length links))).plan);
-        end_system = λ k lt. (opened k lt).end_system;
+            (grind (arith, plan_at_is, plans_length));
+        end_system = grind arith;
         each = grind arith;
         ports = grind arith;
       };
       kept = grind (arith, fresh_log, both_ways);
-      later = λ k lt. rw (opened k lt).pace tt;
+      later = grind arith;
       mirrored = fresh_in_step.mirrored;
       known = rw fresh_log tt;
       carried = grind arith;
-      whole = λ k lt stands. (opened k lt).lost;
-      items = λ k s lt slt.
-          let subs = (opened k lt).subs in
-          rw (subs.each s (omega (arith, subs.count))).seen (All-nil (IsItem _));
+      whole = grind arith;
+      items = grind arith;
     }

@@ -28,7 +28,7 @@ untaken end_system room net held =
 pub owed_split : (end_system room : ℕ) (net : Net) (held : Held)
     → fragments end_system room net (accepted_by held)
     ≡ fragments end_system room net (taken_by held) ++ untaken end_system room net held
-owed_split end_system room net held = grind (arith, map-append, sent_of, taken_of, fragments_append, taken_by, sent_by, append-nil)
+owed_split end_system room net held = grind (arith, map-append, fragments_append, append-nil)
 
 -- Two lists are empty if together they are.
 nils : {X : Type 0} (xs ys : List X) → xs ++ ys ≡ [] → (xs ≡ []) × (ys ≡ [])
@@ -55,7 +55,7 @@ module _ (end_system : ℕ) (link : LinkPlan) (log : List Entry) (s : ℕ) (subs
   pub all_released : Stands end_system link log s (held_at subs s) → (held_at subs s).left ≡ []
       → rest_of (held_at subs s).seen ≡ []
       → IsReleased end_system link (lists_of subs) log s
-  all_released at none drained = grind (arith, held_at, room_of, owed_split, end_system, append-nil, taken_by, unnumbered_fragments)
+  all_released at none drained = grind (arith, owed_split, append-nil)
 
   -- The stream lacks fragments of the messages taken.
   pub owes_taken : (left : List (List ℕ)) → (left ≡ [] → ⊥)
@@ -66,7 +66,7 @@ module _ (end_system : ℕ) (link : LinkPlan) (log : List Entry) (s : ℕ) (subs
       record {
         left = left ++ more;
         some = grind (arith, nils);
-        ahead = grind (arith, owed_split, room_of, held_at, append_assoc, unnumbered_fragments);
+        ahead = grind (arith, owed_split, append_assoc);
       }
 
   -- A message is left to take.
@@ -86,14 +86,13 @@ module _ (end_system : ℕ) (link : LinkPlan) (log : List Entry) (s : ℕ) (subs
             some = λ none. fragments_some (record { end_system = end_system; link = link; sub = s }) place
                 (sent_of held.ports message)
                 (nils _ _ (nils held.left next none).1).0;
-            ahead = grind (arith, owed_split, append_assoc, unnumbered_fragments);
+            ahead = grind (arith, owed_split, append_assoc);
           }
 
   -- A polled sub-VL that has something isn't wholly released.
   pub asked_owes : (new : Held) → Stands end_system link log s (held_at subs s) → Asks true (held_at subs s) new
       → Owes end_system link (lists_of subs) log s
-  asked_owes new at (inl g) = grind (arith, owes_taken)
-  asked_owes new at (inr p) = grind (arith, owes_rest)
+  asked_owes new at h = grind (arith, owes_taken, owes_rest)
 
 -- No sub-VL is both.
 pub owes_not : (end_system : ℕ) (link : LinkPlan) (accepted : ℕ → List Sent) (log : List Entry) (s : ℕ)

@@ -23,9 +23,7 @@ of_port port P (m ∷ more) all = by_test (of_port port P more) (nat_eq m.port.i
     by_test rest true is those = All-cons (λ (sent : Sent). sent.port ≡ port → P sent.bytes) m more
         (grind (arith, All-head, messages_of))
         (rest (All-tail P m.bytes (messages_of port more) those))
-    by_test rest false is those = All-cons (λ (sent : Sent). sent.port ≡ port → P sent.bytes) m more
-        (grind arith)
-        (rest those)
+    by_test rest false is those = grind arith
 
 -- the messages of the port at a place
 own_fit : (old new : Tx) (ports : List PortView) (place : ℕ) → AreOpenedWith old ports → IsGatheredTx old ports new
@@ -33,11 +31,8 @@ own_fit : (old new : Tx) (ports : List PortView) (place : ℕ) → AreOpenedWith
     (accepted_in new.links (link_place new.plan (port_plan_at new.plan.ports place)) (port_plan_at new.plan.ports place).sub)
 own_fit old new ports place opened g lt i d below own_port =
     let port : PortPlan = port_plan_at new.plan.ports place in
-    let own = g.own place (subst (λ (plan : Plan). place < length plan.ports) g.plan lt) in
-    let belongs : IsPortOfTx old own.port = grind arith in
-    let is : own.port.plan ≡ port_plan_at new.plan.ports place = grind arith in
-    let may : All (λ (bytes : List ℕ). MaySend (port_plan_at new.plan.ports place) (length bytes)) own.port.sender.own =
-    grind arith in
+    let own = g.own place (grind arith) in
+    let may : All (λ (bytes : List ℕ). MaySend (port_plan_at new.plan.ports place) (length bytes)) own.port.sender.own = grind arith in
     let most = (of_port port (λ (bytes : List ℕ). MaySend (port_plan_at new.plan.ports place) (length bytes))
     (accepted_in new.links (link_place new.plan port) port.sub) (rw own.accepted may) i d below own_port).most in
     rw own_port most
@@ -49,10 +44,9 @@ gathered_allowed old new ports valid opened g queued k s inside below i d lt =
     let m : Sent = get_or (accepted_in new.links k s) i d in
     let of : IsQueued new.plan k s m = queued k s inside below i d lt in
     let at : get_or new.plan.ports of.port.0 m.port ≡ m.port = of.port.2 in
-    let same : port_plan_at new.plan.ports of.port.0 ≡ m.port = get_or_default new.plan.ports of.port.0 _ m.port of.port.1 ∙ at in
-    let link : link_place new.plan (port_plan_at new.plan.ports of.port.0) ≡ k =
-    grind (arith, own_link) in
-    let sub : (port_plan_at new.plan.ports of.port.0).sub ≡ s = ap (λ (p : PortPlan). p.sub) same ∙ of.its in
+    let same : port_plan_at new.plan.ports of.port.0 ≡ m.port = grind (arith, get_or_default) in
+    let link : link_place new.plan (port_plan_at new.plan.ports of.port.0) ≡ k = grind (arith, own_link) in
+    let sub : (port_plan_at new.plan.ports of.port.0).sub ≡ s = grind arith in
     record {
       queued = of;
       most = (rw (link, sub) at (own_fit old new ports of.port.0 opened g of.port.1)) i d lt (sym same);

@@ -104,8 +104,7 @@ both_twins plan lines valid m carried known =
     (front_twins (on_both plan.links (entries_of m.first.seen)) (on_both plan.links (entries_of m.first.missed))
     (on_both plan.links (entries_of m.second.seen)) (on_both plan.links (entries_of m.second.missed))
     (sym (both_append plan.links (entries_of m.first.seen) (entries_of m.first.missed))
-    ∙ ap (on_both plan.links) (sym (log_parts lines m.first.seen m.first.missed m.first.whole)
-    ∙ log_parts lines m.second.seen m.second.missed m.second.whole)
+    ∙ ap (on_both plan.links) (grind (arith, log_parts))
     ∙ both_append plan.links (entries_of m.second.seen) (entries_of m.second.missed)))
   where
     all : All (IsPlanned plan.links) lines.logged

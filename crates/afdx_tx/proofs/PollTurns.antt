@@ -30,7 +30,7 @@ known_push links (x ∷ xs) e h k = (h.0, known_push links xs e h.1 k)
 -- The plan at a place is that of the link there.
 pub plan_at_is : (links : List LinkState) (k : ℕ) → k < length links
     → link_plan_at (plans links) k ≡ (link_at links k).plan
-plan_at_is links k lt = get_or-map plan_of_link links k no_link no_link_plan lt
+plan_at_is links k lt = grind (arith, get_or-map)
 
 -- There are as many plans as links.
 pub plans_length : (links : List LinkState) → length (plans links) ≡ length links
@@ -68,8 +68,6 @@ carried_after now i old (Released sub number) links new lines after apart same l
     let il : i < length old = omega (arith, same.count) in
     let kl : k < length old = omega (arith, plans_length old) in
     let P = λ (l : Logged). link_in l.entry.frame ≡ (link_plan_at (plans old) k).id.0 → l.networks ≡ (link_plan_at (plans old) k).networks in
-    let plan = (same.each i il).plan in
-    let made = λ (n : ℕ). let v : VlId = record { 0 = n } in v in
     rw r.enters (All-push P lines.logged (logged_for (link_at links i).plan.networks (entry now r.frame)) (h k klt) (grind (arith, plan_at_is)))
 carried_after now i old Lost links new lines after apart same lt t h k klt = rw t.serves.1.same (h k klt)
 
@@ -86,13 +84,13 @@ steady_more now i old links lines after new did s apart lt t later =
     × HasItems l)
     links i new lt (
       trans_same _ _ _ (s.same.each i il) t.same,
-      link_turn now (link_at links i) new lines after did t own,
-      kept_turn now did (link_at links i) new lines after t own (λ r rlt. s.items i r lt rlt) (s.kept i lt),
+      grind (arith, link_turn),
+      grind (arith, kept_turn),
       later,
-      λ q qlt. (t.same.subs q).items (s.items i q lt (omega (arith, t.same.count))),
+      grind arith,
     )
     (λ j jlt ne. (
-      s.same.each j (omega (arith, s.same.count)),
+      grind arith,
       s.each j jlt,
       kept_stream (link_at links j) (log lines) (log after) (grind (arith, other_stream, link_at)) (s.kept j jlt),
       s.later j jlt,
@@ -108,22 +106,16 @@ told_more now Nothing link new rs before lines after t h = grind (arith, append-
 told_more now (Released sub number) link new rs before lines after t h =
     let r = t.serves.2 in
     let e = entry now r.frame in
-    let same : release_of e ≡ record { vl = link.plan.id; sub = sub; number = number } =
-    grind arith in
+    let same : release_of e ≡ record { vl = link.plan.id; sub = sub; number = number } = grind arith in
     record {
       entries = h.entries ++ e ∷ [];
       grown = log_more lines after (logged_for link.plan.networks e) r.enters
           ∙ ap (λ (x : List Entry). x ++ e ∷ []) h.grown
           ∙ append_assoc (log before) h.entries (e ∷ []);
-      named = map-append release_of h.entries (e ∷ []) ∙ rw (h.named, same) refl;
+      named = grind (arith, map-append);
       moments = grind (arith, map-append);
     }
 told_more now Lost link new rs before lines after t h = grind (arith, append-nil, log_same)
-
--- A turn releases at most one frame.
-pub few_released : (vl : VlId) (did : Served) (rs : List Release) (i : ℕ) → length rs ≤ i
-    → length (rs ++ turn_release vl did) ≤ i + 1
-few_released vl did rs i few = grind (arith, length-append, turn_release)
 
 -- All networks of a link that lost a frame are down.
 whole_after : (now : ℕ) (did : Served) (link new : LinkState) (lines after : Lines)
@@ -145,21 +137,17 @@ pub polling_more : (now i : ℕ) (old links : List LinkState) (before lines afte
     → BothEndure lines after → IsPolling now (i + 1) old (set links i new) before after
     (released ++ turn_release (link_at links i).plan.id did)
 polling_more now i old links before lines after new did released p apart lt turned later stays_down =
-    let kept = p.steady.kept i lt in
-    let shown : IsTurn now (link_at links i) new lines after did =
-    grind arith in
-    let turn : IsTurnAt now old (set links i new) i lines after did =
-    rw (get_or-set_same links i new no_link lt, ← p.rest i (omega arith)) shown in
+    let shown : IsTurn now (link_at links i) new lines after did = grind arith in
+    let turn : IsTurnAt now old (set links i new) i lines after did = grind (arith, get_or-set_same) in
     record {
       steady = steady_more now i old links lines after new did p.steady apart lt turned later;
       turns = turns_on now i old (set links i new) before lines after did
           (grind (arith, turns_seen, set, get_or-set_other, no_link)) turn;
-      rest = λ k le. get_or-set_other links i k new no_link (λ e. omega arith) ∙ p.rest k (omega arith);
+      rest = grind (arith, get_or-set_other);
       whole = λ k klt. at_each (λ j l. any_up l.plan.networks after ≡ true → l.lost ≡ false) links i new lt
-          (whole_after now did (link_at links i) new lines after turned)
-          (grind arith)
+          (grind (arith, whole_after)) (grind arith)
           k (omega (arith, length-set links i new));
-      told = told_more now did (link_at links i) new released before lines after turned p.told;
+      told = grind (arith, told_more);
       room = grind (arith, length-append, turn_release);
       stays_down = both_on before lines after p.stays_down stays_down;
     }

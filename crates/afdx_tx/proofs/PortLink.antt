@@ -16,12 +16,12 @@ is_its port link = has_id port.vl.0 link
 -- If no link is found, none has the identifier.
 pub none_has : (links : List LinkPlan) (vl k : ℕ) → position (has_id vl) links ≡ None → k < length links
     → (link_plan_at links k).id.0 ≡ vl → ⊥
-none_has links vl k none within id = grind (arith, position_or_len, has_id, lt-ltb, both_ways, fails_before_first, no_link_plan, eq-eqb, cases_lt)
+none_has links vl k none within id = grind (arith, position_or_len, lt-ltb, both_ways, fails_before_first, eq-eqb, cases_lt)
 
 -- A found link has the identifier.
 pub found_at : (links : List LinkPlan) (vl k : ℕ) → position (has_id vl) links ≡ Some k
     → (k < length links) × ((link_plan_at links k).id.0 ≡ vl)
-found_at links vl k e = grind (arith, position-Some, has_id, no_link_plan, eqb-true)
+found_at links vl k e = grind (arith, position-Some, eqb-true)
 
 -- The link of a port is found.
 pub found : (links : List LinkPlan) (port : PortPlan) → HasLink links port → position (is_its port) links ≡ None → ⊥

@@ -114,12 +114,11 @@ own_index config place valid lt =
     let passes = on_own port port.vl.0 port.sub refl refl in
     let seat = rw passes at (seats_more config.ports place port.vl.0 port.sub lt) in
     is_index (filter on config.ports) (AllPairs-filter AreOthers on config.ports (ports_differ config valid))
-    (index_of config.ports place) port.id.0 (grind (arith, seats_within))
-    (grind (arith, place_in))
+    (index_of config.ports place) port.id.0 (grind (arith, seats_within)) (grind (arith, place_in))
 
 -- The accepted messages of a port, by its identifier.
 pub own_messages : (tx : Tx) (place : ℕ) (own : List (List ℕ)) → IsPlan tx.plan → AreLinksOf tx.plan tx.links
     → HaveOwnItems tx.links → place < length tx.plan.ports
     → part_of (index_of tx.plan.ports place) (known_of (held_for tx (port_plan_at tx.plan.ports place)).seen) ≡ own
     → port_messages tx.plan (accepted_in tx.links) place ≡ own
-own_messages tx place own valid of items lt part = grind (arith, port_plan_at, link_place, port_within, known_of, held_for, ports_of_sub, ports_are, messages_of, sent_by, part_is, index_of, own_index)
+own_messages tx place own valid of items lt part = grind (arith, port_within, ports_are, part_is, own_index)

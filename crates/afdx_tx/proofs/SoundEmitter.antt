@@ -72,8 +72,8 @@ module _ (config : Plan) (links : List LinkState) (lines : Lines) (moment : ℕ)
         let n = count_is config links s.of_plan in
         legal_of config (taken_in links) lines s.valid s.mirrored s.carried (record {
           known = s.known;
-          numbered = λ k lt. rw (plan_here k lt) (s.kept k (omega arith)).numbered;
-          spaced = λ k lt. rw (plan_here k lt, ← (s.of_plan.each k (omega arith)).gap) (s.kept k (omega arith)).spaced;
+          numbered = grind (arith, plan_here);
+          spaced = grind (arith, plan_here);
           prefixes = λ k t lt tlt. rw (plan_here k lt, ← s.of_plan.end_system k (omega arith))
               ((s.kept k (omega arith)).prefixes t (rw (plan_here k lt) at tlt));
         })
@@ -108,7 +108,7 @@ pub sound_turns : (config : Plan) (links : List LinkState) (lines : Lines) (mome
 sound_turns config links lines moment s =
     let n = count_is config links s.of_plan in
     let turns : TakeTurnsOn config (log lines) = λ k klt. rw (plan_is config links s.of_plan k (omega arith))
-    (grind (arith, takes_turns, link_at, none_begun, link_stream, log)) in
+    (grind (arith, takes_turns)) in
     record {
       on_a = turns_keeps config A lines.a_stands lines.a lines s.mirrored.first s.carried turns;
       on_b = turns_keeps config B lines.b_stands lines.b lines s.mirrored.second s.carried turns;

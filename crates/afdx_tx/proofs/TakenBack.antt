@@ -25,8 +25,7 @@ record SubTakes (old new : Held) : Type 0 where
 pub take_one : (links : List LinkState) (k s : ℕ) (sender : SenderView) (new : LinkState) → k < length links
     → LinkTakesBack (link_at links k) s sender new → OnlyTakeBack links (set links k new)
 take_one links k s sender new within takes =
-    let here : SubTakes (held_at (link_at links k).subs s) (held_at new.subs s) =
-    grind arith in
+    let here : SubTakes (held_at (link_at links k).subs s) (held_at new.subs s) = grind arith in
     let all = one_each links k s new within takes.same SubTakes
     (grind arith) here in
     grind (arith, length-set, one_link, one_count)
@@ -66,7 +65,7 @@ indexed_to ports vl sub index (suc n) le lt = ⊎_elim
         → seats ports (suc n) vl sub ≡ seats ports n vl sub + cond (on_sub_vl vl sub (port_plan_at ports n)) 1 0
         → (place : ℕ) × HasIndex ports vl sub index place
     at true on after more = (n, grind arith)
-    at false on after more = absurd (let m = rw on at more in omega arith)
+    at false on after more = grind arith
 
 indexed : (ports : List PortPlan) (vl sub index : ℕ) → index < length (ports_of_sub ports vl sub)
     → (place : ℕ) × HasIndex ports vl sub index place
@@ -98,14 +97,10 @@ full_back config old new ports valid of may takes belong every back k lt s slt =
           let plan = belongs.plan ∙ ap (port_plan_at config.ports) has.at in
           let linked = link_within config (port_plan_at config.ports place) valid (valid.linked place _ at.within) in
           let link = valid.links_apart _ k linked.0 within
-          (λ i. record { 0 = (ap (λ (v : VlId). v.0) linked.1.id ∙ vl) i }) in
+          (grind arith) in
           let index = belongs.index ∙ ap (index_of config.ports) has.at
           ∙ ap (λ (n : ℕ). seats config.ports place n (port_plan_at config.ports place).sub) vl
           ∙ ap (λ (n : ℕ). seats config.ports place (link_plan_at config.links k).id.0 n) its
           ∙ at.at in
-          let came = (All-contains (IsTakenBack config new) ports has.port back has.inside).back in (
-            brought_by has.port.sender,
-            rw (ap (link_place config) plan ∙ link, ap (λ (q : PortPlan). q.sub) plan ∙ its) at came,
-            index,
-          );
+          let came = (All-contains (IsTakenBack config new) ports has.port back has.inside).back in grind arith;
     }

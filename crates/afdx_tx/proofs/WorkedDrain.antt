@@ -122,7 +122,7 @@ not_before starts_after = grind arith
 pub needs_its_polls : NeedsItsPolls
 needs_its_polls = record {
   none = (
-    record { drained = refl; left = one_left 1000 0 true },
+    grind (arith, one_left),
     starts 0 true,
     only_one _ (omega arith),
     tt,
@@ -133,7 +133,7 @@ needs_its_polls = record {
     too_soon,
     starts 0 true,
     only_one _ (omega arith),
-    λ apart. let no = apart.0 in absurd (omega arith),
+    grind arith,
     only_one _ refl,
     enough 1000 0 true (1500 ∷ 1600 ∷ []) (omega arith),
   );
@@ -141,7 +141,7 @@ needs_its_polls = record {
     too_soon,
     starts 0 true,
     grind arith,
-    (omega arith, (omega arith, tt)),
+    grind arith,
     only_one _ refl,
     enough 1000 0 true (1500 ∷ 1600 ∷ []) (omega arith),
   );
@@ -149,7 +149,7 @@ needs_its_polls = record {
     too_early,
     not_before,
     only_one _ (omega arith),
-    (omega arith, (omega arith, tt)),
+    grind arith,
     only_one _ refl,
     enough 5000 0 true two_moments (omega arith),
   );
@@ -157,7 +157,7 @@ needs_its_polls = record {
     failed,
     starts 1 false,
     only_one _ (omega arith),
-    (omega arith, (omega arith, tt)),
+    grind arith,
     λ up. false≢true (up 0 (omega arith)),
     enough 1000 1 false (2000 ∷ 3000 ∷ []) (omega arith),
   );

@@ -7,7 +7,7 @@ gather-requires c =
     let i = c.loop-link.link-index in
     record {
       full = rw (get_or_default c.loop-link.links i c.link-item.result no_link (omega arith), old.todo i (omega arith))
-          (c.requires.full i (omega arith));
+          (grind arith);
     }
 
 pub loop-link-preserved : goal.loop-link-preserved
@@ -17,9 +17,9 @@ loop-link-preserved c =
     let lt : i < length c.loop-link.links = omega arith in
     let here = get_or_default c.loop-link.links i c.link-item.result no_link lt ∙ old.todo i (omega arith) in
     record {
-      count = length-set c.loop-link.links i c.gather.new.self ∙ old.count;
+      count = grind (arith, length-set);
       done = each_set (λ k link. k < i + 1 → GathersLink (link_at c.args.links.now k) link) c.loop-link.links i
           c.gather.new.self
-          no_link lt (λ _. rw here at c.gather.ensures) (λ k ne below. old.done k (omega arith));
-      todo = λ k le. get_or-set_other c.loop-link.links i k c.gather.new.self no_link (λ e. omega arith) ∙ old.todo k (omega arith);
+          no_link lt (grind arith) (grind arith);
+      todo = grind (arith, get_or-set_other);
     }

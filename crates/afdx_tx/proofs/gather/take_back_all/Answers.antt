@@ -22,9 +22,7 @@ plan_is c belongs = cc
 
 -- Its link is one of the links.
 within : (c : After-into_sender) → c.link_of-link.result < length c.loop-port.links
-within c =
-    let count = count_is c.args.config.now c.args.links.now c.requires.of_plan in
-    grind arith
+within c = grind (arith, count_is)
 
 link_is : (c : After-into_sender)
     → get_or c.loop-port.links c.link_of-link.result c.index-links-link.result ≡ link_at c.loop-port.links c.link_of-link.result
@@ -34,12 +32,7 @@ pub take_back-requires-clause-within : goal.take_back-requires-clause-within
 take_back-requires-clause-within c = grind (arith, sub_within, within, link_is)
 
 pub take_back-requires-clause-own : goal.take_back-requires-clause-own
-take_back-requires-clause-own c =
-    let old = c.args.links.now in
-    let k = c.link_of-link.result in
-    let s = c.port_at-plan.result.sub in
-    let belongs = own (goal.at.take_back-requires-clause-own c).After-place in
-    grind (arith, link_is, queue_at_is, queue_at, queues_in, queue_for, plan_is)
+take_back-requires-clause-own c = grind (arith, own, link_is, queue_at_is, plan_is)
 
 pub loop-port-preserved : goal.loop-port-preserved
 loop-port-preserved c =
@@ -51,15 +44,14 @@ loop-port-preserved c =
     let port = c.in-Some.port in
     let old = c.loop-port.invariant in
     let before = (goal.at.loop-port-preserved c).After-into_sender in
-    let plan = plan_is before (own (goal.at.loop-port-preserved c).After-place) in
+    let plan = plan_is before (grind (arith, own)) in
     let takes = rw (c.into_sender.ensures.sender, link_is before) at c.take_back.ensures in
     record {
       same = grind (arith, set, take_one, within);
       back = All-push (IsTakenBack config (set links k new)) c.loop-port.yielded port
           (All-weaker (IsTakenBack config links) (IsTakenBack config (set links k new))
           (λ other was. stays_back config links k s port.sender new other (within before) takes was) c.loop-port.yielded old.back)
-          (comes_back config links k s new port (within before) (c.link_of-link.ensures.value ∙ ap (link_place config) plan)
-          (ap (λ (q : PortPlan). q.sub) plan) takes c.into_sender.ensures.messages);
+          (grind (arith, comes_back, within));
     }
 
 pub returns-clause-back : goal.returns-clause-back

@@ -11,10 +11,10 @@ new_sender-requires-clause-lacks c =
     let k = c.link_of-link.result in
     let s = c.port_at-plan.result.sub in
     let at = place_at config config place k s c.port_at-plan.result refl c.port_at-plan.ensures.value
-    (let test = c.loop-place-test.true in omega (arith, ap length c.ports-place-end.ensures.plan))
+    (grind arith)
     c.link_of-link.ensures.within c.link_of-link.ensures.over refl in
     let lacks = lacks_at config c.loop-place.links place k s c.port_at-plan.ensures.valid at c.loop-place.invariant.opened in
-    rw (get_or_default c.loop-place.links k c.index-links-link.result no_link lacks.0) lacks.2
+    grind (arith, get_or_default)
 
 pub loop-place-preserved : goal.loop-place-preserved
 loop-place-preserved c =
@@ -25,7 +25,7 @@ loop-place-preserved c =
     let s = c.port_at-plan.result.sub in
     let old = c.loop-place.invariant in
     let at = place_at config config place k s c.port_at-plan.result refl c.port_at-plan.ensures.value
-    (let test = c.loop-place-test.true in omega (arith, ap length c.ports-place-end.ensures.plan))
+    (grind arith)
     c.link_of-link.ensures.within c.link_of-link.ensures.over refl in
     let valid = c.port_at-plan.ensures.valid in
     let lacks = lacks_at config links place k s valid at old.opened in
@@ -40,7 +40,7 @@ loop-place-preserved c =
     let pushed = c.in_ok-push.ensures.items in
     record {
       opened = opened_more config links place k s most_calls sender new valid at old.opened makes;
-      count = let many = old.count in omega (arith, ap length pushed, length-append c.loop-place.ports.items (c.new.result ∷ []));
+      count = grind (arith, length-append);
       each = λ m d lt. rw (names, pushed) (each_push (λ i port. IsFreshPort config (queues_in links) i port)
           c.loop-place.ports.items
           c.new.result d place old.count (λ i below. old.each i d below) (rw c.new.ensures fresh) m lt);

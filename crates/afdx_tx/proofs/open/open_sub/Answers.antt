@@ -1,7 +1,6 @@
+use Rattle.afdx_tx.proofs.Names.{arith}
 use Rattle.afdx_tx.proofs.PortLink.{own_ports}
 use Rattle.afdx_tx.proofs.open.open_sub.Goals as goal
 
 pub new-requires-clause-ports : goal.new-requires-clause-ports
-new-requires-clause-ports c =
-    rw (c.in_ok-ports.ensures, c.ports.ensures.plan)
-    (own_ports c.args.config.now.ports c.args.of (c.ports.ensures.valid.each_port) c.requires.sub)
+new-requires-clause-ports c = grind (arith, own_ports)

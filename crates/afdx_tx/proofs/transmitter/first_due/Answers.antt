@@ -1,4 +1,4 @@
-use Rattle.afdx_tx.proofs.Names.{◌≡◌, ◌∙◌, ◌+◌, sym, subst, get_or_default, LinkState, no_link, link_at, ℕ, Option, MatchOption, BecomesDue, StaysAsIs, IsFirstDue}
+use Rattle.afdx_tx.proofs.Names.{arith, ◌≡◌, ◌∙◌, ◌+◌, sym, subst, get_or_default, LinkState, no_link, link_at, ℕ, Option, MatchOption, BecomesDue, StaysAsIs, IsFirstDue}
 use Rattle.afdx_tx.proofs.NextDue.{first_of_more}
 use Rattle.afdx_tx.proofs.transmitter.first_due.Goals as goal
 
@@ -6,8 +6,7 @@ pub loop-link-preserved : goal.loop-link-preserved
 loop-link-preserved g c =
     let now = c.args.now in let links = c.args.links.now in let lines = c.args.mux.now in let k = c.loop-link.link-index in
     let own = c.next_due.result in
-    let is : c.link-item.result ≡ link_at links k = c.link-item.is ∙ get_or_default links k c.link-item.result no_link c.loop-link-test.true in
+    let is : c.link-item.result ≡ link_at links k = grind (arith, get_or_default) in
     subst (λ (first : Option ℕ). IsFirstDue now links lines (k + 1) first) (sym c.earlier-first.ensures)
     (first_of_more now links lines k c.loop-link.first own c.loop-link.invariant
-    (subst (λ (link : LinkState). MatchOption own (StaysAsIs now link.plan link.pace lines) (λ at. BecomesDue now at link.plan link.pace lines))
-    is c.next_due.ensures))
+    (grind arith))

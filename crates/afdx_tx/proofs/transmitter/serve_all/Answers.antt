@@ -37,7 +37,7 @@ loop-link-preserved g c =
           let named = w.id.ensures ∙ ap (λ (plan : LinkPlan). plan.id) turned.same.plan in
           rw (w.links-is, w.mux-is, w.notes-is) (record {
             released = inv.released ++ turn_release (link_at links i).plan.id w.serve-did.result;
-            noted = rw named at (w.note.ensures inv.released inv.noted);
+            noted = grind arith;
             polls = polling_more c.args.now i c.args.links.now links c.args.mux.now c.loop-link.mux w.serve-did.new.mux
                 w.serve-did.new.self w.serve-did.result inv.released p c.requires.apart lt turned e.later e.stays_down;
           })

@@ -8,11 +8,9 @@ pub invariant_of-self : goal.invariant_of-self
 invariant_of-self g c =
     let links = c.self.inside.links.items.items in
     let at = c.in-Some.ensures.some in
-    let within : c.in-Some.place < length c.self.inside.links.items.items =
-    let below = at.within in omega (arith, count_is c.self.inside.config c.self.inside.links.items.items c.self.invariant.0.of_plan) in
+    let within : c.in-Some.place < length c.self.inside.links.items.items = grind (arith, count_is) in
     let here = c.index_mut.ensures.value ∙ get_or_default links c.in-Some.place c.index_mut.result.now no_link within in
-    let kept = closed_kept links _ (links_closed links c.in-Some.place c.args.sub c.close.result c.close.new.self
-    (subst (λ (l : LinkState). ClosesLink l c.args.sub c.close.result c.close.new.self) here c.close.ensures) within) in (
+    let kept = closed_kept links _ (grind (arith, links_closed)) in (
       kept_sound c.self.inside.config links _ c.self.inside.mux c.self.inside.moment kept c.self.invariant.0,
       grind arith,
     )

@@ -18,8 +18,7 @@ found g c =
     let links = c.self.inside.links.items.items in
     let sound = c.self.invariant.0 in
     let at = there g c in
-    let within : c.in_ok-place.place < length c.self.inside.links.items.items =
-    omega (arith, at.within, count_is config links sound.of_plan) in
+    let within : c.in_ok-place.place < length c.self.inside.links.items.items = grind (arith, count_is) in
     c.counts.ensures ∙ ap (λ (l : LinkState). l.counts) (c.index.ensures
     ∙ get_or_default links c.in_ok-place.place c.index.result.now no_link within)
     ∙ sound_counts config links c.self.inside.mux c.self.inside.moment sound c.in_ok-place.place within
@@ -28,7 +27,7 @@ found g c =
 pub returns-in_err-place : goal.returns-in_err-place
 returns-in_err-place g c = rw (← c.self.view_is, c.from_residual.ensures) (record {
   missing = (
-    λ _ place at. none_has c.self.inside.config.links c.args.vl.0 place (sym c.link_index.ensures ∙ c.in_err-place.was) at.within at.id,
+    λ _ place at. none_has c.self.inside.config.links c.args.vl.0 place (grind arith) at.within at.id,
     λ _. refl,
   );
   counts = tt;

@@ -1,4 +1,4 @@
-use Rattle.afdx_tx.proofs.Names.{refl, ◌≡◌, ◌∙◌, with_items, with_items_is, IsSound, GathersPorts}
+use Rattle.afdx_tx.proofs.Names.{arith, refl, ◌≡◌, ◌∙◌, with_items, with_items_is, IsSound, GathersPorts}
 use Rattle.afdx_tx.proofs.Conforming.{sound_conforms}
 use Rattle.afdx_tx.proofs.GatheredPorts.{gathers_sound, gathers_reaches, gathers_tx, all_gathered}
 use Rattle.afdx_tx.proofs.OwnLengths.{gathered_allowed}
@@ -9,13 +9,12 @@ use Rattle.afdx_tx.proofs.transmitter.Transmitter.gather.Goals as goal
 -- The effect of gathering on the links before it.
 gathers : (g : Given.Over) (c : goal.After-self-1 g)
     → GathersPorts c.self.inside.config c.self.inside.links.items.items c.args.ports.items c.gather_links.new.links
-gathers g c = rw c.deref_mut.ensures.value at c.gather_links.ensures
+gathers g c = grind arith
 
 -- The links of the transmitter afterwards.
 links_are : (g : Given.Over) (c : goal.After-self-1 g)
     → (with_items c.self.inside.links.items c.gather_links.new.links).items ≡ c.gather_links.new.links
-links_are g c = with_items_is c.self.inside.links.items c.gather_links.new.links
-    (c.gather_links.ensures.gathers.count ∙ c.gather_links.ensures.takes.count ∙ c.deref_mut.ensures.len)
+links_are g c = grind (arith, with_items_is)
 
 -- The transmitter is still sound.
 sound : (g : Given.Over) (c : goal.After-self-1 g)
@@ -28,11 +27,11 @@ invariant_of-self g c = (sound g c, rw (links_are g c) (gathers_reaches _ _ _ _ 
 pub returns-clause-gathered : goal.returns-clause-gathered
 returns-clause-gathered g c =
     rw (← c.self.view_is) (gathers_tx _ _ _ (rw (links_are g c) (gathers g c)) refl c.self.invariant.0 (sound g c)
-    (rw (← c.self.view_is) at c.requires.opened) (rw (← c.self.view_is) at c.requires.every))
+    (grind arith) (grind arith))
 
 pub returns-clause-all : goal.returns-clause-all
 returns-clause-all g c =
-    rw (links_are g c) (all_gathered c.gather_links.ensures.mid c.gather_links.new.links c.gather_links.ensures.gathers)
+    rw (links_are g c) (grind (arith, all_gathered))
 
 pub returns-clause-allowed : goal.returns-clause-allowed
 returns-clause-allowed g c =

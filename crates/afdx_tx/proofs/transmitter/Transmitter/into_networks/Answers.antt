@@ -1,3 +1,4 @@
+use Rattle.afdx_tx.proofs.Names.{arith}
 use Rattle.afdx_tx.proofs.Conforming.{sound_conforms}
 use Rattle.afdx_tx.proofs.transmitter.Transmitter.into_networks.Goals as goal
 

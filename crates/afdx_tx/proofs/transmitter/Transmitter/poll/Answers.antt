@@ -31,12 +31,10 @@ sound g c = rw (links_are g c) (sound_after _ _ _ _ _ c.self.invariant.0.valid c
     c.standing.ensures.mirrored c.serve_all.ensures.whole)
 
 pub invariant_of-self : goal.invariant_of-self
-invariant_of-self g c =
-    let told = c.serve_all.ensures.told.3 in
-    let kept = steady g c in (
-      sound g c,
-      rw (links_are g c) (grind (arith, falls_not_through, last_of, link_at, link_stream, with_append, link_in, counts_more)),
-    )
+invariant_of-self g c = (
+  sound g c,
+  rw (links_are g c) (grind (arith, falls_not_through, with_append, counts_more)),
+)
 
 pub returns-clause-kept : goal.returns-clause-kept
 returns-clause-kept g c = rw (← c.self.view_is) (λ gathered is. keeps_phase gathered _ _ is (rw (links_are g c) (steady g c).same)
@@ -48,7 +46,7 @@ returns-then-not-any_up-clause-kept g c = rw (← c.self.view_is) (λ gathered i
 
 pub returns-clause-run : goal.returns-clause-run
 returns-clause-run g c = rw (← c.self.view_is) (λ gathered is. runs gathered c.args.now _ _ c.self.invariant.0.of_plan is
-    (rw (links_are g c) (rw c.deref_mut.ensures.value at c.serve_all.ensures.run)))
+    (rw (links_are g c) (grind arith)))
 
 pub returns-clause-told : goal.returns-clause-told
 returns-clause-told g c = grind (arith, sound, count_is)
