@@ -40,7 +40,6 @@ own_turn : (now end_system : ℕ) (link : LinkPlan) (accepted : ℕ → List Sen
 own_turn now end_system link accepted lines after Nothing due t stands = grind arith
 own_turn now end_system link accepted lines after (Released sub number) due t stands =
     let r = t.2 in
-    let owes = r.choice.chosen in
     inr (record {
       sub = sub;
       within = grind arith;

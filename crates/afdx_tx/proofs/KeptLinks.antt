@@ -46,7 +46,6 @@ kept_same old new log g own kept =
 pub kept_sound : (config : Plan) (old new : List LinkState) (lines : Lines) (moment : ℕ) → KeepLinks old new
     → IsSound config old lines moment → IsSound config new lines moment
 kept_sound config old new lines moment g s =
-    let here = λ (k : ℕ) (lt : k < length new). let o : k < length old = omega (arith, g.count) in o in
     record {
       valid = s.valid;
       of_plan = plans_after config old new s.of_plan

@@ -98,7 +98,6 @@ fresh_port config links place k s plan sender new at are makes is link sub = gri
 pub fresh_sound : (config : Plan) (links : List LinkState) → IsPlan config
     → AreFreshLinks config links → IsSound config links fresh_lines 0
 fresh_sound config links valid f =
-    let opened = λ (k : ℕ) (lt : k < length links). f.each k (omega (arith, f.count)) in
     record {
       valid = valid;
       of_plan = record {

@@ -65,7 +65,6 @@ carried_after : (now i : ℕ) (old : List LinkState) (did : Served) (links : Lis
 carried_after now i old Nothing links new lines after apart same lt t h k klt = rw (t.serves.1) (h k klt)
 carried_after now i old (Released sub number) links new lines after apart same lt t h k klt =
     let r = t.serves.2 in
-    let il : i < length old = omega (arith, same.count) in
     let kl : k < length old = omega (arith, plans_length old) in
     let P = λ (l : Logged). link_in l.entry.frame ≡ (link_plan_at (plans old) k).id.0 → l.networks ≡ (link_plan_at (plans old) k).networks in
     rw r.enters (All-push P lines.logged (logged_for (link_at links i).plan.networks (entry now r.frame)) (h k klt) (grind (arith, plan_at_is)))
@@ -79,7 +78,6 @@ pub steady_more : (now i : ℕ) (old links : List LinkState) (lines after : Line
 steady_more now i old links lines after new did s apart lt t later =
     let il : i < length old = omega (arith, s.same.count) in
     let len : length (set links i new) ≡ length links = length-set links i new in
-    let own : IsOwn (link_at links i) = s.each i lt in
     let all = at_each (λ j l. IsSameLink (link_at old j) l × IsOwn l × IsKept l (log after) × IsLater l.pace.last now
     × HasItems l)
     links i new lt (
@@ -106,7 +104,6 @@ told_more now Nothing link new rs before lines after t h = grind (arith, append-
 told_more now (Released sub number) link new rs before lines after t h =
     let r = t.serves.2 in
     let e = entry now r.frame in
-    let same : release_of e ≡ record { vl = link.plan.id; sub = sub; number = number } = grind arith in
     record {
       entries = h.entries ++ e ∷ [];
       grown = log_more lines after (logged_for link.plan.networks e) r.enters
@@ -137,7 +134,6 @@ pub polling_more : (now i : ℕ) (old links : List LinkState) (before lines afte
     → BothEndure lines after → IsPolling now (i + 1) old (set links i new) before after
     (released ++ turn_release (link_at links i).plan.id did)
 polling_more now i old links before lines after new did released p apart lt turned later stays_down =
-    let shown : IsTurn now (link_at links i) new lines after did = grind arith in
     let turn : IsTurnAt now old (set links i new) i lines after did = grind (arith, get_or-set_same) in
     record {
       steady = steady_more now i old links lines after new did p.steady apart lt turned later;

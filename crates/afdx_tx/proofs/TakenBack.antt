@@ -94,10 +94,7 @@ full_back config old new ports valid of may takes belong every back k lt s slt =
           let its = eqb-true _ _ both.1 in
           let has = every place at.within in
           let belongs = All-contains (BelongsTo config (queues_in old)) ports has.port belong has.inside in
-          let plan = belongs.plan ∙ ap (port_plan_at config.ports) has.at in
           let linked = link_within config (port_plan_at config.ports place) valid (valid.linked place _ at.within) in
-          let link = valid.links_apart _ k linked.0 within
-          (grind arith) in
           let index = belongs.index ∙ ap (index_of config.ports) has.at
           ∙ ap (λ (n : ℕ). seats config.ports place n (port_plan_at config.ports place).sub) vl
           ∙ ap (λ (n : ℕ). seats config.ports place (link_plan_at config.links k).id.0 n) its

@@ -34,7 +34,6 @@ loop-link-preserved g c =
           let may = rw (asked g c) at (sym c.may_release.ensures ∙ w.if-may_release.true) in
           let turned = turned_at _ _ links _ _ _ _ _ (asked g c) lt p.steady.later (p.whole i lt (and_parts _ _ may).1)
           e.serves e.paced e.same e.lost e.counted in
-          let named = w.id.ensures ∙ ap (λ (plan : LinkPlan). plan.id) turned.same.plan in
           rw (w.links-is, w.mux-is, w.notes-is) (record {
             released = inv.released ++ turn_release (link_at links i).plan.id w.serve-did.result;
             noted = grind arith;

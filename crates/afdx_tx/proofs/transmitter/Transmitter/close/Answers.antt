@@ -7,7 +7,6 @@ use Rattle.afdx_tx.proofs.transmitter.Transmitter.close.Goals as goal
 pub invariant_of-self : goal.invariant_of-self
 invariant_of-self g c =
     let links = c.self.inside.links.items.items in
-    let at = c.in-Some.ensures.some in
     let within : c.in-Some.place < length c.self.inside.links.items.items = grind (arith, count_is) in
     let here = c.index_mut.ensures.value ∙ get_or_default links c.in-Some.place c.index_mut.result.now no_link within in
     let kept = closed_kept links _ (grind (arith, links_closed)) in (
