@@ -89,7 +89,7 @@ gives now sub number frame left new_left first new_first second new_second lines
             is = is;
             chosen = given;
             before = λ k lt. absurd (omega arith);
-            others = λ s other. others s (λ e. other 0 (omega arith) (sym is ∙ sym e));
+            others = λ s other. others s (grind arith);
           };
           of = grind arith;
           enters = enters;
@@ -135,8 +135,7 @@ second_poll = gives 6000 2 2 (short_frame 2 0 2 A) end_left end_left 1 1 0 1 (li
 third_poll : FindsIt three_plan 0 1 2 9000 (line_after 3) (line_after 4)
 unfolding log checksum addresses header_front internet_header link_header udp_header datagram unnumbered cutting fragments_at
 third_poll = gives 9000 0 3 (end_frame A) end_left [] 1 1 1 1 (line_after 3) (line_after 4) refl refl refl
-    (record { mid = long_sub end_left; asked = grind arith; gives = record { next = refl; same = refl } })
-    (grind arith) (by_three _ refl refl refl)
+    (record { mid = long_sub end_left; asked = grind arith; gives = grind arith }) (grind arith) (by_three _ refl refl refl)
     refl refl refl refl refl refl refl (grind arith)
 
 fourth_poll : FindsIt three_plan 0 1 2 12000 (line_after 4) (line_after 5)

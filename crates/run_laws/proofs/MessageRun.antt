@@ -27,7 +27,7 @@ finding_steps : (plan : Plan) (accepted : Accepted) (k x many : ℕ) → IsPlan 
     (λ rest S. rest ≡ many - length (seen_of x S)) (waiting x many)
 finding_steps plan accepted k x many valid inside most = record {
   stays_down = λ now lines after p. ⊎_elim (λ finds. emitter_endures now plan lines after finds.poll)
-      (λ drains. drain_endures now plan accepted lines after drains) p;
+      (grind (arith, drain_endures)) p;
   step = grind (arith, find_step);
   waits = grind arith;
   still = grind (arith, adds_seen);
@@ -67,7 +67,6 @@ module _ (plan : Plan) (k s : ℕ) (valid : IsPlan plan) (inside : k < length pl
       let link : LinkPlan = link_plan_at plan.links k in
       let room : ℕ = room_of link.lmax in
       let wide = wide_room plan k valid inside in
-      let is_link : IsLink link = valid.each_link k no_link_plan inside in
       let own = own_few sent of in
       let whole = ap length (fragments_both plan.end_system room A 0 earlier (sent ∷ [])) in
       let parts = length-append (fragments_of plan k earlier) (fragments_from plan.end_system room A (0 + length earlier) (sent ∷ [])) in
@@ -82,7 +81,6 @@ module _ (plan : Plan) (k s : ℕ) (valid : IsPlan plan) (inside : k < length pl
             let back : List Sent = drop n earlier in
             let both : front ++ back ≡ earlier = take-append-drop n earlier in
             let size = length-drop n earlier in
-            let begun = place front back (sym both) (omega arith) in
             let split = ap length (ap (fragments_of plan k) (sym both) ∙ fragments_both plan.end_system room A 0 front back) in
             let halves = length-append (fragments_of plan k front) (fragments_from plan.end_system room A (0 + length front) back) in
             let held = list_most plan.end_system room A (0 + length front) most_of back wide (All-drop Few n earlier few) in
@@ -106,12 +104,11 @@ message_in_run_holds plan accepted moments lines after k s late start earlier se
     let few : All (Few plan k s valid inside) earlier =
     all_few plan k s valid inside earlier (all_front (IsAllowed plan k s) earlier (sent ∷ later) _ refl of_all) in
     let gone = missing plan k s valid inside earlier sent S few of place in
-    let wait = own_wait plan k s late sent (own_link plan k s sent valid inside of.queued) of.queued.its in
+    let wait = own_wait plan k s late sent (grind (arith, own_link)) of.queued.its in
     let ahead : fragments_of plan k (earlier ++ sent ∷ [])
     ++ fragments_from plan.end_system (room_of link.lmax) A (0 + length (earlier ++ sent ∷ [])) later
     ≡ fragments_of plan k (accepted k s) = grind (arith, fragments_both plan.end_system (room_of link.lmax) A 0 (earlier ++ sent ∷ []) later, append_assoc earlier (sent ∷ []) later) in
-    let most : many ≤ length (fragments_of plan k (accepted k s)) =
-    grind (arith, length-append) in
+    let most : many ≤ length (fragments_of plan k (accepted k s)) = grind (arith, length-append) in
     let run = have_run moments plan k s (many - length (seen_of s S)) _ _ (waiting s many) lines after
     (finding_steps plan accepted k s many valid inside most) finding stands refl in
     let rounds = mul-le link.sub_vls (many - length (seen_of s S)) link.sub_vls
@@ -122,12 +119,12 @@ message_in_run_holds plan accepted moments lines after k s late start earlier se
     let when : AreTimely (bag_micros link.bag) late end start (map at_of run.polls) = rw run.at timely in
     let released = timely_released run.polls link.sub_vls s (many - length (seen_of s S)) (bag_micros link.bag) late start end
     (latest None S) is.sub (some_gap link.bag) last run.served run.had when (omega arith) in
-    let split = splits run.polls run.added s end start (timely_rise (bag_micros link.bag) late end start run.polls when) run.show in
-    let grown : stream_at plan k after ≡ S ++ (split.soon ++ split.more) = run.grown ∙ ap (λ (es : List Entry). S ++ es) split.is in
+    let split = splits run.polls run.added s end start (grind (arith, timely_rise)) run.show in
+    let grown : stream_at plan k after ≡ S ++ (split.soon ++ split.more) = grind arith in
     let count = seen_both s S split.soon in
     let soon_front : IsPrefixOf (seen_of s (S ++ split.soon)) (seen_of s (stream_at plan k after)) = (
       seen_of s split.more,
-      sym (seen_append s (S ++ split.soon) split.more) ∙ ap (seen_of s) (append_assoc S split.soon split.more ∙ sym grown),
+      grind (arith, seen_append, append_assoc),
     ) in
     record {
       soon = split.soon;

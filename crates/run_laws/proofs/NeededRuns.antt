@@ -53,12 +53,8 @@ finds_none queue lines queued due tied = polls_by 1000 byte_plan tight_link (hel
     passes = (grind arith)
 
     same : (s : ℕ) → IsSameSub (held_at (held queue ∷ []) s) (held_at (held (looked queue) ∷ []) s)
-    same zero = moves_of (held queue) (held (looked queue)) (inl passes)
+    same zero = grind (arith, moves_of)
     same (suc s) = same_sub_here _ _ refl
-
-    others : (s : ℕ) → 1 ≤ s → held_at (held (looked queue) ∷ []) s ≡ held_at (held queue ∷ []) s
-    others zero le = absurd (omega arith)
-    others (suc s) le = refl
 
 -- nothing is transmitted after these lines, and too little before
 misses : (earlier : ℕ) (lines : Lines)
@@ -86,7 +82,7 @@ needs_its_premises = record {
     accepted = λ is. nil_isnt_cons is.are;
     start = tt;
     place = has_room byte_plan 0 0 [] [] (omega arith) (λ full. absurd (omega arith));
-    finding = finds 0 1 1000 no_line no_line Nothing (inr (refl, record { each = below_one _ refl; others = λ s le. tt }), refl);
+    finding = grind (arith, finds, below_one);
     prefix = ([], refl);
     is_up = refl;
     comes = in_time;
@@ -96,7 +92,7 @@ needs_its_premises = record {
     accepted = two_are;
     start = λ starts. absurd (omega arith);
     place = has_room byte_plan 0 0 (short_sent 0 ∷ []) (stream_at byte_plan 0 (byte_line 5000)) (omega arith) (λ full. omega arith);
-    finding = finds 2 2 1000 (byte_line 5000) (byte_line 5000) Nothing (inl (refl, λ s. tt), refl);
+    finding = grind (arith, finds);
     prefix = (drop 1 (fragments_of byte_plan 0 (bytes_accepted 2 0 0)), refl);
     is_up = refl;
     comes = in_time;
@@ -111,15 +107,15 @@ needs_its_premises = record {
     is_up = refl;
     comes = in_time;
     missed = not_released byte_plan 0 0 1000 (short_sent 0 ∷ short_sent 0 ∷ []) [] (entry 1000 (short_frame 0 0 0 A) ∷ []) []
-        (stream_at byte_plan 0 (byte_line 1000)) refl (All-nil (λ (e : Entry). 1000 < e.at)) (omega arith);
+        (stream_at byte_plan 0 (byte_line 1000)) refl (grind arith) (omega arith);
   };
-  poll = finds_none fresh no_line (All-nil (IsQueued byte_plan 0 0)) refl refl;
+  poll = finds_none fresh no_line (grind arith) refl refl;
   unfound = record {
     accepted = one_is;
     start = tt;
     place = has_room byte_plan 0 0 [] [] (omega arith) (λ full. absurd (omega arith));
     finding = grind arith;
-    prefix = (fragments_of byte_plan 0 (bytes_accepted 1 0 0), refl);
+    prefix = grind arith;
     is_up = refl;
     comes = in_time;
     missed = misses 0 no_line (omega arith);
@@ -128,18 +124,18 @@ needs_its_premises = record {
     accepted = one_is;
     start = omega arith;
     place = has_room byte_plan 0 0 [] (stream_at byte_plan 0 other_line) (omega arith) (λ full. absurd (omega arith));
-    finding = (other_line, inl (record { poll = finds_other; finds = λ none. omega arith }), refl);
+    finding = grind (arith, finds_other, finds);
     prefix = λ is. other_bytes (cons_parts is.1).0;
     is_up = refl;
     comes = in_time;
-    missed = λ r. other_bytes (sym (cons_parts (r.whole.1 ∙ seen_append 0 (stream_at byte_plan 0 other_line) r.soon)).0);
+    missed = grind (arith, other_bytes, cons_parts, seen_append);
   };
   down = record {
     accepted = one_is;
     start = tt;
     place = has_room byte_plan 0 0 [] [] (omega arith) (λ full. absurd (omega arith));
-    finding = finds 1 1 1000 failed_line failed_line Nothing (inl (refl, λ s. tt), refl);
-    prefix = (fragments_of byte_plan 0 (bytes_accepted 1 0 0), refl);
+    finding = grind (arith, finds);
+    prefix = grind arith;
     is_up = λ up. false≢true up;
     comes = in_time;
     missed = misses 0 failed_line (omega arith);
@@ -151,8 +147,8 @@ needs_its_premises = record {
     finding = finds 1 1 1001 no_line (byte_line 1001) (Released 0 0) (sends 1001 0);
     prefix = ([], refl);
     is_up = refl;
-    comes = λ timely. ⊎_elim (λ here. absurd (omega arith)) (λ none. none) (timely.1 (omega arith));
+    comes = grind (arith, ⊎_elim);
     missed = not_released byte_plan 0 0 1000 (short_sent 0 ∷ []) [] [] (entry 1001 (short_frame 0 0 0 A) ∷ []) (stream_at byte_plan 0 (byte_line 1001)) refl
-        (All-from_recursion (λ (e : Entry). 1000 < e.at) (entry 1001 (short_frame 0 0 0 A) ∷ []) (omega arith, tt)) (omega arith);
+        (grind arith) (omega arith);
   };
 }

@@ -61,13 +61,13 @@ polls_step : (plan : Plan) (k x : ℕ) → IsPlan plan → k < length plan.links
     (λ S. begun_by none_begun S x)
 polls_step plan k x valid inside = record {
   stays_down = λ now lines after p. ⊎_elim (λ emitter. emitter_endures now plan lines after emitter)
-      (λ drain. drain_endures now plan drain.accepted lines after drain.run) p;
+      (grind (arith, drain_endures)) p;
   step = λ now lines after p stands. ⊎_elim
       (λ emitter. emitter_step now plan k x _ lines after valid inside emitter (emitter_lacks now plan k x lines after inside emitter) stands)
       (grind (arith, drain_step, not_begun))
       p;
   waits = λ many S awaits. awaits.1;
-  still = λ now many released S M. still_awaits now x many released S M;
+  still = grind (arith, still_awaits);
 }
 
 next_by : (T earlier soon more : List Entry) (first : Entry) (bound : ℕ) → more_in first.frame ≡ true
@@ -85,15 +85,12 @@ pub next_in_run_holds : NextInRun
 next_in_run_holds plan moments lines after k late earlier first valid inside ends more below runs stands come reach =
     let x : ℕ = sub_in first.frame in
     let bound : ℕ = first.at + link_wait late (link_plan_at plan.links k) in
-    let begun : begun_by none_begun (stream_at plan k lines) (sub_in first.frame) ≡ true =
-    rw (ends, begun_push none_begun earlier first x, eq-eqb x x refl) more in
+    let begun : begun_by none_begun (stream_at plan k lines) (sub_in first.frame) ≡ true = grind (arith, begun_push, eq-eqb) in
     let run = have_run moments plan k x 1 _ (AwaitsOne x) _ lines after (polls_step plan k x valid inside) runs stands
     (omega arith, λ some. begun) in
-    let last : latest None (stream_at plan k lines) ≡ Some (stamp_of first) =
-    ap (latest None) ends ∙ latest_push None earlier first in
+    let last : latest None (stream_at plan k lines) ≡ Some (stamp_of first) = grind (arith, latest_push) in
     let within : ComeWithin late first.at (map at_of run.polls) = rw run.at come in
-    let latest_moment : latest_poll first.at run.polls ≡ latest_of first.at moments =
-    latest_is first.at run.polls ∙ ap (latest_of first.at) run.at in
+    let latest_moment : latest_poll first.at run.polls ≡ latest_of first.at moments = grind (arith, latest_is) in
     let one = next_polled_in_time (subs_at plan k) x (gap_at plan k) late first.at run.polls below (some_gap (link_plan_at plan.links k).bag)
     (rw last at run.served) (polled_of late first.at run.polls within) run.had (rw latest_moment reach) in
     grind (arith, splits run.polls run.added x bound first.at (within_rise late first.at run.polls within) run.show, within_rise late first.at run.polls within, wait_at late plan.links k inside, next_by, finds)

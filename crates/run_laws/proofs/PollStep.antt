@@ -47,7 +47,6 @@ own_step : (now gap subs x : ℕ) (b : Bool) (link : LinkPlan) (view : TurnView)
     → Turn now link (pace_of gap subs (link_stream link.id.0 (log lines))) view lines after did → any_up link.networks after ≡ true
     → IsStep now gap subs x b (link_stream link.id.0 (log lines)) (link_stream link.id.0 (log after))
 own_step now gap subs x b link view lines after Nothing lacks t stands =
-    let S : List Entry = link_stream link.id.0 (log lines) in
     record {
       released = None;
       has = λ s. nat_eq s x && b;
@@ -56,20 +55,19 @@ own_step now gap subs x b link view lines after Nothing lacks t stands =
           (λ none. has_not s x b (lacks s lt (none.1.each s lt)))
           t.0;
       waits = λ is. and_from (nat_eq x x) b (eq-eqb x x refl) is;
-      adds = ap (λ (l : Lines). link_stream link.id.0 (log l)) t.1;
+      adds = grind arith;
     }
 own_step now gap subs x b link view lines after (Released sub number) lacks t stands =
     let S : List Entry = link_stream link.id.0 (log lines) in
     let r = t.2 in
     let order : ℕ → ℕ = turn_of subs (latest None S) in
-    let within = r.choice.within in
     let first : IsFirst (turn_of subs (latest None (link_stream link.id.0 (log lines)))) sub (suc r.choice.turn) =
-    first_at order sub r.choice.turn r.choice.turn 0 (omega arith) (λ k below. absurd (omega arith)) (sym r.choice.is) in
+    first_at order sub r.choice.turn r.choice.turn 0 (omega arith) (grind arith) (sym r.choice.is) in
     record {
       released = Some sub;
       has = λ s. (nat_eq s x && b) || nat_eq s sub;
       served = grind arith;
-      waits = λ is. ap (λ (u : Bool). u || nat_eq x sub) (and_from (nat_eq x x) b (eq-eqb x x refl) is);
+      waits = grind (arith, and_from, eq-eqb);
       adds = (r.frame, r.of.of_sub, stream_more link.id.0 now sub number link.networks r.frame lines after r.of r.enters);
     }
 own_step now gap subs x b link view lines after Lost lacks t stands = absurd (both_ways _ t.1.down stands)
@@ -113,9 +111,7 @@ turns_step : (now : ℕ) (plan : Plan) (k x : ℕ) (b : Bool) (P : ℕ → Lines
     → StepsAt now plan k x b lines after
 turns_step now plan k x b P view lines after valid inside lacks turns stands =
     let at = turn_at (IsSeen now plan view P) (stream_at plan k) k 0 (length plan.links) lines after (omega arith) (omega arith)
-    (λ j jlt ne before behind did t. other_turn now (link_plan_at plan.links k).id.0 (link_plan_at plan.links j) _ _ before
-    behind did (λ e. ne (valid.links_apart j k t.inside inside (λ i. record { 0 = e i }))) t.turn)
-    (λ j before behind did t. turn_endures now (link_plan_at plan.links j) _ _ before behind did t.turn) turns in
+    (grind (arith, other_turn)) (grind (arith, turn_endures)) turns in
     grind (arith, own_step)
 
 -- the sub-VLs of the links of an emitter, and of a drain
@@ -148,15 +144,13 @@ pub emitter_step : (now : ℕ) (plan : Plan) (k x : ℕ) (b : Bool) (lines after
     → (p : EmitterPolls plan now lines after)
     → LacksNone plan k x b (stream_at plan k lines) (IsTurnAt now p.old.links p.new.links) (emitter_view p.old p.new k)
     → StandsAt plan k after → StepsAt now plan k x b lines after
-emitter_step now plan k x b lines after valid inside p lacks stands =
-    grind (arith, emitter_turns now plan lines after p, turns_step, valid)
+emitter_step now plan k x b lines after valid inside p lacks stands = grind (arith, emitter_turns now plan lines after p, turns_step, valid)
 
 -- no message that is begun waits at a sub-VL that has nothing in a poll of an emitter
 pub emitter_lacks : (now : ℕ) (plan : Plan) (k x : ℕ) (lines after : Lines) → k < length plan.links
     → (p : EmitterPolls plan now lines after) → LacksNone plan k x (begun_by none_begun (stream_at plan k lines) x) (stream_at plan k lines)
     (IsTurnAt now p.old.links p.new.links) (emitter_view p.old p.new k)
-emitter_lacks now plan k x lines after inside p mid mid_after did at t stands s lt passes is =
-    grind (arith, held_at, link_stream, not_begun, room_of, taken_by, told, sub_stream, append-nil)
+emitter_lacks now plan k x lines after inside p mid mid_after did at t stands s lt passes is = grind (arith, not_begun, append-nil)
 
 -- what a poll of a drain does to the stream of a link
 pub drain_step : (now : ℕ) (plan : Plan) (accepted : Accepted) (k x : ℕ) (b : Bool) (lines after : Lines) → IsPlan plan

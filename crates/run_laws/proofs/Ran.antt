@@ -37,8 +37,7 @@ seen_first x e U = grind (arith, nat_tests)
 -- what a poll adds to the fragments that were sent
 pub adds_seen : (now x : ℕ) (released : Option ℕ) (S T : List Entry) → Adds now released S T
     → length (seen_of x T) ≡ length (seen_of x S) + cond (is_of x released) 1 0
-adds_seen now x None S T same = grind arith
-adds_seen now x (Some chosen) S T (frame, of, more) = grind (arith, seen_both, seen_first)
+adds_seen now x released S T same = grind (arith, seen_both, seen_first)
 
 -- the times of polls don't fall
 abbrev pub Rise : ℕ → List Poll → Type 0
@@ -77,10 +76,7 @@ splits (p ∷ polls) added x bound before rise show = elim (cases_lt bound p.at)
   where
     by_release : p.at ≤ bound → (o : Option ℕ) → p.released ≡ o → ShowsOne p.at o added show.0 → IsSplit x bound (released_by x bound polls) show.0
         → IsSplit x bound (released_by x bound (p ∷ polls)) added
-    by_release soon None is same rest =
-        let few = rest.seen in
-        let whole : released_by x bound (p ∷ polls) ≡ released_by x bound polls = grind (arith, counted x bound p polls) in
-        (grind arith)
+    by_release soon None is same rest = grind (arith, counted)
     by_release soon (Some chosen) is (e, more, at, of) rest =
         let whole = counted x bound p polls in
         let first = seen_first x e rest.soon in
@@ -88,8 +84,8 @@ splits (p ∷ polls) added x bound before rise show = elim (cases_lt bound p.at)
         record {
           soon = e ∷ rest.soon;
           more = rest.more;
-          is = more ∙ ap (λ (es : List Entry). e ∷ es) rest.is;
-          by = All-cons (λ (d : Entry). d.at ≤ bound) e rest.soon (omega arith) rest.by;
+          is = grind arith;
+          by = grind arith;
           seen = omega arith;
         }
 
@@ -122,21 +118,20 @@ run_more now gap subs x many b moments S M T step waits run = by_release step.re
         → HaveRun gap subs x (left x many o) moments M T → HaveRun gap subs x many (now ∷ moments) S T
     by_release None served same run = record {
       polls = record { at = now; has = step.has; released = None } ∷ run.polls;
-      at = ap (λ (ms : List ℕ). now ∷ ms) run.at;
-      served = (served, rw same at run.served);
-      had = ((λ some. step.waits (waits some)), run.had);
+      at = grind arith;
+      served = grind arith;
+      had = grind arith;
       added = run.added;
       grown = grind arith;
       show = (run.added, refl, run.show);
     }
     by_release (Some chosen) served (frame, of, more) run =
-        let last : latest None M ≡ Some (record { at = now; sub = chosen }) =
-        grind (arith, latest_push None S (entry now frame), of, more) in
+        let last : latest None M ≡ Some (record { at = now; sub = chosen }) = grind (arith, latest_push) in
         record {
           polls = record { at = now; has = step.has; released = Some chosen } ∷ run.polls;
-          at = ap (λ (ms : List ℕ). now ∷ ms) run.at;
-          served = (served, rw last at run.served);
-          had = ((λ some. step.waits (waits some)), run.had);
+          at = grind arith;
+          served = grind arith;
+          had = grind arith;
           added = entry now frame ∷ run.added;
           grown = grind (arith, append_assoc, entry);
           show = grind arith;

@@ -30,7 +30,7 @@ abbrev pub IsBehind : ℕ → ℕ → Option Stamp → Type 0
 IsBehind subs l last = (c : Choice) → IsChosen subs (turn_of subs last) c → IsChosen subs (next_turn subs l) c
 
 from_0 : (subs k : ℕ) → k < subs → next_turn subs (subs - 1) k ≡ k
-from_0 subs k lt = grind (arith, turn_cases subs (subs - 1) k (omega arith) lt)
+from_0 subs k lt = grind (arith, turn_cases)
 
 -- the sub-VL after which the order starts
 abbrev pub behind : ℕ → Option Stamp → ℕ
@@ -92,7 +92,6 @@ in_due (p ∷ ps) subs x l (suc f) gap late before polled end last xl ll some af
                 let mine : is_of x p.released ≡ true = ap (is_of x) is ∙ eq-eqb chosen x own in
                 let left : suc f - cond (is_of x p.released) 1 0 ≡ f = rw mine (omega arith) in
                 let none = back_self subs x chosen xl own in
-                let rest : f ≤ released_by x end ps = next f (omega arith) (rw left at has.1) in
                 grind (arith, counted x end p ps, le-leb)
             | inr ne ↦ grind arith
           ]

@@ -1,19 +1,9 @@
-use Rattle.run_laws.proofs.Names.{refl, on_ok_weaker}
+use Rattle.run_laws.proofs.Names.{arith, refl, on_ok_weaker}
 use Rattle.run_laws.proofs.KeepReady.{kept_ready}
 use Rattle.run_laws.proofs.polling.poll_emitter.Goals as goal
 
 pub returns-clause-step : goal.returns-clause-step
-returns-clause-step g c = on_ok_weaker c.poll.result
-    (λ run. record {
-      old = c.args.emitter.now;
-      new = c.poll.new.self;
-      ready = c.requires.ready;
-      of = refl;
-      before = refl;
-      afterwards = refl;
-      run = run;
-    })
-    c.poll.ensures.run
+returns-clause-step g c = grind (arith, on_ok_weaker)
 
 pub returns-clause-ready : goal.returns-clause-ready
 returns-clause-ready g c = on_ok_weaker c.poll.result
