@@ -29,21 +29,21 @@ closes_totals : (old : Tx) (vl sub total : ℕ) (new : Tx) → ClosesTx old vl s
     → StaysAt old vl sub k s (total_in old.links k s) (total_in new.links k s)
 closes_totals old vl sub total new c k s =
     subst (λ (links : List LinkState). StaysAt old vl sub k s (total_in old.links k s) (total_in links k s))
-    (sym (ap (λ (tx : Tx). tx.links) c.same))
+    (grind arith)
     (each_set (λ i link. (j : ℕ) → StaysAt old vl sub i j (total_in old.links i j) (total_of (held_at link.subs j).seen))
     old.links c.place shut no_link (closes_within old vl sub total new c) (λ j.
     subst (λ (subs : List Held). StaysAt old vl sub c.place j (total_in old.links c.place j) (total_of (held_at subs j).seen))
-    (sym (ap (λ (link : LinkState). link.subs) c.closes.same))
+    (grind arith)
     (each_set (λ i held. StaysAt old vl sub c.place i (total_in old.links c.place i) (total_of held.seen))
     (link_at old.links c.place).subs sub (held_at shut.subs sub) nothing_held c.closes.within
-    (again _ _ c.closes.closes.queue, λ none. absurd (none (c.at, refl)))
-    (λ i ne. (λ t is. is, λ none. refl)) j)) (λ i ne j. (λ t is. is, λ none. refl)) k s)
+    (grind arith, grind arith)
+    (grind arith) j)) (grind arith) k s)
   where
     shut : LinkState
     shut = link_at new.links c.place
 
     again : (before after : Seen) → Closes before total after → (t : ℕ) → total_of before ≡ Some t → total_of after ≡ Some t
-    again (receiving r) after closes t is = ap total_of closes.0 ∙ ap Some (rw is at closes.2)
+    again (receiving r) after closes t is = grind arith
     again (gathered g) after closes t is = absurd closes
 
 -- the emitter matches as before
@@ -97,12 +97,12 @@ obeys_close old ports vl sub total new h c = record {
   ok = λ accepted es m. record {
     answer = tells total;
     may = tt;
-    is = sym (rw (← m.emitter.plan) (closed_there old.plan vl sub c.place (tells total) h.valid c.at));
+    is = grind (arith, closed_there);
     told = grind arith;
     matches = record { emitter = closes_matches es old vl sub total new c m.emitter; own = m.own };
   };
   few = tt;
-  asked = λ count asked. asked_on count (count + 1) ports (omega arith) asked;
+  asked = grind (arith, asked_on);
   closes = record {
     plan = plan;
     kept = λ k s. (closes_totals old vl sub total new c k s).0;
@@ -111,7 +111,7 @@ obeys_close old ports vl sub total new h c = record {
 }
   where
     plan : new.plan ≡ old.plan
-    plan = ap (λ (tx : Tx). tx.plan) c.same
+    plan = grind arith
 
 -- The close of one that isn't.
 pub obeys_lack : (bench : AtBench) (vl sub : ℕ) → LacksSub bench.tx.plan vl sub

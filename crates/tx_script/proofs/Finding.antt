@@ -75,14 +75,13 @@ counted plan k sub (sent ∷ more) valid all =
     let on : is_on (link_plan_at plan.links k).id.0 sub sent.port ≡ true =
     both_true (eq-eqb _ _ first.over) (eq-eqb _ _ first.its) in
     among_more plan (link_plan_at plan.links k).id.0 sub (each_port plan (sent ∷ more)) (each_port plan more) at
-    (length plan.ports) (rw port on) (rw (eq-eqb _ _ (sym number)) (omega arith))
-    (grind arith)
+    (length plan.ports) (rw port on) (rw (eq-eqb _ _ (sym number)) (omega arith)) (grind arith)
     first.port.1
     ∙ rw (counted plan k sub more valid (All-tail (IsAllowed plan k sub) sent more all)) (omega arith)
 
 -- No port of the configuration is missing.
 pub none_missing : (tx : Tx) (ports : List PortView) → IsAtHand tx ports → LacksPlace (length tx.plan.ports) ports → ⊥
-none_missing tx [] h lacks = absurd (omega (arith, lacks.1, h.many))
+none_missing tx [] h lacks = grind arith
 none_missing tx (port ∷ more) h lacks =
     let inside : lacks.0 < length (port ∷ more) = grind arith in
     lacks.2 (record {
@@ -143,8 +142,7 @@ module _ (st : Play) (before bench : AtBench) (m : Matches st.accepted st.es bef
   own_messages : (place : ℕ) → place < length st.es.plan.ports
       → st.accepted place ≡ port_messages st.es.plan (accepted_in g.drain.links) place
   own_messages place lt =
-      let part : HasOwnPart g.drain bench.ports place =
-      grind arith in
+      let part : HasOwnPart g.drain bench.ports place = grind arith in
       grind arith
 
   -- what a sub-VL accepted begins with what polls found of it
@@ -165,7 +163,7 @@ module _ (st : Play) (before bench : AtBench) (m : Matches st.accepted st.es bef
         all_first (IsAllowed st.es.plan k s) (found st.es k s) first.0 (rw (← first.1) (allowed k s lt below));
     first = λ place lt.
         let port : PortPlan = port_plan_at st.es.plan.ports place in
-        let link = link_within st.es.plan port valid (valid.linked place (port_plan_at [] 0) lt) in
+        let link = link_within st.es.plan port valid (grind arith) in
         grind (arith, found_first (link_place st.es.plan port) port.sub link.0, own_messages place lt, messages_more);
   }
 
@@ -181,9 +179,9 @@ module _ (st : Play) (before bench : AtBench) (m : Matches st.accepted st.es bef
       (IsTotal st) (λ turn tells place sub at.
       let line = meaning_of turn.line in
       let its = (closes_sub st.es.plan line place sub at).1 in
-      let shown = tells place sub (subst (λ (plan : Plan). ClosesAt plan line place sub) (sym same) at) in
+      let shown = tells place sub (grind (arith, same)) in
       sym (total_whole bench.tx bench.ports g.drain place sub _ g.gathers shown)
       ∙ sym (counted st.es.plan place sub (accepted_in g.drain.links place sub) valid (allowed place sub its.within its.below))
       ∙ among_same st.es.plan (link_plan_at st.es.plan.links place).id.0 sub
       (each_port st.es.plan (accepted_in g.drain.links place sub)) st.accepted (length st.es.plan.ports)
-      (λ k lt on. ap length (sent_on place sub k its.within lt on))) turns told
+      (λ k lt on. grind (arith, sent_on))) turns told

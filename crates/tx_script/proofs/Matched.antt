@@ -54,7 +54,7 @@ module _ (ports : List PortView) (i : ℕ) (d new : PortView) (bytes : List ℕ)
     valid = h.valid;
     many = length-set ports i new ∙ h.many;
     opened = All-set (BelongsTo tx.plan (queues_in tx.links)) ports i new (belongs (h.opened i d lt)) h.opened;
-    placed = each_port (λ k port. port.place ≡ k) (s.place ∙ h.placed i d lt) (λ k e within ne. h.placed k e within);
+    placed = each_port (λ k port. port.place ≡ k) (s.place ∙ h.placed i d lt) (grind arith);
     calls = All-set (λ (port : PortView). port.sender.calls ≡ most_calls) ports i new (s.calls ∙ h.calls i d lt) h.calls;
   }
     where
@@ -65,12 +65,10 @@ module _ (ports : List PortView) (i : ℕ) (d new : PortView) (bytes : List ℕ)
   pub asked_more : (count : ℕ) → HaveAsked count ports → HaveAsked (count + 1) (set ports i new)
   asked_more count h =
       All-set (λ (port : PortView). port.sender.asks ≤ count + 1) ports i new
-      (omega (arith, s.asks))
-      (grind arith)
+      (omega (arith, s.asks)) (grind arith)
 
   -- Its own list has the message, if it was accepted.
   pub have_sent : (accepted : Messages) → HaveSent accepted ports
       → HaveSent (with_messages (Some i) (added outcome bytes) accepted) (set ports i new)
   have_sent accepted h = each_port (λ k port. port.sender.own ≡ accepted k ++ (if nat_eq k i then added outcome bytes else []))
-      (grind arith)
-      (grind (arith, ne_eqb, append-nil))
+      (grind arith) (grind (arith, ne_eqb, append-nil))

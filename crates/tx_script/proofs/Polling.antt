@@ -96,7 +96,7 @@ polled_matches es old new now m run a b = record {
   turns = subst (λ (n : ℕ). AreTurns (HasTurnAt now es (left_at es now new)) 0 n old.lines new.lines) m.count
       (turns_seen (IsTurnAt now old.links new.links) (HasTurnAt now es (left_at es now new)) 0 (length old.links) old.lines new.lines
       (λ k le lt before behind did t. rw m.subs (turn_plain now es.plan.end_system (link_plan_at es.plan.links k)
-      (link_at old.links k) (link_at new.links k) before behind did (m.planned k (omega (arith, m.count))) t))
+      (link_at old.links k) (link_at new.links k) before behind did (grind arith) t))
       run.turns);
   a_stands = a;
   b_stands = b;
@@ -120,7 +120,7 @@ left_matches es old new now m run mirrored a b plan moment = record {
   count = run.count ∙ m.count;
   planned = λ k lt.
       let same = each_link (λ i. IsSameLink (link_at old.links i) (link_at new.links i)) old new now run
-      (λ i before behind did t. t.same) k (omega (arith, m.count)) in
+      (grind arith) k (omega (arith, m.count)) in
       grind arith;
   subs = refl;
   logged = refl;
@@ -197,15 +197,15 @@ pub obeys_poll : (old new : Tx) (ports : List PortView) (now released : ℕ) →
     → Obeys (Said.At now) (record { tx = old; ports = ports }) (record { tx = new; ports = ports }) (Became.Released released)
 obeys_poll old new ports now released le run mirrored a b plan moment totals many few = record {
   ok = λ accepted es m.
-      let late : nat_lt now es.moment ≡ false = le-ltb now es.moment (omega (arith, m.emitter.moment)) in
+      let late : nat_lt now es.moment ≡ false = grind (arith, le-ltb) in
       record {
         answer = leaves (left_at es now new);
-        may = λ later. polled_matches es old new now m.emitter run a b;
-        is = rw (late, ← m.emitter.logged) (ap Became.Released many);
+        may = grind (arith, polled_matches);
+        is = grind arith;
         told = λ place sub at. absurd at;
         matches = grind (arith, left_matches);
       };
   few = few;
-  asked = λ count asked. asked_on count (count + 1) ports (omega arith) asked;
+  asked = grind (arith, asked_on);
   closes = same_totals (Said.At now) old new plan totals;
 }

@@ -91,17 +91,16 @@ module _ (plan : Plan) (bytes left old mid : Option (List ℕ)) (bench : AtBench
       let st : Play = play plan known.turns in
       let says : SaysLine (left_after text known.turns) new said = rw known.left_is at reads in
       let line : List ℕ = first_line (left_after text known.turns) in
-      let obeyed : Obeys (meaning_of line) bench bench2 outcome =
-      subst (λ (s : Said). Obeys s bench bench2 outcome) says.said_is obeys in
+      let obeyed : Obeys (meaning_of line) bench bench2 outcome = grind arith in
       let ran = obeyed.ok st.accepted st.es known.ran.matches in
       let turn : AnsweredLine = record { line = line; answer = ran.answer } in
       record {
         turns = turn ∷ known.turns;
         left_is = says.behind;
-        count_is = ap (λ (n : ℕ). n + 1) known.count_is;
-        sums_are = rw (← ran.is, known.sums_are) refl;
+        count_is = grind arith;
+        sums_are = grind arith;
         ran = record {
-          lines = (record { some = says.some; first = refl; faultless = says.faultless; may = ran.may }, known.ran.lines);
+          lines = grind arith;
           matches = ran.matches;
           told = grind arith;
           others = λ place sub none.
@@ -135,13 +134,12 @@ module _ (plan : Plan) (text : List ℕ) (old mid fin : Option (List ℕ)) (benc
   -- the ports were taken back after some lines were run
   are_run : (before : AtBench) (turns : List AnsweredLine) → Running plan text old mid before turns
       → OnlyTakes before bench → IsGathered bench → AreRun plan text turns
-  are_run before turns ran since gathered =
-      grind (
-        arith,
-        finds_first (play plan turns) before bench ran.matches since gathered,
-        totals_are (play plan turns) before bench ran.matches since gathered turns (grind arith),
-        told_still _ before.tx bench.tx turns since.closes ran.told,
-      )
+  are_run before turns ran since gathered = grind (
+    arith,
+    finds_first (play plan turns) before bench ran.matches since gathered,
+    totals_are (play plan turns) before bench ran.matches since gathered turns (grind arith),
+    told_still _ before.tx bench.tx turns since.closes ran.told,
+  )
 
   -- the streams follow the notes
   has_played : (a b : FrameLog) (turns : List AnsweredLine) → Running plan text old mid bench turns

@@ -54,8 +54,7 @@ pub sends_refused : (old new : PortView) (bytes : List ℕ) (why : SendRefusal) 
 sends_refused old new bytes Why.Empty some r =
     rw r.1 (refused_by old old.sender bytes fills Empty (rw (eq-eqb (length bytes) 0 r.0) refl) refl (omega arith))
 sends_refused old new bytes Why.TooLong some r =
-    let long : length_refusal old.plan (length bytes) ≡ Some Why.TooLong =
-    grind arith in
+    let long : length_refusal old.plan (length bytes) ≡ Some Why.TooLong = grind arith in
     rw r.1 (refused_by old old.sender bytes fills TooLong (rw long refl) refl (omega arith))
 sends_refused old new bytes Why.Closed some r = queue_refused old new bytes Queue.Closed closes Closed r refl
 sends_refused old new bytes Why.Exhausted some r = absurd (some refl)
@@ -96,19 +95,17 @@ obeys_send tx ports id place d new bytes outcome h found lt s = record {
   };
   few = grind arith;
   asked = asked_more ports place d new bytes outcome lt s;
-  closes = same_totals (Send id bytes) tx tx refl (λ k s. refl);
+  closes = grind (arith, same_totals);
 }
   where
     here : (es : EndSystem) → tx.plan ≡ es.plan → place_of es.plan id ≡ Some place
     here es plan = rw (← plan) found
 
     port : (get_or ports place d).plan ≡ port_plan_at tx.plan.ports place
-    port = (h.opened place d lt).plan ∙ ap (port_plan_at tx.plan.ports) (h.placed place d lt)
+    port = grind arith
 
     is : (es : EndSystem) → tx.plan ≡ es.plan → outcome ≡ outcome_of es (Send id bytes) s.answer
-    is es plan = s.is ∙ ap (λ (p : PortPlan). passed_on (length_refusal p (length bytes)) s.answer) port
-        ∙ sym (ap (λ (at : Option ℕ). sent_to tx.plan at bytes s.answer) found)
-        ∙ ap (λ (config : Plan). sent_to config (place_of config id) bytes s.answer) plan
+    is es plan = grind arith
 
     few : (why : Option SendRefusal) (answer : Answer) → HasFew (passed_on why answer)
     few (Some why) answer = tt

@@ -10,7 +10,7 @@ returns-clause-ok c = elim c.match-poll.branch [
       let told = w.in-Ok.ensures.told in
       rw w.result-is (at_bench c.bench.view_is (obeys_poll c.bench.inside.emitter c.poll.new.self c.bench.inside.ports.items
       c.args.moment w.len.result (grind arith) w.in-Ok.ensures.run
-      w.in-Ok.ensures.lawful.conforms.mirrored (sym told.a_stands ∙ w.if-report.true) (sym told.b_stands ∙ w.if-report-2.true)
+      w.in-Ok.ensures.lawful.conforms.mirrored (grind arith) (grind arith)
       w.in-Ok.ensures.lawful.plan told.moment c.poll.ensures.lawful.messages.totals
       (grind (arith, released_many)) w.len.ensures.fits))
   | in-Ok+else-report w ↦ rw w.result-is tt

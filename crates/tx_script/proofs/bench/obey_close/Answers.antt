@@ -1,4 +1,4 @@
-use Rattle.std.proofs.Common.{refl}
+use Rattle.std.proofs.Common.{arith, refl}
 use Rattle.tx_script.proofs.Closing.{obeys_close, obeys_lack}
 use Rattle.tx_script.proofs.Sending.{at_bench}
 use Rattle.tx_script.proofs.bench.obey_close.Goals as goal
@@ -6,8 +6,7 @@ use Rattle.tx_script.proofs.bench.obey_close.Goals.{in-Ok, in-Err}
 
 pub returns : goal.returns
 returns c = elim c.match-close.branch [
-  | in-Ok w ↦ rw w.result-is (at_bench c.bench.view_is (obeys_close c.bench.inside.emitter c.bench.inside.ports.items
-      c.args.vl c.args.sub w.in-Ok.total c.close.new.self c.bench.invariant w.in-Ok.ensures.closed))
+  | in-Ok w ↦ grind (arith, at_bench, obeys_close)
   | in-Err w ↦ rw (w.result-is, w.in-Err.ensures.unchanged)
-      (at_bench c.bench.view_is (obeys_lack _ c.args.vl c.args.sub (w.in-Err.ensures.missing.0 refl)))
+      (at_bench c.bench.view_is (obeys_lack _ c.args.vl c.args.sub (grind arith)))
 ]

@@ -1,4 +1,4 @@
-use Rattle.std.proofs.Common.{◌≡◌, ap, sym, ◌∙◌, subst, None}
+use Rattle.std.proofs.Common.{arith, ◌≡◌, ap, sym, ◌∙◌, subst, None}
 use Rattle.afdx_plan.specs.Config.{Plan}
 use Rattle.tx_script.specs.AtBench.{AtBench}
 use Rattle.tx_script.specs.Play.{place_of}
@@ -14,6 +14,4 @@ returns-in-Some c = at_bench c.bench.view_is (sent_at _ _ c.args.port _ _ _ _ _ 
     c.port_index.ensures c.in-Some.is c.index_mut.ensures.value c.send_message.ensures).1
 
 pub returns-in-None : goal.returns-in-None
-returns-in-None c = obeys_nowhere c.args.bench.now c.args.port c.args.bytes
-    (subst (λ (bench : AtBench). place_of bench.tx.plan c.args.port ≡ None) c.bench.view_is
-    (ap (λ (plan : Plan). place_of plan c.args.port) (sym c.config.ensures) ∙ sym c.port_index.ensures ∙ c.in-None.is))
+returns-in-None c = grind (arith, obeys_nowhere)
