@@ -11,7 +11,7 @@ use crate::fault::OpenFault;
 use crate::port::TxPort;
 use crate::routing::{link_of, port_at};
 use crate::transmitter::Transmitter;
-use afdx_frame::Template;
+use afdx_frame::{FrameBuffer, Template};
 use afdx_plan::{Config, LinkPlan, PortPlan};
 use redundant_mux::Network;
 use status_board::{Board, Monitor, open_board};
@@ -47,6 +47,7 @@ fn templates_of(alloc: Global, ports: &[PortPlan], of: &SubVl) -> Result<Vec<Tem
 }
 
 /// A sub-VL of a configuration, without senders.
+#[tactic(auto, using(crate::proofs::PortLink::own_ports))]
 fn open_sub(alloc: Global, config: &Config, of: SubVl) -> Result<Sub, AllocError>
     requires link { IsLink of.link }
     requires sub { of.sub < of.link.sub_vls }
@@ -151,12 +152,13 @@ pub fn open_tx<A: Network + Drop, B: Network + Drop>(
     ensures a { IfErr result (λ fault. fault.a ≡ a) }
     ensures b { IfErr result (λ fault. fault.b ≡ b) }
 {
-    match open_parts(alloc, &config) {
-        Ok((links, ports, board, monitor)) => {
-            let inner = Transmitter::over(config, links, a, b, board);
+    let frame = Box::new(alloc, FrameBuffer::new());
+    match (frame, open_parts(alloc, &config)) {
+        (Ok(frame), Ok((links, ports, board, monitor))) => {
+            let inner = Transmitter::over(config, links, frame, a, b, board);
             let phase = PhantomData;
             Ok((Emitter { inner, phase }, ports, monitor))
         }
-        Err(_) => Err(OpenFault { config, a, b }),
+        _ => Err(OpenFault { config, a, b }),
     }
 }

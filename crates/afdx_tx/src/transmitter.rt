@@ -58,7 +58,7 @@ impl Notes for Unreported {
 /// Gives each link its turn, in order.
 fn serve_all<A: Network + Drop, B: Network + Drop, N: Notes>(
     links: &mut [Link],
-    frame: &mut FrameBuffer,
+    frame: &mut Box<FrameBuffer>,
     mux: &mut Mux<A, B>,
     now: u64,
     notes: &mut N,
@@ -134,8 +134,8 @@ pub struct Transmitter<A: Network + Drop, B: Network + Drop> {
     pub(crate) config: Config,
     links: BoxedSlice<Link>,
     pub(crate) mux: Mux<A, B>,
-    // The buffer of each frame.
-    frame: FrameBuffer,
+    // The buffer of the next frame.
+    frame: Box<FrameBuffer>,
     pub(crate) moment: u64,
     pub(crate) board: Board,
 }
@@ -174,8 +174,15 @@ impl<A: Network + Drop, B: Network + Drop> Transmitter<A, B> {
     ghost use Rattle.afdx_tx.specs.Ports.{AreOpenedWith, HasEveryPlace};
     ghost use Rattle.afdx_tx.specs.Gathering.{IsGatheredTx};
 
-    /// Over new links of a configuration, networks that have accepted no frame, and an empty board.
-    pub fn over(config: Config, links: Vec<Link>, a: A, b: B, board: Board) -> Transmitter<A, B>
+    /// Over new links of a configuration, a buffer, networks that have accepted no frame, and an empty board.
+    pub fn over(
+        config: Config,
+        links: Vec<Link>,
+        frame: Box<FrameBuffer>,
+        a: A,
+        b: B,
+        board: Board,
+    ) -> Transmitter<A, B>
         requires valid { IsPlan config }
         requires fresh { AreFreshLinks config links.items }
         requires a_empty { A.handed a ≡ [] }
@@ -192,7 +199,7 @@ impl<A: Network + Drop, B: Network + Drop> Transmitter<A, B> {
             config,
             links: links.into_boxed_slice(),
             mux: Mux::new(a, b),
-            frame: FrameBuffer::new(),
+            frame,
             moment: 0,
             board,
         }

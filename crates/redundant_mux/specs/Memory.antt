@@ -44,7 +44,7 @@ pub record FailsByFlag (old new : OutboxView) (fails : Type 0) : Type 0 where
   pub by : FailsBy is_set old fails
 
 abbrev pub kept_entry : Kept → Entry
-kept_entry one = entry one.at one.frame.items
+kept_entry one = entry one.at one.frame.value.items
 
 -- the entry with this number, from 0
 abbrev pub entry_at : List Entry → ℕ → Entry

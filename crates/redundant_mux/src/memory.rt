@@ -1,12 +1,10 @@
 //! A network in memory.
 ghost use Rattle.std.specs.Prelude.{◌≡◌, ◌≢◌, ℕ, ◌+◌, ◌^◌, ◌<◌, ◌≤◌, List, [], ◌∷◌, ◌++◌, None, Some, true, false, length, OnOk, OnErr, IsErr, min, map, vec_len, vec_capacity};
-ghost use Rattle.afdx_frame.specs.Header.{twin_of};
-ghost use Rattle.afdx_frame.specs.declared.net.Net.TheVariants.{A as ForA, B as ForB};
 ghost use Rattle.redundant_mux.specs.Lines.{entry};
 ghost use Rattle.redundant_mux.specs.Memory.{entries};
 
 use crate::network::{HandFault, Network};
-use afdx_frame::{Frame, FrameBuffer, GREATEST_FRAME, Net};
+use afdx_frame::{Frame, FrameBuffer, GREATEST_FRAME};
 use std::alloc::Global;
 use std::marker::Model;
 
@@ -47,7 +45,7 @@ impl Handed {
 }
 
 /// A network that keeps all frames in memory. Contracts see the frames, the capacity, the number of
-/// failures and of calls of `hand` and `hand_twin`, and the number of the call that fails.
+/// failures and of calls of `hand` and `hand_with`, and the number of the call that fails.
 #[derive(Drop)]
 pub struct MemNetwork {
     handed: Vec<Handed>,
@@ -86,7 +84,7 @@ impl MemNetwork {
         }
     }
 
-    /// As `new`, but call `k` of `hand` and `hand_twin`, counted from 1, fails. Later calls succeed
+    /// As `new`, but call `k` of `hand` and `hand_with`, counted from 1, fails. Later calls succeed
     /// again: abandoning a network is its caller's task.
     pub fn failing_at(alloc: Global, k: u64) -> MemNetwork
         ensures { result ≡ unused (Some k) }
@@ -103,7 +101,7 @@ impl MemNetwork {
         &self.handed
     }
 
-    /// The number of failed calls of `hand` and `hand_twin`.
+    /// The number of failed calls of `hand` and `hand_with`.
     pub fn failures(&self) -> u64
         ensures { result ≡ self.now.failures }
     {
@@ -143,17 +141,14 @@ impl Network for MemNetwork {
         Ok(())
     }
 
-    /// As `hand`, with the twin for network B of a frame for network A, which is the same afterwards.
-    #[tactic(auto, using(afdx_frame::proofs::Twins::twin_twice))]
-    fn hand_twin(&mut self, at: u64, frame: &mut FrameBuffer) -> Result<(), HandFault>
-        requires for_a { twin_of ForA frame.old.items ≡ frame.old.items }
+    /// As `hand`, with the frame in its buffer, which is unchanged.
+    fn hand_with(&mut self, at: u64, frame: &mut Box<FrameBuffer>) -> Result<(), HandFault>
         requires few { self.old.failures + 1 < 2 ^ 64 }
         ensures ok { OnOk result
-            (self.new.handed ≡ self.old.handed ++ entry at (twin_of ForB frame.old.items) ∷ []) }
+            (self.new.handed ≡ self.old.handed ++ entry at frame.old.value.items ∷ []) }
         ensures ok_failures { OnOk result (self.new.failures ≡ self.old.failures) }
         ensures err { OnErr result (self.new.handed ≡ self.old.handed) }
         ensures err_failures { OnErr result (self.new.failures ≡ self.old.failures + 1) }
-        ensures same { frame.new.items ≡ frame.old.items }
 
         ensures fails { self.old.fails_at ≡ Some (self.old.asked + 1) → IsErr result }
         ensures only { OnErr result (self.old.fails_at ≢ Some (self.old.asked + 1) →
@@ -161,11 +156,9 @@ impl Network for MemNetwork {
         ensures capacity { self.old.capacity ≤ self.new.capacity }
         ensures asked { self.new.asked ≡ min (self.old.asked + 1) u64.MAX }
         ensures fails_at { self.new.fails_at ≡ self.old.fails_at }
+        ensures same { frame.new.value.items ≡ frame.old.value.items }
     {
-        frame.turn(Net::B);
-        let answer = self.hand(at, frame.as_slice());
-        frame.turn(Net::A);
-        answer
+        self.hand(at, frame.as_slice())
     }
 }
 

@@ -77,37 +77,34 @@ fn hand_to<N: Network + Drop>(
     }
 }
 
-/// As `hand_to`, with B's twin of a frame for A, which is the same afterwards.
+/// As `hand_to`, with the frame in its buffer, whose bytes are open afterwards.
 #[inline(always)]
-fn hand_twin<N: Network + Drop>(
+fn hand_with<N: Network + Drop>(
     network: &mut N,
     stands: &mut bool,
     named: bool,
     at: u64,
-    frame: &mut FrameBuffer,
+    frame: &mut Box<FrameBuffer>,
 )
-    requires for_a { twin_of ForA frame.old.items ≡ frame.old.items }
     requires unfailed { stands.old ≡ true → N.failures network.old ≡ 0 }
-    ensures handing { Handing named (entry at (twin_of ForB frame.old.items)) stands.old stands.new
+    ensures handing { Handing named (entry at frame.old.value.items) stands.old stands.new
         (N.handed network.old) (N.handed network.new)
         (N.failures network.old) (N.failures network.new) }
     ensures unfailed { stands.new ≡ true → N.failures network.new ≡ 0 }
-    ensures same { frame.new.items ≡ frame.old.items }
 {
-    if named && *stands && network.hand_twin(at, frame).is_err() {
+    if named && *stands && network.hand_with(at, frame).is_err() {
         *stands = false;
     }
 }
 
-/// Logs the entry if a network accepted it.
+/// Keeps the longer log if a network accepted the frame.
 #[inline(always)]
-fn note(trail: &mut Trail, taken: bool, networks: Networks, at: u64, frame: &[u8])
-    ensures taken { taken ≡ true → trail.new.logged ≡
-        trail.old.logged ++ logged_for networks (entry at frame.now) ∷ [] }
+fn note(trail: &mut Trail, taken: bool, longer: Trail)
+    ensures taken { taken ≡ true → trail.new.logged ≡ longer.logged }
     ensures lost { taken ≡ false → trail.new.logged ≡ trail.old.logged }
 {
     if taken {
-        *trail = Trail::with(trail, &networks, &at, frame);
+        *trail = longer;
     }
 }
 
@@ -207,32 +204,47 @@ impl<A: Network + Drop, B: Network + Drop> Mux<A, B> {
         ensures a_stands { IfOk result (λ standing. standing.a ≡ self.new.a_stands) }
         ensures b_stands { IfOk result (λ standing. standing.b ≡ self.new.b_stands) }
     {
-        let mut lent = FrameBuffer::new();
-        lent.fill(frame);
-        lent.turn(Net::A);
-        self.hand_lent(at, &mut lent, networks)
+        if !self.standing.a && !self.standing.b {
+            return Err(BothDown);
+        }
+        let (named_a, named_b) = (networks.carries_a(), networks.carries_b());
+        let longer = Trail::with(&self.trail, &networks, &at, frame);
+        hand_to(&mut self.a, &mut self.standing.a, named_a, at, frame);
+        let mut twin = FrameBuffer::new();
+        twin.fill(frame);
+        twin.turn(Net::B);
+        hand_to(
+            &mut self.b,
+            &mut self.standing.b,
+            named_b,
+            at,
+            twin.as_slice(),
+        );
+        let taken = self.standing.has_one_of(networks);
+        note(&mut self.trail, taken, longer);
+        Ok(self.standing)
     }
 
-    /// As `hand`, with a frame that is lent: the twin for B is made in its bytes, which are the same afterwards.
+    /// As `hand`, with the frame in its buffer, which a network may exchange for another. What the
+    /// buffer has afterwards is open. B's twin is made in place.
     #[inline(always)]
-    pub fn hand_lent(
+    pub fn hand_with(
         &mut self,
         at: u64,
-        frame: &mut FrameBuffer,
+        frame: &mut Box<FrameBuffer>,
         networks: Networks,
     ) -> Result<Standing, BothDown>
-        requires { twin_of ForA frame.old.items ≡ frame.old.items }
-        ensures same { frame.new.items ≡ frame.old.items }
+        requires { twin_of ForA frame.old.value.items ≡ frame.old.value.items }
         ensures down { IsErr result ↔ ((self.old.a_stands ≡ false) × (self.old.b_stands ≡ false)) }
         ensures err { OnErr result (self.new ≡ self.old) }
-        ensures a { Handing (carries_a networks) (entry at (twin_of ForA frame.old.items))
+        ensures a { Handing (carries_a networks) (entry at (twin_of ForA frame.old.value.items))
             self.old.a_stands self.new.a_stands
             self.old.a self.new.a self.old.a_failures self.new.a_failures }
-        ensures b { Handing (carries_b networks) (entry at (twin_of ForB frame.old.items))
+        ensures b { Handing (carries_b networks) (entry at (twin_of ForB frame.old.value.items))
             self.old.b_stands self.new.b_stands
             self.old.b self.new.b self.old.b_failures self.new.b_failures }
-        ensures enters { any_up networks self.new ≡ true →
-            self.new.logged ≡ self.old.logged ++ logged_for networks (entry at frame.old.items) ∷ [] }
+        ensures enters { any_up networks self.new ≡ true → self.new.logged
+            ≡ self.old.logged ++ logged_for networks (entry at frame.old.value.items) ∷ [] }
         ensures lost { any_up networks self.new ≡ false → self.new.logged ≡ self.old.logged }
         ensures stays_down { BothEndure self.old self.new }
         ensures mirrored { IsMirrored self.new }
@@ -242,18 +254,14 @@ impl<A: Network + Drop, B: Network + Drop> Mux<A, B> {
         if !self.standing.a && !self.standing.b {
             return Err(BothDown);
         }
-        let named_a = networks.carries_a();
-        let named_b = networks.carries_b();
-        hand_to(
-            &mut self.a,
-            &mut self.standing.a,
-            named_a,
-            at,
-            frame.as_slice(),
-        );
-        hand_twin(&mut self.b, &mut self.standing.b, named_b, at, frame);
+        let (named_a, named_b) = (networks.carries_a(), networks.carries_b());
+        let bytes = frame.as_slice();
+        let longer = Trail::with(&self.trail, &networks, &at, bytes);
+        hand_to(&mut self.a, &mut self.standing.a, named_a, at, bytes);
+        frame.turn(Net::B);
+        hand_with(&mut self.b, &mut self.standing.b, named_b, at, frame);
         let taken = self.standing.has_one_of(networks);
-        note(&mut self.trail, taken, networks, at, frame.as_slice());
+        note(&mut self.trail, taken, longer);
         Ok(self.standing)
     }
 }

@@ -1,17 +1,16 @@
 //! A network that keeps the last frames that it accepted.
-ghost use Rattle.std.specs.Prelude.{◌≡◌, ◌+◌, ◌≤◌, ◌^◌, ◌<◌, [], ◌∷◌, ◌++◌, if◌then◌else◌, length, IfOk, OnOk, OnErr, IsErr};
-ghost use Rattle.afdx_frame.specs.Header.{twin_of};
-ghost use Rattle.afdx_frame.specs.declared.net.Net.TheVariants.{A as ForA, B as ForB};
+ghost use Rattle.std.specs.Prelude.{◌≡◌, ◌+◌, ◌≤◌, ◌^◌, ◌<◌, [], ◌∷◌, ◌++◌, true, false, if◌then◌else◌, length, IfOk, OnOk, OnErr, IsErr};
 ghost use Rattle.redundant_mux.specs.Lines.{entry};
 
 use crate::flag::Flag;
 use crate::network::{HandFault, Network};
 use crate::trail::Trail;
-use afdx_frame::{FrameBuffer, GREATEST_FRAME, Net};
+use afdx_frame::{FrameBuffer, GREATEST_FRAME};
 use afdx_plan::Networks;
 use std::alloc::{AllocError, Global};
 use std::boxed::BoxedSlice;
 use std::marker::Model;
+use std::mem::swap;
 
 /// The number of frames that are kept: the most of one poll, one per virtual link.
 pub const ROOM: usize = 64;
@@ -20,11 +19,11 @@ pub const ROOM: usize = 64;
 #[derive(Drop)]
 pub struct Kept {
     pub at: u64,
-    pub frame: FrameBuffer,
+    pub frame: Box<FrameBuffer>,
 }
 
 /// A network that keeps the last 64 frames that it accepted, by their numbers, and fails each call
-/// of `hand` and `hand_twin` after `fail`. Contracts see all frames that it accepted, the failures,
+/// of `hand` and `hand_with` after `fail`. Contracts see all frames that it accepted, the failures,
 /// and what each of those calls found when it read the flag that `fail` sets.
 #[derive(Drop)]
 pub struct Outbox {
@@ -75,7 +74,7 @@ fn make_slots(alloc: Global) -> Result<Vec<Kept>, AllocError>
     for _ in 0..ROOM {
         slots.push(Kept {
             at: 0,
-            frame: FrameBuffer::new(),
+            frame: Box::new(alloc, FrameBuffer::new())?,
         })?;
     }
     Ok(slots)
@@ -83,7 +82,7 @@ fn make_slots(alloc: Global) -> Result<Vec<Kept>, AllocError>
 
 impl Outbox {
     ghost use Rattle.std.specs.Prelude.{◌≡◌, ◌↔◌, [], length, IsSome, IfSome, IfOk};
-    ghost use Rattle.redundant_mux.specs.Memory.{IsAmongLast, entry_at, kept_entry, fresh_outbox, FailsBy};
+    ghost use Rattle.redundant_mux.specs.Memory.{IsAmongLast, entry_at, kept_entry, fresh_outbox, FailsByFlag};
 
     /// An outbox without frames. No later call allocates.
     pub fn new(alloc: Global) -> Result<Outbox, AllocError>
@@ -116,7 +115,7 @@ impl Outbox {
         Some(&self.slots[(number % ROOM as u64) as usize])
     }
 
-    /// Makes each later call of `hand` and `hand_twin` fail.
+    /// Makes each later call of `hand` and `hand_with` fail.
     pub fn fail(&self) -> Failing<'_>
         ensures { result ≡ self.now }
     {
@@ -124,35 +123,20 @@ impl Outbox {
         Failing { outbox: self }
     }
 
-    /// Keeps a frame, or its twin for network B, in the slot of the frame accepted 64 frames before.
-    /// Fails if the flag `is_set`, and after 2^64 - 1 frames. The twin is made in the slot: to make it in the
-    /// frame would have its copy wait for that write.
+    /// Reads the flag, and counts a failure if it is set or 2^64 - 1 frames were accepted.
     #[inline(always)]
-    fn keep(&mut self, is_set: bool, at: u64, frame: &[u8], is_twin: bool) -> Result<(), HandFault>
-        requires short { length frame.now ≤ GREATEST_FRAME }
+    fn refuses(&mut self) -> bool
         requires few { self.old.failures + 1 < 2 ^ 64 }
-        ensures ok { OnOk result (self.new.handed ≡ self.old.handed
-            ++ entry at (if is_twin then twin_of ForB frame.now else frame.now) ∷ []) }
-        ensures ok_failures { OnOk result (self.new.failures ≡ self.old.failures) }
-        ensures err { OnErr result (self.new.handed ≡ self.old.handed) }
-        ensures err_failures { OnErr result (self.new.failures ≡ self.old.failures + 1) }
-        ensures fails { FailsBy is_set self.old (IsErr result) }
-        ensures reads { self.new.reads ≡ self.old.reads }
+        ensures handed { self.new.handed ≡ self.old.handed }
+        ensures failures { self.new.failures ≡ (if result then self.old.failures + 1 else self.old.failures) }
+        ensures fails { FailsByFlag self.old self.new (result ≡ true) }
+        ensures room { result ≡ false → length self.old.handed + 1 < 2 ^ 64 }
     {
-        if is_set || self.count == u64::MAX {
+        let refused = self.flag.read() || self.count == u64::MAX;
+        if refused {
             self.failures += 1;
-            return Err(HandFault);
         }
-        let slot = &mut self.slots[(self.count % ROOM as u64) as usize];
-        slot.at = at;
-        slot.frame.fill(frame);
-        if is_twin {
-            slot.frame.turn(Net::B);
-        }
-        self.count += 1;
-        // Contracts read the entries alone, so any `Networks` will do.
-        self.trail = Trail::with(&self.trail, &Networks::Both, &at, slot.frame.as_slice());
-        Ok(())
+        refused
     }
 }
 
@@ -163,8 +147,8 @@ impl Network for Outbox {
 
     ghost failures = { λ o. o.failures };
 
-    /// Overwrites the frame accepted 64 frames before. Reads the flag once. Fails exactly if it is
-    /// set, or if 2^64 - 1 frames were accepted.
+    /// Copies the frame over the one accepted 64 frames before. Reads the flag once. Fails exactly if
+    /// it is set, or if 2^64 - 1 frames were accepted.
     #[inline(always)]
     fn hand(&mut self, at: u64, frame: &[u8]) -> Result<(), HandFault>
         requires short { length frame.now ≤ GREATEST_FRAME }
@@ -176,25 +160,38 @@ impl Network for Outbox {
 
         ensures fails { FailsByFlag self.old self.new (IsErr result) }
     {
-        let is_set = self.flag.read();
-        self.keep(is_set, at, frame, false)
+        if self.refuses() {
+            return Err(HandFault);
+        }
+        let slot = &mut self.slots[(self.count % ROOM as u64) as usize];
+        slot.at = at;
+        slot.frame.fill(frame);
+        self.count += 1;
+        // Contracts read the entries alone, so any `Networks` will do.
+        self.trail = Trail::with(&self.trail, &Networks::Both, &at, frame);
+        Ok(())
     }
 
-    /// As `hand`, with the twin for network B of a frame for network A.
+    /// As `hand`, without a copy: exchanges the buffer for that of the frame accepted 64 frames before.
     #[inline(always)]
-    fn hand_twin(&mut self, at: u64, frame: &mut FrameBuffer) -> Result<(), HandFault>
-        requires for_a { twin_of ForA frame.old.items ≡ frame.old.items }
+    fn hand_with(&mut self, at: u64, frame: &mut Box<FrameBuffer>) -> Result<(), HandFault>
         requires few { self.old.failures + 1 < 2 ^ 64 }
         ensures ok { OnOk result
-            (self.new.handed ≡ self.old.handed ++ entry at (twin_of ForB frame.old.items) ∷ []) }
+            (self.new.handed ≡ self.old.handed ++ entry at frame.old.value.items ∷ []) }
         ensures ok_failures { OnOk result (self.new.failures ≡ self.old.failures) }
         ensures err { OnErr result (self.new.handed ≡ self.old.handed) }
         ensures err_failures { OnErr result (self.new.failures ≡ self.old.failures + 1) }
-        ensures same { frame.new.items ≡ frame.old.items }
 
         ensures fails { FailsByFlag self.old self.new (IsErr result) }
     {
-        let is_set = self.flag.read();
-        self.keep(is_set, at, frame.as_slice(), true)
+        if self.refuses() {
+            return Err(HandFault);
+        }
+        let slot = &mut self.slots[(self.count % ROOM as u64) as usize];
+        slot.at = at;
+        swap(&mut slot.frame, frame);
+        self.count += 1;
+        self.trail = Trail::with(&self.trail, &Networks::Both, &at, slot.frame.as_slice());
+        Ok(())
     }
 }

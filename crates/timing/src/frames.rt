@@ -64,7 +64,7 @@ impl Network for Touch {
 #[tactic(auto, using(afdx_frame::proofs::Twins::twin_same))]
 fn send_cut<N: Network + Drop>(
     mux: &mut Mux<N, N>,
-    frame: &mut FrameBuffer,
+    frame: &mut Box<FrameBuffer>,
     link: &LinkPlan,
     cut: &mut Cut,
 )
@@ -74,7 +74,7 @@ fn send_cut<N: Network + Drop>(
         if !cut.write_next(link, 1, number, Net::A, frame) {
             return;
         }
-        let _standing = mux.hand_lent(0, frame, Networks::Both);
+        let _standing = mux.hand_with(0, frame, Networks::Both);
     }
 }
 
@@ -82,7 +82,7 @@ fn send_cut<N: Network + Drop>(
 /// would be timed too.
 fn send_all<N: Network + Drop>(
     mux: &mut Mux<N, N>,
-    frame: &mut FrameBuffer,
+    frame: &mut Box<FrameBuffer>,
     port: &Template,
     link: &LinkPlan,
     messages: &mut Vec<Letter>,
@@ -127,7 +127,7 @@ fn make_messages(alloc: Global, count: u32, size: usize) -> Result<Vec<Letter>, 
 pub fn time(rt: &HostRuntime, watch: &mut Watch<'_>, load: Load) -> Ended {
     let (port, link) = flow(rt)?;
     let mut mux = Mux::new(Touch::new(), Touch::new());
-    let mut frame = FrameBuffer::new();
+    let mut frame = Box::new(rt.alloc(), FrameBuffer::new())?;
     let batch = batch(load.size);
     for _ in 0..load.units / batch {
         let mut messages = make_messages(rt.alloc(), batch, load.size)?;
@@ -153,13 +153,8 @@ pub fn tell(rt: &HostRuntime, size: usize) -> Ended {
     let (port, link) = flow(rt)?;
     let mut messages = make_messages(alloc, 1, size)?;
     let mut mux = Mux::new(FrameLog::new(alloc), FrameLog::new(alloc));
-    send_all(
-        &mut mux,
-        &mut FrameBuffer::new(),
-        &port,
-        &link,
-        &mut messages,
-    );
+    let mut frame = Box::new(alloc, FrameBuffer::new())?;
+    send_all(&mut mux, &mut frame, &port, &link, &mut messages);
     let (a, b) = mux.into_networks();
     let written = write_streams(&mut io::writer(rt), &a, &b);
     written.ok().ok_or(Trouble::Stream)

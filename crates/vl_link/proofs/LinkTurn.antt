@@ -1,5 +1,5 @@
 -- One turn of a link, and its stream.
-use Rattle.vl_link.proofs.Names.{ℕ, zero, suc, refl, LinkPlan, Turn, AreTurns, BothEndure, ◌≤◌, ◌+◌, ◌≡◌, ◌≢◌, ◌<◌, List, length, false, arith, ap, ◌∙◌, sym, subst, inl, inr, ⊎_elim, Option, None, cases_eq, and_parts, both_ways, room_of, sequence_number, A, sub_in, fragments, Entry, entry, Lines, log, log_same, Stamp, Pace, IsLater, Served, Nothing, Released, Lost, SubVl, counts_in, link_stream, sub_stream, told, entry_number, IsNumbered, IsSpaced, IsApart, IsPrefixOf, TurnView, Releases, Loses, is_lost, Held, LinkState, held_at, GivesFrame, held_view, Serves, Follows, HasOwnItems, IsSameLink, IsLinkOfPlan, sub_fragments, taken_by, IsKept, IsTied, IsLinkTied, none_begun, ShowsChoices, spaced_push, numbered_push, due_apart, with_push_in, with_push_out}
+use Rattle.vl_link.proofs.Names.{ℕ, zero, suc, refl, LinkPlan, Turn, AreTurns, BothEndure, ◌≤◌, ◌+◌, ◌≡◌, ◌≢◌, ◌<◌, List, length, false, arith, ap, ◌∙◌, sym, subst, inl, inr, ⊎_elim, Option, None, cases_eq, and_parts, both_ways, room_of, sequence_number, A, sub_in, fragments, Entry, entry, Lines, log, log_same, Stamp, Pace, IsLater, Served, Nothing, Released, Lost, counts_in, link_stream, sub_stream, told, entry_number, IsNumbered, IsSpaced, IsApart, IsPrefixOf, TurnView, Releases, Loses, is_lost, Held, LinkState, held_at, GivesFrame, held_view, Serves, Follows, HasOwnItems, IsSameLink, IsLinkOfPlan, taken_by, IsKept, IsTied, IsLinkTied, none_begun, ShowsChoices, spaced_push, numbered_push, due_apart, with_push_in, with_push_out}
 use Rattle.vl_link.proofs.ShownTurns.{shows_push, choice_shown}
 use Rattle.vl_link.proofs.TurnLaws.{choice_below, choice_other, turns_endure}
 use Rattle.vl_link.proofs.SubInStep.{tied_moves, tied_gave, prefix_of, shown, gave_shown}
@@ -235,8 +235,3 @@ kept_stream other H J e k = record {
   behind = λ l. let b = k.behind l in record { sub = b.sub; within = b.within; behind = rw e b.behind };
   counted = rw e k.counted;
 }
-
--- The sub-VL that released a frame is one of the link's.
-pub released_below : (now number : ℕ) (link : LinkState) (view : TurnView) (sub : ℕ) (lines after : Lines)
-    → Releases now link.plan link.pace view sub number lines after → IsOwn link → sub < link.plan.sub_vls
-released_below now number link view sub lines after at own = grind arith

@@ -31,7 +31,7 @@ pub use Rattle.vl_link.specs.Links.{AreSameSubs, AreSubsOf, Asks, Follows, Gives
 pub use Rattle.vl_link.specs.Links.{IsSameSub, LinkState, PassedOver, Passes, Serves, Starts, TellsCutting, held_at, held_view, left_of, message_fragments}
 pub use Rattle.vl_link.specs.Links.{nothing_held, pace_of, sent_of, sub_fragments, taken_by}
 pub use Rattle.vl_link.specs.Seen.{Finds, FindsNothing, IsReceiving, IsSameQueue, Seen, gathered, known_of, ports_of, queue_of, receiving, taken_of, total_of}
-pub use Rattle.vl_link.specs.Turn.{AreTurns, IsChoice, Loses, NoneHas, Releases, Turn, TurnView, entered, is_lost, may_release}
+pub use Rattle.vl_link.specs.Turn.{AreTurns, IsChoice, Loses, NoneHas, Releases, Turn, TurnView, is_lost, may_release}
 pub use Rattle.vl_link.specs.declared.served.Served.{Served}
 pub use Rattle.vl_link.specs.declared.served.Served.TheVariants.{Lost, Nothing, Released}
 pub use Rattle.vl_link.specs.declared.sub.SubVl.{SubVl}

@@ -1,10 +1,6 @@
 -- A queue after a poll, the fragments left, and the invariant of its sub-VL.
-use Rattle.vl_link.proofs.Names.{ℕ, ◌≡◌, List, [], ◌∷◌, ◌++◌, Some, arith, sym, subst, append_assoc, length-append, get_or_append_left, All-push, Seen, receiving, gathered, taken_of, known_of, ports_of, queue_of, total_of, FindsNothing, Finds, IsReceiving, IsSameQueue, ◌+◌, ◌%◌, Option, PortPlan, Cutting, SubVl, IsSub, IsCutOf, ◌≢◌, ◌<◌, length, map, refl, Bool, true, not, room_of, A, cutting, pieces_from, pieces_left, Sent, cutting_some, TellsCutting, left_of, message_fragments, fragments_at, unnumbered}
+use Rattle.vl_link.proofs.Names.{ℕ, ◌≡◌, List, [], ◌∷◌, ◌++◌, Some, arith, sym, subst, append_assoc, length-append, get_or_append_left, All-push, Seen, receiving, gathered, taken_of, known_of, ports_of, queue_of, total_of, FindsNothing, Finds, IsSameQueue, ◌+◌, ◌%◌, Option, PortPlan, Cutting, SubVl, IsSub, IsCutOf, ◌≢◌, ◌<◌, length, map, refl, Bool, true, not, room_of, A, cutting, pieces_from, pieces_left, Sent, cutting_some, TellsCutting, left_of, message_fragments, fragments_at, unnumbered}
 use Rattle.subvl_queue.specs.Messages.{IsItem, AreItems}
-
--- A poll that found nothing took nothing.
-pub taken_nothing : (old new : Seen) → FindsNothing old new → taken_of new ≡ taken_of old
-taken_nothing old new f = grind arith
 
 -- A poll that found a message took it.
 pub taken_finds : (old : Seen) (message : ℕ × List ℕ) (new : Seen) → Finds old message new
@@ -45,10 +41,6 @@ same_name old new e = grind arith
 -- The same queue has the same total.
 pub same_total : (old new : Seen) → IsSameQueue old new → total_of new ≡ total_of old
 same_total old new e = grind arith
-
--- The same queue may still receive.
-pub still_receiving : (old new : Seen) → IsSameQueue old new → IsReceiving old → IsReceiving new
-still_receiving old new e i = grind arith
 
 -- A message was found and is cut: the next place is one higher.
 pub kept_finds : (of : SubVl) (ports : List PortPlan) (sending : Option Cutting) (cut : Cutting) (old new : Seen) (place : ℕ)

@@ -1,5 +1,5 @@
 -- A turn of a link, for any view of its sub-VLs.
-use Rattle.vl_link.proofs.Names.{ℕ, zero, suc, ◌≡◌, ◌≢◌, ◌⊎◌, ◌+◌, ◌<◌, ◌≤◌, List, true, false, arith, ⊎_elim, cases_eq, LinkPlan, Lines, BothEndure, any_up, Pace, turn_of, Served, TurnView, IsChoice, Turn, AreTurns, may_release}
+use Rattle.vl_link.proofs.Names.{ℕ, zero, suc, ◌≡◌, ◌≢◌, ◌⊎◌, ◌+◌, ◌<◌, ◌≤◌, List, true, arith, ⊎_elim, cases_eq, LinkPlan, Lines, BothEndure, Pace, turn_of, Served, TurnView, IsChoice, Turn, AreTurns, may_release}
 use Rattle.redundant_mux.proofs.MirroredLines.{both_on}
 use Rattle.vl_link.proofs.Choosing.{met}
 
@@ -40,11 +40,6 @@ pub turns_endure : (P : ℕ → Lines → Lines → Served → Type 0) (k many :
 turns_endure P k zero lines after f r = grind arith
 turns_endure P k (suc many) lines after f r =
     both_on lines r.0 after (f k lines r.0 r.1 r.2) (turns_endure P (k + 1) many r.0 after f r.3)
-
--- A link none of whose networks is up releases nothing.
-pub may_not : (now : ℕ) (plan : LinkPlan) (pace : Pace) (lines : Lines) → any_up plan.networks lines ≡ false
-    → may_release now plan pace lines ≡ false
-may_not now plan pace lines down = grind arith
 
 -- Turns of one kind are turns of another.
 pub turns_seen : (P Q : ℕ → Lines → Lines → Served → Type 0) (k many : ℕ) (lines after : Lines)

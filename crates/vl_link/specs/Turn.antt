@@ -1,9 +1,9 @@
 -- One turn of a virtual link, for a view of its sub-VLs, and the turns of links in order.
-use Rattle.std.specs.Prelude.{ℕ, zero, suc, ◌≡◌, ◌⊎◌, ◌+◌, ◌<◌, ◌≤◌, List, [], ◌∷◌, ◌++◌, Bool, true, false, ◌&&◌, length}
+use Rattle.std.specs.Prelude.{ℕ, zero, suc, ◌≡◌, ◌⊎◌, ◌+◌, ◌<◌, ◌≤◌, List, [], ◌∷◌, ◌++◌, Bool, true, false, ◌&&◌}
 use Rattle.afdx_plan.specs.declared.link_plan.LinkPlan.{LinkPlan}
 use Rattle.afdx_frame.specs.declared.net.Net.TheVariants.{A}
 use Rattle.afdx_frame.specs.Header.{IsFrameOf}
-use Rattle.redundant_mux.specs.Lines.{Entry, entry, logged_for, Lines, BothEndure, any_up}
+use Rattle.redundant_mux.specs.Lines.{entry, logged_for, Lines, BothEndure, any_up}
 use Rattle.vl_shaper.specs.Pace.{Pace, is_due, turn_of}
 use Rattle.vl_link.specs.declared.served.Served.{Served}
 use Rattle.vl_link.specs.declared.served.Served.TheVariants.{Nothing, Released, Lost}
@@ -73,18 +73,6 @@ abbrev pub is_lost : Served → Bool
 is_lost Nothing = false
 is_lost (Released sub number) = false
 is_lost Lost = true
-
--- the entry that a turn adds to the stream of its link: the released frame
-abbrev pub entered : ℕ → Served → List ℕ → List Entry
-entered now Nothing frame = []
-entered now (Released sub number) frame = entry now frame ∷ []
-entered now Lost frame = []
-
--- a released frame is long enough for the fields up to the fragment offset
-abbrev pub HasHeaders : Served → List ℕ → Type 0
-HasHeaders Nothing frame = Unit {0}
-HasHeaders (Released sub number) frame = 22 ≤ length frame
-HasHeaders Lost frame = Unit {0}
 
 -- `many` links have their turns in order, from place k on
 abbrev pub AreTurns : (ℕ → (lines after : Lines) → Served → Type 0) → (k many : ℕ)

@@ -1,13 +1,14 @@
 //! A link: its sub-VLs in turn.
-ghost use Rattle.std.specs.Prelude.{◌≡◌, ◌<◌, ◌++◌, true, length, IfSome, IfNone};
+ghost use Rattle.std.specs.Prelude.{◌≡◌, ◌<◌, true, length, IfSome, IfNone};
+ghost use Rattle.afdx_legal.specs.Counting.{counts_in};
 ghost use Rattle.vl_shaper.specs.Pace.{IsLater};
 ghost use Rattle.redundant_mux.specs.Lines.{BothEndure, log};
 ghost use Rattle.afdx_legal.specs.Streams.{link_stream};
 ghost use Rattle.vl_link.specs.Links.{pace_of, AreSubsOf, AreSameSubs, Serves, Follows, IsPicked, PassedOver};
-ghost use Rattle.vl_link.specs.Turn.{entered, may_release, HasHeaders};
+ghost use Rattle.vl_link.specs.Turn.{may_release};
 ghost use Rattle.vl_link.specs.Calls.{TellsSubsDone, AreFullSubs, GathersSubs};
 
-use crate::served::{Served, counts_after};
+use crate::served::{Served, counts_with};
 use crate::sub::Sub;
 use afdx_frame::FrameBuffer;
 use afdx_plan::{LinkPlan, VlId};
@@ -41,7 +42,8 @@ fn serve_due<A: Network + Drop, B: Network + Drop>(
     plan: &LinkPlan,
     shaper: &mut Shaper,
     subs: &mut [Sub],
-    frame: &mut FrameBuffer,
+    counts: &mut Counts,
+    frame: &mut Box<FrameBuffer>,
     mux: &mut Mux<A, B>,
     now: u64,
 ) -> Served
@@ -51,12 +53,11 @@ fn serve_due<A: Network + Drop, B: Network + Drop>(
     requires may { may_release now plan.now shaper.old mux.old ≡ true }
     requires paced { shaper.old ≡ pace_of shaper.old.gap shaper.old.sub_vls
         (link_stream plan.now.id.0 (log mux.old)) }
+    requires counted { counts.old ≡ counts_in (link_stream plan.now.id.0 (log mux.old)) }
     ensures serves { Serves now plan.now shaper.old
         subs.old subs.new mux.old mux.new result }
     ensures paced { Follows plan.now.id.0 shaper.new mux.new result }
-    ensures entered { link_stream plan.now.id.0 (log mux.new)
-        ≡ link_stream plan.now.id.0 (log mux.old) ++ entered now result frame.new.items }
-    ensures headers { HasHeaders result frame.new.items }
+    ensures counted { counts.new ≡ counts_in (link_stream plan.now.id.0 (log mux.new)) }
     ensures later { IsLater shaper.new.last now }
     ensures gap { shaper.new.gap ≡ shaper.old.gap }
     ensures sub_vls { shaper.new.sub_vls ≡ shaper.old.sub_vls }
@@ -68,9 +69,11 @@ fn serve_due<A: Network + Drop, B: Network + Drop>(
     };
     let number = shaper.stamp(now, sub);
     subs[sub as usize].write_next(number, frame);
+    let more = counts_with(counts, now, frame.as_slice());
     // If both networks are down, none is up for the link either.
-    let _standing = mux.hand_lent(now, frame, plan.networks);
+    let _standing = mux.hand_with(now, frame, plan.networks);
     if mux.any_up(plan.networks) {
+        *counts = more;
         Served::Released { sub, number }
     } else {
         Served::Lost
@@ -230,10 +233,10 @@ impl Link {
     }
 
     /// One turn of the link at `now`, in microseconds, when it may release a frame. Makes the frame
-    /// in the caller's buffer.
+    /// in the caller's buffer, which a network may exchange for another.
     pub fn serve<A: Network + Drop, B: Network + Drop>(
         &mut self,
-        frame: &mut FrameBuffer,
+        frame: &mut Box<FrameBuffer>,
         mux: &mut Mux<A, B>,
         now: u64,
     ) -> Served
@@ -255,12 +258,12 @@ impl Link {
             &self.plan,
             &mut self.shaper,
             &mut self.subs,
+            &mut self.counts,
             frame,
             mux,
             now,
         );
         self.lost = self.lost || did.is_lost();
-        self.counts = counts_after(&self.counts, &did, now, frame.as_slice());
         did
     }
 

@@ -1,9 +1,9 @@
 //! The outcome of one turn of a link, and the counts of its frames.
-ghost use Rattle.std.specs.Prelude.{◌≡◌, ◌≤◌, ◌++◌, List, length, nat_lt, if◌then◌else◌};
-ghost use Rattle.vl_link.specs.Turn.{is_lost, entered, HasHeaders};
+ghost use Rattle.std.specs.Prelude.{◌≡◌, ◌≤◌, [], ◌∷◌, ◌++◌, List, length, nat_lt, if◌then◌else◌};
+ghost use Rattle.vl_link.specs.Turn.{is_lost};
 ghost use Rattle.afdx_frame.specs.Profile.{fragment_field};
 ghost use Rattle.afdx_frame.specs.Frame.{more_fragments};
-ghost use Rattle.redundant_mux.specs.Lines.{Entry};
+ghost use Rattle.redundant_mux.specs.Lines.{Entry, entry};
 ghost use Rattle.afdx_legal.specs.Counting.{counts_in};
 
 use status_board::Counts;
@@ -38,21 +38,17 @@ fn messages_ended(frame: &[u8]) -> u64
     if frame[20] < 0x20 { 1 } else { 0 }
 }
 
-/// The counts of a link's stream after a turn that released this frame. A count stops at its
-/// greatest value.
+/// The counts of a link's stream after this frame. A count stops at its greatest value.
 #[inline(always)]
-pub fn counts_after(counts: &Counts, did: &Served, now: u64, frame: &[u8]) -> Counts
-    requires { HasHeaders did.now frame.now }
+pub fn counts_with(counts: &Counts, now: u64, frame: &[u8]) -> Counts
+    requires { 22 ≤ length frame.now }
     ensures { (stream : List Entry) → counts.now ≡ counts_in stream →
-        result ≡ counts_in (stream ++ entered now did.now frame.now) }
+        result ≡ counts_in (stream ++ entry now frame.now ∷ []) }
 {
-    match did {
-        Served::Released { .. } => Counts {
-            frames: counts.frames.saturating_add(1),
-            bytes: counts.bytes.saturating_add(frame.len() as u64),
-            messages: counts.messages.saturating_add(messages_ended(frame)),
-            last: now,
-        },
-        _ => *counts,
+    Counts {
+        frames: counts.frames.saturating_add(1),
+        bytes: counts.bytes.saturating_add(frame.len() as u64),
+        messages: counts.messages.saturating_add(messages_ended(frame)),
+        last: now,
     }
 }

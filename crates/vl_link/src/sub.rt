@@ -200,6 +200,7 @@ fn start_first(sending: &mut Option<Cut>, bytes: Vec<u8>, place: u64, port: &Tem
 }
 
 /// Whether a message is being sent.
+#[tactic(auto, using(crate::proofs::QueueLooks::done_tells))]
 fn is_cutting(sending: &Option<Cut>) -> bool
     ensures { (of : _) → TellsCutting result (left_of of sending.now) }
 {

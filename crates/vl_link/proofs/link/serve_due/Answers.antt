@@ -1,6 +1,7 @@
-use Rattle.vl_link.proofs.Names.{arith, ◌∙◌, sym, and_parts, append-nil, A, twin_same, log_same}
+use Rattle.vl_link.proofs.Names.{arith, ◌≡◌, [], ◌∷◌, ◌++◌, ◌∙◌, sym, and_parts, A, twin_same, log_same, entry, log, link_stream}
 use Rattle.vl_link.proofs.SubInStep.{passed_same, chosen_left, chosen_gives, frame_at, set_same, none_has}
 use Rattle.vl_link.proofs.Choosing.{follows_more, stream_more}
+use Rattle.vl_link.proofs.link.serve_due.Given
 use Rattle.vl_link.proofs.link.serve_due.Goals as goal
 
 pub stamp-number-requires-clause-due : goal.stamp-number-requires-clause-due
@@ -9,8 +10,8 @@ stamp-number-requires-clause-due g c = (and_parts _ _ c.requires.may).0
 pub write_next-requires : goal.write_next-requires
 write_next-requires g c = grind (arith, chosen_left)
 
-pub hand_lent-standing-requires : goal.hand_lent-standing-requires
-hand_lent-standing-requires g c = twin_same A c.write_next.new.out.items c.write_next.ensures.frame.interface
+pub hand_with-standing-requires : goal.hand_with-standing-requires
+hand_with-standing-requires g c = twin_same A c.write_next.new.out.items c.write_next.ensures.frame.interface
 
 pub returns-in_default-clause-serves : goal.returns-in_default-clause-serves
 returns-in_default-clause-serves g c = grind (arith, none_has)
@@ -34,22 +35,29 @@ returns-then-any_up-clause-serves g c =
       },
     )
 
-pub returns-then-any_up-clause-entered : goal.returns-then-any_up-clause-entered
-returns-then-any_up-clause-entered g c =
-    rw c.hand_lent-standing.ensures.same (stream_more c.args.plan.now.id.0 c.args.now _ c.stamp-number.result _ c.write_next.new.out.items _ _
+-- The link's stream has the frame.
+entered : (g : Given.Over) (c : goal.Then-any_up g)
+    → link_stream c.args.plan.now.id.0 (log c.hand_with-standing.new.self)
+    ≡ link_stream c.args.plan.now.id.0 (log c.args.mux.now) ++ entry c.args.now c.write_next.new.out.items ∷ []
+entered g c =
+    stream_more c.args.plan.now.id.0 c.args.now _ c.stamp-number.result c.args.plan.now.networks
+    c.write_next.new.out.items c.args.mux.now c.hand_with-standing.new.self
     (frame_at _ _ _ _ _ c.index-subs-sub.result _ _ c.in-Some.ensures.chosen c.requires.named c.write_next.ensures.frame)
-    (c.hand_lent-standing.ensures.enters (grind arith)))
+    (grind arith)
+
+pub returns-then-any_up-clause-counted : goal.returns-then-any_up-clause-counted
+returns-then-any_up-clause-counted g c = grind (arith, entered g c)
 
 pub returns-then-any_up-clause-paced : goal.returns-then-any_up-clause-paced
 returns-then-any_up-clause-paced g c =
-    follows_more c.args.now c.in-Some.sub c.write_next.new.out.items _ _ _ _ c.requires.paced
-    (rw c.hand_lent-standing.ensures.same at (returns-then-any_up-clause-entered g c))
+    follows_more c.args.now c.in-Some.sub c.write_next.new.out.items _ _ _ _ c.requires.paced (entered g c)
     (frame_at _ _ _ _ _ c.index-subs-sub.result _ _ c.in-Some.ensures.chosen c.requires.named
     c.write_next.ensures.frame).of_sub
     c.stamp-number.ensures.last c.stamp-number.ensures.next
 
 pub returns-then-any_up-clause-same : goal.returns-then-any_up-clause-same
-returns-then-any_up-clause-same g c = grind (arith, set_same)
+returns-then-any_up-clause-same g c =
+    set_same _ _ _ _ c.index-subs-sub.result _ c.write_next.new.out.items c.in-Some.ensures.chosen (grind arith)
 
 pub returns-else-any_up-clause-serves : goal.returns-else-any_up-clause-serves
 returns-else-any_up-clause-serves g c =
@@ -66,8 +74,9 @@ returns-else-any_up-clause-serves g c =
       },
     )
 
-pub returns-else-any_up-clause-entered : goal.returns-else-any_up-clause-entered
-returns-else-any_up-clause-entered g c = grind (arith, log_same, append-nil)
+pub returns-else-any_up-clause-counted : goal.returns-else-any_up-clause-counted
+returns-else-any_up-clause-counted g c = grind (arith, log_same)
 
 pub returns-else-any_up-clause-same : goal.returns-else-any_up-clause-same
-returns-else-any_up-clause-same g c = grind (arith, set_same)
+returns-else-any_up-clause-same g c =
+    set_same _ _ _ _ c.index-subs-sub.result _ c.write_next.new.out.items c.in-Some.ensures.chosen (grind arith)

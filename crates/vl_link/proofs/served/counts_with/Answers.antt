@@ -1,6 +1,6 @@
 use Rattle.vl_link.proofs.Names.{ℕ, ◌+◌, refl, ◌≡◌, List, [], ◌∷◌, ◌++◌, cond, arith, sum_by-append, filter-append, Entry, ends_message, messages_ended, moment_after}
 use Rattle.std.proofs.Common.{length-append}
-use Rattle.vl_link.proofs.served.counts_after.Goals as goal
+use Rattle.vl_link.proofs.served.counts_with.Goals as goal
 
 messages_push : (stream : List Entry) (e : Entry) → messages_ended (stream ++ e ∷ []) ≡ messages_ended stream + cond (ends_message e) 1 0
 messages_push stream e = grind (arith, filter-append, length-append)
@@ -9,5 +9,5 @@ moment_push : (at : ℕ) (stream : List Entry) (e : Entry) → moment_after at (
 moment_push at [] e = refl
 moment_push at (x ∷ stream) e = moment_push x.at stream e
 
-pub returns-in-Released : goal.returns-in-Released
-returns-in-Released c = grind (arith, length-append, sum_by-append, messages_push, moment_push)
+pub returns : goal.returns
+returns c = grind (arith, length-append, sum_by-append, messages_push, moment_push)
