@@ -75,6 +75,7 @@ impl Found {
 pub(crate) type Added = Result<(), AllocError>;
 
 /// The index after the last finding of a fault with no greater number.
+#[tactic(auto, using(std::proofs::lemmas::Grind::common_steps, crate::proofs::OrderLemmas::index_found, crate::proofs::OrderLemmas::before_one))]
 fn index_of(first: &[Finding], fault: ConfigFault) -> usize
     ensures within { result ≤ length first.now }
     ensures put { (x : Told) → x.fault ≡ fault → IsOrdered (map finding_of first.now) →

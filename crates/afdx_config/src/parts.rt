@@ -95,6 +95,7 @@ fn port_plans(alloc: Global, tables: &[&Table]) -> Result<Vec<PortPlan>, AllocEr
 }
 
 /// Converts a document.
+#[tactic(auto, using(std::proofs::lemmas::Grind::common_steps, crate::proofs::SoundLemmas::plan_parts))]
 pub(crate) fn parts_of(alloc: Global, document: &Document<'_>) -> Result<Parts, AllocError>
     requires { IsDocument document.now }
     ensures value { IfOk result (λ parts. plan_in parts ≡ plan_of (data_of document.now)) }

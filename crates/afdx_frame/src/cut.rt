@@ -124,6 +124,7 @@ impl Cut {
     }
 
     /// Whether all pieces were given.
+    #[tactic(auto, using(crate::proofs::CuttingLemmas::left_none, crate::proofs::CuttingLemmas::left_only))]
     pub fn is_done(&self) -> bool
         ensures { (room : ℕ) → IsTrue result ↔ (pieces_left room self.now ≡ []) }
     {
@@ -131,6 +132,7 @@ impl Cut {
     }
 
     /// Frees the message's memory, once all pieces were given. None is left afterwards.
+    #[tactic(auto, using(crate::proofs::CuttingLemmas::left_none))]
     #[inline(always)]
     pub fn release(&mut self)
         requires done { (room : ℕ) → pieces_left room self.old ≡ [] }

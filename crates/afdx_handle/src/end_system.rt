@@ -190,6 +190,7 @@ impl EndSystem {
     }
 
     /// The length in all of the frames that the last poll made for a network.
+    #[tactic(auto, using(crate::proofs::MadeFrames::bytes_more))]
     fn made_bytes(&self, net: Net) -> usize
         ensures { result ≡ bytes_of (all_made net self.now) }
     {

@@ -32,9 +32,6 @@ other_length other is = grind arith
 pub below_one : (P : ℕ → Type 0) → P 0 → (k : ℕ) → k < 1 → P k
 below_one P p k below = grind arith
 
-pub below_both : (P : ℕ → ℕ → Type 0) (most : ℕ → ℕ) → most 0 ≡ 1 → P 0 0 → (k s : ℕ) → k < 1 → s < most k → P k s
-below_both P most one p k s in_k in_s = grind arith
-
 pub fails_by : {P Q : Type 0} → (P → Q) → (Q → ⊥) → BothFail P Q
 fails_by law fails = grind arith
 

@@ -20,7 +20,7 @@ pub use Rattle.afdx_plan.specs.Plan.{is_both, identification, sequence_number, I
 pub use Rattle.afdx_plan.specs.declared.link_plan.LinkPlan.{LinkPlan}
 pub use Rattle.afdx_plan.specs.declared.link_plan.Networks.{Networks}
 pub use Rattle.afdx_plan.specs.declared.link_plan.Networks.TheVariants.{Both, OnlyA, OnlyB}
-pub use Rattle.afdx_frame.proofs.CuttingLemmas.{cut_last, cut_more, cutting_some, step_le}
+pub use Rattle.afdx_frame.proofs.CuttingLemmas.{cutting_some, step_le}
 pub use Rattle.afdx_frame.proofs.Says.{length-frame, payload_says, says, total_ok}
 pub use Rattle.afdx_frame.proofs.Twins.{twin_link, twin_number, twin_same, twin_sub, twin_twice}
 unfoldable pub use Rattle.afdx_frame.specs.Checksum.{checksum}

@@ -40,6 +40,7 @@ pub fn exactly_once()
 /// `AreClose`): see `both_begin`. Otherwise a receiver accepts a later frame first, and drops those before it as old
 /// copies. The law does not cover the time after the whole network stopped: then a frame that the other one loses stops
 /// the receiver until the numbers wrap around.
+#[tactic(auto, using(crate::proofs::Losing::loss_masked_holds, crate::proofs::WorkedMessage::masks_one_loss, crate::proofs::WorkedMessage::needs_the_first))]
 pub fn loss_masked()
     ensures masked { LossMasked }
     ensures worked { MasksOneLoss }
@@ -93,6 +94,7 @@ pub fn skew_is_near()
 ///
 /// It keeps a buffer for each identification, as many as it needs, and never discards one. The law does not cover
 /// fragments of one sub-VL that arrive out of order.
+#[tactic(auto, using(crate::proofs::InOrder::in_order_holds, crate::proofs::WorkedPieces::first_is_given, crate::proofs::WorkedPieces::needs_order))]
 pub fn in_order()
     ensures ordered { InOrder }
     ensures worked { FirstIsGiven }

@@ -1,5 +1,5 @@
 -- An emitter with one closed sub-VL is still sound, and the total is what it accepted.
-use Rattle.afdx_tx.proofs.Names.{ℕ, ◌≡◌, ◌<◌, ◌≤◌, List, length, set, arith, subst, Result, Ok, Err, OnErr, IfOk, cases_lt, length-set, get_or_past, Plan, IsPlan, link_plan_at, queue_of, Held, LinkState, held_at, link_at, no_link, ClosesLink, Tx, queues_in, LacksSub, ClosesTx, Some, length-map, known_of, total_of, nothing_held, sent_of, total_in, PortView, accepted_in, IsGatheredTx}
+use Rattle.afdx_tx.proofs.Names.{ℕ, ◌≡◌, ◌<◌, ◌≤◌, List, length, set, arith, subst, Result, OnErr, IfOk, cases_lt, length-set, get_or_past, Plan, IsPlan, link_plan_at, queue_of, Held, LinkState, held_at, link_at, no_link, ClosesLink, Tx, queues_in, LacksSub, ClosesTx, Some, length-map, total_in, PortView, accepted_in, IsGatheredTx}
 use Rattle.afdx_tx.proofs.SoundEmitter.{alike_queues}
 use Rattle.afdx_tx.proofs.KeptLinks.{KeepsSub, KeepLinks, one_link, one_count, one_each}
 

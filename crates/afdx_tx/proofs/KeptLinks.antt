@@ -1,5 +1,5 @@
 -- Links one of whose sub-VLs has changed, or only their queues, and the counts published of them.
-use Rattle.afdx_tx.proofs.Names.{ℕ, ◌≡◌, ◌<◌, List, length, arith, refl, sym, subst, Plan, Entry, Lines, log, taken_of, Held, LinkState, held_at, link_at, HasOwnItems, IsLinkOfPlan, taken_by, IsKept, IsSound, set, length-set, get_or-set_other, each_set, no_link, nothing_held, ◌≤◌, [], Published, published, with_entry, Reaches}
+use Rattle.afdx_tx.proofs.Names.{ℕ, ◌≡◌, ◌<◌, List, length, arith, refl, sym, subst, Plan, Entry, Lines, log, taken_of, Held, LinkState, held_at, link_at, HasOwnItems, IsLinkOfPlan, taken_by, IsKept, IsSound, set, length-set, get_or-set_other, each_set, no_link, ◌≤◌, [], Published, published, with_entry, Reaches}
 use Rattle.afdx_tx.proofs.SoundEmitter.{plans_after}
 
 -- a sub-VL whose queue may have changed, without any message taken

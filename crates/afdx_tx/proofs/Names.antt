@@ -28,7 +28,7 @@ pub use Rattle.afdx_tx.specs.Ports.{AreOpenedWith, BelongsTo, HasEveryPlace, Has
 pub use Rattle.afdx_tx.specs.Report.{IsTold, release_of, turn_release}
 pub use Rattle.afdx_tx.specs.Phases.{Conforms, IsPolling, IsSteady, TellsAllDone}
 pub use Rattle.afdx_tx.specs.declared.report.Release.{Release}
-pub use Rattle.redundant_mux.proofs.MirroredLines.{both_hands, both_none, both_on, stood_before}
+pub use Rattle.redundant_mux.proofs.MirroredLines.{both_none, both_on, stood_before}
 pub use Rattle.redundant_mux.proofs.MirroredLines.{entries_append, fresh_in_step, fresh_lines, fresh_log, log_more, log_same}
 pub use Rattle.redundant_mux.specs.Lines.{Entry, entry, BothEndure, IsMirrored, Keeps, Lines, any_up, Logged, entries_of, logged_for, names, only, sent_to, side}
 unfoldable pub use Rattle.redundant_mux.specs.Lines.{log}
@@ -49,9 +49,9 @@ pub use Rattle.std.specs.Vec.{with_items}
 pub use Rattle.subvl_queue.specs.Messages.{AreItems, IsItem, most_calls, part_of}
 pub use Rattle.subvl_queue.specs.Views.{Brought, QueueName, ReceiverView, SenderView, brought_by, new_receiver, new_sender}
 pub use Rattle.vl_link.proofs.Choosing.{each_set}
-pub use Rattle.vl_link.proofs.LinkTurn.{HasItems, IsOwn, Turned, kept_stream, kept_turn, link_turn, other_stream, released_below}
+pub use Rattle.vl_link.proofs.LinkTurn.{HasItems, IsOwn, Turned, kept_stream, kept_turn, link_turn, other_stream}
 pub use Rattle.vl_link.proofs.QueueLooks.{items_taken, same_name, same_total}
-pub use Rattle.vl_link.proofs.TurnLaws.{choice_below, may_not, turn_endures, turn_seen, turns_endure, turns_push, turns_seen}
+pub use Rattle.vl_link.proofs.TurnLaws.{choice_below, turn_endures, turn_seen, turns_endure, turns_push, turns_seen}
 pub use Rattle.vl_link.specs.Calls.{Closes, ClosesLink, ClosesSub, BecomesDue, RestsUntil, StaysAsIs, BecomesWhole, GathersLink}
 pub use Rattle.vl_link.specs.Kept.{IsBehind, IsKept, IsLinkTied, IsTied}
 pub use Rattle.vl_link.specs.Calls.{LacksSender, LinkMakesSender, LinkTakesBack, MakesSender, SubMakesSender, TakesBack, back_of}

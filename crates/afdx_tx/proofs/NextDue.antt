@@ -1,5 +1,5 @@
 -- The first time at which one link more becomes due.
-use Rattle.afdx_tx.proofs.Names.{ℕ, ◌≡◌, ◌+◌, subst, arith, inl, inr, false, LinkState, link_at, Lines, List, Option, Some, None, ◌^◌, min, cases_lt, MatchOption, may_release, RestsUntil, BecomesDue, StaysAsIs, NoneDueBefore, IsFirstDue, earlier}
+use Rattle.afdx_tx.proofs.Names.{ℕ, ◌≡◌, ◌+◌, arith, inl, inr, false, LinkState, link_at, Lines, List, Option, Some, None, ◌^◌, min, cases_lt, MatchOption, may_release, RestsUntil, BecomesDue, StaysAsIs, NoneDueBefore, IsFirstDue, earlier}
 
 -- One link more.
 none_more : (now : ℕ) (links : List LinkState) (lines : Lines) (many until : ℕ) → NoneDueBefore now links lines many until

@@ -1,5 +1,5 @@
 -- The queues of an emitter take back the senders of its ports.
-use Rattle.afdx_tx.proofs.Names.{ℕ, zero, suc, ◌≡◌, ◌+◌, ◌<◌, ◌≤◌, List, [], ◌∷◌, Bool, true, false, cond, length, set, arith, refl, ap, ◌∙◌, sym, ⊎_elim, All, Contains, and_parts, eqb-true, length-set, get_or-set_same, All-contains, Contains-push, Contains-append_left, VlId, PortPlan, Plan, IsPlan, link_plan_at, port_plan_at, link_place, SenderView, Brought, brought_by, Seen, receiving, gathered, Held, LinkState, held_at, link_at, no_link, TakesBack, back_of, LinkTakesBack, AreLinksOf, AreReceiving, ports_of_sub, queues_in, PortView, HasEveryPlace, BelongsTo, HasOwnMessages, index_of, OnlyTakesBack, OnlyTakeBack, IsTakenBack, AreFull}
+use Rattle.afdx_tx.proofs.Names.{ℕ, zero, suc, ◌≡◌, ◌+◌, ◌<◌, ◌≤◌, List, [], ◌∷◌, Bool, true, false, cond, length, set, arith, refl, ap, ◌∙◌, sym, ⊎_elim, All, Contains, and_parts, eqb-true, length-set, get_or-set_same, All-contains, Contains-push, Contains-append_left, PortPlan, Plan, IsPlan, link_plan_at, port_plan_at, link_place, SenderView, Brought, brought_by, Seen, receiving, gathered, Held, LinkState, held_at, link_at, no_link, TakesBack, back_of, LinkTakesBack, AreLinksOf, AreReceiving, ports_of_sub, queues_in, PortView, HasEveryPlace, BelongsTo, HasOwnMessages, index_of, OnlyTakesBack, OnlyTakeBack, IsTakenBack, AreFull}
 use Rattle.std.proofs.Math.Seq.{take-length}
 use Rattle.afdx_tx.proofs.KeptLinks.{one_link, one_count, one_each}
 use Rattle.afdx_tx.proofs.SoundEmitter.{plan_is, count_is}

@@ -92,6 +92,7 @@ impl<A: Network + Drop, B: Network + Drop, P: Phase> Emitter<A, B, P> {
     }
 
     /// Returns the two networks.
+    #[tactic(auto, using(crate::proofs::Conforming::of_ports))]
     pub fn into_networks(self) -> (A, B)
         ensures a { A.handed result.0 ≡ self.lines.a }
         ensures b { B.handed result.1 ≡ self.lines.b }

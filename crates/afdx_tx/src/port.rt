@@ -122,6 +122,7 @@ impl TxPort {
 
     /// As `send`. If the message is accepted, `pause` runs before the message can be taken; if it
     /// is refused, `pause` doesn't run.
+    #[tactic(auto, using(std::proofs::lemmas::Grind::common_steps))]
     pub fn send_with<F: FnOnce()>(&mut self, bytes: Vec<u8>, pause: F) -> Result<(), SendFault>
     where
         F: Drop,

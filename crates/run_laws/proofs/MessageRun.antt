@@ -1,5 +1,5 @@
 -- The law of a message in a run of polls.
-use Rattle.run_laws.proofs.Names.{ℕ, ◌≡◌, ◌⊎◌, ◌+◌, ◌-◌, ◌*◌, ◌<◌, ◌≤◌, List, [], ◌∷◌, ◌++◌, Bool, nat_lt, length, map, take, drop, arith, refl, ap, ◌∙◌, sym, None, inl, inr, ⊎_elim, All, suc-mul, mul-le, cases_lt, lt-ltb, le-ltb, append_assoc, length-append, take-append-drop, length-drop, All-head, All-drop, Plan, IsPlan, link_plan_at, IsLink, bag_micros, link_place, room_of, LinkPlan, A, Sent, fragments_at, fragments_from, Entry, Lines, no_link_plan, latest, IsPrefixOf, Accepted, IsAllowed, IsDrained, stream_at, cons_parts, cons_same, all_front, pieces_of, port_pieces, most_pieces, queued_before, message_wait, worst_wait, AreTimely, fragments_of, seen_of, HasPlace, FindsIt, MessageInRun}
+use Rattle.run_laws.proofs.Names.{ℕ, ◌≡◌, ◌⊎◌, ◌+◌, ◌-◌, ◌*◌, ◌<◌, ◌≤◌, List, [], ◌∷◌, ◌++◌, Bool, nat_lt, length, map, take, drop, arith, refl, ap, ◌∙◌, sym, None, inl, inr, ⊎_elim, All, suc-mul, mul-le, cases_lt, le-ltb, append_assoc, length-append, take-append-drop, length-drop, All-head, All-drop, Plan, IsPlan, link_plan_at, bag_micros, link_place, room_of, LinkPlan, A, Sent, fragments_at, fragments_from, Entry, Lines, latest, IsPrefixOf, Accepted, IsAllowed, IsDrained, stream_at, cons_parts, all_front, pieces_of, port_pieces, most_pieces, queued_before, message_wait, worst_wait, AreTimely, fragments_of, seen_of, HasPlace, FindsIt, MessageInRun}
 use Rattle.afdx_tx.proofs.OwnLengths.{own_link}
 use Rattle.run_laws.proofs.PollStep.{StandsAt, StepsAt, emitter_step, drain_step, emitter_endures, drain_endures}
 use Rattle.run_laws.proofs.Ran.{some_gap, at_of, seen_both, seen_append, adds_seen, timely_rise, splits, AreSteps, have_run, all_back}

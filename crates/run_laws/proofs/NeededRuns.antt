@@ -1,5 +1,5 @@
 -- The cases in which a premise of the law of a message in a run fails, by computation.
-use Rattle.run_laws.proofs.Names.{List, blanked, ap, ◌∙◌, cons_parts, slice_index, true, Served, sym, append-nil, drop, IsQueued, All, ◌≡◌, ℕ, zero, suc, ◌<◌, ◌≤◌, [], ◌∷◌, ◌++◌, length, refl, arith, inl, inr, All-nil, All-from_recursion, ⊎_elim, below_one, below_both, false≢true, A, cutting, fragments_at, addresses, header_front, internet_header, link_header, udp_header, datagram, unnumbered, Entry, entry, Lines, log, Nothing, Released, Drains, Held, Passes, held_at, IsAllowed, stream_at, EmitterPolls, AreTimely, AreFinding, IsAccepted, fragments_of, seen_of}
+use Rattle.run_laws.proofs.Names.{blanked, cons_parts, true, Served, sym, append-nil, drop, IsQueued, All, ◌≡◌, ℕ, zero, suc, ◌<◌, [], ◌∷◌, ◌++◌, length, refl, arith, inr, ⊎_elim, below_one, false≢true, A, cutting, fragments_at, addresses, header_front, internet_header, link_header, udp_header, datagram, unnumbered, entry, Lines, log, Nothing, Released, Drains, Held, Passes, held_at, stream_at, EmitterPolls, AreTimely, AreFinding, IsAccepted, fragments_of, seen_of}
 use Rattle.std.specs.Prelude.{replicate}
 use Rattle.afdx_frame.specs.Checksum.{checksum}
 use Rattle.subvl_queue.specs.Views.{after_take, ReceiverView, looked}

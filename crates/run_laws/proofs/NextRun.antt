@@ -1,6 +1,6 @@
 -- The law of the next fragment in a run of polls.
 use Rattle.vl_link.proofs.MessageEnds.{not_begun}
-use Rattle.run_laws.proofs.Names.{ℕ, ◌≡◌, ◌≢◌, ◌⊎◌, ◌+◌, ◌<◌, ◌≤◌, List, [], ◌∷◌, ◌++◌, Bool, true, map, length, arith, refl, ap, ◌∙◌, subst, Option, Some, None, inl, inr, ⊎_elim, All, nat_tests, cases_eq, eq-eqb, append_assoc, All-cons, All-nil, All-head, Plan, IsPlan, link_plan_at, sub_in, Entry, Poll, ArePolled, latest_poll, none_begun, begun_after, begun_by, stamp_of, latest, latest_push, stream_at, link_wait, seen_of, ComeWithin, latest_of, NextInRun, EmitterPolls, DrainPolls, ComesBy, next_polled_in_time, wait_at}
+use Rattle.run_laws.proofs.Names.{ℕ, ◌≡◌, ◌≢◌, ◌⊎◌, ◌+◌, ◌<◌, ◌≤◌, List, [], ◌∷◌, ◌++◌, Bool, true, map, length, arith, refl, Option, Some, None, inl, inr, ⊎_elim, All, nat_tests, cases_eq, eq-eqb, append_assoc, All-nil, All-head, Plan, IsPlan, link_plan_at, sub_in, Entry, Poll, ArePolled, latest_poll, none_begun, begun_after, begun_by, stamp_of, latest, latest_push, stream_at, link_wait, seen_of, ComeWithin, latest_of, NextInRun, EmitterPolls, DrainPolls, ComesBy, next_polled_in_time, wait_at}
 use Rattle.afdx_legal.specs.Streams.{more_in}
 use Rattle.run_laws.proofs.PollStep.{Adds, gap_at, subs_at, emitter_step, emitter_lacks, drain_step, emitter_endures, drain_endures}
 use Rattle.run_laws.proofs.Ran.{at_of, Rise, splits, left, AreSteps, have_run, some_gap, all_back}

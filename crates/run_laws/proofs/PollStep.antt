@@ -1,12 +1,9 @@
 -- What a turn of a link, and a poll of all links, does to the stream of one of them.
-use Rattle.run_laws.proofs.Names.{ℕ, zero, suc, ◌≡◌, ◌≢◌, ◌+◌, ◌<◌, List, [], ◌∷◌, ◌++◌, Bool, true, false, ◌&&◌, ◌||◌, nat_eq, arith, refl, ap, ◌∙◌, sym, subst, Option, Some, None, inl, inr, ⊎_elim, ◌≤◌, length, nat_tests, both_ways, cases_eq, and_from, eq-eqb, LinkPlan, sub_in, Entry, entry, Lines, any_up, log, BothEndure, Pace, turn_of, IsServed, Served, Nothing, Released, Lost, TurnView, Turn, AreTurns, pace_of, Held, LinkState, held_at, link_at, taken_by, held_view, Passes, none_begun, begun_by, latest, link_stream, sub_stream, told, All, append-nil, All-weaker, Plan, IsPlan, link_plan_at, bag_micros, room_of, A, Sent, stood_before, turns_endure, turns_seen, Accepted, IsQueued, AreQueued, Tx, IsTurnAt, DrainsAt, IsDrained, accepted_view, stream_at, IsReadyFor, EmitterPolls}
-use borrow.Author.Count.{below_more}
-use Rattle.redundant_mux.proofs.MirroredLines.{log_same}
+use Rattle.run_laws.proofs.Names.{ℕ, zero, suc, ◌≡◌, ◌≢◌, ◌+◌, ◌<◌, List, [], ◌∷◌, ◌++◌, Bool, true, false, ◌&&◌, ◌||◌, nat_eq, arith, refl, sym, Option, Some, None, inl, inr, ⊎_elim, length, nat_tests, both_ways, cases_eq, and_from, eq-eqb, LinkPlan, sub_in, Entry, entry, Lines, any_up, log, BothEndure, turn_of, IsServed, Served, Nothing, Released, Lost, TurnView, Turn, AreTurns, pace_of, link_at, held_view, none_begun, begun_by, latest, link_stream, append-nil, Plan, IsPlan, link_plan_at, bag_micros, turns_endure, turns_seen, Accepted, Tx, IsTurnAt, DrainsAt, IsDrained, accepted_view, stream_at, IsReadyFor, EmitterPolls}
 use Rattle.vl_link.proofs.Choosing.{stream_more}
 use Rattle.vl_link.proofs.LinkTurn.{other_turn, turn_at}
 use Rattle.vl_link.proofs.TurnLaws.{turn_endures}
-use Rattle.vl_link.specs.Kept.{IsLinkTied}
-use Rattle.vl_link.proofs.MessageEnds.{IsShort, not_begun}
+use Rattle.vl_link.proofs.MessageEnds.{not_begun}
 
 -- What a poll adds to a stream: the frame that it released, of this sub-VL, if it released one.
 abbrev pub Adds : ℕ → Option ℕ → (S T : List Entry) → Type 0

@@ -1,5 +1,5 @@
 -- A run of polls, as the polls of one link, and what it adds to the stream of the link.
-use Rattle.run_laws.proofs.Names.{ℕ, ◌≡◌, ◌+◌, ◌<◌, ◌≤◌, List, [], ◌∷◌, ◌++◌, Bool, true, ◌&&◌, cond, nat_eq, nat_le, arith, refl, ap, ◌∙◌, sym, Option, Some, None, inl, inr, ◌-◌, ◌*◌, length, map, subst, All, nat_tests, cases_lt, All-cons, All-nil, All-drop, filter-append, append_assoc, append-nil, length-append, map-append, Plan, bag_ms, sub_in, Entry, entry, Lines, BothEndure, both_none, stood_before, Poll, is_of, released_by, IsServed, AreServed, HasAtPolls, latest, latest_push, stream_at, ArePolls, AreTimely, seen_of}
+use Rattle.run_laws.proofs.Names.{ℕ, ◌≡◌, ◌+◌, ◌<◌, ◌≤◌, List, [], ◌∷◌, ◌++◌, Bool, true, ◌&&◌, cond, nat_eq, nat_le, arith, refl, Option, Some, None, inl, inr, ◌-◌, ◌*◌, length, map, subst, All, nat_tests, cases_lt, All-drop, filter-append, append_assoc, append-nil, length-append, map-append, Plan, bag_ms, sub_in, Entry, entry, Lines, BothEndure, stood_before, Poll, is_of, released_by, IsServed, AreServed, HasAtPolls, latest, latest_push, stream_at, ArePolls, AreTimely, seen_of}
 use Rattle.std.proofs.lemmas.List.Sums.{sum_by-cons}
 use Rattle.std.proofs.Math.Seq.{drop-append_seam}
 use Rattle.afdx_plan.specs.declared.link_plan.Bag.{Bag}

@@ -1,6 +1,6 @@
 -- How long a sub-VL waits if polls come when its link is due.
 use Rattle.run_laws.proofs.Names.{ℕ, suc, zero, ◌≡◌, ◌⊎◌, ◌+◌, ◌-◌, ◌*◌, ◌%◌, ◌<◌, ◌≤◌, List, [], ◌∷◌, true, cond, arith, refl, ap, ◌∙◌, Option, Some, None, inl, inr, map, mul-suc, mul-le, cases_lt, cases_eq, eq-eqb, le-leb, turn_of, IsLater, Poll, IsServed, AreServed, HasAtPolls, is_of, released_by, ComeWithin, latest_of, ComesIn, AreTimely, ApartAreTimely}
-use Rattle.std.proofs.Math.Nat.{mod-add-mod, mod-lt}
+use Rattle.std.proofs.Math.Nat.{mod-add-mod}
 use Rattle.vl_shaper.specs.Pace.{Choice, next_turn, IsChosen}
 use Rattle.vl_shaper.specs.declared.shaper.Stamp.{Stamp}
 use Rattle.vl_shaper.proofs.OneEach.{back, back_lt, back_self, chosen_behind, turn_cases}

@@ -65,6 +65,7 @@ impl Model for Writer {
 }
 
 // One end of a cell hears what the other knows of the history.
+#[tactic(auto, using(crate::proofs::Steps::tells, crate::proofs::Steps::hears))]
 fn tell(cell: &Cell, teller: &mut Knowing, hearer: &mut Knowing)
     requires teller { teller.old.table_id ≡ cell.now.table.shared.table_id }
     requires hearer { hearer.old.table_id ≡ cell.now.table.shared.table_id }

@@ -11,6 +11,7 @@ use std::sync::Arc;
 
 /// Opens a board of `links` links on which nothing was published, and its monitor. Makes all allocations that the two
 /// need.
+#[tactic(auto, using(std::proofs::lemmas::Grind::common_steps))]
 pub fn open_board(alloc: Global, links: usize) -> Result<(Board, Monitor), AllocError>
     ensures board { IfOk result (λ r. length r.0 ≡ links) }
     ensures monitor { IfOk result (λ r. links_of r.1 ≡ links) }

@@ -48,6 +48,7 @@ fn send_on(port: &mut TxPort, bytes: Vec<u8>, turns: &mut u64) -> Result<(), Sto
 }
 
 /// Sends a port's messages from 1 on, each once the gate lets it in.
+#[tactic(auto, using(std::proofs::lemmas::Grind::common_steps))]
 pub(crate) fn work<G: Gate>(
     alloc: Global,
     port: &mut TxPort,

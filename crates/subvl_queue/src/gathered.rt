@@ -62,6 +62,7 @@ impl Gathered {
     }
 
     /// Whether all accepted messages were taken.
+    #[tactic(auto, using(crate::proofs::Parts::tells))]
     pub fn is_drained(&self) -> bool
         ensures { TellsLeft result self.now.left }
     {

@@ -83,6 +83,7 @@ impl Receiver {
     /// Makes one more sender, with the next index, for at most `calls` slot requests, up to 2^40. A
     /// queue has at most 64 senders, and makes none once one was taken back. If an allocation
     /// fails, nothing changes.
+    #[tactic(auto, using(crate::proofs::Senders::none_joined))]
     pub fn new_sender(&mut self, calls: u64) -> Result<Sender, AllocError>
         requires few { self.old.ports < 64 }
         requires none_back { self.old.back ≡ [] }

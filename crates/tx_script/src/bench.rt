@@ -51,6 +51,7 @@ impl Bench {
 
     /// The two networks, with the frames sent to them. All ports are taken back first, so all that was
     /// accepted is known.
+    #[tactic(auto, using(crate::proofs::Finding::none_missing))]
     pub fn into_networks(self) -> (FrameLog, FrameLog)
         ensures a { result.0.handed ≡ self.tx.lines.a }
         ensures b { result.1.handed ≡ self.tx.lines.b }
@@ -78,6 +79,7 @@ fn refused_for(why: afdx_tx::Refusal) -> Refusal
 
 /// Sends a message by a port. A script has fewer lines than a port may request slots, so none is
 /// exhausted.
+#[tactic(auto, using(crate::proofs::Sending::sends_refused))]
 fn send_message(port: &mut TxPort, message: Message) -> Outcome
     requires calls { port.old.sender.calls ≡ most_calls }
     requires asks { port.old.sender.asks ≤ LINES_LIMIT }
@@ -132,6 +134,7 @@ fn obey_close(bench: &mut Bench, vl: u16, sub: u8) -> Outcome
 }
 
 /// Obeys a line. The only fault is Memory; then the line sent no message and closed no sub-VL.
+#[tactic(auto, using(crate::proofs::Sending::obeys_still))]
 pub fn obey(bench: &mut Bench, line: Line) -> Result<Outcome, RunFault>
     requires { HaveAsked LINES_LIMIT bench.old.ports }
     ensures ok { IfOk result (Obeys line bench.old bench.new) }

@@ -1,4 +1,3 @@
-use Rattle.afdx_tx.proofs.Names.{arith}
 use Rattle.afdx_tx.proofs.TakenBack.{full_back}
 use Rattle.afdx_tx.proofs.gather.gather_links.Goals as goal
 

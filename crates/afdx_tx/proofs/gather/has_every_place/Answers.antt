@@ -1,4 +1,4 @@
-use Rattle.afdx_tx.proofs.Names.{arith, below_more}
+use Rattle.afdx_tx.proofs.Names.{below_more}
 use Rattle.afdx_tx.proofs.gather.has_every_place.Goals as goal
 
 pub loop-place-preserved : goal.loop-place-preserved

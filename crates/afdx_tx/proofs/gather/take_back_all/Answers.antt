@@ -1,4 +1,4 @@
-use Rattle.afdx_tx.proofs.Names.{rules, map-id, ◌≡◌, ◌<◌, ◌∙◌, length, get_or, set, arith, ap, get_or_default, All-push, All-weaker, PortPlan, link_place, link_at, no_link, queues_in, BelongsTo, queue_for, queue_at, IsTakenBack}
+use Rattle.afdx_tx.proofs.Names.{rules, map-id, ◌≡◌, ◌<◌, length, get_or, set, arith, get_or_default, All-push, All-weaker, link_at, no_link, queues_in, BelongsTo, IsTakenBack}
 use Rattle.std.proofs.lemmas.Iterator.Adapters.{YieldsList-from_vec}
 use Rattle.std.proofs.lemmas.Iterator.Consumers.{YieldsList-end, YieldsList-turn}
 use Rattle.afdx_tx.proofs.SoundEmitter.{count_is}

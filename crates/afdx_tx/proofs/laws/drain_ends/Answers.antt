@@ -1,4 +1,3 @@
-use Rattle.afdx_tx.proofs.Names.{arith}
 use Rattle.afdx_tx.proofs.DrainEnding.{drain_ends_holds}
 use Rattle.afdx_tx.proofs.WorkedDrain.{drains_one, needs_its_polls}
 use Rattle.afdx_tx.proofs.laws.drain_ends.Goals as goal

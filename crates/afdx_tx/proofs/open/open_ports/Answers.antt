@@ -1,5 +1,5 @@
 use Rattle.afdx_tx.proofs.OpenedPorts.{opened_more}
-use Rattle.afdx_tx.proofs.Names.{[], ◌∷◌, length, refl, arith, ap, get_or_default, length-append, most_calls, no_link, queues_in, IsFreshPort}
+use Rattle.afdx_tx.proofs.Names.{refl, arith, get_or_default, length-append, most_calls, no_link, queues_in, IsFreshPort}
 use Rattle.afdx_tx.proofs.PortLink.{place_at}
 use Rattle.afdx_tx.proofs.OpenedPorts.{each_push, lacks_at, names_more, fresh_port}
 use Rattle.afdx_tx.proofs.open.open_ports.Goals as goal

@@ -1,4 +1,4 @@
-use Rattle.afdx_tx.proofs.Names.{arith, ◌∙◌, sym}
+use Rattle.afdx_tx.proofs.Names.{arith}
 use Rattle.afdx_tx.proofs.PortLink.{found, found_over}
 use Rattle.afdx_tx.proofs.routing.link_of.Goals as goal
 

@@ -1,4 +1,4 @@
-use Rattle.afdx_tx.proofs.Names.{arith, ℕ, ◌≡◌, ◌∙◌, ◌<◌, List, length, get_or, sym, get_or_default, LinkPlan, link_plan_at, no_link_plan}
+use Rattle.afdx_tx.proofs.Names.{arith, ℕ, ◌≡◌, ◌<◌, List, length, get_or, get_or_default, LinkPlan, link_plan_at}
 use Rattle.afdx_tx.proofs.PortLink.{none_has, found_at}
 use Rattle.afdx_tx.proofs.ClosedEmitter.{lacks_at}
 use Rattle.afdx_tx.proofs.routing.link_of_sub.Goals as goal

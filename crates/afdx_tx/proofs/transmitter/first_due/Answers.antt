@@ -1,4 +1,4 @@
-use Rattle.afdx_tx.proofs.Names.{arith, ◌≡◌, ◌∙◌, ◌+◌, sym, subst, get_or_default, LinkState, no_link, link_at, ℕ, Option, MatchOption, BecomesDue, StaysAsIs, IsFirstDue}
+use Rattle.afdx_tx.proofs.Names.{arith, ◌≡◌, ◌+◌, sym, subst, get_or_default, link_at, ℕ, Option, IsFirstDue}
 use Rattle.afdx_tx.proofs.NextDue.{first_of_more}
 use Rattle.afdx_tx.proofs.transmitter.first_due.Goals as goal
 

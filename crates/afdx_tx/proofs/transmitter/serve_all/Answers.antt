@@ -1,5 +1,5 @@
 use Rattle.afdx_tx.proofs.PollTurns.{polling_on}
-use Rattle.afdx_tx.proofs.Names.{◌++◌, ◌≡◌, ◌<◌, ◌∙◌, [], rules, ap, sym, length, get_or, arith, and_parts, get_or_default, set-get_or, LinkPlan, link_at, no_link, turn_release}
+use Rattle.afdx_tx.proofs.Names.{◌++◌, ◌≡◌, ◌<◌, ◌∙◌, [], rules, sym, length, get_or, arith, and_parts, get_or_default, set-get_or, link_at, no_link, turn_release}
 use Rattle.afdx_tx.proofs.PollTurns.{turned_at, polling_more}
 use Rattle.afdx_tx.proofs.transmitter.serve_all.Goals.{then-may_release, else-may_release}
 use Rattle.afdx_tx.proofs.transmitter.serve_all.Given

@@ -1,4 +1,3 @@
-use Rattle.run_laws.proofs.Names.{arith}
 use Rattle.run_laws.proofs.EmitterRuns.{waits_its_turn}
 use Rattle.run_laws.proofs.MessageRun.{message_in_run_holds}
 use Rattle.run_laws.proofs.Timely.{apart_timely}

@@ -1,4 +1,3 @@
-use Rattle.run_laws.proofs.Names.{arith}
 use Rattle.run_laws.proofs.EmitterRuns.{comes_in_turn}
 use Rattle.run_laws.proofs.NextRun.{next_in_run_holds}
 use Rattle.run_laws.proofs.KeepReady.{kept_ready}

@@ -1,4 +1,4 @@
-use Rattle.run_laws.proofs.Names.{arith, subst, on_ok_weaker, All-weaker, Plan, Accepted, AreAllowed, IsAllowed, IsQueued, accepted_in}
+use Rattle.run_laws.proofs.Names.{subst, on_ok_weaker, All-weaker, Plan, Accepted, AreAllowed, IsAllowed, IsQueued, accepted_in}
 use Rattle.run_laws.proofs.polling.poll_drain.Goals as goal
 
 pub returns-clause-step : goal.returns-clause-step

@@ -1,4 +1,4 @@
-use Rattle.run_laws.proofs.Names.{arith, refl, on_ok_weaker}
+use Rattle.run_laws.proofs.Names.{arith, on_ok_weaker}
 use Rattle.run_laws.proofs.KeepReady.{kept_ready}
 use Rattle.run_laws.proofs.polling.poll_emitter.Goals as goal
 

@@ -1,4 +1,3 @@
-use Rattle.afdx_tx.proofs.Names.{arith}
 use Rattle.afdx_tx.proofs.draining.Emitter+A+B+Drain.read_last.Goals as goal
 
 -- Only the board has changed.

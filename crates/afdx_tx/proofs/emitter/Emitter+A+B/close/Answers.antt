@@ -1,4 +1,4 @@
-use Rattle.afdx_tx.proofs.Names.{arith, rules}
+use Rattle.afdx_tx.proofs.Names.{rules}
 use Rattle.afdx_tx.proofs.ClosedEmitter.{answered_queues}
 use Rattle.afdx_tx.proofs.emitter.Emitter+A+B.close.Goals as goal
 

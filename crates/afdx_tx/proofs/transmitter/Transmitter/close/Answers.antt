@@ -1,4 +1,4 @@
-use Rattle.afdx_tx.proofs.Names.{◌∙◌, ◌<◌, length, arith, subst, get_or_default, LinkState, no_link, ClosesLink}
+use Rattle.afdx_tx.proofs.Names.{◌∙◌, ◌<◌, length, arith, get_or_default, no_link}
 use Rattle.afdx_tx.proofs.SoundEmitter.{count_is}
 use Rattle.afdx_tx.proofs.KeptLinks.{kept_sound}
 use Rattle.afdx_tx.proofs.ClosedEmitter.{links_closed, closed_kept}

@@ -1,4 +1,4 @@
-use Rattle.afdx_tx.proofs.Names.{arith, refl, ◌≡◌, ◌∙◌, with_items, with_items_is, IsSound, GathersPorts}
+use Rattle.afdx_tx.proofs.Names.{arith, refl, ◌≡◌, with_items, with_items_is, IsSound, GathersPorts}
 use Rattle.afdx_tx.proofs.Conforming.{sound_conforms}
 use Rattle.afdx_tx.proofs.GatheredPorts.{gathers_sound, gathers_reaches, gathers_tx, all_gathered}
 use Rattle.afdx_tx.proofs.OwnLengths.{gathered_allowed}

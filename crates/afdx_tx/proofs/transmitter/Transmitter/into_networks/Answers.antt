@@ -1,4 +1,3 @@
-use Rattle.afdx_tx.proofs.Names.{arith}
 use Rattle.afdx_tx.proofs.Conforming.{sound_conforms}
 use Rattle.afdx_tx.proofs.transmitter.Transmitter.into_networks.Goals as goal
 

@@ -1,4 +1,4 @@
-use Rattle.afdx_tx.proofs.Names.{arith, ◌∙◌, sym, subst, Lines, IsSound}
+use Rattle.afdx_tx.proofs.Names.{arith, sym, subst, Lines, IsSound}
 use Rattle.afdx_tx.proofs.KeptLinks.{reaches_none}
 use Rattle.afdx_tx.proofs.OpenedPorts.{fresh_sound}
 use Rattle.afdx_tx.proofs.transmitter.Transmitter.over.Goals as goal

@@ -1,9 +1,5 @@
 use Rattle.afdx_legal.proofs.StreamLemmas.{counts_more}
 use Rattle.status_board.proofs.Histories.{falls_not_through}
-use Rattle.afdx_tx.proofs.Names.{last_of}
-use Rattle.afdx_tx.proofs.Names.{link_at}
-use Rattle.afdx_tx.proofs.Names.{link_in}
-use Rattle.afdx_tx.proofs.Names.{link_stream}
 use Rattle.afdx_tx.proofs.Names.{with_append}
 use Rattle.afdx_tx.proofs.Names.{◌≡◌, arith, refl, with_items_is, with_items, IsSound, IsSteady, both_none}
 use Rattle.afdx_tx.proofs.SoundEmitter.{count_is, links_apart, sound_after}
