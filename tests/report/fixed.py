@@ -52,7 +52,8 @@ port = [
 ]
 """
 # Plans with the lateness of their polls, and their analyses. In the demonstration 11 fragments may come before the six of a
-# message. In the other plan a port waits for the longest of its sub-VL: port 10 waits 4 (3 * 7 - 1 + 1) 2,250 microseconds.
+# message. In the other plan a port waits for the longest of its sub-VL, and two of four sub-VLs of its link have a port: port
+# 10 waits 2 (3 * 7 - 1 + 1) 2,250 microseconds.
 ANALYSES = {
     (DEMO, 0): """\
 end system 1, polls up to 0 us late
@@ -75,9 +76,9 @@ network    load-kbit/s  share-%  exceeded
       A        880.000     0.88        no
       B        885.313     0.89        no
  port  link sub fragments        wait-us   messages/s
-   10     1   0         1         189000      500.000
-   11     1   0         7         243000       71.428
-   12     1   3         2          63000      250.000
+   10     1   0         1          94500      500.000
+   11     1   0         7         121500       71.428
+   12     1   3         2          31500      250.000
    13     2   0         2         384750        3.906
 """,
 }

@@ -7,7 +7,7 @@ The last line is 'N passed, M failed'.
     python3 tests/report/test_report.py [PLANS]
 
 PLANS small plans, 500 by default, are run as scripts, in each of which one message meets the worst that the others can
-send. It is released no later than its printed wait, and exactly then if each other sub-VL of its link sends.
+send. It is released at exactly its printed wait. In many plans some sub-VLs have no port.
 """
 import html.parser
 import os
@@ -71,7 +71,8 @@ def wanted(plan: Plan, lateness: int) -> Tables:
         link = links[port["vl"]]
         own = pieces(link, port["max"])
         most = max(pieces(link, other["max"]) for other in plan["port"] if (other["vl"], other["sub"]) == (port["vl"], port["sub"]))
-        wait = link["sub_vls"] * (link["capacity"] * most - 1 + own) * (1000 * link["bag_ms"] + lateness)
+        used = len({other["sub"] for other in plan["port"] if other["vl"] == port["vl"]})
+        wait = used * (link["capacity"] * most - 1 + own) * (1000 * link["bag_ms"] + lateness)
         often = decimal(10**6 // (link["bag_ms"] * own), 3)
         tables["ports"].append([*(str(port[key]) for key in ("id", "vl", "sub")), str(own), str(wait), often])
     return tables
@@ -232,7 +233,7 @@ def random_plan(rng: random.Random) -> tuple[str, list[Plan], Plan]:
     link = {"id": 7, "bag_ms": rng.choice((1, 2, 4)), "lmax": rng.choice((64, 72, 100, 200))}
     link |= {"sub_vls": rng.randint(1, 4), "capacity": rng.randint(1, 3), "networks": rng.choice(("both", "a", "b"))}
     subs = range(link["sub_vls"])
-    few = [port_of(10 + sub, 7, sub, rng.randint(1, 300)) for sub in subs if sub == 0 or rng.random() < 0.9]
+    few = [port_of(10 + sub, 7, sub, rng.randint(1, 300)) for sub in subs if sub == 0 or rng.random() < 0.7]
     more = [port_of(20 + i, 7, rng.choice(few)["sub"], rng.randint(1, 300)) for i in range(rng.randint(0, 3))]
     return configuration([link], few + more), few + more, rng.choice(few + more)
 
@@ -272,9 +273,7 @@ def wait_faults(seed: int) -> Iterator[str]:
     lateness = rng.choice((0, 0, 1, 250, 999))
     yield from text_faults("check", text, check_of(tomllib.loads(text)))
     printed, last = worst_wait(text, ports, port, lateness, rng)
-    busy = {other["sub"] for other in ports}
-    every = len(busy) == tomllib.loads(text)["vl"][0]["sub_vls"]
-    if last < 0 or last > printed or (every and last != printed):
+    if last != printed:
         yield f"plan {seed}: port {port['id']} is done at {last}, and its wait is {printed}\n{text}"
 
 

@@ -82,9 +82,9 @@ next_in_time subs gap late stream first between next turns of n follow =
     grind (arith, last_within)
 
 pub next_polled_in_time : NextPolledInTime
-next_polled_in_time subs x gap late released polls xl some served paced has reach =
-    let law = polled_in_time_holds subs x 0 1 gap late released (Some (record { at = released; sub = x })) polls xl some xl
-    (omega arith) served paced has (grind arith) in
+next_polled_in_time subs x gap late released uses polls xl user some served users paced has reach =
+    let law = polled_in_time_holds subs x 0 1 gap late released uses (Some (record { at = released; sub = x })) polls xl user some xl
+    (omega arith) served users paced has (grind arith) in
     grind arith
 
 pub wait_at : (late : ℕ) (links : List LinkPlan) (k : ℕ) → k < length links

@@ -6,7 +6,8 @@ use Rattle.afdx_plan.specs.declared.link_plan.LinkPlan.{LinkPlan}
 use Rattle.afdx_frame.specs.declared.net.Net.{Net}
 use Rattle.afdx_frame.specs.Header.{sub_in}
 use Rattle.redundant_mux.specs.Lines.{Entry}
-use Rattle.vl_shaper.specs.Polls.{Poll, AreServed, ArePolled, latest_poll, HasAtPolls, released_by}
+use Rattle.vl_shaper.specs.Pace.{users_among}
+use Rattle.vl_shaper.specs.Polls.{Poll, AreServed, ServeUsers, ArePolled, latest_poll, HasAtPolls, released_by}
 use Rattle.afdx_legal.specs.Streams.{link_stream, more_in, TakesTurns, TakeTurnsOn}
 use Rattle.afdx_legal.specs.Legal.{Accepted, IsLegalOn}
 use Rattle.afdx_plan.specs.Demo.{demo_plan}
@@ -45,13 +46,14 @@ NextInTime = (subs gap late : ℕ) (stream : List Entry) (first : Entry) (betwee
     → TakesTurns stream → All (IsOfOneOf subs) stream → AreNeighbours stream first between next
     → FollowWithin (gap + late) first.at (between ++ next ∷ []) → next.at ≤ first.at + subs * (gap + late)
 
--- The same by the polls of the link: after the release of a fragment each poll follows the one before it within the
--- lateness, and finds the next fragment waiting until it is released.
+-- The same by the polls of the link, for the sub-VLs that use it: after the release of a fragment each poll follows the
+-- one before it within the lateness, and finds the next fragment waiting until it is released.
 abbrev pub NextPolledInTime : Type 0
-NextPolledInTime = (subs x gap late released : ℕ) (polls : List Poll) → x < subs → 1 ≤ gap
-    → AreServed gap subs (Some (record { at = released; sub = x })) polls → ArePolled late released polls
-    → HasAtPolls x 1 polls → released + subs * (gap + late) ≤ latest_poll released polls
-    → 1 ≤ released_by x (released + subs * (gap + late)) polls
+NextPolledInTime = (subs x gap late released : ℕ) (uses : ℕ → Bool) (polls : List Poll) → x < subs → uses x ≡ true
+    → 1 ≤ gap → AreServed gap subs (Some (record { at = released; sub = x })) polls → ServeUsers uses polls
+    → ArePolled late released polls → HasAtPolls x 1 polls
+    → released + users_among subs uses * (gap + late) ≤ latest_poll released polls
+    → 1 ≤ released_by x (released + users_among subs uses * (gap + late)) polls
 
 -- the longest time between two neighbouring fragments of a message on a link, in microseconds
 abbrev pub link_wait : ℕ → LinkPlan → ℕ

@@ -217,9 +217,9 @@ pub fn counts_rise()
 ///
 /// The sub-VLs of the emitter take turns (`turns` of both polls, of `gather` and of both `into_networks`). The fragment
 /// is released within one BAG and the lateness of a poll per sub-VL: if the link releases a frame in each such time
-/// while the fragment waits (`time`), or if each poll of the link finds it waiting (`polled`). `longest_wait` is that
-/// bound for a whole configuration. That polls come, and how late, is a premise. The law does not cover frames that no
-/// network accepted.
+/// while the fragment waits (`time`), or if each poll of the link finds it waiting (`polled`, which counts only the
+/// sub-VLs that use the link). `longest_wait` is that bound for a whole configuration. That polls come, and how late, is
+/// a premise. The law does not cover frames that no network accepted.
 pub fn next_fragment()
     ensures round { NextInARound }
     ensures time { NextInTime }

@@ -4,7 +4,7 @@ ghost use Rattle.plan_analysis.specs.Analysis.{IsAnalysisOf, link_row as row_of_
 ghost use Rattle.afdx_plan.specs.Plan.{IsLink, IsPort};
 ghost use Rattle.plan_analysis.specs.Wait.{link_of as link_of_port};
 
-use crate::fragments::{message_wait, most_pieces, port_pieces, sustained};
+use crate::fragments::{message_wait, most_pieces, port_pieces, sustained, used_sub_vls};
 use crate::load::{bit_rate, is_over, network_bits, share, window_bits};
 use afdx_plan::{Config, LinkPlan, PortId, PortPlan, VlId, jitter_ns};
 use std::alloc::{AllocError, Global};
@@ -142,13 +142,14 @@ pub(crate) fn port_row(late: u64, config: &Config, port: &PortPlan) -> PortRow
 {
     let link = link_of(config, port);
     let fragments = port_pieces(link, port);
+    let used = used_sub_vls(link, config.ports());
     let most = most_pieces(link, port.sub, config.ports());
     PortRow {
         id: port.id,
         vl: port.vl,
         sub: port.sub,
         fragments,
-        wait: message_wait(late, link, most, fragments),
+        wait: message_wait(late, link, used, most, fragments),
         sustained: sustained(link, port),
     }
 }

@@ -1,9 +1,8 @@
 //! The number of fragments of a message, and its longest wait.
-ghost use Rattle.std.specs.Prelude.{◌≡◌, ◌+◌, ◌*◌, ◌≤◌};
+ghost use Rattle.std.specs.Prelude.{◌≡◌, ◌+◌, ◌*◌, ◌≤◌, All};
 ghost use Rattle.afdx_plan.specs.Plan.{IsLink, IsPort};
-ghost use Rattle.plan_analysis.specs.Wait.{port_pieces as pieces_of_port, most_pieces as most_pieces_of, pieces_on as pieces_of_sub};
+ghost use Rattle.plan_analysis.specs.Wait.{port_pieces as pieces_of_port, most_pieces as most_pieces_of, pieces_on as pieces_of_sub, is_on as is_on_sub, has_port as has_port_on, used_sub_vls as used_by_ports};
 ghost use Rattle.plan_analysis.specs.Wait.{message_wait as wait_of_message, sustained as sustained_by};
-ghost use Rattle.std.specs.Prelude.{All};
 
 use afdx_plan::{LinkPlan, PortPlan};
 
@@ -23,13 +22,42 @@ pub(crate) fn port_pieces(link: &LinkPlan, port: &PortPlan) -> u64
     1 + datagram.saturating_sub(room).div_ceil(step)
 }
 
-/// The same if the port sends on sub-VL `sub` of the link, else 0.
+/// Whether this port sends on sub-VL `sub` of a link.
+fn is_on(link: &LinkPlan, sub: u8, port: &PortPlan) -> bool
+    ensures { result ≡ is_on_sub link.now sub port.now }
+{
+    port.vl.0 == link.id.0 && port.sub == sub
+}
+
+/// Whether some port sends on sub-VL `sub` of a link.
+fn has_port(link: &LinkPlan, sub: u8, ports: &[PortPlan]) -> bool
+    ensures { result ≡ has_port_on link.now ports.now sub }
+{
+    ports.iter().any(|port| is_on(link, sub, port))
+}
+
+/// The number of sub-VLs of a link that have a port.
+pub(crate) fn used_sub_vls(link: &LinkPlan, ports: &[PortPlan]) -> u64
+    ensures value { result ≡ used_by_ports link.now ports.now }
+    ensures most { result ≤ link.now.sub_vls }
+{
+    let mut used = 0;
+    for sub in 0..link.sub_vls {
+        if has_port(link, sub, ports) {
+            used += 1;
+        }
+    }
+    used
+}
+
+/// The number of fragments of the greatest message of a port if it sends on sub-VL `sub` of the link,
+/// else 0.
 fn pieces_on(link: &LinkPlan, sub: u8, port: &PortPlan) -> u64
     requires { IsPort port.now }
     ensures value { result ≡ pieces_of_sub link.now sub port.now }
     ensures most { result ≤ 342 }
 {
-    if port.vl.0 == link.id.0 && port.sub == sub {
+    if is_on(link, sub, port) {
         port_pieces(link, port)
     } else {
         0
@@ -50,16 +78,17 @@ pub(crate) fn most_pieces(link: &LinkPlan, sub: u8, ports: &[PortPlan]) -> u64
 }
 
 /// The longest wait, in microseconds, of a message of `own` fragments on a sub-VL whose messages have
-/// at most `most`.
-pub(crate) fn message_wait(late: u64, link: &LinkPlan, most: u64, own: u64) -> u64
+/// at most `most`, if `used` sub-VLs of the link have turns.
+pub(crate) fn message_wait(late: u64, link: &LinkPlan, used: u64, most: u64, own: u64) -> u64
     requires late { late ≤ 1000000 }
     requires link { IsLink link.now }
+    requires used { used ≤ 4 }
     requires most { most ≤ 342 }
     requires own { own ≤ 342 }
-    ensures { result ≡ wait_of_message late link.now most own }
+    ensures { result ≡ wait_of_message late link.now used most own }
 {
     let queued = (link.capacity as u64 - 1) * most + most.saturating_sub(1);
-    link.sub_vls as u64 * (queued + own) * (link.bag.micros() + late)
+    used * (queued + own) * (link.bag.micros() + late)
 }
 
 /// The number of greatest messages of a port that the BAG of a link allows in 1,000 seconds.

@@ -41,10 +41,10 @@ finds before after p = grind arith
 
 -- A poll of an emitter, by the turn of its one link.
 abbrev pub polls_by : (now : ℕ) (plan : Plan) (link : LinkPlan) (old new : List Held) (lines after : Lines) (did : Served)
-    → IsReady (tx_of plan link old lines) → length new ≡ length old → AreSameSubs old new
+    → IsReady (tx_of plan link old lines) → IsReady (tx_of plan link new after) → length new ≡ length old → AreSameSubs old new
     → ((s : ℕ) → s < link.sub_vls → IsTied (held_at old s) (sub_stream s (link_stream link.id.0 (log lines))))
     → Serves now link (pace_in link (log lines)) old new lines after did → EmitterPolls plan now lines after
-polls_by now plan link old new lines after did ready count same tied serves = record {
+polls_by now plan link old new lines after did ready ready_after count same tied serves = record {
   old = tx_of plan link old lines;
   new = tx_of plan link new after;
   ready = ready;
@@ -64,6 +64,7 @@ polls_by now plan link old new lines after did ready count same tied serves = re
       refl,
     );
   };
+  allowed = ready_after.allowed;
 }
 
 -- A poll at which the first sub-VL in turn gives this frame, on both networks.
@@ -78,7 +79,7 @@ gives : (now sub number : ℕ) (frame : List ℕ) (left new_left : List (List �
     → any_up Both after ≡ true → BothEndure lines after → FindsIt three_plan 0 1 2 now lines after
 gives now sub number frame left new_left first new_first second new_second lines after may next is given others tied size own of carries interface enters stands stays_down = record {
   poll = polls_by now three_plan three_link (subs_of left first second) (subs_of new_left new_first new_second) lines after
-      (Released sub number) (ready left first second lines) refl same tied (
+      (Released sub number) (ready left first second lines) (ready new_left new_first new_second after) refl same tied (
         may,
         next,
         record {
@@ -161,13 +162,13 @@ comes_in_turn = record {
   valid = grind arith;
   ends = refl;
   more = refl;
-  below = omega arith;
+  port = refl;
   polls = polls;
   is_up = refl;
   within = omega arith;
   wait = refl;
   next = (next_in_run_holds three_plan (3000 ∷ 6000 ∷ 9000 ∷ 12000 ∷ []) (line_after 1) (line_after 5) 0 3000 [] front_entry
-      (grind arith) (omega arith) refl refl (omega arith)
+      (grind arith) (omega arith) refl refl refl
       (each_poll {P = EmitterPolls three_plan} {Q = λ now lines after. EmitterPolls three_plan now lines after ⊎ DrainPolls three_plan now lines after}
       (λ now lines after p. inl p) (3000 ∷ 6000 ∷ 9000 ∷ 12000 ∷ []) (line_after 1) (line_after 5) polls)
       refl (omega arith) (omega arith)).0;

@@ -1,4 +1,5 @@
 mod Names
+pub mod Used
 pub mod PollStep
 pub mod Ran
 pub mod NextRun

@@ -1,8 +1,9 @@
 -- The law of a message in a run of polls.
-use Rattle.run_laws.proofs.Names.{ℕ, ◌≡◌, ◌⊎◌, ◌+◌, ◌-◌, ◌*◌, ◌<◌, ◌≤◌, List, [], ◌∷◌, ◌++◌, Bool, nat_lt, length, map, take, drop, arith, refl, ap, ◌∙◌, sym, None, inl, inr, ⊎_elim, All, suc-mul, mul-le, cases_lt, le-ltb, append_assoc, length-append, take-append-drop, length-drop, All-head, All-drop, Plan, IsPlan, link_plan_at, bag_micros, link_place, room_of, LinkPlan, A, Sent, fragments_at, fragments_from, Entry, Lines, latest, IsPrefixOf, Accepted, IsAllowed, IsDrained, stream_at, cons_parts, all_front, pieces_of, port_pieces, most_pieces, queued_before, message_wait, worst_wait, AreTimely, fragments_of, seen_of, HasPlace, FindsIt, MessageInRun}
+use Rattle.run_laws.proofs.Names.{AreQueued, IsQueued, All-weaker, has_port, true, used_sub_vls, ℕ, ◌≡◌, ◌⊎◌, ◌+◌, ◌-◌, ◌*◌, ◌<◌, ◌≤◌, List, [], ◌∷◌, ◌++◌, Bool, nat_lt, length, map, take, drop, arith, refl, ap, ◌∙◌, sym, None, inl, inr, ⊎_elim, All, suc-mul, mul-le, cases_lt, le-ltb, append_assoc, length-append, take-append-drop, length-drop, All-head, All-drop, Plan, IsPlan, link_plan_at, bag_micros, link_place, room_of, LinkPlan, A, Sent, fragments_at, fragments_from, Entry, Lines, latest, IsPrefixOf, Accepted, IsAllowed, IsDrained, stream_at, cons_parts, all_front, pieces_of, port_pieces, most_pieces, queued_before, message_wait, worst_wait, AreTimely, fragments_of, seen_of, HasPlace, FindsIt, MessageInRun}
 use Rattle.afdx_tx.proofs.OwnLengths.{own_link}
 use Rattle.run_laws.proofs.PollStep.{StandsAt, StepsAt, emitter_step, drain_step, emitter_endures, drain_endures}
 use Rattle.run_laws.proofs.Ran.{some_gap, at_of, seen_both, seen_append, adds_seen, timely_rise, splits, AreSteps, have_run, all_back}
+use Rattle.run_laws.proofs.Used.{queued_port}
 use Rattle.run_laws.proofs.Timely.{timely_released}
 use Rattle.run_laws.proofs.Pieces.{message_pieces, pieces_mono, list_most, fragments_both, port_most}
 
@@ -11,21 +12,21 @@ abbrev waiting : ℕ → ℕ → List Entry → Bool
 waiting x many S = nat_lt (length (seen_of x S)) many
 
 find_step : (now : ℕ) (plan : Plan) (accepted : Accepted) (k x many : ℕ) (lines mid : Lines) → IsPlan plan → k < length plan.links
-    → many ≤ length (fragments_of plan k (accepted k x))
+    → many ≤ length (fragments_of plan k (accepted k x)) → AreQueued plan accepted
     → FindsIt plan k x many now lines mid ⊎ IsDrained now plan accepted lines mid → StandsAt plan k mid
     → StepsAt now plan k x (waiting x many (stream_at plan k lines)) lines mid
-find_step now plan accepted k x many lines mid valid inside most (inl finds) stands =
+find_step now plan accepted k x many lines mid valid inside most queued (inl finds) stands =
     emitter_step now plan k x (waiting x many (stream_at plan k lines)) lines mid valid inside finds.poll
     (grind arith)
     stands
-find_step now plan accepted k x many lines mid valid inside most (inr drains) stands = grind (arith, drain_step, valid, le-ltb)
+find_step now plan accepted k x many lines mid valid inside most queued (inr drains) stands = grind (arith, drain_step, valid, queued, le-ltb)
 
 -- the polls of a run
 finding_steps : (plan : Plan) (accepted : Accepted) (k x many : ℕ) → IsPlan plan → k < length plan.links
-    → many ≤ length (fragments_of plan k (accepted k x))
+    → many ≤ length (fragments_of plan k (accepted k x)) → AreQueued plan accepted
     → AreSteps plan k x (λ now lines after. FindsIt plan k x many now lines after ⊎ IsDrained now plan accepted lines after)
     (λ rest S. rest ≡ many - length (seen_of x S)) (waiting x many)
-finding_steps plan accepted k x many valid inside most = record {
+finding_steps plan accepted k x many valid inside most queued = record {
   stays_down = λ now lines after p. ⊎_elim (λ finds. emitter_endures now plan lines after finds.poll)
       (grind (arith, drain_endures)) p;
   step = grind (arith, find_step);
@@ -89,7 +90,7 @@ module _ (plan : Plan) (k s : ℕ) (valid : IsPlan plan) (inside : k < length pl
 
 own_wait : (plan : Plan) (k s late : ℕ) (sent : Sent) → link_place plan sent.port ≡ k → sent.port.sub ≡ s
     → worst_wait late plan sent.port ≡ message_wait late (link_plan_at plan.links k)
-    (most_pieces (link_plan_at plan.links k) s plan.ports) (port_pieces (link_plan_at plan.links k) sent.port)
+    (used_sub_vls (link_plan_at plan.links k) plan.ports) (most_pieces (link_plan_at plan.links k) s plan.ports) (port_pieces (link_plan_at plan.links k) sent.port)
 own_wait plan k s late sent at its = grind arith
 
 pub message_in_run_holds : MessageInRun
@@ -108,17 +109,20 @@ message_in_run_holds plan accepted moments lines after k s late start earlier se
     let ahead : fragments_of plan k (earlier ++ sent ∷ [])
     ++ fragments_from plan.end_system (room_of link.lmax) A (0 + length (earlier ++ sent ∷ [])) later
     ≡ fragments_of plan k (accepted k s) = grind (arith, fragments_both plan.end_system (room_of link.lmax) A 0 (earlier ++ sent ∷ []) later, append_assoc earlier (sent ∷ []) later) in
+    let queued : AreQueued plan accepted = λ i t lt tlt. All-weaker (IsAllowed plan i t) (IsQueued plan i t) (λ m a. a.queued) (accepted i t) (is.allowed i t lt tlt) in
+    let user : has_port link plan.ports s ≡ true = queued_port plan k s sent of.queued in
+    let used : ℕ = used_sub_vls link plan.ports in
     let most : many ≤ length (fragments_of plan k (accepted k s)) = grind (arith, length-append) in
     let run = have_run moments plan k s (many - length (seen_of s S)) _ _ (waiting s many) lines after
-    (finding_steps plan accepted k s many valid inside most) finding stands refl in
-    let rounds = mul-le link.sub_vls (many - length (seen_of s S)) link.sub_vls
+    (finding_steps plan accepted k s many valid inside most queued) finding stands refl in
+    let rounds = mul-le used (many - length (seen_of s S)) used
     (queued_before link (most_pieces link s plan.ports) + port_pieces link sent.port) (omega arith) gone in
-    let long = mul-le (link.sub_vls * (many - length (seen_of s S))) (bag_micros link.bag + late)
-    (link.sub_vls * (queued_before link (most_pieces link s plan.ports) + port_pieces link sent.port)) (bag_micros link.bag + late)
+    let long = mul-le (used * (many - length (seen_of s S))) (bag_micros link.bag + late)
+    (used * (queued_before link (most_pieces link s plan.ports) + port_pieces link sent.port)) (bag_micros link.bag + late)
     rounds (omega arith) in
     let when : AreTimely (bag_micros link.bag) late end start (map at_of run.polls) = rw run.at timely in
-    let released = timely_released run.polls link.sub_vls s (many - length (seen_of s S)) (bag_micros link.bag) late start end
-    (latest None S) is.sub (some_gap link.bag) last run.served run.had when (omega arith) in
+    let released = timely_released run.polls link.sub_vls (has_port link plan.ports) s (many - length (seen_of s S)) (bag_micros link.bag) late start end
+    (latest None S) is.sub user (some_gap link.bag) last run.served run.users run.had when (omega arith) in
     let split = splits run.polls run.added s end start (grind (arith, timely_rise)) run.show in
     let grown : stream_at plan k after ≡ S ++ (split.soon ++ split.more) = grind arith in
     let count = seen_both s S split.soon in

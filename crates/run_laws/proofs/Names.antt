@@ -23,8 +23,8 @@ pub use Rattle.afdx_frame.specs.declared.net.Net.TheVariants.{A}
 pub use Rattle.redundant_mux.proofs.MirroredLines.{both_none, stood_before}
 pub use Rattle.redundant_mux.specs.Lines.{Entry, entry, BothEndure, Endures, Lines, any_up}
 unfoldable pub use Rattle.redundant_mux.specs.Lines.{log}
-pub use Rattle.vl_shaper.specs.Pace.{IsLater, Pace, is_due, turn_of}
-pub use Rattle.vl_shaper.specs.Polls.{ArePolled, AreServed, HasAtPolls, IsServed, Poll, is_of, latest_poll, released_by}
+pub use Rattle.vl_shaper.specs.Pace.{IsLater, Pace, is_due, turn_of, users_among}
+pub use Rattle.vl_shaper.specs.Polls.{ArePolled, AreServed, HasAtPolls, IsOfUser, IsServed, Poll, ServeUsers, is_of, latest_poll, released_by}
 pub use Rattle.afdx_legal.proofs.StreamLemmas.{latest_push}
 pub use Rattle.afdx_legal.specs.Accepted.{AreAllowed, AreQueued, IsAllowed, IsQueued}
 pub use Rattle.afdx_legal.specs.Legal.{Accepted}
@@ -38,9 +38,8 @@ pub use Rattle.vl_link.specs.declared.served.Served.TheVariants.{Lost, Nothing, 
 pub use Rattle.afdx_tx.specs.Run.{Drains, DrainsAt, IsDrained, accepted_in, accepted_view, pace_in, IsRun, IsTurnAt}
 pub use Rattle.afdx_tx.specs.DrainEnds.{stream_at}
 pub use Rattle.afdx_tx.specs.Emitter.{IsFreshTx, Tx, taken_in}
-pub use Rattle.plan_analysis.specs.Wait.{message_wait, most_pieces, pieces_of, pieces_on, port_pieces, queued_before, worst_wait}
-pub use Rattle.afdx_laws.proofs.ListLemmas.{all_front, below_one, cons_parts, cons_same}
+pub use Rattle.plan_analysis.specs.Wait.{has_port, message_wait, most_pieces, pieces_of, pieces_on, port_pieces, queued_before, used_sub_vls, worst_wait}
+pub use Rattle.afdx_laws.proofs.ListLemmas.{all_front, below_both, below_one, cons_parts, cons_same}
 pub use Rattle.afdx_laws.proofs.NextFragment.{next_polled_in_time, wait_at}
-pub use Rattle.afdx_laws.specs.NextFragment.{link_wait}
 pub use Rattle.run_laws.specs.MessageInRun.{ApartAreTimely, AreFinding, AreTimely, ComesIn, FindsIt, HasPlace, IsAccepted, MessageInRun, fragments_of, seen_of}
-pub use Rattle.run_laws.specs.Runs.{ArePolls, AreRuns, ComeWithin, ComesBy, DrainPolls, EmitterPolls, IsPlanned, IsReady, IsReadyFor, KeptReady, NextInRun, latest_of}
+pub use Rattle.run_laws.specs.Runs.{ArePolls, AreRuns, ComeWithin, ComesBy, DrainPolls, EmitterPolls, IsPlanned, IsReady, IsReadyFor, KeptReady, NextInRun, latest_of, next_wait}

@@ -46,7 +46,7 @@ finds_none : (queue : ReceiverView) (lines : Lines) → All (IsQueued byte_plan 
     → may_release 1000 tight_link (pace_in tight_link (log lines)) lines ≡ true
     → IsTied (held queue) (sub_stream 0 (stream_at byte_plan 0 lines)) → EmitterPolls byte_plan 1000 lines lines
 finds_none queue lines queued due tied = polls_by 1000 byte_plan tight_link (held queue ∷ []) (held (looked queue) ∷ []) lines lines Nothing
-    (grind arith)
+    (grind arith) (grind arith)
     refl same (below_one _ tied) (grind arith, refl)
   where
     passes : Passes (held queue) (held (looked queue))

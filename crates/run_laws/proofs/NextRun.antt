@@ -1,8 +1,11 @@
 -- The law of the next fragment in a run of polls.
 use Rattle.vl_link.proofs.MessageEnds.{not_begun}
-use Rattle.run_laws.proofs.Names.{ℕ, ◌≡◌, ◌≢◌, ◌⊎◌, ◌+◌, ◌<◌, ◌≤◌, List, [], ◌∷◌, ◌++◌, Bool, true, map, length, arith, refl, Option, Some, None, inl, inr, ⊎_elim, All, nat_tests, cases_eq, eq-eqb, append_assoc, All-nil, All-head, Plan, IsPlan, link_plan_at, sub_in, Entry, Poll, ArePolled, latest_poll, none_begun, begun_after, begun_by, stamp_of, latest, latest_push, stream_at, link_wait, seen_of, ComeWithin, latest_of, NextInRun, EmitterPolls, DrainPolls, ComesBy, next_polled_in_time, wait_at}
+use Rattle.run_laws.proofs.Names.{ℕ, ◌≡◌, ◌≢◌, ◌⊎◌, ◌+◌, ◌<◌, ◌≤◌, List, [], ◌∷◌, ◌++◌, Bool, true, map, length, arith, refl, Option, Some, None, inl, inr, ⊎_elim, All, nat_tests, cases_eq, eq-eqb, append_assoc, All-nil, All-head, Plan, IsPlan, link_plan_at, sub_in, Entry, Poll, ArePolled, latest_poll, none_begun, begun_after, begun_by, stamp_of, latest, latest_push, stream_at, next_wait, used_sub_vls, LinkPlan, mul-le, seen_of, ComeWithin, latest_of, NextInRun, EmitterPolls, DrainPolls, ComesBy, next_polled_in_time, wait_at}
 use Rattle.afdx_legal.specs.Streams.{more_in}
-use Rattle.run_laws.proofs.PollStep.{Adds, gap_at, subs_at, emitter_step, emitter_lacks, drain_step, emitter_endures, drain_endures}
+use Rattle.afdx_laws.specs.NextFragment.{longest_wait}
+use Rattle.vl_shaper.proofs.Users.{users_most}
+use Rattle.run_laws.proofs.Used.{has_port_below}
+use Rattle.run_laws.proofs.PollStep.{Adds, gap_at, subs_at, uses_at, emitter_step, emitter_lacks, drain_step, emitter_endures, drain_endures}
 use Rattle.run_laws.proofs.Ran.{at_of, Rise, splits, left, AreSteps, have_run, some_gap, all_back}
 
 -- polls that come within the lateness, as a law of the shaper says it
@@ -81,16 +84,26 @@ next_by T earlier soon more first bound flag grown by found = record {
       (found.next ∷ found.later) (grind arith));
 }
 
+-- no more sub-VLs have a port than there are
+next_less : (late : ℕ) (plan : Plan) (k : ℕ) → k < length plan.links → next_wait late plan k ≤ longest_wait late plan.links
+next_less late plan k inside =
+    let link : LinkPlan = link_plan_at plan.links k in
+    let few = users_most link.sub_vls (uses_at plan k) in
+    let less = mul-le (used_sub_vls link plan.ports) (gap_at plan k + late) link.sub_vls (gap_at plan k + late) few (omega arith) in
+    let most = wait_at late plan.links k inside in
+    omega arith
+
 pub next_in_run_holds : NextInRun
-next_in_run_holds plan moments lines after k late earlier first valid inside ends more below runs stands come reach =
+next_in_run_holds plan moments lines after k late earlier first valid inside ends more has runs stands come reach =
     let x : ℕ = sub_in first.frame in
-    let bound : ℕ = first.at + link_wait late (link_plan_at plan.links k) in
+    let bound : ℕ = first.at + next_wait late plan k in
+    let below = has_port_below plan k x valid inside has in
     let begun : begun_by none_begun (stream_at plan k lines) (sub_in first.frame) ≡ true = grind (arith, begun_push, eq-eqb) in
     let run = have_run moments plan k x 1 _ (AwaitsOne x) _ lines after (polls_step plan k x valid inside) runs stands
     (omega arith, λ some. begun) in
     let last : latest None (stream_at plan k lines) ≡ Some (stamp_of first) = grind (arith, latest_push) in
     let within : ComeWithin late first.at (map at_of run.polls) = rw run.at come in
     let latest_moment : latest_poll first.at run.polls ≡ latest_of first.at moments = grind (arith, latest_is) in
-    let one = next_polled_in_time (subs_at plan k) x (gap_at plan k) late first.at run.polls below (some_gap (link_plan_at plan.links k).bag)
-    (rw last at run.served) (polled_of late first.at run.polls within) run.had (rw latest_moment reach) in
-    grind (arith, splits run.polls run.added x bound first.at (within_rise late first.at run.polls within) run.show, within_rise late first.at run.polls within, wait_at late plan.links k inside, next_by, finds)
+    let one = next_polled_in_time (subs_at plan k) x (gap_at plan k) late first.at (uses_at plan k) run.polls below has (some_gap (link_plan_at plan.links k).bag)
+    (rw last at run.served) run.users (polled_of late first.at run.polls within) run.had (rw latest_moment reach) in
+    grind (arith, splits run.polls run.added x bound first.at (within_rise late first.at run.polls within) run.show, within_rise late first.at run.polls within, next_less late plan k inside, next_by, finds)

@@ -1,9 +1,9 @@
 -- A run of polls, as the polls of one link, and what it adds to the stream of the link.
-use Rattle.run_laws.proofs.Names.{ℕ, ◌≡◌, ◌+◌, ◌<◌, ◌≤◌, List, [], ◌∷◌, ◌++◌, Bool, true, ◌&&◌, cond, nat_eq, nat_le, arith, refl, Option, Some, None, inl, inr, ◌-◌, ◌*◌, length, map, subst, All, nat_tests, cases_lt, All-drop, filter-append, append_assoc, append-nil, length-append, map-append, Plan, bag_ms, sub_in, Entry, entry, Lines, BothEndure, stood_before, Poll, is_of, released_by, IsServed, AreServed, HasAtPolls, latest, latest_push, stream_at, ArePolls, AreTimely, seen_of}
+use Rattle.run_laws.proofs.Names.{ℕ, ◌≡◌, ◌+◌, ◌<◌, ◌≤◌, List, [], ◌∷◌, ◌++◌, Bool, true, ◌&&◌, cond, nat_eq, nat_le, arith, refl, Option, Some, None, inl, inr, ◌-◌, ◌*◌, length, map, subst, All, nat_tests, cases_lt, All-drop, filter-append, append_assoc, append-nil, length-append, map-append, Plan, bag_ms, sub_in, Entry, entry, Lines, BothEndure, stood_before, Poll, is_of, released_by, IsOfUser, IsServed, AreServed, ServeUsers, HasAtPolls, latest, latest_push, stream_at, ArePolls, AreTimely, seen_of}
 use Rattle.std.proofs.lemmas.List.Sums.{sum_by-cons}
 use Rattle.std.proofs.Math.Seq.{drop-append_seam}
 use Rattle.afdx_plan.specs.declared.link_plan.Bag.{Bag}
-use Rattle.run_laws.proofs.PollStep.{Adds, IsStep, StandsAt, gap_at, subs_at, StepsAt}
+use Rattle.run_laws.proofs.PollStep.{Adds, IsStep, StandsAt, gap_at, subs_at, uses_at, StepsAt}
 
 -- the entry that a poll released, if any, and those after it
 abbrev pub ShowsOne : ℕ → Option ℕ → (added rest : List Entry) → Type 0
@@ -96,10 +96,11 @@ all_back {X = X} P front ys all =
 
 -- Polls of a link at these times, which find a fragment of a sub-VL waiting until `many` of its frames are
 -- released, and what they add to its stream.
-pub record HaveRun (gap subs x many : ℕ) (moments : List ℕ) (S T : List Entry) : Type 0 where
+pub record HaveRun (gap subs : ℕ) (uses : ℕ → Bool) (x many : ℕ) (moments : List ℕ) (S T : List Entry) : Type 0 where
   pub polls : List Poll
   pub at : map at_of polls ≡ moments
   pub served : AreServed gap subs (latest None S) polls
+  pub users : ServeUsers uses polls
   pub had : HasAtPolls x many polls
   pub added : List Entry
   pub grown : T ≡ S ++ added
@@ -110,27 +111,30 @@ abbrev pub left : ℕ → ℕ → Option ℕ → ℕ
 left x many released = many - cond (is_of x released) 1 0
 
 -- one poll before others
-run_more : (now gap subs x many : ℕ) (b : Bool) (moments : List ℕ) (S M T : List Entry) (step : IsStep now gap subs x b S M)
-    → (1 ≤ many → b ≡ true) → HaveRun gap subs x (left x many step.released) moments M T → HaveRun gap subs x many (now ∷ moments) S T
-run_more now gap subs x many b moments S M T step waits run = by_release step.released step.served step.adds run
+run_more : (now gap subs : ℕ) (uses : ℕ → Bool) (x many : ℕ) (b : Bool) (moments : List ℕ) (S M T : List Entry)
+    (step : IsStep now gap subs uses x b S M) → (1 ≤ many → b ≡ true)
+    → HaveRun gap subs uses x (left x many step.released) moments M T → HaveRun gap subs uses x many (now ∷ moments) S T
+run_more now gap subs uses x many b moments S M T step waits run = by_release step.released step.user step.served step.adds run
   where
-    by_release : (o : Option ℕ) → IsServed gap subs (latest None S) (record { at = now; has = step.has; released = o }) o → Adds now o S M
-        → HaveRun gap subs x (left x many o) moments M T → HaveRun gap subs x many (now ∷ moments) S T
-    by_release None served same run = record {
+    by_release : (o : Option ℕ) → IsOfUser uses o → IsServed gap subs (latest None S) (record { at = now; has = step.has; released = o }) o
+        → Adds now o S M → HaveRun gap subs uses x (left x many o) moments M T → HaveRun gap subs uses x many (now ∷ moments) S T
+    by_release None user served same run = record {
       polls = record { at = now; has = step.has; released = None } ∷ run.polls;
       at = grind arith;
       served = grind arith;
+      users = (user, run.users);
       had = grind arith;
       added = run.added;
       grown = grind arith;
       show = (run.added, refl, run.show);
     }
-    by_release (Some chosen) served (frame, of, more) run =
+    by_release (Some chosen) user served (frame, of, more) run =
         let last : latest None M ≡ Some (record { at = now; sub = chosen }) = grind (arith, latest_push) in
         record {
           polls = record { at = now; has = step.has; released = Some chosen } ∷ run.polls;
           at = grind arith;
           served = grind arith;
+          users = (user, run.users);
           had = grind arith;
           added = entry now frame ∷ run.added;
           grown = grind (arith, append_assoc, entry);
@@ -159,12 +163,12 @@ polls_endure Polls (now ∷ moments) lines after each r = grind (arith, polls_en
 pub have_run : (moments : List ℕ) (plan : Plan) (k x many : ℕ) (Polls : ℕ → Lines → Lines → Type 0) (Awaits : ℕ → List Entry → Type 0)
     (test : List Entry → Bool) (lines after : Lines) → AreSteps plan k x Polls Awaits test
     → ArePolls Polls moments lines after → StandsAt plan k after → Awaits many (stream_at plan k lines)
-    → HaveRun (gap_at plan k) (subs_at plan k) x many moments (stream_at plan k lines) (stream_at plan k after)
+    → HaveRun (gap_at plan k) (subs_at plan k) (uses_at plan k) x many moments (stream_at plan k lines) (stream_at plan k after)
 have_run [] plan k x many Polls Awaits test lines after each r stands awaits = grind (arith, append-nil)
 have_run (now ∷ moments) plan k x many Polls Awaits test lines after each r stands awaits =
     let stood : StandsAt plan k r.0 = grind (arith, stood_before, polls_endure) in
     let step : StepsAt now plan k x (test (stream_at plan k lines)) lines r.0 = grind arith in
-    run_more now (gap_at plan k) (subs_at plan k) x many (test (stream_at plan k lines)) moments (stream_at plan k lines)
+    run_more now (gap_at plan k) (subs_at plan k) (uses_at plan k) x many (test (stream_at plan k lines)) moments (stream_at plan k lines)
     (stream_at plan k r.0) (stream_at plan k after) step (grind arith)
     (grind (arith, have_run moments plan k x (left x many step.released) Polls Awaits test r.0 after each r.2 stands (grind arith)))
 

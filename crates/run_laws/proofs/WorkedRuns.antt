@@ -1,5 +1,5 @@
 -- The worked runs, by computation.
-use Rattle.run_laws.proofs.Names.{◌≡◌, ℕ, ◌+◌, ◌<◌, ◌≤◌, ◌⊎◌, List, [], ◌∷◌, ◌++◌, length, true, refl, ap, sym, ◌∙◌, arith, inl, inr, Some, false≢true, length-append, A, cutting, fragments_at, blanked, Sent, addresses, header_front, internet_header, link_header, udp_header, datagram, unnumbered, Entry, entry, Lines, BothEndure, log, any_up, LinkPlan, may_release, is_due, turn_of, Served, Nothing, Released, Lost, Drains, pace_in, stream_at, link_wait, EmitterPolls, DrainPolls, AreRuns, ComesBy, cons_parts, slice_index, link_in, sub_in, number_in, interface_byte, None, All, All-head, All-tail, IsPlan, IsLater, latest, IsPrefixOf, IsAccepted, HasPlace, AreFinding, fragments_of, seen_of}
+use Rattle.run_laws.proofs.Names.{◌≡◌, ℕ, ◌+◌, ◌<◌, ◌≤◌, ◌⊎◌, List, [], ◌∷◌, ◌++◌, length, true, refl, ap, sym, ◌∙◌, arith, inl, inr, Some, false≢true, length-append, A, cutting, fragments_at, blanked, Sent, addresses, header_front, internet_header, link_header, udp_header, datagram, unnumbered, Entry, entry, Lines, BothEndure, log, any_up, LinkPlan, may_release, is_due, turn_of, Served, Nothing, Released, Lost, Drains, pace_in, stream_at, next_wait, EmitterPolls, DrainPolls, AreRuns, ComesBy, cons_parts, slice_index, link_in, sub_in, number_in, interface_byte, None, All, All-head, All-tail, IsPlan, IsLater, latest, IsPrefixOf, IsAccepted, HasPlace, AreFinding, fragments_of, seen_of}
 use Rattle.afdx_legal.specs.Accepted.{Owes}
 use Rattle.redundant_mux.specs.Lines.{logged_for}
 use Rattle.afdx_laws.specs.WorkedDelivery.{back_frame}
@@ -95,14 +95,14 @@ comes_in_run = record {
   valid = small_valid;
   ends = refl;
   more = refl;
-  below = omega arith;
+  port = refl;
   run = record {
     runs = two_polls;
     is_up = refl;
     comes = omega arith;
     reaches = omega arith;
     next = (next_in_run_holds small_plan (1000 ∷ 2000 ∷ []) front_line both_lines 0 1000 [] front_entry
-        small_valid (omega arith) refl refl (omega arith) two_polls refl
+        small_valid (omega arith) refl refl refl two_polls refl
         (omega arith) (omega arith)).0;
   };
 }
@@ -130,15 +130,15 @@ stray_poll now due = inr (record {
 pub needs_a_run : NeedsARun
 unfolding log checksum addresses header_front internet_header link_header udp_header datagram unnumbered
 needs_a_run = record {
-  none = grind (arith, alone front_entry (0 + link_wait 1000 small_link) (stream_at small_plan 0 front_line) refl);
+  none = grind (arith, alone front_entry (0 + next_wait 1000 small_plan 0) (stream_at small_plan 0 front_line) refl);
   idle = record {
-    runs = λ runs. alone front_entry (0 + link_wait 1000 small_link) (stream_at small_plan 0 front_line) refl (next_in_run_holds small_plan
-        (1000 ∷ 2000 ∷ []) front_line front_line 0 1000 [] front_entry small_valid (omega arith) refl refl (omega arith) runs refl
+    runs = λ runs. alone front_entry (0 + next_wait 1000 small_plan 0) (stream_at small_plan 0 front_line) refl (next_in_run_holds small_plan
+        (1000 ∷ 2000 ∷ []) front_line front_line 0 1000 [] front_entry small_valid (omega arith) refl refl refl runs refl
         (omega arith) (omega arith)).0;
     is_up = refl;
     comes = omega arith;
     reaches = omega arith;
-    next = alone front_entry (0 + link_wait 1000 small_link) (stream_at small_plan 0 front_line) refl;
+    next = alone front_entry (0 + next_wait 1000 small_plan 0) (stream_at small_plan 0 front_line) refl;
   };
   late = record {
     runs = (both_at 5000, a_poll 5000 front_line (both_at 5000) (Released 0 1) (back_turn 5000 refl), refl);
@@ -153,11 +153,11 @@ needs_a_run = record {
     is_up = λ up. false≢true up;
     comes = omega arith;
     reaches = omega arith;
-    next = alone front_entry (0 + link_wait 1000 small_link) (stream_at small_plan 0 lost_line) refl;
+    next = alone front_entry (0 + next_wait 1000 small_plan 0) (stream_at small_plan 0 lost_line) refl;
   };
   whole = grind (arith, last_polls);
   elsewhere = grind (arith, last_polls, cons_parts, second_is);
-  stray = grind (arith, stray_poll 2000 refl, stray_poll 3000 refl, alone (entry 1000 (stray_frame A)) (1000 + link_wait 1000 small_link) (stream_at small_plan 0 stray_line) refl);
+  stray = grind (arith, stray_poll 2000 refl, stray_poll 3000 refl, alone (entry 1000 (stray_frame A)) (1000 + next_wait 1000 small_plan 0) (stream_at small_plan 0 stray_line) refl);
 }
 
 tight_valid : IsPlan tight_plan

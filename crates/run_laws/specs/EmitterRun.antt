@@ -1,7 +1,7 @@
 -- A worked run of polls of an emitter over a link of three sub-VLs, with queues of one message. The first frame of a
 -- message of two fragments of sub-VL 0 was transmitted at time 0. The other two sub-VLs send messages of one byte. Four
 -- polls follow, 3,000 microseconds apart.
-use Rattle.std.specs.Prelude.{ℕ, zero, suc, ◌≡◌, ◌<◌, false, nat_lt, List, [], ◌∷◌, length, replicate, take, true, None}
+use Rattle.std.specs.Prelude.{ℕ, zero, suc, ◌≡◌, false, nat_lt, List, [], ◌∷◌, length, replicate, take, true, None}
 use Rattle.afdx_plan.specs.Config.{Plan, IsPlan}
 use Rattle.afdx_plan.specs.Demo.{demo_plan, demo_port}
 use Rattle.afdx_plan.specs.declared.link_plan.LinkPlan.{LinkPlan}
@@ -24,10 +24,9 @@ use Rattle.vl_link.specs.Links.{Held}
 use Rattle.afdx_tx.specs.Run.{pace_in}
 use Rattle.afdx_tx.specs.Emitter.{Tx}
 use Rattle.afdx_tx.specs.DrainEnds.{stream_at}
-use Rattle.plan_analysis.specs.Wait.{worst_wait}
-use Rattle.afdx_laws.specs.NextFragment.{link_wait}
+use Rattle.plan_analysis.specs.Wait.{worst_wait, has_port}
 use Rattle.afdx_laws.specs.WorkedDelivery.{front_frame, bytes_41}
-use Rattle.run_laws.specs.Runs.{ArePolls, EmitterPolls, ComeWithin, ComesBy}
+use Rattle.run_laws.specs.Runs.{ArePolls, EmitterPolls, ComeWithin, ComesBy, next_wait}
 use Rattle.run_laws.specs.MessageInRun.{AreTimely, AreReleasedBy, FindsIt, HasPlace, IsAccepted, fragments_of, seen_of}
 use Rattle.run_laws.specs.WorkedRun.{short_port, short_sent, short_frame, tight_link, front_entry, lines_by}
 
@@ -104,11 +103,11 @@ pub record ComesInTurn : Type 0 where
   pub valid : IsPlan three_plan
   pub ends : stream_at three_plan 0 (line_after 1) ≡ front_entry ∷ []
   pub more : more_in (front_frame A) ≡ true
-  pub below : sub_in (front_frame A) < three_link.sub_vls
+  pub port : has_port three_link three_plan.ports (sub_in (front_frame A)) ≡ true
   pub polls : ArePolls (EmitterPolls three_plan) (3000 ∷ 6000 ∷ 9000 ∷ 12000 ∷ []) (line_after 1) (line_after 5)
   pub is_up : any_up three_link.networks (line_after 5) ≡ true
   pub within : ComeWithin 3000 0 (3000 ∷ 6000 ∷ 9000 ∷ 12000 ∷ [])
-  pub wait : link_wait 3000 three_link ≡ 12000
+  pub wait : next_wait 3000 three_plan 0 ≡ 12000
   pub next : ComesBy (stream_at three_plan 0 (line_after 5)) front_entry 12000
 
 -- the second message of sub-VL 1 is wholly released by the bound

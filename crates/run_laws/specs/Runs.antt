@@ -1,5 +1,5 @@
 -- Runs of polls of an emitter and of its drain, and when they release the next fragment of a message.
-use Rattle.std.specs.Prelude.{ℕ, ◌≡◌, ◌⊎◌, ◌<◌, List, [], ◌∷◌, length, ◌+◌, ◌≤◌, true, ◌++◌}
+use Rattle.std.specs.Prelude.{ℕ, ◌≡◌, ◌⊎◌, ◌<◌, List, [], ◌∷◌, length, ◌+◌, ◌*◌, ◌≤◌, true, ◌++◌}
 use Rattle.afdx_plan.specs.Config.{Plan, link_plan_at, IsPlan}
 use Rattle.afdx_plan.specs.Plan.{bag_micros}
 use Rattle.redundant_mux.specs.Lines.{Lines, any_up, Entry}
@@ -12,7 +12,8 @@ use Rattle.afdx_tx.specs.Calls.{ClosesTx, Publishes}
 use Rattle.afdx_frame.specs.Header.{sub_in}
 use Rattle.afdx_legal.specs.Streams.{more_in}
 use Rattle.afdx_tx.specs.DrainEnds.{stream_at}
-use Rattle.afdx_laws.specs.NextFragment.{AreNeighbours, link_wait, longest_wait}
+use Rattle.afdx_laws.specs.NextFragment.{AreNeighbours, longest_wait}
+use Rattle.plan_analysis.specs.Wait.{has_port, used_sub_vls}
 
 -- the link at place `k` has the configuration, the gap and the number of sub-VLs that the plan gives
 pub record IsPlanned (plan : Plan) (links : List LinkState) (k : ℕ) : Type 0 where
@@ -37,7 +38,8 @@ pub record KeptReady : Type 0 where
   pub closed : (old new : Tx) (vl sub total : ℕ) → IsReady old → ClosesTx old vl sub total new → IsReady new
   pub published : (old new : Tx) → IsReady old → Publishes old new → IsReady new
 
--- a poll of a ready emitter of a plan, by what was transmitted before and after it
+-- A poll of a ready emitter of a plan, by what was transmitted before and after it. What it has taken after the poll
+-- are messages that its ports may send, too.
 pub record EmitterPolls (plan : Plan) (now : ℕ) (lines after : Lines) : Type 0 where
   pub old : Tx
   pub new : Tx
@@ -46,6 +48,7 @@ pub record EmitterPolls (plan : Plan) (now : ℕ) (lines after : Lines) : Type 0
   pub before : old.lines ≡ lines
   pub afterwards : new.lines ≡ after
   pub run : IsRun now old.links new.links old.lines new.lines
+  pub allowed : AreQueued plan (taken_in new.links)
 
 -- a poll of a drain of a plan
 pub record DrainPolls (plan : Plan) (now : ℕ) (lines after : Lines) : Type 0 where
@@ -78,14 +81,20 @@ pub record ComesBy (stream : List Entry) (first : Entry) (bound : ℕ) : Type 0 
   pub are : AreNeighbours stream first between next
   pub soon : next.at ≤ bound
 
--- The last entry of a link's stream has the flag of more fragments. Polls follow it within the lateness, and continue
--- until the bound; after them a network that carries the link is up. Then the next fragment was released by the bound
--- of the link, and so by that of the configuration.
+-- the longest time between two neighbouring fragments of a message on link `k`, in microseconds: a BAG and a lateness
+-- for each of its sub-VLs that has a port
+abbrev pub next_wait : ℕ → Plan → ℕ → ℕ
+next_wait late plan k =
+    used_sub_vls (link_plan_at plan.links k) plan.ports * (bag_micros (link_plan_at plan.links k).bag + late)
+
+-- The last entry of a link's stream is of a sub-VL with a port, and has the flag of more fragments. Polls follow it
+-- within the lateness, and continue until the bound; after them a network that carries the link is up. Then the next
+-- fragment was released by the bound of the link, and so by that of the configuration.
 abbrev pub NextInRun : Type 0
 NextInRun = (plan : Plan) (moments : List ℕ) (lines after : Lines) (k late : ℕ) (earlier : List Entry) (first : Entry)
     → IsPlan plan → k < length plan.links → stream_at plan k lines ≡ earlier ++ first ∷ [] → more_in first.frame ≡ true
-    → sub_in first.frame < (link_plan_at plan.links k).sub_vls → AreRuns plan moments lines after
+    → has_port (link_plan_at plan.links k) plan.ports (sub_in first.frame) ≡ true → AreRuns plan moments lines after
     → any_up (link_plan_at plan.links k).networks after ≡ true → ComeWithin late first.at moments
-    → first.at + link_wait late (link_plan_at plan.links k) ≤ latest_of first.at moments
-    → ComesBy (stream_at plan k after) first (first.at + link_wait late (link_plan_at plan.links k))
+    → first.at + next_wait late plan k ≤ latest_of first.at moments
+    → ComesBy (stream_at plan k after) first (first.at + next_wait late plan k)
     × ComesBy (stream_at plan k after) first (first.at + longest_wait late plan.links)

@@ -1,5 +1,5 @@
 -- Worked runs, of polls of a drain.
-use Rattle.std.specs.Prelude.{take, length, ◌++◌, replicate, Bool, true, false, ◌&&◌, ℕ, ◌≡◌, ◌+◌, ◌≤◌, ◌<◌, List, [], ◌∷◌, map, None}
+use Rattle.std.specs.Prelude.{take, length, ◌++◌, replicate, Bool, true, false, ◌&&◌, ℕ, ◌≡◌, ◌+◌, ◌≤◌, List, [], ◌∷◌, map, None}
 use Rattle.afdx_plan.specs.Config.{Plan, IsPlan, link_plan_at}
 use Rattle.afdx_plan.specs.Demo.{demo_plan, demo_link, demo_port}
 use Rattle.afdx_plan.specs.declared.link_plan.LinkPlan.{LinkPlan}
@@ -10,7 +10,6 @@ use Rattle.redundant_mux.specs.Lines.{Entry, entry, logged_for, Lines, lines_of,
 use Rattle.afdx_legal.specs.Legal.{Accepted}
 use Rattle.afdx_legal.specs.Streams.{more_in, latest, IsPrefixOf}
 use Rattle.afdx_tx.specs.DrainEnds.{stream_at}
-use Rattle.afdx_laws.specs.NextFragment.{link_wait}
 use Rattle.afdx_laws.specs.Rows.{Holds}
 use Rattle.afdx_laws.specs.WorkedDelivery.{one_accepted, front_frame, back_frame, bytes_41}
 use Rattle.afdx_plan.specs.declared.port_plan.PortPlan.{PortPlan}
@@ -19,8 +18,8 @@ use Rattle.afdx_frame.specs.Cutting.{piece_at}
 use Rattle.afdx_frame.specs.Frame.{frame_of}
 use Rattle.afdx_frame.specs.Fragments.{Sent}
 use Rattle.vl_shaper.specs.Pace.{IsLater}
-use Rattle.plan_analysis.specs.Wait.{worst_wait}
-use Rattle.run_laws.specs.Runs.{AreRuns, EmitterPolls, ComeWithin, latest_of, ComesBy}
+use Rattle.plan_analysis.specs.Wait.{worst_wait, has_port}
+use Rattle.run_laws.specs.Runs.{AreRuns, EmitterPolls, ComeWithin, latest_of, ComesBy, next_wait}
 use Rattle.run_laws.specs.MessageInRun.{AreTimely, fragments_of, seen_of, IsAccepted, HasPlace, AreFinding, AreReleasedBy}
 
 -- The demonstration configuration with frames of up to 64 bytes: a message of two fragments was accepted, and its first
@@ -63,7 +62,7 @@ front_entry = entry 0 (front_frame A)
 
 -- the second fragment was released by the bound for polls up to 1,000 microseconds apart, which is 2,000
 abbrev pub Comes : Lines → Type 0
-Comes lines = ComesBy (stream_at small_plan 0 lines) front_entry (0 + link_wait 1000 small_link)
+Comes lines = ComesBy (stream_at small_plan 0 lines) front_entry (0 + next_wait 1000 small_plan 0)
 
 -- The law for polls at these times. Each premise with flag `true` holds, each other one fails. The second fragment is
 -- released by the bound if and only if all hold.
@@ -71,7 +70,7 @@ pub record RunCase (moments : List ℕ) (lines : Lines) (run up come reach : Boo
   pub runs : Holds run (AreRuns small_plan moments front_line lines)
   pub is_up : Holds up (any_up (link_plan_at small_plan.links 0).networks lines ≡ true)
   pub comes : Holds come (ComeWithin 1000 0 moments)
-  pub reaches : Holds reach (0 + link_wait 1000 small_link ≤ latest_of 0 moments)
+  pub reaches : Holds reach (0 + next_wait 1000 small_plan 0 ≤ latest_of 0 moments)
   pub next : Holds (run && up && come && reach) (Comes lines)
 
 -- The run meets the premises, and the second fragment is released at 1,000.
@@ -79,7 +78,7 @@ pub record ComesInRun : Type 0 where
   pub valid : IsPlan small_plan
   pub ends : stream_at small_plan 0 front_line ≡ front_entry ∷ []
   pub more : more_in (front_frame A) ≡ true
-  pub below : sub_in (front_frame A) < small_link.sub_vls
+  pub port : has_port small_link small_plan.ports (sub_in (front_frame A)) ≡ true
   pub run : RunCase (1000 ∷ 2000 ∷ []) both_lines true true true true
 
 -- a frame of the same message, with the number of a sub-VL that the link does not have
@@ -91,19 +90,19 @@ stray_line = lines_by ((1000, stray_frame) ∷ [])
 
 -- The law for an entry at 1,000, with two polls that transmit nothing. Each premise with flag `true` holds, each other
 -- one fails, and no fragment follows.
-pub record LastCase (lines : Lines) (earlier : List Entry) (frame : List ℕ) (last more below : Bool) : Type 0 where
+pub record LastCase (lines : Lines) (earlier : List Entry) (frame : List ℕ) (last more port : Bool) : Type 0 where
   pub runs : AreRuns small_plan (2000 ∷ 3000 ∷ []) lines lines
   pub ends : Holds last (stream_at small_plan 0 lines ≡ earlier ++ entry 1000 frame ∷ [])
   pub flag : Holds more (more_in frame ≡ true)
-  pub inside : Holds below (sub_in frame < small_link.sub_vls)
+  pub inside : Holds port (has_port small_link small_plan.ports (sub_in frame) ≡ true)
   pub is_up : any_up (link_plan_at small_plan.links 0).networks lines ≡ true
   pub comes : ComeWithin 1000 1000 (2000 ∷ 3000 ∷ [])
-  pub reaches : 1000 + link_wait 1000 small_link ≤ latest_of 1000 (2000 ∷ 3000 ∷ [])
-  pub none : ComesBy (stream_at small_plan 0 lines) (entry 1000 frame) (1000 + link_wait 1000 small_link) → ⊥
+  pub reaches : 1000 + next_wait 1000 small_plan 0 ≤ latest_of 1000 (2000 ∷ 3000 ∷ [])
+  pub none : ComesBy (stream_at small_plan 0 lines) (entry 1000 frame) (1000 + next_wait 1000 small_plan 0) → ⊥
 
 -- Each of these premises is needed. Without a poll the second fragment is not released, nor if what follows is no run.
 -- A late poll releases it after the bound. If both networks fail with its frame, it is lost. After the last fragment
--- none follows, nor after an entry that the stream does not have or one of a sub-VL that the link does not have.
+-- none follows, nor after an entry that the stream does not have or one of a sub-VL without a port.
 pub record NeedsARun : Type 0 where
   pub none : RunCase [] front_line true true true false
   pub idle : RunCase (1000 ∷ 2000 ∷ []) front_line false true true true

@@ -5,7 +5,7 @@ ghost use Rattle.run_laws.specs.Runs.{NextInRun, KeptReady};
 ghost use Rattle.run_laws.specs.WorkedRun.{ComesInRun, NeedsARun, MeetsTheWait, NeedsItsPremises};
 
 /// An emitter, or its drain, releases the next fragment of a message within the bound of its link: one BAG and one
-/// lateness per sub-VL of the link, counted from the fragment before it.
+/// lateness per sub-VL of the link that has a port, counted from the fragment before it, which is of one of these.
 ///
 /// A run (`AreRuns`) follows from the contracts of `Emitter::poll` (`run`, `plan`, `allowed`), for a ready emitter
 /// (`IsReady`), and of `Draining::poll` (`run`, `plan`, `allowed`, `accepted`). `open_tx` makes a ready emitter, and
@@ -22,7 +22,7 @@ pub fn next_in_run()
     ensures in_turn { ComesInTurn }
 
     // no poll; no run; a late poll; networks that fail with the fragment; a last fragment; an entry that isn't in the
-    // stream; a sub-VL that the link doesn't have
+    // stream; a sub-VL without a port
     ensures needed { NeedsARun }
 {}
 

@@ -7,6 +7,6 @@ pub use Rattle.std.proofs.lemmas.List.Sums.{sum_by-cons}
 pub use Rattle.std.proofs.lemmas.Nat.{div-add-mod', mod-mul-add, mod_below, mul-le}
 pub use Rattle.vl_shaper.specs.Pace.{AreChosen, Choice, IsChosen, IsPassedOver, OneEach, next_turn, IsLater, is_due, turn_of}
 pub use Rattle.vl_shaper.specs.Latency.{BoundIsMet, HasUntil, InTime, IsBy, IsPaced, QueuedMessage, Release, choices_of, turns_of}
-pub use Rattle.vl_shaper.specs.WorkedChoices.{ChoosesOneEach, LeavesOneBehind, ReleasesTooLate, WaitsBehindOne, WaitsFourChoices, busy_choice, busy_release, lone_choice}
+pub use Rattle.vl_shaper.specs.WorkedChoices.{ChoosesOneEach, LeavesOneBehind, ReleasesTooLate, WaitsBehindOne, WaitsForUsers, WaitsFourChoices, busy_choice, pair_choice, busy_release, lone_choice}
 pub use Rattle.vl_shaper.specs.declared.shaper.Stamp.{Stamp}
 pub use native.Mathlib.Nat.{lt_of_mul-lt-mul_left, mul-suc, suc-mul}

@@ -1,32 +1,40 @@
 -- How long a sub-VL waits, in choices and by the clock, and rounds in which it waits that long.
-use Rattle.vl_shaper.proofs.Names.{ℕ, zero, suc, ◌≡◌, ◌+◌, ◌-◌, ◌*◌, ◌<◌, ◌≤◌, List, [], ◌∷◌, length, take, arith, refl, ap, subst, inl, inr, mul-suc, lt_of_mul-lt-mul_left, All-cons, All-weaker, Choice, next_turn, AreChosen, turns_of, HasUntil, QueuedMessage, BoundIsMet, Release, IsPaced, IsBy, InTime, busy_choice}
+use Rattle.vl_shaper.proofs.Names.{ℕ, Bool, true, zero, suc, ◌≡◌, ◌+◌, ◌-◌, ◌*◌, ◌<◌, ◌≤◌, List, [], ◌∷◌, length, take, arith, refl, ap, subst, inl, inr, mul-suc, lt_of_mul-lt-mul_left, All-cons, All-weaker, Choice, next_turn, AreChosen, turns_of, HasUntil, QueuedMessage, BoundIsMet, Release, IsPaced, IsBy, InTime, busy_choice}
 use Rattle.std.specs.Prelude.{All}
 use Rattle.std.proofs.lemmas.List.{length-map, take-map, take_all}
-use Rattle.vl_shaper.proofs.OneEach.{back, back_cases, back_lt, back_self, turn_cases, turn_lt, chosen_behind, count_cases}
+use Rattle.vl_shaper.specs.Pace.{AreOfUsers, users_among}
+use Rattle.vl_shaper.proofs.Users.{passed, passed_lt, passed_more, passed_self}
+use Rattle.vl_shaper.proofs.OneEach.{back, back_cases, back_self, turn_cases, turn_lt, chosen_behind, count_cases}
 
--- n choices suffice: the sub-VLs still before x, and one round for each turn but the first.
-pub waits : (n : ℕ) (choices : List Choice) (subs x l f : ℕ) → x < subs → l < subs → AreChosen subs l choices → HasUntil x f choices
-    → n ≤ length choices → subs * f ≤ n + back subs x l → f ≤ turns_of x (take n choices)
-waits n choices subs x l zero xl ll a h long enough = omega arith
-waits zero choices subs x l (suc f) xl ll a h long enough = grind arith
-waits (suc n) [] subs x l (suc f) xl ll a h long enough = absurd (omega arith)
-waits (suc n) (c ∷ cs) subs x l (suc f) xl ll a h long enough =
+-- n choices suffice: the users still before x, and one round for each turn but the first.
+pub waits : (n : ℕ) (choices : List Choice) (subs : ℕ) (uses : ℕ → Bool) (x l f : ℕ) → x < subs → l < subs → uses x ≡ true
+    → AreChosen subs l choices → AreOfUsers uses choices → HasUntil x f choices
+    → n ≤ length choices → users_among subs uses * f ≤ n + passed subs uses x l → f ≤ turns_of x (take n choices)
+waits n choices subs uses x l zero xl ll user a u h long enough = omega arith
+waits zero choices subs uses x l (suc f) xl ll user a u h long enough =
+    let b = passed_lt subs uses x l xl user in
+    absurd (omega (arith, mul-suc (users_among subs uses) f))
+waits (suc n) [] subs uses x l (suc f) xl ll user a u h long enough = absurd (omega arith)
+waits (suc n) (c ∷ cs) subs uses x l (suc f) xl ll user a u h long enough =
     let to = chosen_behind subs x l c xl ll a.0 (h.0 (omega arith)) in
-    let b = back_lt subs x l xl ll in
+    let b = passed_lt subs uses x l xl user in
+    let m = mul-suc (users_among subs uses) f in
     elim (count_cases x c (take n cs)) [
       | inl (e, one, mine) ↦
           let left : suc f - turns_of x (c ∷ []) ≡ f = omega arith in
-          let rest : f ≤ turns_of x (take n cs) = waits n cs subs x c.sub f xl to.0 a.1 (rw left at h.1) (omega arith) (omega arith) in
+          let none = passed_self subs uses x c.sub xl e in
+          let rest : f ≤ turns_of x (take n cs) = waits n cs subs uses x c.sub f xl to.0 user a.1 u.1 (rw left at h.1) (omega arith) (omega arith) in
           omega arith
       | inr (ne, none, mine) ↦
           let left : suc f - turns_of x (c ∷ []) ≡ suc f = omega arith in
-          let rest : suc f ≤ turns_of x (take n cs) = waits n cs subs x c.sub (suc f) xl to.0 a.1 (rw left at h.1) (omega arith) (omega arith) in
+          let more = passed_more subs uses x l c.sub to.0 u.0 (to.1 ne) in
+          let rest : suc f ≤ turns_of x (take n cs) = waits n cs subs uses x c.sub (suc f) xl to.0 user a.1 u.1 (rw left at h.1) (omega arith) (omega arith) in
           omega arith
     ]
 
 -- The law, after any last served sub-VL.
 pub queued_message_holds : QueuedMessage
-queued_message_holds subs x last q f choices xl ll a h enough =
+queued_message_holds subs x last q f uses choices xl ll user a u h enough =
     subst (λ (cs : List Choice). q + f ≤ turns_of x cs) (take_all (length choices) choices (omega arith))
     (grind (arith, waits))
 
@@ -42,8 +50,8 @@ by_then (suc n) gap late start (r ∷ releases) p =
 
 -- The law, by the first releases.
 pub in_time_holds : InTime
-in_time_holds subs x last q f gap late start releases xl ll chosen has paced enough =
-    let n : ℕ = subs * (q + f) in
+in_time_holds subs x last q f gap late start uses releases xl ll user chosen u has paced enough =
+    let n : ℕ = users_among subs uses * (q + f) in
     let long = length-map releases (λ (r : Release). r.choice) in (
       subst (λ (cs : List Choice). q + f ≤ turns_of x cs) (take-map (λ (r : Release). r.choice) n releases)
           (grind (arith, waits)),

@@ -1,7 +1,7 @@
 -- The worked choices, waits and polls, by computation.
-use Rattle.vl_shaper.proofs.Names.{ℕ, ◌≡◌, ◌≢◌, ◌<◌, ◌≤◌, true, arith, All-from_recursion, Choice, next_turn, IsChosen, lone_choice, busy_release, ChoosesOneEach, WaitsBehindOne}
+use Rattle.vl_shaper.proofs.Names.{ℕ, ◌≡◌, ◌≢◌, ◌<◌, ◌≤◌, true, arith, refl, All-from_recursion, Choice, next_turn, IsChosen, lone_choice, busy_release, ChoosesOneEach, WaitsBehindOne, WaitsForUsers, pair_choice}
 use Rattle.vl_shaper.proofs.Names.{LeavesOneBehind, WaitsFourChoices, ReleasesTooLate, nat_eq, turn_of}
-use Rattle.vl_shaper.specs.WorkedPolls.{served_at_0, ServesInTime, ReleasesAtOnce, PolledTooLate}
+use Rattle.vl_shaper.specs.WorkedPolls.{served_at_0, ServesInTime, ServesUsersInTime, ReleasesAtOnce, PolledTooLate}
 
 -- A sub-VL that has the first turn and has something is chosen.
 pub first_chosen : (subs : ℕ) (order : ℕ → ℕ) (c : Choice) → 1 ≤ subs → c.sub ≡ order 0 → c.has c.sub ≡ true
@@ -18,6 +18,13 @@ chooses_one_each = grind (arith, first_chosen, again)
 
 pub waits_behind_one : WaitsBehindOne
 waits_behind_one = grind (arith, first_chosen, again)
+
+-- The third sub-VL had nothing, so sub-VL 0 is chosen.
+third_passed : IsChosen 3 (next_turn 3 1) (pair_choice 0)
+third_passed = record { turn = 1; within = omega arith; is = refl; had = refl; before = grind arith }
+
+pub waits_for_users : WaitsForUsers
+waits_for_users = search (arith, first_chosen, third_passed)
 
 pub leaves_one_behind : LeavesOneBehind
 leaves_one_behind = search (arith, first_chosen)
@@ -40,6 +47,9 @@ second_chosen = grind arith
 
 pub serves_in_time : ServesInTime
 serves_in_time = search (arith, first_chosen)
+
+pub serves_users_in_time : ServesUsersInTime
+serves_users_in_time = search (arith, first_chosen, third_passed)
 
 pub releases_at_once : ReleasesAtOnce
 releases_at_once = search (arith, second_chosen, first_chosen)

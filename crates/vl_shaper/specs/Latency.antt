@@ -1,6 +1,6 @@
 -- How long a message waits on its link, in choices among the link's sub-VLs and by the clock.
-use Rattle.std.specs.Prelude.{ℕ, ◌≡◌, ◌+◌, ◌-◌, ◌*◌, ◌<◌, ◌≤◌, List, [], ◌∷◌, true, nat_eq, count_by, length, map, take, All}
-use Rattle.vl_shaper.specs.Pace.{Choice, AreChosen}
+use Rattle.std.specs.Prelude.{ℕ, Bool, ◌≡◌, ◌+◌, ◌-◌, ◌*◌, ◌<◌, ◌≤◌, List, [], ◌∷◌, true, nat_eq, count_by, length, map, take, All}
+use Rattle.vl_shaper.specs.Pace.{Choice, AreChosen, AreOfUsers, users_among}
 
 -- the number of choices of a sub-VL
 abbrev pub turns_of : ℕ → List Choice → ℕ
@@ -13,11 +13,12 @@ HasUntil x many (choice ∷ choices) =
     (1 ≤ many → choice.has x ≡ true) × HasUntil x (many - turns_of x (choice ∷ [])) choices
 
 -- A message of `fragments` fragments, after `queued` fragments of its own sub-VL, is wholly released after `queued +
--- fragments` rounds of the link's sub-VLs, whatever the other sub-VLs send.
+-- fragments` rounds of the sub-VLs that use the link, whatever the others of them send.
 abbrev pub QueuedMessage : Type 0
-QueuedMessage = (subs x last queued fragments : ℕ) (choices : List Choice) → x < subs → last < subs
-    → AreChosen subs last choices → HasUntil x (queued + fragments) choices
-    → subs * (queued + fragments) ≤ length choices
+QueuedMessage = (subs x last queued fragments : ℕ) (uses : ℕ → Bool) (choices : List Choice) → x < subs → last < subs
+    → uses x ≡ true → AreChosen subs last choices → AreOfUsers uses choices
+    → HasUntil x (queued + fragments) choices
+    → users_among subs uses * (queued + fragments) ≤ length choices
     → queued + fragments ≤ turns_of x choices
 
 -- One choice fewer is not enough. On each link there are choices, one fewer than these rounds, that
@@ -50,14 +51,15 @@ abbrev pub IsBy : ℕ → Release → Type 0
 IsBy moment r = r.at ≤ moment
 
 -- A message of `fragments` fragments, after `queued` fragments of its own sub-VL, is wholly released by a time known
--- at the start: `queued + fragments` rounds of the sub-VLs, with a gap and a lateness for each choice.
+-- at the start: `queued + fragments` rounds of the sub-VLs that use the link, with a gap and a lateness for each
+-- choice.
 abbrev pub InTime : Type 0
-InTime = (subs x last queued fragments gap late start : ℕ) (releases : List Release)
-    → x < subs → last < subs
-    → AreChosen subs last (choices_of releases)
+InTime = (subs x last queued fragments gap late start : ℕ) (uses : ℕ → Bool) (releases : List Release)
+    → x < subs → last < subs → uses x ≡ true
+    → AreChosen subs last (choices_of releases) → AreOfUsers uses (choices_of releases)
     → HasUntil x (queued + fragments) (choices_of releases)
     → IsPaced gap late start releases
-    → subs * (queued + fragments) ≤ length releases
-    → (queued + fragments ≤ turns_of x (choices_of (take (subs * (queued + fragments)) releases)))
-    × All (IsBy (start + subs * (queued + fragments) * (gap + late)))
-    (take (subs * (queued + fragments)) releases)
+    → users_among subs uses * (queued + fragments) ≤ length releases
+    → (queued + fragments ≤ turns_of x (choices_of (take (users_among subs uses * (queued + fragments)) releases)))
+    × All (IsBy (start + users_among subs uses * (queued + fragments) * (gap + late)))
+    (take (users_among subs uses * (queued + fragments)) releases)

@@ -1,5 +1,5 @@
 -- The regulation of a virtual link (ARINC 664 Part 7, bandwidth allocation gap and sub-VLs), and its choices in cyclic order.
-use Rattle.std.specs.Prelude.{ℕ, ◌+◌, ◌-◌, ◌%◌, ◌<◌, ◌≤◌, Bool, true, nat_le, Option, Some, None, ◌≡◌, ◌≢◌, List, [], ◌∷◌, false, nat_eq, count_by}
+use Rattle.std.specs.Prelude.{ℕ, zero, suc, ◌+◌, ◌-◌, ◌%◌, ◌<◌, ◌≤◌, Bool, true, nat_le, Option, Some, None, ◌≡◌, ◌≢◌, List, [], ◌∷◌, false, nat_eq, count_by, if◌then◌else◌}
 use Rattle.vl_shaper.specs.declared.shaper.Stamp.{Stamp}
 
 -- a link's gap in microseconds, its number of sub-VLs, its last release, and the next sequence number
@@ -62,6 +62,16 @@ abbrev pub AreChosen : ℕ → ℕ → List Choice → Type 0
 AreChosen subs last [] = Unit {0}
 AreChosen subs last (choice ∷ choices) =
     IsChosen subs (next_turn subs last) choice × AreChosen subs choice.sub choices
+
+-- The number of a link's sub-VLs that use it. A sub-VL without a port never does.
+abbrev pub users_among : ℕ → (ℕ → Bool) → ℕ
+users_among zero uses = 0
+users_among (suc subs) uses = if uses subs then suc (users_among subs uses) else users_among subs uses
+
+-- each chosen sub-VL is one of those that use the link
+abbrev pub AreOfUsers : (ℕ → Bool) → List Choice → Type 0
+AreOfUsers uses [] = Unit {0}
+AreOfUsers uses (choice ∷ choices) = (uses choice.sub ≡ true) × AreOfUsers uses choices
 
 -- the sub-VL had something at each of these choices, and was never chosen
 abbrev pub IsPassedOver : ℕ → List Choice → Type 0

@@ -1,6 +1,6 @@
 -- How long a message waits on its link, by the polls of the link.
 use Rattle.std.specs.Prelude.{ℕ, ◌≡◌, ◌+◌, ◌-◌, ◌*◌, ◌<◌, ◌≤◌, Bool, true, false, nat_eq, nat_le, ◌&&◌, cond, count_by, Option, Some, None, List, [], ◌∷◌}
-use Rattle.vl_shaper.specs.Pace.{IsChosen, is_due, turn_of, IsBelow, IsLater}
+use Rattle.vl_shaper.specs.Pace.{IsChosen, is_due, turn_of, IsBelow, IsLater, users_among}
 use Rattle.vl_shaper.specs.declared.shaper.Stamp.{Stamp}
 
 -- a poll of a link: its time, the sub-VLs that have something, and the sub-VL of the released frame, if there is one
@@ -49,6 +49,16 @@ HasAtPolls x many [] = Unit {0}
 HasAtPolls x many (poll ∷ polls) = (1 ≤ many → poll.has x ≡ true)
     × HasAtPolls x (many - cond (is_of x poll.released) 1 0) polls
 
+-- the released frame is of a sub-VL that uses the link
+abbrev pub IsOfUser : (ℕ → Bool) → Option ℕ → Type 0
+IsOfUser uses None = Unit {0}
+IsOfUser uses (Some chosen) = uses chosen ≡ true
+
+-- each released frame is
+abbrev pub ServeUsers : (ℕ → Bool) → List Poll → Type 0
+ServeUsers uses [] = Unit {0}
+ServeUsers uses (poll ∷ polls) = IsOfUser uses poll.released × ServeUsers uses polls
+
 -- the number of frames of a sub-VL released by a time
 abbrev pub released_by : ℕ → ℕ → List Poll → ℕ
 released_by x moment polls =
@@ -56,15 +66,15 @@ released_by x moment polls =
 
 -- A message of `fragments` fragments, after `queued` of its own sub-VL, is accepted on a link that
 -- is polled within the lateness from then on. It is wholly released by a time known at acceptance:
--- `queued + fragments` rounds of the sub-VLs, with a gap and a lateness for each release. The link
--- may be due then or not, and may have released a frame before or not.
+-- `queued + fragments` rounds of the sub-VLs that use the link, with a gap and a lateness for each
+-- release. The link may be due then or not, and may have released a frame before or not.
 abbrev pub PolledInTime : Type 0
-PolledInTime = (subs x queued fragments gap late accepted : ℕ) (last : Option Stamp)
-    (polls : List Poll) → x < subs → 1 ≤ gap
+PolledInTime = (subs x queued fragments gap late accepted : ℕ) (uses : ℕ → Bool) (last : Option Stamp)
+    (polls : List Poll) → x < subs → uses x ≡ true → 1 ≤ gap
     → IsBelow subs last → IsLater last accepted
-    → AreServed gap subs last polls
+    → AreServed gap subs last polls → ServeUsers uses polls
     → ArePolled late accepted polls
     → HasAtPolls x (queued + fragments) polls
-    → accepted + subs * (queued + fragments) * (gap + late) ≤ latest_poll accepted polls
+    → accepted + users_among subs uses * (queued + fragments) * (gap + late) ≤ latest_poll accepted polls
     → queued + fragments
-    ≤ released_by x (accepted + subs * (queued + fragments) * (gap + late)) polls
+    ≤ released_by x (accepted + users_among subs uses * (queued + fragments) * (gap + late)) polls

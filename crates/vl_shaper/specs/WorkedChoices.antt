@@ -1,6 +1,6 @@
 -- Worked choices among a link's sub-VLs, and worked releases of a link of two.
-use Rattle.std.specs.Prelude.{ℕ, ◌≡◌, ◌+◌, ◌*◌, ◌<◌, ◌≤◌, true, nat_eq, List, [], ◌∷◌, length, take, All}
-use Rattle.vl_shaper.specs.Pace.{Choice, AreChosen, IsPassedOver}
+use Rattle.std.specs.Prelude.{ℕ, ◌≡◌, ◌+◌, ◌*◌, ◌<◌, ◌≤◌, Bool, true, nat_eq, nat_lt, List, [], ◌∷◌, length, take, All}
+use Rattle.vl_shaper.specs.Pace.{Choice, AreChosen, IsPassedOver, AreOfUsers, users_among}
 use Rattle.vl_shaper.specs.Latency.{turns_of, HasUntil, Release, choices_of, IsPaced, IsBy}
 
 -- a choice at which each sub-VL had something
@@ -49,6 +49,35 @@ pub record WaitsBehindOne : Type 0 where
   pub lone : AreChosen 2 0 lone_choices
   pub idle : HasUntil 0 (1 + 1) lone_choices → ⊥
   pub none : 1 + 1 ≤ turns_of 0 lone_choices → ⊥
+
+-- sub-VLs 0 and 1
+abbrev pub first_two : ℕ → Bool
+first_two sub = nat_lt sub 2
+
+-- a choice at which they had something
+abbrev pub pair_choice : ℕ → Choice
+pair_choice chosen = record { has = first_two; sub = chosen }
+
+abbrev pub pair_choices : List Choice
+pair_choices = pair_choice 1 ∷ pair_choice 0 ∷ pair_choice 1 ∷ pair_choice 0 ∷ []
+
+-- the third sub-VL has something too
+abbrev pub third_choices : List Choice
+third_choices = busy_choice 1 ∷ busy_choice 2 ∷ busy_choice 0 ∷ busy_choice 1 ∷ []
+
+-- The same on a link of three sub-VLs, of which two use it: four choices are enough. If the third is chosen too, then
+-- they are too few.
+pub record WaitsForUsers : Type 0 where
+  pub user : first_two 0 ≡ true
+  pub chosen : AreChosen 3 0 pair_choices
+  pub users : AreOfUsers first_two pair_choices
+  pub had : HasUntil 0 (1 + 1) pair_choices
+  pub rounds : users_among 3 first_two * (1 + 1) ≡ length pair_choices
+  pub released : 1 + 1 ≤ turns_of 0 pair_choices
+  pub third : AreChosen 3 0 third_choices
+  pub more : AreOfUsers first_two third_choices → ⊥
+  pub waited : HasUntil 0 (1 + 1) third_choices
+  pub left : 1 + 1 ≤ turns_of 0 third_choices → ⊥
 
 -- Three choices, one fewer than the rounds of two fragments, leave one fragment queued. For no
 -- fragment there is no such list.

@@ -1,9 +1,10 @@
 -- Worked polls of a link of two sub-VLs, with a gap of 1,000 microseconds and polls up to 600 apart.
 -- Sub-VL 0 has a message of one fragment.
 use Rattle.std.specs.Prelude.{ℕ, ◌≡◌, ◌+◌, ◌*◌, ◌≤◌, true, false, nat_eq, Option, Some, None, List, [], ◌∷◌}
-use Rattle.vl_shaper.specs.Pace.{IsBelow, IsLater}
+use Rattle.vl_shaper.specs.Pace.{IsBelow, IsLater, users_among}
+use Rattle.vl_shaper.specs.WorkedChoices.{first_two}
 use Rattle.vl_shaper.specs.declared.shaper.Stamp.{Stamp}
-use Rattle.vl_shaper.specs.Polls.{Poll, AreServed, ArePolled, HasAtPolls, latest_poll, released_by}
+use Rattle.vl_shaper.specs.Polls.{Poll, AreServed, ArePolled, HasAtPolls, latest_poll, released_by, ServeUsers}
 
 -- a poll at which each sub-VL has something
 abbrev pub busy_poll : ℕ → Option ℕ → Poll
@@ -40,6 +41,30 @@ pub record ServesInTime : Type 0 where
   pub had : HasAtPolls 0 1 six_polls
   pub reached : 0 + 2 * 1 * (1000 + 600) ≤ latest_poll 0 six_polls
   pub released : released_by 0 (0 + 2 * 1 * (1000 + 600)) six_polls ≡ 1
+
+-- a poll at which sub-VLs 0 and 1 have something
+abbrev pub pair_poll : ℕ → Option ℕ → Poll
+pair_poll moment chosen = record { at = moment; has = first_two; released = chosen }
+
+-- the same polls of a link of three sub-VLs, of which the third never has anything
+abbrev pub pair_polls : List Poll
+pair_polls = pair_poll 500 None
+    ∷ pair_poll 1100 (Some 1)
+    ∷ pair_poll 1700 None
+    ∷ pair_poll 2300 (Some 0)
+    ∷ pair_poll 2900 None
+    ∷ pair_poll 3300 (Some 1)
+    ∷ []
+
+-- The premises hold, and the bound is the same.
+pub record ServesUsersInTime : Type 0 where
+  pub served : AreServed 1000 3 served_at_0 pair_polls
+  pub users : ServeUsers first_two pair_polls
+  pub count : users_among 3 first_two ≡ 2
+  pub polled : ArePolled 600 0 pair_polls
+  pub had : HasAtPolls 0 1 pair_polls
+  pub reached : 0 + 2 * 1 * (1000 + 600) ≤ latest_poll 0 pair_polls
+  pub released : released_by 0 (0 + 2 * 1 * (1000 + 600)) pair_polls ≡ 1
 
 -- the link has only this message, and was due at all times before it
 abbrev pub polls_from_5000 : List Poll

@@ -1,4 +1,4 @@
-use Rattle.std.proofs.Common.{ℕ, ◌+◌, ◌-◌, ◌*◌, ◌≤◌, arith}
+use Rattle.std.proofs.Common.{ℕ, ◌+◌, ◌-◌, ◌*◌, arith}
 use Rattle.std.proofs.lemmas.Nat.{mul-le}
 use Rattle.plan_analysis.proofs.Bounds.{bag_most}
 use Rattle.plan_analysis.proofs.fragments.message_wait.Goals as goal
@@ -8,7 +8,7 @@ overflow_mul-result-2 c =
     let link = c.args.link.now in
     let queued = mul-le (link.capacity - 1) c.args.most 255 342 (omega arith) (omega arith) in
     let before : ℕ = (link.capacity - 1) * c.args.most + c.saturating_sub.result + c.args.own in
-    let rounds = mul-le link.sub_vls before 4 (255 * 342 + 684) (omega arith) (omega arith) in
+    let rounds = mul-le c.args.used before 4 (255 * 342 + 684) (omega arith) (omega arith) in
     let gap = bag_most link.bag in
-    let wait = mul-le (link.sub_vls * before) (c.micros.result + c.args.late) (4 * (255 * 342 + 684)) 1128000 (omega arith) (omega arith) in
+    let wait = mul-le (c.args.used * before) (c.micros.result + c.args.late) (4 * (255 * 342 + 684)) 1128000 (omega arith) (omega arith) in
     omega arith

@@ -1,6 +1,4 @@
-use Rattle.std.proofs.Common.{arith, take, length, get_or, ◌∷◌, [], ◌++◌, ◌≡◌, ◌+◌, suc}
-use Rattle.std.proofs.Math.Seq.{take-suc}
-use Rattle.plan_analysis.specs.Wait.{most_pieces, pieces_on}
+use Rattle.std.proofs.Common.{arith}
 use Rattle.plan_analysis.proofs.Bounds.{most_push}
 use Rattle.std.proofs.lemmas.Grind.{common_steps}
 use Rattle.plan_analysis.proofs.fragments.most_pieces.Goals as goal

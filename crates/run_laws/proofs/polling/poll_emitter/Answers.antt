@@ -1,9 +1,20 @@
-use Rattle.run_laws.proofs.Names.{arith, on_ok_weaker}
+use Rattle.run_laws.proofs.Names.{refl, subst, on_ok_weaker, Plan, AreQueued, taken_in}
 use Rattle.run_laws.proofs.KeepReady.{kept_ready}
 use Rattle.run_laws.proofs.polling.poll_emitter.Goals as goal
 
 pub returns-clause-step : goal.returns-clause-step
-returns-clause-step g c = grind (arith, on_ok_weaker)
+returns-clause-step g c = on_ok_weaker c.poll.result
+    (λ run. record {
+      old = c.args.emitter.now;
+      new = c.poll.new.self;
+      ready = c.requires.ready;
+      of = refl;
+      before = refl;
+      afterwards = refl;
+      run = run;
+      allowed = subst (λ (p : Plan). AreQueued p (taken_in c.poll.new.self.links)) c.poll.ensures.lawful.plan c.poll.ensures.lawful.allowed;
+    })
+    c.poll.ensures.run
 
 pub returns-clause-ready : goal.returns-clause-ready
 returns-clause-ready g c = on_ok_weaker c.poll.result
