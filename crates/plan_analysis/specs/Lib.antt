@@ -1,3 +1,4 @@
 pub mod Load
 pub mod Wait
+pub mod Traffic
 pub mod Analysis

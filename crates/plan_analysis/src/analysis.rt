@@ -155,7 +155,7 @@ pub(crate) fn port_row(late: u64, config: &Config, port: &PortPlan) -> PortRow
 }
 
 /// The link of a port.
-fn link_of<'a>(config: &'a Config, port: &PortPlan) -> &'a LinkPlan
+pub(crate) fn link_of<'a>(config: &'a Config, port: &PortPlan) -> &'a LinkPlan
     ensures link { result.now ≡ link_of_port config.now port.now }
     ensures valid { IsLink result.now }
 {

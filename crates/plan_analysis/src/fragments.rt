@@ -23,7 +23,7 @@ pub(crate) fn port_pieces(link: &LinkPlan, port: &PortPlan) -> u64
 }
 
 /// Whether this port sends on sub-VL `sub` of a link.
-fn is_on(link: &LinkPlan, sub: u8, port: &PortPlan) -> bool
+pub(crate) fn is_on(link: &LinkPlan, sub: u8, port: &PortPlan) -> bool
     ensures { result ≡ is_on_sub link.now sub port.now }
 {
     port.vl.0 == link.id.0 && port.sub == sub

@@ -5,8 +5,10 @@
 mod analysis;
 mod fragments;
 mod load;
+mod traffic;
 
 pub use analysis::{
     Analysis, JITTER_LIMIT, LATENESS_LIMIT, LinkRow, NetworkName, NetworkRow, PortRow, analyze,
 };
 pub use load::carries;
+pub use traffic::{Sender, traffic_waits};

@@ -1,0 +1,9 @@
+use Rattle.std.proofs.Common.{◌≡◌, ◌*◌, ◌≤◌, take}
+use Rattle.plan_analysis.specs.Traffic.{arrived}
+use Rattle.plan_analysis.proofs.traffic.arrived.Given as goal
+
+abbrev pub invariant-loop-flow : goal.invariant-loop-flow
+invariant-loop-flow l = record {
+  told : l.fragments ≡ arrived (take l.flow-index l.flows) l.time;
+  bound : l.fragments ≤ 101128863744342 * l.flow-index;
+}

@@ -1,0 +1,10 @@
+use Rattle.std.proofs.Common.{◌+◌, ◌-◌}
+use Rattle.plan_analysis.specs.Traffic.{busy_limit}
+use Rattle.plan_analysis.proofs.Busy.{IsBefore}
+use Rattle.plan_analysis.proofs.traffic.busy_rounds.Given as goal
+
+abbrev pub invariant-loop-rounds : goal.invariant-loop-rounds
+invariant-loop-rounds l = IsBefore l.round l.flows l.rounds
+
+abbrev pub decreases-loop-rounds : goal.decreases-loop-rounds
+decreases-loop-rounds l = busy_limit + 1 - l.rounds

@@ -1,0 +1,12 @@
+use Rattle.std.proofs.Common.{◌≡◌, ◌≤◌, true, length, take}
+use Rattle.std.specs.Prelude.{All}
+use Rattle.plan_analysis.specs.Traffic.{IsFlow, have_periods, flows_of}
+use Rattle.plan_analysis.proofs.traffic.flows_on.Given as goal
+
+abbrev pub invariant-loop-sender : goal.invariant-loop-sender
+invariant-loop-sender l = record {
+  have : have_periods l.link l.sub (take l.sender-index l.senders) ≡ true;
+  are : l.flows.items ≡ flows_of l.link l.sub (take l.sender-index l.senders);
+  good : All IsFlow l.flows.items;
+  few : length l.flows.items ≤ l.sender-index;
+}
