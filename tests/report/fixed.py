@@ -56,6 +56,7 @@ port = [
 # 10 waits 2 (3 * 7 - 1 + 1) 2,250 microseconds.
 ANALYSES = {
     (DEMO, 0): """\
+loads within limits, jitter within limits, deadlines not given
 end system 1, polls up to 0 us late
  link bag-ms lmax subs  nets    load-kbit/s  share-%  jitter-ns
     1      1 1518    1   A+B      12304.000    12.31     123040
@@ -67,6 +68,7 @@ network    load-kbit/s  share-%  exceeded
    10     1   0         6          17000      166.666
 """,
     (UNEQUAL, 250): """\
+loads within limits, jitter within limits, deadlines not given
 end system 1, polls up to 250 us late
  link bag-ms lmax subs  nets    load-kbit/s  share-%  jitter-ns
     1      2  200    4   A+B        880.000     0.88      17600

@@ -10,6 +10,7 @@ PLANS small plans, 500 by default, are run as scripts, in each of which one mess
 send. It is released at exactly its printed wait. In many plans some sub-VLs have no port.
 """
 import html.parser
+import csv
 import os
 import random
 import subprocess
@@ -17,7 +18,6 @@ import sys
 import tempfile
 import tomllib
 from collections.abc import Iterator
-from fractions import Fraction
 
 HERE = os.path.dirname(os.path.abspath(__file__))
 ROOT = os.path.dirname(os.path.dirname(HERE))
@@ -28,75 +28,9 @@ import fixed  # noqa: E402
 import picture  # noqa: E402
 import refusals  # noqa: E402
 import refusals_wanted  # noqa: E402
+import traffic  # noqa: E402
+from expected import Plan, Tables, check_of, jitter_of, pieces, wanted  # noqa: E402
 from trying import DEMO  # noqa: E402
-
-Plan = dict
-Tables = dict[str, list[list[str]]]
-
-
-def up(value: Fraction) -> int:
-    """The least whole number that isn't below a value."""
-    return -(-value.numerator // value.denominator)
-
-
-def decimal(value: int, digits: int) -> str:
-    """A number of parts as a decimal with `digits` digits after the point."""
-    return f"{value // 10**digits}.{value % 10**digits:0{digits}}"
-
-
-def pieces(link: Plan, size: int) -> int:
-    """How many fragments a message has. Each frame has 14 + 20 + 1 + 4 bytes of its own."""
-    room, datagram, count = link["lmax"] - 39, size + 8, 1
-    while datagram > room:
-        datagram, count = datagram - room // 8 * 8, count + 1
-    return count
-
-
-def wanted(plan: Plan, lateness: int) -> Tables:
-    """The rows of a report."""
-    links = {link["id"]: link for link in plan["vl"]}
-    load = {link["id"]: Fraction(8000 * (link["lmax"] + 20), link["bag_ms"]) for link in plan["vl"]}
-    carried = {"A": ("both", "a"), "B": ("both", "b")}
-    tables: Tables = {"links": [], "networks": [], "ports": []}
-    for link in plan["vl"]:
-        bits, name = load[link["id"]], {"both": "A+B", "a": "A", "b": "B"}[link.get("networks", "both")]
-        tables["links"].append(
-            [*(str(link[key]) for key in ("id", "bag_ms", "lmax", "sub_vls")), name, decimal(up(bits), 3), decimal(up(bits / 10_000), 2)]
-            + [str(80 * (link["lmax"] + 20))]
-        )
-    for name, kinds in carried.items():
-        bits = sum((load[link["id"]] for link in plan["vl"] if link.get("networks", "both") in kinds), Fraction())
-        tables["networks"].append([name, decimal(up(bits), 3), decimal(up(bits / 10_000), 2), "yes" if bits > 10**8 else "no"])
-    for port in plan["port"]:
-        link = links[port["vl"]]
-        own = pieces(link, port["max"])
-        most = max(pieces(link, other["max"]) for other in plan["port"] if (other["vl"], other["sub"]) == (port["vl"], port["sub"]))
-        used = len({other["sub"] for other in plan["port"] if other["vl"] == port["vl"]})
-        wait = used * (link["capacity"] * most - 1 + own) * (1000 * link["bag_ms"] + lateness)
-        often = decimal(10**6 // (link["bag_ms"] * own), 3)
-        tables["ports"].append([*(str(port[key]) for key in ("id", "vl", "sub")), str(own), str(wait), often])
-    return tables
-
-
-def jitter_of(plan: Plan) -> int:
-    """The jitter of a plan, in nanoseconds."""
-    return 40_000 + sum(80 * (link["lmax"] + 20) for link in plan["vl"])
-
-
-def check_of(plan: Plan) -> str:
-    """What `check` prints of a plan."""
-    lines = [f"end system {plan['end_system']['id']}"]
-    for link in plan["vl"]:
-        on = {"both": "", "a": ", network A", "b": ", network B"}[link.get("networks", "both")]
-        size = f"bag {link['bag_ms']} ms, lmax {link['lmax']}, sub-VLs {link['sub_vls']}, capacity {link['capacity']}"
-        lines.append(f"link {link['id']}: {size}{on}")
-    for port in plan["port"]:
-        way = f"link {port['vl']} sub {port['sub']}, partition {port['partition']}, {port['kind']}"
-        flow = f"{port['source']} to {port['destination']}, max {port['max']}, {port.get('dest_ip', 'multicast')}"
-        lines.append(f"port {port['id']}: {way}, {flow}" + ", checksum udp" * (port.get("checksum") == "udp"))
-    jitter = jitter_of(plan)
-    return "\n".join([*lines, f"jitter {jitter} ns, limit 500000" + ", exceeded" * (jitter > 500_000), ""])
-
 
 class Page(html.parser.HTMLParser):
     """The tables of a page, and the texts with a name."""
@@ -165,7 +99,7 @@ def tables_of(text: str) -> Tables:
     for line in text.splitlines():
         words = line.split()
         if words[0] in heads:
-            name = heads[words[0]]
+            name = "traffic" if "period-us" in words else heads[words[0]]
             tables[name] = []
         elif name and words[0] != "jitter":
             tables[name].append(words)
@@ -184,8 +118,15 @@ def faults_of(text: str, lateness: int) -> Iterator[str]:
     line = f"jitter {jitter} ns of 500000" + (", exceeded" if jitter > 500_000 else "")
     if line not in done.stdout.splitlines():
         yield f"no line {line}"
-    if done.stdout.splitlines()[0] != f"end system {plan['end_system']['id']}, polls up to {lateness} us late":
-        yield f"first line {done.stdout.splitlines()[0]}"
+    exceeded = any(row[3] == "yes" for row in wanted(plan, lateness)["networks"])
+    kept = {False: "within limits", True: "exceeded"}
+    verdict = f"loads {kept[exceeded]}, jitter {kept[jitter > 500_000]}, deadlines not given"
+    first = [verdict, f"end system {plan['end_system']['id']}, polls up to {lateness} us late"]
+    if done.stdout.splitlines()[:2] != first:
+        yield f"first lines {done.stdout.splitlines()[:2]}"
+    strict = report(text, "--lateness", str(lateness), "--strict")
+    if (strict.returncode, strict.stdout) != (2 if "exceeded" in verdict else 0, done.stdout):
+        yield f"strict: {strict.returncode}"
     with open("page.html", encoding="utf-8") as file:
         whole = file.read()
     if not (whole.startswith("<!DOCTYPE html>") and whole.endswith("</html>\n")):
@@ -228,10 +169,17 @@ def greatest() -> str:
     return configuration(links, [port_of(p, 65535 - p // 4, p % 4, 8192 - 31 * (p % 4)) for p in range(256)])
 
 
-def random_plan(rng: random.Random) -> tuple[str, list[Plan], Plan]:
+def greatest_traffic() -> tuple[str, dict[int, tuple], str, int]:
+    """The greatest plan, with a period and a deadline for each of its ports."""
+    plan = tomllib.loads(greatest())
+    demands = traffic.random_demands(random.Random(0), plan, True)
+    return greatest(), demands, traffic.text_of(random.Random(0), demands), 1_000_000
+
+
+def random_plan(rng: random.Random, capacity: int = 3) -> tuple[str, list[Plan], Plan]:
     """A plan of one small link, its ports, and one of them."""
     link = {"id": 7, "bag_ms": rng.choice((1, 2, 4)), "lmax": rng.choice((64, 72, 100, 200))}
-    link |= {"sub_vls": rng.randint(1, 4), "capacity": rng.randint(1, 3), "networks": rng.choice(("both", "a", "b"))}
+    link |= {"sub_vls": rng.randint(1, 4), "capacity": rng.randint(1, 3) if capacity == 3 else capacity, "networks": rng.choice(("both", "a", "b"))}
     subs = range(link["sub_vls"])
     few = [port_of(10 + sub, 7, sub, rng.randint(1, 300)) for sub in subs if sub == 0 or rng.random() < 0.7]
     more = [port_of(20 + i, 7, rng.choice(few)["sub"], rng.randint(1, 300)) for i in range(rng.randint(0, 3))]
@@ -277,6 +225,72 @@ def wait_faults(seed: int) -> Iterator[str]:
         yield f"plan {seed}: port {port['id']} is done at {last}, and its wait is {printed}\n{text}"
 
 
+def save(name: str, text: str) -> None:
+    """Writes a text as it is."""
+    with open(name, "w", encoding="utf-8", newline="") as file:
+        file.write(text)
+
+
+def traffic_rows(text: str, demands: dict[int, tuple], given: str, lateness: int) -> Iterator[str]:
+    """What is wrong with a report of a plan and its traffic, as text and as a CSV file."""
+    plan = tomllib.loads(text)
+    save("traffic.csv", given)
+    done = report(text, "--lateness", str(lateness), "--traffic", "traffic.csv", "--csv", "rows.csv", "--strict")
+    rows = traffic.rows_of(plan, demands, wanted(plan, lateness), lateness)
+    given_to, missed = [row for row in rows if row[11]], [row for row in rows if row[11] == "yes"]
+    ends = f"missed: {len(missed)} of {len(given_to)}" if missed else "kept" if given_to else "not given"
+    first = done.stdout.splitlines()[0] if done.stdout else ""
+    if not first.endswith(f", deadlines {ends}") or done.returncode != (2 if missed or "exceeded" in first else 0):
+        yield f"{done.returncode} {first}, and {ends} is wanted; {done.stderr}"
+        return
+    with open("rows.csv", encoding="utf-8", newline="") as file:
+        written = list(csv.reader(file))[1:]
+    yield from (f"CSV: {is_} for {to_be}" for is_, to_be in zip(written, rows, strict=True) if is_ != to_be)
+    shown = tables_of(done.stdout)["traffic"]
+    yield from (f"text: {is_} for {to_be}" for is_, to_be in zip(shown, map(traffic.text_row, rows), strict=True) if is_ != to_be)
+
+
+def traffic_faults(seed: int) -> Iterator[str]:
+    """What is wrong with the waits by traffic of a random plan, and with a run that comes as near to them as may be."""
+    rng = random.Random(seed)
+    text, ports, port = random_plan(rng, 256)
+    lateness, plan = rng.choice((0, 0, 1, 250, 999)), tomllib.loads(text)
+    demands = traffic.random_demands(rng, plan, seed % 3 > 0)
+    yield from (f"plan {seed}: {fault}" for fault in traffic_rows(text, demands, traffic.text_of(rng, demands), lateness))
+    used, pause = len({other["sub"] for other in ports}), 1000 * plan["vl"][0]["bag_ms"] + lateness
+    mates = [other for other in ports if other["sub"] == port["sub"]]
+    if any(other["id"] not in demands for other in mates):
+        return
+    flows = [(pieces(plan["vl"][0], other["max"]), demands[other["id"]][1]) for other in mates]
+    wait = traffic.by_traffic(flows, used * pause)
+    if wait is None:
+        return
+    busy = traffic.busy_rounds(flows, used * pause) * used * pause
+    if busy > 400 * pause:
+        return
+    script, accepted = traffic.script_of(plan, port, demands, lateness, busy)
+    save("script.txt", "\n".join(script) + "\n")
+    ran = subprocess.run([PROGRAM, "run", "plan.toml", "script.txt"], capture_output=True, text=True, check=False, timeout=60)
+    longest = max(traffic.waits_of(ran.stdout, port["sub"], accepted))
+    if longest != wait - (pause if used > 1 else 0):
+        yield f"plan {seed}: port {port['id']} waits {longest}, and its wait by traffic is {wait}, a turn {pause}\n{text}"
+
+
+def traffic_text_faults() -> Iterator[str]:
+    """What is wrong with the reports of traffic texts that have faults."""
+    for given, faults in traffic.FAULTS.items():
+        save("traffic.csv", given)
+        done = report(DEMO, "--traffic", "traffic.csv", "--csv", "unmade.csv")
+        head = f"{len(faults)} fault{'s' * (len(faults) > 1)} of the traffic"
+        if (done.returncode, done.stdout, done.stderr) != (2, "\n".join([head, *faults, ""]), "") or os.path.exists("unmade.csv"):
+            yield f"{done} for {given!r}"
+    save("traffic.csv", traffic.PORTS)
+    for name in ("traffic.csv", "plan.toml"):
+        done = report(DEMO, "--traffic", "traffic.csv", "--csv", name)
+        if done.returncode != 4 or open("traffic.csv", encoding="utf-8").read() != traffic.PORTS:
+            yield f"rows in the place of {name}: {done}"
+
+
 def refusal_faults(text: str, *more: str) -> Iterator[str]:
     """What is wrong with runs of a report in each of which an allocation or a write fails, or whose standard output is a
     closed pipe."""
@@ -312,11 +326,16 @@ def main() -> int:
         ),
         "refused memory and writes": lambda: refusal_faults(DEMO),
         "refused memory and writes, with a page": lambda: refusal_faults(DEMO, "--html", "page.html"),
+        "the greatest plan with its periods": lambda: traffic_rows(*greatest_traffic()),
+        "traffic with faults": traffic_text_faults,
+        "refused memory and writes, with traffic": lambda: refusal_faults(DEMO, "--traffic", "demo.csv", "--csv", "rows.csv"),
+        f"{plans} waits by traffic": lambda: (fault for seed in range(plans) for fault in traffic_faults(seed)),
         f"{plans} waits": lambda: (fault for seed in range(plans) for fault in wait_faults(seed)),
     }
     failed = 0
     with tempfile.TemporaryDirectory() as folder:
         os.chdir(folder)
+        save("demo.csv", traffic.PORTS + "10,engine,1000000,5\n")
         for name, faults in tries.items():
             found = list(faults())
             failed += bool(found)

@@ -13,7 +13,7 @@ use files::{create, open, stand_in};
 use plan_report::{
     End, Failure, Halting, Words, check, read_plan, read_words, status_of, tell_faults, tell_words,
 };
-use report::report;
+use report::{Files, report};
 use std::alloc::Global;
 use std::fs::File;
 use std::io::{self, BufWriter, IsTerminal, Write};
@@ -118,7 +118,13 @@ fn obey<W: Write, T: Threads + Wait + Sync>(
             config,
             lateness,
             html,
-        } => report(rt, config.as_str(), lateness, html, writer),
+            traffic,
+            csv,
+            strict,
+        } => {
+            let files = Files { html, traffic, csv };
+            report(rt, config.as_str(), lateness, &files, strict, writer)
+        }
         Words::Storm {
             config,
             messages,

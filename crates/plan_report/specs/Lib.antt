@@ -3,3 +3,4 @@ pub mod Halting
 pub mod Reading
 pub mod Report
 pub mod Status
+pub mod Assessed

@@ -3,7 +3,7 @@ use Rattle.std.specs.Prelude.{ℕ, nat_eq, if◌then◌else◌, ◌≤◌, ⊤, 
 use Rattle.plan_report.specs.declared.status.Failure.{Failure}
 use Rattle.plan_report.specs.declared.status.Failure.TheVariants.{Config, Run, Short, Turns}
 use Rattle.plan_report.specs.declared.status.End.{End}
-use Rattle.plan_report.specs.declared.status.End.TheVariants.{Told, Ran, FaultsTold, WordsRefused, Failed}
+use Rattle.plan_report.specs.declared.status.End.TheVariants.{Told, Ran, FaultsTold, Missed, WordsRefused, Failed}
 use Rattle.script_text.specs.declared.faults.RunFault.{RunFault}
 use Rattle.script_text.specs.declared.faults.RunFault.TheVariants.{Line, Lines, Read, Write, Memory}
 use Rattle.plan_report.specs.declared.words.Words.{Words}
@@ -28,12 +28,13 @@ failure_status (Run fault) = run_status fault
 failure_status Short = 2
 failure_status Turns = 5
 
--- 0 on success, 3 if lines of the script were refused, 2 if the command line was refused or faults of a
--- configuration were written
+-- 0 on success, 3 if lines of the script were refused, 2 if the command line was refused, faults of a configuration
+-- were written, or a strict report has a missed limit or deadline
 abbrev pub exit_status : End → ℕ
 exit_status Told = 0
 exit_status (Ran summary) = if nat_eq summary.refused 0 then 0 else 3
 exit_status FaultsTold = 2
+exit_status Missed = 2
 exit_status WordsRefused = 2
 exit_status (Failed failure) = failure_status failure
 
@@ -41,7 +42,7 @@ exit_status (Failed failure) = failure_status failure
 abbrev pub IsInRange : Words → Type 0
 IsInRange (Storm config messages turns) =
     ((1 ≤ messages) × (messages ≤ 65535)) × ((1 ≤ turns) × (turns ≤ 1000000000))
-IsInRange (Report config lateness html) = lateness ≤ 1000000
+IsInRange (Report config lateness html traffic csv strict) = lateness ≤ 1000000
 IsInRange _ = ⊤
 
 -- a message was written, or standard output failed

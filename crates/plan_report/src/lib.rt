@@ -3,6 +3,7 @@
 #![tactic(auto)]
 
 mod analysis_text;
+mod assessment;
 mod bars;
 mod halting;
 mod numbers;
@@ -11,12 +12,19 @@ mod reading;
 mod report;
 mod status;
 mod style;
+mod traffic;
+mod traffic_fault;
+mod traffic_text;
 mod words;
 
 pub use analysis_text::write_analysis;
+pub use assessment::{Assessment, senders_of};
 pub use halting::Halting;
 pub use page::write_page;
-pub use reading::{TEXT_LIMIT, check, read_plan, tell_faults};
+pub use reading::{TEXT_LIMIT, check, read_plan, read_text, tell_faults};
 pub use report::write_report;
 pub use status::{DONE, End, FAILED, Failure, LINES_REFUSED, REFUSED, USED_UP, status_of};
+pub use traffic::{Demand, PERIOD_LIMIT, Traffic, no_traffic, read_traffic};
+pub use traffic_fault::{Column, TrafficFault, Wrong};
+pub use traffic_text::{write_rows, write_traffic, write_verdict};
 pub use words::{Words, parse, read_words, tell_words};

@@ -93,8 +93,8 @@ fn is_accepted(size: usize) -> bool
     size as u64 <= TEXT_LIMIT
 }
 
-/// Reads the rest of a reader.
-fn read_text<R: Read + Drop>(alloc: Global, reader: R) -> Result<Vec<u8>, Failure>
+/// Reads the rest of a reader, of at most `TEXT_LIMIT` bytes.
+pub fn read_text<R: Read + Drop>(alloc: Global, reader: R) -> Result<Vec<u8>, Failure>
     ensures whole { IfOk result (λ text. IfSome (R.remaining reader) (λ bytes.
         text.items ≡ bytes)) }
     ensures limit { IfOk result (λ text. vec_len text ≤ text_limit) }

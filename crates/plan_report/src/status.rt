@@ -29,8 +29,10 @@ pub enum End {
     Told,
     /// The script was run to its end.
     Ran(Summary),
-    /// The faults of a configuration were written.
+    /// The faults of a configuration or of its traffic were written.
     FaultsTold,
+    /// A strict report was written, in which a limit or a deadline is missed.
+    Missed,
     /// The command line was refused, and its message is already written.
     WordsRefused,
     /// The command ended early.
@@ -45,7 +47,7 @@ pub fn status_of(end: &End) -> u8
         End::Told => DONE,
         End::Ran(summary) if summary.refused == 0 => DONE,
         End::Ran(_) => LINES_REFUSED,
-        End::FaultsTold => REFUSED,
+        End::FaultsTold | End::Missed => REFUSED,
         End::WordsRefused => REFUSED,
         End::Failed(failure) => failure_status(failure),
     }

@@ -6,7 +6,7 @@ ghost use Rattle.clap.specs.Values.{kind_of};
 
 use crate::status::{End, Failure};
 use clap::error::ErrorKind;
-use clap::{Arg, ArgMatches, Command, Error, value_parser};
+use clap::{Arg, ArgAction, ArgMatches, Command, Error, value_parser};
 use plan_analysis::LATENESS_LIMIT;
 use script_text::{RunFault, number};
 use std::alloc::{AllocError, Global};
@@ -32,11 +32,15 @@ pub enum Words {
     Explain {
         config: String,
     },
-    /// `report <config>`, with the greatest lateness of a poll in microseconds, and the file of a page
+    /// `report <config>`, with the greatest lateness of a poll in microseconds, the files of a page, of the
+    /// ports' traffic and of rows for a spreadsheet, and whether a missed limit or deadline is a failure
     Report {
         config: String,
         lateness: u64,
         html: Option<String>,
+        traffic: Option<String>,
+        csv: Option<String>,
+        strict: bool,
     },
     /// `storm <config> --messages <n> --turns <t>`
     Storm {
@@ -257,6 +261,9 @@ pub(crate) fn report_words(
             config,
             lateness,
             html: given_path(alloc, matches, "html")?,
+            traffic: given_path(alloc, matches, "traffic")?,
+            csv: given_path(alloc, matches, "csv")?,
+            strict: matches.get_flag("strict"),
         }),
         None => refuse_number(alloc),
     }
@@ -281,7 +288,13 @@ pub(crate) fn report_command<'a>(alloc: Global) -> Result<Command<'a>, AllocErro
         .value_parser(value_parser!(u64).range(0..1_000_001));
     let report = report.arg(lateness)?;
     let help = "Also writes the report as a page to a file";
-    report.arg(flag(alloc, "html", help).value_name("file"))
+    let report = report.arg(flag(alloc, "html", help).value_name("file"))?;
+    let help = "The periods and deadlines of the ports, from a CSV file";
+    let report = report.arg(flag(alloc, "traffic", help).value_name("file"))?;
+    let help = "Also writes a row for each port to a CSV file";
+    let report = report.arg(flag(alloc, "csv", help).value_name("file"))?;
+    let help = "Ends with status 2 if a limit or a deadline is missed";
+    report.arg(flag(alloc, "strict", help).action(ArgAction::SetTrue))
 }
 
 /// Prints the message of an error: help and the version to standard output, and what is wrong with the

@@ -24,9 +24,11 @@ explain a.toml => Explain { config: \"a.toml\" }
 run a.toml b.txt => Run { config: \"a.toml\", script: \"b.txt\", capture: None }
 run a.toml b.txt --capture c.pcapng => Run { config: \"a.toml\", script: \"b.txt\", capture: Some(\"c.pcapng\") }
 run --capture=c.pcapng a.toml b.txt => Run { config: \"a.toml\", script: \"b.txt\", capture: Some(\"c.pcapng\") }
-report a.toml => Report { config: \"a.toml\", lateness: 0, html: None }
-report a.toml --lateness 1000000 --html b.html => Report { config: \"a.toml\", lateness: 1000000, html: Some(\"b.html\") }
-report --lateness=007 a.toml => Report { config: \"a.toml\", lateness: 7, html: None }
+report a.toml => Report { config: \"a.toml\", lateness: 0, html: None, traffic: None, csv: None, strict: false }
+report a.toml --lateness 1000000 --html b.html => Report { config: \"a.toml\", lateness: 1000000, \
+    html: Some(\"b.html\"), traffic: None, csv: None, strict: false }
+report --lateness=007 a.toml --strict --traffic=t.csv --csv w.csv => Report { config: \"a.toml\", lateness: 7, \
+    html: None, traffic: Some(\"t.csv\"), csv: Some(\"w.csv\"), strict: true }
 storm a.toml --messages 65535 --turns 1000000000 => Storm { config: \"a.toml\", messages: 65535, turns: 1000000000 }
 storm --turns 1 --messages 2 a.toml => Storm { config: \"a.toml\", messages: 2, turns: 1 }
 storm a.toml --messages 0065535 --turns=01 => Storm { config: \"a.toml\", messages: 65535, turns: 1 }";
@@ -66,12 +68,13 @@ fn other_words_are_refused_and_help_and_the_version_are_printed(rt: HostRuntime)
 }
 
 // How the program ends, and its status.
-const STATUSES: [(End, u8); 16] = [
+const STATUSES: [(End, u8); 17] = [
     (End::Told, 0),
     (End::Ran(ONE_ACCEPTED), 0),
     (End::Ran(ONE_OF_TWO), 3),
     (End::Ran(TWO_OF_FOUR), 3),
     (End::FaultsTold, 2),
+    (End::Missed, 2),
     (End::WordsRefused, 2),
     (End::Failed(Failure::Short), 2),
     (End::Failed(Failure::Turns), 5),

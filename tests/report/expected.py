@@ -1,0 +1,69 @@
+"""What `afdx_bench report` and `afdx_bench check` must print of a plan, computed independently."""
+from fractions import Fraction
+
+Plan = dict
+Tables = dict[str, list[list[str]]]
+
+
+def up(value: Fraction) -> int:
+    """The least whole number that isn't below a value."""
+    return -(-value.numerator // value.denominator)
+
+
+def decimal(value: int, digits: int) -> str:
+    """A number of parts as a decimal with `digits` digits after the point."""
+    return f"{value // 10**digits}.{value % 10**digits:0{digits}}"
+
+
+def pieces(link: Plan, size: int) -> int:
+    """How many fragments a message has. Each frame has 14 + 20 + 1 + 4 bytes of its own."""
+    room, datagram, count = link["lmax"] - 39, size + 8, 1
+    while datagram > room:
+        datagram, count = datagram - room // 8 * 8, count + 1
+    return count
+
+
+def wanted(plan: Plan, lateness: int) -> Tables:
+    """The rows of a report."""
+    links = {link["id"]: link for link in plan["vl"]}
+    load = {link["id"]: Fraction(8000 * (link["lmax"] + 20), link["bag_ms"]) for link in plan["vl"]}
+    carried = {"A": ("both", "a"), "B": ("both", "b")}
+    tables: Tables = {"links": [], "networks": [], "ports": []}
+    for link in plan["vl"]:
+        bits, name = load[link["id"]], {"both": "A+B", "a": "A", "b": "B"}[link.get("networks", "both")]
+        tables["links"].append(
+            [*(str(link[key]) for key in ("id", "bag_ms", "lmax", "sub_vls")), name, decimal(up(bits), 3), decimal(up(bits / 10_000), 2)]
+            + [str(80 * (link["lmax"] + 20))]
+        )
+    for name, kinds in carried.items():
+        bits = sum((load[link["id"]] for link in plan["vl"] if link.get("networks", "both") in kinds), Fraction())
+        tables["networks"].append([name, decimal(up(bits), 3), decimal(up(bits / 10_000), 2), "yes" if bits > 10**8 else "no"])
+    for port in plan["port"]:
+        link = links[port["vl"]]
+        own = pieces(link, port["max"])
+        most = max(pieces(link, other["max"]) for other in plan["port"] if (other["vl"], other["sub"]) == (port["vl"], port["sub"]))
+        used = len({other["sub"] for other in plan["port"] if other["vl"] == port["vl"]})
+        wait = used * (link["capacity"] * most - 1 + own) * (1000 * link["bag_ms"] + lateness)
+        often = decimal(10**6 // (link["bag_ms"] * own), 3)
+        tables["ports"].append([*(str(port[key]) for key in ("id", "vl", "sub")), str(own), str(wait), often])
+    return tables
+
+
+def jitter_of(plan: Plan) -> int:
+    """The jitter of a plan, in nanoseconds."""
+    return 40_000 + sum(80 * (link["lmax"] + 20) for link in plan["vl"])
+
+
+def check_of(plan: Plan) -> str:
+    """What `check` prints of a plan."""
+    lines = [f"end system {plan['end_system']['id']}"]
+    for link in plan["vl"]:
+        on = {"both": "", "a": ", network A", "b": ", network B"}[link.get("networks", "both")]
+        size = f"bag {link['bag_ms']} ms, lmax {link['lmax']}, sub-VLs {link['sub_vls']}, capacity {link['capacity']}"
+        lines.append(f"link {link['id']}: {size}{on}")
+    for port in plan["port"]:
+        way = f"link {port['vl']} sub {port['sub']}, partition {port['partition']}, {port['kind']}"
+        flow = f"{port['source']} to {port['destination']}, max {port['max']}, {port.get('dest_ip', 'multicast')}"
+        lines.append(f"port {port['id']}: {way}, {flow}" + ", checksum udp" * (port.get("checksum") == "udp"))
+    jitter = jitter_of(plan)
+    return "\n".join([*lines, f"jitter {jitter} ns, limit 500000" + ", exceeded" * (jitter > 500_000), ""])

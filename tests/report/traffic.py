@@ -1,0 +1,135 @@
+"""The traffic of `afdx_bench report`: an independent model of the waits by traffic, texts with faults, and runs of the end
+system in which each port keeps its period, the other sub-VLs of its link are always full, and polls come as late as they may.
+"""
+import csv
+import io
+import random
+from collections.abc import Iterator
+from fractions import Fraction
+
+Plan = dict
+PORTS = "port,name,period_us,deadline_us\n"
+LIMIT = 1_000_000_000_000
+
+# Traffic texts of the demonstration, whose one port is 10, and the faults that are printed of them.
+FAULTS = {
+    "": ["line 1: a header is missing"],
+    "\n\n": ["line 1: a header is missing"],
+    "name\n": ["line 1, port: the column is missing"],
+    "port,period\n10,5\n": ["line 1: column 2 is none of port, name, period_us and deadline_us"],
+    "port,port\n": ["line 1, port: the column occurs twice"],
+    "Port\n": ["line 1: column 1 is none of port, name, period_us and deadline_us", "line 1, port: the column is missing"],
+    PORTS + "10,a,1\n": ["line 2: the row has 3 fields, and the header 4"],
+    PORTS + "x,a,1,1\n": ["line 2, port: 0 to 65535 is wanted"],
+    PORTS + "65536,a,1,1\n": ["line 2, port: 0 to 65535 is wanted"],
+    PORTS + ",a,1,1\n": ["line 2, port: 0 to 65535 is wanted"],
+    PORTS + "11,a,1,1\n": ["line 2, port: the plan has no port 11"],
+    PORTS + "10,a,1,1\n10,b,1,1\n": ["line 3, port: port 10 already has a row, line 2"],
+    PORTS + "10,a,0,0\n": ["line 2, period_us: 1 to 1000000000000 is wanted", "line 2, deadline_us: 1 to 1000000000000 is wanted"],
+    PORTS + f"10,a,{LIMIT + 1},1.5\n": ["line 2, period_us: 1 to 1000000000000 is wanted", "line 2, deadline_us: 1 to 1000000000000 is wanted"],
+    PORTS + "10,a,-1,+1\n": ["line 2, period_us: 1 to 1000000000000 is wanted", "line 2, deadline_us: 1 to 1000000000000 is wanted"],
+    PORTS + "10,a\x07,1,1\n": ["line 2, name: at most 64 bytes of text without control characters are wanted"],
+    PORTS + f"10,{'a' * 65},1,1\n": ["line 2, name: at most 64 bytes of text without control characters are wanted"],
+    PORTS + '10,"a\nb",1,1\nx,,,\n': [
+        "line 2, name: at most 64 bytes of text without control characters are wanted", "line 4, port: 0 to 65535 is wanted"
+    ],
+}
+
+
+def busy_rounds(flows: list[tuple[int, int]], turn: int) -> int | None:
+    """The first number of rounds in which as many fragments go out as come before their end, up to 65,536."""
+    rounds = 1
+    while rounds <= 65_536:
+        if sum(size * -(-rounds * turn // period) for size, period in flows) == rounds:
+            return rounds
+        rounds += 1
+    return None
+
+
+def by_traffic(flows: list[tuple[int, int]], turn: int) -> int | None:
+    """The greatest wait in the longest busy time of a sub-VL that sends a fragment each `turn`."""
+    if sum(Fraction(size * turn, period) for size, period in flows) > 1:
+        return None
+    rounds = busy_rounds(flows, turn)
+    if rounds is None:
+        return None
+    times = {k * period for _, period in flows for k in range(rounds * turn // period + 1)}
+    return max(turn * sum(size * (1 + t // period) for size, period in flows) - t for t in times)
+
+
+def rows_of(plan: Plan, demands: dict[int, tuple], tables: dict, lateness: int) -> list[list[str]]:
+    """The rows of a CSV file: `demands` has name, period and deadline by port, `tables` the rows of the report."""
+    links, rows = {link["id"]: link for link in plan["vl"]}, []
+    for port, row in zip(plan["port"], tables["ports"], strict=True):
+        link = links[port["vl"]]
+        used = len({other["sub"] for other in plan["port"] if other["vl"] == port["vl"]})
+        mates = [other for other in plan["port"] if (other["vl"], other["sub"]) == (port["vl"], port["sub"])]
+        sizes = {row[0]: int(row[3]) for row in tables["ports"]}
+        flows = [(sizes[str(other["id"])], demands.get(other["id"], ("", None, None))[1]) for other in mates]
+        wait = None if None in [period for _, period in flows] else by_traffic(flows, used * (1000 * link["bag_ms"] + lateness))
+        name, period, deadline = demands.get(port["id"], ("", None, None))
+        queue = int(row[4])
+        least = queue if wait is None else min(wait, queue)
+        end = ["", ""] if deadline is None else [str(deadline - least), "yes" if least > deadline else "no"]
+        numbers = ["" if number is None else str(number) for number in (period, deadline, queue, wait)]
+        rows.append([row[0], name, row[1], row[2], row[3], *numbers, "queue" if least == queue else "traffic", *end])
+    return rows
+
+
+def text_row(row: list[str]) -> list[str]:
+    """The words of a row of the text, by that of the CSV file."""
+    cells = [cell or "-" for cell in [row[0], *row[5:]]]
+    return cells + row[1].split()
+
+
+def random_demands(rng: random.Random, plan: Plan, every: bool) -> dict[int, tuple]:
+    """Names, periods and deadlines for ports of a plan; a period for each, or for some."""
+    links, demands = {link["id"]: link for link in plan["vl"]}, {}
+    for port in plan["port"]:
+        if every or rng.random() < 0.9:
+            bag = 1000 * links[port["vl"]]["bag_ms"]
+            period = rng.choice((rng.randint(1, 400 * bag), rng.randint(20, 400) * bag, bag * rng.randint(1, 64), LIMIT))
+            name = rng.choice(("", "engine", "left wing", "Ä, \"7\""))
+            demands[port["id"]] = (name, period, rng.choice((None, 1, LIMIT, rng.randint(1, 500 * bag))))
+    return demands
+
+
+def text_of(rng: random.Random, demands: dict[int, tuple]) -> str:
+    """A traffic text, with its columns and its rows in any order."""
+    out, columns = io.StringIO(), ["port", "name", "period_us", "deadline_us"]
+    rng.shuffle(columns)
+    writer = csv.writer(out, lineterminator=rng.choice(("\n", "\r\n")))
+    writer.writerow(columns)
+    for port in rng.sample(sorted(demands), len(demands)):
+        name, period, deadline = demands[port]
+        cells = {"port": port, "name": name, "period_us": period, "deadline_us": "" if deadline is None else deadline}
+        writer.writerow([cells[column] for column in columns])
+    return out.getvalue()
+
+
+def script_of(plan: Plan, port: Plan, demands: dict[int, tuple], lateness: int, busy: int) -> tuple[list[str], list[int]]:
+    """A run in which the ports of a sub-VL begin to send just after the sub-VL in turn after it was served, for a busy
+    time, as often as they may, and those of the others always. The second value has the times at which the sub-VL accepts its
+    messages."""
+    pause = 1000 * plan["vl"][0]["bag_ms"] + lateness
+    mates = [other for other in plan["port"] if other["sub"] == port["sub"]]
+    others = [other for other in plan["port"] if other["sub"] != port["sub"]]
+    subs = sorted({other["sub"] for other in others})
+    start = pause * (sum(sub < port["sub"] for sub in subs) % max(len(subs), 1))
+    due = sorted((start + t, other["id"], other["max"]) for other in mates for t in range(0, busy, demands[other["id"]][1]))
+    lines, accepted = [], []
+    for poll in range(0, start + busy + pause, pause):
+        while len(accepted) < len(due) and due[len(accepted)][0] < poll:
+            moment, number, size = due[len(accepted)]
+            lines.append(f"send {number} {'5a' * size}")
+            accepted.append(moment)
+        lines += [f"send {other['id']} {'5a' * other['max']}" for other in others] + [f"at {poll}"]
+    return lines, accepted
+
+
+def waits_of(printed: str, sub: int, accepted: list[int]) -> Iterator[int]:
+    """The wait of each message of a sub-VL that was wholly released in a run, by its transcript."""
+    for line in printed.splitlines():
+        words = line.split()
+        if words[0] in "AB" and int(words[2][36:40], 16) % 4 == sub and not int(words[2][40:44], 16) & 0x2000:
+            yield int(words[1]) - accepted[int(words[2][36:40], 16) // 4]
