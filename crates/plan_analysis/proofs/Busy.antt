@@ -14,6 +14,7 @@ use Rattle.std.proofs.lemmas.List.{length-map}
 use Rattle.std.proofs.Common.{Option, subst}
 use Rattle.afdx_plan.specs.Config.{Plan, IsPlan}
 use Rattle.afdx_plan.specs.Plan.{IsPort}
+use Rattle.plan_analysis.specs.KeptPeriods.{IsBusyUntil, MeetsByTraffic, WaitsByTraffic}
 use Rattle.plan_analysis.specs.declared.traffic.Sender.{Sender}
 use Rattle.plan_analysis.specs.Traffic.{IsFlow, arrived, arrived_before, wait_at, IsWaitWithin, IsBusyTime, busy_limit, HasGoodPeriod, AreSendersOf, IsWaitOf, sender_at}
 
@@ -261,3 +262,49 @@ cover_more round flows busy old own new many e within covered each is = λ i d l
 pub wait_here : (late : ℕ) (plan : Plan) (senders : List Sender) (i : ℕ) (d : Sender) (wait : Option ℕ) → i < length senders
     → IsWaitOf late plan senders (get_or senders i d) wait → IsWaitOf late plan senders (sender_at senders i) wait
 wait_here late plan senders i d wait lt own = subst (λ (s : Sender). IsWaitOf late plan senders s wait) (get_or_default senders i d _ lt) own
+
+-- the message is accepted within the longest busy time
+in_busy : (round : ℕ) (flows : List Flow) (busy at : ℕ) (before by gone : ℕ → ℕ) → IsBusyTime round flows busy
+    → IsBusyUntil round flows at before by gone → at ≤ busy
+in_busy round flows busy at before by gone is b = elim (cases_lt busy at) [
+  | inl late ↦
+      let had = b.has busy is.some (omega arith) in
+      let kept = b.kept_before busy is.some (omega arith) in
+      let more = b.sends busy (omega arith) in
+      let le = mul-le round (gone busy + 1) round (arrived_before flows busy) (omega arith) (omega arith) in
+      absurd (omega (arith, is.is))
+  | inr soon ↦ soon
+]
+
+pub waits_by_traffic : WaitsByTraffic
+waits_by_traffic round flows wait at before by gone some of b =
+    let inside = in_busy round flows of.busy at before by gone of.is_busy b in
+    let most = of.most at inside in
+    let whole = mul-le round (by at) round (arrived flows at) (omega arith) b.kept in (
+      elim (cases_lt (gone (round * by at)) (by at)) [
+        | inl few ↦
+            let more = b.sends (round * by at) few in
+            let le = mul-le round (gone (round * by at) + 1) round (by at) (omega arith) (omega arith) in
+            absurd (omega arith)
+        | inr all ↦ all
+      ],
+      omega arith,
+    )
+
+pub meets_by_traffic : MeetsByTraffic
+meets_by_traffic = record {
+  wait = record {
+    busy = 1000;
+    is_busy = record { some = omega arith; is = refl; least = λ t some is. grind arith };
+    met = (0, omega arith, refl);
+    most = λ t le. grind arith;
+  };
+  busy = record {
+    kept_before = λ t some le. absurd (omega arith);
+    kept = omega arith;
+    has = λ t some le. absurd (omega arith);
+    sends = λ t few. omega arith;
+  };
+  released = omega arith;
+  sooner = λ one. absurd (omega arith);
+}

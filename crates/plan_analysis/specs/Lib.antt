@@ -1,4 +1,5 @@
 pub mod Load
 pub mod Wait
 pub mod Traffic
+pub mod KeptPeriods
 pub mod Analysis

@@ -4,6 +4,7 @@
 
 mod analysis;
 mod fragments;
+pub mod laws;
 mod load;
 mod traffic;
 

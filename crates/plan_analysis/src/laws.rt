@@ -1,0 +1,12 @@
+//! The law of the wait by traffic. The function is empty: its contract is the law.
+ghost use Rattle.plan_analysis.specs.KeptPeriods.{MeetsByTraffic, WaitsByTraffic};
+
+/// If each port of a sub-VL keeps its period, and the sub-VL releases a fragment each round while it has
+/// something, a message is wholly released within the wait by traffic of its acceptance.
+#[tactic(auto, using(crate::proofs::Busy::waits_by_traffic, crate::proofs::Busy::meets_by_traffic))]
+pub fn wait_by_traffic()
+    ensures wait { WaitsByTraffic }
+
+    // a message that takes exactly its wait
+    ensures worked { MeetsByTraffic }
+{}
