@@ -5,8 +5,8 @@ use Rattle.plan_analysis.specs.Traffic.{arrived, arrived_before, IsWaitByTraffic
 
 -- A sub-VL from a time on before which it had nothing, in microseconds: `before` has the fragments accepted before each
 -- time, `by` those accepted up to it, and `gone` those released up to it. A message is accepted at `at`. The ports keep
--- their periods. The sub-VL had something at each time up to then. Until all that was accepted up to then is released, a
--- fragment is released each round.
+-- their periods. The sub-VL had something at each time up to then. Until all that was accepted up to then is released,
+-- a fragment is released each round.
 pub record IsBusyUntil (round : ℕ) (flows : List Flow) (at : ℕ) (before by gone : ℕ → ℕ) : Type 0 where
   pub kept_before : (t : ℕ) → 1 ≤ t → t ≤ at → before t ≤ arrived_before flows t
   pub kept : by at ≤ arrived flows at

@@ -18,15 +18,15 @@ arrived flows t = sum_by (λ (f : Flow). f.fragments * (1 + t / f.period)) flows
 abbrev pub arrived_before : List Flow → ℕ → ℕ
 arrived_before flows t = sum_by (λ (f : Flow). f.fragments * div_ceil t f.period) flows
 
--- The longest busy time of a sub-VL that sends a fragment each `round`: the first time at which all that was handed over
--- before it can be sent.
+-- The longest busy time of a sub-VL that sends a fragment each `round`: the first time at which all that was handed
+-- over before it can be sent.
 pub record IsBusyTime (round : ℕ) (flows : List Flow) (busy : ℕ) : Type 0 where
   pub some : 1 ≤ busy
   pub is : busy ≡ round * arrived_before flows busy
   pub least : (t : ℕ) → 1 ≤ t → t ≡ round * arrived_before flows t → busy ≤ t
 
--- The wait of a message that is accepted `t` after the start of a busy time: its own fragments and those before it take a
--- round each, from the start on.
+-- The wait of a message that is accepted `t` after the start of a busy time: its own fragments and those before it take
+-- a round each, from the start on.
 abbrev pub wait_at : ℕ → List Flow → ℕ → ℕ
 wait_at round flows t = round * arrived flows t - t
 
