@@ -1,4 +1,8 @@
+mod Options
 mod Orders
 mod Packets
+mod Prefixes
 mod ReadBacks
-mod Reading
+mod Steps
+mod Times
+mod Written

@@ -1,33 +1,42 @@
 -- What was written is read back.
-use Rattle.std.proofs.Common.{◌≡◌, ℕ, zero, suc, ◌+◌, ◌%◌, ◌^◌, ◌≤◌, ◌<◌, List, [], ◌∷◌, ◌++◌, map, length, Option, Some, None, refl, ap, ◌∙◌, append_assoc, append-nil, length-append, arith}
-use Rattle.std.specs.Prelude.{codes, All, if◌then◌else◌}
+use Rattle.std.proofs.Common.{◌≡◌, ℕ, ◌+◌, List, [], ◌∷◌, ◌++◌, map, length, Some, Ok, refl, sym, ap, ◌∙◌, append_assoc, arith}
+use Rattle.std.specs.Prelude.{codes, All}
 use Rattle.std.proofs.lemmas.List.Elements.{All-head, All-tail}
-use Rattle.afdx_frame.specs.declared.net.Net.{Net}
+use Rattle.std.proofs.lemmas.List.{drop_all}
+use Rattle.afdx_frame.specs.declared.net.Net.TheVariants.{A, B}
 use Rattle.redundant_mux.specs.Lines.{Entry}
-use Rattle.capture.specs.Capture.{word, half, block, section_block, section_body, interface_block, interface_body, interface_of, packet_body, packet_block, packet_blocks, header_blocks}
-use Rattle.capture.specs.Order.{Captured}
-use Rattle.capture.specs.ReadBack.{Fits, frames_on, ReadsBack}
-use Rattle.capture.specs.Reader.{Block, Capture, Packet, then_read, is_section, with_blocks, read_capture}
+use Rattle.capture.specs.Capture.{word, half, section_block, interface_block, packet_block, packet_blocks, header_blocks, interface_of, packet_body}
+use Rattle.capture.specs.Order.{Captured, in_order}
+use Rattle.capture.specs.ReadBack.{Fits, ReadsBack, packet_for, packets_on}
+use Rattle.capture.specs.Recording.{Progress, Content, Recorded, moved, content, no_packet, at_start, section_content, interface_content, block_content, content_of, body_of, next, with_packet, read_capture, read_from, read_within}
+use Rattle.capture.specs.Interfaces.{with_options, first_option, with_option}
+use Rattle.capture.specs.Units.{unit_of, section_unit, size_of, block_size}
+use Rattle.capture.specs.declared.end.End.TheVariants.{Whole}
+use Rattle.capture.specs.declared.order.Order.TheVariants.{Little}
+use Rattle.capture.specs.declared.unit.Format.TheVariants.{Blocks}
 use Rattle.capture.proofs.Orders.{Merges, none, next_a, next_b, order_merges}
 use Rattle.capture.proofs.Packets.{length-packet_body}
-use Rattle.capture.proofs.Reading.{block_read, packet_read}
+use Rattle.capture.proofs.Steps.{steps_on}
+use Rattle.capture.proofs.Written.{in_section, both, interface_for, length-block, block_next, packet_is_read}
 
--- ---- the frames of an interface
+-- ---- the frames of a network
 
 -- a packet as it is read
-abbrev packet_for : Captured → Packet
-packet_for c = record { interface = interface_of c.net; entry = c.entry }
+abbrev packet_of : Captured → Recorded
+packet_of c = packet_for c.net c.entry
 
--- the frames of the first interface are those of network A, and those of the second those of network B
-first_is : {a b : List Entry} {cs : List Captured} → Merges a b cs → frames_on 0 (map packet_for cs) ≡ a
+-- the packets of network A are its frames, and those of network B its
+first_is : {a b : List Entry} {cs : List Captured} → Merges a b cs
+    → packets_on A (map packet_of cs) ≡ map (packet_for A) a
 first_is none = refl
-first_is (next_a {e} before m) = ap (λ (l : List Entry). e ∷ l) (first_is m)
+first_is (next_a {e} before m) = ap (λ (l : List Recorded). packet_for A e ∷ l) (first_is m)
 first_is (next_b before m) = first_is m
 
-second_is : {a b : List Entry} {cs : List Captured} → Merges a b cs → frames_on 1 (map packet_for cs) ≡ b
+second_is : {a b : List Entry} {cs : List Captured} → Merges a b cs
+    → packets_on B (map packet_of cs) ≡ map (packet_for B) b
 second_is none = refl
 second_is (next_a before m) = second_is m
-second_is (next_b {e} before m) = ap (λ (l : List Entry). e ∷ l) (second_is m)
+second_is (next_b {e} before m) = ap (λ (l : List Recorded). packet_for B e ∷ l) (second_is m)
 
 -- frames that fit
 abbrev AllFit : List Captured → Type 0
@@ -41,70 +50,68 @@ all_fit (next_b {e} {a} {b} before m) h k = (All-head Fits e b k, all_fit m h (A
 
 -- ---- the blocks
 
-interface_small : (net : Net) → interface_of net < 2
-interface_small net = grind arith
+-- the header blocks
+section_read : next at_start section_block ≡ Ok (moved 28 (no_packet (Blocks Little) []))
+unfolding next unit_of section_unit size_of block_size content_of body_of section_content section_block word half
+section_read = refl
 
--- a block's length is a multiple of 4
-packet_even : (interface : ℕ) (e : Entry) → (12 + length (packet_body interface e)) % 4 ≡ 0
-packet_even interface e = grind (arith, length-packet_body)
+first_read : next (in_section []) (interface_block (codes "A")) ≡ Ok (moved 32 (no_packet (Blocks Little) (interface_for A ∷ [])))
+unfolding next unit_of size_of block_size content_of body_of block_content interface_content with_options first_option with_option interface_block word half
+first_read = refl
 
-packet_small : (interface : ℕ) (e : Entry) → Fits e → 12 + length (packet_body interface e) < 2 ^ 32
-packet_small interface e fits = grind (arith, length-packet_body)
+second_read : next (in_section (interface_for A ∷ [])) (interface_block (codes "B"))
+    ≡ Ok (moved 32 (no_packet (Blocks Little) both))
+unfolding next unit_of size_of block_size content_of body_of block_content interface_content with_options first_option with_option interface_block word half
+second_read = refl
 
--- each packet has a byte at least
-packets_long : (cs : List Captured) → length cs ≤ length (packet_blocks cs)
-unfolding packet_blocks packet_block word
-packets_long [] = omega arith
-packets_long (c ∷ cs) = omega (arith, length-append (packet_block c) (packet_blocks cs), packets_long cs)
+-- a packet's block
+packet_next : (c : Captured) → Fits c.entry
+    → next (in_section both) (packet_block c)
+    ≡ Ok (moved (12 + length (packet_body (interface_of c.net) c.entry)) (content (in_section both) (Some (packet_of c))))
+unfolding packet_block block_content
+packet_next c fits =
+    let body : List ℕ = packet_body (interface_of c.net) c.entry in
+    let len = length-packet_body (interface_of c.net) c.entry in
+    block_next 6 body both (omega arith) (λ same. cc) (omega (arith, len)) (omega (arith, len))
+    ∙ rw (packet_is_read c.net c.entry fits) refl
 
--- the blocks of packets are read
-packets_read : (cs : List Captured) (most : ℕ) (seen : Capture) → length seen.names ≡ 2 → AllFit cs → length cs ≤ most
-    → with_blocks most seen (packet_blocks cs) ≡ Some (record seen { packets = seen.packets ++ map packet_for cs })
-unfolding with_blocks packet_blocks packet_block word
-packets_read [] most seen two fit le = grind (arith, append-nil)
-packets_read (c ∷ cs) zero seen two fit le = absurd (omega arith)
-packets_read (c ∷ cs) (suc most) seen two fit le =
-    let i : ℕ = interface_of c.net in
-    let body : List ℕ = packet_body i c.entry in
-    let more : Capture = record seen { packets = seen.packets ++ packet_for c ∷ [] } in
-    let few : i < 2 = interface_small c.net in
-    let known : i < length seen.names = omega arith in
-    rw (
-      block_read 6 body (packet_blocks cs) (omega arith) (packet_small i c.entry fit.0) (packet_even i c.entry),
-      packet_read seen i c.entry known few fit.0,
-      packets_read cs most more two fit.1 (omega arith),
-      append_assoc,
-    ) refl
+-- what follows a block, over all its bytes
+reads_on : (at : ℕ) (p : Progress) (bytes more : List ℕ) (used : ℕ) (does : Content) → next p bytes ≡ Ok (moved used does)
+    → used ≡ length bytes
+    → read_from at p (bytes ++ more) ≡ with_packet does.packet (read_from (at + used) does.after more)
+reads_on at p bytes more used does is whole =
+    steps_on at p bytes more (moved used does) is
+    ∙ ap (λ (l : List ℕ). with_packet does.packet (read_from (at + used) does.after (l ++ more)))
+    (drop_all used bytes (omega arith))
 
--- what is read of a capture
-abbrev capture_of : List Captured → Capture
-capture_of cs = record { names = codes "A" ∷ codes "B" ∷ []; packets = map packet_for cs }
+-- all packets, to the end
+packets_read : (cs : List Captured) (at : ℕ) → AllFit cs
+    → read_from at (in_section both) (packet_blocks cs) ≡ record { packets = map packet_of cs; end = Whole }
+unfolding packet_blocks packet_block read_within next
+packets_read [] at fit = refl
+packets_read (c ∷ cs) at fit =
+    let body : List ℕ = packet_body (interface_of c.net) c.entry in
+    reads_on at (in_section both) (packet_block c) (packet_blocks cs) (12 + length body)
+    (content (in_section both) (Some (packet_of c))) (packet_next c fit.0) (sym (length-block 6 body))
+    ∙ ap (with_packet (Some (packet_of c))) (packets_read cs (at + (12 + length body)) fit.1)
 
-length-header : length header_blocks ≡ 92
+-- the whole capture
+capture_read : (cs : List Captured) → AllFit cs
+    → read_capture (header_blocks ++ packet_blocks cs) ≡ record { packets = map packet_of cs; end = Whole }
 unfolding header_blocks section_block interface_block word half
-length-header = refl
-
--- the whole capture is read
-read_is : (cs : List Captured) → AllFit cs → read_capture (header_blocks ++ packet_blocks cs) ≡ Some (capture_of cs)
-unfolding read_capture with_blocks header_blocks section_block interface_block word half
-read_is cs fit =
+capture_read cs fit =
+    let on_a : List ℕ = interface_block (codes "A") in
+    let on_b : List ℕ = interface_block (codes "B") in
     let rest : List ℕ = packet_blocks cs in
-    let bytes : List ℕ = header_blocks ++ rest in
-    let on_a : List ℕ = interface_body (codes "A") in
-    let on_b : List ℕ = interface_body (codes "B") in
-    let behind : List ℕ = block 1 on_b ++ rest in
-    let none : Capture = record { names = []; packets = [] } in
-    let both : Capture = record { names = codes "A" ∷ codes "B" ∷ []; packets = [] } in
-    let many : length bytes ≡ suc (suc (90 + length rest)) = omega (arith, length-append header_blocks rest, length-header) in
-    ap (λ (o : Option Block). then_read o
-    (λ (b : Block). if is_section b then with_blocks (length bytes) none b.behind else None))
-    (block_read 0x0a0d0d0a section_body (block 1 on_a ++ behind) (omega arith) (omega arith) refl)
-    ∙ ap (λ (n : ℕ). with_blocks n none (block 1 on_a ++ behind)) many
-    ∙ rw (
-      block_read 1 on_a behind (omega arith) (omega arith) refl,
-      block_read 1 on_b rest (omega arith) (omega arith) refl,
-    ) (packets_read cs (90 + length rest) both refl fit (omega (arith, packets_long cs)))
+    ap read_capture (append_assoc section_block (on_a ++ on_b) rest ∙ ap (λ (l : List ℕ). section_block ++ l) (append_assoc on_a on_b rest))
+    ∙ reads_on 0 at_start section_block (on_a ++ (on_b ++ rest)) 28 (no_packet (Blocks Little) []) section_read refl
+    ∙ reads_on 28 (in_section []) on_a (on_b ++ rest) 32 (no_packet (Blocks Little) (interface_for A ∷ [])) first_read refl
+    ∙ reads_on 60 (in_section (interface_for A ∷ [])) on_b rest 32 (no_packet (Blocks Little) both) second_read refl
+    ∙ packets_read cs 92 fit
 
 -- what was written is read back
 pub reads_back : ReadsBack
-reads_back a b fits_a fits_b = let merges = order_merges a b in grind (arith, read_is, all_fit, first_is, second_is)
+reads_back a b fits_a fits_b =
+    let merges = order_merges a b in
+    let read = capture_read (in_order a b) (all_fit merges fits_a fits_b) in
+    rw read (record { whole = refl; first = first_is merges; second = second_is merges })

@@ -1,4 +1,7 @@
 pub mod Capture
 pub mod Order
 pub mod ReadBack
-pub mod Reader
+pub mod Units
+pub mod Interfaces
+pub mod Recording
+pub mod Streaming

@@ -4,7 +4,7 @@ use Rattle.afdx_frame.specs.declared.net.Net.{Net}
 use Rattle.afdx_frame.specs.declared.net.Net.TheVariants.{A, B}
 use Rattle.redundant_mux.specs.Lines.{Entry, entry}
 use Rattle.afdx_frame.specs.declared.net.TheConstants.{GREATEST_FRAME}
-use Rattle.capture.specs.declared.in_order.Packet.{Packet}
+use Rattle.capture.specs.declared.in_order.SentFrame.{SentFrame}
 
 -- a frame with its network
 pub record Captured : Type 0 where
@@ -32,11 +32,11 @@ next_net (a ∷ xs) [] = A
 next_net (a ∷ xs) (b ∷ bs) = if nat_lt b.at a.at then B else A
 
 -- a packet's network, time and bytes
-abbrev pub shown : Packet → Captured
+abbrev pub shown : SentFrame → Captured
 shown packet = on packet.net (entry packet.at packet.frame.now)
 
 -- the first packet is given, and the others are left
-abbrev pub TakesPacket : List Captured → Option Packet → List Captured → Type 0
+abbrev pub TakesPacket : List Captured → Option SentFrame → List Captured → Type 0
 TakesPacket old None new = (old ≡ []) × (new ≡ [])
 TakesPacket old (Some packet) new =
     (old ≡ shown packet ∷ new) × (length packet.frame.now ≤ GREATEST_FRAME)

@@ -1,10 +1,12 @@
 -- What was written is read back, and a worked capture of two frames.
-use Rattle.std.specs.Prelude.{codes, ◌≡◌, ◌≤◌, ◌<◌, ◌^◌, ℕ, nat_eq, if◌then◌else◌, List, [], ◌∷◌, length, Some, All, ◌++◌}
+use Rattle.std.specs.Prelude.{◌≡◌, ◌≤◌, ◌<◌, ◌*◌, ◌^◌, ℕ, Bool, true, false, List, [], ◌∷◌, length, map, filter, Option, Some, None, All, ◌++◌}
+use Rattle.afdx_frame.specs.declared.net.Net.{Net}
+use Rattle.afdx_frame.specs.declared.net.Net.TheVariants.{A, B}
 use Rattle.afdx_frame.specs.declared.net.TheConstants.{GREATEST_FRAME}
 use Rattle.redundant_mux.specs.Lines.{Entry, entry}
-use Rattle.capture.specs.Capture.{capture_bytes, packet_blocks}
-use Rattle.capture.specs.Reader.{Packet, Capture, read_capture}
-use Rattle.afdx_frame.specs.declared.net.Net.TheVariants.{A, B}
+use Rattle.capture.specs.Capture.{capture_bytes, packet_blocks, interface_of}
+use Rattle.capture.specs.Recording.{Recorded, Recording, read_capture}
+use Rattle.capture.specs.declared.end.End.TheVariants.{Whole}
 use Rattle.capture.specs.Order.{RiseFrom, captured_moments, on, in_order}
 
 -- a frame that fits a capture: its time has 64 bits, and it isn't too long
@@ -12,23 +14,36 @@ pub record Fits (e : Entry) : Type 0 where
   pub at : e.at < 2 ^ 64
   pub len : length e.frame ≤ GREATEST_FRAME
 
--- the frames of one interface
-abbrev pub frames_on : ℕ → List Packet → List Entry
-frames_on interface [] = []
-frames_on interface (packet ∷ packets) =
-    if nat_eq packet.interface interface then packet.entry ∷ frames_on interface packets
-    else frames_on interface packets
+-- a packet of this network
+abbrev pub is_of : Net → Option Net → Bool
+is_of net None = false
+is_of A (Some A) = true
+is_of A (Some B) = false
+is_of B (Some A) = false
+is_of B (Some B) = true
 
--- a capture of the frames of network A and of network B
-pub record Tells (a b : List Entry) (capture : Capture) : Type 0 where
-  pub names : capture.names ≡ codes "A" ∷ codes "B" ∷ []
-  pub first : frames_on 0 capture.packets ≡ a
-  pub second : frames_on 1 capture.packets ≡ b
+abbrev pub packets_on : Net → List Recorded → List Recorded
+packets_on net packets = filter (λ (p : Recorded). is_of net p.network) packets
 
--- the reader accepts what is written for a capture of the two lists
+-- a frame as it is read: its time in nanoseconds, and all its bytes
+abbrev pub packet_for : Net → Entry → Recorded
+packet_for net e = record {
+  interface = interface_of net;
+  network = Some net;
+  at = Some (e.at * 1000);
+  original = length e.frame;
+  bytes = e.frame;
+}
+
+-- a whole recording of the frames of network A and of network B
+pub record Tells (a b : List Entry) (recording : Recording) : Type 0 where
+  pub whole : recording.end ≡ Whole
+  pub first : packets_on A recording.packets ≡ map (packet_for A) a
+  pub second : packets_on B recording.packets ≡ map (packet_for B) b
+
+-- what is written for a capture of the two lists is read
 abbrev pub ReadsBack : Type 0
-ReadsBack = (a b : List Entry) → All Fits a → All Fits b
-    → (capture : Capture) × (read_capture (capture_bytes a b) ≡ Some capture) × Tells a b capture
+ReadsBack = (a b : List Entry) → All Fits a → All Fits b → Tells a b (read_capture (capture_bytes a b))
 
 -- a frame of network A, at 0x100000002 microseconds, and one of network B, at 3
 abbrev pub on_a : Entry
@@ -50,10 +65,7 @@ pub record ReadsTwoFrames : Type 0 where
   pub order : in_order (on_a ∷ []) (on_b ∷ []) ≡ on B on_b ∷ on A on_a ∷ []
   pub packets : packet_blocks (in_order (on_a ∷ []) (on_b ∷ [])) ≡ two_packets
   pub read : read_capture (capture_bytes (on_a ∷ []) (on_b ∷ []))
-      ≡ Some (record {
-        names = codes "A" ∷ codes "B" ∷ [];
-        packets = record { interface = 1; entry = on_b } ∷ record { interface = 0; entry = on_a } ∷ [];
-      })
+      ≡ record { packets = packet_for B on_b ∷ packet_for A on_a ∷ []; end = Whole }
 
 -- the times of the capture rise, and those of the two lists one after the other don't
 pub record RiseInTwoFrames : Type 0 where

@@ -9,7 +9,7 @@ use std::marker::Model;
 
 /// A frame of a network, with its time in microseconds.
 #[derive(Clone, Copy, Debug)]
-pub(crate) struct Packet<'a> {
+pub(crate) struct SentFrame<'a> {
     pub(crate) net: Net,
     pub(crate) at: u64,
     pub(crate) frame: &'a [u8],
@@ -40,23 +40,23 @@ impl<'a> InOrder<'a> {
 }
 
 impl<'a> Iterator for InOrder<'a> {
-    type Item = Packet<'a>;
+    type Item = SentFrame<'a>;
 
     ghost next_gives = { TakesPacket };
 
     ghost remaining = { item_count (λ packets. packets) };
 
-    fn next(&mut self) -> Option<Packet<'a>> {
+    fn next(&mut self) -> Option<SentFrame<'a>> {
         match next_net(&self.a, &self.b) {
             Net::A => {
                 let (at, frame) = self.a.next()?;
                 let net = Net::A;
-                Some(Packet { net, at, frame })
+                Some(SentFrame { net, at, frame })
             }
             Net::B => {
                 let (at, frame) = self.b.next()?;
                 let net = Net::B;
-                Some(Packet { net, at, frame })
+                Some(SentFrame { net, at, frame })
             }
         }
     }

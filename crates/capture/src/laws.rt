@@ -1,6 +1,7 @@
 //! Laws of the definitions. Their functions do nothing: the contract is the law.
 ghost use Rattle.capture.specs.Order.{IsInTime};
 ghost use Rattle.capture.specs.ReadBack.{ReadsBack, ReadsTwoFrames, RiseInTwoFrames};
+ghost use Rattle.capture.specs.Streaming.{StepsAlike, StepsOn, StopsThere};
 
 /// A reader accepts what is written for a capture, and has of each interface the frames of its network,
 /// in their order, with their times: for all frames of at most 1,514 bytes, sent at any times of 64
@@ -18,4 +19,12 @@ pub fn in_time()
 
     // a frame at 3 microseconds on network B before one at 4,294,967,298 on A, which was sent first
     ensures worked { RiseInTwoFrames }
+{}
+
+/// A capture that is read in windows is read as a whole: the packets of the steps are those of the recording,
+/// in their order, wherever the windows end.
+pub fn streams()
+    ensures alike { StepsAlike }
+    ensures on { StepsOn }
+    ensures stop { StopsThere }
 {}

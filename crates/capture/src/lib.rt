@@ -1,8 +1,22 @@
 //! The frames of two networks, as one capture in the pcapng format.
 #![tactic(auto)]
 
+mod end;
 mod in_order;
+mod interface;
 pub mod laws;
+mod order;
+mod packet;
+mod reading;
+mod stop;
+mod unit;
 mod write;
 
+pub use end::End;
+pub use interface::{Interface, MOST_INTERFACES};
+pub use order::Order;
+pub use packet::Packet;
+pub use reading::{Reading, Step};
+pub use stop::{Fault, Stop};
+pub use unit::{Clock, Format, GREATEST_UNIT};
 pub use write::write_capture;

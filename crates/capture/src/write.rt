@@ -4,7 +4,7 @@ ghost use Rattle.std.specs.Io.KnownBytes.{Appends};
 ghost use Rattle.capture.specs.Capture.{capture_bytes, header_blocks, section_block, interface_block, packet_block, packet_front, filled, fill, word, interface_of};
 ghost use Rattle.capture.specs.Order.{shown};
 
-use crate::in_order::{InOrder, Packet};
+use crate::in_order::{InOrder, SentFrame};
 use afdx_frame::{GREATEST_FRAME, Net};
 use byteorder::{LittleEndian, WriteBytesExt};
 use script_text::FrameLog;
@@ -70,7 +70,7 @@ fn write_interface<W: Write>(writer: &mut W, name: u8) -> io::Result<()>
 }
 
 /// Writes the packet of a frame.
-fn write_packet<W: Write>(writer: &mut W, packet: Packet<'_>) -> io::Result<()>
+fn write_packet<W: Write>(writer: &mut W, packet: SentFrame<'_>) -> io::Result<()>
     requires { length packet.frame.now ≤ GREATEST_FRAME }
     ensures { OnOk result (Appends (W.contents writer.old) (W.contents writer.new)
         (packet_block (shown packet.entry))) }
@@ -117,7 +117,7 @@ fn write_word<W: Write>(writer: &mut W, number: u32) -> io::Result<()>
 }
 
 /// The padding of `len` bytes to a multiple of 4.
-fn fill_of(len: usize) -> usize
+pub(crate) fn fill_of(len: usize) -> usize
     ensures value { result ≡ fill len }
     ensures most { result ≤ 3 }
 {

@@ -1,0 +1,88 @@
+-- A step reads no byte past its unit, so it is the same whatever follows the bytes that it was given.
+use Rattle.std.proofs.Common.{◌≡◌, ℕ, ◌+◌, ◌≤◌, Bool, true, false, List, ◌++◌, length, take, drop, refl, length-append, length-drop, Result, Ok, Err, arith}
+use Rattle.std.specs.Prelude.{nat_lt}
+use Rattle.std.proofs.lemmas.List.{drop-append-le, take-append-le}
+use Rattle.std.proofs.lemmas.Bool.{le-ltb, ltb-false}
+use Rattle.byteorder.specs.Numbers.{big_from-append, little_from-append}
+use Rattle.capture.specs.Interfaces.{◌>>=◌}
+use Rattle.capture.specs.Recording.{Progress, Moved, moved, content_of, with_bytes, next}
+use Rattle.capture.specs.Units.{number_at, unit_of, section_unit, header_unit, size_of}
+use Rattle.capture.specs.declared.order.Order.{Order}
+use Rattle.capture.specs.declared.order.Order.TheVariants.{Little, Big}
+use Rattle.capture.specs.declared.stop.Stop.{Stop}
+use Rattle.capture.specs.declared.stop.Stop.TheVariants.{More}
+use Rattle.capture.specs.declared.unit.Format.{Format}
+use Rattle.capture.specs.declared.unit.Format.TheVariants.{Unknown, Blocks, Records}
+use Rattle.capture.specs.declared.unit.Unit.{Unit as CaptureUnit}
+use Rattle.capture.specs.declared.unit.Unit.TheVariants.{Section, Block, Header, Record}
+
+-- a number that is within the bytes
+pub number_at-append : (order : Order) (n i : ℕ) (bytes more : List ℕ) → i + n ≤ length bytes
+    → number_at order n i (bytes ++ more) ≡ number_at order n i bytes
+number_at-append Little n i bytes more within =
+    let inside : n ≤ length (drop i bytes) = omega (arith, length-drop i bytes) in
+    rw (drop-append-le i bytes more (omega arith)) (little_from-append n (drop i bytes) more inside)
+number_at-append Big n i bytes more within =
+    let inside : n ≤ length (drop i bytes) = omega (arith, length-drop i bytes) in
+    rw (drop-append-le i bytes more (omega arith)) (big_from-append n (drop i bytes) more inside)
+
+-- the kind of a unit, and its length
+unit_of-append : (format : Format) (bytes more : List ℕ) → 12 ≤ length bytes
+    → unit_of format (bytes ++ more) ≡ unit_of format bytes
+unfolding unit_of section_unit header_unit
+unit_of-append (Records order clock) bytes more enough = refl
+unit_of-append (Blocks order) bytes more enough =
+    rw (number_at-append Little 4 0 bytes more (omega arith), number_at-append Little 4 8 bytes more (omega arith), number_at-append Big 4 8 bytes more (omega arith)) refl
+unit_of-append Unknown bytes more enough =
+    rw (number_at-append Little 4 0 bytes more (omega arith), number_at-append Little 4 8 bytes more (omega arith), number_at-append Big 4 8 bytes more (omega arith), number_at-append Big 4 0 bytes more (omega arith)) refl
+
+size_of-append : (unit : CaptureUnit) (bytes more : List ℕ) → 12 ≤ length bytes
+    → size_of unit (bytes ++ more) ≡ size_of unit bytes
+unfolding size_of
+size_of-append (Section order) bytes more enough = rw (number_at-append order 4 4 bytes more (omega arith)) refl
+size_of-append (Block order) bytes more enough = rw (number_at-append order 4 4 bytes more (omega arith)) refl
+size_of-append (Header order clock) bytes more enough = refl
+size_of-append (Record order clock) bytes more enough = rw (number_at-append order 4 8 bytes more (omega arith)) refl
+
+-- enough bytes stay enough
+with_bytes-append : {X : Type 0} (len : ℕ) (bytes more : List ℕ) (inside inside' : Result X Stop)
+    → (with_bytes len bytes inside ≡ Err More → ⊥) → (len ≤ length bytes → (inside ≡ Err More → ⊥) → inside' ≡ inside)
+    → with_bytes len (bytes ++ more) inside' ≡ with_bytes len bytes inside
+with_bytes-append {X} len bytes more inside inside' other same = by (nat_lt (length bytes) len) refl
+  where
+    by : (t : Bool) → nat_lt (length bytes) len ≡ t → with_bytes len (bytes ++ more) inside' ≡ with_bytes len bytes inside
+    by true is = absurd (other (rw is refl))
+    by false is =
+        let still : nat_lt (length (bytes ++ more)) len ≡ false =
+        le-ltb (length (bytes ++ more)) len (omega (arith, ltb-false (length bytes) len is, length-append bytes more)) in
+        rw (still, is) (same (ltb-false (length bytes) len is) (λ none. other (rw is none)))
+
+-- what follows a step that may stop
+then-same : {X Y : Type 0} (first : Result X Stop) (f g : X → Result Y Stop) → (first >>= f ≡ Err More → ⊥)
+    → ((x : X) → (f x ≡ Err More → ⊥) → g x ≡ f x) → first >>= g ≡ first >>= f
+then-same (Ok x) f g other same = same x other
+then-same (Err stop) f g other same = refl
+
+-- a step from its unit's length on, and from its unit on
+abbrev pub from_size : Progress → List ℕ → CaptureUnit → ℕ → Result Moved Stop
+from_size p bytes unit size =
+    with_bytes size bytes (content_of p unit (take size bytes) >>= (λ does. Ok (moved size does)))
+
+abbrev pub from_unit : Progress → List ℕ → CaptureUnit → Result Moved Stop
+from_unit p bytes unit = size_of unit bytes >>= from_size p bytes unit
+
+-- the step is the same
+pub next-append : (p : Progress) (bytes more : List ℕ) → (next p bytes ≡ Err More → ⊥)
+    → next p (bytes ++ more) ≡ next p bytes
+unfolding next
+next-append p bytes more other =
+    let all : List ℕ = bytes ++ more in
+    with_bytes-append 12 bytes more (unit_of p.format bytes >>= from_unit p bytes)
+    (unit_of p.format all >>= from_unit p all) other (λ enough other_unit.
+    rw (unit_of-append p.format bytes more enough)
+    (then-same (unit_of p.format bytes) (from_unit p bytes) (from_unit p all) other_unit (λ unit other_size.
+    rw (size_of-append unit bytes more enough)
+    (then-same (size_of unit bytes) (from_size p bytes unit) (from_size p all unit) other_size (λ size other_does.
+    with_bytes-append size bytes more (content_of p unit (take size bytes) >>= (λ does. Ok (moved size does)))
+    (content_of p unit (take size all) >>= (λ does. Ok (moved size does))) other_does
+    (λ within last. rw (take-append-le size bytes more within) refl))))))

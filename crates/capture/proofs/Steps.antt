@@ -1,0 +1,91 @@
+-- Reading on from a step.
+use Rattle.std.proofs.Common.{◌≡◌, ℕ, zero, suc, ◌+◌, ◌≤◌, ◌<◌, Bool, true, false, List, ◌++◌, length, take, drop, refl, ap, ◌∙◌, length-append, length-drop, Result, Ok, Err, arith}
+use Rattle.std.proofs.lemmas.List.{drop-append-le}
+use Rattle.capture.proofs.Prefixes.{next-append, from_size, from_unit}
+use Rattle.std.proofs.lemmas.Bool.{ltb-false}
+use Rattle.std.specs.Prelude.{nat_lt}
+use Rattle.capture.specs.Interfaces.{◌>>=◌}
+use Rattle.capture.specs.Units.{unit_of, size_of, block_size, record_size}
+use Rattle.capture.specs.declared.unit.Unit.{Unit as CaptureUnit}
+use Rattle.capture.specs.declared.unit.Unit.TheVariants.{Section, Block, Header, Record}
+use Rattle.capture.specs.Recording.{content_of, moved, with_bytes}
+use Rattle.capture.specs.Recording.{Progress, Moved, next, then_read, with_packet, read_within}
+use Rattle.capture.specs.Streaming.{StepsOn, StopsThere}
+use Rattle.capture.specs.declared.stop.Stop.{Stop}
+use Rattle.capture.specs.declared.stop.Stop.TheVariants.{More, Malformed}
+
+-- what it takes to give something
+then_ok : {X Y : Type 0} (first : Result X Stop) (f : X → Result Y Stop) (y : Y) → first >>= f ≡ Ok y
+    → (x : X) × (first ≡ Ok x) × (f x ≡ Ok y)
+then_ok (Ok x) f y is = (x, refl, is)
+then_ok (Err stop) f y is = absurd (cc)
+
+enough_ok : {Y : Type 0} (len : ℕ) (bytes : List ℕ) (inside : Result Y Stop) (y : Y) → with_bytes len bytes inside ≡ Ok y
+    → (len ≤ length bytes) × (inside ≡ Ok y)
+enough_ok {Y} len bytes inside y = by (nat_lt (length bytes) len) refl
+  where
+    by : (t : Bool) → nat_lt (length bytes) len ≡ t → with_bytes len bytes inside ≡ Ok y → (len ≤ length bytes) × (inside ≡ Ok y)
+    by true is ok = absurd (let e : Err More ≡ Ok y = rw is at ok in cc)
+    by false is ok = (ltb-false (length bytes) len is, rw is at ok)
+
+-- the length of a unit
+size_least : (unit : CaptureUnit) (bytes : List ℕ) (size : ℕ) → size_of unit bytes ≡ Ok size → 12 ≤ size
+unfolding size_of block_size record_size
+size_least (Section order) bytes size is = grind arith
+size_least (Block order) bytes size is = grind arith
+size_least (Header order clock) bytes size is = grind arith
+size_least (Record order clock) bytes size is = grind arith
+
+-- a step takes some bytes, and no more than there are
+pub used_of : (p : Progress) (bytes : List ℕ) (step : Moved) → next p bytes ≡ Ok step
+    → (12 ≤ step.used) × (step.used ≤ length bytes)
+unfolding next
+used_of p bytes step is =
+    let front = enough_ok 12 bytes (unit_of p.format bytes >>= from_unit p bytes) step is in
+    let unit = then_ok (unit_of p.format bytes) (from_unit p bytes) step front.1 in
+    let size = then_ok (size_of unit.0 bytes) (from_size p bytes unit.0) step unit.2 in
+    let whole = enough_ok size.0 bytes (content_of p unit.0 (take size.0 bytes) >>= (λ does. Ok (moved size.0 does))) step size.2 in
+    let does = then_ok (content_of p unit.0 (take size.0 bytes)) (λ does. Ok (moved size.0 does)) step whole.1 in
+    let used : size.0 ≡ step.used = cc does.2 in
+    let least : 12 ≤ size.0 = size_least unit.0 bytes size.0 size.1 in
+    (omega arith, omega arith)
+
+-- more steps than bytes are enough, however many
+turn_same : (n m at : ℕ) (p : Progress) (bytes : List ℕ) → length bytes < suc n → length bytes < suc m
+    → ((at : ℕ) (p : Progress) (rest : List ℕ) → length rest < n → length rest < m
+    → read_within n at p rest ≡ read_within m at p rest) → (r : Result Moved Stop) → next p bytes ≡ r
+    → then_read p.format at bytes (λ after used. read_within n (at + used) after (drop used bytes)) r
+    ≡ then_read p.format at bytes (λ after used. read_within m (at + used) after (drop used bytes)) r
+turn_same n m at p bytes lt lt' same (Err stop) is = refl
+turn_same n m at p bytes lt lt' same (Ok step) is =
+    let used = used_of p bytes step is in
+    let left = length-drop step.used bytes in
+    ap (with_packet step.content.packet)
+    (same (at + step.used) step.content.after (drop step.used bytes) (omega (arith, used, left)) (omega (arith, used, left)))
+
+same_within : (n m at : ℕ) (p : Progress) (bytes : List ℕ) → length bytes < n → length bytes < m
+    → read_within n at p bytes ≡ read_within m at p bytes
+unfolding read_within
+same_within zero m at p bytes lt lt' = absurd (omega arith)
+same_within (suc n) zero at p bytes lt lt' = absurd (omega arith)
+same_within (suc n) (suc m) at p bytes lt lt' =
+    turn_same n m at p bytes lt lt' (λ at p rest lt lt'. same_within n m at p rest lt lt') (next p bytes) refl
+
+pub steps_on : StepsOn
+unfolding read_within
+steps_on at p window more step is =
+    let used = used_of p window step is in
+    let all : next p (window ++ more) ≡ Ok step = next-append p window more (λ short. cc) ∙ is in
+    let rest : drop step.used (window ++ more) ≡ drop step.used window ++ more = drop-append-le step.used window more used.1 in
+    let left = length-drop step.used window in
+    rw (all, rest) (ap (with_packet step.content.packet)
+    (same_within (length (window ++ more)) (suc (length (drop step.used window ++ more))) (at + step.used) step.content.after
+    (drop step.used window ++ more)
+    (omega (arith, used, left, length-append window more, length-append (drop step.used window) more))
+    (omega arith)))
+
+pub stops_there : StopsThere
+unfolding read_within
+stops_there at p window more fault is =
+    let all : next p (window ++ more) ≡ Err (Malformed fault) = next-append p window more (λ short. cc) ∙ is in
+    rw all refl

@@ -1,0 +1,173 @@
+-- The blocks that are written, as a reading takes them.
+use Rattle.std.proofs.Common.{◌≡◌, ℕ, ◌+◌, ◌-◌, ◌*◌, ◌/◌, ◌%◌, ◌^◌, ◌<◌, ◌≤◌, List, [], ◌∷◌, ◌++◌, length, drop, Some, Ok, refl, sym, ap, ◌∙◌, append-nil, length-append, eq-eqb, arith}
+use Rattle.std.specs.Prelude.{slice_range}
+use Rattle.std.proofs.lemmas.Bool.{le-ltb}
+use Rattle.std.proofs.lemmas.List.{take_all, drop-drop}
+use Rattle.std.proofs.Math.Seq.{take-append_seam, drop-append_seam}
+use Rattle.byteorder.specs.Numbers.{little_number-reads_back}
+use Rattle.afdx_frame.specs.declared.net.Net.{Net}
+use Rattle.afdx_frame.specs.declared.net.Net.TheVariants.{A, B}
+use Rattle.redundant_mux.specs.Lines.{Entry}
+use Rattle.capture.specs.Capture.{word, filled, block, interface_of, packet_body}
+use Rattle.capture.specs.Interfaces.{◌>>=◌, time_of, known, network_of}
+use Rattle.capture.specs.ReadBack.{Fits, packet_for}
+use Rattle.capture.specs.Recording.{Progress, moved, content_of, body_of, block_content, enhanced, next}
+use Rattle.capture.specs.Units.{number_at, section_type, unit_of, size_of, block_size}
+use Rattle.capture.specs.declared.interface.Interface.{Interface}
+use Rattle.capture.specs.declared.order.Order.TheVariants.{Little}
+use Rattle.capture.specs.declared.unit.Format.TheVariants.{Blocks}
+use Rattle.capture.specs.declared.unit.TheConstants.{GREATEST_UNIT}
+use Rattle.capture.specs.declared.unit.Unit.TheVariants.{Block}
+use Rattle.capture.proofs.Packets.{length-packet_body}
+
+-- a reading in a little-endian section
+abbrev pub in_section : List Interface → Progress
+in_section interfaces = record { format = Blocks Little; interfaces = interfaces }
+
+length-word : (x : ℕ) → length (word x) ≡ 4
+unfolding word
+length-word x = refl
+
+pub length-block : (kind : ℕ) (body : List ℕ) → length (block kind body) ≡ 12 + length body
+length-block kind body = simp (length-append, length-word) (omega arith)
+
+-- its type, its length in front, its length at the end, and its body
+kind_is : (kind : ℕ) (body : List ℕ) → kind < 2 ^ 32 → number_at Little 4 0 (block kind body) ≡ kind
+unfolding word
+kind_is kind body lt = little_number-reads_back 4 kind (word (12 + length body) ++ (body ++ word (12 + length body))) lt
+
+length_is : (kind : ℕ) (body : List ℕ) → 12 + length body < 2 ^ 32 → number_at Little 4 4 (block kind body) ≡ 12 + length body
+unfolding word
+length_is kind body lt = little_number-reads_back 4 (12 + length body) (body ++ word (12 + length body)) lt
+
+inside_is : (kind : ℕ) (body : List ℕ) → slice_range (block kind body) 8 (8 + length body) ≡ body
+unfolding word
+inside_is kind body =
+    let len : 8 + length body - 8 ≡ length body = omega arith in
+    rw (len, take-append_seam) refl
+
+tail_is : (kind : ℕ) (body : List ℕ) → drop (8 + length body) (block kind body) ≡ word (12 + length body)
+unfolding word
+tail_is kind body =
+    let split : drop (8 + length body) (block kind body) ≡ drop (length body) (drop 8 (block kind body)) =
+    sym (drop-drop (length body) 8 (block kind body)) in
+    split ∙ drop-append_seam body (word (12 + length body))
+
+end_is : (kind : ℕ) (body : List ℕ) → 12 + length body < 2 ^ 32
+    → number_at Little 4 (8 + length body) (block kind body) ≡ 12 + length body
+unfolding word
+end_is kind body lt =
+    ap (λ (l : List ℕ). number_at Little 4 0 l) (tail_is kind body ∙ sym (append-nil (word (12 + length body))))
+    ∙ little_number-reads_back 4 (12 + length body) [] lt
+
+-- a step over bytes by what they read as
+unit_is : (bytes : List ℕ) (kind : ℕ) → number_at Little 4 0 bytes ≡ kind → (kind ≡ section_type → ⊥)
+    → unit_of (Blocks Little) bytes ≡ Ok (Block Little)
+unfolding unit_of
+unit_is bytes kind is other = grind arith
+
+size_is : (bytes : List ℕ) (len : ℕ) → number_at Little 4 4 bytes ≡ len → 12 ≤ len → len ≤ GREATEST_UNIT → len % 4 ≡ 0
+    → size_of (Block Little) bytes ≡ Ok len
+unfolding size_of block_size
+size_is bytes len is least most even = grind arith
+
+content_is : (p : Progress) (bytes body : List ℕ) (kind to : ℕ) → number_at Little 4 0 bytes ≡ kind → length bytes ≡ to + 4
+    → number_at Little 4 to bytes ≡ to + 4 → slice_range bytes 8 to ≡ body
+    → content_of p (Block Little) bytes ≡ block_content p Little kind body
+unfolding content_of body_of
+content_is p bytes body kind to is len end inside =
+    let at : length bytes - 4 ≡ to = omega arith in
+    rw (at, end, len, inside, is, eq-eqb (to + 4) (to + 4) refl) refl
+
+step_is : (interfaces : List Interface) (bytes body : List ℕ) (kind to : ℕ) → number_at Little 4 0 bytes ≡ kind
+    → (kind ≡ section_type → ⊥) → number_at Little 4 4 bytes ≡ to + 4 → length bytes ≡ to + 4 → 8 ≤ to
+    → to + 4 ≤ GREATEST_UNIT → (to + 4) % 4 ≡ 0 → number_at Little 4 to bytes ≡ to + 4 → slice_range bytes 8 to ≡ body
+    → next (in_section interfaces) bytes
+    ≡ block_content (in_section interfaces) Little kind body >>= (λ does. Ok (moved (to + 4) does))
+unfolding next
+step_is interfaces bytes body kind to is other front len least most even end inside =
+    rw (
+      le-ltb (length bytes) 12 (omega arith),
+      unit_is bytes kind is other,
+      size_is bytes (to + 4) front (omega arith) most even,
+      le-ltb (length bytes) (to + 4) (omega arith),
+      take_all (to + 4) bytes (omega arith),
+      content_is (in_section interfaces) bytes body kind to is len end inside,
+    ) refl
+
+-- a step takes a block by its type and its body
+pub block_next : (kind : ℕ) (body : List ℕ) (interfaces : List Interface) → kind < 2 ^ 32 → (kind ≡ section_type → ⊥)
+    → 12 + length body ≤ GREATEST_UNIT → (12 + length body) % 4 ≡ 0
+    → next (in_section interfaces) (block kind body)
+    ≡ block_content (in_section interfaces) Little kind body >>= (λ does. Ok (moved (12 + length body) does))
+block_next kind body interfaces lt other most even =
+    let to : ℕ = 8 + length body in
+    let len : 12 + length body ≡ to + 4 = omega arith in
+    let small : 12 + length body < 2 ^ 32 = omega arith in
+    step_is interfaces (block kind body) body kind to (kind_is kind body lt) other (length_is kind body small ∙ len)
+    (length-block kind body ∙ len) (omega arith) (omega arith) (omega arith) (end_is kind body small ∙ len)
+    (inside_is kind body)
+    ∙ ap (λ (n : ℕ). block_content (in_section interfaces) Little kind body >>= (λ does. Ok (moved n does))) (sym len)
+
+-- the interfaces that are written
+abbrev pub interface_for : Net → Interface
+interface_for net = record { name = Some net; limit = 1514; resolution = 6; offset = 0 }
+
+abbrev pub both : List Interface
+both = interface_for A ∷ interface_for B ∷ []
+
+few_interfaces : (net : Net) → interface_of net < 2
+few_interfaces net = grind arith
+
+-- times are written in microseconds
+time_read : (net : Net) (at ticks : ℕ) → ticks ≡ at → time_of (interface_for net) ticks ≡ Ok (at * 1000)
+unfolding time_of
+time_read net at ticks is =
+    let nanos : ticks * 1000000000 / 1000000 + 0 * 1000000000 ≡ at * 1000 = omega arith in
+    rw nanos refl
+
+known_read : (net : Net) → known both (interface_of net) ≡ Ok (interface_for net)
+known_read A = refl
+known_read B = refl
+
+network_read : (net : Net) → network_of both (interface_of net) ≡ Some net
+network_read A = refl
+network_read B = refl
+
+-- a packet, by what its body reads as
+packet_by : (net : Net) (e : Entry) (body : List ℕ) → number_at Little 4 0 body ≡ interface_of net
+    → number_at Little 4 4 body * 2 ^ 32 + number_at Little 4 8 body ≡ e.at → number_at Little 4 12 body ≡ length e.frame
+    → number_at Little 4 16 body ≡ length e.frame → 20 + length e.frame ≤ length body
+    → slice_range body 20 (20 + length e.frame) ≡ e.frame → enhanced Little both body ≡ Ok (packet_for net e)
+unfolding enhanced
+packet_by net e body interface at captured original within bytes =
+    rw (
+      interface,
+      captured,
+      original,
+      bytes,
+      le-ltb (length body) 20 (omega arith),
+      known_read net,
+      le-ltb (length body) (20 + length e.frame) within,
+      time_read net e.at (number_at Little 4 4 body * 2 ^ 32 + number_at Little 4 8 body) at,
+      network_read net,
+    ) refl
+
+-- a packet that is written
+pub packet_is_read : (net : Net) (e : Entry) → Fits e
+    → enhanced Little both (packet_body (interface_of net) e) ≡ Ok (packet_for net e)
+unfolding word
+packet_is_read net e fits =
+    let i : ℕ = interface_of net in
+    let few : i < 2 = few_interfaces net in
+    let len : ℕ = length e.frame in
+    let frame : List ℕ = filled e.frame in
+    let high : number_at Little 4 4 (packet_body i e) ≡ e.at / 2 ^ 32 =
+    little_number-reads_back 4 (e.at / 2 ^ 32) (word (e.at % 2 ^ 32) ++ (word len ++ (word len ++ frame))) (omega arith) in
+    let low : number_at Little 4 8 (packet_body i e) ≡ e.at % 2 ^ 32 =
+    little_number-reads_back 4 (e.at % 2 ^ 32) (word len ++ (word len ++ frame)) (omega arith) in
+    packet_by net e (packet_body i e)
+    (little_number-reads_back 4 i (word (e.at / 2 ^ 32) ++ (word (e.at % 2 ^ 32) ++ (word len ++ (word len ++ frame)))) (omega arith))
+    (omega (arith, high, low)) (little_number-reads_back 4 len (word len ++ frame) (omega arith))
+    (little_number-reads_back 4 len frame (omega arith)) (omega (arith, length-packet_body i e))
+    (let same : 20 + len - 20 ≡ len = omega arith in rw (same, take-append_seam) refl)

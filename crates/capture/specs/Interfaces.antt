@@ -1,0 +1,99 @@
+-- What a section describes of an interface, and what the times of its packets are.
+use Rattle.std.specs.Prelude.{ℕ, zero, suc, ◌+◌, ◌-◌, ◌*◌, ◌/◌, ◌^◌, nat_eq, nat_lt, if◌then◌else◌, List, [], ◌∷◌, length, drop, slice_get, slice_range, Option, Some, None, Result, Ok, Err}
+use Rattle.std.specs.List.{list_any}
+use Rattle.std.specs.Option.{is_some}
+use Rattle.afdx_frame.specs.declared.net.Net.{Net}
+use Rattle.afdx_frame.specs.declared.net.Net.TheVariants.{A, B}
+use Rattle.capture.specs.Capture.{fill}
+use Rattle.capture.specs.Units.{number_at, malformed}
+use Rattle.capture.specs.declared.interface.Interface.{Interface}
+use Rattle.capture.specs.declared.interface.OptionFront.{OptionFront}
+use Rattle.capture.specs.declared.order.Order.{Order}
+use Rattle.capture.specs.declared.stop.Fault.TheVariants.{BadOption, NoInterface, Time}
+use Rattle.capture.specs.declared.stop.Stop.{Stop}
+
+-- a step that may stop, and what follows it
+infixl 10 ◌>>=◌
+abbrev pub ◌>>=◌ : {X Y : Type 0} → Result X Stop → (X → Result Y Stop) → Result Y Stop
+Ok x >>= f = f x
+Err stop >>= f = Err stop
+
+-- an interface without options: its times are in microseconds since 1970
+abbrev pub plain : ℕ → Interface
+plain limit = record { name = None; limit = limit; resolution = 6; offset = 0 }
+
+-- the network that a name is of
+abbrev pub name_of : List ℕ → Option Net
+name_of (letter ∷ []) =
+    if nat_eq letter 65 then Some A else (if nat_eq letter 66 then Some B else None)
+name_of _ = None
+
+-- the resolution of times is one byte
+abbrev pub with_resolution : List ℕ → Interface → Result Interface Stop
+with_resolution (byte ∷ []) i = Ok (record i { resolution = byte })
+with_resolution _ i = malformed BadOption
+
+-- the name is option 2, the resolution of times 9, and what is added to them 14; others are skipped
+unfoldable pub with_option : Order → ℕ → List ℕ → Interface → Result Interface Stop
+with_option order code value i =
+    if nat_eq code 2 then Ok (record i { name = name_of value })
+    else (if nat_eq code 9 then with_resolution value i
+    else (if nat_eq code 14
+    then (if nat_eq (length value) 8 then Ok (record i { offset = number_at order 8 0 value }) else malformed BadOption)
+    else Ok i))
+
+-- an option: its code, the length of its value, and its value with padding to a multiple of 4
+unfoldable pub first_option : Order → List ℕ → Result OptionFront Stop
+first_option order bytes =
+    let len = number_at order 2 2 bytes in
+    if nat_lt (length bytes) 4 then malformed BadOption
+    else (if nat_lt (length bytes) (4 + (len + fill len)) then malformed BadOption
+    else Ok (record { code = number_at order 2 0 bytes; len = len }))
+
+-- options, at most `most`, up to option 0 or the end of the bytes
+unfoldable pub with_options : Order → ℕ → List ℕ → Interface → Result Interface Stop
+with_options order most [] i = Ok i
+with_options order zero (byte ∷ bytes) i = Ok i
+with_options order (suc most) (byte ∷ bytes) i =
+    first_option order (byte ∷ bytes) >>= (λ front. if nat_eq front.code 0 then Ok i
+    else with_option order front.code (slice_range (byte ∷ bytes) 4 (4 + front.len)) i
+    >>= with_options order most (drop (4 + (front.len + fill front.len)) (byte ∷ bytes)))
+
+-- units of time in a second: a power of ten, or of two if the highest bit is set
+abbrev pub per_second : ℕ → ℕ
+per_second resolution = if nat_lt resolution 128 then 10 ^ resolution else 2 ^ (resolution - 128)
+
+-- a time with seconds added, in two's complement of 64 bits; it isn't before 1970
+abbrev pub shifted : ℕ → ℕ → Result ℕ Stop
+shifted offset nanos =
+    if nat_lt offset (2 ^ 63) then Ok (nanos + offset * 10 ^ 9)
+    else (if nat_lt nanos ((2 ^ 64 - offset) * 10 ^ 9) then malformed Time
+    else Ok (nanos - (2 ^ 64 - offset) * 10 ^ 9))
+
+-- nanoseconds since 1970
+unfoldable pub time_of : Interface → ℕ → Result ℕ Stop
+time_of i ticks = shifted i.offset (ticks * 10 ^ 9 / per_second i.resolution)
+
+-- the interface of a number
+abbrev pub ok_or_unknown : Option Interface → Result Interface Stop
+ok_or_unknown None = malformed NoInterface
+ok_or_unknown (Some i) = Ok i
+
+abbrev pub known : List Interface → ℕ → Result Interface Stop
+known interfaces number = ok_or_unknown (slice_get interfaces number)
+
+-- the network that an interface is named after
+abbrev pub network_named : Option Interface → Option Net
+network_named None = None
+network_named (Some i) = i.name
+
+-- without names the first interface is network A, and the second B
+abbrev pub network_numbered : ℕ → Option Net
+network_numbered number =
+    if nat_eq number 0 then Some A else (if nat_eq number 1 then Some B else None)
+
+-- the network of an interface: that of its name, if any interface of the section has the name of a network
+abbrev pub network_of : List Interface → ℕ → Option Net
+network_of interfaces number =
+    if list_any (λ (i : Interface). is_some i.name) interfaces then network_named (slice_get interfaces number)
+    else network_numbered number

@@ -1,0 +1,235 @@
+-- Reading a capture: what each unit does to a reading, and which packets all units give.
+use Rattle.std.specs.Prelude.{ℕ, Bool, false, zero, suc, ◌+◌, ◌-◌, ◌*◌, ◌%◌, ◌^◌, ◌≡◌, nat_eq, nat_lt, ◌||◌, if◌then◌else◌, List, [], ◌∷◌, ◌++◌, length, take, drop, slice_range, Option, Some, None, Result, Ok, Err}
+use Rattle.afdx_frame.specs.declared.net.Net.{Net}
+use Rattle.afdx_frame.specs.declared.net.Net.TheVariants.{A}
+use Rattle.capture.specs.Interfaces.{◌>>=◌, plain, with_options, time_of, known, network_of}
+use Rattle.capture.specs.Units.{number_at, malformed, unit_of, size_of}
+use Rattle.capture.specs.declared.end.End.{End}
+use Rattle.capture.specs.declared.end.End.TheVariants.{Whole, CutOff, Broken}
+use Rattle.capture.specs.declared.interface.Interface.{Interface}
+use Rattle.capture.specs.declared.interface.TheConstants.{MOST_INTERFACES}
+use Rattle.capture.specs.declared.order.Order.{Order}
+use Rattle.capture.specs.declared.packet.Packet.{Packet}
+use Rattle.capture.specs.declared.stop.Fault.TheVariants.{Version, Length, EndLength, LinkType, Interfaces, Captured}
+use Rattle.capture.specs.declared.stop.Stop.{Stop}
+use Rattle.capture.specs.declared.stop.Stop.TheVariants.{More, Malformed}
+use Rattle.capture.specs.declared.unit.Clock.{Clock}
+use Rattle.capture.specs.declared.unit.Clock.TheVariants.{Micros, Nanos}
+use Rattle.capture.specs.declared.unit.Format.{Format}
+use Rattle.capture.specs.declared.unit.Format.TheVariants.{Unknown, Blocks, Records}
+use Rattle.capture.specs.declared.unit.TheConstants.{UNIT_FRONT}
+use Rattle.capture.specs.declared.unit.Unit.{Unit as CaptureUnit}
+use Rattle.capture.specs.declared.unit.Unit.TheVariants.{Section, Block, Header, Record}
+
+-- a packet: its interface and its network, its time in nanoseconds since 1970, its length, and what was captured of it
+pub record Recorded : Type 0 where
+  pub interface : ℕ
+  pub network : Option Net
+  pub at : Option ℕ
+  pub original : ℕ
+  pub bytes : List ℕ
+
+-- a packet, with the bytes that it borrows
+abbrev pub recorded : Packet → Recorded
+recorded p = record {
+  interface = p.interface;
+  network = p.network;
+  at = p.at;
+  original = p.original;
+  bytes = p.bytes.now;
+}
+
+abbrev pub recorded_if : Option Packet → Option Recorded
+recorded_if None = None
+recorded_if (Some p) = Some (recorded p)
+
+-- a packet was read, or why none was
+abbrev pub Gives : Result Packet Stop → Result Recorded Stop → Type 0
+Gives (Ok packet) wanted = wanted ≡ Ok (recorded packet)
+Gives (Err stop) wanted = wanted ≡ Err stop
+
+-- ---- packets
+
+-- An enhanced packet block: the interface, the time with its high word first, how many bytes were captured
+-- and how many there were, and the bytes. Padding and options are left.
+unfoldable pub enhanced : Order → List Interface → List ℕ → Result Recorded Stop
+enhanced order interfaces body =
+    let interface = number_at order 4 0 body in
+    let captured = number_at order 4 12 body in
+    if nat_lt (length body) 20 then malformed Length
+    else known interfaces interface >>= (λ described.
+    if nat_lt (length body) (20 + captured) then malformed Captured
+    else time_of described (number_at order 4 4 body * 2 ^ 32 + number_at order 4 8 body) >>= (λ at.
+    Ok (record {
+      interface = interface;
+      network = network_of interfaces interface;
+      at = Some at;
+      original = number_at order 4 16 body;
+      bytes = slice_range body 20 (20 + captured);
+    })))
+
+-- how many bytes are captured of a packet: at most the limit, if there is one
+abbrev pub captured_of : ℕ → ℕ → ℕ
+captured_of limit original = if nat_eq limit 0 || nat_lt original limit then original else limit
+
+-- A simple packet block: how many bytes there were, and the bytes. It is of the first interface, and has no time.
+unfoldable pub simple : Order → List Interface → List ℕ → Result Recorded Stop
+simple order interfaces body =
+    let original = number_at order 4 0 body in
+    if nat_lt (length body) 4 then malformed Length
+    else known interfaces 0 >>= (λ described.
+    if nat_lt (length body) (4 + captured_of described.limit original) then malformed Captured
+    else Ok (record {
+      interface = 0;
+      network = network_of interfaces 0;
+      at = None;
+      original = original;
+      bytes = slice_range body 4 (4 + captured_of described.limit original);
+    }))
+
+-- nanoseconds in a unit of the second part of a record's time
+abbrev pub nanos_in : Clock → ℕ
+nanos_in Micros = 1000
+nanos_in Nanos = 1
+
+-- A record: its time in seconds and their parts, how many bytes were captured and how many there were.
+-- Its interface is the only one, so it is of network A.
+unfoldable pub from_record : Order → Clock → List ℕ → Recorded
+from_record order clock whole = record {
+  interface = 0;
+  network = Some A;
+  at = Some (number_at order 4 0 whole * 10 ^ 9 + number_at order 4 4 whole * nanos_in clock);
+  original = number_at order 4 12 whole;
+  bytes = drop 16 whole;
+}
+
+-- ---- steps
+
+-- where a reading is: what the capture was found to be, and the interfaces of the section, in their order
+pub record Progress : Type 0 where
+  pub format : Format
+  pub interfaces : List Interface
+
+abbrev pub at_start : Progress
+at_start = record { format = Unknown; interfaces = [] }
+
+-- what a unit does: where the reading is after it, and its packet, if it has one
+pub record Content : Type 0 where
+  pub after : Progress
+  pub packet : Option Recorded
+
+abbrev pub content : Progress → Option Recorded → Content
+content after packet = record { after = after; packet = packet }
+
+abbrev pub no_packet : Format → List Interface → Content
+no_packet format interfaces = record { after = record { format = format; interfaces = interfaces }; packet = None }
+
+-- the body of a block, between its type and first length, and its last length, which is that length once more
+unfoldable pub body_of : Order → List ℕ → Result (List ℕ) Stop
+body_of order whole =
+    if nat_eq (number_at order 4 (length whole - 4) whole) (length whole)
+    then Ok (slice_range whole 8 (length whole - 4))
+    else malformed EndLength
+
+-- a section header: version 1 of the format, and the section's length, which isn't needed. It begins anew.
+unfoldable pub section_content : Order → List ℕ → Result Content Stop
+section_content order body =
+    if nat_lt (length body) 16 then malformed Length
+    else (if nat_eq (number_at order 2 4 body) 1 then Ok (no_packet (Blocks order) []) else malformed Version)
+
+-- an interface description block: Ethernet, the limit of what is captured, and options
+unfoldable pub interface_content : Format → List Interface → Order → List ℕ → Result Content Stop
+interface_content format interfaces order body =
+    if nat_lt (length body) 8 then malformed Length
+    else (if nat_eq (number_at order 2 0 body) 1
+    then (if nat_lt (length interfaces) MOST_INTERFACES
+    then with_options order (length (drop 8 body)) (drop 8 body) (plain (number_at order 4 4 body))
+    >>= (λ i. Ok (no_packet format (interfaces ++ i ∷ [])))
+    else malformed Interfaces)
+    else malformed LinkType)
+
+-- a block by its type: 1 describes an interface, 3 and 6 are packets, and others are skipped
+unfoldable pub block_content : Progress → Order → ℕ → List ℕ → Result Content Stop
+block_content p order kind body =
+    if nat_eq kind 1 then interface_content p.format p.interfaces order body
+    else (if nat_eq kind 3 then simple order p.interfaces body >>= (λ packet. Ok (content p (Some packet)))
+    else (if nat_eq kind 6 then enhanced order p.interfaces body >>= (λ packet. Ok (content p (Some packet)))
+    else Ok (content p None)))
+
+-- the header of a pcap file: version 2 of the format, and Ethernet, in the low 16 bits of its last word.
+-- All records are of one interface.
+unfoldable pub header_content : Order → Clock → List ℕ → Result Content Stop
+header_content order clock whole =
+    if nat_eq (number_at order 2 4 whole) 2
+    then (if nat_eq (number_at order 4 20 whole % 2 ^ 16) 1
+    then Ok (no_packet (Records order clock) (plain (number_at order 4 16 whole) ∷ []))
+    else malformed LinkType)
+    else malformed Version
+
+-- what a whole unit does
+unfoldable pub content_of : Progress → CaptureUnit → List ℕ → Result Content Stop
+content_of p (Section order) whole = body_of order whole >>= section_content order
+content_of p (Block order) whole = body_of order whole >>= block_content p order (number_at order 4 0 whole)
+content_of p (Header order clock) whole = header_content order clock whole
+content_of p (Record order clock) whole = Ok (content p (Some (from_record order clock whole)))
+
+-- there are as many bytes, or more are needed
+abbrev pub with_bytes : {X : Type 0} → ℕ → List ℕ → Result X Stop → Result X Stop
+with_bytes len bytes inside = if nat_lt (length bytes) len then Err More else inside
+
+-- what a step does: what its unit does, and how many bytes the unit has
+pub record Moved : Type 0 where
+  pub content : Content
+  pub used : ℕ
+
+abbrev pub moved : ℕ → Content → Moved
+moved used does = record { content = does; used = used }
+
+-- the next unit of these bytes
+unfoldable pub next : Progress → List ℕ → Result Moved Stop
+next p bytes =
+    with_bytes UNIT_FRONT bytes (unit_of p.format bytes >>= (λ unit.
+    size_of unit bytes >>= (λ size.
+    with_bytes size bytes (content_of p unit (take size bytes) >>= (λ does. Ok (moved size does))))))
+
+-- ---- recordings
+
+-- what was read of a capture: its packets, in their order, and how it ends
+pub record Recording : Type 0 where
+  pub packets : List Recorded
+  pub end : End
+
+-- nothing is left of a capture of a known format
+abbrev pub is_end : Format → List ℕ → Bool
+is_end Unknown bytes = false
+is_end (Blocks order) bytes = nat_eq (length bytes) 0
+is_end (Records order clock) bytes = nat_eq (length bytes) 0
+
+-- how a capture ends where a reading stops: `at` bytes of it were read, and these are left
+abbrev pub ended : Format → ℕ → List ℕ → Stop → End
+ended format at bytes More = if is_end format bytes then Whole else CutOff at
+ended format at bytes (Malformed fault) = Broken at fault
+
+-- one more packet in front, if there is one
+abbrev pub with_packet : Option Recorded → Recording → Recording
+with_packet None rest = rest
+with_packet (Some packet) rest = record rest { packets = packet ∷ rest.packets }
+
+-- a step, and what is read after it; or the end
+abbrev pub then_read : Format → ℕ → List ℕ → (Progress → ℕ → Recording) → Result Moved Stop → Recording
+then_read format at bytes more (Ok step) = with_packet step.content.packet (more step.content.after step.used)
+then_read format at bytes more (Err stop) = record { packets = []; end = ended format at bytes stop }
+
+-- all that is read from a place on, in at most `most` steps
+unfoldable pub read_within : ℕ → ℕ → Progress → List ℕ → Recording
+read_within zero at p bytes = record { packets = []; end = CutOff at }
+read_within (suc most) at p bytes =
+    then_read p.format at bytes (λ after used. read_within most (at + used) after (drop used bytes)) (next p bytes)
+
+-- each step takes 12 bytes at least, so that these steps suffice
+abbrev pub read_from : ℕ → Progress → List ℕ → Recording
+read_from at p bytes = read_within (suc (length bytes)) at p bytes
+
+-- the recording that bytes are, from their first one on
+abbrev pub read_capture : List ℕ → Recording
+read_capture bytes = read_from 0 at_start bytes

@@ -1,0 +1,215 @@
+//! Reading a capture, a unit at a time.
+ghost use Rattle.std.specs.Prelude.{◌≡◌, ℕ, ◌+◌, ◌≤◌, ◌<◌, length, IfOk, IfErr, OnOk, OnErr};
+ghost use Rattle.capture.specs.Units.{least_size};
+ghost use Rattle.capture.specs.Recording.{Progress, at_start, section_content, interface_content, block_content, header_content, body_of, content, no_packet, content_of, moved, next, ended, recorded_if};
+
+use crate::end::End;
+use crate::interface::{Interface, MOST_INTERFACES};
+use crate::order::Order;
+use crate::packet::{Packet, enhanced, from_record, simple};
+use crate::stop::{Fault, Stop};
+use crate::unit::{Clock, Format, UNIT_FRONT, Unit};
+use arrayvec::ArrayVec;
+use std::marker::Model;
+
+// The types of blocks.
+const INTERFACE_TYPE: u32 = 1;
+
+const SIMPLE_TYPE: u32 = 3;
+
+const ENHANCED_TYPE: u32 = 6;
+
+/// What a step did: the packet of the unit that was read, if it has one, and how many bytes the unit has.
+#[derive(Clone, Copy, Debug, PartialEq, Eq)]
+pub struct Step<'a> {
+    pub packet: Option<Packet<'a>>,
+    pub used: usize,
+}
+
+/// A reading of a capture, pcapng or pcap: what is known from the units before the next one.
+#[derive(Drop)]
+pub struct Reading {
+    format: Format,
+    interfaces: ArrayVec<Interface, MOST_INTERFACES>,
+}
+
+impl Model for Reading {
+    ghost use Rattle.capture.specs.Recording.{Progress};
+
+    ghost Value = { Progress };
+
+    ghost view = { λ r. record { format = r.format; interfaces = r.interfaces.items } };
+}
+
+impl Reading {
+    /// A reading that has read nothing.
+    pub fn new() -> Reading
+        ensures { result ≡ at_start }
+    {
+        Reading {
+            format: Format::Unknown,
+            interfaces: ArrayVec::new(),
+        }
+    }
+
+    /// How the capture ends where the reading stopped: `at` bytes of it were read, and `rest` is all that is left.
+    pub fn end(&self, at: u64, rest: &[u8], stop: Stop) -> End
+        ensures { result ≡ ended self.now.format at rest.now stop }
+    {
+        match stop {
+            Stop::Malformed(fault) => End::Broken(at, fault),
+            Stop::More if rest.len() == 0 && self.format != Format::Unknown => End::Whole,
+            Stop::More => End::CutOff(at),
+        }
+    }
+
+    #[tactic(auto, unfolding(crate::specs::Recording::next))]
+    /// Reads the unit that begins the window. The bytes that it used are left out of the next window.
+    pub fn step<'a>(&mut self, window: &'a [u8]) -> Result<Step<'a>, Stop>
+        ensures ok { IfOk result (λ s. next self.old window.now
+            ≡ Ok (moved s.used (content self.new (recorded_if s.packet)))) }
+        ensures err { IfErr result (λ stop. next self.old window.now ≡ Err stop) }
+        ensures unchanged { OnErr result (self.new ≡ self.old) }
+        ensures some { IfOk result (λ s. UNIT_FRONT ≤ s.used) }
+        ensures within { IfOk result (λ s. s.used ≤ length window.now) }
+    {
+        if window.len() < UNIT_FRONT {
+            return Err(Stop::More);
+        }
+        let unit = Unit::of(self.format, window)?;
+        let used = unit.size(window)?;
+        if window.len() < used {
+            return Err(Stop::More);
+        }
+        let packet = self.take(unit, &window[..used])?;
+        Ok(Step { packet, used })
+    }
+
+    #[tactic(auto, unfolding(crate::specs::Recording::content_of))]
+    /// Takes what a whole unit says.
+    fn take<'a>(&mut self, unit: Unit, whole: &'a [u8]) -> Result<Option<Packet<'a>>, Stop>
+        requires { least_size unit ≤ length whole.now }
+        ensures ok { IfOk result (λ p. content_of self.old unit whole.now
+            ≡ Ok (content self.new (recorded_if p))) }
+        ensures err { IfErr result (λ stop. content_of self.old unit whole.now ≡ Err stop) }
+        ensures unchanged { OnErr result (self.new ≡ self.old) }
+    {
+        match unit {
+            Unit::Section(order) => {
+                self.begin_section(order, body(order, whole)?)?;
+                Ok(None)
+            }
+            Unit::Block(order) => {
+                self.take_block(order, order.word_at(whole, 0), body(order, whole)?)
+            }
+            Unit::Header(order, clock) => {
+                self.begin_records(order, clock, whole)?;
+                Ok(None)
+            }
+            Unit::Record(order, clock) => Ok(Some(from_record(order, clock, whole))),
+        }
+    }
+
+    #[tactic(auto, unfolding(crate::specs::Recording::section_content))]
+    /// Begins a section of pcapng, which has no interfaces yet.
+    fn begin_section(&mut self, order: Order, body: &[u8]) -> Result<(), Stop>
+        ensures ok { OnOk result (section_content order body.now
+            ≡ Ok (no_packet self.new.format self.new.interfaces)) }
+        ensures err { IfErr result (λ stop. section_content order body.now ≡ Err stop) }
+        ensures unchanged { OnErr result (self.new ≡ self.old) }
+    {
+        if body.len() < 16 {
+            return Err(Stop::Malformed(Fault::Length));
+        }
+        if order.half_at(body, 4) != 1 {
+            return Err(Stop::Malformed(Fault::Version));
+        }
+        self.format = Format::Blocks(order);
+        self.interfaces.clear();
+        Ok(())
+    }
+
+    #[tactic(auto, unfolding(crate::specs::Recording::header_content))]
+    /// Begins the records of pcap, all of one interface.
+    fn begin_records(&mut self, order: Order, clock: Clock, whole: &[u8]) -> Result<(), Stop>
+        requires { 24 ≤ length whole.now }
+        ensures ok { OnOk result (header_content order clock whole.now
+            ≡ Ok (no_packet self.new.format self.new.interfaces)) }
+        ensures err { IfErr result (λ stop. header_content order clock whole.now ≡ Err stop) }
+        ensures unchanged { OnErr result (self.new ≡ self.old) }
+    {
+        if order.half_at(whole, 4) != 2 {
+            return Err(Stop::Malformed(Fault::Version));
+        }
+        if order.word_at(whole, 20) % 0x1_0000 != 1 {
+            return Err(Stop::Malformed(Fault::LinkType));
+        }
+        self.format = Format::Records(order, clock);
+        self.interfaces.clear();
+        self.interfaces
+            .push(Interface::new(order.word_at(whole, 16)));
+        Ok(())
+    }
+
+    #[tactic(auto, unfolding(crate::specs::Recording::interface_content))]
+    /// Takes one more interface.
+    fn add_interface(&mut self, order: Order, body: &[u8]) -> Result<(), Stop>
+        ensures ok { OnOk result (interface_content self.old.format self.old.interfaces order body.now
+            ≡ Ok (no_packet self.new.format self.new.interfaces)) }
+        ensures err { IfErr result (λ stop.
+            interface_content self.old.format self.old.interfaces order body.now ≡ Err stop) }
+        ensures unchanged { OnErr result (self.new ≡ self.old) }
+    {
+        if body.len() < 8 {
+            return Err(Stop::Malformed(Fault::Length));
+        }
+        if order.half_at(body, 0) != 1 {
+            return Err(Stop::Malformed(Fault::LinkType));
+        }
+        if self.interfaces.len() >= MOST_INTERFACES {
+            return Err(Stop::Malformed(Fault::Interfaces));
+        }
+        let plain = Interface::new(order.word_at(body, 4));
+        let interface = plain.with_options(order, &body[8..])?;
+        self.interfaces.push(interface);
+        Ok(())
+    }
+
+    #[tactic(auto, unfolding(crate::specs::Recording::block_content))]
+    /// Takes a block, by its type.
+    fn take_block<'a>(
+        &mut self,
+        order: Order,
+        kind: u32,
+        body: &'a [u8],
+    ) -> Result<Option<Packet<'a>>, Stop>
+        ensures ok { IfOk result (λ p. block_content self.old order kind body.now
+            ≡ Ok (content self.new (recorded_if p))) }
+        ensures err { IfErr result (λ stop. block_content self.old order kind body.now ≡ Err stop) }
+        ensures unchanged { OnErr result (self.new ≡ self.old) }
+    {
+        match kind {
+            INTERFACE_TYPE => {
+                self.add_interface(order, body)?;
+                Ok(None)
+            }
+            SIMPLE_TYPE => Ok(Some(simple(order, self.interfaces.as_slice(), body)?)),
+            ENHANCED_TYPE => Ok(Some(enhanced(order, self.interfaces.as_slice(), body)?)),
+            _ => Ok(None),
+        }
+    }
+}
+
+#[tactic(auto, unfolding(crate::specs::Recording::body_of))]
+/// The body of a block.
+fn body<'a>(order: Order, whole: &'a [u8]) -> Result<&'a [u8], Stop>
+    requires { 12 ≤ length whole.now }
+    ensures ok { IfOk result (λ inside. body_of order whole.now ≡ Ok inside.now) }
+    ensures err { IfErr result (λ stop. body_of order whole.now ≡ Err stop) }
+{
+    let end = whole.len() - 4;
+    if order.word_at(whole, end) as usize != whole.len() {
+        return Err(Stop::Malformed(Fault::EndLength));
+    }
+    Ok(&whole[8..end])
+}
