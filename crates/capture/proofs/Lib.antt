@@ -3,6 +3,8 @@ mod Orders
 mod Packets
 mod Prefixes
 mod ReadBacks
+mod Room
+mod SoFar
 mod Steps
 mod Times
 mod Written

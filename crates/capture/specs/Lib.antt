@@ -5,3 +5,4 @@ pub mod Units
 pub mod Interfaces
 pub mod Recording
 pub mod Streaming
+pub mod Whole

@@ -1,7 +1,7 @@
 //! Laws of the definitions. Their functions do nothing: the contract is the law.
 ghost use Rattle.capture.specs.Order.{IsInTime};
 ghost use Rattle.capture.specs.ReadBack.{ReadsBack, ReadsTwoFrames, RiseInTwoFrames};
-ghost use Rattle.capture.specs.Streaming.{StepsAlike, StepsOn, StopsThere};
+ghost use Rattle.capture.specs.Streaming.{StepsAlike, StepsOn, StopsThere, IsRoomEnough};
 
 /// A reader accepts what is written for a capture, and has of each interface the frames of its network,
 /// in their order, with their times: for all frames of at most 1,514 bytes, sent at any times of 64
@@ -27,4 +27,5 @@ pub fn streams()
     ensures alike { StepsAlike }
     ensures on { StepsOn }
     ensures stop { StopsThere }
+    ensures room { IsRoomEnough }
 {}

@@ -1,4 +1,5 @@
 use Rattle.capture.proofs.Prefixes.{next-append}
+use Rattle.capture.proofs.Room.{room_enough}
 use Rattle.capture.proofs.Steps.{steps_on, stops_there}
 use Rattle.capture.proofs.laws.streams.Goals as goal
 
@@ -10,3 +11,6 @@ returns-clause-on c = steps_on
 
 pub returns-clause-stop : goal.returns-clause-stop
 returns-clause-stop c = stops_there
+
+pub returns-clause-room : goal.returns-clause-room
+returns-clause-room c = room_enough
