@@ -10,7 +10,7 @@ use Rattle.capture.specs.declared.interface.Interface.{Interface}
 use Rattle.capture.specs.declared.interface.TheConstants.{MOST_INTERFACES}
 use Rattle.capture.specs.declared.order.Order.{Order}
 use Rattle.capture.specs.declared.packet.Packet.{Packet}
-use Rattle.capture.specs.declared.stop.Fault.TheVariants.{Version, Length, EndLength, LinkType, Interfaces, Captured}
+use Rattle.capture.specs.declared.stop.Fault.TheVariants.{Version, Length, EndLength, LinkType, Interfaces, Obsolete, Captured}
 use Rattle.capture.specs.declared.stop.Stop.{Stop}
 use Rattle.capture.specs.declared.stop.Stop.TheVariants.{More, Malformed}
 use Rattle.capture.specs.declared.unit.Clock.{Clock}
@@ -148,13 +148,15 @@ interface_content format interfaces order body =
     else malformed Interfaces)
     else malformed LinkType)
 
--- a block by its type: 1 describes an interface, 3 and 6 are packets, and others are skipped
+-- A block by its type: 1 describes an interface, and 3 and 6 are packets. 2 is a packet in a form that the format
+-- has given up, which would be lost. Others are skipped.
 unfoldable pub block_content : Progress → Order → ℕ → List ℕ → Result Content Stop
 block_content p order kind body =
     if nat_eq kind 1 then interface_content p.format p.interfaces order body
+    else (if nat_eq kind 2 then malformed Obsolete
     else (if nat_eq kind 3 then simple order p.interfaces body >>= (λ packet. Ok (content p (Some packet)))
     else (if nat_eq kind 6 then enhanced order p.interfaces body >>= (λ packet. Ok (content p (Some packet)))
-    else Ok (content p None)))
+    else Ok (content p None))))
 
 -- the header of a pcap file: version 2 of the format, and Ethernet, in the low 16 bits of its last word.
 -- All records are of one interface.

@@ -15,6 +15,8 @@ use std::marker::Model;
 // The types of blocks.
 const INTERFACE_TYPE: u32 = 1;
 
+const OBSOLETE_TYPE: u32 = 2;
+
 const SIMPLE_TYPE: u32 = 3;
 
 const ENHANCED_TYPE: u32 = 6;
@@ -193,6 +195,7 @@ impl Reading {
                 self.add_interface(order, body)?;
                 Ok(None)
             }
+            OBSOLETE_TYPE => Err(Stop::Malformed(Fault::Obsolete)),
             SIMPLE_TYPE => Ok(Some(simple(order, self.interfaces.as_slice(), body)?)),
             ENHANCED_TYPE => Ok(Some(enhanced(order, self.interfaces.as_slice(), body)?)),
             _ => Ok(None),

@@ -21,6 +21,8 @@ pub enum Fault {
     BadOption,
     /// A section has more interfaces than `MOST_INTERFACES`.
     Interfaces,
+    /// A packet block of the type that the format has given up (2), which isn't read.
+    Obsolete,
     /// A packet names an interface that its section doesn't describe.
     NoInterface,
     /// The bytes of a packet run past the end of its block.
