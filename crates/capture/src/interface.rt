@@ -124,7 +124,7 @@ impl Interface {
 
     #[tactic(auto, unfolding(crate::specs::Interfaces::time_of))]
     /// The time of a packet in nanoseconds since 1970.
-    pub fn time(self, ticks: u64) -> Result<u128, Stop>
+    pub(crate) fn time(self, ticks: u64) -> Result<u128, Stop>
         ensures { result ≡ time_of self ticks }
     {
         let nanos = nanos(self.resolution, ticks);

@@ -13,7 +13,7 @@ pub enum Order {
 
 impl Order {
     /// The 16-bit number at an index.
-    pub fn half_at(self, bytes: &[u8], i: usize) -> u16
+    pub(crate) fn half_at(self, bytes: &[u8], i: usize) -> u16
         requires { i + 2 ≤ length bytes.now }
         ensures { result ≡ number_at self 2 i bytes.now }
     {
@@ -24,7 +24,7 @@ impl Order {
     }
 
     /// The 32-bit number at an index.
-    pub fn word_at(self, bytes: &[u8], i: usize) -> u32
+    pub(crate) fn word_at(self, bytes: &[u8], i: usize) -> u32
         requires { i + 4 ≤ length bytes.now }
         ensures { result ≡ number_at self 4 i bytes.now }
     {
@@ -35,7 +35,7 @@ impl Order {
     }
 
     /// The 64-bit number in the first 8 bytes.
-    pub fn long(self, bytes: &[u8]) -> u64
+    pub(crate) fn long(self, bytes: &[u8]) -> u64
         requires { 8 ≤ length bytes.now }
         ensures { result ≡ number_at self 8 0 bytes.now }
     {

@@ -1,9 +1,11 @@
-//! Tests of the parts that a transmitter is made of, a module each: plans and their texts, frames, the
+//! Tests of the parts that a transmitter is made of, a module each: plans and their texts, frames, captures, the
 //! regulation of a link, networks, the status board and the ring that a queue is.
 #![tactic(auto)]
 
 #[cfg(test)]
 mod board;
+#[cfg(test)]
+mod capture_read;
 #[cfg(test)]
 mod checksum;
 #[cfg(test)]
