@@ -122,8 +122,8 @@ impl Interface {
         Ok(interface)
     }
 
-    #[tactic(auto, unfolding(crate::specs::Interfaces::time_of))]
     /// The time of a packet in nanoseconds since 1970.
+    #[tactic(auto, unfolding(crate::specs::Interfaces::time_of))]
     pub(crate) fn time(self, ticks: u64) -> Result<u128, Stop>
         ensures { result ≡ time_of self ticks }
     {

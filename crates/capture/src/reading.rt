@@ -65,8 +65,8 @@ impl Reading {
         }
     }
 
-    #[tactic(auto, unfolding(crate::specs::Recording::next))]
     /// Reads the unit that begins the window. The bytes that it used are left out of the next window.
+    #[tactic(auto, unfolding(crate::specs::Recording::next))]
     pub fn step<'a>(&mut self, window: &'a [u8]) -> Result<Step<'a>, Stop>
         ensures ok { IfOk result (λ s. next self.old window.now
             ≡ Ok (moved s.used (content self.new (recorded_if s.packet)))) }
@@ -87,8 +87,8 @@ impl Reading {
         Ok(Step { packet, used })
     }
 
-    #[tactic(auto, unfolding(crate::specs::Recording::content_of))]
     /// Takes what a whole unit says.
+    #[tactic(auto, unfolding(crate::specs::Recording::content_of))]
     fn take<'a>(&mut self, unit: Unit, whole: &'a [u8]) -> Result<Option<Packet<'a>>, Stop>
         requires { least_size unit ≤ length whole.now }
         ensures ok { IfOk result (λ p. content_of self.old unit whole.now
@@ -112,8 +112,8 @@ impl Reading {
         }
     }
 
-    #[tactic(auto, unfolding(crate::specs::Recording::section_content))]
     /// Begins a section of pcapng, which has no interfaces yet.
+    #[tactic(auto, unfolding(crate::specs::Recording::section_content))]
     fn begin_section(&mut self, order: Order, body: &[u8]) -> Result<(), Stop>
         ensures ok { OnOk result (section_content order body.now
             ≡ Ok (no_packet self.new.format self.new.interfaces)) }
@@ -131,8 +131,8 @@ impl Reading {
         Ok(())
     }
 
-    #[tactic(auto, unfolding(crate::specs::Recording::header_content))]
     /// Begins the records of pcap, all of one interface.
+    #[tactic(auto, unfolding(crate::specs::Recording::header_content))]
     fn begin_records(&mut self, order: Order, clock: Clock, whole: &[u8]) -> Result<(), Stop>
         requires { 24 ≤ length whole.now }
         ensures ok { OnOk result (header_content order clock whole.now
@@ -153,8 +153,8 @@ impl Reading {
         Ok(())
     }
 
-    #[tactic(auto, unfolding(crate::specs::Recording::interface_content))]
     /// Takes one more interface.
+    #[tactic(auto, unfolding(crate::specs::Recording::interface_content))]
     fn add_interface(&mut self, order: Order, body: &[u8]) -> Result<(), Stop>
         ensures ok { OnOk result (interface_content self.old.format self.old.interfaces order body.now
             ≡ Ok (no_packet self.new.format self.new.interfaces)) }
@@ -177,8 +177,8 @@ impl Reading {
         Ok(())
     }
 
-    #[tactic(auto, unfolding(crate::specs::Recording::block_content))]
     /// Takes a block, by its type.
+    #[tactic(auto, unfolding(crate::specs::Recording::block_content))]
     fn take_block<'a>(
         &mut self,
         order: Order,
@@ -203,8 +203,8 @@ impl Reading {
     }
 }
 
-#[tactic(auto, unfolding(crate::specs::Recording::body_of))]
 /// The body of a block.
+#[tactic(auto, unfolding(crate::specs::Recording::body_of))]
 fn body<'a>(order: Order, whole: &'a [u8]) -> Result<&'a [u8], Stop>
     requires { 12 ≤ length whole.now }
     ensures ok { IfOk result (λ inside. body_of order whole.now ≡ Ok inside.now) }
