@@ -60,7 +60,8 @@ goes_on order most [] i j front enough some is more value = absurd (omega arith)
 goes_on order most (byte ∷ rest) i j front enough some is more value = grind arith
 
 -- the same, midway
-pub midway_bad : (order : Order) (all rest : List ℕ) (first i : Interface) (stop : Stop) → IsMidway order all first rest i
+pub midway_bad : (order : Order) (all rest : List ℕ) (first i : Interface) (stop : Stop)
+    → IsMidway order all first rest i
     → 0 < length rest → first_option order rest ≡ Err stop → Err stop ≡ with_options order (length all) all first
 midway_bad order all rest first i stop midway some is =
     sym (bad order midway.most rest i stop midway.enough some is) ∙ midway.same

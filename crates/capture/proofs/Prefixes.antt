@@ -32,9 +32,20 @@ unit_of-append : (format : Format) (bytes more : List ℕ) → 12 ≤ length byt
 unfolding unit_of section_unit header_unit
 unit_of-append (Records order clock) bytes more enough = refl
 unit_of-append (Blocks order) bytes more enough =
-    rw (number_at-append Little 4 0 bytes more (omega arith), number_at-append Little 4 8 bytes more (omega arith), number_at-append Big 4 8 bytes more (omega arith)) refl
+    rw (
+      number_at-append Little 4 0 bytes more (omega arith),
+      number_at-append Little 4 8 bytes more
+          (omega arith),
+      number_at-append Big 4 8 bytes more (omega arith),
+    ) refl
 unit_of-append Unknown bytes more enough =
-    rw (number_at-append Little 4 0 bytes more (omega arith), number_at-append Little 4 8 bytes more (omega arith), number_at-append Big 4 8 bytes more (omega arith), number_at-append Big 4 0 bytes more (omega arith)) refl
+    rw (
+      number_at-append Little 4 0 bytes more (omega arith),
+      number_at-append Little 4 8 bytes more
+          (omega arith),
+      number_at-append Big 4 8 bytes more (omega arith),
+      number_at-append Big 4 0 bytes more (omega arith),
+    ) refl
 
 size_of-append : (unit : CaptureUnit) (bytes more : List ℕ) → 12 ≤ length bytes
     → size_of unit (bytes ++ more) ≡ size_of unit bytes
@@ -50,11 +61,17 @@ with_bytes-append : {X : Type 0} (len : ℕ) (bytes more : List ℕ) (inside ins
     → with_bytes len (bytes ++ more) inside' ≡ with_bytes len bytes inside
 with_bytes-append {X} len bytes more inside inside' other same = by (nat_lt (length bytes) len) refl
   where
-    by : (t : Bool) → nat_lt (length bytes) len ≡ t → with_bytes len (bytes ++ more) inside' ≡ with_bytes len bytes inside
+    by : (t : Bool) → nat_lt (length bytes) len ≡ t → with_bytes len (bytes ++ more) inside'
+        ≡ with_bytes len bytes inside
     by true is = absurd (other (rw is refl))
     by false is =
         let still : nat_lt (length (bytes ++ more)) len ≡ false =
-        le-ltb (length (bytes ++ more)) len (omega (arith, ltb-false (length bytes) len is, length-append bytes more)) in
+        le-ltb (length (bytes ++ more)) len (omega (
+          arith,
+          ltb-false
+              (length bytes) len is,
+          length-append bytes more,
+        )) in
         rw (still, is) (same (ltb-false (length bytes) len is) (λ none. other (rw is none)))
 
 -- what follows a step that may stop

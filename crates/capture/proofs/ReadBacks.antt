@@ -55,7 +55,8 @@ section_read : next at_start section_block ≡ Ok (moved 28 (no_packet (Blocks L
 unfolding next unit_of section_unit size_of block_size content_of body_of section_content section_block word half
 section_read = refl
 
-first_read : next (in_section []) (interface_block (codes "A")) ≡ Ok (moved 32 (no_packet (Blocks Little) (interface_for A ∷ [])))
+first_read : next (in_section []) (interface_block (codes "A"))
+    ≡ Ok (moved 32 (no_packet (Blocks Little) (interface_for A ∷ [])))
 unfolding next unit_of size_of block_size content_of body_of block_content interface_content with_options first_option with_option interface_block word half
 first_read = refl
 
@@ -67,7 +68,8 @@ second_read = refl
 -- a packet's block
 packet_next : (c : Captured) → Fits c.entry
     → next (in_section both) (packet_block c)
-    ≡ Ok (moved (12 + length (packet_body (interface_of c.net) c.entry)) (content (in_section both) (Some (packet_of c))))
+    ≡ Ok (moved (12 + length (packet_body (interface_of c.net) c.entry)) (content (in_section both) (Some
+    (packet_of c))))
 unfolding packet_block block_content
 packet_next c fits =
     let body : List ℕ = packet_body (interface_of c.net) c.entry in
@@ -76,7 +78,8 @@ packet_next c fits =
     ∙ rw (packet_is_read c.net c.entry fits) refl
 
 -- what follows a block, over all its bytes
-reads_on : (at : ℕ) (p : Progress) (bytes more : List ℕ) (used : ℕ) (does : Content) → next p bytes ≡ Ok (moved used does)
+reads_on : (at : ℕ) (p : Progress) (bytes more : List ℕ) (used : ℕ) (does : Content) → next p bytes
+    ≡ Ok (moved used does)
     → used ≡ length bytes
     → read_from at p (bytes ++ more) ≡ with_packet does.packet (read_from (at + used) does.after more)
 reads_on at p bytes more used does is whole =
@@ -103,9 +106,11 @@ capture_read cs fit =
     let on_a : List ℕ = interface_block (codes "A") in
     let on_b : List ℕ = interface_block (codes "B") in
     let rest : List ℕ = packet_blocks cs in
-    ap read_capture (append_assoc section_block (on_a ++ on_b) rest ∙ ap (λ (l : List ℕ). section_block ++ l) (append_assoc on_a on_b rest))
+    ap read_capture (append_assoc section_block (on_a ++ on_b) rest
+    ∙ ap (λ (l : List ℕ). section_block ++ l) (append_assoc on_a on_b rest))
     ∙ reads_on 0 at_start section_block (on_a ++ (on_b ++ rest)) 28 (no_packet (Blocks Little) []) section_read refl
-    ∙ reads_on 28 (in_section []) on_a (on_b ++ rest) 32 (no_packet (Blocks Little) (interface_for A ∷ [])) first_read refl
+    ∙ reads_on 28 (in_section []) on_a (on_b ++ rest) 32 (no_packet (Blocks Little)
+    (interface_for A ∷ [])) first_read refl
     ∙ reads_on 60 (in_section (interface_for A ∷ [])) on_b rest 32 (no_packet (Blocks Little) both) second_read refl
     ∙ packets_read cs 92 fit
 

@@ -77,7 +77,8 @@ options_decide order (suc most) (byte ∷ bytes) i =
     then_decides (first_option order (byte ∷ bytes))
     (λ front. if nat_eq front.code 0 then Ok i
     else with_option order front.code (slice_range (byte ∷ bytes) 4 (4 + front.len)) i
-    >>= with_options order most (drop (4 + (front.len + fill front.len)) (byte ∷ bytes))) (front_decides order (byte ∷ bytes))
+    >>= with_options order most (drop (4 + (front.len + fill front.len)) (byte ∷ bytes))) (front_decides order
+    (byte ∷ bytes))
     (λ front. if_decides (nat_eq front.code 0) (Ok i)
     (with_option order front.code (slice_range (byte ∷ bytes) 4 (4 + front.len)) i
     >>= with_options order most (drop (4 + (front.len + fill front.len)) (byte ∷ bytes))) (good i)
@@ -95,7 +96,8 @@ time_decides : (i : Interface) (ticks : ℕ) → Decides (time_of i ticks)
 unfolding time_of
 time_decides i ticks = search (deciding) depth 12
 
-enhanced_decides : (order : Order) (interfaces : List Interface) (body : List ℕ) → Decides (enhanced order interfaces body)
+enhanced_decides : (order : Order) (interfaces : List Interface) (body : List ℕ)
+    → Decides (enhanced order interfaces body)
 unfolding enhanced
 enhanced_decides order interfaces body = search (deciding, known_decides, time_decides) depth 14
 

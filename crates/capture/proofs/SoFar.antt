@@ -35,7 +35,8 @@ from_step bytes used took p after o is =
     let rest : List ℕ = drop used bytes in
     ap (read_from used p) (sym (append-nil rest))
     ∙ steps_on used p rest [] (moved took (content after o)) is
-    ∙ ap (λ (l : List ℕ). with_packet o (read_from (used + took) after l)) (append-nil (drop took rest) ∙ drop-drop took used bytes)
+    ∙ ap (λ (l : List ℕ). with_packet o (read_from (used + took) after l)) (append-nil (drop took rest)
+    ∙ drop-drop took used bytes)
 
 -- after a step the bytes that it used were read too
 in_bytes : (bytes : List ℕ) (used took : ℕ) (p after : Progress) (o : Option Recorded) → used ≤ length bytes
@@ -58,7 +59,8 @@ has_read_on bytes used took p after packets o so none left =
 
 -- a step with a packet
 pub has_read_more : (bytes : List ℕ) (used took : ℕ) (p after : Progress) (packets : List Packet) (packet : Packet)
-    → HasRead bytes used p packets → next p (left_of bytes used) ≡ Ok (moved took (content after (Some (recorded packet))))
+    → HasRead bytes used p packets → next p (left_of bytes used)
+    ≡ Ok (moved took (content after (Some (recorded packet))))
     → HasRead bytes (used + took) after (packets ++ packet ∷ [])
 has_read_more bytes used took p after packets packet so left =
     let is : next p (drop used bytes) ≡ Ok (moved took (content after (Some (recorded packet)))) = rw left_is at left in
@@ -76,13 +78,19 @@ has_read_more bytes used took p after packets packet so left =
 -- nothing more is read
 pub has_read_all : (bytes : List ℕ) (used : ℕ) (p : Progress) (packets : List Packet) (stop : Stop)
     → HasRead bytes used p packets → next p (left_of bytes used) ≡ Err stop
-    → (let r : Recording = record { packets = map recorded packets; end = ended p.format used (left_of bytes used) stop } in r)
+    → (let r : Recording = record {
+      packets = map recorded packets;
+      end = ended p.format used
+          (left_of bytes used) stop;
+    } in r)
     ≡ read_capture bytes
 unfolding read_within
 has_read_all bytes used p packets stop so left =
     let is : next p (drop used bytes) ≡ Err stop = rw left_is at left in
     rw left_is (
-    let none : read_from used p (drop used bytes) ≡ record { packets = []; end = ended p.format used (drop used bytes) stop } = rw is refl in
+    let none : read_from used p (drop used bytes)
+    ≡ record { packets = []; end = ended p.format used (drop used bytes) stop } = rw is refl in
     let end : End = ended p.format used (drop used bytes) stop in
-    ap (λ (l : List Recorded). let r : Recording = record { packets = l; end = end } in r) (sym (append-nil (map recorded packets)))
+    ap (λ (l : List Recorded). let r : Recording = record { packets = l; end = end } in r) (sym (append-nil
+    (map recorded packets)))
     ∙ ap (after_packets (map recorded packets)) (sym none) ∙ so.same)

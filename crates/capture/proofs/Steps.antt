@@ -20,11 +20,13 @@ then_ok : {X Y : Type 0} (first : Result X Stop) (f : X → Result Y Stop) (y : 
 then_ok (Ok x) f y is = (x, refl, is)
 then_ok (Err stop) f y is = absurd (cc)
 
-enough_ok : {Y : Type 0} (len : ℕ) (bytes : List ℕ) (inside : Result Y Stop) (y : Y) → with_bytes len bytes inside ≡ Ok y
+enough_ok : {Y : Type 0} (len : ℕ) (bytes : List ℕ) (inside : Result Y Stop) (y : Y)
+    → with_bytes len bytes inside ≡ Ok y
     → (len ≤ length bytes) × (inside ≡ Ok y)
 enough_ok {Y} len bytes inside y = by (nat_lt (length bytes) len) refl
   where
-    by : (t : Bool) → nat_lt (length bytes) len ≡ t → with_bytes len bytes inside ≡ Ok y → (len ≤ length bytes) × (inside ≡ Ok y)
+    by : (t : Bool) → nat_lt (length bytes) len ≡ t → with_bytes len bytes inside ≡ Ok y
+        → (len ≤ length bytes) × (inside ≡ Ok y)
     by true is ok = absurd (let e : Err More ≡ Ok y = rw is at ok in cc)
     by false is ok = (ltb-false (length bytes) len is, rw is at ok)
 
@@ -44,7 +46,8 @@ used_of p bytes step is =
     let front = enough_ok 12 bytes (unit_of p.format bytes >>= from_unit p bytes) step is in
     let unit = then_ok (unit_of p.format bytes) (from_unit p bytes) step front.1 in
     let size = then_ok (size_of unit.0 bytes) (from_size p bytes unit.0) step unit.2 in
-    let whole = enough_ok size.0 bytes (content_of p unit.0 (take size.0 bytes) >>= (λ does. Ok (moved size.0 does))) step size.2 in
+    let whole = enough_ok size.0 bytes (content_of p unit.0 (take size.0 bytes) >>= (λ does. Ok
+    (moved size.0 does))) step size.2 in
     let does = then_ok (content_of p unit.0 (take size.0 bytes)) (λ does. Ok (moved size.0 does)) step whole.1 in
     let used : size.0 ≡ step.used = cc does.2 in
     let least : 12 ≤ size.0 = size_least unit.0 bytes size.0 size.1 in
@@ -61,7 +64,8 @@ turn_same n m at p bytes lt lt' same (Ok step) is =
     let used = used_of p bytes step is in
     let left = length-drop step.used bytes in
     ap (with_packet step.content.packet)
-    (same (at + step.used) step.content.after (drop step.used bytes) (omega (arith, used, left)) (omega (arith, used, left)))
+    (same (at + step.used) step.content.after (drop step.used bytes) (omega (arith, used, left)) (omega
+    (arith, used, left)))
 
 same_within : (n m at : ℕ) (p : Progress) (bytes : List ℕ) → length bytes < n → length bytes < m
     → read_within n at p bytes ≡ read_within m at p bytes
@@ -76,10 +80,12 @@ unfolding read_within
 steps_on at p window more step is =
     let used = used_of p window step is in
     let all : next p (window ++ more) ≡ Ok step = next-append p window more (λ short. cc) ∙ is in
-    let rest : drop step.used (window ++ more) ≡ drop step.used window ++ more = drop-append-le step.used window more used.1 in
+    let rest : drop step.used (window ++ more) ≡ drop step.used window ++ more =
+    drop-append-le step.used window more used.1 in
     let left = length-drop step.used window in
     rw (all, rest) (ap (with_packet step.content.packet)
-    (same_within (length (window ++ more)) (suc (length (drop step.used window ++ more))) (at + step.used) step.content.after
+    (same_within (length (window ++ more)) (suc (length (drop step.used window ++ more)))
+    (at + step.used) step.content.after
     (drop step.used window ++ more)
     (omega (arith, used, left, length-append window more, length-append (drop step.used window) more))
     (omega arith)))

@@ -36,7 +36,8 @@ kind_is : (kind : ℕ) (body : List ℕ) → kind < 2 ^ 32 → number_at Little 
 unfolding word
 kind_is kind body lt = little_number-reads_back 4 kind (word (12 + length body) ++ (body ++ word (12 + length body))) lt
 
-length_is : (kind : ℕ) (body : List ℕ) → 12 + length body < 2 ^ 32 → number_at Little 4 4 (block kind body) ≡ 12 + length body
+length_is : (kind : ℕ) (body : List ℕ) → 12 + length body < 2 ^ 32 → number_at Little 4 4 (block kind body)
+    ≡ 12 + length body
 unfolding word
 length_is kind body lt = little_number-reads_back 4 (12 + length body) (body ++ word (12 + length body)) lt
 
@@ -71,7 +72,8 @@ size_is : (bytes : List ℕ) (len : ℕ) → number_at Little 4 4 bytes ≡ len 
 unfolding size_of block_size
 size_is bytes len is least most even = grind arith
 
-content_is : (p : Progress) (bytes body : List ℕ) (kind to : ℕ) → number_at Little 4 0 bytes ≡ kind → length bytes ≡ to + 4
+content_is : (p : Progress) (bytes body : List ℕ) (kind to : ℕ) → number_at Little 4 0 bytes ≡ kind
+    → length bytes ≡ to + 4
     → number_at Little 4 to bytes ≡ to + 4 → slice_range bytes 8 to ≡ body
     → content_of p (Block Little) bytes ≡ block_content p Little kind body
 unfolding content_of body_of
@@ -136,7 +138,8 @@ network_read B = refl
 
 -- a packet, by what its body reads as
 packet_by : (net : Net) (e : Entry) (body : List ℕ) → number_at Little 4 0 body ≡ interface_of net
-    → number_at Little 4 4 body * 2 ^ 32 + number_at Little 4 8 body ≡ e.at → number_at Little 4 12 body ≡ length e.frame
+    → number_at Little 4 4 body * 2 ^ 32 + number_at Little 4 8 body ≡ e.at → number_at Little 4 12 body
+    ≡ length e.frame
     → number_at Little 4 16 body ≡ length e.frame → 20 + length e.frame ≤ length body
     → slice_range body 20 (20 + length e.frame) ≡ e.frame → enhanced Little both body ≡ Ok (packet_for net e)
 unfolding enhanced
@@ -163,11 +166,13 @@ packet_is_read net e fits =
     let len : ℕ = length e.frame in
     let frame : List ℕ = filled e.frame in
     let high : number_at Little 4 4 (packet_body i e) ≡ e.at / 2 ^ 32 =
-    little_number-reads_back 4 (e.at / 2 ^ 32) (word (e.at % 2 ^ 32) ++ (word len ++ (word len ++ frame))) (omega arith) in
+    little_number-reads_back 4 (e.at / 2 ^ 32) (word (e.at % 2 ^ 32) ++ (word len ++ (word len ++ frame)))
+    (omega arith) in
     let low : number_at Little 4 8 (packet_body i e) ≡ e.at % 2 ^ 32 =
     little_number-reads_back 4 (e.at % 2 ^ 32) (word len ++ (word len ++ frame)) (omega arith) in
     packet_by net e (packet_body i e)
-    (little_number-reads_back 4 i (word (e.at / 2 ^ 32) ++ (word (e.at % 2 ^ 32) ++ (word len ++ (word len ++ frame)))) (omega arith))
+    (little_number-reads_back 4 i (word (e.at / 2 ^ 32) ++ (word (e.at % 2 ^ 32) ++ (word len ++
+    (word len ++ frame)))) (omega arith))
     (omega (arith, high, low)) (little_number-reads_back 4 len (word len ++ frame) (omega arith))
     (little_number-reads_back 4 len frame (omega arith)) (omega (arith, length-packet_body i e))
     (let same : 20 + len - 20 ≡ len = omega arith in rw (same, take-append_seam) refl)
