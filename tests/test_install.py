@@ -3,10 +3,11 @@
 
     python3 tests/test_install.py
 
-The examples for C, C++, CMake and Python must print what the program's stored run prints, those for C and C++ also with the
-address and the undefined behaviour sanitizer. The headers must compile without a warning in each version of C and C++. It
-uses `CC` or `cc`. What needs a C++ compiler, pkg-config or CMake is skipped if that is missing, and named. The last line is
-'N passed, M failed'.
+The program, and the examples for C, C++, CMake and Python must print what the program's stored run prints, those for C and
+C++ also with the address and the undefined behaviour sanitizer, and all again in a root that has the system's programs and
+the folder, and neither this tree nor the toolchain. The headers must compile without a warning in each version of C and
+C++. The man page and the completions must have each word of the program's help. It uses `CC` or `cc`. What needs a program
+that is missing, or root, is skipped and named. The last line is 'N passed, M failed'.
 """
 import os
 import re
@@ -22,9 +23,14 @@ from trying import ONE_FRAME, Tries, compiler, text_of
 WARNINGS = ["-Wall", "-Wextra", "-Werror", "-Wpedantic", "-Wconversion", "-g", "-O1"]
 SANITIZERS = ["-fsanitize=address,undefined", "-fno-sanitize-recover=all"]
 FILES = """\
-include/afdx.h include/afdx.hpp
-lib/libafdx.a lib/libafdx.so lib/pkgconfig/afdx.pc lib/cmake/afdx/afdxConfig.cmake lib/cmake/afdx/afdxConfigVersion.cmake
+bin/afdx_bench include/afdx.h include/afdx.hpp
+lib/libafdx.a lib/libafdx.so lib/libafdx.so.1 lib/pkgconfig/afdx.pc lib/cmake/afdx/afdxConfig.cmake lib/cmake/afdx/afdxConfigVersion.cmake
 lib/python/afdx/__init__.py lib/python/afdx/_library.py lib/python/afdx/errors.py
+lib/python/afdx/py.typed share/afdx/afdx.lua share/bash-completion/completions/afdx_bench share/zsh/site-functions/_afdx_bench
+share/fish/vendor_completions.d/afdx_bench.fish share/man/man1/afdx_bench.1 share/doc/afdx/LICENSE-MIT
+share/doc/afdx/LICENSE-APACHE share/doc/afdx/CHANGELOG.md share/doc/afdx/c.md share/doc/afdx/configuration.md
+share/doc/afdx/program.md share/afdx/examples/c/build.sh share/afdx/examples/c/receive.py share/afdx/examples/c/wire.sh
+share/afdx/examples/c/wire.toml
 share/afdx/examples/c/demo.toml share/afdx/examples/c/example.c share/afdx/examples/cmake/CMakeLists.txt
 share/afdx/examples/cmake/main.c share/afdx/examples/cpp/main.cpp
 share/afdx/examples/python/bench.py share/afdx/examples/python/main.py""".split()
@@ -64,9 +70,12 @@ class Tried:
 def install(tried):
     """Installs, and moves the folder. Returns whether the files are there."""
     words = ["bash", f"{ROOT}/install/install.sh"]
-    refused = subprocess.run(words, capture_output=True, text=True, check=False)
-    tried.tries.show("install.sh without a prefix", [] if refused.returncode == 2 else [f"status {refused.returncode}"])
-    made = subprocess.run([*words, "not there/prefix"], cwd=tried.room, capture_output=True, text=True, check=False)
+    for more, status in (([], 2), (["--frob"], 2), (["--built"], 2), (["a", "b"], 2), ([""], 2), (["--help"], 0), (["-h"], 0)):
+        told = subprocess.run([*words, *more], cwd=tried.room, capture_output=True, text=True, check=False)
+        is_well = told.returncode == status and "install.sh [--built] PREFIX" in (told.stderr if status else told.stdout)
+        is_well = is_well and not os.listdir(tried.room)
+        tried.tries.show(f"install.sh {' '.join(more)}: status {status}", [] if is_well else [f"{told}"])
+    made = subprocess.run([*words, "--built", "not there/prefix"], cwd=tried.room, capture_output=True, text=True, check=False)
     if made.returncode:
         tried.tries.show("install.sh", [made.stdout[-1000:] + made.stderr[-1000:]])
         return False
@@ -183,22 +192,115 @@ def try_cmake(tried):
 
 
 def try_shared(tried):
-    """The shared library exports exactly the calls of the header."""
-    listed = shutil.which("nm")
-    if tried.lacks("nm", listed):
+    """The shared library exports exactly the calls of the header, and a program linked with it finds it by its version."""
+    listed, read = shutil.which("nm"), shutil.which("readelf")
+    if tried.lacks("binutils", listed and read):
         return
     exported = {line.split()[-1] for line in tried.ran([listed, "-D", "--defined-only", f"{tried.prefix}/lib/libafdx.so"]).stdout.splitlines()}
     wanted = set(re.findall(r"^(?!static|typedef)\w+ (afdx_\w+)\(", text_of("crates/afdx/afdx.h"), re.MULTILINE))
     tried.tries.show(f"libafdx.so exports {len(wanted)} calls", [] if exported == wanted else [str(sorted(exported ^ wanted))])
+    for it, tag in ((f"{tried.prefix}/lib/libafdx.so", "SONAME"), (f"{tried.room}/empty/shared", "NEEDED")):
+        if tag == "NEEDED":
+            words = [f"-I{tried.prefix}/include", f"{tried.examples}/cmake/main.c", f"-L{tried.prefix}/lib", "-lafdx", "-o", "shared"]
+            tried.show("C, -lafdx", tried.ran([tried.cc, *words]), "")
+            tried.show("C, shared", tried.ran(["./shared", tried.config], LD_LIBRARY_PATH=f"{tried.prefix}/lib"), ONE_FRAME)
+        names = re.findall(rf"\({tag}\).*\[(libafdx.*)\]", tried.ran([read, "-d", it]).stdout)
+        tried.tries.show(f"{tag} {names}", [] if names == ["libafdx.so.1"] else [str(names)])
 
 
 def try_python(tried):
     """The example for Python, by the prefix and by AFDX_LIBRARY."""
     program = f"{tried.examples}/python/main.py"
     tried.show("Python", tried.ran([sys.executable, "-B", program, tried.config]), ONE_FRAME)
-    library = f"{tried.room}/empty/other.so"
-    os.rename(f"{tried.prefix}/lib/libafdx.so", library)
-    tried.show("Python, AFDX_LIBRARY", tried.ran([sys.executable, "-B", program, tried.config], AFDX_LIBRARY=library), ONE_FRAME)
+    library, other = f"{tried.prefix}/lib/libafdx.so.1", f"{tried.room}/empty/other.so"
+    os.rename(library, other)
+    tried.show("Python, AFDX_LIBRARY", tried.ran([sys.executable, "-B", program, tried.config], AFDX_LIBRARY=other), ONE_FRAME)
+    os.rename(other, library)
+
+
+def help_words(tried):
+    """The commands of the program, each with the options of its help; those without a command are of `None`."""
+    bench = f"{tried.prefix}/bin/afdx_bench"
+    commands = re.findall(r"(?m)^  (\w+)  ", tried.ran([bench, "--help"]).stdout)
+    texts = {it: tried.ran([bench, *([it] if it else []), "--help"]).stdout for it in [None, *commands]}
+    return {it: re.findall(r"(?m)^ +(?:-\w, |    )(--\w+)", text) for it, text in texts.items()}
+
+
+def try_bench(tried):
+    """The installed program, its man page, and its completions."""
+    bench, share = f"{tried.prefix}/bin/afdx_bench", f"{tried.prefix}/share"
+    tried.show("afdx_bench", tried.ran(["sh", "-c", f"printf 'send 10 01\\nat 0\\n' | '{bench}'"]), ONE_FRAME)
+    words = help_words(tried)
+    page, bash = f"{share}/man/man1/afdx_bench.1", f"{share}/bash-completion/completions/afdx_bench"
+    flat = sorted({*filter(None, words)} | {option.strip("-") for options in words.values() for option in options})
+    for path in (page, bash, f"{share}/zsh/site-functions/_afdx_bench", f"{share}/fish/vendor_completions.d/afdx_bench.fish"):
+        with open(path, encoding="utf-8") as file:
+            text = file.read().replace("\\-", "-")
+        lost = [f"it lacks {it}" for it in flat if not re.search(rf"\b{it}\b", text)]
+        tried.tries.show(f"{os.path.relpath(path, share)} has {len(flat)} words", lost)
+    if not tried.lacks("man", shutil.which("man") and shutil.which("groff")):
+        tried.show("man", tried.ran(["groff", "-man", "-Tutf8", "-ww", "-z", page]), "")
+    for command, options in words.items():
+        line = ["afdx_bench", *([command] if command else []), "-"]
+        told = tried.ran(["bash", "-c", f'. "{bash}"; COMP_WORDS=({" ".join(line)}); COMP_CWORD={len(line) - 1}; _afdx_bench; echo "${{COMPREPLY[@]}}"'])
+        tried.show(f"bash completes {' '.join(line)}", told, f"{' '.join(options)}\n")
+    told = tried.ran(["bash", "-c", f'. "{bash}"; COMP_WORDS=(afdx_bench re); COMP_CWORD=1; _afdx_bench; echo "${{COMPREPLY[@]}}"'])
+    tried.show("bash completes afdx_bench re", told, "report\n")
+    for shell, text in (("zsh", f"{share}/zsh/site-functions/_afdx_bench"), ("fish", f"{share}/fish/vendor_completions.d/afdx_bench.fish")):
+        if not tried.lacks(shell, shutil.which(shell)):
+            tried.show(f"{shell} reads its completions", tried.ran([shell, "-n", text]), "")
+
+
+def try_wire(tried):
+    """The example for the wire builds where it is installed, and the kernel's sockets receive what it sends."""
+    build = tried.ran(["bash", f"{tried.examples}/c/build.sh"])
+    tried.show("build.sh", build, "")
+    if tried.lacks("root, ip, unshare and nsenter", os.geteuid() == 0 and all(map(shutil.which, ("ip", "unshare", "nsenter"))) or None):
+        return
+    if tried.ran(["unshare", "--net", "ip", "link", "add", "one", "type", "veth", "peer", "name", "two"]).returncode:
+        print("no veth pairs: skipped", flush=True)
+        return
+    wire = tried.ran(["bash", f"{tried.examples}/c/wire.sh", "20"])
+    tried.tries.show("wire.sh 20", [] if wire.returncode == 0 else [wire.stdout[-1000:] + wire.stderr[-1000:]])
+
+
+# Runs in a root of its own: the system's programs, Python, and the installed folder, read-only, and an empty folder.
+ALONE = """\
+set -eu
+root=$1 prefix=$2 python=$3
+mkdir -p "$root/usr" "$root/prefix" "$root/python" "$root/tmp" "$root/dev" "$root/etc"
+for it in bin lib lib64; do ln -s "usr/$it" "$root/$it"; done
+touch "$root/dev/null"
+mount --bind /dev/null "$root/dev/null"
+for it in usr:/usr prefix:"$prefix" python:"$python"; do
+    mount --bind "${it#*:}" "$root/${it%%:*}"
+    mount -o remount,bind,ro "$root/${it%%:*}"
+done
+[ ! -e /etc/alternatives ] || cp -a /etc/alternatives "$root/etc"
+exec chroot "$root" /usr/bin/env -i PATH=/usr/bin:/bin PYTHONPATH=/prefix/lib/python sh -eu -c '
+cd /tmp
+of=/prefix/share/afdx/examples
+printf "send 10 01\\nat 0\\n" | /prefix/bin/afdx_bench
+cc $of/cmake/main.c -I/prefix/include /prefix/lib/libafdx.a -o main && ./main $of/c/demo.toml
+cc $of/cmake/main.c -I/prefix/include -L/prefix/lib -lafdx -o shared && LD_LIBRARY_PATH=/prefix/lib ./shared $of/c/demo.toml
+[ ! -x /usr/bin/c++ ] || { c++ $of/cpp/main.cpp -I/prefix/include /prefix/lib/libafdx.a -o cpp && ./cpp $of/c/demo.toml; }
+/python/bin/python3 -B $of/python/main.py $of/c/demo.toml
+echo alone'
+"""
+
+
+def try_alone(tried):
+    """All that was installed, in a root without this tree and without the toolchain."""
+    alone = f"{tried.room}/alone"
+    os.mkdir(alone)
+    words = ["unshare", "--mount", "bash", "-c", ALONE, "alone", alone, tried.prefix, sys.base_prefix]
+    if tried.lacks("root and unshare", os.geteuid() == 0 and shutil.which("unshare") or None):
+        return
+    if tried.ran(["unshare", "--mount", "true"]).returncode or not os.path.islink("/bin"):
+        print("no mount namespace, or no merged /usr: skipped", flush=True)
+        return
+    ways = 5 if os.path.exists("/usr/bin/c++") else 4
+    tried.show(f"{ways} ways in a root of its own", tried.ran(words), f"{ONE_FRAME * ways}alone\n")
 
 
 def main():
@@ -214,6 +316,9 @@ def main():
             try_cmake(tried)
             try_shared(tried)
             try_python(tried)
+            try_bench(tried)
+            try_wire(tried)
+            try_alone(tried)
     return tries.end()
 
 

@@ -19,7 +19,7 @@ PYTHON = f"{PREFIX.name}/lib/python"
 
 sys.dont_write_bytecode = True
 os.environ.pop("AFDX_LIBRARY", None)
-subprocess.run(["bash", f"{ROOT}/install/install.sh", PREFIX.name], check=True)
+subprocess.run(["bash", f"{ROOT}/install/install.sh", "--built", PREFIX.name], check=True)
 sys.path.insert(0, PYTHON)
 import afdx
 from afdx import A, B, EndSystem

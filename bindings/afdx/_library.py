@@ -9,6 +9,9 @@ from pathlib import Path
 from .errors import MISUSES, Errors
 
 
+LIBRARY = "libafdx.so.1"
+
+
 class Handle(ctypes.Structure):
     _fields_ = [("at", c_void_p), ("held", c_uint8), ("mark", c_uint64)]
 
@@ -19,8 +22,8 @@ class LinkCounts(ctypes.Structure):
 
 def _library() -> ctypes.CDLL:
     package = Path(__file__).resolve().parent
-    near = [str(path) for path in (package.parent / "libafdx.so", package.parent.parent / "libafdx.so") if path.exists()]
-    return ctypes.CDLL(os.environ.get("AFDX_LIBRARY") or [*near, "libafdx.so"][0])
+    near = [path for folder in (package.parent, package.parent.parent) if (path := folder / LIBRARY).exists()]
+    return ctypes.CDLL(os.environ.get("AFDX_LIBRARY") or str([*near, LIBRARY][0]))
 
 
 def _calls(library: ctypes.CDLL) -> None:

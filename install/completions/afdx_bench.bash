@@ -1,0 +1,23 @@
+# Completions of afdx_bench for bash.
+_afdx_bench() {
+    local word=${COMP_WORDS[COMP_CWORD]} before=${COMP_WORDS[COMP_CWORD - 1]} words
+    case $before in
+    --capture | --html) words= ;;
+    --lateness | --messages | --turns) COMPREPLY=() && return ;;
+    *)
+        case ${COMP_CWORD}:${COMP_WORDS[1]-} in
+        1:*) words='run check explain report storm --help --version' ;;
+        *:run) words='--capture --help' ;;
+        *:report) words='--lateness --html --help' ;;
+        *:storm) words='--messages --turns --help' ;;
+        *) words=--help ;;
+        esac
+        ;;
+    esac
+    if [[ $word == -* || $COMP_CWORD -eq 1 ]]; then
+        mapfile -t COMPREPLY < <(compgen -W "$words" -- "$word")
+    else
+        mapfile -t COMPREPLY < <(compgen -f -- "$word")
+    fi
+}
+complete -o filenames -F _afdx_bench afdx_bench
