@@ -12,7 +12,7 @@ It takes a C compiler and its binutils (CC and AR are heeded), and the Rattle to
 proves and builds the library and the program, if one is missing or a source is newer, which may take an hour. With
 --built it installs what is built. What it installs is for x86_64-unknown-linux-gnu: Linux with glibc on a processor
 with the instructions of x86-64-v2. It needs nothing of this tree or the toolchain, and no installed file names the
-prefix, so the folder may be moved.
+prefix, so the folder may be moved. With Python 3 it also packs a wheel for pip, PREFIX/share/afdx/afdx-*.whl.
 EOF
 }
 is_built=
@@ -70,6 +70,7 @@ ln -sf "$shared" "$prefix/lib/libafdx.so"
 into lib/pkgconfig "$room/afdx.pc"
 into lib/cmake/afdx "$room/afdxConfig.cmake" "$room/afdxConfigVersion.cmake"
 into lib/python/afdx bindings/afdx/*.py bindings/afdx/py.typed
+! command -v python3 >/dev/null || { python3 -B install/wheel.py "$version" "$room/$shared" "$room" && into share/afdx "$room"/*.whl; }
 mode=755 into bin crates/afdx_bench/out/afdx_bench
 into share/man/man1 "$room/afdx_bench.1"
 into share/bash-completion/completions install/completions/afdx_bench.bash

@@ -15,6 +15,7 @@ import shutil
 import subprocess
 import sys
 import tempfile
+from glob import glob
 
 sys.dont_write_bytecode = True
 ROOT = os.path.dirname(os.path.dirname(os.path.abspath(__file__)))
@@ -26,7 +27,7 @@ FILES = """\
 bin/afdx_bench include/afdx.h include/afdx.hpp
 lib/libafdx.a lib/libafdx.so lib/libafdx.so.1 lib/pkgconfig/afdx.pc lib/cmake/afdx/afdxConfig.cmake lib/cmake/afdx/afdxConfigVersion.cmake
 lib/python/afdx/__init__.py lib/python/afdx/_library.py lib/python/afdx/errors.py
-lib/python/afdx/py.typed share/afdx/afdx.lua share/bash-completion/completions/afdx_bench share/zsh/site-functions/_afdx_bench
+lib/python/afdx/py.typed share/afdx/afdx-1.0.0-py3-none-linux_x86_64.whl share/afdx/afdx.lua share/bash-completion/completions/afdx_bench share/zsh/site-functions/_afdx_bench
 share/fish/vendor_completions.d/afdx_bench.fish share/man/man1/afdx_bench.1 share/doc/afdx/LICENSE-MIT
 share/doc/afdx/LICENSE-APACHE share/doc/afdx/CHANGELOG.md share/doc/afdx/c.md share/doc/afdx/configuration.md
 share/doc/afdx/program.md share/afdx/examples/c/build.sh share/afdx/examples/c/receive.py share/afdx/examples/c/wire.sh
@@ -216,6 +217,13 @@ def try_python(tried):
     os.rename(library, other)
     tried.show("Python, AFDX_LIBRARY", tried.ran([sys.executable, "-B", program, tried.config], AFDX_LIBRARY=other), ONE_FRAME)
     os.rename(other, library)
+    target, wheel = f"{tried.room}/empty/site", glob(f"{tried.prefix}/share/afdx/*.whl")
+    pip = tried.ran([sys.executable, "-m", "pip", "install", "--quiet", "--no-index", "--root-user-action=ignore", "--target", target, *wheel])
+    if pip.returncode and "No module named pip" in pip.stderr:
+        print("no pip: skipped", flush=True)
+        return
+    tried.show("pip install", pip)
+    tried.show("Python, installed by pip", tried.ran([sys.executable, "-B", program, tried.config], PYTHONPATH=target), ONE_FRAME)
 
 
 def help_words(tried):

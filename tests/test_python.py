@@ -4,6 +4,7 @@ line is 'N passed, M failed'."""
 import os
 import re
 import resource
+import shutil
 import subprocess
 import sys
 import tempfile
@@ -46,12 +47,15 @@ GREAT = "[end_system]\nid = 1\n" + "".join(
 RAISED: set[str] = set()
 
 
-def raises(error: type[Exception], call, *words) -> None:
+def raises(error: type[Exception], call, *words) -> str:
+    """The text of the error that a call has to raise. One of the library's begins with the sentence of its class."""
     try:
         call(*words)
     except error as raised:
         RAISED.add(type(raised).__name__)
-        return
+        if isinstance(raised, afdx.AfdxError):
+            assert str(raised).startswith(f"{type(raised).__doc__}"), raised
+        return str(raised)
     raise AssertionError(f"{call} didn't raise {error.__name__}")
 
 
@@ -98,7 +102,9 @@ def configurations() -> None:
         ("id = 11", "id = 10", afdx.DuplicatePort), ("1001", "1000", afdx.SameFlow), ("[[port]]", LINK + "[[port]]", afdx.DuplicateVl),
         ("[[port]]", "".join(LINK.replace("id = 1", f"id = {k}") for k in range(2, 66)) + "[[port]]", afdx.Limit),
     ]:
-        raises(error, EndSystem, (DEMO + SECOND).replace(old, new, 1))
+        text = (DEMO + SECOND).replace(old, new, 1)
+        told = raises(error, EndSystem, text)
+        assert told == f"{error.__doc__}\n{afdx.explain(text)}".rstrip("\n") and f"\n{error.number} {error.__name__}: " in told, told
     raises(afdx.SharedUnicast, EndSystem, SHARED)
     assert afdx.explain(DEMO) == "no faults\n"
     wanted = "1 fault\n5 OutOfRange: vl 1 (id 1), lmax is 63: 64 to 1518\n"
@@ -106,7 +112,7 @@ def configurations() -> None:
     lines = afdx.explain("".join(f"k{k} = 1\n" for k in range(1002)) + DEMO).splitlines()
     assert (len(lines), lines[0], lines[-1]) == (1002, "1002 faults", "and 2 more")
     with no_more_memory():
-        raises(afdx.OutOfMemory, EndSystem, GREAT)
+        assert raises(afdx.OutOfMemory, EndSystem, GREAT) == "An allocation failed."
 
 
 def answers() -> None:
@@ -152,6 +158,58 @@ def answers() -> None:
     raises(afdx.NotHeld, it.poll, 3005)
 
 
+def bytes_like() -> None:
+    """Texts and messages are any bytes-like objects; what is none is refused and changes nothing."""
+    message = bytes(range(100))
+    alike = [message, bytearray(message), memoryview(message), memoryview(message * 2)[:100], memoryview(message).cast("I"),
+             memoryview(bytes(it for byte in message for it in (byte, 0)))[::2]]
+    for text in (DEMO.encode(), bytearray(DEMO.encode()), memoryview(DEMO.encode())):
+        assert afdx.explain(text) == "no faults\n"
+        with EndSystem(text) as it, it.port(10) as port:
+            for k, data in enumerate(alike):
+                port.send(data)
+                (frame,) = it.poll(1000 * k).a
+                assert frame[42:142] == message, data
+            for wrong in ("text", 5, None, [1, 2]):
+                raises(TypeError, port.send, wrong)
+                raises(TypeError, port.try_send, wrong)
+            assert port.accepted == len(alike)
+    for wrong in (5, None, [1, 2]):
+        raises(TypeError, EndSystem, wrong)
+
+
+def tries() -> None:
+    """`try_send` returns whether there was room, and raises what isn't about room."""
+    with EndSystem(DEMO) as it, it.port(10) as port:
+        assert [port.try_send(b"1") for _ in range(4)] == [True, True, False, False] and port.accepted == 2
+        it.poll(0)
+        assert port.try_send(bytearray(b"2")) is True and port.try_send(b"3") is False
+        raises(afdx.Empty, port.try_send, b"")
+        raises(afdx.TooLong, port.try_send, bytes(8193))
+        it.close(1, 0)
+        raises(afdx.Closed, port.try_send, b"4")
+        assert port.accepted == 3
+
+
+def version() -> None:
+    """The version is the header's, and what is exported is there."""
+    assert f'"{afdx.__version__}"' in text_of("crates/afdx/afdx.h")
+    assert all(hasattr(afdx, name) for name in afdx.__all__) and len({*afdx.__all__}) == len(afdx.__all__)
+
+
+def typed() -> None:
+    """The package and the examples are clean under `mypy --strict` and rated over 9.5 by pylint, where these are installed."""
+    examples = f"{PREFIX.name}/share/afdx/examples/python"
+    with tempfile.TemporaryDirectory() as room:
+        for name, words in (("mypy", ["--strict", "--cache-dir", room, "afdx", f"{examples}/main.py", f"{examples}/bench.py"]),
+                            ("pylint", ["--fail-under=9.5", "--max-line-length=140", "afdx"])):
+            if not shutil.which(name):
+                print(f"no {name}: skipped")
+                continue
+            ran = subprocess.run([name, *words], cwd=PYTHON, capture_output=True, text=True, check=False)
+            assert ran.returncode == 0, ran.stdout[-2000:] + ran.stderr[-2000:]
+
+
 def lists() -> None:
     """The ports, the virtual links, and when the next of them is due."""
     with EndSystem(SHARED.replace("10.0.0.1", "10.0.0.2", 1)) as it, it.port(11) as port:
@@ -177,12 +235,8 @@ def threads() -> None:
         ports = {1000 if k == 10 else 1000 + k: it.port(k) for k in (10, 11, 12, 13)}
         def send(port: afdx.Port) -> None:
             for k in range(1000):
-                while True:
-                    try:
-                        port.send(k.to_bytes(2, "big"))
-                        break
-                    except afdx.Full:
-                        time.sleep(0)
+                while not port.try_send(k.to_bytes(2, "big")):
+                    time.sleep(0)
         workers = [threading.Thread(target=send, args=(port,)) for port in ports.values()]
         for worker in workers:
             worker.start()
@@ -227,7 +281,7 @@ def speed() -> None:
 
 def main() -> int:
     passed = failed = 0
-    for test in (first_message, names, configurations, answers, lists, all_raised, threads, bench, speed):
+    for test in (first_message, names, configurations, answers, lists, all_raised, bytes_like, tries, version, typed, threads, bench, speed):
         try:
             test()
             passed += 1

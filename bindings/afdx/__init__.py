@@ -2,20 +2,23 @@
 
     from afdx import EndSystem, A
 
-    with EndSystem(open("plan.toml").read()) as it:
-        port = it.port(10)
+    with EndSystem(open("plan.toml").read()) as it, it.port(10) as port:
         port.send(b"hello")
         for frame in it.poll(0).a:
             print(frame.hex())
 
 An end system and each of its ports may be used by a thread of its own, one call at a time on each. Times are in
 microseconds and don't go back. Frames run from the destination MAC address to the sequence number, without the frame
-check sequence. Each answer of the C library other than success is an exception named as in afdx.h. A number that doesn't
-fit its argument in afdx.h raises OverflowError.
+check sequence. Messages and texts are any bytes-like objects. Each answer of the C library other than success is an
+exception named as in afdx.h, whose text says what it means; that of a refused configuration has the lines of `explain`. A
+number that doesn't fit its argument in afdx.h raises OverflowError.
 
-`bash install/install.sh PREFIX` puts this package into PREFIX/lib/python and libafdx.so into PREFIX/lib. The library is the
-file that AFDX_LIBRARY names, else the one beside this package, in the folder above, or on the search path of the system.
+`bash install/install.sh PREFIX` puts this package into PREFIX/lib/python, libafdx.so.1 into PREFIX/lib, and both as a wheel
+into PREFIX/share/afdx, which pip installs. The library is the file that AFDX_LIBRARY names, else the one in this package,
+beside it or in the folder above, or on the search path of the system.
 """
+# Names are those of afdx.h, and __new__ takes what __init__ does:
+# pylint: disable=invalid-name, redefined-builtin, unused-argument
 from __future__ import annotations
 
 import ctypes
@@ -25,9 +28,17 @@ from dataclasses import dataclass
 from types import TracebackType
 from typing import Callable, Iterator, NamedTuple
 
-from ._library import Handle, LinkCounts, fits, lib, want
+from . import errors
+from ._library import BytesLike, Handle, LinkCounts, bytes_of, fits, lib, want
 from .errors import *
-from .errors import CONFIG_ERRORS, POLL_ERRORS, SEND_ERRORS
+from .errors import CONFIG_ERRORS, POLL_ERRORS, SEND_ERRORS, AfdxError, ConfigError, Full, NotHeld, OutOfMemory, SmallBuffer
+
+__all__ = [
+    "A", "B", "GREATEST_FRAME", "MOST_FRAMES", "MOST_LINKS", "MOST_PORTS", "NEVER", "BytesLike", "Counts", "EndSystem",
+    "Poll", "Port", "explain",
+]
+__all__ += errors.__all__
+__version__ = "1.0.0"
 
 A, B = 0, 1
 GREATEST_FRAME, MOST_FRAMES = 1514, 64
@@ -35,9 +46,13 @@ MOST_LINKS, MOST_PORTS = 64, 256
 NEVER = 2**64 - 1
 
 
-def explain(text: str | bytes) -> str:
+def _encoded(text: str | BytesLike) -> bytes:
+    return text.encode() if isinstance(text, str) else bytes_of(text)
+
+
+def explain(text: str | BytesLike) -> str:
     """The faults of a configuration, in lines as `afdx_explain` writes them; "no faults" if there is none. Raises `OutOfMemory`."""
-    data, length = text.encode() if isinstance(text, str) else text, c_size_t()
+    data, length = _encoded(text), c_size_t()
     answer = lib.afdx_explain(data, len(data), None, 0, byref(length))
     told = ctypes.create_string_buffer(length.value)
     if answer == SmallBuffer.number:
@@ -86,10 +101,22 @@ class Port:
         want(lib.afdx_port_of(byref(home._handle), fits(id, 16), byref(self._handle)))
         self.id, self._home = id, home
 
-    def send(self, message: bytes) -> None:
+    def send(self, message: BytesLike) -> None:
         """Sends a message of 1 byte up to the port's greatest. Raises `Empty`, `TooLong`, `Closed`, `Exhausted`, `Full`
         (poll, and try again) or `OutOfMemory`."""
-        want(lib.afdx_send(byref(self._handle), message, len(message)), SEND_ERRORS)
+        want(self._sent(message), SEND_ERRORS)
+
+    def try_send(self, message: BytesLike) -> bool:
+        """As `send`, but returns whether there was room in place of raising `Full`."""
+        answer = self._sent(message)
+        if answer != Full.number:
+            want(answer, SEND_ERRORS)
+        return answer != Full.number
+
+    def _sent(self, message: BytesLike) -> int:
+        data = bytes_of(message)
+        answer: int = lib.afdx_send(byref(self._handle), data, len(data))
+        return answer
 
     @property
     def accepted(self) -> int:
@@ -118,14 +145,18 @@ class EndSystem:
 
     _handle: Handle
 
-    def __new__(cls, text: str | bytes) -> EndSystem:
+    def __new__(cls, text: str | BytesLike) -> EndSystem:
         it = super().__new__(cls)
         it._handle = Handle()
         return it
 
-    def __init__(self, text: str | bytes) -> None:
-        data = text.encode() if isinstance(text, str) else text
-        want(lib.afdx_open(byref(self._handle), data, len(data)), CONFIG_ERRORS)
+    def __init__(self, text: str | BytesLike) -> None:
+        data, faults = _encoded(text), ""
+        answer = lib.afdx_open(byref(self._handle), data, len(data))
+        if issubclass(CONFIG_ERRORS.get(answer, AfdxError), ConfigError):
+            with suppress(OutOfMemory):
+                faults = explain(data).rstrip("\n")
+        want(answer, CONFIG_ERRORS, faults)
         self._buffer = ctypes.create_string_buffer(MOST_FRAMES * GREATEST_FRAME)
         self._lengths = (c_size_t * MOST_FRAMES)()
 

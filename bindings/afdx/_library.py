@@ -5,30 +5,37 @@ import ctypes
 import os
 from ctypes import POINTER, c_size_t, c_uint8, c_uint16, c_uint64, c_void_p
 from pathlib import Path
+from typing import Any, Union
 
 from .errors import MISUSES, Errors
 
 
 LIBRARY = "libafdx.so.1"
+BytesLike = Union[bytes, bytearray, memoryview]
 
 
+# pylint: disable=too-few-public-methods
 class Handle(ctypes.Structure):
+    """`afdx_end_system` and `afdx_port`."""
+
     _fields_ = [("at", c_void_p), ("held", c_uint8), ("mark", c_uint64)]
 
 
 class LinkCounts(ctypes.Structure):
+    """`afdx_counts`."""
+
     _fields_ = [("frames", c_uint64), ("bytes", c_uint64), ("messages", c_uint64), ("last", c_uint64)]
 
 
 def _library() -> ctypes.CDLL:
     package = Path(__file__).resolve().parent
-    near = [path for folder in (package.parent, package.parent.parent) if (path := folder / LIBRARY).exists()]
+    near = [path for folder in [package, *package.parents[:2]] if (path := folder / LIBRARY).exists()]
     return ctypes.CDLL(os.environ.get("AFDX_LIBRARY") or str([*near, LIBRARY][0]))
 
 
 def _calls(library: ctypes.CDLL) -> None:
     handle, size = POINTER(Handle), c_size_t
-    for name, arguments in {
+    calls: dict[str, list[Any]] = {
         "open": [handle, ctypes.c_char_p, size],
         "explain": [ctypes.c_char_p, size, c_void_p, size, POINTER(size)],
         "port_of": [handle, c_uint16, handle],
@@ -49,7 +56,8 @@ def _calls(library: ctypes.CDLL) -> None:
         "is_done": [handle, POINTER(c_uint8)],
         "free": [handle],
         "free_port": [handle],
-    }.items():
+    }
+    for name, arguments in calls.items():
         call = getattr(library, f"afdx_{name}")
         call.argtypes, call.restype = arguments, c_uint8
 
@@ -58,10 +66,15 @@ lib = _library()
 _calls(lib)
 
 
-def want(answer: int, errors: Errors = MISUSES) -> None:
-    """Raises the exception of an answer other than success."""
+def want(answer: int, errors: Errors = MISUSES, more: str = "") -> None:
+    """Raises the exception of an answer other than success, with this more in its text."""
     if answer:
-        raise (errors.get(answer) or MISUSES[answer])(f"answer {answer}")
+        raise (errors.get(answer) or MISUSES[answer])(more)
+
+
+def bytes_of(data: BytesLike) -> bytes:
+    """The bytes of a bytes-like object. Raises TypeError for any other."""
+    return data if isinstance(data, bytes) else bytes(memoryview(data))
 
 
 def fits(value: int, bits: int) -> int:

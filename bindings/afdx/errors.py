@@ -1,11 +1,25 @@
 """The answers of the C library other than success, each an exception named as in afdx.h."""
 from __future__ import annotations
 
+__all__ = [
+    "AfdxError", "OutOfMemory", "ConfigError", "Toml", "MissingKey", "UnknownKey", "WrongKind", "OutOfRange",
+    "BadBag", "DuplicateVl", "DuplicatePort", "NoSuchVl", "NoSuchSub", "SamplingTooLong", "SameFlow",
+    "SharedUnicast", "Limit", "SendError", "Empty", "TooLong", "Closed", "Exhausted", "Full", "PollError",
+    "BothDown", "Misuse", "NotHeld", "WrongHandle", "Held", "TimeBack", "NoPort", "NoSub", "NoLink",
+    "NoNetwork", "NoFrame", "SmallBuffer", "PortMissing", "Gathered", "NotGathered", "CONFIG_ERRORS",
+    "SEND_ERRORS", "POLL_ERRORS", "MISUSES",
+]
+
 
 class AfdxError(Exception):
-    """An answer other than success. `number` is the answer."""
+    """An answer other than success. `number` is the answer. The text says what it means."""
 
     number = 0
+
+    def __init__(self, more: str = "") -> None:
+        """The text is the sentence of the class, and then `more`."""
+        meaning = type(self).__doc__ or type(self).__name__
+        super().__init__(f"{meaning}\n{more}" if more else meaning)
 
 
 class OutOfMemory(AfdxError):
@@ -15,7 +29,7 @@ class OutOfMemory(AfdxError):
 
 
 class ConfigError(AfdxError):
-    """The configuration is refused: the fault of the least number."""
+    """The configuration is refused: the fault of the least number. The text ends in the lines of `explain`."""
 
 
 class Toml(ConfigError):
@@ -232,7 +246,8 @@ Errors = dict[int, type[AfdxError]]
 
 
 def _errors(kind: type[AfdxError]) -> Errors:
-    return {error.number: error for error in (OutOfMemory, *kind.__subclasses__())}
+    errors: list[type[AfdxError]] = [OutOfMemory, *kind.__subclasses__()]
+    return {error.number: error for error in errors}
 
 
 CONFIG_ERRORS, SEND_ERRORS, POLL_ERRORS, MISUSES = map(_errors, (ConfigError, SendError, PollError, Misuse))

@@ -1,12 +1,12 @@
-"""A test bench: sends through two ports, checks sequence numbers and gaps, and writes a capture for Wireshark.
+"""A test bench: sends through ports, checks sequence numbers and gaps, and writes a capture for Wireshark.
 
-    python3 bench.py PLAN CAPTURE PORT PORT
+    python3 bench.py PLAN CAPTURE PORT..
 """
 import struct
 import sys
 import tomllib
 
-from afdx import EndSystem, Full
+from afdx import EndSystem
 
 
 def block(kind: int, body: bytes) -> bytes:
@@ -28,10 +28,7 @@ def main(plan: str, capture: str, *ports: str) -> None:
         senders = [it.port(int(port)) for port in ports]
         for now in range(0, 1_000_000, 250):
             for port in senders:
-                try:
-                    port.send(b"%d at %d" % (port.id, now))
-                except Full:
-                    pass
+                port.try_send(b"%d at %d" % (port.id, now))
             for network, frame in it.poll(now):
                 link, number = int.from_bytes(frame[4:6], "big"), frame[-1]
                 if (network, link) in last:
@@ -47,4 +44,6 @@ def main(plan: str, capture: str, *ports: str) -> None:
 
 
 if __name__ == "__main__":
+    if len(sys.argv) < 4:
+        sys.exit("usage: python3 bench.py PLAN CAPTURE PORT..")
     main(*sys.argv[1:])

@@ -1,0 +1,47 @@
+"""Packs the package `afdx` with its library into a wheel, which `pip install` takes without a network.
+
+    python3 install/wheel.py VERSION LIBRARY FOLDER
+"""
+import base64
+import hashlib
+import os
+import sys
+import zipfile
+from glob import glob
+
+ROOT = os.path.dirname(os.path.dirname(os.path.abspath(__file__)))
+METADATA = """\
+Metadata-Version: 2.1
+Name: afdx
+Version: {version}
+Summary: The proved transmitting AFDX end system (ARINC 664 Part 7)
+License: MIT OR Apache-2.0
+Requires-Python: >=3.9
+"""
+WHEEL = "Wheel-Version: 1.0\nGenerator: afdx\nRoot-Is-Purelib: false\nTag: py3-none-linux_x86_64\n"
+
+
+def content(path: str) -> bytes:
+    """The bytes of a file."""
+    with open(path, "rb") as file:
+        return file.read()
+
+
+def main(version: str, library: str, folder: str) -> None:
+    info = f"afdx-{version}.dist-info"
+    paths = [*sorted(glob(f"{ROOT}/bindings/afdx/*.py")), f"{ROOT}/bindings/afdx/py.typed", library]
+    files = {f"afdx/{os.path.basename(path)}": content(path) for path in paths}
+    files |= {f"{info}/{name}": content(f"{ROOT}/{name}") for name in ("LICENSE-MIT", "LICENSE-APACHE")}
+    files |= {f"{info}/METADATA": METADATA.format(version=version).encode(), f"{info}/WHEEL": WHEEL.encode()}
+    record = ""
+    for name, data in files.items():
+        digest = base64.urlsafe_b64encode(hashlib.sha256(data).digest()).rstrip(b"=").decode()
+        record += f"{name},sha256={digest},{len(data)}\n"
+    files[f"{info}/RECORD"] = f"{record}{info}/RECORD,,\n".encode()
+    with zipfile.ZipFile(f"{folder}/afdx-{version}-py3-none-linux_x86_64.whl", "w", zipfile.ZIP_DEFLATED) as wheel:
+        for name, data in files.items():
+            wheel.writestr(zipfile.ZipInfo(name, (2026, 11, 28, 0, 0, 0)), data, zipfile.ZIP_DEFLATED)
+
+
+if __name__ == "__main__":
+    main(*sys.argv[1:])
