@@ -100,6 +100,23 @@ def try_headers(tried):
             tried.show(f"{header}: {name} -std={version}", tried.ran([name, *words, source]), "")
 
 
+def try_readers(tried):
+    """What doxygen and clang-tidy find in the headers and the examples, where these are installed."""
+    settings = f"INPUT={tried.prefix}/include/afdx.h\nGENERATE_LATEX=NO\nQUIET=YES\nHAVE_DOT=NO\nEXTRACT_STATIC=YES\nOPTIMIZE_OUTPUT_FOR_C=YES\n"
+    with open(f"{tried.room}/empty/Doxyfile", "w", encoding="utf-8") as file:
+        file.write(f"{settings}OUTPUT_DIRECTORY={tried.room}/pages\n")
+    os.mkdir(f"{tried.room}/pages")
+    if not tried.lacks("doxygen", shutil.which("doxygen")):
+        tried.show("doxygen", tried.ran(["doxygen", "Doxyfile"]), "")
+    if not tried.lacks("clang-tidy", shutil.which("clang-tidy")):
+        # (_GNU_SOURCE is reserved; two numbers beside each other are what the calls take)
+        checks = "bugprone-*,performance-*,-bugprone-reserved-identifier,-bugprone-easily-swappable-parameters"
+        for source, version in (("c/example.c", "gnu11"), ("cmake/main.c", "c99"), ("cpp/main.cpp", "c++11")):
+            words = ["clang-tidy", "--quiet", "--header-filter=.*", "--warnings-as-errors=*", f"--checks=-*,{checks}", f"{tried.examples}/{source}"]
+            read = tried.ran([*words, "--", f"-std={version}", f"-I{tried.prefix}/include"])
+            tried.tries.show(f"clang-tidy {source}", [] if read.returncode == 0 else [read.stdout[-2000:] + read.stderr[-1000:]])
+
+
 def try_names(tried):
     """The name of each answer, and the version."""
     header = re.sub(r"/\*.*?\*/", "", text_of("crates/afdx/afdx.h"), flags=re.DOTALL)
@@ -317,6 +334,7 @@ def main():
         tried = Tried(tries, room)
         if install(tried):
             try_headers(tried)
+            try_readers(tried)
             try_names(tried)
             more = linked(tried)
             try_c(tried, more)

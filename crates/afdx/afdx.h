@@ -1,4 +1,5 @@
-/* The proved transmitting AFDX end system (ARINC 664 Part 7), for C.
+/** @file
+   The proved transmitting AFDX end system (ARINC 664 Part 7), for C99 and later and for C++.
 
    Build: cc program.c $(pkg-config --cflags --libs afdx), after `bash install/install.sh PREFIX`.
 
@@ -28,7 +29,7 @@
    Calls detect, and report by their numbers: a call after afdx_free, a port that is taken twice, a port of another
    end system, a time that goes back, an unknown identifier, and a buffer that is too small. */
 #ifndef AFDX_H
-#define AFDX_H
+#define AFDX_H /**< this header is included */
 
 #include <stddef.h>
 #include <stdint.h>
@@ -37,52 +38,52 @@
 extern "C" {
 #endif
 
-/* The version of this header and of the library installed with it. MAJOR changes with incompatible changes. */
-#define AFDX_VERSION_MAJOR 1
-#define AFDX_VERSION_MINOR 0
-#define AFDX_VERSION_PATCH 0
+/** The version of this header and of the library installed with it. The first number changes with incompatible
+   changes, and libafdx.so.1 is named by it. */
 #define AFDX_VERSION "1.0.0"
+#define AFDX_VERSION_MAJOR 1 /**< its first number */
+#define AFDX_VERSION_MINOR 0 /**< its second number */
+#define AFDX_VERSION_PATCH 0 /**< its third number */
 
-/* An end system: sending while its ports are out, or draining after it has gathered them. {0} is one that isn't
+/** An end system: sending while its ports are out, or draining after it has gathered them. {0} is one that isn't
    open, in C++ {}. */
 typedef struct {
-    void *at;
-    uint8_t held;
-    uint64_t mark; /* which end system it is: no other has this number while it or one of its ports exists */
+    void *at;      /**< the library's */
+    uint8_t held;  /**< the library's */
+    uint64_t mark; /**< which end system it is: no other has this number while it or one of its ports exists */
 } afdx_end_system;
 
-/* A port of an end system. {0} is none, in C++ {}. */
+/** A port of an end system. {0} is none, in C++ {}. */
 typedef struct {
-    void *at;
-    uint8_t held;
-    uint64_t mark; /* that of its end system */
+    void *at;      /**< the library's */
+    uint8_t held;  /**< the library's */
+    uint64_t mark; /**< that of its end system */
 } afdx_port;
 
-/* The counts of a virtual link. */
+/** The counts of a virtual link. */
 typedef struct {
-    uint64_t frames;   /* accepted by at least one network */
-    uint64_t bytes;    /* the sum of their lengths */
-    uint64_t messages; /* those whose last frame is among them */
-    uint64_t last;     /* the time of the last frame in microseconds, 0 before the first */
+    uint64_t frames;   /**< accepted by at least one network */
+    uint64_t bytes;    /**< the sum of their lengths */
+    uint64_t messages; /**< those whose last frame is among them */
+    uint64_t last;     /**< the time of the last frame in microseconds, 0 before the first */
 } afdx_counts;
 
-/* The networks. */
+/** The networks. */
 enum { AFDX_A = 0, AFDX_B = 1 };
 
-/* Which networks are up, as the bits that afdx_poll writes. */
+/** Which networks are up, as the bits that afdx_poll writes. */
 enum { AFDX_A_STANDS = 1, AFDX_B_STANDS = 2 };
 
-/* The greatest frame in bytes, and the most frames that one poll makes for a network: one per virtual link. */
+/** The greatest frame in bytes, and the most frames that one poll makes for a network: one per virtual link. */
 enum { AFDX_GREATEST_FRAME = 1514, AFDX_MOST_FRAMES = 64 };
 
-/* The most virtual links and the most ports of a configuration. */
-#define AFDX_MOST_LINKS 64
-#define AFDX_MOST_PORTS 256
+#define AFDX_MOST_LINKS 64  /**< the most virtual links of a configuration */
+#define AFDX_MOST_PORTS 256 /**< the most ports of a configuration */
 
-/* Success of any call. */
+/** Success of any call. */
 enum { AFDX_OK = 0 };
 
-/* Why afdx_open refuses a configuration: the fault with the least number, as docs/guide/configuration.md lists them. */
+/** Why afdx_open refuses a configuration: the fault with the least number, as docs/guide/configuration.md lists them. */
 enum {
     AFDX_CONFIG_TOML = 1,
     AFDX_CONFIG_MISSING_KEY = 2,
@@ -98,145 +99,222 @@ enum {
     AFDX_CONFIG_SAME_FLOW = 12,
     AFDX_CONFIG_SHARED_UNICAST = 13,
     AFDX_CONFIG_LIMIT = 14,
-    AFDX_MEMORY = 15 /* an allocation failed */
+    AFDX_MEMORY = 15 /**< an allocation failed */
 };
 
-/* Why afdx_send refuses a message. AFDX_MEMORY: the copy could not be allocated. */
+/** Why afdx_send refuses a message. AFDX_MEMORY: the copy could not be allocated. */
 enum { AFDX_EMPTY = 1, AFDX_TOO_LONG = 2, AFDX_CLOSED = 3, AFDX_EXHAUSTED = 4, AFDX_FULL = 5 };
 
-/* Why a poll does nothing: both networks have failed before. */
+/** Why a poll does nothing: both networks have failed before. */
 enum { AFDX_BOTH_DOWN = 1 };
 
-/* Misuse of any call. */
+/** Misuse of any call. */
 enum {
-    AFDX_NOT_HELD = 32,     /* the handle holds nothing: not opened, freed, or given back */
-    AFDX_WRONG_HANDLE = 33, /* it holds a port instead of an end system, or an end system instead of a port */
-    AFDX_HELD = 34,         /* the handle to be filled holds something */
-    AFDX_TIME_BACK = 35,    /* the time is before that of an earlier poll */
-    AFDX_NO_PORT = 36,      /* no such identifier, the port is out already, or it isn't of this end system */
-    AFDX_NO_SUB = 37,       /* no such virtual link, or no such sub-VL of it */
-    AFDX_NO_LINK = 38,      /* no such virtual link */
-    AFDX_NO_NETWORK = 39,   /* neither AFDX_A nor AFDX_B */
-    AFDX_NO_FRAME = 40,     /* the last poll made fewer frames for this network */
-    AFDX_SMALL_BUFFER = 41, /* a frame has more bytes than the buffer, or there is no room for all */
-    AFDX_PORT_MISSING = 42, /* a port of the configuration is out */
-    AFDX_GATHERED = 43,     /* the ports were gathered: none is taken, given back, closed or gathered any more */
-    AFDX_NOT_GATHERED = 44  /* the ports weren't gathered yet */
+    AFDX_NOT_HELD = 32,     /**< the handle holds nothing: not opened, freed, or given back */
+    AFDX_WRONG_HANDLE = 33, /**< it holds a port instead of an end system, or an end system instead of a port */
+    AFDX_HELD = 34,         /**< the handle to be filled holds something */
+    AFDX_TIME_BACK = 35,    /**< the time is before that of an earlier poll */
+    AFDX_NO_PORT = 36,      /**< no such identifier, the port is out already, or it isn't of this end system */
+    AFDX_NO_SUB = 37,       /**< no such virtual link, or no such sub-VL of it */
+    AFDX_NO_LINK = 38,      /**< no such virtual link */
+    AFDX_NO_NETWORK = 39,   /**< neither AFDX_A nor AFDX_B */
+    AFDX_NO_FRAME = 40,     /**< the last poll made fewer frames for this network */
+    AFDX_SMALL_BUFFER = 41, /**< a frame has more bytes than the buffer, or there is no room for all */
+    AFDX_PORT_MISSING = 42, /**< a port of the configuration is out */
+    AFDX_GATHERED = 43,     /**< the ports were gathered: none is taken, given back, closed or gathered any more */
+    AFDX_NOT_GATHERED = 44  /**< the ports weren't gathered yet */
 };
 
-/* Opens an end system from the text of a configuration, `length` bytes, which are copied. Allocates all memory that
-   polling, closing and gathering need. Refused: AFDX_HELD; or the number of the fault, 1 to 15. After a refusal the
-   handle is unchanged. */
+/** Opens an end system from the text of a configuration, `length` bytes, which are copied. Allocates all memory that
+   polling, closing and gathering need.
+   @param out the handle to fill
+   @param text the text, UTF-8
+   @param length its length in bytes
+   @return AFDX_OK. Refused: AFDX_HELD; or the number of the fault, 1 to 15. After a refusal the handle is
+   unchanged. */
 uint8_t afdx_open(afdx_end_system *out, const uint8_t *text, size_t length);
 
-/* Explains a refused configuration: its faults, each with its place, as `afdx_bench explain` prints them
-   (docs/guide/program.md), in lines that end in a line feed; "no faults" if there is none. The first line counts them
-   all; 1,000 have a line, and of more the last line is "and N more". Copies as much of the explanation as fits into
-   the buffer, without a terminating zero, and writes its length. Refused: AFDX_MEMORY, with
-   nothing written; AFDX_SMALL_BUFFER: the explanation is longer than the buffer, and its front was written. So NULL
-   and 0 give the length. */
+/** Explains a refused configuration: its faults, each with its place, as `afdx_bench explain` prints them
+   (docs/guide/program.md), in lines that end in a line feed; "no faults" if there is none. The first line counts
+   them all; 1,000 have a line, and of more the last line is "and N more". Copies as much of the explanation as fits
+   into the buffer, without a terminating zero, and writes its length.
+   @param text the text
+   @param length its length in bytes
+   @param buffer where the explanation is copied to
+   @param size its size in bytes
+   @param written the length of the explanation
+   @return AFDX_OK. Refused: AFDX_MEMORY, with nothing written; AFDX_SMALL_BUFFER: the explanation is longer than
+   the buffer, and its front was written. So NULL and 0 give the length. */
 uint8_t afdx_explain(const uint8_t *text, size_t length, uint8_t *buffer, size_t size, size_t *written);
 
-/* Takes the port with an identifier, once. It may be moved to a thread of its own. Refused: AFDX_HELD (of `out`),
-   AFDX_NOT_HELD, AFDX_WRONG_HANDLE, AFDX_GATHERED, AFDX_NO_PORT, AFDX_MEMORY (the port can be taken later). */
+/** Takes the port with an identifier, once. It may be moved to a thread of its own.
+   @param it the end system
+   @param id the identifier of the port
+   @param out the handle to fill
+   @return AFDX_OK. Refused: AFDX_HELD (of `out`), AFDX_NOT_HELD, AFDX_WRONG_HANDLE, AFDX_GATHERED, AFDX_NO_PORT,
+   AFDX_MEMORY (the port can be taken later). */
 uint8_t afdx_port_of(afdx_end_system *it, uint16_t id, afdx_port *out);
 
-/* The identifiers of all ports, and of all virtual links, in the order of the configuration, whether or not a port
-   is out: writes them into `ids`, which has room for `room` of them, and their number. Refused: AFDX_NOT_HELD,
-   AFDX_WRONG_HANDLE, with nothing written; AFDX_SMALL_BUFFER: `room` is less than their number, and only `count` is
-   written. So NULL and 0 give the number: at most AFDX_MOST_PORTS and AFDX_MOST_LINKS. */
+/** The identifiers of all ports, in the order of the configuration, whether or not a port
+   is out: writes them into `ids`, which has room for `room` of them, and their number.
+   @param it the end system
+   @param ids where the identifiers are written to
+   @param room how many have room there
+   @param count their number
+   @return AFDX_OK. Refused: AFDX_NOT_HELD, AFDX_WRONG_HANDLE, with nothing written; AFDX_SMALL_BUFFER: `room` is
+   less than their number, and only `count` is written. So NULL and 0 give the number: at most AFDX_MOST_PORTS and
+   AFDX_MOST_LINKS. */
 uint8_t afdx_ports(const afdx_end_system *it, uint16_t *ids, size_t room, size_t *count);
+/** The identifiers of all virtual links, as afdx_ports has those of ports.
+   @param it the end system
+   @param ids where the identifiers are written to
+   @param room how many have room there
+   @param count their number
+   @return AFDX_OK. Refused: as by afdx_ports. */
 uint8_t afdx_links(const afdx_end_system *it, uint16_t *ids, size_t room, size_t *count);
 
-/* Copies a message in, at the end of the queue of the port's sub-VL. Called by the thread that has the port. Never
+/** Copies a message in, at the end of the queue of the port's sub-VL. Called by the thread that has the port. Never
    waits, unless malloc does: the copy comes from malloc, and a later afdx_poll frees it, so either may meet a lock
-   of the allocator. Refused: AFDX_NOT_HELD, AFDX_WRONG_HANDLE; AFDX_EMPTY, AFDX_TOO_LONG, by the length alone, before
-   anything is allocated or copied; AFDX_MEMORY, also of a queue that is closed or full; AFDX_CLOSED, AFDX_EXHAUSTED
-   (the port has used its 2^40 slot requests), AFDX_FULL: try again after a poll. */
+   of the allocator.
+   @param port the port
+   @param message the message
+   @param length its length in bytes
+   @return AFDX_OK. Refused: AFDX_NOT_HELD, AFDX_WRONG_HANDLE; AFDX_EMPTY, AFDX_TOO_LONG, by the length alone,
+   before anything is allocated or copied; AFDX_MEMORY, also of a queue that is closed or full; AFDX_CLOSED,
+   AFDX_EXHAUSTED (the port has used its 2^40 slot requests), AFDX_FULL: try again after a poll. */
 uint8_t afdx_send(afdx_port *port, const uint8_t *message, size_t length);
 
-/* Writes the number of a port's accepted messages. Called by the thread that has the port. Refused: AFDX_NOT_HELD,
-   AFDX_WRONG_HANDLE, with nothing written. */
+/** Writes the number of a port's accepted messages. Called by the thread that has the port.
+   @param port the port
+   @param count the number
+   @return AFDX_OK. Refused: AFDX_NOT_HELD, AFDX_WRONG_HANDLE, with nothing written. */
 uint8_t afdx_accepted(const afdx_port *port, uint64_t *count);
 
-/* Gives each virtual link its turn at `now`, in microseconds: one that is due and has something to send makes
+/** Gives each virtual link its turn at `now`, in microseconds: one that is due and has something to send makes
    exactly one frame. Writes which networks are up afterwards. The frames of the poll before are gone. Called by one
-   thread at a time, as all calls on an end system. Never waits (but see afdx_send), and allocates nothing. Refused:
-   AFDX_NOT_HELD, AFDX_WRONG_HANDLE, AFDX_TIME_BACK, AFDX_BOTH_DOWN (standing is written as 0); the frames of the
-   poll before are then kept. */
+   thread at a time, as all calls on an end system. Never waits (but see afdx_send), and allocates nothing.
+   @param it the end system
+   @param now the time in microseconds
+   @param standing the networks that are up: AFDX_A_STANDS, AFDX_B_STANDS
+   @return AFDX_OK. Refused: AFDX_NOT_HELD, AFDX_WRONG_HANDLE, AFDX_TIME_BACK, AFDX_BOTH_DOWN (standing is written
+   as 0); the frames of the poll before are then kept. */
 uint8_t afdx_poll(afdx_end_system *it, uint64_t now, uint8_t *standing);
 
-/* No time: afdx_next_due writes it if no virtual link becomes due. */
+/** No time: afdx_next_due writes it if no virtual link becomes due. */
 #define AFDX_NEVER UINT64_MAX
 
-/* When a poll may have something to do again, for a thread that sleeps between polls. Writes the first time after
+/** When a poll may have something to do again, for a thread that sleeps between polls. Writes the first time after
    the last poll, in microseconds, at which a virtual link becomes due that wasn't due then and that a network
    carries that is up; or AFDX_NEVER. An earlier poll makes frames only of links that were due at the last poll and
    had nothing to send then. So sleep until that time, or until a port has sent, which no call reports. Whether the
-   link has something to send isn't known before it is polled. Refused: AFDX_NOT_HELD, AFDX_WRONG_HANDLE, with
-   nothing written. */
+   link has something to send isn't known before it is polled.
+   @param it the end system
+   @param at the time in microseconds, or AFDX_NEVER
+   @return AFDX_OK. Refused: AFDX_NOT_HELD, AFDX_WRONG_HANDLE, with nothing written. */
 uint8_t afdx_next_due(const afdx_end_system *it, uint64_t *at);
 
-/* Writes the number of frames that the last poll made for a network. Refused: AFDX_NOT_HELD, AFDX_WRONG_HANDLE,
-   AFDX_NO_NETWORK, with nothing written. */
+/** Writes the number of frames that the last poll made for a network.
+   @param it the end system
+   @param network AFDX_A or AFDX_B
+   @param count the number of frames
+   @return AFDX_OK. Refused: AFDX_NOT_HELD, AFDX_WRONG_HANDLE, AFDX_NO_NETWORK, with nothing written. */
 uint8_t afdx_frames(const afdx_end_system *it, uint8_t network, size_t *count);
 
-/* Copies frame k, from 0, that the last poll made for a network into a buffer, and writes its length: at most
-   AFDX_GREATEST_FRAME. Nothing is written after those bytes. `length` doesn't lie in `buffer`. Refused:
-   AFDX_NOT_HELD, AFDX_WRONG_HANDLE, AFDX_NO_NETWORK, AFDX_NO_FRAME, AFDX_SMALL_BUFFER, with nothing written. */
+/** Copies frame k, from 0, that the last poll made for a network into a buffer, and writes its length: at most
+   AFDX_GREATEST_FRAME. Nothing is written after those bytes. `length` doesn't lie in `buffer`.
+   @param it the end system
+   @param network AFDX_A or AFDX_B
+   @param k which frame, from 0
+   @param buffer where it is copied to
+   @param size the size of the buffer in bytes
+   @param length the length of the frame
+   @return AFDX_OK. Refused: AFDX_NOT_HELD, AFDX_WRONG_HANDLE, AFDX_NO_NETWORK, AFDX_NO_FRAME, AFDX_SMALL_BUFFER,
+   with nothing written. */
 uint8_t afdx_frame(const afdx_end_system *it, uint8_t network, size_t k, uint8_t *buffer, size_t size, size_t *length);
 
-/* Copies all frames that the last poll made for a network into a buffer, one after the other without gaps, writes
+/** Copies all frames that the last poll made for a network into a buffer, one after the other without gaps, writes
    their lengths into `lengths`, which has room for `room` of them, and their number. Frame k begins after the bytes
-   of the k frames before it. Refused: AFDX_NOT_HELD, AFDX_WRONG_HANDLE, AFDX_NO_NETWORK, with nothing written;
+   of the k frames before it.
+   @param it the end system
+   @param network AFDX_A or AFDX_B
+   @param buffer where the frames are copied to
+   @param size the size of the buffer in bytes
+   @param lengths where their lengths are written to
+   @param room how many lengths have room there
+   @param count the number of frames
+   @return AFDX_OK. Refused: AFDX_NOT_HELD, AFDX_WRONG_HANDLE, AFDX_NO_NETWORK, with nothing written;
    AFDX_SMALL_BUFFER: they have more bytes than `size`, or are more than `room`, and only `count` is written.
    AFDX_MOST_FRAMES * AFDX_GREATEST_FRAME bytes and AFDX_MOST_FRAMES lengths are always enough. */
 uint8_t afdx_all_frames(const afdx_end_system *it, uint8_t network, uint8_t *buffer, size_t size, size_t *lengths,
                         size_t room, size_t *count);
 
-/* Makes a network fail: its next frame fails, and it gets none afterwards. Refused: AFDX_NOT_HELD,
-   AFDX_WRONG_HANDLE, AFDX_NO_NETWORK. */
+/** Makes a network fail: its next frame fails, and it gets none afterwards.
+   @param it the end system
+   @param network AFDX_A or AFDX_B
+   @return AFDX_OK. Refused: AFDX_NOT_HELD, AFDX_WRONG_HANDLE, AFDX_NO_NETWORK. */
 uint8_t afdx_fail(afdx_end_system *it, uint8_t network);
 
-/* Closes a sub-VL: no message is accepted from then on, and accepted ones are still transmitted. Writes the number
-   of accepted messages; a later close writes the same. Refused: AFDX_NOT_HELD, AFDX_WRONG_HANDLE, AFDX_GATHERED,
-   AFDX_NO_SUB, with nothing written. */
+/** Closes a sub-VL: no message is accepted from then on, and accepted ones are still transmitted. Writes the number
+   of accepted messages; a later close writes the same.
+   @param it the end system
+   @param vl the identifier of the virtual link
+   @param sub the sub-VL, from 0
+   @param total the number of accepted messages
+   @return AFDX_OK. Refused: AFDX_NOT_HELD, AFDX_WRONG_HANDLE, AFDX_GATHERED, AFDX_NO_SUB, with nothing written. */
 uint8_t afdx_close(afdx_end_system *it, uint16_t vl, uint8_t sub, uint64_t *total);
 
-/* Writes the counts of a virtual link so far. Refused: AFDX_NOT_HELD, AFDX_WRONG_HANDLE, AFDX_NO_LINK, with nothing
-   written. */
+/** Writes the counts of a virtual link so far.
+   @param it the end system
+   @param vl the identifier of the virtual link
+   @param counts the counts
+   @return AFDX_OK. Refused: AFDX_NOT_HELD, AFDX_WRONG_HANDLE, AFDX_NO_LINK, with nothing written. */
 uint8_t afdx_link_counts(const afdx_end_system *it, uint16_t vl, afdx_counts *counts);
 
-/* Gives a port back to the end system that it was taken from. It can be taken again. Its handle is empty then.
-   Allocates nothing. Refused: AFDX_NOT_HELD, AFDX_WRONG_HANDLE (of either), AFDX_GATHERED, AFDX_NO_PORT: it isn't of
-   this end system, also if the end system that it was taken from was freed; the port is unchanged. */
+/** Gives a port back to the end system that it was taken from. It can be taken again. Its handle is empty then.
+   Allocates nothing.
+   @param it the end system
+   @param port the port, whose handle is emptied
+   @return AFDX_OK. Refused: AFDX_NOT_HELD, AFDX_WRONG_HANDLE (of either), AFDX_GATHERED, AFDX_NO_PORT: it isn't
+   of this end system, also if the end system that it was taken from was freed; the port is unchanged. */
 uint8_t afdx_give_back(afdx_end_system *it, afdx_port *port);
 
-/* Starts draining, once each port was given back or never taken. The accepted messages are then known whole, and later
-   polls transmit what is left. Refused: AFDX_NOT_HELD, AFDX_WRONG_HANDLE, AFDX_GATHERED, AFDX_PORT_MISSING. */
+/** Starts draining, once each port was given back or never taken. The accepted messages are then known whole, and
+   later polls transmit what is left.
+   @param it the end system
+   @return AFDX_OK. Refused: AFDX_NOT_HELD, AFDX_WRONG_HANDLE, AFDX_GATHERED, AFDX_PORT_MISSING. */
 uint8_t afdx_gather(afdx_end_system *it);
 
-/* Writes 1 if at least one network accepted each fragment of each accepted message, otherwise 0. After a frame was
-   lost with the last network that carries its link it stays 0. Refused: AFDX_NOT_HELD, AFDX_WRONG_HANDLE,
-   AFDX_NOT_GATHERED, with nothing written. */
+/** Writes 1 if at least one network accepted each fragment of each accepted message, otherwise 0. After a frame was
+   lost with the last network that carries its link it stays 0.
+   @param it the end system
+   @param done 1 or 0
+   @return AFDX_OK. Refused: AFDX_NOT_HELD, AFDX_WRONG_HANDLE, AFDX_NOT_GATHERED, with nothing written. */
 uint8_t afdx_is_done(const afdx_end_system *it, uint8_t *done);
 
-/* Frees an end system; its handle is empty then. Ports that are out stay usable: their sends are accepted up to the
-   room that is left, and then AFDX_FULL. Refused: AFDX_NOT_HELD, AFDX_WRONG_HANDLE. */
+/** Frees an end system; its handle is empty then. Ports that are out stay usable: their sends are accepted up to the
+   room that is left, and then AFDX_FULL.
+   @param it the end system, whose handle is emptied
+   @return AFDX_OK. Refused: AFDX_NOT_HELD, AFDX_WRONG_HANDLE. */
 uint8_t afdx_free(afdx_end_system *it);
 
-/* Frees a port; its handle is empty then. Its accepted messages are still transmitted, but the end system can't be
-   gathered any more. Refused: AFDX_NOT_HELD, AFDX_WRONG_HANDLE. */
+/** Frees a port; its handle is empty then. Its accepted messages are still transmitted, but the end system can't be
+   gathered any more.
+   @param port the port, whose handle is emptied
+   @return AFDX_OK. Refused: AFDX_NOT_HELD, AFDX_WRONG_HANDLE. */
 uint8_t afdx_free_port(afdx_port *port);
 
-/* The calls, by the meaning of their least numbers: those of afdx_open, afdx_send and afdx_poll are faults of their
+/** The calls, by the meaning of their least numbers: those of afdx_open, afdx_send and afdx_poll are faults of their
    own. */
 typedef enum { AFDX_CALL_OPEN, AFDX_CALL_SEND, AFDX_CALL_POLL, AFDX_CALL_OTHER } afdx_call;
 
-/* AFDX_VERSION. */
+/** The version of the header that a program is compiled with.
+   @return AFDX_VERSION */
 static inline const char *afdx_version(void) { return AFDX_VERSION; }
 
-/* The name above of a number that a call returned, as "AFDX_FULL" of 5 and AFDX_CALL_SEND, or "unknown answer". */
+/** The name above of a number that a call returned, as "AFDX_FULL" of 5 and AFDX_CALL_SEND, or "unknown answer".
+   @param call the call that returned it
+   @param answer the number
+   @return the name */
 static inline const char *afdx_answer_name(afdx_call call, uint8_t answer) {
     static const char *const of_open[] = {
         "AFDX_CONFIG_TOML", "AFDX_CONFIG_MISSING_KEY", "AFDX_CONFIG_UNKNOWN_KEY", "AFDX_CONFIG_WRONG_KIND",

@@ -36,7 +36,7 @@ enum { MOST_PORTS = 128, GREATEST_MESSAGE = 8192, GREATEST_TEXT = 1 << 20 };
 enum { DUMP_STEP = 1000, PAUSE = 100 };
 
 /* The longest run of the other form, in microseconds. */
-static const uint64_t PATIENCE = 60 * 1000 * 1000;
+static const uint64_t PATIENCE = UINT64_C(60) * 1000 * 1000;
 
 /* A port that sends, in its thread or before each poll. */
 struct sender {
