@@ -32,8 +32,9 @@ cd "$(dirname "$0")/.."
 build() {
     local crate=$1 built=crates/$1/out/$2
     shift 2
-    if [ ! -e "$built" ] || { [ -z "$is_built" ] && [ -n "$(find crates/*/src -name '*.rt' -newer "$built" -print -quit)" ]; }; then
-        [ -z "$is_built" ] || { echo "$built isn't built" >&2 && exit 1; }
+    if [ -n "$is_built" ]; then
+        [ -e "$built" ] || { echo "$built isn't built" >&2 && exit 1; }
+    elif [ ! -e "$built" ] || [ -n "$(find crates/*/src -name '*.rt' -newer "$built" -print -quit)" ]; then
         (cd "crates/$crate" && "$@" </dev/null)
     fi
 }
@@ -70,14 +71,17 @@ ln -sf "$shared" "$prefix/lib/libafdx.so"
 into lib/pkgconfig "$room/afdx.pc"
 into lib/cmake/afdx "$room/afdxConfig.cmake" "$room/afdxConfigVersion.cmake"
 into lib/python/afdx bindings/afdx/*.py bindings/afdx/py.typed
-! command -v python3 >/dev/null || { python3 -B install/wheel.py "$version" "$room/$shared" "$room" && into share/afdx "$room"/*.whl; }
+if command -v python3 >/dev/null; then
+    python3 -B install/wheel.py "$version" "$room/$shared" "$room"
+    into share/afdx "$room"/*.whl
+fi
 mode=755 into bin crates/afdx_bench/out/afdx_bench
 into share/man/man1 "$room/afdx_bench.1"
 into share/bash-completion/completions install/completions/afdx_bench.bash
 mv "$prefix/share/bash-completion/completions/afdx_bench.bash" "$prefix/share/bash-completion/completions/afdx_bench"
 into share/zsh/site-functions install/completions/_afdx_bench
 into share/fish/vendor_completions.d install/completions/afdx_bench.fish
-into share/doc/afdx LICENSE-MIT LICENSE-APACHE CHANGELOG.md docs/guide/c.md docs/guide/configuration.md docs/guide/program.md
+into share/doc/afdx LICENSE-MIT LICENSE-APACHE CHANGELOG.md docs/guide/{c,configuration,program}.md
 into share/afdx bindings/afdx.lua
 into share/afdx/examples/c examples/c/example.c examples/c/demo.toml examples/c/wire.toml
 mode=755 into share/afdx/examples/c examples/c/build.sh examples/c/wire.sh examples/c/receive.py
