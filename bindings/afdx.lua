@@ -89,7 +89,6 @@ end
 local function first_place(vl, network, seq)
     local other = streams[vl .. other_of(network)]
     if not other then return seq, 0 end
-    if seq == 0 then return other.base, other.base end
     local rounds = math.floor((other.place - other.base - seq) / 255 + 0.5)
     return other.base + seq + 255 * math.max(0, rounds), other.base
 end

@@ -23,11 +23,13 @@ from trying import ONE_FRAME, Tries, compiler, text_of
 
 WARNINGS = ["-Wall", "-Wextra", "-Werror", "-Wpedantic", "-Wconversion", "-g", "-O1"]
 SANITIZERS = ["-fsanitize=address,undefined", "-fno-sanitize-recover=all"]
-FILES = """\
+VERSION = re.search('AFDX_VERSION "(.*)"', text_of("crates/afdx/afdx.h"))[1]
+FILES = f"""\
 bin/afdx_bench include/afdx.h include/afdx.hpp
 lib/libafdx.a lib/libafdx.so lib/libafdx.so.1 lib/pkgconfig/afdx.pc lib/cmake/afdx/afdxConfig.cmake lib/cmake/afdx/afdxConfigVersion.cmake
 lib/python/afdx/__init__.py lib/python/afdx/_library.py lib/python/afdx/errors.py
-lib/python/afdx/py.typed share/afdx/afdx-1.0.0-py3-none-linux_x86_64.whl share/afdx/afdx.lua share/bash-completion/completions/afdx_bench share/zsh/site-functions/_afdx_bench
+lib/python/afdx/py.typed share/afdx/afdx-{VERSION}-py3-none-linux_x86_64.whl share/afdx/afdx.lua
+share/bash-completion/completions/afdx_bench share/zsh/site-functions/_afdx_bench
 share/fish/vendor_completions.d/afdx_bench.fish share/man/man1/afdx_bench.1 share/doc/afdx/LICENSE-MIT
 share/doc/afdx/LICENSE-APACHE share/doc/afdx/CHANGELOG.md share/doc/afdx/c.md share/doc/afdx/configuration.md
 share/doc/afdx/program.md share/afdx/examples/c/build.sh share/afdx/examples/c/receive.py share/afdx/examples/c/wire.sh
@@ -138,8 +140,7 @@ def try_names(tried):
     made = tried.ran([tried.cc, *WARNINGS, f"-I{tried.prefix}/include", "names.c", "-o", "names"])
     if made.returncode == 0:
         made = tried.ran(["./names"])
-    version = re.search(r'AFDX_VERSION "(.*)"', header)[1]
-    tried.show(f"{len(rows)} names of answers", made, f"{version} {version}\n")
+    tried.show(f"{len(rows)} names of answers", made, f"{VERSION} {VERSION}\n")
 
 
 def linked(tried):
@@ -147,8 +148,7 @@ def linked(tried):
     asked = shutil.which("pkg-config")
     if tried.lacks("pkg-config", asked):
         return [f"-I{tried.prefix}/include", f"{tried.prefix}/lib/libafdx.a"]
-    version = re.search(r'AFDX_VERSION "(.*)"', text_of("crates/afdx/afdx.h"))[1]
-    tried.show("pkg-config --modversion afdx", tried.ran([asked, "--modversion", "afdx"]), f"{version}\n")
+    tried.show("pkg-config --modversion afdx", tried.ran([asked, "--modversion", "afdx"]), f"{VERSION}\n")
     return tried.ran([asked, "--cflags", "--libs", "afdx"]).stdout.split()
 
 
@@ -235,7 +235,8 @@ def try_python(tried):
     tried.show("Python, AFDX_LIBRARY", tried.ran([sys.executable, "-B", program, tried.config], AFDX_LIBRARY=other), ONE_FRAME)
     os.rename(other, library)
     target, wheel = f"{tried.room}/empty/site", glob(f"{tried.prefix}/share/afdx/*.whl")
-    pip = tried.ran([sys.executable, "-m", "pip", "install", "--quiet", "--no-index", "--root-user-action=ignore", "--target", target, *wheel])
+    quiet = {"PIP_ROOT_USER_ACTION": "ignore", "PIP_DISABLE_PIP_VERSION_CHECK": "1"}
+    pip = tried.ran([sys.executable, "-m", "pip", "install", "--quiet", "--no-index", "--target", target, *wheel], **quiet)
     if pip.returncode and "No module named pip" in pip.stderr:
         print("no pip: skipped", flush=True)
         return
