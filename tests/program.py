@@ -5,8 +5,8 @@
 
 It runs what `rt ci` has built, the program `afdx_bench` as each compiler makes it: each exit status with its text,
 which of two faults is reported, words and numbers that are none, lines and plans of the greatest length, standard
-streams that are closed or full, a storm whose standard error is a terminal, and captures, which `tests/pcapng.py`
-reads. The last line is 'N passed, M failed', and the exit status 0
+streams that are closed or full, a storm and failures whose standard error is a terminal, and captures, which
+`tests/pcapng.py` reads. The last line is 'N passed, M failed', and the exit status 0
 exactly if nothing failed.
 """
 import os
@@ -63,6 +63,9 @@ LATE = ["storm", "demo.toml", "--messages", "3", "--turns", "1"]
 CAPTURED = [*RUN, "--capture", "frames.pcapng"]
 VERSION = re.search('AFDX_VERSION "(.*)"', text_of("crates/afdx/afdx.h"))[1]
 BAD_BAG = "configuration refused: 6 BadBag\n"
+# The second line of some failures.
+NOT_THERE, UNREAD = "No such file or directory (os error 2)\n", "it can't be read, or has more than 16 MiB\n"
+SEE_EXPLAIN = "wrong.toml: for all faults and their places, run `afdx_bench explain wrong.toml`\n"
 EXPLAIN, ANALYSE, ANALYSIS = ["explain", "demo.toml"], ["report", "demo.toml"], ANALYSES[DEMO, 0]
 EXPLAINED = "1 fault\n6 BadBag: vl 1 (id 1), bag_ms is 3: 1, 2, 4, 8, 16, 32, 64 or 128\n"
 NO_TEXT = WRONG.replace("unrecognized subcommand 'frob'", "a word is not UTF-8")
@@ -92,9 +95,9 @@ ROWS = [
     (["check", "."], 4, "", "read failed\n"),
     (["run", "demo.toml", "."], 4, "", "read failed\n"),
     (["storm", "none.toml", *STORM[2:]], 4, "", "read failed\n"),
-    (["explain", "none.toml"], 4, "", "read failed\n"),
-    (["explain", "."], 4, "", "read failed\n"),
-    (["report", "."], 4, "", "read failed\n"),
+    (["explain", "none.toml"], 4, "", f"read failed\nnone.toml: {NOT_THERE}"),
+    (["explain", "."], 4, "", f"read failed\n.: {UNREAD}"),
+    (["report", "."], 4, "", f"read failed\n.: {UNREAD}"),
     (LATE, 5, "", "turns used up\n"),
     # the configuration is read before the script, and both are opened before a capture is made
     (["run", "wrong.toml", "none.txt", "--capture", "unmade"], 2, "", BAD_BAG),
@@ -102,9 +105,38 @@ ROWS = [
     (["run", "none.toml", "faulty.txt"], 4, "", "read failed\n"),
     (["run", "demo.toml", "none.txt", "--capture", "unmade"], 4, "", "read failed\n"),
     ([*RUN, "--capture", "nowhere/unmade"], 4, "", "write failed\n"),
-    (["report", "wrong.toml", "--html", "unmade"], 2, "", BAD_BAG),
-    (["report", "none.toml", "--html", "unmade"], 4, "", "read failed\n"),
-    ([*ANALYSE, "--html", "nowhere/unmade"], 4, "", "write failed\n"),
+    (["report", "wrong.toml", "--html", "unmade"], 2, "", BAD_BAG + SEE_EXPLAIN),
+    (["report", "none.toml", "--html", "unmade"], 4, "", f"read failed\nnone.toml: {NOT_THERE}"),
+    ([*ANALYSE, "--html", "nowhere/unmade"], 4, "", f"write failed\nnowhere/unmade: {NOT_THERE}"),
+    ([*ANALYSE, "--html", "./demo.toml"], 4, "", "write failed\n./demo.toml: the command reads this file, so name another\n"),
+]
+
+# What a terminal is shown of a failure whose text is one line elsewhere: that line, and the file, why, and what next.
+LINE_FAULTS = {
+    "word.txt": ("frob\n", "1 Word", "a line is `send PORT HEX`, `at MICROS` or `close VL SUB`"),
+    "number.txt": ("at x\n", "2 Number", "a number is decimal, of a port or link to 65535, of a sub-VL to 255, of a time to 64 bits"),
+    "hex.txt": ("send 10 0\n", "3 Hex", "bytes are an even number of hexadecimal digits, or `-`"),
+    "extra.txt": ("at 0 0\n", "4 Extra", "the line has more words than its form"),
+    "line.txt": ("#" * (LINE_LIMIT + 1), "5 Long", "a line has at most 20000 bytes"),
+}
+SHORT_MAX = ["storm", "small.toml", *STORM[2:]]
+TERMINAL = [
+    (["check", "none.toml"], 4, "read failed\n", f"none.toml: {NOT_THERE}"),
+    (["check", "."], 4, "read failed\n", f".: {UNREAD}"),
+    (["check", "wrong.toml"], 2, BAD_BAG, SEE_EXPLAIN),
+    (["run", "wrong.toml", "none.txt"], 2, BAD_BAG, SEE_EXPLAIN),
+    (["run", "none.toml", "none.txt"], 4, "read failed\n", f"none.toml: {NOT_THERE}"),
+    (["run", "demo.toml", "none.txt"], 4, "read failed\n", f"none.txt: {NOT_THERE}"),
+    (["run", "demo.toml", "."], 4, "read failed\n", ".: it can't be read\n"),
+    (["run", "demo.toml", "lines.txt"], 2, "script refused: too many lines\n", "lines.txt: a script has at most 1000000 lines\n"),
+    ([*RUN, "--capture", "nowhere/unmade"], 4, "write failed\n", f"nowhere/unmade: {NOT_THERE}"),
+    ([*RUN, "--capture", "short.txt"], 4, "write failed\n", "short.txt: the command reads this file, so name another\n"),
+    (["storm", "none.toml", *STORM[2:]], 4, "read failed\n", f"none.toml: {NOT_THERE}"),
+    (["storm", "wrong.toml", *STORM[2:]], 2, BAD_BAG, SEE_EXPLAIN),
+    (SHORT_MAX, 2, "storm refused: a port's max is below 6\n", "small.toml: give each port a max of 6 or more\n"),
+    (LATE, 5, "turns used up\n", "demo.toml: give more --turns, or fewer --messages\n"),
+    (["report", "wrong.toml"], 2, BAD_BAG, SEE_EXPLAIN),
+    (RUN, 0, "", ""),
 ]
 
 # Words that print something: the status, and what.
@@ -239,7 +271,8 @@ def great_plans(room):
         for words, status, out in PRINTED:
             if "demo.toml" in words:
                 words = [word.replace("demo.toml", "great.toml") for word in words]
-                room.ends(words, *((4, "", "read failed\n") if more else (status, out, "")))
+                told = f"read failed\ngreat.toml: {UNREAD}" if words[0] in ("explain", "report") else "read failed\n"
+                room.ends(words, *((4, "", told) if more else (status, out, "")))
 
 
 def captures(room):
@@ -320,10 +353,21 @@ def progress(room):
     in_range = all(max(it) <= PORTS * messages and it[1] % messages == 0 for it in counts)
     room.want(is_whole and rises and in_range and len(counts) <= 10 * (time.monotonic() - begun), repr(shown))
     room.want(on_terminal(room, STORM) == (0, totals(2), b""), "a short storm on a terminal")
-    room.want(on_terminal(room, LATE) == (5, "", b"turns used up\n"), "a refused storm on a terminal")
 
 
-CASES = [rows, standard_input, numbers, closed_streams, full_output, long_lines, great_plans, captures, own_files, progress]
+def second_lines(room):
+    """On a terminal a failure has a second line: the file, why, and what to do next."""
+    for words, status, first, second in TERMINAL:
+        ended, _, shown = on_terminal(room, words)
+        room.want((ended, shown.decode()) == (status, first + second), f"{words}: {ended}, {shown}")
+    for name, (text, fault, told) in LINE_FAULTS.items():
+        room.write(name, SCRIPT + text)
+        line = SCRIPT.count("\n") + 1
+        ended, _, shown = on_terminal(room, ["run", "demo.toml", name])
+        room.want((ended, shown.decode()) == (2, f"script line {line}: {fault}\n{name}:{line}: {told}\n"), f"{name}: {ended}, {shown}")
+
+
+CASES = [rows, standard_input, numbers, closed_streams, full_output, long_lines, great_plans, captures, own_files, progress, second_lines]
 
 
 def tried(case, program):

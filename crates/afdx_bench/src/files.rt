@@ -1,4 +1,5 @@
 //! The files that the words name.
+use crate::stop::{Cause, Named, Stop};
 use plan_report::Failure;
 use std::fs::{self, File, Metadata};
 use std::io;
@@ -18,26 +19,35 @@ pub fn stand_in(rt: &HostRuntime) -> Option<File> {
 }
 
 /// Opens a file that a word names.
-pub fn open(rt: &HostRuntime, path: &str) -> Result<File, Failure> {
-    File::open(rt, path).map_err(|error| failed(&error, RunFault::Read))
+pub fn open(rt: &HostRuntime, path: &str, named: Named) -> Result<File, Stop> {
+    File::open(rt, path).map_err(|error| failed(error, RunFault::Read, named))
 }
 
-/// Makes a file that a word names, or empties it. If it is the configuration or the script, under any name,
+/// Makes a file that a word names, or empties it. If it is one of the two files that are read, under any name,
 /// returns Write and leaves the file unchanged.
-pub fn create(rt: &HostRuntime, path: &str, config: &File, script: &File) -> Result<File, Failure> {
-    match is_either(rt, path, config, script) {
+pub fn create(
+    rt: &HostRuntime,
+    path: &str,
+    named: Named,
+    one: &File,
+    other: &File,
+) -> Result<File, Stop> {
+    match is_either(rt, path, one, other) {
         Ok(false) => {}
-        Ok(true) => return Err(Failure::Run(RunFault::Write)),
-        Err(error) => return Err(failed(&error, RunFault::Write)),
+        Ok(true) => {
+            let failure = Failure::Run(RunFault::Write);
+            return Err(Stop::by_file(failure, named, Cause::Same));
+        }
+        Err(error) => return Err(failed(error, RunFault::Write, named)),
     }
-    File::create(rt, path).map_err(|error| failed(&error, RunFault::Write))
+    File::create(rt, path).map_err(|error| failed(error, RunFault::Write, named))
 }
 
-/// The failure that reports an error of a file.
-fn failed(error: &io::Error, fault: RunFault) -> Failure {
+/// What an error of a file ends a command with.
+fn failed(error: io::Error, fault: RunFault, named: Named) -> Stop {
     match error.kind() {
-        io::ErrorKind::OutOfMemory => Failure::Run(RunFault::Memory),
-        _ => Failure::Run(fault),
+        io::ErrorKind::OutOfMemory => Stop::from(Failure::Run(RunFault::Memory)),
+        _ => Stop::by_file(Failure::Run(fault), named, Cause::System(error)),
     }
 }
 

@@ -2,10 +2,12 @@
 //! transcripts, reports on configurations, and throws storms of messages at an end system.
 #![tactic(auto)]
 
+ghost use Rattle.std.specs.Prelude.{◌≤◌};
 ghost use Rattle.plan_report.specs.Status.{IsInRange};
 
 mod files;
 mod report;
+mod stop;
 
 use afdx_plan::{Config, demo_config};
 use capture::write_capture;
@@ -20,6 +22,7 @@ use std::io::{self, BufWriter, IsTerminal, Write};
 use std::process::ExitCode;
 use std::sync::Wait;
 use std::thread::Threads;
+use stop::{Named, Stop};
 use storm::{OpenGate, Progress, bench_storm};
 use tx_script::{Played, RunFault, play_script, run_script};
 
@@ -59,23 +62,24 @@ fn run_files<W: Write>(
     rt: &HostRuntime,
     config: &str,
     script: &str,
-    capture: Option<String>,
+    capture: Option<&str>,
     writer: &mut W,
-) -> Result<End, Failure> {
+) -> Result<End, Stop> {
     let alloc = rt.alloc();
-    let text = open(rt, config)?;
-    let config = read_plan(alloc, &text)?;
-    let script = open(rt, script)?;
-    match capture {
+    let text = open(rt, config, Named::Plan)?;
+    let read = read_plan(alloc, &text);
+    let config = read.map_err(|failure| Stop::reading(failure, Named::Plan))?;
+    let script = open(rt, script, Named::Script)?;
+    let ran = match capture {
         Some(path) => {
-            let file = create(rt, path.as_str(), &text, &script)?;
+            let file = create(rt, path, Named::Capture, &text, &script)?;
             run_captured(alloc, config, script, file, writer)
         }
-        None => {
-            let ran = run_script(alloc, config, script, writer);
-            ran.map(End::Ran).map_err(Failure::Run)
-        }
-    }
+        None => run_script(alloc, config, script, writer)
+            .map(End::Ran)
+            .map_err(Failure::Run),
+    };
+    ran.map_err(|failure| Stop::reading(failure, Named::Script))
 }
 
 /// Shows the progress of a storm on standard error, if that is a terminal.
@@ -87,33 +91,67 @@ fn progress_of(rt: &HostRuntime, messages: u32) -> Option<Progress<'_, HostRunti
     }
 }
 
+/// Runs a storm over a configuration, by the path of its file.
+fn run_storm<W: Write, T: Threads + Wait + Sync>(
+    rt: &HostRuntime,
+    threads: &T,
+    config: &str,
+    messages: u32,
+    turns: u64,
+    writer: &mut W,
+) -> Result<End, Stop>
+    requires messages { (1 ≤ messages) × (messages ≤ 65535) }
+    requires turns { (1 ≤ turns) × (turns ≤ 1000000000) }
+{
+    let alloc = rt.alloc();
+    let text = open(rt, config, Named::Plan)?;
+    let ended = match progress_of(rt, messages) {
+        Some(gate) => {
+            let ended = bench_storm(threads, alloc, text, writer, messages, turns, &gate);
+            gate.end();
+            ended
+        }
+        None => bench_storm(threads, alloc, text, writer, messages, turns, &OpenGate),
+    };
+    ended.map_err(|failure| Stop::reading(failure, Named::Plan))?;
+    Ok(End::Told)
+}
+
 /// Runs the command of the words. The runtime is passed a second time for threads, since only a bound
 /// lets a function start them.
 fn obey<W: Write, T: Threads + Wait + Sync>(
     rt: &HostRuntime,
     threads: &T,
-    words: Words,
+    words: &Words,
     writer: &mut W,
-) -> Result<End, Failure>
-    requires { IsInRange words }
+) -> Result<End, Stop>
+    requires { IsInRange words.now }
 {
     let alloc = rt.alloc();
     match words {
         Words::Script => {
             let config = demo_config(alloc).map_err(Failure::Config)?;
             let ran = run_script(alloc, config, rt.stdin(), writer);
-            ran.map(End::Ran).map_err(Failure::Run)
+            let ended = ran.map(End::Ran).map_err(Failure::Run);
+            ended.map_err(|failure| Stop::reading(failure, Named::Script))
         }
         Words::Run {
             config,
             script,
             capture,
-        } => run_files(rt, config.as_str(), script.as_str(), capture, writer),
+        } => {
+            let capture = capture.as_ref().map(|path| path.as_str());
+            run_files(rt, config.as_str(), script.as_str(), capture, writer)
+        }
         Words::Check { config } => {
-            check(alloc, open(rt, config.as_str())?, writer)?;
+            let checked = check(alloc, open(rt, config.as_str(), Named::Plan)?, writer);
+            checked.map_err(|failure| Stop::reading(failure, Named::Plan))?;
             Ok(End::Told)
         }
-        Words::Explain { config } => tell_faults(alloc, open(rt, config.as_str())?, writer),
+        Words::Explain { config } => {
+            let told = tell_faults(alloc, open(rt, config.as_str(), Named::Plan)?, writer);
+            told.map_err(|failure| Stop::reading(failure, Named::Plan))
+        }
         Words::Report {
             config,
             lateness,
@@ -122,53 +160,60 @@ fn obey<W: Write, T: Threads + Wait + Sync>(
             csv,
             strict,
         } => {
-            let files = Files { html, traffic, csv };
-            report(rt, config.as_str(), lateness, &files, strict, writer)
+            let files = Files {
+                html: html.as_ref().map(|path| path.as_str()),
+                traffic: traffic.as_ref().map(|path| path.as_str()),
+                csv: csv.as_ref().map(|path| path.as_str()),
+            };
+            report(rt, config.as_str(), *lateness, files, *strict, writer)
         }
         Words::Storm {
             config,
             messages,
             turns,
-        } => {
-            let text = open(rt, config.as_str())?;
-            match progress_of(rt, messages) {
-                Some(gate) => {
-                    let ended = bench_storm(threads, alloc, text, writer, messages, turns, &gate);
-                    gate.end();
-                    ended?;
-                }
-                None => bench_storm(threads, alloc, text, writer, messages, turns, &OpenGate)?,
-            }
-            Ok(End::Told)
-        }
+        } => run_storm(rt, threads, config.as_str(), *messages, *turns, writer),
     }
 }
 
 /// Runs the command of the words, and flushes the output. A failed write is the last one.
-fn run<T: Threads + Wait + Sync>(
-    rt: &HostRuntime,
-    threads: &T,
-    words: Words,
-) -> Result<End, Failure>
-    requires { IsInRange words }
+fn run<T: Threads + Wait + Sync>(rt: &HostRuntime, threads: &T, words: &Words) -> Result<End, Stop>
+    requires { IsInRange words.now }
 {
     let writer = BufWriter::new(rt.alloc(), Halting::new(io::writer(rt)));
     let mut writer = writer.map_err(|_| Failure::Run(RunFault::Memory))?;
     let end = obey(rt, threads, words, &mut writer);
     match writer.flush() {
         Ok(()) => end,
-        Err(_) => Err(Failure::Run(RunFault::Write)),
+        Err(_) => Err(Stop::from(Failure::Run(RunFault::Write))),
+    }
+}
+
+/// Runs the command of the words, and tells standard error how it failed.
+fn run_telling<T: Threads + Wait + Sync>(rt: &HostRuntime, threads: &T, words: &Words) -> End
+    requires { IsInRange words.now }
+{
+    match run(rt, threads, words) {
+        Ok(end) => end,
+        Err(stop) => {
+            let failure = stop.failure;
+            let _told = eprintln!(rt; "{failure}");
+            stop.tell_more(rt, words);
+            End::Failed(failure)
+        }
     }
 }
 
 fn main(rt: HostRuntime) -> ExitCode {
     let _stand_ins = [stand_in(&rt), stand_in(&rt), stand_in(&rt)];
     let end = match read_words(&rt) {
-        Ok(words) => run(&rt, &rt, words).unwrap_or_else(End::Failed),
-        Err(error) => tell_words(&rt, &error),
+        Ok(words) => run_telling(&rt, &rt, &words),
+        Err(error) => {
+            let end = tell_words(&rt, &error);
+            if let End::Failed(failure) = &end {
+                let _told = eprintln!(rt; "{failure}");
+            }
+            end
+        }
     };
-    if let End::Failed(failure) = &end {
-        let _told = eprintln!(rt; "{failure}");
-    }
     ExitCode::from(status_of(&end))
 }

@@ -2,6 +2,7 @@
 ghost use Rattle.std.specs.Prelude.{◌≤◌};
 
 use crate::files::{create, open};
+use crate::stop::{Named, Stop};
 use afdx_plan::Config;
 use csv::{ErrorKind, WriterBuilder};
 use plan_analysis::{LATENESS_LIMIT, analyze, traffic_waits};
@@ -15,14 +16,14 @@ use std::io::{self, BufWriter, Write};
 use tx_script::RunFault;
 
 /// The files that a report reads and writes beside the configuration, by their paths.
-#[derive(Drop)]
-pub struct Files {
+#[derive(Clone, Copy)]
+pub struct Files<'a> {
     // a page
-    pub html: Option<String>,
+    pub html: Option<&'a str>,
     // the traffic of the ports
-    pub traffic: Option<String>,
+    pub traffic: Option<&'a str>,
     // rows for a spreadsheet
-    pub csv: Option<String>,
+    pub csv: Option<&'a str>,
 }
 
 /// Writes the verdict, the loads, the jitter and the longest waits of a configuration, by the path of its file, if
@@ -32,22 +33,24 @@ pub fn report<W: Write>(
     rt: &HostRuntime,
     config: &str,
     lateness: u64,
-    files: &Files,
+    files: Files<'_>,
     strict: bool,
     writer: &mut W,
-) -> Result<End, Failure>
+) -> Result<End, Stop>
     requires { lateness ≤ LATENESS_LIMIT }
 {
     let alloc = rt.alloc();
-    let text = open(rt, config)?;
-    let plan = read_plan(alloc, &text)?;
-    let demands = match &files.traffic {
-        Some(path) => Some(open(rt, path.as_str())?),
+    let text = open(rt, config, Named::Plan)?;
+    let read = read_plan(alloc, &text);
+    let plan = read.map_err(|failure| Stop::reading(failure, Named::Plan))?;
+    let demands = match files.traffic {
+        Some(path) => Some(open(rt, path, Named::Traffic)?),
         None => None,
     };
-    let traffic = traffic_of(alloc, &plan, demands.as_ref())?;
+    let read = traffic_of(alloc, &plan, demands.as_ref());
+    let traffic = read.map_err(|failure| Stop::reading(failure, Named::Traffic))?;
     if !traffic.faults.is_empty() {
-        return tell(&traffic, writer);
+        return Ok(tell(&traffic, writer)?);
     }
     let analysis = analyze(alloc, &plan, lateness).map_err(no_memory)?;
     let senders = senders_of(alloc, &plan, &traffic).map_err(no_memory)?;
@@ -96,17 +99,17 @@ fn tell<W: Write>(traffic: &Traffic, writer: &mut W) -> Result<End, Failure> {
 /// Writes the page and the rows to the files that are named for them, which are neither of two open files.
 fn save(
     rt: &HostRuntime,
-    files: &Files,
+    files: Files<'_>,
     text: &File,
     other: &File,
     assessment: &Assessment<'_>,
-) -> Result<(), Failure> {
-    if let Some(path) = &files.html {
-        let page = create(rt, path.as_str(), text, other)?;
+) -> Result<(), Stop> {
+    if let Some(path) = files.html {
+        let page = create(rt, path, Named::Page, text, other)?;
         save_page(rt.alloc(), page, assessment)?;
     }
-    if let Some(path) = &files.csv {
-        let rows = create(rt, path.as_str(), text, other)?;
+    if let Some(path) = files.csv {
+        let rows = create(rt, path, Named::Rows, text, other)?;
         save_rows(rt.alloc(), rows, assessment)?;
     }
     Ok(())
