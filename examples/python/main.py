@@ -6,6 +6,8 @@ import sys
 
 from afdx import EndSystem
 
+if len(sys.argv) != 2:
+    sys.exit("usage: python3 main.py CONFIG")
 with open(sys.argv[1], encoding="utf-8") as file:
     text = file.read()
 with EndSystem(text) as it, it.port(10) as port:
