@@ -144,7 +144,7 @@ local function is_on_both(vl)
     return not links and streams[vl .. "A"] and streams[vl .. "B"]
 end
 
--- Tells once that the other network lacks the last frames of a link, until it has one again.
+-- Reports once that the other network lacks the last frames of a link, until it has one again.
 local function check_other(told, vl, network, place)
     local key = vl .. other_of(network)
     local last = streams[key]

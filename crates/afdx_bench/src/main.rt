@@ -188,7 +188,7 @@ fn run<T: Threads + Wait + Sync>(rt: &HostRuntime, threads: &T, words: &Words) -
     }
 }
 
-/// Runs the command of the words, and tells standard error how it failed.
+/// Runs the command of the words, and writes to standard error how it failed.
 fn run_telling<T: Threads + Wait + Sync>(rt: &HostRuntime, threads: &T, words: &Words) -> End
     requires { IsInRange words.now }
 {

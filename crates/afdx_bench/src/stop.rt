@@ -1,4 +1,4 @@
-//! Why a command stopped: what standard error is told after the message of the failure.
+//! Why a command stopped, and the second line on standard error, after the message of the failure.
 use plan_report::{Failure, Words};
 use std::io::{self, IsTerminal};
 use tx_script::{LineFault, RunFault};
@@ -52,7 +52,7 @@ impl Stop {
         }
     }
 
-    /// A failure while a file was read, which is the file's own if it says so.
+    /// A failure while a file was read: `Read` is blamed on the file.
     pub fn reading(failure: Failure, named: Named) -> Stop {
         match failure {
             Failure::Run(RunFault::Read) => Stop::by_file(failure, named, Cause::Unread),
@@ -60,7 +60,8 @@ impl Stop {
         }
     }
 
-    /// Says which file it was, why, and what to do next: on a terminal, and for the commands `explain` and `report`.
+    /// Writes the file, the reason or what to do next to standard error: on a terminal, and for the commands `explain`
+    /// and `report`.
     pub fn tell_more(&self, rt: &HostRuntime, words: &Words) {
         let is_always = matches!(words, Words::Explain { .. } | Words::Report { .. });
         if is_always || rt.stderr().is_terminal() {
