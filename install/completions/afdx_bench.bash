@@ -2,13 +2,13 @@
 _afdx_bench() {
     local word=${COMP_WORDS[COMP_CWORD]} before=${COMP_WORDS[COMP_CWORD - 1]} words
     case $before in
-    --capture | --html) words= ;;
+    --capture | --html | --traffic | --csv) words= ;;
     --lateness | --messages | --turns) COMPREPLY=() && return ;;
     *)
         case ${COMP_CWORD}:${COMP_WORDS[1]-} in
         1:*) words='run check explain report storm --help --version' ;;
         *:run) words='--capture --help' ;;
-        *:report) words='--lateness --html --help' ;;
+        *:report) words='--lateness --html --traffic --csv --strict --help' ;;
         *:storm) words='--messages --turns --help' ;;
         *) words=--help ;;
         esac

@@ -10,5 +10,8 @@ complete -c afdx_bench -f -n "not __fish_seen_subcommand_from $commands" -a stor
 complete -c afdx_bench -n '__fish_seen_subcommand_from run' -l capture -r -F -d 'Also writes the frames to a file'
 complete -c afdx_bench -n '__fish_seen_subcommand_from report' -l lateness -x -d 'How late polls come at most'
 complete -c afdx_bench -n '__fish_seen_subcommand_from report' -l html -r -F -d 'Also writes the report as a page'
+complete -c afdx_bench -n '__fish_seen_subcommand_from report' -l traffic -r -F -d 'The periods and deadlines of the ports'
+complete -c afdx_bench -n '__fish_seen_subcommand_from report' -l csv -r -F -d 'Also writes a row for each port'
+complete -c afdx_bench -n '__fish_seen_subcommand_from report' -l strict -d 'Ends with status 2 if a limit or a deadline is missed'
 complete -c afdx_bench -n '__fish_seen_subcommand_from storm' -l messages -x -d 'How many messages each port sends'
 complete -c afdx_bench -n '__fish_seen_subcommand_from storm' -l turns -x -d 'How often each thread may try'

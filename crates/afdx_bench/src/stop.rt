@@ -86,7 +86,8 @@ fn path_of<'a>(words: &'a Words, named: Named) -> &'a str {
         ) => path.as_str(),
         (
             Words::Report {
-                html: Some(path), ..
+                html: Some(path),
+                ..
             },
             Named::Page,
         ) => path.as_str(),
@@ -99,7 +100,8 @@ fn path_of<'a>(words: &'a Words, named: Named) -> &'a str {
         ) => path.as_str(),
         (
             Words::Report {
-                csv: Some(path), ..
+                csv: Some(path),
+                ..
             },
             Named::Rows,
         ) => path.as_str(),
@@ -115,9 +117,7 @@ fn path_of<'a>(words: &'a Words, named: Named) -> &'a str {
 fn tell_cause(rt: &HostRuntime, path: &str, named: Named, cause: &Cause) {
     let _told = match (cause, named) {
         (Cause::System(error), _) => eprintln!(rt; "{path}: {error}"),
-        (Cause::Same, _) => eprintln!(rt;
-            "{path}: the command reads this file, so name another"
-        ),
+        (Cause::Same, _) => eprintln!(rt; "{path}: the command reads this file, so name another"),
         (Cause::Unread, Named::Plan) => {
             eprintln!(rt; "{path}: it can't be read, or has more than 16 MiB")
         }
