@@ -152,9 +152,9 @@ pub fn open_tx<A: Network + Drop, B: Network + Drop>(
     ensures a { IfErr result (λ fault. fault.a ≡ a) }
     ensures b { IfErr result (λ fault. fault.b ≡ b) }
 {
-    let frame = Box::new(alloc, FrameBuffer::new());
-    match (frame, open_parts(alloc, &config)) {
-        (Ok(frame), Ok((links, ports, board, monitor))) => {
+    let parts = open_parts(alloc, &config);
+    match (parts, Box::new(alloc, FrameBuffer::new())) {
+        (Ok((links, ports, board, monitor)), Ok(frame)) => {
             let inner = Transmitter::over(config, links, frame, a, b, board);
             let phase = PhantomData;
             Ok((Emitter { inner, phase }, ports, monitor))
