@@ -282,6 +282,9 @@ static size_t formula(size_t links, size_t sub_vls, size_t capacity, size_t each
         + links * sub_vls * (360 + 48 * capacity);
 }
 
+/* What is held beyond that for a moment while an end system is opened. */
+static size_t passing(size_t links) { return links > 50 ? 8 * (links - 50) : 0; }
+
 static void check_memory(void) {
     static const int rows[][4] = {{1, 1, 1, 1}, {1, 1, 2, 1}, {1, 1, 1, 2}, {1, 2, 1, 1},
                                   {2, 1, 1, 1}, {64, 4, 256, 1}, {8, 2, 10, 4}, {1, 1, 256, 64}, {5, 3, 7, 5}};
@@ -295,7 +298,7 @@ static void check_memory(void) {
         most = bytes;
         open_plan(&it, text);
         CHECK(bytes == wanted);
-        CHECK(most == wanted || most < 60 * strlen(text));
+        CHECK(most == wanted + passing((size_t)row[0]) || most < 60 * strlen(text));
         CHECK(afdx_port_of(&it, 0, &port) == AFDX_OK && bytes == wanted + 112);
         CHECK(afdx_send(&port, message, sizeof message) == AFDX_OK && bytes == wanted + 112 + sizeof message);
         /* no allocation from here on; the message's block is freed with the sixth fragment, its last */
