@@ -16,6 +16,8 @@
 #define _GNU_SOURCE
 #include "sides.h"
 
+#include <limits.h>
+#include <malloc.h>
 #include <pthread.h>
 #include <sched.h>
 #include <stdlib.h>
@@ -91,8 +93,8 @@ static double none_due(struct side *side, const struct work *work) {
     return (now_ns() - begun) / work->units;
 }
 
-/* By hand alone: the cutting of messages that are made before, of less than 128 KB, since the allocator gives more than that
-   back to the system when it is freed. */
+/* By hand alone: the cutting of messages that are made before, of less than 128 KB, as by the program of parts, whose
+   allocator gives more than that back to the system when it is freed. */
 static double frames_alone(struct side *side, const struct work *work) {
     enum { BATCH = 32 };
     uint8_t *messages[BATCH];
@@ -281,6 +283,9 @@ static void distribution(unsigned polls) {
 }
 
 int main(int count, char **words) {
+    /* What is freed stays with the process. Otherwise a poll that frees the last messages of the heap may give their
+       memory back to the system, and sends ask for it again: what that costs depends on what else lies behind them. */
+    mallopt(M_TRIM_THRESHOLD, INT_MAX);
     make_message();
     if (count == 3 && strcmp(words[1], "--row") == 0) {
         static struct side sides[2];
