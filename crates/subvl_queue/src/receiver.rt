@@ -47,10 +47,10 @@ pub fn fetch(ring: &Ring, seat: &mut Knowing, taken: &mut u64, slot: &mut usize)
 pub struct Receiver {
     pub(crate) ring: Arc<Ring>,
     pub(crate) seat: Knowing,
-    pub(crate) ports: usize,
     pub(crate) taken: u64,
     // The slot of the next place.
     pub(crate) slot: usize,
+    pub(crate) ports: usize,
     pub(crate) total: Option<u64>,
 }
 

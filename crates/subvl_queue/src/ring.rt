@@ -42,8 +42,9 @@ pub type Knowing = Seat<Slot, View<Message>>;
 /// The table of a queue.
 #[derive(Drop)]
 pub struct Ring {
-    pub table: Table<Slot, View<Message>, (), Rule, Global>,
+    // First, so that it is in the same line of the cache as the table's pointers.
     pub capacity: usize,
+    pub table: Table<Slot, View<Message>, (), Rule, Global>,
     ghost sized: { (table.shared.table_id.words ≡ capacity + 2) × (table.shared.table_id.slots ≡ capacity) × (0 < capacity) },
 }
 
