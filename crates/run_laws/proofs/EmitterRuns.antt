@@ -145,7 +145,7 @@ fourth_poll = gives 12000 1 4 (short_frame 1 1 4 A) [] [] 1 2 1 1 (line_after 4)
     (starts 1 1 2 (short_frame 1 1 4 A) refl refl) (grind arith) (by_three _ refl refl refl)
     refl refl refl refl refl refl refl (grind arith)
 
-finding : ArePolls (FindsIt three_plan 0 1 2) (6000 ∷ 9000 ∷ 12000 ∷ []) (line_after 2) (line_after 5)
+pub finding : ArePolls (FindsIt three_plan 0 1 2) (6000 ∷ 9000 ∷ 12000 ∷ []) (line_after 2) (line_after 5)
 finding = grind (arith, second_poll, third_poll, fourth_poll)
 
 each_poll : {P Q : ℕ → (lines after : Lines) → Type 0} → ((now : ℕ) (lines after : Lines) → P now lines after → Q now lines after)

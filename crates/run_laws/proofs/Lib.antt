@@ -10,3 +10,7 @@ pub mod Pieces
 pub mod MessageRun
 pub mod EmitterRuns
 pub mod NeededRuns
+pub mod Quiet
+pub mod KeptPeriods
+pub mod TrafficRun
+pub mod TrafficRows

@@ -1,11 +1,12 @@
 -- The law of a message in a run of polls.
-use Rattle.run_laws.proofs.Names.{AreQueued, IsQueued, All-weaker, has_port, true, used_sub_vls, ℕ, ◌≡◌, ◌⊎◌, ◌+◌, ◌-◌, ◌*◌, ◌<◌, ◌≤◌, List, [], ◌∷◌, ◌++◌, Bool, nat_lt, length, map, take, drop, arith, refl, ap, ◌∙◌, sym, None, inl, inr, ⊎_elim, All, suc-mul, mul-le, cases_lt, le-ltb, append_assoc, length-append, take-append-drop, length-drop, All-head, All-drop, Plan, IsPlan, link_plan_at, bag_micros, link_place, room_of, LinkPlan, A, Sent, fragments_at, fragments_from, Entry, Lines, latest, IsPrefixOf, Accepted, IsAllowed, IsDrained, stream_at, cons_parts, all_front, pieces_of, port_pieces, most_pieces, queued_before, message_wait, worst_wait, AreTimely, fragments_of, seen_of, HasPlace, FindsIt, MessageInRun}
+use Rattle.run_laws.specs.MessageInRun.{AreReleasedBy}
+use Rattle.run_laws.proofs.Names.{Poll, released_by, lt-ltb, subst, IsAccepted, AreQueued, IsQueued, All-weaker, has_port, true, used_sub_vls, ℕ, ◌≡◌, ◌⊎◌, ◌+◌, ◌-◌, ◌*◌, ◌<◌, ◌≤◌, List, [], ◌∷◌, ◌++◌, Bool, nat_lt, length, map, take, drop, arith, refl, ap, ◌∙◌, sym, None, inl, inr, ⊎_elim, All, suc-mul, mul-le, cases_lt, le-ltb, append_assoc, length-append, take-append-drop, length-drop, All-head, All-drop, Plan, IsPlan, link_plan_at, bag_micros, link_place, room_of, LinkPlan, A, Sent, fragments_at, fragments_from, Entry, Lines, latest, IsPrefixOf, Accepted, IsAllowed, IsDrained, stream_at, cons_parts, all_front, pieces_of, port_pieces, most_pieces, queued_before, message_wait, worst_wait, AreTimely, fragments_of, seen_of, HasPlace, FindsIt, MessageInRun}
 use Rattle.afdx_tx.proofs.OwnLengths.{own_link}
 use Rattle.run_laws.proofs.PollStep.{StandsAt, StepsAt, emitter_step, drain_step, emitter_endures, drain_endures}
-use Rattle.run_laws.proofs.Ran.{some_gap, at_of, seen_both, seen_append, adds_seen, timely_rise, splits, AreSteps, have_run, all_back}
+use Rattle.run_laws.proofs.Ran.{HasOwed, Rise, Show, has_at, some_gap, at_of, seen_both, seen_append, adds_seen, timely_rise, splits, AreSteps, have_run, all_back}
 use Rattle.run_laws.proofs.Used.{queued_port}
 use Rattle.run_laws.proofs.Timely.{timely_released}
-use Rattle.run_laws.proofs.Pieces.{message_pieces, pieces_mono, list_most, fragments_both, port_most}
+use Rattle.run_laws.proofs.Pieces.{message_pieces, own_pieces, list_most, fragments_both, port_most}
 
 -- fewer than `many` fragments of a sub-VL were sent
 abbrev waiting : ℕ → ℕ → List Entry → Bool
@@ -21,17 +22,20 @@ find_step now plan accepted k x many lines mid valid inside most queued (inl fin
     stands
 find_step now plan accepted k x many lines mid valid inside most queued (inr drains) stands = grind (arith, drain_step, valid, queued, le-ltb)
 
--- the polls of a run
-finding_steps : (plan : Plan) (accepted : Accepted) (k x many : ℕ) → IsPlan plan → k < length plan.links
-    → many ≤ length (fragments_of plan k (accepted k x)) → AreQueued plan accepted
-    → AreSteps plan k x (λ now lines after. FindsIt plan k x many now lines after ⊎ IsDrained now plan accepted lines after)
-    (λ rest S. rest ≡ many - length (seen_of x S)) (waiting x many)
-finding_steps plan accepted k x many valid inside most queued = record {
+-- the polls of a run, which find this many fragments
+pub finding_steps : (plan : Plan) (accepted : Accepted) (k x : ℕ) (owed : ℕ → ℕ) → IsPlan plan → k < length plan.links
+    → ((now : ℕ) → owed now ≤ length (fragments_of plan k (accepted k x))) → AreQueued plan accepted
+    → AreSteps plan k x (λ now lines after. FindsIt plan k x (owed now) now lines after ⊎ IsDrained now plan accepted lines after)
+    (λ S polls. HasOwed x owed (length (seen_of x S)) polls) (λ now S. waiting x (owed now) S)
+finding_steps plan accepted k x owed valid inside most queued = record {
   stays_down = λ now lines after p. ⊎_elim (λ finds. emitter_endures now plan lines after finds.poll)
       (grind (arith, drain_endures)) p;
-  step = grind (arith, find_step);
-  waits = grind arith;
-  still = grind (arith, adds_seen);
+  step = λ now lines after p stands. find_step now plan accepted k x (owed now) lines after valid inside (most now) queued p stands;
+  none = λ S. tt;
+  more = λ p polls S M adds waits had. (
+    λ few. waits (lt-ltb (length (seen_of x S)) (owed p.at) few),
+    subst (λ (n : ℕ). HasOwed x owed n polls) (adds_seen p.at x p.released S M adds) had,
+  );
 }
 
 front_of : {X : Type 0} (xs ys us vs : List X) → xs ++ us ≡ ys ++ vs → length xs ≤ length ys → IsPrefixOf xs ys
@@ -42,7 +46,7 @@ front_of (x ∷ xs) (y ∷ ys) us vs is le =
     let rest = front_of xs ys us vs parts.1 (omega arith) in
     grind arith
 
-wide_room : (plan : Plan) (k : ℕ) → IsPlan plan → k < length plan.links → 8 ≤ room_of (link_plan_at plan.links k).lmax
+pub wide_room : (plan : Plan) (k : ℕ) → IsPlan plan → k < length plan.links → 8 ≤ room_of (link_plan_at plan.links k).lmax
 wide_room plan k valid inside = grind arith
 
 module _ (plan : Plan) (k s : ℕ) (valid : IsPlan plan) (inside : k < length plan.links) where
@@ -52,12 +56,8 @@ module _ (plan : Plan) (k s : ℕ) (valid : IsPlan plan) (inside : k < length pl
   abbrev Few : Sent → Type 0
   Few m = pieces_of (room_of (link_plan_at plan.links k).lmax) (length m.bytes) ≤ most_of
 
-  own_few : (m : Sent) → IsAllowed plan k s m
-      → pieces_of (room_of (link_plan_at plan.links k).lmax) (length m.bytes) ≤ port_pieces (link_plan_at plan.links k) m.port
-  own_few m of = pieces_mono _ (length m.bytes) m.port.max (grind arith) of.most
-
   all_few : (messages : List Sent) → All (IsAllowed plan k s) messages → All Few messages
-  all_few messages of i d lt = grind (arith, own_few, port_most)
+  all_few messages of i d lt = grind (arith, own_pieces, wide_room, port_most)
 
   -- How many fragments up to the message's last can be missing if its queue had room for it.
   missing : (earlier : List Sent) (sent : Sent) (stream : List Entry) → All Few earlier
@@ -68,7 +68,7 @@ module _ (plan : Plan) (k s : ℕ) (valid : IsPlan plan) (inside : k < length pl
       let link : LinkPlan = link_plan_at plan.links k in
       let room : ℕ = room_of link.lmax in
       let wide = wide_room plan k valid inside in
-      let own = own_few sent of in
+      let own = own_pieces plan k s sent wide of in
       let whole = ap length (fragments_both plan.end_system room A 0 earlier (sent ∷ [])) in
       let parts = length-append (fragments_of plan k earlier) (fragments_from plan.end_system room A (0 + length earlier) (sent ∷ [])) in
       let last = length-append (fragments_at plan.end_system room A (0 + length earlier) sent) [] in
@@ -93,38 +93,47 @@ own_wait : (plan : Plan) (k s late : ℕ) (sent : Sent) → link_place plan sent
     (used_sub_vls (link_plan_at plan.links k) plan.ports) (most_pieces (link_plan_at plan.links k) s plan.ports) (port_pieces (link_plan_at plan.links k) sent.port)
 own_wait plan k s late sent at its = grind arith
 
-pub message_in_run_holds : MessageInRun
-message_in_run_holds plan accepted moments lines after k s late start earlier sent later valid is last place finding begins stands timely =
-    let link : LinkPlan = link_plan_at plan.links k in
-    let inside = is.link in
-    let S : List Entry = stream_at plan k lines in
-    let many : ℕ = length (fragments_of plan k (earlier ++ sent ∷ [])) in
-    let end : ℕ = start + worst_wait late plan sent.port in
+-- the fragments of the messages up to this one begin those of all
+whole_front : (plan : Plan) (accepted : Accepted) (k s : ℕ) (earlier : List Sent) (sent : Sent) (later : List Sent)
+    → IsAccepted plan accepted k s earlier sent later → fragments_of plan k (earlier ++ sent ∷ [])
+    ++ fragments_from plan.end_system (room_of (link_plan_at plan.links k).lmax) A (0 + length (earlier ++ sent ∷ [])) later
+    ≡ fragments_of plan k (accepted k s)
+whole_front plan accepted k s earlier sent later is =
+    grind (arith, fragments_both plan.end_system (room_of (link_plan_at plan.links k).lmax) A 0 (earlier ++ sent ∷ []) later, append_assoc earlier (sent ∷ []) later)
+
+-- what follows of the accepted messages
+pub record AreKnown (plan : Plan) (accepted : Accepted) (k s : ℕ) (earlier : List Sent) (sent : Sent) : Type 0 where
+  pub before : All (IsAllowed plan k s) earlier
+  pub own : IsAllowed plan k s sent
+  pub queued : AreQueued plan accepted
+  pub most : length (fragments_of plan k (earlier ++ sent ∷ [])) ≤ length (fragments_of plan k (accepted k s))
+  pub user : has_port (link_plan_at plan.links k) plan.ports s ≡ true
+
+pub are_known : (plan : Plan) (accepted : Accepted) (k s : ℕ) (earlier : List Sent) (sent : Sent) (later : List Sent)
+    → IsAccepted plan accepted k s earlier sent later → AreKnown plan accepted k s earlier sent
+are_known plan accepted k s earlier sent later is =
     let of_all : All (IsAllowed plan k s) (earlier ++ sent ∷ later) = rw is.are at (is.allowed k s is.link is.sub) in
     let of : IsAllowed plan k s sent = All-head (IsAllowed plan k s) sent later (all_back (IsAllowed plan k s) earlier (sent ∷ later) of_all) in
-    let few : All (Few plan k s valid inside) earlier =
-    all_few plan k s valid inside earlier (all_front (IsAllowed plan k s) earlier (sent ∷ later) _ refl of_all) in
-    let gone = missing plan k s valid inside earlier sent S few of place in
-    let wait = own_wait plan k s late sent (grind (arith, own_link)) of.queued.its in
-    let ahead : fragments_of plan k (earlier ++ sent ∷ [])
-    ++ fragments_from plan.end_system (room_of link.lmax) A (0 + length (earlier ++ sent ∷ [])) later
-    ≡ fragments_of plan k (accepted k s) = grind (arith, fragments_both plan.end_system (room_of link.lmax) A 0 (earlier ++ sent ∷ []) later, append_assoc earlier (sent ∷ []) later) in
-    let queued : AreQueued plan accepted = λ i t lt tlt. All-weaker (IsAllowed plan i t) (IsQueued plan i t) (λ m a. a.queued) (accepted i t) (is.allowed i t lt tlt) in
-    let user : has_port link plan.ports s ≡ true = queued_port plan k s sent of.queued in
-    let used : ℕ = used_sub_vls link plan.ports in
-    let most : many ≤ length (fragments_of plan k (accepted k s)) = grind (arith, length-append) in
-    let run = have_run moments plan k s (many - length (seen_of s S)) _ _ (waiting s many) lines after
-    (finding_steps plan accepted k s many valid inside most queued) finding stands refl in
-    let rounds = mul-le used (many - length (seen_of s S)) used
-    (queued_before link (most_pieces link s plan.ports) + port_pieces link sent.port) (omega arith) gone in
-    let long = mul-le (used * (many - length (seen_of s S))) (bag_micros link.bag + late)
-    (used * (queued_before link (most_pieces link s plan.ports) + port_pieces link sent.port)) (bag_micros link.bag + late)
-    rounds (omega arith) in
-    let when : AreTimely (bag_micros link.bag) late end start (map at_of run.polls) = rw run.at timely in
-    let released = timely_released run.polls link.sub_vls (has_port link plan.ports) s (many - length (seen_of s S)) (bag_micros link.bag) late start end
-    (latest None S) is.sub user (some_gap link.bag) last run.served run.users run.had when (omega arith) in
-    let split = splits run.polls run.added s end start (grind (arith, timely_rise)) run.show in
-    let grown : stream_at plan k after ≡ S ++ (split.soon ++ split.more) = grind arith in
+    let ahead = whole_front plan accepted k s earlier sent later is in
+    record {
+      before = all_front (IsAllowed plan k s) earlier (sent ∷ later) _ refl of_all;
+      own = of;
+      queued = λ i t lt tlt. All-weaker (IsAllowed plan i t) (IsQueued plan i t) (λ m a. a.queued) (accepted i t) (is.allowed i t lt tlt);
+      most = grind (arith, length-append);
+      user = queued_port plan k s sent of.queued;
+    }
+
+-- A message is released by a time by which the polls of a run released this many fragments of its sub-VL.
+pub by_polls : (plan : Plan) (accepted : Accepted) (k s end start : ℕ) (earlier : List Sent) (sent : Sent) (later : List Sent)
+    (polls : List Poll) (added : List Entry) (lines after : Lines) → IsAccepted plan accepted k s earlier sent later
+    → Rise start polls → Show polls added → stream_at plan k after ≡ stream_at plan k lines ++ added
+    → IsPrefixOf (seen_of s (stream_at plan k after)) (fragments_of plan k (accepted k s))
+    → length (fragments_of plan k (earlier ++ sent ∷ [])) ≤ length (seen_of s (stream_at plan k lines)) + released_by s end polls
+    → AreReleasedBy plan k s (earlier ++ sent ∷ []) (stream_at plan k lines) (stream_at plan k after) end
+by_polls plan accepted k s end start earlier sent later polls added lines after is rise show grown begins enough =
+    let S : List Entry = stream_at plan k lines in
+    let ahead = whole_front plan accepted k s earlier sent later is in
+    let split = splits polls added s end start rise show in
     let count = seen_both s S split.soon in
     let soon_front : IsPrefixOf (seen_of s (S ++ split.soon)) (seen_of s (stream_at plan k after)) = (
       seen_of s split.more,
@@ -133,7 +142,34 @@ message_in_run_holds plan accepted moments lines after k s late start earlier se
     record {
       soon = split.soon;
       more = split.more;
-      is = grown;
+      is = grind arith;
       by = split.by;
-      whole = grind (arith, front_of, append_assoc);
+      whole = front_of (fragments_of plan k (earlier ++ sent ∷ [])) (seen_of s (S ++ split.soon)) _ (seen_of s split.more ++ begins.0)
+          (ahead ∙ (sym begins.1 ∙ (ap (λ (seen : List (List ℕ)). seen ++ begins.0) (sym soon_front.1)
+          ∙ append_assoc (seen_of s (S ++ split.soon)) (seen_of s split.more) begins.0))) (omega arith);
     }
+
+pub message_in_run_holds : MessageInRun
+message_in_run_holds plan accepted moments lines after k s late start earlier sent later valid is last place finding begins stands timely =
+    let link : LinkPlan = link_plan_at plan.links k in
+    let S : List Entry = stream_at plan k lines in
+    let many : ℕ = length (fragments_of plan k (earlier ++ sent ∷ [])) in
+    let end : ℕ = start + worst_wait late plan sent.port in
+    let known = are_known plan accepted k s earlier sent later is in
+    let few : All (Few plan k s valid is.link) earlier = all_few plan k s valid is.link earlier known.before in
+    let gone = missing plan k s valid is.link earlier sent S few known.own place in
+    let wait = own_wait plan k s late sent (grind (arith, own_link)) known.own.queued.its in
+    let used : ℕ = used_sub_vls link plan.ports in
+    let run = have_run moments plan k s _ _ _ lines after
+    (finding_steps plan accepted k s (λ now. many) valid is.link (λ now. known.most) known.queued) finding stands in
+    let had = has_at s (many - length (seen_of s S)) many (length (seen_of s S)) run.polls (omega arith) run.had in
+    let rounds = mul-le used (many - length (seen_of s S)) used
+    (queued_before link (most_pieces link s plan.ports) + port_pieces link sent.port) (omega arith) gone in
+    let long = mul-le (used * (many - length (seen_of s S))) (bag_micros link.bag + late)
+    (used * (queued_before link (most_pieces link s plan.ports) + port_pieces link sent.port)) (bag_micros link.bag + late)
+    rounds (omega arith) in
+    let when : AreTimely (bag_micros link.bag) late end start (map at_of run.polls) = rw run.at timely in
+    let released = timely_released run.polls link.sub_vls (has_port link plan.ports) s (many - length (seen_of s S)) (bag_micros link.bag) late start end
+    (latest None S) is.sub known.user (some_gap link.bag) last run.served run.users had when (omega arith) in
+    by_polls plan accepted k s end start earlier sent later run.polls run.added lines after is
+    (timely_rise (bag_micros link.bag) late end start run.polls when) run.show run.grown begins (omega arith)

@@ -17,28 +17,28 @@ use Rattle.run_laws.specs.WorkedRun.{other_frame, other_line, tight_link, short_
 use Rattle.run_laws.proofs.WorkedRuns.{releases, has_room, not_released}
 use Rattle.run_laws.proofs.Ran.{seen_append}
 
-one_is : IsAccepted byte_plan (bytes_accepted 1) 0 0 [] (short_sent 0) []
+pub one_is : IsAccepted byte_plan (bytes_accepted 1) 0 0 [] (short_sent 0) []
 one_is = grind arith
 
 two_are : IsAccepted byte_plan (bytes_accepted 2) 0 0 (short_sent 0 ∷ []) (short_sent 0) []
 two_are = grind arith
 
 -- a poll that transmits the first of one or two messages
-sends : (now more : ℕ) → Drains now 1 tight_link (bytes_accepted (suc more) 0) no_line (byte_line now) (Released 0 0)
+pub sends : (now more : ℕ) → Drains now 1 tight_link (bytes_accepted (suc more) 0) no_line (byte_line now) (Released 0 0)
 unfolding log checksum addresses header_front internet_header link_header udp_header datagram unnumbered cutting fragments_at
 sends now more = releases now 0 tight_link (bytes_accepted (suc more) 0) no_line (byte_line now) (short_frame 0 0 0 A) refl refl (omega arith) refl
     (grind arith)
     refl refl refl refl refl refl refl (grind arith)
 
-finds : (many before now : ℕ) (lines after : Lines) (did : Served) → Drains now 1 tight_link (bytes_accepted many 0) lines after did
+pub finds : (many before now : ℕ) (lines after : Lines) (did : Served) → Drains now 1 tight_link (bytes_accepted many 0) lines after did
     → AreFinding byte_plan (bytes_accepted many) 0 0 before (now ∷ []) lines after
 finds many before now lines after did turn = (after, inr (after, did, turn, refl), refl)
 
-in_time : AreTimely 1000 0 1000 0 (1000 ∷ [])
+pub in_time : AreTimely 1000 0 1000 0 (1000 ∷ [])
 in_time = grind arith
 
 -- the sub-VL, by its queue
-abbrev held : ReceiverView → Held
+abbrev pub held : ReceiverView → Held
 held queue = sub_of tight_link 0 (short_port 0) [] queue
 
 -- a poll of an emitter that finds no message ready
@@ -69,7 +69,7 @@ unfolding log checksum addresses header_front internet_header link_header udp_he
 finds_other = finds_none (after_take fresh (0, 2 ∷ [])) other_line
     (grind arith) refl refl
 
-other_bytes : blanked (other_frame A) ≡ blanked (short_frame 0 0 0 A) → ⊥
+pub other_bytes : blanked (other_frame A) ≡ blanked (short_frame 0 0 0 A) → ⊥
 unfolding checksum addresses header_front internet_header link_header udp_header datagram unnumbered
 other_bytes is = grind arith
 

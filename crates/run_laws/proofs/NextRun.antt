@@ -1,12 +1,12 @@
 -- The law of the next fragment in a run of polls.
 use Rattle.vl_link.proofs.MessageEnds.{not_begun}
-use Rattle.run_laws.proofs.Names.{ℕ, ◌≡◌, ◌≢◌, ◌⊎◌, ◌+◌, ◌<◌, ◌≤◌, List, [], ◌∷◌, ◌++◌, Bool, true, map, length, arith, refl, Option, Some, None, inl, inr, ⊎_elim, All, nat_tests, cases_eq, eq-eqb, append_assoc, All-nil, All-head, Plan, IsPlan, link_plan_at, sub_in, Entry, Poll, ArePolled, latest_poll, none_begun, begun_after, begun_by, stamp_of, latest, latest_push, stream_at, next_wait, used_sub_vls, LinkPlan, mul-le, seen_of, ComeWithin, latest_of, NextInRun, EmitterPolls, DrainPolls, ComesBy, next_polled_in_time, wait_at}
+use Rattle.run_laws.proofs.Names.{cond, is_of, HasAtPolls, ◌-◌, ℕ, ◌≡◌, ◌≢◌, ◌⊎◌, ◌+◌, ◌<◌, ◌≤◌, List, [], ◌∷◌, ◌++◌, Bool, true, map, length, arith, refl, Option, Some, None, inl, inr, ⊎_elim, All, nat_tests, cases_eq, eq-eqb, append_assoc, All-nil, All-head, Plan, IsPlan, link_plan_at, sub_in, Entry, Poll, ArePolled, latest_poll, none_begun, begun_after, begun_by, stamp_of, latest, latest_push, stream_at, next_wait, used_sub_vls, LinkPlan, mul-le, seen_of, ComeWithin, latest_of, NextInRun, EmitterPolls, DrainPolls, ComesBy, next_polled_in_time, wait_at}
 use Rattle.afdx_legal.specs.Streams.{more_in}
 use Rattle.afdx_laws.specs.NextFragment.{longest_wait}
 use Rattle.vl_shaper.proofs.Users.{users_most}
 use Rattle.run_laws.proofs.Used.{has_port_below}
 use Rattle.run_laws.proofs.PollStep.{Adds, gap_at, subs_at, uses_at, emitter_step, emitter_lacks, drain_step, emitter_endures, drain_endures}
-use Rattle.run_laws.proofs.Ran.{at_of, Rise, splits, left, AreSteps, have_run, some_gap, all_back}
+use Rattle.run_laws.proofs.Ran.{at_of, Rise, splits, AreSteps, have_run, some_gap, all_back}
 
 -- polls that come within the lateness, as a law of the shaper says it
 polled_of : (late before : ℕ) (polls : List Poll) → ComeWithin late before (map at_of polls) → ArePolled late before polls
@@ -55,13 +55,21 @@ begun_push begun (d ∷ S) e x = begun_push (begun_after begun d) S e x
 abbrev AwaitsOne : ℕ → ℕ → List Entry → Type 0
 AwaitsOne x many S = (many ≤ 1) × (1 ≤ many → begun_by none_begun S x ≡ true)
 
+-- the fragments that are still awaited after a poll
+abbrev left : ℕ → ℕ → Option ℕ → ℕ
+left x many released = many - cond (is_of x released) 1 0
+
 still_awaits : (now x many : ℕ) (released : Option ℕ) (S M : List Entry) → AwaitsOne x many S → Adds now released S M
     → AwaitsOne x (left x many released) M
 still_awaits now x many released S M (few, begun) adds = grind (arith, begun_push)
 
+-- so the sub-VL has something at these polls until it is sent
+abbrev HasOne : ℕ → List Entry → List Poll → Type 0
+HasOne x S polls = (many : ℕ) → AwaitsOne x many S → HasAtPolls x many polls
+
 polls_step : (plan : Plan) (k x : ℕ) → IsPlan plan → k < length plan.links
-    → AreSteps plan k x (λ now lines after. EmitterPolls plan now lines after ⊎ DrainPolls plan now lines after) (AwaitsOne x)
-    (λ S. begun_by none_begun S x)
+    → AreSteps plan k x (λ now lines after. EmitterPolls plan now lines after ⊎ DrainPolls plan now lines after) (HasOne x)
+    (λ now S. begun_by none_begun S x)
 polls_step plan k x valid inside = record {
   stays_down = λ now lines after p. ⊎_elim (λ emitter. emitter_endures now plan lines after emitter)
       (grind (arith, drain_endures)) p;
@@ -69,8 +77,9 @@ polls_step plan k x valid inside = record {
       (λ emitter. emitter_step now plan k x _ lines after valid inside emitter (emitter_lacks now plan k x lines after inside emitter) stands)
       (grind (arith, drain_step, not_begun))
       p;
-  waits = λ many S awaits. awaits.1;
-  still = grind (arith, still_awaits);
+  none = λ S many awaits. tt;
+  more = λ p polls S M adds waits had many awaits.
+      (λ some. waits (awaits.1 some), had (left x many p.released) (still_awaits p.at x many p.released S M awaits adds));
 }
 
 next_by : (T earlier soon more : List Entry) (first : Entry) (bound : ℕ) → more_in first.frame ≡ true
@@ -99,11 +108,11 @@ next_in_run_holds plan moments lines after k late earlier first valid inside end
     let bound : ℕ = first.at + next_wait late plan k in
     let below = has_port_below plan k x valid inside has in
     let begun : begun_by none_begun (stream_at plan k lines) (sub_in first.frame) ≡ true = grind (arith, begun_push, eq-eqb) in
-    let run = have_run moments plan k x 1 _ (AwaitsOne x) _ lines after (polls_step plan k x valid inside) runs stands
-    (omega arith, λ some. begun) in
+    let run = have_run moments plan k x _ (HasOne x) _ lines after (polls_step plan k x valid inside) runs stands in
     let last : latest None (stream_at plan k lines) ≡ Some (stamp_of first) = grind (arith, latest_push) in
     let within : ComeWithin late first.at (map at_of run.polls) = rw run.at come in
     let latest_moment : latest_poll first.at run.polls ≡ latest_of first.at moments = grind (arith, latest_is) in
     let one = next_polled_in_time (subs_at plan k) x (gap_at plan k) late first.at (uses_at plan k) run.polls below has (some_gap (link_plan_at plan.links k).bag)
-    (rw last at run.served) run.users (polled_of late first.at run.polls within) run.had (rw latest_moment reach) in
+    (rw last at run.served) run.users (polled_of late first.at run.polls within) (run.had 1 (omega arith, λ some. begun))
+    (rw latest_moment reach) in
     grind (arith, splits run.polls run.added x bound first.at (within_rise late first.at run.polls within) run.show, within_rise late first.at run.polls within, next_less late plan k inside, next_by, finds)

@@ -1,5 +1,5 @@
 -- How many fragments messages have.
-use Rattle.run_laws.proofs.Names.{ℕ, suc, zero, ◌≡◌, ◌+◌, ◌-◌, ◌*◌, ◌≤◌, List, [], ◌∷◌, ◌++◌, length, arith, refl, ap, inl, inr, All, Contains, cases_lt, length-append, length-map, append_assoc, All-head, All-tail, suc-mul, step_of, cutting, cut_by, pieces_from, Sent, fragments_at, fragments_from, LinkPlan, PortPlan, pieces_of, port_pieces, pieces_on, most_pieces}
+use Rattle.run_laws.proofs.Names.{ℕ, suc, zero, ◌≡◌, ◌+◌, ◌-◌, ◌*◌, ◌≤◌, List, [], ◌∷◌, ◌++◌, length, arith, refl, ap, inl, inr, All, Contains, cases_lt, length-append, length-map, append_assoc, All-head, All-tail, suc-mul, step_of, cutting, cut_by, pieces_from, Plan, IsAllowed, link_plan_at, room_of, Sent, fragments_at, fragments_from, LinkPlan, PortPlan, pieces_of, port_pieces, pieces_on, most_pieces}
 use Rattle.std.specs.Int.{div_ceil}
 use Rattle.std.proofs.lemmas.List.Recursion.{max_bounds}
 use Rattle.afdx_frame.specs.declared.net.Net.{Net}
@@ -60,3 +60,8 @@ port_most link ports port inside over =
     let Few : PortPlan → Type 0 = λ p. pieces_on link port.sub p ≤ most_pieces link port.sub ports in
     let all : All Few ports = λ i d lt. max_bounds (most_pieces link port.sub) (pieces_on link port.sub) refl (λ x xs. refl) ports i d lt in
     grind arith
+
+-- a message needs at most as many fragments as the greatest of its port
+pub own_pieces : (plan : Plan) (k s : ℕ) (m : Sent) → 8 ≤ room_of (link_plan_at plan.links k).lmax → IsAllowed plan k s m
+    → pieces_of (room_of (link_plan_at plan.links k).lmax) (length m.bytes) ≤ port_pieces (link_plan_at plan.links k) m.port
+own_pieces plan k s m wide of = pieces_mono _ (length m.bytes) m.port.max wide of.most

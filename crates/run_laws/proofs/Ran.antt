@@ -57,7 +57,7 @@ pub record IsSplit (x bound many : ℕ) (added : List Entry) : Type 0 where
   pub seen : many ≤ length (seen_of x soon)
 
 -- nothing is counted after the bound
-past_none : (x bound before : ℕ) (polls : List Poll) → bound < before → Rise before polls → released_by x bound polls ≡ 0
+pub past_none : (x bound before : ℕ) (polls : List Poll) → bound < before → Rise before polls → released_by x bound polls ≡ 0
 past_none x bound before [] past rise = refl
 past_none x bound before (p ∷ polls) past rise =
     let later : bound < p.at = omega arith in
@@ -94,63 +94,70 @@ pub all_back : {X : Type 0} (P : X → Type 0) (front ys : List X) → All P (fr
 all_back {X = X} P front ys all =
     subst (λ (zs : List X). All P zs) (drop-append_seam front ys) (All-drop P (length front) (front ++ ys) all)
 
--- Polls of a link at these times, which find a fragment of a sub-VL waiting until `many` of its frames are
--- released, and what they add to its stream.
-pub record HaveRun (gap subs : ℕ) (uses : ℕ → Bool) (x many : ℕ) (moments : List ℕ) (S T : List Entry) : Type 0 where
+-- the sub-VL has something at each of these polls before which fewer of its fragments were sent than are owed at its time
+abbrev pub HasOwed : ℕ → (ℕ → ℕ) → ℕ → List Poll → Type 0
+HasOwed x owed sent [] = Unit {0}
+HasOwed x owed sent (p ∷ polls) = (sent < owed p.at → p.has x ≡ true) × HasOwed x owed (sent + cond (is_of x p.released) 1 0) polls
+
+-- at as many polls as are left of the same number at all times
+pub has_at : (x f total sent : ℕ) (polls : List Poll) → f ≤ total - sent → HasOwed x (λ t. total) sent polls → HasAtPolls x f polls
+has_at x f total sent [] few has = tt
+has_at x f total sent (p ∷ polls) few has =
+    let c : ℕ = cond (is_of x p.released) 1 0 in
+    (λ some. has.0 (omega arith), has_at x (f - c) total (sent + c) polls (omega arith) has.1)
+
+-- Polls of a link at these times, of which this is known, and what they add to its stream.
+pub record HaveRun (gap subs : ℕ) (uses : ℕ → Bool) (Had : List Entry → List Poll → Type 0) (moments : List ℕ) (S T : List Entry) : Type 0 where
   pub polls : List Poll
   pub at : map at_of polls ≡ moments
   pub served : AreServed gap subs (latest None S) polls
   pub users : ServeUsers uses polls
-  pub had : HasAtPolls x many polls
+  pub had : Had S polls
   pub added : List Entry
   pub grown : T ≡ S ++ added
   pub show : Show polls added
 
--- the fragments that are still waited for, after a poll
-abbrev pub left : ℕ → ℕ → Option ℕ → ℕ
-left x many released = many - cond (is_of x released) 1 0
-
 -- one poll before others
-run_more : (now gap subs : ℕ) (uses : ℕ → Bool) (x many : ℕ) (b : Bool) (moments : List ℕ) (S M T : List Entry)
-    (step : IsStep now gap subs uses x b S M) → (1 ≤ many → b ≡ true)
-    → HaveRun gap subs uses x (left x many step.released) moments M T → HaveRun gap subs uses x many (now ∷ moments) S T
-run_more now gap subs uses x many b moments S M T step waits run = by_release step.released step.user step.served step.adds run
+run_more : (now gap subs : ℕ) (uses : ℕ → Bool) (x : ℕ) (b : Bool) (Had : List Entry → List Poll → Type 0) (moments : List ℕ) (S M T : List Entry)
+    (step : IsStep now gap subs uses x b S M) (run : HaveRun gap subs uses Had moments M T)
+    → Had S (record { at = now; has = step.has; released = step.released } ∷ run.polls) → HaveRun gap subs uses Had (now ∷ moments) S T
+run_more now gap subs uses x b Had moments S M T step run had = by_release step.released step.user step.served step.adds had
   where
     by_release : (o : Option ℕ) → IsOfUser uses o → IsServed gap subs (latest None S) (record { at = now; has = step.has; released = o }) o
-        → Adds now o S M → HaveRun gap subs uses x (left x many o) moments M T → HaveRun gap subs uses x many (now ∷ moments) S T
-    by_release None user served same run = record {
+        → Adds now o S M → Had S (record { at = now; has = step.has; released = o } ∷ run.polls) → HaveRun gap subs uses Had (now ∷ moments) S T
+    by_release None user served same had = record {
       polls = record { at = now; has = step.has; released = None } ∷ run.polls;
       at = grind arith;
       served = grind arith;
       users = (user, run.users);
-      had = grind arith;
+      had = had;
       added = run.added;
       grown = grind arith;
       show = (run.added, refl, run.show);
     }
-    by_release (Some chosen) user served (frame, of, more) run =
+    by_release (Some chosen) user served (frame, of, more) had =
         let last : latest None M ≡ Some (record { at = now; sub = chosen }) = grind (arith, latest_push) in
         record {
           polls = record { at = now; has = step.has; released = Some chosen } ∷ run.polls;
           at = grind arith;
           served = grind arith;
           users = (user, run.users);
-          had = grind arith;
+          had = had;
           added = entry now frame ∷ run.added;
           grown = grind (arith, append_assoc, entry);
           show = grind arith;
         }
 
--- Polls of one kind step on the link at a place: by this test of its stream a fragment of a sub-VL waits, as long as
--- some are awaited.
-pub record AreSteps (plan : Plan) (k x : ℕ) (Polls : ℕ → Lines → Lines → Type 0) (Awaits : ℕ → List Entry → Type 0)
-    (test : List Entry → Bool) : Type 0 where
+-- Polls of one kind step on the link at a place: by this test of their time and its stream a fragment of a sub-VL waits.
+-- From that follows what is known of them.
+pub record AreSteps (plan : Plan) (k x : ℕ) (Polls : ℕ → Lines → Lines → Type 0) (Had : List Entry → List Poll → Type 0)
+    (test : ℕ → List Entry → Bool) : Type 0 where
   pub stays_down : (now : ℕ) (lines after : Lines) → Polls now lines after → BothEndure lines after
   pub step : (now : ℕ) (lines after : Lines) → Polls now lines after → StandsAt plan k after
-      → StepsAt now plan k x (test (stream_at plan k lines)) lines after
-  pub waits : (many : ℕ) (S : List Entry) → Awaits many S → 1 ≤ many → test S ≡ true
-  pub still : (now many : ℕ) (released : Option ℕ) (S M : List Entry) → Awaits many S → Adds now released S M
-      → Awaits (left x many released) M
+      → StepsAt now plan k x (test now (stream_at plan k lines)) lines after
+  pub none : (S : List Entry) → Had S []
+  pub more : (p : Poll) (polls : List Poll) (S M : List Entry) → Adds p.at p.released S M → (test p.at S ≡ true → p.has x ≡ true)
+      → Had M polls → Had S (p ∷ polls)
 
 -- they never bring a network up
 polls_endure : (Polls : ℕ → Lines → Lines → Type 0) (moments : List ℕ) (lines after : Lines)
@@ -160,17 +167,28 @@ polls_endure Polls [] lines after each r = grind arith
 polls_endure Polls (now ∷ moments) lines after each r = grind (arith, polls_endure Polls moments r.0 after each r.2)
 
 -- the run of polls
-pub have_run : (moments : List ℕ) (plan : Plan) (k x many : ℕ) (Polls : ℕ → Lines → Lines → Type 0) (Awaits : ℕ → List Entry → Type 0)
-    (test : List Entry → Bool) (lines after : Lines) → AreSteps plan k x Polls Awaits test
-    → ArePolls Polls moments lines after → StandsAt plan k after → Awaits many (stream_at plan k lines)
-    → HaveRun (gap_at plan k) (subs_at plan k) (uses_at plan k) x many moments (stream_at plan k lines) (stream_at plan k after)
-have_run [] plan k x many Polls Awaits test lines after each r stands awaits = grind (arith, append-nil)
-have_run (now ∷ moments) plan k x many Polls Awaits test lines after each r stands awaits =
+pub have_run : (moments : List ℕ) (plan : Plan) (k x : ℕ) (Polls : ℕ → Lines → Lines → Type 0) (Had : List Entry → List Poll → Type 0)
+    (test : ℕ → List Entry → Bool) (lines after : Lines) → AreSteps plan k x Polls Had test
+    → ArePolls Polls moments lines after → StandsAt plan k after
+    → HaveRun (gap_at plan k) (subs_at plan k) (uses_at plan k) Had moments (stream_at plan k lines) (stream_at plan k after)
+have_run [] plan k x Polls Had test lines after each r stands = record {
+  polls = [];
+  at = refl;
+  served = tt;
+  users = tt;
+  had = each.none (stream_at plan k lines);
+  added = [];
+  grown = grind (arith, append-nil);
+  show = refl;
+}
+have_run (now ∷ moments) plan k x Polls Had test lines after each r stands =
     let stood : StandsAt plan k r.0 = grind (arith, stood_before, polls_endure) in
-    let step : StepsAt now plan k x (test (stream_at plan k lines)) lines r.0 = grind arith in
-    run_more now (gap_at plan k) (subs_at plan k) (uses_at plan k) x many (test (stream_at plan k lines)) moments (stream_at plan k lines)
-    (stream_at plan k r.0) (stream_at plan k after) step (grind arith)
-    (grind (arith, have_run moments plan k x (left x many step.released) Polls Awaits test r.0 after each r.2 stands (grind arith)))
+    let step : StepsAt now plan k x (test now (stream_at plan k lines)) lines r.0 = each.step now lines r.0 r.1 stood in
+    let run = have_run moments plan k x Polls Had test r.0 after each r.2 stands in
+    run_more now (gap_at plan k) (subs_at plan k) (uses_at plan k) x (test now (stream_at plan k lines)) Had moments (stream_at plan k lines)
+    (stream_at plan k r.0) (stream_at plan k after) step run
+    (each.more (record { at = now; has = step.has; released = step.released }) run.polls (stream_at plan k lines) (stream_at plan k r.0)
+    step.adds step.waits run.had)
 
 pub some_gap : (bag : Bag) → 1 ≤ 1000 * bag_ms bag
 some_gap bag = grind arith

@@ -2,6 +2,8 @@
 ghost use Rattle.run_laws.specs.EmitterRun.{ComesInTurn, WaitsItsTurn};
 ghost use Rattle.run_laws.specs.MessageInRun.{MessageInRun, ApartAreTimely};
 ghost use Rattle.run_laws.specs.Runs.{NextInRun, KeptReady};
+ghost use Rattle.run_laws.specs.TrafficInRun.{TrafficInRun};
+ghost use Rattle.run_laws.specs.TrafficRow.{TakesItsWait, NeedsTraffic};
 ghost use Rattle.run_laws.specs.WorkedRun.{ComesInRun, NeedsARun, MeetsTheWait, NeedsItsPremises};
 
 /// An emitter, or its drain, releases the next fragment of a message within the bound of its link: one BAG and one
@@ -57,4 +59,29 @@ pub fn message_in_run()
     // a message that isn't accepted; a start before the last release; a queue that exceeds its capacity; a poll that
     // doesn't find the message; an emitter that sent another; networks that are down; a late poll
     ensures needed { NeedsItsPremises }
+{}
+
+/// An accepted message is wholly released within the wait by traffic of its port, if each port of its sub-VL keeps a
+/// period, whatever the other sub-VLs send. `plan_analysis::traffic_waits` computes that wait.
+///
+/// The run starts at a time at which the sub-VL has sent all that it accepted, for example when the end system opens.
+/// The wait starts when the message is accepted, at any time of the run. Premises:
+///
+/// - The messages of the sub-VL are accepted in this order, none before the start, and two of one port at least its
+///   period apart (`KeepPeriods`).
+/// - A poll of the emitter that polls the queue of the sub-VL finds a message there while one that was accepted before
+///   the time of the poll isn't wholly released (`AreFindingAll`). A drain needs no such premise.
+/// - Polls are timely from the start until the wait is over (`AreTimely`), the start isn't before the last release, the
+///   fragments sent so far begin those of the accepted list, and a network that carries the link is up after the polls,
+///   as for `message_in_run`.
+pub fn traffic_in_run()
+    ensures wait { TrafficInRun }
+
+    // a message of an emitter with three sub-VLs that takes exactly its wait
+    ensures in_turn { TakesItsWait }
+
+    // senders that aren't those of the plan; a shorter wait; a message that isn't accepted; a start before the last
+    // release; a sub-VL that owes a fragment at the start; a period that isn't kept; a message before the start; a poll
+    // that doesn't find the message; an emitter that sends another; networks that are down; a late poll
+    ensures needed { NeedsTraffic }
 {}

@@ -1,0 +1,73 @@
+-- How long an accepted message waits in a run of polls if each port of its sub-VL keeps a period.
+use Rattle.std.specs.Prelude.{ℕ, ◌≡◌, ◌⊎◌, ◌+◌, ◌≤◌, true, Bool, List, [], ◌∷◌, ◌++◌, length, map, filter, All, nat_eq, nat_lt, None, Some, IfSome}
+use Rattle.afdx_plan.specs.Config.{Plan, IsPlan, link_plan_at}
+use Rattle.afdx_plan.specs.Plan.{bag_micros}
+use Rattle.afdx_plan.specs.declared.port_plan.PortPlan.{PortPlan}
+use Rattle.afdx_frame.specs.Fragments.{Sent}
+use Rattle.redundant_mux.specs.Lines.{Lines, any_up}
+use Rattle.vl_shaper.specs.Pace.{IsLater}
+use Rattle.afdx_legal.specs.Streams.{latest, IsPrefixOf}
+use Rattle.afdx_legal.specs.Legal.{Accepted}
+use Rattle.afdx_tx.specs.Run.{IsDrained}
+use Rattle.afdx_tx.specs.DrainEnds.{stream_at}
+use Rattle.plan_analysis.specs.declared.traffic.Sender.{Sender}
+use Rattle.plan_analysis.specs.Traffic.{AreSendersOf, IsWaitOf}
+use Rattle.run_laws.specs.Runs.{ArePolls}
+use Rattle.run_laws.specs.MessageInRun.{AreTimely, AreReleasedBy, FindsIt, IsAccepted, fragments_of, seen_of}
+
+-- an accepted message, and when it was accepted, in microseconds
+pub record Arrival : Type 0 where
+  pub at : ℕ
+  pub sent : Sent
+
+abbrev pub messages_in : List Arrival → List Sent
+messages_in arrivals = map (λ (a : Arrival). a.sent) arrivals
+
+abbrev pub times_in : List Arrival → List ℕ
+times_in arrivals = map (λ (a : Arrival). a.at) arrivals
+
+-- the message is of this port
+abbrev pub is_from : PortPlan → Arrival → Bool
+is_from port a = nat_eq a.sent.port.id.0 port.id.0
+
+-- the message was accepted before this time
+abbrev pub is_before : ℕ → Arrival → Bool
+is_before now a = nat_lt a.at now
+
+-- each time is at least `apart` after all before it
+abbrev pub AreApart : ℕ → List ℕ → Type 0
+AreApart apart [] = Unit {0}
+AreApart apart (first ∷ times) = All (λ (t : ℕ). first + apart ≤ t) times × AreApart apart times
+
+-- Messages were accepted in this order, none before the start, and those of a port with a period at least that apart.
+pub record KeepPeriods (senders : List Sender) (start : ℕ) (arrivals : List Arrival) : Type 0 where
+  pub ordered : AreApart 0 (start ∷ times_in arrivals)
+  pub apart : All (λ (s : Sender). IfSome s.period (λ p. AreApart p (times_in (filter (is_from s.port) arrivals)))) senders
+
+-- The number of fragments of the messages that a sub-VL accepted before a time: those before the start, and these.
+abbrev pub accepted_by : Plan → ℕ → List Sent → List Arrival → ℕ → ℕ
+accepted_by plan k before arrivals now = length (fragments_of plan k (before ++ messages_in (filter (is_before now) arrivals)))
+
+-- Polls of an emitter, each of which finds the messages that were accepted before it until they are sent, or of a drain of
+-- the accepted messages. `count` has the number of fragments of the messages accepted before each time.
+abbrev pub AreFindingAll : Plan → Accepted → (k s : ℕ) → (count : ℕ → ℕ) → List ℕ → (lines after : Lines) → Type 0
+AreFindingAll plan accepted k s count =
+    ArePolls (λ now lines after. FindsIt plan k s (count now) now lines after ⊎ IsDrained now plan accepted lines after)
+
+-- A message is wholly released within the wait by traffic of its port, from its acceptance on. At the start of the run
+-- its sub-VL had sent all that it had accepted. Since then its ports keep their periods, the polls come when its link is
+-- due, find the accepted messages, and continue until the wait is over. A network that carries the link is up after them.
+abbrev pub TrafficInRun : Type 0
+TrafficInRun = (plan : Plan) (senders : List Sender) (accepted : Accepted) (moments : List ℕ) (lines after : Lines)
+    (k s late start wait : ℕ) (before : List Sent) (earlier : List Arrival) (own : Arrival) (later : List Sent) (sender : Sender)
+    → IsPlan plan → AreSendersOf plan senders → sender.port ≡ own.sent.port → IsWaitOf late plan senders sender (Some wait)
+    → IsAccepted plan accepted k s (before ++ messages_in earlier) own.sent later
+    → IsLater (latest None (stream_at plan k lines)) start
+    → seen_of s (stream_at plan k lines) ≡ fragments_of plan k before
+    → KeepPeriods senders start (earlier ++ own ∷ [])
+    → AreFindingAll plan accepted k s (accepted_by plan k before (earlier ++ own ∷ [])) moments lines after
+    → IsPrefixOf (seen_of s (stream_at plan k after)) (fragments_of plan k (accepted k s))
+    → any_up (link_plan_at plan.links k).networks after ≡ true
+    → AreTimely (bag_micros (link_plan_at plan.links k).bag) late (own.at + wait) start moments
+    → AreReleasedBy plan k s ((before ++ messages_in earlier) ++ own.sent ∷ []) (stream_at plan k lines) (stream_at plan k after)
+    (own.at + wait)
