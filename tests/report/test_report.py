@@ -268,12 +268,13 @@ def traffic_faults(seed: int) -> Iterator[str]:
     busy = traffic.busy_rounds(flows, used * pause) * used * pause
     if busy > 400 * pause:
         return
-    script, accepted = traffic.script_of(plan, port, demands, lateness, busy)
-    save("script.txt", "\n".join(script) + "\n")
-    ran = subprocess.run([PROGRAM, "run", "plan.toml", "script.txt"], capture_output=True, text=True, check=False, timeout=60)
-    longest = max(traffic.waits_of(ran.stdout, port["sub"], accepted))
-    if longest != wait - (pause if used > 1 else 0):
-        yield f"plan {seed}: port {port['id']} waits {longest}, and its wait by traffic is {wait}, a turn {pause}\n{text}"
+    for before in (0, pieces(plan["vl"][0], port["max"])):
+        script, accepted = traffic.script_of(plan, port, demands, lateness, busy, before)
+        save("script.txt", "\n".join(script) + "\n")
+        ran = subprocess.run([PROGRAM, "run", "plan.toml", "script.txt"], capture_output=True, text=True, check=False, timeout=60)
+        longest = max(traffic.waits_of(ran.stdout, port["sub"], accepted))
+        if longest != wait - (0 if before or used == 1 else pause):
+            yield f"plan {seed}: port {port['id']} waits {longest} after {before}, and its wait by traffic is {wait}, a turn {pause}\n{text}"
 
 
 def traffic_text_faults() -> Iterator[str]:

@@ -107,20 +107,24 @@ def text_of(rng: random.Random, demands: dict[int, tuple]) -> str:
     return out.getvalue()
 
 
-def script_of(plan: Plan, port: Plan, demands: dict[int, tuple], lateness: int, busy: int) -> tuple[list[str], list[int]]:
-    """A run in which the ports of a sub-VL begin to send just after the sub-VL in turn after it was served, for a busy
-    time, as often as they may, and those of the others always. The second value has the times at which the sub-VL accepts its
-    messages."""
+def script_of(
+    plan: Plan, port: Plan, demands: dict[int, tuple], lateness: int, busy: int, before: int
+) -> tuple[list[str], list[int]]:
+    """A run in which the ports of a sub-VL begin to send, for a busy time, as often as they may, and those of the others send
+    always. If the port first sends a message, of `before` fragments, they begin just after its last one; otherwise just
+    after the sub-VL in turn after theirs was served. The second value has the times at which the sub-VL accepts its
+    messages; of that first message it has the time of its last fragment."""
     pause = 1000 * plan["vl"][0]["bag_ms"] + lateness
     mates = [other for other in plan["port"] if other["sub"] == port["sub"]]
     others = [other for other in plan["port"] if other["sub"] != port["sub"]]
     subs = sorted({other["sub"] for other in others})
-    start = pause * (sum(sub < port["sub"] for sub in subs) % max(len(subs), 1))
+    place = sum(sub < port["sub"] for sub in subs)
+    start = pause * (place + (before - 1) * (len(subs) + 1) if before else place % max(len(subs), 1))
     due = sorted((start + t, other["id"], other["max"]) for other in mates for t in range(0, busy, demands[other["id"]][1]))
-    lines, accepted = [], []
+    lines, accepted = ([f"send {port['id']} {'5a' * port['max']}"], [start]) if before else ([], [])
     for poll in range(0, start + busy + pause, pause):
-        while len(accepted) < len(due) and due[len(accepted)][0] < poll:
-            moment, number, size = due[len(accepted)]
+        while due and due[0][0] < poll:
+            moment, number, size = due.pop(0)
             lines.append(f"send {number} {'5a' * size}")
             accepted.append(moment)
         lines += [f"send {other['id']} {'5a' * other['max']}" for other in others] + [f"at {poll}"]
