@@ -15,6 +15,8 @@ mod config_read;
 #[cfg(test)]
 mod frame;
 #[cfg(test)]
+mod judging;
+#[cfg(test)]
 mod mux;
 #[cfg(test)]
 mod outbox;

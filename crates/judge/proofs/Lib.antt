@@ -1,0 +1,4 @@
+pub mod Left
+pub mod Missing
+pub mod Others
+pub mod Pairs

@@ -1,0 +1,12 @@
+use Rattle.std.proofs.Common.{◌≡◌, ◌-◌, ◌≤◌, vec_len, replicate}
+use Rattle.judge.specs.Judging.{new_link}
+use Rattle.judge.proofs.judge.make_links.Given as goal
+
+abbrev pub invariant-links : goal.invariant-links
+invariant-links l = record {
+  within : vec_len l.links ≤ l.count;
+  same : l.links.items ≡ replicate (vec_len l.links) (new_link l.late);
+}
+
+abbrev pub decreases-links : goal.decreases-links
+decreases-links l = l.count - vec_len l.links

@@ -1,0 +1,9 @@
+use Rattle.std.proofs.Common.{rules}
+use Rattle.std.proofs.lemmas.Fn.{filter_same}
+use Rattle.judge.specs.Twins.{stays}
+use Rattle.judge.proofs.twins.keep.Goals as goal
+
+pub returns : goal.returns
+returns c =
+    filter_same _ (stays c.args.nearness.now c.args.tag.now c.args.number) _
+    (λ x b q k. search rules) _ _ c.retain.ensures.filtered

@@ -1,0 +1,49 @@
+-- What is wrong with a frame, and the findings of packets.
+use Rattle.std.specs.Prelude.{ℕ, List, [], ◌∷◌, ◌++◌, Option, Some, None}
+use Rattle.afdx_plan.specs.declared.port_plan.VlId.{VlId}
+use Rattle.judge.specs.declared.finding.Deviation.{Deviation}
+use Rattle.judge.specs.declared.finding.Finding.{Finding}
+use Rattle.judge.specs.declared.finding.Kind.{Kind}
+use Rattle.judge.specs.declared.finding.Kind.TheVariants.{Frame, Source, Link, Network, Size, Number, Early, Port, Fragment, Message, Turn, Twin, Missing}
+use Rattle.judge.specs.declared.finding.Tag.{Tag}
+
+-- the number of a kind
+abbrev pub kind_number : Kind → ℕ
+kind_number (Frame rule) = 1
+kind_number Source = 2
+kind_number Link = 3
+kind_number Network = 4
+kind_number Size = 5
+kind_number Number = 6
+kind_number Early = 7
+kind_number Port = 8
+kind_number (Fragment misfit) = 9
+kind_number (Message ending) = 10
+kind_number Turn = 11
+kind_number Twin = 12
+kind_number Missing = 13
+
+abbrev pub deviation : Kind → ℕ → ℕ → Deviation
+deviation kind seen wanted = record { kind = kind; seen = seen; wanted = wanted }
+
+-- the first of two deviations
+abbrev pub first_of : Option Deviation → Option Deviation → Option Deviation
+first_of None other = other
+first_of (Some d) other = Some d
+
+-- a packet's finding
+abbrev pub finding_of : Tag → Option VlId → Deviation → Finding
+finding_of tag link d = record {
+  kind = d.kind;
+  packet = tag.packet;
+  net = tag.net;
+  at = tag.at;
+  link = link;
+  seen = d.seen;
+  wanted = d.wanted;
+}
+
+-- these findings, and a packet's, if there is one
+abbrev pub with_finding : Tag → Option VlId → Option Deviation → List Finding → List Finding
+with_finding tag link None found = found
+with_finding tag link (Some d) found = found ++ finding_of tag link d ∷ []

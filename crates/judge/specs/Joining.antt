@@ -1,0 +1,147 @@
+-- The message of a sub-VL on a network, as its pieces come: which piece is next, and what is wrong with a whole message.
+use Rattle.std.specs.Prelude.{ℕ, ◌+◌, ◌-◌, ◌*◌, ◌%◌, nat_eq, nat_lt, nat_le, not, ◌&&◌, ◌||◌, Bool, true, if◌then◌else◌, List, find, Option, Some, None}
+use Rattle.afdx_plan.specs.Address.{destination_address}
+use Rattle.afdx_plan.specs.Plan.{step_of}
+use Rattle.afdx_plan.specs.declared.port_plan.PortPlan.{PortPlan}
+use Rattle.afdx_frame.specs.Frame.{udp_field}
+use Rattle.afdx_frame.specs.Profile.{word_at}
+use Rattle.judge.specs.Deviations.{deviation, first_of}
+use Rattle.judge.specs.declared.fields.Fields.{Fields}
+use Rattle.judge.specs.declared.fields.Flow.{Flow}
+use Rattle.judge.specs.declared.fields.PieceIn.{PieceIn}
+use Rattle.judge.specs.declared.finding.Deviation.{Deviation}
+use Rattle.judge.specs.declared.finding.Ending.{Ending}
+use Rattle.judge.specs.declared.finding.Ending.TheVariants.{UdpLength, Size as TooLong, UdpChecksum}
+use Rattle.judge.specs.declared.finding.Kind.TheVariants.{Fragment, Message}
+use Rattle.judge.specs.declared.finding.Misfit.{Misfit}
+use Rattle.judge.specs.declared.finding.Misfit.TheVariants.{Offset, Identification, Addresses, Length}
+use Rattle.judge.specs.declared.joining.Head.{Head}
+use Rattle.judge.specs.declared.joining.Joining.{Joining}
+use Rattle.judge.specs.declared.joining.Joining.TheVariants.{Any, Between, Within}
+
+-- ---- ports
+
+-- an address as a number of 32 bits
+abbrev pub address_number : List ℕ → ℕ
+address_number address = 65536 * word_at address 0 + word_at address 2
+
+-- a piece has the partition and the destination of a port
+abbrev pub is_towards : Flow → PortPlan → Bool
+is_towards flow port = nat_eq flow.partition port.partition
+    && nat_eq flow.address (address_number (destination_address port))
+
+-- a first piece of a sub-VL is of a port: the UDP ports are its too
+abbrev pub is_of_port : ℕ → ℕ → Flow → PortPlan → Bool
+is_of_port vl sub flow port = nat_eq port.vl.0 vl && nat_eq port.sub sub && nat_eq flow.source port.source
+    && nat_eq flow.destination port.destination && is_towards flow port
+
+abbrev pub port_of : List PortPlan → ℕ → ℕ → Flow → Option PortPlan
+port_of ports vl sub flow = find (is_of_port vl sub flow) ports
+
+-- ---- the message
+
+-- What the first piece of a port's message says. The sum is of the words of the addresses and the piece, the checksum
+-- taken as zero, modulo 65,535.
+abbrev pub head_of : PortPlan → Fields → Head
+head_of port fields = record {
+  port = port;
+  udp_len = fields.udp_len;
+  udp_sum = fields.udp_sum;
+  sum = (fields.ends + fields.sum + (65535 - fields.udp_sum)) % 65535;
+}
+
+-- one more piece
+abbrev pub head_with : Head → Fields → Head
+head_with head fields = record head { sum = (head.sum + fields.sum) % 65535 }
+
+-- where the next piece begins, and its identification, if anything is known
+abbrev pub next_of : Joining → Option ℕ
+next_of Any = None
+next_of (Between ident) = Some 0
+next_of (Within message) = Some message.next
+
+abbrev pub ident_of : Joining → Option ℕ
+ident_of Any = None
+ident_of (Between ident) = Some ident
+ident_of (Within message) = Some message.ident
+
+-- what is known of the message that was begun
+abbrev pub begun : Joining → Option Head
+begun Any = None
+begun (Between ident) = None
+begun (Within message) = message.head
+
+-- a piece has the addresses of its message, if they are known
+abbrev pub has_addresses : Option Head → Flow → Bool
+has_addresses None flow = true
+has_addresses (Some head) flow = is_towards flow head.port
+
+abbrev pub misfit : Misfit → ℕ → ℕ → Option Deviation
+misfit how seen wanted = Some (deviation (Fragment how) seen wanted)
+
+-- a number is the one that is wanted, if one is
+abbrev pub misfit_if : Misfit → Option ℕ → ℕ → Option Deviation
+misfit_if how None seen = None
+misfit_if how (Some wanted) seen = if nat_eq seen wanted then None else misfit how seen wanted
+
+abbrev pub addresses_deviation : Option Head → Flow → Option Deviation
+addresses_deviation head flow = if has_addresses head flow then None else misfit Addresses 0 0
+
+-- The length that the cutting gives a piece: as much as fits into a frame, in units of 8 bytes; of the last piece more
+-- than fitted beside the one before. A frame that is too long is another finding.
+unfoldable pub length_deviation : ℕ → PieceIn → Option Deviation
+length_deviation room piece =
+    if piece.more
+    then (if nat_le piece.len room && not (nat_eq piece.len (step_of room)) then misfit Length piece.len (step_of room)
+    else None)
+    else (if nat_lt 0 piece.start && nat_le piece.len (room - step_of room)
+    then misfit Length piece.len (room - step_of room + 1) else None)
+
+-- how a piece isn't the next one
+unfoldable pub fragment_deviation : ℕ → Fields → Joining → Option Deviation
+fragment_deviation room fields joining = first_of (misfit_if Offset (next_of joining) fields.piece.start)
+    (first_of (misfit_if Identification (ident_of joining) fields.piece.ident)
+    (first_of (addresses_deviation (begun joining) fields.flow) (length_deviation room fields.piece)))
+
+-- what is known of the message with one more piece
+abbrev pub head_after : Option Head → Fields → Option Head
+head_after None fields = None
+head_after (Some head) fields = Some (head_with head fields)
+
+abbrev pub head_from : Option PortPlan → Fields → Option Head
+head_from None fields = None
+head_from (Some port) fields = Some (head_of port fields)
+
+unfoldable pub head_now : Option PortPlan → Fields → Joining → Option Head
+head_now port fields joining =
+    if nat_eq fields.piece.start 0 then head_from port fields else head_after (begun joining) fields
+
+-- The right checksum of a datagram of this length, from the sum without it: the pseudo header adds protocol 17 and the
+-- length (RFC 768).
+abbrev pub right_sum : Head → ℕ → ℕ
+right_sum head len = udp_field head.port.checksum (head.sum + 17 + len)
+
+abbrev pub ending : Ending → ℕ → ℕ → Option Deviation
+ending how seen wanted = Some (deviation (Message how) seen wanted)
+
+-- what is wrong with a message whose datagram has this length
+unfoldable pub message_deviation : ℕ → Head → Option Deviation
+message_deviation len head =
+    if not (nat_eq head.udp_len len) then ending UdpLength head.udp_len len
+    else (if nat_eq (len - 8) 0 || nat_lt head.port.max (len - 8) then ending TooLong (len - 8) head.port.max
+    else (if nat_eq head.udp_sum (right_sum head len) then None
+    else ending UdpChecksum head.udp_sum (right_sum head len)))
+
+-- the same of the message that a piece ends, if that is known
+abbrev pub if_known : ℕ → Option Head → Option Deviation
+if_known len None = None
+if_known len (Some head) = message_deviation len head
+
+abbrev pub end_deviation : PieceIn → Option Head → Option Deviation
+end_deviation piece head = if piece.more then None else if_known (piece.start + piece.len) head
+
+-- what is known after a piece
+abbrev pub joined : PieceIn → Option Head → Joining
+joined piece head =
+    if piece.more then Within (record { ident = piece.ident; next = piece.start + piece.len; head = head })
+    else Between ((piece.ident + 4) % 65536)

@@ -1,0 +1,121 @@
+-- The first rule of the layout that a frame breaks (ARINC 664 Part 7, frame structure; RFC 791).
+use Rattle.std.specs.Prelude.{ℕ, ◌+◌, ◌-◌, ◌*◌, ◌%◌, ◌≤◌, ◌==◌, nat_eq, nat_lt, nat_le, not, ◌&&◌, ◌||◌, Bool, if◌then◌else◌, max, List, length, slice_index, slice_range, Option, Some, None, position}
+use Rattle.afdx_frame.specs.Checksum.{word_sum}
+use Rattle.afdx_frame.specs.Frame.{greatest_datagram, more_fragments, offset_modulus}
+use Rattle.afdx_frame.specs.Profile.{total_length, fragment_field}
+use Rattle.judge.specs.Deviations.{deviation, first_of}
+use Rattle.judge.specs.declared.finding.Deviation.{Deviation}
+use Rattle.judge.specs.declared.finding.Kind.TheVariants.{Frame}
+use Rattle.judge.specs.declared.finding.Layout.{Layout}
+use Rattle.judge.specs.declared.finding.Layout.TheVariants.{Length, DestinationMac, SourceMac, Interface, EtherType, Version, TotalLength, Fragment, Protocol, HeaderSum, SourceAddress, DestinationAddress, Padding}
+
+-- a rule whose field begins at a byte, unless it is kept
+abbrev pub unless_kept : Bool → Layout → ℕ → Option Deviation
+unless_kept kept rule byte = if kept then None else Some (deviation (Frame rule) byte 0)
+
+-- the byte at a place is this one
+abbrev pub has_byte : List ℕ → ℕ → ℕ → Bool
+has_byte frame place byte = nat_eq (slice_index frame place) byte
+
+-- 60 to 1,514 bytes
+abbrev pub length_broken : List ℕ → Option Deviation
+length_broken frame =
+    if nat_lt (length frame) 60 then Some (deviation (Frame Length) (length frame) 60)
+    else (if nat_lt 1514 (length frame) then Some (deviation (Frame Length) (length frame) 1514) else None)
+
+-- the constant fields of the MAC addresses, the interface identifier and the type
+abbrev pub has_destination_mac : List ℕ → Bool
+has_destination_mac f = has_byte f 0 3 && has_byte f 1 0 && has_byte f 2 0 && has_byte f 3 0
+
+abbrev pub has_source_mac : List ℕ → Bool
+has_source_mac f = has_byte f 6 2 && has_byte f 7 0 && has_byte f 8 0
+
+abbrev pub has_interface : List ℕ → Bool
+has_interface f = has_byte f 11 32 || has_byte f 11 64
+
+abbrev pub has_type : List ℕ → Bool
+has_type f = has_byte f 12 8 && has_byte f 13 0
+
+unfoldable pub link_broken : List ℕ → Option Deviation
+link_broken f = first_of (unless_kept (has_destination_mac f) DestinationMac 0)
+    (first_of (unless_kept (has_source_mac f) SourceMac 6)
+    (first_of (unless_kept (has_interface f) Interface 11) (unless_kept (has_type f) EtherType 12)))
+
+-- the length of a frame with this total length: a short one is padded to 60 bytes
+abbrev pub framed : ℕ → ℕ
+framed total = max (15 + total) 60
+
+-- version 4, a header of 20 bytes, type of service 0
+abbrev pub has_version : List ℕ → Bool
+has_version f = has_byte f 14 69 && has_byte f 15 0
+
+-- some bytes of a piece, the frame's length, and of a piece that more follow whole units of 8 bytes
+abbrev pub has_total : List ℕ → Bool
+has_total f = nat_le 21 (total_length f) && nat_eq (length f) (framed (total_length f))
+    && (nat_lt (fragment_field f) more_fragments || nat_eq ((total_length f - 20) % 8) 0)
+
+-- no flag but more fragments, and the piece ends within the greatest datagram
+abbrev pub has_fragment : List ℕ → Bool
+has_fragment f = nat_lt (fragment_field f) 16384
+    && nat_le (8 * (fragment_field f % offset_modulus) + total_length f) (20 + greatest_datagram)
+
+-- time to live 1, and UDP
+abbrev pub has_protocol : List ℕ → Bool
+has_protocol f = has_byte f 22 1 && has_byte f 23 17
+
+abbrev pub has_header_sum : List ℕ → Bool
+has_header_sum f = nat_eq (word_sum (slice_range f 14 34) % 65535) 0
+
+unfoldable pub internet_broken : List ℕ → Option Deviation
+internet_broken f = first_of (unless_kept (has_version f) Version 14)
+    (first_of (unless_kept (has_total f) TotalLength 16)
+    (first_of (unless_kept (has_fragment f) Fragment 20)
+    (first_of (unless_kept (has_protocol f) Protocol 22) (unless_kept (has_header_sum f) HeaderSum 24))))
+
+-- the source address: 10, the end system of the source MAC address, a partition from 0 to 31
+abbrev pub has_source_address : List ℕ → Bool
+has_source_address f = has_byte f 26 10 && has_byte f 27 (slice_index f 9) && has_byte f 28 (slice_index f 10)
+    && nat_le (slice_index f 29) 31
+
+-- the destination address: 224.224 and the link of the destination MAC address, or a unicast address
+abbrev pub has_multicast : List ℕ → Bool
+has_multicast f = has_byte f 30 224 && has_byte f 31 224 && has_byte f 32 (slice_index f 4)
+    && has_byte f 33 (slice_index f 5)
+
+abbrev pub has_destination_address : List ℕ → Bool
+has_destination_address f = has_multicast f || has_byte f 30 10
+
+unfoldable pub address_broken : List ℕ → Option Deviation
+address_broken f = first_of (unless_kept (has_source_address f) SourceAddress 26)
+    (unless_kept (has_destination_address f) DestinationAddress 30)
+
+-- the bytes between the piece and the sequence number, and the first one that isn't zero
+abbrev pub padding_of : List ℕ → List ℕ
+padding_of f = slice_range f (14 + total_length f) (length f - 1)
+
+abbrev pub first_nonzero : List ℕ → Option ℕ
+first_nonzero bytes = position (λ byte. not (byte == 0)) bytes
+
+abbrev pub broken_after : ℕ → Option ℕ → Option Deviation
+broken_after start None = None
+broken_after start (Some place) = Some (deviation (Frame Padding) (start + place) 0)
+
+unfoldable pub padding_broken : List ℕ → Option Deviation
+padding_broken f = broken_after (14 + total_length f) (first_nonzero (padding_of f))
+
+-- the rules in their order
+unfoldable pub layout_broken : List ℕ → Option Deviation
+layout_broken f = first_of (length_broken f)
+    (first_of (link_broken f) (first_of (internet_broken f) (first_of (address_broken f) (padding_broken f))))
+
+-- four bytes more than the total length says, as a frame with its check sequence has
+abbrev pub has_four_more : List ℕ → Bool
+has_four_more f = nat_le 64 (length f) && nat_le (length f) 1518
+    && nat_eq (length f) (framed (total_length f) + 4)
+
+-- what can be read of a frame: its headers, and its piece before its sequence number
+pub record IsReadable (frame : List ℕ) : Type 0 where
+  pub least : 60 ≤ length frame
+  pub most : length frame ≤ 1514
+  pub some : 21 ≤ total_length frame
+  pub piece : 15 + total_length frame ≤ length frame

@@ -1,0 +1,10 @@
+pub mod CheckSequence
+pub mod Deviations
+pub mod Fields
+pub mod Joining
+pub mod Judging
+pub mod Layouts
+pub mod Lines
+pub mod Rules
+pub mod Twins
+pub mod Waiting

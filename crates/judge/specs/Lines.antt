@@ -1,0 +1,201 @@
+-- A link on a network: its sequence numbers, its gaps, the turns of its sub-VLs, and the messages of these.
+use Rattle.std.specs.Prelude.{ℕ, ◌+◌, ◌-◌, ◌%◌, ◌^◌, nat_eq, nat_lt, nat_le, ◌&&◌, ◌||◌, Bool, true, false, if◌then◌else◌, min, List, [], ◌∷◌, slice_set, get_or, position, Option, Some, None}
+use Rattle.std.specs.Option.{is_some}
+use Rattle.afdx_plan.specs.declared.port_plan.PortPlan.{PortPlan}
+use Rattle.judge.specs.Deviations.{deviation}
+use Rattle.judge.specs.Joining.{fragment_deviation, head_now, end_deviation, joined}
+use Rattle.judge.specs.declared.fields.Fields.{Fields}
+use Rattle.judge.specs.declared.finding.Deviation.{Deviation}
+use Rattle.judge.specs.declared.finding.Kind.TheVariants.{Number, Early, Port, Turn}
+use Rattle.judge.specs.declared.joining.Joining.{Joining}
+use Rattle.judge.specs.declared.joining.Joining.TheVariants.{Any, Between}
+use Rattle.judge.specs.declared.line.Arrived.{Arrived}
+use Rattle.judge.specs.declared.line.Figures.{Figures}
+use Rattle.judge.specs.declared.line.Last.{Last}
+use Rattle.judge.specs.declared.line.Line.{Line}
+use Rattle.judge.specs.declared.line.Measure.{Measure}
+use Rattle.judge.specs.declared.line.Sub.{Sub}
+use Rattle.judge.specs.declared.line.Verdict.{Verdict}
+
+-- ---- a line of which nothing came
+
+abbrev pub new_sub : Bool → ℕ → Sub
+new_sub late sub = record {
+  joining = if late then Any else Between sub;
+  came = 0;
+  due = false;
+}
+
+abbrev pub no_figures : Figures
+no_figures = record { frames = 0; bytes = 0; messages = 0; least_gap = None }
+
+abbrev pub new_line : Bool → Line
+new_line late = record {
+  last = None;
+  figures = no_figures;
+  subs = new_sub late 0 ∷ new_sub late 1 ∷ new_sub late 2 ∷ new_sub late 3 ∷ [];
+}
+
+abbrev pub sub_at : List Sub → ℕ → Sub
+sub_at subs sub = get_or subs sub (new_sub true 0)
+
+-- ---- numbers and gaps
+
+-- the sequence number after one (ARINC 664 Part 7, redundancy)
+abbrev pub number_after : ℕ → ℕ
+number_after number = if nat_eq number 255 then 1 else number + 1
+
+-- the number of the next frame; that of the first one is 0, or any one if the recording began late
+abbrev pub next_number : Bool → Option Last → Option ℕ
+next_number late (Some last) = Some (number_after last.number)
+next_number late None = if late then None else Some 0
+
+abbrev pub number_unless : ℕ → Option ℕ → Option Deviation
+number_unless seen None = None
+number_unless seen (Some wanted) = if nat_eq seen wanted then None else Some (deviation Number seen wanted)
+
+abbrev pub number_deviation : Bool → ℕ → Line → Option Deviation
+number_deviation late number line = number_unless number (next_number late line.last)
+
+-- the time since the last frame
+abbrev pub gap_since : ℕ → Option Last → Option ℕ
+gap_since at None = None
+gap_since at (Some last) = Some (at - last.at)
+
+-- a frame is less than a gap after the last one, or before it
+abbrev pub early_since : ℕ → ℕ → Option Last → Option Deviation
+early_since gap at None = None
+early_since gap at (Some last) =
+    if nat_le (last.at + gap) at then None else Some (deviation Early (at - last.at) gap)
+
+abbrev pub early_deviation : ℕ → ℕ → Line → Option Deviation
+early_deviation gap at line = early_since gap at line.last
+
+-- ---- frames that may have been lost, and turns
+
+-- the four sub-VLs, each changed
+abbrev pub each : (Sub → Sub) → List Sub → List Sub
+each f subs = f (sub_at subs 0) ∷ f (sub_at subs 1) ∷ f (sub_at subs 2) ∷ f (sub_at subs 3) ∷ []
+
+-- What lost frames would have changed isn't known.
+abbrev pub unsettled_sub : Sub → Sub
+unsettled_sub sub = record sub { joining = Any; due = false }
+
+abbrev pub unsettled : Line → Line
+unsettled line = record line { subs = each unsettled_sub line.subs }
+
+abbrev pub excused_sub : Sub → Sub
+excused_sub sub = record sub { due = false }
+
+abbrev pub excused : Line → Line
+excused line = record line { subs = each excused_sub line.subs }
+
+-- the sub-VL with a piece due of which a frame of another one came already since its last frame
+abbrev pub due_before : ℕ → List Sub → Option ℕ
+due_before came subs = position (λ (s : Sub). s.due && nat_lt s.came came) subs
+
+abbrev pub passed_by : ℕ → List Sub → Option ℕ
+passed_by sub subs = due_before (sub_at subs sub).came subs
+
+abbrev pub turn_if : ℕ → Option ℕ → Option Deviation
+turn_if sub None = None
+turn_if sub (Some due) = Some (deviation Turn sub due)
+
+abbrev pub turn_deviation : ℕ → Line → Option Deviation
+turn_deviation sub line = turn_if sub (passed_by sub line.subs)
+
+-- the line that a frame comes on, after what its number says, and after what its turn says
+abbrev pub after_number : Option Deviation → Line → Line
+after_number None line = line
+after_number (Some deviation) line = unsettled line
+
+abbrev pub after_turn : Option Deviation → Line → Line
+after_turn None line = line
+after_turn (Some deviation) line = excused line
+
+-- ---- a frame
+
+-- a first piece is of a port
+abbrev pub port_deviation : Fields → Option PortPlan → Option Deviation
+port_deviation fields port =
+    if nat_lt 0 fields.piece.start || is_some port then None else Some (deviation Port fields.flow.source 0)
+
+abbrev pub sub_in : Fields → ℕ
+sub_in fields = fields.piece.ident % 4
+
+-- a count stops at 2^64 - 1
+abbrev pub counted : ℕ → ℕ → ℕ
+counted count more = min (count + more) (2 ^ 64 - 1)
+
+abbrev pub least_of : Option ℕ → Option ℕ → Option ℕ
+least_of None b = b
+least_of (Some a) None = Some a
+least_of (Some a) (Some b) = Some (if nat_lt b a then b else a)
+
+abbrev pub figures_with : Arrived → Line → Figures
+figures_with arrived line = record {
+  frames = counted line.figures.frames 1;
+  bytes = counted line.figures.bytes arrived.len;
+  messages = counted line.figures.messages (if arrived.fields.piece.more then 0 else 1);
+  least_gap = least_of line.figures.least_gap (gap_since arrived.at line.last);
+}
+
+-- after a piece that isn't the next one nothing is known of the message
+abbrev pub joining_after : Option Deviation → Fields → Option PortPlan → Joining → Joining
+joining_after (Some deviation) fields port joining = Any
+joining_after None fields port joining = joined fields.piece (head_now port fields joining)
+
+abbrev pub message_after : Option Deviation → Fields → Option PortPlan → Joining → Option Deviation
+message_after (Some deviation) fields port joining = None
+message_after None fields port joining = end_deviation fields.piece (head_now port fields joining)
+
+-- the message of a frame's sub-VL, and how its piece isn't the next one
+abbrev pub joining_on : Arrived → Line → Joining
+joining_on arrived line = (sub_at line.subs (sub_in arrived.fields)).joining
+
+abbrev pub fragment_on : Measure → Arrived → Line → Option Deviation
+fragment_on measure arrived line = fragment_deviation measure.room arrived.fields (joining_on arrived line)
+
+-- a sub-VL after its frame
+abbrev pub sub_after : Measure → Option PortPlan → Arrived → Line → Sub
+sub_after measure port arrived line = record {
+  joining = joining_after (fragment_on measure arrived line) arrived.fields port (joining_on arrived line);
+  came = (figures_with arrived line).frames;
+  due = arrived.fields.piece.more;
+}
+
+-- the line after a frame, from the settled one
+unfoldable pub line_with : Measure → Option PortPlan → Arrived → Line → Line
+line_with measure port arrived line = record {
+  last = Some (record { number = arrived.fields.number; at = arrived.at });
+  figures = figures_with arrived line;
+  subs = slice_set line.subs (sub_in arrived.fields) (sub_after measure port arrived line);
+}
+
+-- the line on which a frame is judged: after its number, and after its turn
+abbrev pub numbered : Measure → Arrived → Line → Line
+numbered measure arrived line = after_number (number_deviation measure.late arrived.fields.number line) line
+
+abbrev pub settled_from : ℕ → Line → Line
+settled_from sub line = after_turn (turn_deviation sub line) line
+
+abbrev pub settled : Measure → Arrived → Line → Line
+settled measure arrived line = settled_from (sub_in arrived.fields) (numbered measure arrived line)
+
+unfoldable pub line_after : Measure → Option PortPlan → Arrived → Line → Line
+line_after measure port arrived line = line_with measure port arrived (settled measure arrived line)
+
+abbrev pub message_on : Measure → Option PortPlan → Arrived → Line → Option Deviation
+message_on measure port arrived line =
+    message_after (fragment_on measure arrived line) arrived.fields port (joining_on arrived line)
+
+-- what is wrong with a frame, of a line
+unfoldable pub verdict : Measure → Option PortPlan → Arrived → Line → Verdict
+verdict measure port arrived line = record {
+  number = number_deviation measure.late arrived.fields.number line;
+  early = early_deviation measure.gap arrived.at line;
+  port = port_deviation arrived.fields port;
+  fragment = fragment_on measure arrived (settled measure arrived line);
+  message = message_on measure port arrived (settled measure arrived line);
+  turn = turn_deviation (sub_in arrived.fields) (numbered measure arrived line);
+}

@@ -1,0 +1,81 @@
+-- The rules by which a packet is admitted: those that need no state. A packet that breaks one is judged no further.
+use Rattle.std.specs.Prelude.{ℕ, ◌+◌, ◌-◌, ◌==◌, nat_eq, nat_lt, nat_le, Bool, if◌then◌else◌, List, length, drop, take, slice_index, position, Option, Some, None, Result, Ok, Err}
+use Rattle.byteorder.specs.Endian.{little_number}
+use Rattle.afdx_plan.specs.Config.{Plan, link_plan_at}
+use Rattle.afdx_plan.specs.declared.link_plan.LinkPlan.{LinkPlan}
+use Rattle.afdx_plan.specs.declared.port_plan.VlId.{VlId}
+use Rattle.afdx_frame.specs.declared.net.Net.{Net}
+use Rattle.afdx_frame.specs.Frame.{interface_byte}
+use Rattle.afdx_frame.specs.Header.{link_in}
+use Rattle.afdx_frame.specs.Profile.{word_at}
+use Rattle.redundant_mux.specs.Lines.{names}
+use Rattle.capture.specs.Recording.{Recorded}
+use Rattle.judge.specs.CheckSequence.{check_sequence}
+use Rattle.judge.specs.Deviations.{deviation}
+use Rattle.judge.specs.Layouts.{has_four_more, layout_broken}
+use Rattle.judge.specs.declared.finding.Deviation.{Deviation}
+use Rattle.judge.specs.declared.finding.Kind.{Kind}
+use Rattle.judge.specs.declared.finding.Kind.TheVariants.{Frame, Source, Link, Network, Size}
+use Rattle.judge.specs.declared.finding.Layout.TheVariants.{Snapped, CheckSequence, Recorded as WithCheck, Length}
+use Rattle.judge.specs.declared.rules.Refused.{Refused}
+
+abbrev pub refused : Option VlId → Kind → ℕ → ℕ → Refused
+refused link kind seen wanted = record { deviation = deviation kind seen wanted; link = link }
+
+-- the bytes without their check sequence, the last four bytes, which is right
+unfoldable pub checked : List ℕ → Result (List ℕ) Refused
+checked bytes =
+    let seen = little_number 4 (drop (length bytes - 4) bytes) in
+    let wanted = check_sequence (take (length bytes - 4) bytes) in
+    if nat_lt (length bytes) 4 then Err (refused None (Frame Length) (length bytes) 60)
+    else (if nat_eq seen wanted then Ok (take (length bytes - 4) bytes)
+    else Err (refused None (Frame CheckSequence) seen wanted))
+
+-- bytes that don't seem to have one
+unfoldable pub unchecked : List ℕ → Result (List ℕ) Refused
+unchecked bytes =
+    if has_four_more bytes then Err (refused None (Frame WithCheck) (length bytes) (length bytes - 4)) else Ok bytes
+
+abbrev pub if_kept : List ℕ → Option Deviation → Result (List ℕ) Refused
+if_kept frame None = Ok frame
+if_kept frame (Some broken) = Err (record { deviation = broken; link = None })
+
+abbrev pub in_layout : Result (List ℕ) Refused → Result (List ℕ) Refused
+in_layout (Ok frame) = if_kept frame (layout_broken frame)
+in_layout (Err why) = Err why
+
+-- the frame of a packet, which is whole and of the layout
+unfoldable pub frame_in : Bool → Recorded → Result (List ℕ) Refused
+frame_in fcs packet =
+    if nat_lt (length packet.bytes) packet.original
+    then Err (refused None (Frame Snapped) (length packet.bytes) packet.original)
+    else in_layout (if fcs then checked packet.bytes else unchecked packet.bytes)
+
+-- the interface identifier that a link's frame has on a network, 0 if the network doesn't carry it
+abbrev pub interface_on : LinkPlan → Net → ℕ
+interface_on link net = if names net link.networks then interface_byte net else 0
+
+abbrev pub on_network : ℕ → VlId → LinkPlan → Net → List ℕ → Result ℕ Refused
+on_network place vl link net frame =
+    if nat_eq (slice_index frame 11) (interface_on link net) then Ok place
+    else Err (refused (Some vl) Network (slice_index frame 11) (interface_on link net))
+
+abbrev pub on_link : Plan → VlId → Net → List ℕ → Option ℕ → Result ℕ Refused
+on_link plan vl net frame None = Err (refused (Some vl) Link vl.0 0)
+on_link plan vl net frame (Some place) = on_network place vl (link_plan_at plan.links place) net frame
+
+abbrev pub place_from : Plan → VlId → Net → List ℕ → Result ℕ Refused
+place_from plan vl net frame =
+    on_link plan vl net frame (position (λ (link : LinkPlan). link.id.0 == vl.0) plan.links)
+
+-- the place of a frame's link in the plan: it is of the end system, of a link, and on its network
+unfoldable pub place_of : Plan → Net → List ℕ → Result ℕ Refused
+place_of plan net frame =
+    if nat_eq (word_at frame 9) plan.end_system
+    then place_from plan (record { 0 = link_in frame }) net frame
+    else Err (refused None Source (word_at frame 9) plan.end_system)
+
+-- a frame is longer than its link's Lmax, with its check sequence
+abbrev pub size_deviation : LinkPlan → ℕ → Option Deviation
+size_deviation link len =
+    if nat_le (len + 4) link.lmax then None else Some (deviation Size (len + 4) link.lmax)

@@ -1,0 +1,90 @@
+//! What a frame of the layout says.
+ghost use Rattle.std.specs.Prelude.{◌≡◌, ◌≤◌};
+ghost use Rattle.afdx_frame.specs.Profile.{total_length};
+ghost use Rattle.judge.specs.Fields.{piece_of, flow_of, fields_of, AreSmall};
+ghost use Rattle.judge.specs.Layouts.{IsReadable};
+
+use crate::words::{word_at, word_sum};
+
+/// The fields of a frame.
+#[derive(Clone, Copy)]
+pub(crate) struct Fields {
+    /// The sequence number.
+    pub(crate) number: u8,
+    pub(crate) piece: PieceIn,
+    pub(crate) flow: Flow,
+    /// The UDP length and checksum, in a first piece.
+    pub(crate) udp_len: u16,
+    pub(crate) udp_sum: u16,
+    /// The sum of the words of the piece.
+    pub(crate) sum: u32,
+    /// The sum of the words of the addresses.
+    pub(crate) ends: u32,
+}
+
+/// The piece of a datagram that a frame carries: its message's identification, its place and its length in bytes, and
+/// whether more pieces follow.
+#[derive(Clone, Copy)]
+pub(crate) struct PieceIn {
+    pub(crate) ident: u16,
+    pub(crate) start: u32,
+    pub(crate) len: u32,
+    pub(crate) more: bool,
+}
+
+/// What tells ports apart: the partition and the destination address, and in a first piece the UDP ports.
+#[derive(Clone, Copy)]
+pub(crate) struct Flow {
+    pub(crate) partition: u8,
+    pub(crate) address: u32,
+    pub(crate) source: u16,
+    pub(crate) destination: u16,
+}
+
+/// The piece of a frame of the layout.
+fn piece_of(frame: &[u8]) -> PieceIn
+    requires { IsReadable frame.now }
+    ensures value { result ≡ piece_of frame.now }
+    ensures start { result.start ≤ 65528 }
+    ensures len { result.len ≤ 1500 }
+{
+    let fragment = word_at(frame, 20);
+    PieceIn {
+        ident: word_at(frame, 18),
+        start: 8 * (fragment % 0x2000) as u32,
+        len: word_at(frame, 16) as u32 - 20,
+        more: fragment >= 0x2000,
+    }
+}
+
+/// The flow of a frame of the layout.
+fn flow_of(frame: &[u8]) -> Flow
+    requires { IsReadable frame.now }
+    ensures { result ≡ flow_of frame.now }
+{
+    Flow {
+        partition: frame[29],
+        address: 0x1_0000 * word_at(frame, 30) as u32 + word_at(frame, 32) as u32,
+        source: word_at(frame, 34),
+        destination: word_at(frame, 36),
+    }
+}
+
+/// The fields of a frame of the layout.
+#[tactic(auto, unfolding(crate::specs::Fields::fields_of))]
+pub(crate) fn fields_of(frame: &[u8]) -> Fields
+    requires { IsReadable frame.now }
+    ensures value { result ≡ fields_of frame.now }
+    ensures small { AreSmall result }
+{
+    let end = 14 + word_at(frame, 16) as usize;
+    Fields {
+        number: frame[frame.len() - 1],
+        piece: piece_of(frame),
+        flow: flow_of(frame),
+        udp_len: word_at(frame, 38),
+        udp_sum: word_at(frame, 40),
+        sum: word_sum(&frame[34..end]),
+        ends: word_sum(&frame[26..34]),
+    }
+}

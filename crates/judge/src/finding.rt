@@ -1,0 +1,206 @@
+//! What a judge finds.
+ghost use Rattle.std.specs.Prelude.{◌≡◌, OnOk};
+ghost use Rattle.judge.specs.Deviations.{kind_number, first_of, finding_of, with_finding};
+
+use afdx_frame::Net;
+use afdx_plan::VlId;
+use std::alloc::AllocError;
+
+/// A rule of the layout of frames, in the order in which they are tested. `seen` is the byte at which the field begins,
+/// and `wanted` is 0, unless the rule says otherwise.
+#[derive(Clone, Copy, Debug, PartialEq, Eq)]
+pub enum Layout {
+    /// The packet has no time. Both numbers are 0.
+    Time,
+    /// The packet was cut off: `seen` bytes were captured of `wanted`.
+    Snapped,
+    /// The check sequence is `seen`, and the bytes give `wanted`.
+    CheckSequence,
+    /// The frame has four bytes too many, as one that was recorded with its check sequence; only the first such frame of
+    /// a recording is a finding. `seen` is the length, `wanted` that without them.
+    Recorded,
+    /// The length is `seen`, which is below 60 (then `wanted`) or above 1,514 (then `wanted`).
+    Length,
+    /// The constant field of the destination MAC address (byte 0).
+    DestinationMac,
+    /// The constant field of the source MAC address (byte 6).
+    SourceMac,
+    /// The interface identifier is of neither network (byte 11).
+    Interface,
+    /// The type isn't that of the internet protocol (byte 12).
+    EtherType,
+    /// The version, the header's length or the type of service (byte 14).
+    Version,
+    /// The total length: below 21, not that of the frame, or of a piece that more follow no multiple of 8 after the
+    /// header (byte 16).
+    TotalLength,
+    /// The flags, or an offset at which the piece ends past 8,200 bytes (byte 20).
+    Fragment,
+    /// The time to live isn't 1, or the protocol isn't UDP (byte 22).
+    Protocol,
+    /// The checksum of the internet header (byte 24).
+    HeaderSum,
+    /// The source address isn't that of the end system in the source MAC address, or the partition is above 31 (byte 26).
+    SourceAddress,
+    /// The destination address is neither that of the link in the destination MAC address nor in 10.0.0.0/8 (byte 30).
+    DestinationAddress,
+    /// A padding byte isn't zero: the first such byte.
+    Padding,
+}
+
+/// How a frame isn't the next piece of its sub-VL's message.
+#[derive(Clone, Copy, Debug, PartialEq, Eq)]
+pub enum Misfit {
+    /// The piece begins at byte `seen` of the datagram; `wanted` is the byte after the piece before it, or 0.
+    Offset,
+    /// The identification is `seen`, and `wanted` is the message's, or the next message's.
+    Identification,
+    /// The addresses aren't those of the message's first piece. Both numbers are 0.
+    Addresses,
+    /// The piece has `seen` bytes. With more to follow it is `wanted`, the greatest multiple of 8 that fits into a frame.
+    /// A last piece has at least `wanted`, since fewer had fitted into the frame before it.
+    Length,
+}
+
+/// What is wrong with a message, as its last frame shows.
+#[derive(Clone, Copy, Debug, PartialEq, Eq)]
+pub enum Ending {
+    /// The UDP length is `seen`, and the datagram has `wanted` bytes.
+    UdpLength,
+    /// The message has `seen` bytes: none, or more than the port's `max`, which is `wanted`.
+    Size,
+    /// The UDP checksum is `seen`, and `wanted` is right.
+    UdpChecksum,
+}
+
+/// What a frame does wrong.
+#[derive(Clone, Copy, Debug, PartialEq, Eq)]
+pub enum Kind {
+    /// It isn't of the layout.
+    Frame(Layout),
+    /// It is of end system `seen`, and the plan is of `wanted`.
+    Source,
+    /// It is of link `seen`, which the plan hasn't. `wanted` is 0.
+    Link,
+    /// Its interface byte is `seen`, and that of the network is `wanted`; 0 if the network doesn't carry the link.
+    Network,
+    /// It has `seen` bytes with its check sequence, more than Lmax, which is `wanted`.
+    Size,
+    /// Its sequence number is `seen`, and the next is `wanted`.
+    Number,
+    /// It comes `seen` nanoseconds after the frame before it (0 if before it), and should come `wanted` or more.
+    Early,
+    /// No port has its sub-VL, partition, destination and UDP ports. `seen` is its source UDP port, `wanted` is 0.
+    Port,
+    /// It isn't the next piece of its sub-VL's message.
+    Fragment(Misfit),
+    /// It ends a message that is wrong.
+    Message(Ending),
+    /// It is the second frame of sub-VL `seen` between two pieces of a message of sub-VL `wanted`.
+    Turn,
+    /// It differs at byte `seen` from the frame with its number on the other network, packet `wanted` of its file.
+    Twin,
+    /// It has no twin on the other network within the skew. `seen` is its sequence number, `wanted` is 0.
+    Missing,
+}
+
+impl Kind {
+    /// The number of the kind, 1 to 13.
+    pub fn number(self) -> u8
+        ensures { result ≡ kind_number self }
+    {
+        match self {
+            Kind::Frame(_) => 1,
+            Kind::Source => 2,
+            Kind::Link => 3,
+            Kind::Network => 4,
+            Kind::Size => 5,
+            Kind::Number => 6,
+            Kind::Early => 7,
+            Kind::Port => 8,
+            Kind::Fragment(_) => 9,
+            Kind::Message(_) => 10,
+            Kind::Turn => 11,
+            Kind::Twin => 12,
+            Kind::Missing => 13,
+        }
+    }
+}
+
+/// A finding: what a packet does wrong.
+#[derive(Clone, Copy, Debug, PartialEq, Eq)]
+pub struct Finding {
+    pub kind: Kind,
+    /// The number of the packet in its file, as it was given.
+    pub packet: u64,
+    /// The network on which it was recorded.
+    pub net: Net,
+    /// Its time in nanoseconds since 1970; 0 if it has none.
+    pub at: u128,
+    /// Its link. None if the frame isn't of the layout, or is of another end system.
+    pub link: Option<VlId>,
+    /// What was seen, and what was wanted: `Kind` says which number that is.
+    pub seen: u64,
+    pub wanted: u64,
+}
+
+/// What is wrong with a frame: a finding without the frame's packet.
+#[derive(Clone, Copy)]
+pub(crate) struct Deviation {
+    pub(crate) kind: Kind,
+    pub(crate) seen: u64,
+    pub(crate) wanted: u64,
+}
+
+/// Which packet a finding is of.
+#[derive(Clone, Copy)]
+pub(crate) struct Tag {
+    pub(crate) packet: u64,
+    pub(crate) net: Net,
+    pub(crate) at: u128,
+}
+
+impl Tag {
+    /// A finding of the packet.
+    pub(crate) fn finding(&self, link: Option<VlId>, deviation: Deviation) -> Finding
+        ensures { result ≡ finding_of self.now link deviation }
+    {
+        Finding {
+            kind: deviation.kind,
+            packet: self.packet,
+            net: self.net,
+            at: self.at,
+            link,
+            seen: deviation.seen,
+            wanted: deviation.wanted,
+        }
+    }
+}
+
+/// The first of two deviations.
+pub(crate) fn first_of(one: Option<Deviation>, other: Option<Deviation>) -> Option<Deviation>
+    ensures { result ≡ first_of one other }
+{
+    match one {
+        Some(deviation) => Some(deviation),
+        None => other,
+    }
+}
+
+/// Appends a packet's finding, if there is one.
+pub(crate) fn add(
+    found: &mut Vec<Finding>,
+    tag: &Tag,
+    link: Option<VlId>,
+    deviation: Option<Deviation>,
+) -> Result<(), AllocError>
+    ensures { OnOk result (found.new.items ≡ with_finding tag.now link deviation found.old.items) }
+{
+    match deviation {
+        Some(deviation) => {
+            found.push(tag.finding(link, deviation))?;
+            Ok(())
+        }
+        None => Ok(()),
+    }
+}

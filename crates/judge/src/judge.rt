@@ -1,0 +1,331 @@
+//! A judge of a recording.
+ghost use Rattle.std.specs.Prelude.{◌≡◌, ◌<◌, length, replicate, slice_get, IfOk, IfErr, OnOk};
+ghost use Rattle.capture.specs.Recording.{recorded};
+ghost use Rattle.judge.specs.Fields.{fields_of};
+ghost use Rattle.judge.specs.Layouts.{IsReadable};
+ghost use Rattle.judge.specs.Judging.{Judging, Admitted, at_start, measure_of, nearness_of, setting_of, first_port, with_arrival, found_of_arrival, with_refusal, found_refusal, admitted, after_packet, found_with_packet, found_with_end, after_seen, found_seen, timed, found_left, is_with_check, new_link, figures_on, lead_of};
+
+use crate::fields::{Fields, fields_of};
+use crate::finding::{Deviation, Finding, Kind, Layout, Tag, add};
+use crate::joining::port_of;
+use crate::line::{Figures, Measure, sub_in};
+use crate::link::{Link, Setting};
+use crate::options::Options;
+use crate::rules::{Refused, frame_in, place_of};
+use crate::times::Times;
+use crate::twins::Nearness;
+use afdx_frame::Net;
+use afdx_plan::{Config, LinkPlan, PortPlan, VlId};
+use capture::Packet;
+use std::alloc::{AllocError, Global};
+use std::marker::Model;
+
+/// A judge of the packets of a recording, by a plan. A packet takes time that doesn't grow with the recording. Memory is
+/// that of the frames that wait for their twins: of each link those of the skew, at most 512 of at most 1,514 bytes.
+#[derive(Drop)]
+pub struct Judge {
+    config: Config,
+    options: Options,
+    times: Times,
+    // A frame with its check sequence was found.
+    told: bool,
+    // The links, by their places in the plan.
+    links: Vec<Link>,
+}
+
+impl Model for Judge {
+    ghost use Rattle.std.specs.Prelude.{◌≡◌, length};
+    ghost use Rattle.judge.specs.Judging.{Judging};
+
+    ghost Value = { Judging };
+
+    ghost view = { λ j. record {
+      plan = j.config;
+      options = j.options;
+      times = j.times;
+      told = j.told;
+      links = j.links.items;
+    } };
+
+    ghost invariant = { λ j. length j.links.items ≡ length j.config.links };
+}
+
+/// A frame of the link at a place.
+#[derive(Clone, Copy)]
+struct Found<'a> {
+    place: usize,
+    frame: &'a [u8],
+}
+
+/// What a link's frames are measured by.
+fn measure_of(options: &Options, link: &LinkPlan) -> Measure
+    ensures { result ≡ measure_of options.now link.now }
+{
+    Measure {
+        room: link.lmax.room(),
+        gap: 1_000 * link.bag.micros().saturating_sub(options.jitter),
+        late: options.late,
+    }
+}
+
+/// How near twins are.
+fn nearness_of(options: &Options, times: &Times) -> Nearness
+    ensures { result ≡ nearness_of options.now times.now }
+{
+    Nearness {
+        skew: 1_000 * options.skew as u128,
+        edge: if options.late { times.first } else { None },
+    }
+}
+
+/// The port of a first piece.
+fn first_port(ports: &[PortPlan], vl: VlId, fields: &Fields) -> Option<PortPlan>
+    ensures { result ≡ first_port ports.now vl fields.now }
+{
+    if fields.piece.start == 0 {
+        port_of(ports, vl, sub_in(fields), &fields.flow)
+    } else {
+        None
+    }
+}
+
+/// The links of a plan, of which nothing came.
+fn make_links(alloc: Global, count: usize, late: bool) -> Result<Vec<Link>, AllocError>
+    ensures { IfOk result (λ links. links.items ≡ replicate count (new_link late)) }
+{
+    let mut links = Vec::new(alloc);
+    'links: while links.len() < count {
+        links.push(Link::new(alloc, late))?;
+    }
+    Ok(links)
+}
+
+impl Judge {
+    /// A judge that has seen no packet. Fails only if memory runs out.
+    pub fn new(alloc: Global, config: Config, options: Options) -> Result<Judge, AllocError>
+        ensures { IfOk result (λ judge. judge ≡ at_start config options) }
+    {
+        let links = make_links(alloc, config.links().len(), options.late)?;
+        Ok(Judge {
+            config,
+            options,
+            times: Times::new(),
+            told: false,
+            links,
+        })
+    }
+
+    /// The plan.
+    pub fn config(&self) -> &Config
+        ensures { result.now ≡ self.now.plan }
+    {
+        &self.config
+    }
+
+    /// What came of a link on a network, by the link's place in the plan.
+    pub fn figures(&self, link: usize, net: Net) -> Option<Figures>
+        ensures { result ≡ figures_on net (slice_get self.now.links link) }
+    {
+        match self.links.get(link) {
+            Some(link) => {
+                match net {
+                    Net::A => Some(link.a.figures),
+                    Net::B => Some(link.b.figures),
+                }
+            }
+            None => None,
+        }
+    }
+
+    /// The greatest time in nanoseconds between a frame of a link and its twin, by the link's place in the plan.
+    pub fn lead(&self, link: usize) -> Option<u128>
+        ensures { result ≡ lead_of (slice_get self.now.links link) }
+    {
+        match self.links.get(link) {
+            Some(link) => link.twins.lead(),
+            None => None,
+        }
+    }
+
+    /// Takes a packet that was recorded on a network, and appends what it does wrong, and before that which frames it
+    /// shows to be missing. The packets of each network come in their order. Fails if memory runs out: then nothing more
+    /// can be said of the recording.
+    #[tactic(auto, unfolding(crate::specs::Judging::after_packet, crate::specs::Judging::found_with_packet))]
+    pub fn take(
+        &mut self,
+        net: Net,
+        number: u64,
+        packet: &Packet<'_>,
+        found: &mut Vec<Finding>,
+    ) -> Result<(), AllocError>
+        ensures after { OnOk result (self.new
+            ≡ after_packet net number (recorded packet.now) self.old) }
+        ensures found { OnOk result (found.new.items
+            ≡ found_with_packet net number (recorded packet.now) self.old found.old.items) }
+    {
+        match packet.at {
+            Some(at) => {
+                self.see(at);
+                self.take_at(net, number, at, packet, found)
+            }
+            None => {
+                let tag = Tag {
+                    packet: number,
+                    net,
+                    at: 0,
+                };
+                let deviation = Deviation {
+                    kind: Kind::Frame(Layout::Time),
+                    seen: 0,
+                    wanted: 0,
+                };
+                add(found, &tag, None, Some(deviation))
+            }
+        }
+    }
+
+    /// Sees the time of a packet.
+    fn see(&mut self, at: u128)
+        ensures { self.new ≡ timed at self.old }
+    {
+        self.times = self.times.with(at);
+    }
+
+    /// Takes a packet that was recorded at a time.
+    fn take_at(
+        &mut self,
+        net: Net,
+        number: u64,
+        at: u128,
+        packet: &Packet<'_>,
+        found: &mut Vec<Finding>,
+    ) -> Result<(), AllocError>
+        ensures after { OnOk result (self.new
+            ≡ after_seen net number (recorded packet.now) at self.old) }
+        ensures found { OnOk result (found.new.items
+            ≡ found_seen net number (recorded packet.now) at self.old found.old.items) }
+    {
+        let tag = Tag {
+            packet: number,
+            net,
+            at,
+        };
+        match self.admit(net, packet) {
+            Ok(it) => self.arrive(&tag, it.place, it.frame, found),
+            Err(why) => self.refuse(&tag, &why, found),
+        }
+    }
+
+    /// The frame of a packet, and the place of its link.
+    #[tactic(auto, unfolding(crate::specs::Judging::admitted))]
+    fn admit<'a>(&self, net: Net, packet: &Packet<'a>) -> Result<Found<'a>, Refused>
+        ensures ok { IfOk result (λ it. admitted net (recorded packet.now) self.now
+            ≡ Ok (record { place = it.place; frame = it.frame.now })) }
+        ensures err { IfErr result (λ why. admitted net (recorded packet.now) self.now ≡ Err why) }
+        ensures readable { IfOk result (λ it. IsReadable it.frame.now) }
+        ensures within { IfOk result (λ it. it.place < length self.now.plan.links) }
+    {
+        let frame = frame_in(packet, self.options.fcs)?;
+        let place = place_of(&self.config, net, frame)?;
+        Ok(Found { place, frame })
+    }
+
+    /// Appends why a packet is judged no further. That frames have their check sequences is appended once.
+    fn refuse(
+        &mut self,
+        tag: &Tag,
+        why: &Refused,
+        found: &mut Vec<Finding>,
+    ) -> Result<(), AllocError>
+        ensures after { OnOk result (self.new ≡ with_refusal why.now self.old) }
+        ensures found { OnOk result (found.new.items
+            ≡ found_refusal tag.now why.now self.old found.old.items) }
+    {
+        if is_with_check(why.deviation.kind) {
+            if self.told {
+                return Ok(());
+            }
+            self.told = true;
+        }
+        add(found, tag, why.link, Some(why.deviation))
+    }
+
+    /// What the frames of the link at a place are judged by.
+    fn setting(&self, place: usize) -> Setting
+        requires { place < length self.now.plan.links }
+        ensures { result ≡ setting_of self.now place }
+    {
+        let plan = self.config.links()[place];
+        Setting {
+            plan,
+            measure: measure_of(&self.options, &plan),
+            nearness: nearness_of(&self.options, &self.times),
+        }
+    }
+
+    /// Takes a frame of the link at a place.
+    #[tactic(auto, unfolding(crate::specs::Judging::with_arrival, crate::specs::Judging::found_of_arrival))]
+    fn arrive(
+        &mut self,
+        tag: &Tag,
+        place: usize,
+        frame: &[u8],
+        found: &mut Vec<Finding>,
+    ) -> Result<(), AllocError>
+        requires readable { IsReadable frame.now }
+        requires within { place < length self.old.plan.links }
+        ensures after { OnOk result (self.new ≡ with_arrival tag.now place frame.now self.old) }
+        ensures found { OnOk result (found.new.items
+            ≡ found_of_arrival tag.now place frame.now self.old found.old.items) }
+    {
+        let setting = self.setting(place);
+        let fields = fields_of(frame);
+        let port = first_port(self.config.ports(), setting.plan.id, &fields);
+        let link = &mut self.links[place];
+        link.arrive(&setting, tag, port, frame, &fields, found)
+    }
+
+    /// Appends which frames are missing at the end of the recording: those within the skew of its latest packet may have
+    /// no twin.
+    #[tactic(auto, unfolding(crate::specs::Judging::found_with_end))]
+    pub fn end(&self, found: &mut Vec<Finding>) -> Result<(), AllocError>
+        ensures { OnOk result (found.new.items ≡ found_with_end self.now found.old.items) }
+    {
+        let nearness = nearness_of(&self.options, &self.times);
+        let latest = self.times.latest;
+        add_left(
+            &nearness,
+            latest,
+            self.config.links(),
+            self.links.as_slice(),
+            found,
+        )
+    }
+}
+
+/// Appends which frames of links are missing at the end of the recording, at this time.
+#[tactic(auto, using(crate::proofs::Left::next_left, crate::proofs::Left::none_left))]
+fn add_left(
+    nearness: &Nearness,
+    at: u128,
+    plans: &[LinkPlan],
+    links: &[Link],
+    found: &mut Vec<Finding>,
+) -> Result<(), AllocError>
+    requires { length links.now ≡ length plans.now }
+    ensures { OnOk result (found.new.items
+        ≡ found_left nearness.now at plans.now links.now found.old.items) }
+{
+    for place in 0..plans.len() {
+        let link = &links[place];
+        link.twins.find_left(nearness, plans[place].id, at, found)?;
+    }
+    Ok(())
+}
+
+/// Whether a finding is that frames have their check sequences.
+fn is_with_check(kind: Kind) -> bool
+    ensures { result ≡ is_with_check kind }
+{
+    matches!(kind, Kind::Frame(Layout::Recorded))
+}

@@ -1,0 +1,21 @@
+//! Judges a recording of an end system's frames by its plan: each deviation is a finding.
+#![tactic(auto)]
+
+mod check_sequence;
+mod fields;
+mod finding;
+mod joining;
+mod judge;
+mod layout;
+mod line;
+mod link;
+mod options;
+mod rules;
+mod times;
+mod twins;
+mod words;
+
+pub use finding::{Ending, Finding, Kind, Layout, Misfit};
+pub use judge::Judge;
+pub use line::Figures;
+pub use options::Options;

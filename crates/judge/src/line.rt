@@ -1,0 +1,454 @@
+//! A link on a network: its numbers, its gaps and its sub-VLs.
+ghost use Rattle.std.specs.Prelude.{◌≡◌, ◌+◌, ◌≤◌, ◌<◌, ◌%◌};
+ghost use Rattle.judge.specs.Fields.{AreSmall};
+ghost use Rattle.judge.specs.Lines.{new_sub, new_line, number_after, next_number, number_unless, number_deviation, gap_since, early_since, early_deviation, unsettled_sub, unsettled, excused_sub, excused, turn_deviation, due_before, sub_at, port_deviation, sub_in, least_of, figures_with, joining_after, message_after, line_with, line_after, verdict, after_number, after_turn, fragment_on};
+
+use crate::fields::Fields;
+use crate::finding::{Deviation, Kind};
+use crate::joining::{Joining, end_deviation, joined};
+use afdx_plan::PortPlan;
+
+/// The state of a link on a network.
+#[derive(Clone, Copy)]
+pub(crate) struct Line {
+    pub(crate) last: Option<Last>,
+    pub(crate) figures: Figures,
+    /// The sub-VLs, by their indices.
+    pub(crate) subs: [Sub; 4],
+}
+
+/// The sequence number and the time in nanoseconds of the last frame of a link on a network.
+#[derive(Clone, Copy)]
+pub(crate) struct Last {
+    pub(crate) number: u8,
+    pub(crate) at: u128,
+}
+
+/// The state of a sub-VL on a network.
+#[derive(Clone, Copy)]
+pub(crate) struct Sub {
+    pub(crate) joining: Joining,
+    /// How many frames of the link had come with its last one, 0 if it has none.
+    pub(crate) came: u64,
+    /// The next piece of its message is due before a second frame of another sub-VL.
+    pub(crate) due: bool,
+}
+
+/// What came of a link on a network: frames of the plan. Counts stop at their greatest value.
+#[derive(Clone, Copy, Debug, PartialEq, Eq)]
+pub struct Figures {
+    pub frames: u64,
+    /// The bytes of these frames, without their check sequences.
+    pub bytes: u64,
+    /// The frames that end a message.
+    pub messages: u64,
+    /// The least time in nanoseconds from a frame to the next one, 0 if that was recorded as before it.
+    pub least_gap: Option<u128>,
+}
+
+/// A frame that came: its time in nanoseconds, its length and its fields.
+#[derive(Clone, Copy)]
+pub(crate) struct Arrived {
+    pub(crate) at: u128,
+    pub(crate) len: u64,
+    pub(crate) fields: Fields,
+}
+
+/// What a line judges its frames by.
+#[derive(Clone, Copy)]
+pub(crate) struct Measure {
+    /// The most bytes of a datagram in a frame.
+    pub(crate) room: u16,
+    /// The least gap in nanoseconds.
+    pub(crate) gap: u64,
+    /// The recording began after the end system.
+    pub(crate) late: bool,
+}
+
+/// What a line finds wrong with a frame, in the order of the kinds.
+#[derive(Clone, Copy)]
+pub(crate) struct Verdict {
+    pub(crate) number: Option<Deviation>,
+    pub(crate) early: Option<Deviation>,
+    pub(crate) port: Option<Deviation>,
+    pub(crate) fragment: Option<Deviation>,
+    pub(crate) message: Option<Deviation>,
+    pub(crate) turn: Option<Deviation>,
+}
+
+/// The sequence number after one.
+fn number_after(number: u8) -> u8
+    ensures { result ≡ number_after number }
+{
+    if number == 255 { 1 } else { number + 1 }
+}
+
+/// The number of the next frame, if it is known.
+fn next_number(late: bool, last: Option<Last>) -> Option<u8>
+    ensures { result ≡ next_number late last }
+{
+    match last {
+        Some(last) => Some(number_after(last.number)),
+        None if late => None,
+        None => Some(0),
+    }
+}
+
+/// A finding, unless a number is the one that is wanted, if one is.
+fn number_unless(seen: u8, wanted: Option<u8>) -> Option<Deviation>
+    ensures { result ≡ number_unless seen wanted }
+{
+    match wanted {
+        None => None,
+        Some(wanted) => {
+            if seen == wanted {
+                return None;
+            }
+            Some(Deviation {
+                kind: Kind::Number,
+                seen: seen as u64,
+                wanted: wanted as u64,
+            })
+        }
+    }
+}
+
+/// The time since the last frame.
+fn gap_since(at: u128, last: Option<Last>) -> Option<u128>
+    ensures { result ≡ gap_since at last }
+{
+    match last {
+        None => None,
+        Some(last) => Some(at.saturating_sub(last.at)),
+    }
+}
+
+/// A finding, unless a frame comes at least a gap after the last one.
+fn early_since(gap: u64, at: u128, last: Option<Last>) -> Option<Deviation>
+    ensures { result ≡ early_since gap at last }
+{
+    match last {
+        None => None,
+        Some(last) => {
+            let since = at.saturating_sub(last.at);
+            if last.at <= at && gap as u128 <= since {
+                return None;
+            }
+            Some(Deviation {
+                kind: Kind::Early,
+                seen: since as u64,
+                wanted: gap,
+            })
+        }
+    }
+}
+
+/// The lesser of two times, of which either may be missing.
+fn least_of(a: Option<u128>, b: Option<u128>) -> Option<u128>
+    ensures { result ≡ least_of a b }
+{
+    match (a, b) {
+        (None, b) => b,
+        (Some(a), None) => Some(a),
+        (Some(a), Some(b)) => Some(if b < a { b } else { a }),
+    }
+}
+
+/// A finding, unless a first piece is of a port.
+fn port_deviation(fields: &Fields, port: Option<PortPlan>) -> Option<Deviation>
+    ensures { result ≡ port_deviation fields.now port }
+{
+    if fields.piece.start > 0 || port.is_some() {
+        return None;
+    }
+    Some(Deviation {
+        kind: Kind::Port,
+        seen: fields.flow.source as u64,
+        wanted: 0,
+    })
+}
+
+/// The first sub-VL with a piece due whose last frame came before this one.
+fn passed_by(subs: &[Sub], came: u64) -> Option<usize>
+    ensures { result ≡ due_before came subs.now }
+{
+    subs.iter().position(|s| s.due && s.came < came)
+}
+
+/// The sub-VL of a frame.
+pub(crate) fn sub_in(fields: &Fields) -> u8
+    ensures value { result ≡ sub_in fields.now }
+    ensures few { result < 4 }
+{
+    (fields.piece.ident % 4) as u8
+}
+
+impl Sub {
+    /// A sub-VL of which nothing came.
+    fn new(late: bool, sub: u16) -> Sub
+        ensures { result ≡ new_sub late sub }
+    {
+        let joining = if late {
+            Joining::Any
+        } else {
+            Joining::Between(sub)
+        };
+        Sub {
+            joining,
+            came: 0,
+            due: false,
+        }
+    }
+
+    /// The sub-VL after frames may have been lost.
+    fn unsettled(self) -> Sub
+        ensures { result ≡ unsettled_sub self }
+    {
+        Sub {
+            joining: Joining::Any,
+            due: false,
+            ..self
+        }
+    }
+
+    /// The sub-VL, with no piece due.
+    fn excused(self) -> Sub
+        ensures { result ≡ excused_sub self }
+    {
+        Sub { due: false, ..self }
+    }
+}
+
+impl Line {
+    /// A line of which nothing came.
+    pub(crate) fn new(late: bool) -> Line
+        ensures { result ≡ new_line late }
+    {
+        let figures = Figures {
+            frames: 0,
+            bytes: 0,
+            messages: 0,
+            least_gap: None,
+        };
+        Line {
+            last: None,
+            figures,
+            subs: [
+                Sub::new(late, 0),
+                Sub::new(late, 1),
+                Sub::new(late, 2),
+                Sub::new(late, 3),
+            ],
+        }
+    }
+
+    /// A finding, if a frame has another sequence number than the next.
+    fn number_deviation(&self, late: bool, number: u8) -> Option<Deviation>
+        ensures { result ≡ number_deviation late number self.now }
+    {
+        number_unless(number, next_number(late, self.last))
+    }
+
+    /// A finding, if a frame comes less than a gap after the last one.
+    fn early_deviation(&self, gap: u64, at: u128) -> Option<Deviation>
+        ensures { result ≡ early_deviation gap at self.now }
+    {
+        early_since(gap, at, self.last)
+    }
+
+    /// The line after frames may have been lost.
+    fn unsettled(&self) -> Line
+        ensures { result ≡ unsettled self.now }
+    {
+        Line {
+            subs: [
+                self.subs[0].unsettled(),
+                self.subs[1].unsettled(),
+                self.subs[2].unsettled(),
+                self.subs[3].unsettled(),
+            ],
+            ..*self
+        }
+    }
+
+    /// The line, with no piece due.
+    fn excused(&self) -> Line
+        ensures { result ≡ excused self.now }
+    {
+        Line {
+            subs: [
+                self.subs[0].excused(),
+                self.subs[1].excused(),
+                self.subs[2].excused(),
+                self.subs[3].excused(),
+            ],
+            ..*self
+        }
+    }
+
+    /// A finding, if a frame of a sub-VL is the second one before a piece of another that is due.
+    fn turn_deviation(&self, sub: u8) -> Option<Deviation>
+        requires { sub < 4 }
+        ensures { result ≡ turn_deviation sub self.now }
+    {
+        match passed_by(&self.subs, self.came(sub)) {
+            Some(due) => {
+                Some(Deviation {
+                    kind: Kind::Turn,
+                    seen: sub as u64,
+                    wanted: due as u64,
+                })
+            }
+            None => None,
+        }
+    }
+
+    /// How many frames of the link had come with the last one of a sub-VL.
+    fn came(&self, sub: u8) -> u64
+        requires { sub < 4 }
+        ensures { result ≡ (sub_at self.now.subs sub).came }
+    {
+        self.subs[sub as usize].came
+    }
+
+    /// The figures with one more frame.
+    fn figures_with(&self, arrived: &Arrived) -> Figures
+        ensures { result ≡ figures_with arrived.now self.now }
+    {
+        let ended = if arrived.fields.piece.more { 0 } else { 1 };
+        Figures {
+            frames: self.figures.frames.saturating_add(1),
+            bytes: self.figures.bytes.saturating_add(arrived.len),
+            messages: self.figures.messages.saturating_add(ended),
+            least_gap: least_of(self.figures.least_gap, gap_since(arrived.at, self.last)),
+        }
+    }
+
+    /// The line on which a frame is judged, after its number.
+    fn after_number(&self, number: Option<Deviation>) -> Line
+        ensures { result ≡ after_number number self.now }
+    {
+        match number {
+            Some(_) => self.unsettled(),
+            None => *self,
+        }
+    }
+
+    /// The line on which a frame is judged, after its turn.
+    fn after_turn(&self, turn: Option<Deviation>) -> Line
+        ensures { result ≡ after_turn turn self.now }
+    {
+        match turn {
+            Some(_) => self.excused(),
+            None => *self,
+        }
+    }
+
+    /// How a frame's piece isn't the next one.
+    fn fragment_on(&self, measure: &Measure, arrived: &Arrived) -> Option<Deviation>
+        ensures { result ≡ fragment_on measure.now arrived.now self.now }
+    {
+        let sub = sub_in(&arrived.fields) as usize;
+        self.subs[sub]
+            .joining
+            .fragment_deviation(measure.room, &arrived.fields)
+    }
+}
+
+/// What is known of a message after a frame.
+fn joining_after(
+    fragment: Option<Deviation>,
+    fields: &Fields,
+    port: Option<PortPlan>,
+    joining: &Joining,
+) -> Joining
+    requires { AreSmall fields.now }
+    ensures { result ≡ joining_after fragment fields.now port joining.now }
+{
+    match fragment {
+        Some(_) => Joining::Any,
+        None => joined(&fields.piece, joining.head_now(port, fields)),
+    }
+}
+
+/// What is wrong with the message that a frame ends.
+fn message_after(
+    fragment: Option<Deviation>,
+    fields: &Fields,
+    port: Option<PortPlan>,
+    joining: &Joining,
+) -> Option<Deviation>
+    requires { AreSmall fields.now }
+    ensures { result ≡ message_after fragment fields.now port joining.now }
+{
+    match fragment {
+        Some(_) => None,
+        None => end_deviation(&fields.piece, joining.head_now(port, fields)),
+    }
+}
+
+impl Line {
+    /// The line with a frame, once it is settled.
+    #[tactic(auto, unfolding(crate::specs::Lines::line_with))]
+    fn line_with(
+        &self,
+        measure: &Measure,
+        port: Option<PortPlan>,
+        arrived: &Arrived,
+        fragment: Option<Deviation>,
+    ) -> Line
+        requires small { AreSmall arrived.now.fields }
+        requires fragment { fragment ≡ fragment_on measure.now arrived.now self.now }
+        ensures { result ≡ line_with measure.now port arrived.now self.now }
+    {
+        let fields = &arrived.fields;
+        let sub = sub_in(fields) as usize;
+        let figures = self.figures_with(arrived);
+        let mut subs = self.subs;
+        subs[sub] = Sub {
+            joining: joining_after(fragment, fields, port, &subs[sub].joining),
+            came: figures.frames,
+            due: fields.piece.more,
+        };
+        Line {
+            last: Some(Last {
+                number: fields.number,
+                at: arrived.at,
+            }),
+            figures,
+            subs,
+        }
+    }
+
+    /// Takes a frame, of this port if it is a first piece, and returns what is wrong with it.
+    #[tactic(auto, unfolding(crate::specs::Lines::line_after, crate::specs::Lines::verdict))]
+    pub(crate) fn take(
+        &mut self,
+        measure: &Measure,
+        port: Option<PortPlan>,
+        arrived: &Arrived,
+    ) -> Verdict
+        requires { AreSmall arrived.now.fields }
+        ensures after { self.new ≡ line_after measure.now port arrived.now self.old }
+        ensures verdict { result ≡ verdict measure.now port arrived.now self.old }
+    {
+        let fields = &arrived.fields;
+        let sub = sub_in(fields);
+        let number = self.number_deviation(measure.late, fields.number);
+        let early = self.early_deviation(measure.gap, arrived.at);
+        let numbered = self.after_number(number);
+        let turn = numbered.turn_deviation(sub);
+        let settled = numbered.after_turn(turn);
+        let fragment = settled.fragment_on(measure, arrived);
+        let message = message_after(fragment, fields, port, &settled.subs[sub as usize].joining);
+        *self = settled.line_with(measure, port, arrived, fragment);
+        Verdict {
+            number,
+            early,
+            port: port_deviation(fields, port),
+            fragment,
+            message,
+            turn,
+        }
+    }
+}

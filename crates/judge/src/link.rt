@@ -1,0 +1,167 @@
+//! A link on both networks.
+ghost use Rattle.std.specs.Prelude.{◌≡◌, ◌≤◌, length, OnOk};
+ghost use Rattle.afdx_plan.specs.Plan.{is_both};
+ghost use Rattle.judge.specs.Lines.{line_after, verdict};
+ghost use Rattle.judge.specs.Layouts.{IsReadable};
+ghost use Rattle.judge.specs.Judging.{new_link, line_on, with_line, with_verdict, given_up, found_given_up, paired, found_twin, link_after, found_on_link};
+ghost use Rattle.judge.specs.Fields.{fields_of, AreSmall};
+
+use crate::fields::Fields;
+use crate::finding::{Finding, Tag, add};
+use crate::line::{Arrived, Line, Measure, Verdict};
+use crate::rules::size_deviation;
+use crate::twins::{Nearness, Twins};
+use afdx_frame::Net;
+use afdx_plan::{LinkPlan, PortPlan, VlId};
+use std::alloc::{AllocError, Global};
+
+/// The state of a link.
+#[derive(Drop)]
+pub(crate) struct Link {
+    pub(crate) a: Line,
+    pub(crate) b: Line,
+    pub(crate) twins: Twins,
+}
+
+/// What the frames of a link are judged by.
+#[derive(Clone, Copy)]
+pub(crate) struct Setting {
+    pub(crate) plan: LinkPlan,
+    pub(crate) measure: Measure,
+    pub(crate) nearness: Nearness,
+}
+
+/// Appends the findings of a line.
+#[tactic(auto, unfolding(crate::specs::Judging::with_verdict))]
+fn add_verdict(
+    found: &mut Vec<Finding>,
+    tag: &Tag,
+    vl: VlId,
+    verdict: &Verdict,
+) -> Result<(), AllocError>
+    ensures { OnOk result (found.new.items ≡ with_verdict tag.now vl verdict.now found.old.items) }
+{
+    let link = Some(vl);
+    add(found, tag, link, verdict.number)?;
+    add(found, tag, link, verdict.early)?;
+    add(found, tag, link, verdict.port)?;
+    add(found, tag, link, verdict.fragment)?;
+    add(found, tag, link, verdict.message)?;
+    add(found, tag, link, verdict.turn)?;
+    Ok(())
+}
+
+/// Whether both networks carry a link.
+fn is_both(link: &LinkPlan) -> bool
+    ensures { result ≡ is_both link.now.networks }
+{
+    link.networks.carries_a() && link.networks.carries_b()
+}
+
+impl Link {
+    /// A link of which nothing came.
+    pub(crate) fn new(alloc: Global, late: bool) -> Link
+        ensures { result ≡ new_link late }
+    {
+        Link {
+            a: Line::new(late),
+            b: Line::new(late),
+            twins: Twins::new(alloc),
+        }
+    }
+
+    /// Gives up the frames that a frame shows to have no twin, and appends them.
+    fn give_up(
+        &mut self,
+        setting: &Setting,
+        tag: &Tag,
+        number: u8,
+        found: &mut Vec<Finding>,
+    ) -> Result<(), AllocError>
+        ensures after { OnOk result (self.new ≡ given_up setting.now tag.now number self.old) }
+        ensures found { OnOk result (found.new.items
+            ≡ found_given_up setting.now tag.now number self.old found.old.items) }
+    {
+        if is_both(&setting.plan) {
+            let (nearness, vl) = (&setting.nearness, setting.plan.id);
+            self.twins.find_missing(nearness, vl, tag, number, found)?;
+            self.twins.give_up(nearness, tag, number);
+        }
+        Ok(())
+    }
+
+    /// Puts a frame to its twin, and appends how it differs.
+    fn pair(
+        &mut self,
+        setting: &Setting,
+        tag: &Tag,
+        number: u8,
+        frame: &[u8],
+        found: &mut Vec<Finding>,
+    ) -> Result<(), AllocError>
+        requires { 12 ≤ length frame.now }
+        ensures after { OnOk result (self.new ≡ paired setting.now tag.now number frame.now self.old) }
+        ensures found { OnOk result (found.new.items
+            ≡ found_twin setting.now tag.now number frame.now self.old found.old.items) }
+    {
+        if is_both(&setting.plan) {
+            let twin = self.twins.meet(tag, number, frame)?;
+            add(found, tag, Some(setting.plan.id), twin)?;
+        }
+        Ok(())
+    }
+
+    /// Takes a frame on its line.
+    fn take(
+        &mut self,
+        setting: &Setting,
+        tag: &Tag,
+        port: Option<PortPlan>,
+        arrived: &Arrived,
+    ) -> Verdict
+        requires { AreSmall arrived.now.fields }
+        ensures after { self.new ≡ with_line tag.now.net
+            (line_after setting.now.measure port arrived.now (line_on tag.now.net self.old)) self.old }
+        ensures verdict { result
+            ≡ verdict setting.now.measure port arrived.now (line_on tag.now.net self.old) }
+    {
+        match tag.net {
+            Net::A => self.a.take(&setting.measure, port, arrived),
+            Net::B => self.b.take(&setting.measure, port, arrived),
+        }
+    }
+
+    /// Takes a frame, and appends what it shows to be missing and what it does wrong.
+    #[tactic(auto, unfolding(crate::specs::Judging::link_after, crate::specs::Judging::found_on_link))]
+    pub(crate) fn arrive(
+        &mut self,
+        setting: &Setting,
+        tag: &Tag,
+        port: Option<PortPlan>,
+        frame: &[u8],
+        fields: &Fields,
+        found: &mut Vec<Finding>,
+    ) -> Result<(), AllocError>
+        requires fields { fields.now ≡ fields_of frame.now }
+        requires small { AreSmall fields.now }
+        requires readable { IsReadable frame.now }
+        ensures after { OnOk result (self.new
+            ≡ link_after setting.now tag.now port frame.now self.old) }
+        ensures found { OnOk result (found.new.items
+            ≡ found_on_link setting.now tag.now port frame.now self.old found.old.items) }
+    {
+        let vl = setting.plan.id;
+        self.give_up(setting, tag, fields.number, found)?;
+        let size = size_deviation(&setting.plan, frame.len() as u64);
+        add(found, tag, Some(vl), size)?;
+        let arrived = Arrived {
+            at: tag.at,
+            len: frame.len() as u64,
+            fields: *fields,
+        };
+        let verdict = self.take(setting, tag, port, &arrived);
+        add_verdict(found, tag, vl, &verdict)?;
+        self.pair(setting, tag, fields.number, frame, found)?;
+        Ok(())
+    }
+}

@@ -1,0 +1,191 @@
+//! The rules by which a packet is admitted: those that need no state.
+ghost use Rattle.std.specs.Prelude.{◌≡◌, ◌<◌, ◌≤◌, length, IfOk, IfErr};
+ghost use Rattle.afdx_plan.specs.Config.{link_plan_at};
+ghost use Rattle.capture.specs.Recording.{recorded};
+ghost use Rattle.judge.specs.Layouts.{IsReadable};
+ghost use Rattle.judge.specs.Rules.{refused, checked, unchecked, frame_in, interface_on, on_network, place_from, place_of, size_deviation};
+ghost use Rattle.redundant_mux.specs.Lines.{names};
+ghost use Rattle.afdx_frame.specs.Frame.{interface_byte};
+
+use crate::check_sequence::check_sequence;
+use crate::finding::{Deviation, Kind, Layout};
+use crate::layout::{has_four_more, layout_broken};
+use crate::words::word_at;
+use afdx_frame::Net;
+use afdx_frame::net::SHORTEST_FRAME;
+use afdx_plan::{Config, LinkPlan, Networks, VlId};
+use byteorder::{ByteOrder, LittleEndian};
+use capture::Packet;
+
+/// Why a packet is judged no further.
+#[derive(Clone, Copy)]
+pub(crate) struct Refused {
+    pub(crate) deviation: Deviation,
+    /// Its link, if it is known.
+    pub(crate) link: Option<VlId>,
+}
+
+/// A refusal, and its two numbers.
+fn refusal(link: Option<VlId>, kind: Kind, seen: u64, wanted: u64) -> Refused
+    ensures { result ≡ refused link kind seen wanted }
+{
+    Refused {
+        deviation: Deviation { kind, seen, wanted },
+        link,
+    }
+}
+
+/// The bytes without their check sequence, the last four bytes, which is right.
+#[tactic(auto, unfolding(crate::specs::Rules::checked))]
+fn checked(bytes: &[u8]) -> Result<&[u8], Refused>
+    ensures ok { IfOk result (λ frame. checked bytes.now ≡ Ok frame.now) }
+    ensures err { IfErr result (λ why. checked bytes.now ≡ Err why) }
+{
+    if bytes.len() < 4 {
+        let bound = SHORTEST_FRAME as u64;
+        return Err(refusal(None, Kind::Frame(Layout::Length), bytes.len() as u64, bound));
+    }
+    let end = bytes.len() - 4;
+    let seen = LittleEndian::read_u32(&bytes[end..]);
+    let wanted = check_sequence(&bytes[..end]);
+    if seen == wanted {
+        return Ok(&bytes[..end]);
+    }
+    let kind = Kind::Frame(Layout::CheckSequence);
+    Err(refusal(None, kind, seen as u64, wanted as u64))
+}
+
+/// Bytes that don't seem to have a check sequence.
+#[tactic(auto, unfolding(crate::specs::Rules::unchecked))]
+fn unchecked(bytes: &[u8]) -> Result<&[u8], Refused>
+    ensures ok { IfOk result (λ frame. unchecked bytes.now ≡ Ok frame.now) }
+    ensures err { IfErr result (λ why. unchecked bytes.now ≡ Err why) }
+{
+    if has_four_more(bytes) {
+        let len = bytes.len() as u64;
+        return Err(refusal(None, Kind::Frame(Layout::Recorded), len, len - 4));
+    }
+    Ok(bytes)
+}
+
+/// The frame of a packet, which is whole and of the layout. With `fcs` its check sequence is tested, and left out.
+#[tactic(auto, unfolding(crate::specs::Rules::frame_in))]
+pub(crate) fn frame_in<'a>(packet: &Packet<'a>, fcs: bool) -> Result<&'a [u8], Refused>
+    ensures ok { IfOk result (λ frame. frame_in fcs (recorded packet.now) ≡ Ok frame.now) }
+    ensures err { IfErr result (λ why. frame_in fcs (recorded packet.now) ≡ Err why) }
+    ensures readable { IfOk result (λ frame. IsReadable frame.now) }
+{
+    let bytes = packet.bytes;
+    let (len, original) = (bytes.len() as u64, packet.original as u64);
+    if len < original {
+        return Err(refusal(None, Kind::Frame(Layout::Snapped), len, original));
+    }
+    let frame = if fcs {
+        checked(bytes)?
+    } else {
+        unchecked(bytes)?
+    };
+    match layout_broken(frame) {
+        Some(deviation) => {
+            Err(Refused {
+                deviation,
+                link: None,
+            })
+        }
+        None => Ok(frame),
+    }
+}
+
+/// The byte of the interface identifier of a network.
+fn interface_byte(net: Net) -> u8
+    ensures { result ≡ interface_byte net }
+{
+    match net {
+        Net::A => 0x20,
+        Net::B => 0x40,
+    }
+}
+
+/// Whether a network is one of these.
+fn carries(networks: Networks, net: Net) -> bool
+    ensures { result ≡ names net networks }
+{
+    match net {
+        Net::A => networks.carries_a(),
+        Net::B => networks.carries_b(),
+    }
+}
+
+/// The interface identifier that a link's frame has on a network, 0 if the network doesn't carry it.
+fn interface_on(link: &LinkPlan, net: Net) -> u8
+    ensures { result ≡ interface_on link.now net }
+{
+    if carries(link.networks, net) {
+        interface_byte(net)
+    } else {
+        0
+    }
+}
+
+/// The place of a link that a frame is of, if it is of the network.
+fn on_network(
+    place: usize,
+    vl: VlId,
+    link: &LinkPlan,
+    net: Net,
+    frame: &[u8],
+) -> Result<usize, Refused>
+    requires { 60 ≤ length frame.now }
+    ensures { result ≡ on_network place vl link.now net frame.now }
+{
+    let (seen, wanted) = (frame[11], interface_on(link, net));
+    if seen == wanted {
+        Ok(place)
+    } else {
+        Err(refusal(Some(vl), Kind::Network, seen as u64, wanted as u64))
+    }
+}
+
+/// The place of a link in the plan, if a frame of it is of the network.
+fn place_from(config: &Config, vl: VlId, net: Net, frame: &[u8]) -> Result<usize, Refused>
+    requires { 60 ≤ length frame.now }
+    ensures value { result ≡ place_from config.now vl net frame.now }
+    ensures within { IfOk result (λ place. place < length config.now.links) }
+{
+    match config.link_index(vl) {
+        Some(place) => on_network(place, vl, &config.links()[place], net, frame),
+        None => Err(refusal(Some(vl), Kind::Link, vl.0 as u64, 0)),
+    }
+}
+
+/// The place of a frame's link in the plan: it is of the plan's end system, of a link of the plan, and on its network.
+#[tactic(auto, unfolding(crate::specs::Rules::place_of))]
+pub(crate) fn place_of(config: &Config, net: Net, frame: &[u8]) -> Result<usize, Refused>
+    requires { 60 ≤ length frame.now }
+    ensures value { result ≡ place_of config.now net frame.now }
+    ensures within { IfOk result (λ place. place < length config.now.links) }
+{
+    let source = word_at(frame, 9);
+    let wanted = config.end_system();
+    if source == wanted {
+        place_from(config, VlId(word_at(frame, 4)), net, frame)
+    } else {
+        Err(refusal(None, Kind::Source, source as u64, wanted as u64))
+    }
+}
+
+/// A finding, if a frame is longer than its link's Lmax, with its check sequence.
+pub(crate) fn size_deviation(link: &LinkPlan, len: u64) -> Option<Deviation>
+    requires { len ≤ 1514 }
+    ensures { result ≡ size_deviation link.now len }
+{
+    let (seen, wanted) = (len + 4, link.lmax.bytes() as u64);
+    if seen <= wanted {
+        return None;
+    }
+    Some(Deviation {
+        kind: Kind::Size,
+        seen,
+        wanted,
+    })
+}

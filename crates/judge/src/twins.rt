@@ -1,0 +1,326 @@
+//! The frames of a link that one network has and the other hasn't yet.
+ghost use Rattle.std.specs.Prelude.{◌≡◌, ◌+◌, ◌^◌, ◌≤◌, ◌<◌, find, position, length, OnOk, IfOk, None, []};
+ghost use Rattle.judge.specs.Waiting.{Wait, Pairing};
+ghost use Rattle.judge.specs.Twins.{apart, is_near, is_excused, same_net, is_passed, stays, kept, is_lost, is_left, is_twin, missing, found_missing, left_waiting, first_other, first_place, twin_other, other_at, twin_if, twin_deviation, greatest_of, pairing_with, found_at_end};
+
+use crate::finding::{Deviation, Finding, Kind, Tag};
+use afdx_frame::Net;
+use afdx_plan::VlId;
+use std::alloc::{AllocError, Global};
+use std::marker::Model;
+
+/// A frame that waits for its twin, with its sequence number.
+#[derive(Drop)]
+pub(crate) struct Waiting {
+    tag: Tag,
+    number: u8,
+    bytes: Vec<u8>,
+}
+
+impl Model for Waiting {
+    ghost use Rattle.std.specs.Prelude.{◌≤◌, length};
+    ghost use Rattle.judge.specs.Waiting.{Wait};
+
+    ghost Value = { Wait };
+
+    ghost view = { λ w. record { tag = w.tag; number = w.number; bytes = w.bytes.items } };
+
+    ghost invariant = { λ w. 12 ≤ length w.bytes.items };
+}
+
+/// The frames of a link that wait for their twins, in the order in which they came. Each came within the skew of the
+/// link's last frame, and no network has two of one number: so they are at most 512, and at most those that the networks
+/// send within the skew.
+#[derive(Drop)]
+pub(crate) struct Twins {
+    waiting: Vec<Waiting>,
+    /// The greatest time in nanoseconds between a frame and its twin.
+    lead: Option<u128>,
+}
+
+impl Model for Twins {
+    ghost use Rattle.judge.specs.Waiting.{Pairing};
+
+    ghost Value = { Pairing };
+
+    ghost view = { λ t. record { waiting = t.waiting.items; lead = t.lead } };
+}
+
+/// How near in time twins are, and near which time frames may have none.
+#[derive(Clone, Copy)]
+pub(crate) struct Nearness {
+    /// The skew in nanoseconds.
+    pub(crate) skew: u128,
+    /// The time of the first packet of a recording that began late.
+    pub(crate) edge: Option<u128>,
+}
+
+/// The time between two times.
+fn apart(a: u128, b: u128) -> u128
+    ensures { result ≡ apart a b }
+{
+    if a < b { b - a } else { a - b }
+}
+
+/// Whether two networks are one.
+fn same_net(a: Net, b: Net) -> bool
+    ensures { result ≡ same_net a b }
+{
+    match (a, b) {
+        (Net::A, Net::A) => true,
+        (Net::A, Net::B) => false,
+        (Net::B, Net::A) => false,
+        (Net::B, Net::B) => true,
+    }
+}
+
+impl Nearness {
+    /// Whether two times are within the skew.
+    fn is_near(&self, a: u128, b: u128) -> bool
+        ensures { result ≡ is_near self.now a b }
+    {
+        apart(a, b) <= self.skew
+    }
+
+    /// Whether a frame of this time may have no twin.
+    fn is_excused(&self, at: u128) -> bool
+        ensures { result ≡ is_excused self.now at }
+    {
+        match self.edge {
+            Some(edge) => self.is_near(edge, at),
+            None => false,
+        }
+    }
+}
+
+/// The first place at which bytes differ, counted from this one.
+#[tactic(auto, using(crate::proofs::Others::other_after, crate::proofs::Others::none_after, crate::proofs::Others::other_here, crate::proofs::Others::same_here))]
+fn first_other(from: usize, a: &[u8], b: &[u8]) -> Option<usize>
+    requires { from ≤ 12 }
+    ensures { result ≡ first_other from a.now b.now }
+{
+    let len = a.len().min(b.len());
+    let mut i = 0;
+    while i < len {
+        if a[i] != b[i] {
+            return Some(from + i);
+        }
+        i += 1;
+    }
+    if a.len() == b.len() {
+        None
+    } else {
+        Some(from + len)
+    }
+}
+
+/// The first of two places.
+fn first_place(one: Option<usize>, other: Option<usize>) -> Option<usize>
+    ensures { result ≡ first_place one other }
+{
+    match one {
+        Some(place) => Some(place),
+        None => other,
+    }
+}
+
+/// The first place at which frames of two networks differ, beside the interface identifier.
+#[tactic(auto, unfolding(crate::specs::Twins::twin_other))]
+fn twin_other(a: &[u8], b: &[u8]) -> Option<usize>
+    requires a { 12 ≤ length a.now }
+    requires b { 12 ≤ length b.now }
+    ensures { result ≡ twin_other a.now b.now }
+{
+    let front = first_other(0, &a[0..11], &b[0..11]);
+    let rest = first_other(12, &a[12..], &b[12..]);
+    first_place(front, rest)
+}
+
+impl Waiting {
+    /// Whether a frame of this network, time and number shows that this one has no twin.
+    fn is_passed(&self, nearness: &Nearness, tag: &Tag, number: u8) -> bool
+        ensures { result ≡ is_passed nearness.now tag.now number self.now }
+    {
+        !nearness.is_near(self.tag.at, tag.at)
+            || (same_net(self.tag.net, tag.net) && self.number == number)
+    }
+
+    /// Whether a frame of this network, time and number leaves it waiting.
+    fn stays(&self, nearness: &Nearness, tag: &Tag, number: u8) -> bool
+        ensures { result ≡ stays nearness.now tag.now number self.now }
+    {
+        !self.is_passed(nearness, tag, number)
+    }
+
+    /// Whether that it has no twin is a finding.
+    fn is_lost(&self, nearness: &Nearness, tag: &Tag, number: u8) -> bool
+        ensures { result ≡ is_lost nearness.now tag.now number self.now }
+    {
+        self.is_passed(nearness, tag, number) && !nearness.is_excused(self.tag.at)
+    }
+
+    /// Whether the end of the recording, at this time, shows that this one has no twin, as a finding.
+    fn is_left(&self, nearness: &Nearness, at: u128) -> bool
+        ensures { result ≡ is_left nearness.now at self.now }
+    {
+        !nearness.is_near(self.tag.at, at) && !nearness.is_excused(self.tag.at)
+    }
+
+    /// Whether it is the frame with this number of the other network.
+    fn is_twin(&self, tag: &Tag, number: u8) -> bool
+        ensures { result ≡ is_twin tag.now number self.now }
+    {
+        !same_net(self.tag.net, tag.net) && self.number == number
+    }
+
+    /// That the frame has no twin.
+    fn missing(&self, vl: VlId) -> Finding
+        ensures { result ≡ missing vl self.now }
+    {
+        let deviation = Deviation {
+            kind: Kind::Missing,
+            seen: self.number as u64,
+            wanted: 0,
+        };
+        self.tag.finding(Some(vl), deviation)
+    }
+
+    /// How its twin on the other network differs.
+    fn deviation(&self, frame: &[u8]) -> Option<Deviation>
+        requires { 12 ≤ length frame.now }
+        ensures { result ≡ other_at self.now (twin_other self.now.bytes frame.now) }
+    {
+        match twin_other(&self.bytes, frame) {
+            Some(place) => {
+                Some(Deviation {
+                    kind: Kind::Twin,
+                    seen: place as u64,
+                    wanted: self.tag.packet,
+                })
+            }
+            None => None,
+        }
+    }
+}
+
+/// Keeps the frames that a frame doesn't show to have no twin.
+fn keep(waiting: &mut Vec<Waiting>, nearness: &Nearness, tag: &Tag, number: u8)
+    ensures { waiting.new.items ≡ kept nearness.now tag.now number waiting.old.items }
+{
+    waiting.retain(|w| w.stays(nearness, tag, number));
+}
+
+/// The greater of two times, of which the first may be missing.
+fn greatest_of(a: Option<u128>, b: u128) -> Option<u128>
+    ensures { result ≡ greatest_of a b }
+{
+    match a {
+        None => Some(b),
+        Some(a) => Some(if a < b { b } else { a }),
+    }
+}
+
+impl Twins {
+    /// No frame waits.
+    pub(crate) fn new(alloc: Global) -> Twins
+        ensures { result ≡ record { waiting = []; lead = None } }
+    {
+        Twins {
+            waiting: Vec::new(alloc),
+            lead: None,
+        }
+    }
+
+    /// The greatest time in nanoseconds between a frame and its twin, if there was one.
+    pub(crate) fn lead(&self) -> Option<u128>
+        ensures { result ≡ self.now.lead }
+    {
+        self.lead
+    }
+
+    /// Appends the frames that a frame shows to have no twin.
+    #[tactic(auto, unfolding(crate::specs::Twins::found_missing))]
+    pub(crate) fn find_missing(
+        &self,
+        nearness: &Nearness,
+        vl: VlId,
+        tag: &Tag,
+        number: u8,
+        found: &mut Vec<Finding>,
+    ) -> Result<(), AllocError>
+        ensures { OnOk result (found.new.items
+            ≡ found_missing nearness.now vl tag.now number self.now.waiting found.old.items) }
+    {
+        let waiting = self.waiting.as_slice();
+        for w in waiting {
+            if w.is_lost(nearness, tag, number) {
+                found.push(w.missing(vl))?;
+            }
+        }
+        Ok(())
+    }
+
+    /// Lets those that a frame shows to have no twin wait no longer.
+    #[tactic(auto, unfolding(crate::specs::Twins::left_waiting))]
+    pub(crate) fn give_up(&mut self, nearness: &Nearness, tag: &Tag, number: u8)
+        ensures { self.new ≡ left_waiting nearness.now tag.now number self.old }
+    {
+        keep(&mut self.waiting, nearness, tag, number);
+    }
+
+    /// The place of a frame's twin among those that wait.
+    fn place(&self, tag: &Tag, number: u8) -> Option<usize>
+        ensures { result ≡ position (is_twin tag.now number) self.now.waiting }
+    {
+        self.waiting.iter().position(|w| w.is_twin(tag, number))
+    }
+
+    /// Puts a frame to its twin, and returns how it differs. A frame without one waits.
+    #[tactic(auto, using(crate::proofs::Pairs::first_is, crate::proofs::Pairs::place_is, crate::proofs::Pairs::none_is), unfolding(crate::specs::Twins::pairing_with, crate::specs::Twins::twin_deviation))]
+    pub(crate) fn meet(
+        &mut self,
+        tag: &Tag,
+        number: u8,
+        frame: &[u8],
+    ) -> Result<Option<Deviation>, AllocError>
+        requires { 12 ≤ length frame.now }
+        ensures after { OnOk result (self.new ≡ pairing_with tag.now number frame.now self.old) }
+        ensures twin { IfOk result (λ d. d ≡ twin_deviation tag.now number frame.now self.old) }
+    {
+        match self.place(tag, number) {
+            Some(place) => {
+                let twin = self.waiting.remove(place);
+                self.lead = greatest_of(self.lead, apart(twin.tag.at, tag.at));
+                Ok(twin.deviation(frame))
+            }
+            None => {
+                let alloc = *self.waiting.allocator();
+                let bytes = frame.to_vec(alloc)?;
+                let tag = *tag;
+                self.waiting.push(Waiting { tag, number, bytes })?;
+                Ok(None)
+            }
+        }
+    }
+
+    /// Appends the frames that the end of the recording, at this time, shows to have no twin.
+    #[tactic(auto, unfolding(crate::specs::Twins::found_at_end))]
+    pub(crate) fn find_left(
+        &self,
+        nearness: &Nearness,
+        vl: VlId,
+        at: u128,
+        found: &mut Vec<Finding>,
+    ) -> Result<(), AllocError>
+        ensures { OnOk result (found.new.items
+            ≡ found_at_end nearness.now vl at self.now.waiting found.old.items) }
+    {
+        let waiting = self.waiting.as_slice();
+        for w in waiting {
+            if w.is_left(nearness, at) {
+                found.push(w.missing(vl))?;
+            }
+        }
+        Ok(())
+    }
+}
