@@ -68,6 +68,13 @@ NOT_THERE, UNREAD = "No such file or directory (os error 2)\n", "it can't be rea
 SEE_EXPLAIN = "wrong.toml: for all faults and their places, run `afdx_bench explain wrong.toml`\n"
 EXPLAIN, ANALYSE, ANALYSIS = ["explain", "demo.toml"], ["report", "demo.toml"], ANALYSES[DEMO, 0]
 EXPLAINED = "1 fault\n6 BadBag: vl 1 (id 1), bag_ms is 3: 1, 2, 4, 8, 16, 32, 64 or 128\n"
+JUDGE = ["judge", "demo.toml", "short.txt"]
+JUDGED = f"""no findings
+capture 1: 0 packets, malformed at byte 0: Format
+ link net      frames         bytes    messages      bag-ns   least-gap-ns     lead-ns
+    1   A           0             0           0     1000000              -           -
+    1   B           0             0           0     1000000              -           -
+"""
 NO_TEXT = WRONG.replace("unrecognized subcommand 'frob'", "a word is not UTF-8")
 
 # Words, and how a run of them ends: its status, standard output and standard error. Standard input is empty.
@@ -82,6 +89,7 @@ ROWS = [
     (["explain", "wrong.toml"], 2, EXPLAINED, ""),
     (ANALYSE, 0, ANALYSIS, ""),
     ([*ANALYSE, "--html", "made.html"], 0, ANALYSIS, ""),
+    (JUDGE, 2, JUDGED, ""),
     (["frob"], 2, "", WRONG),
     ([b"\xff"], 2, "", NO_TEXT),
     ([*CHECK, b"\xff"], 2, "", NO_TEXT),
@@ -98,6 +106,14 @@ ROWS = [
     (["explain", "none.toml"], 4, "", f"read failed\nnone.toml: {NOT_THERE}"),
     (["explain", "."], 4, "", f"read failed\n.: {UNREAD}"),
     (["report", "."], 4, "", f"read failed\n.: {UNREAD}"),
+    (["judge", "demo.toml", "."], 4, "", "read failed\n.: it can't be read\n"),
+    ([*JUDGE, "none.pcap"], 4, "", f"read failed\nnone.pcap: {NOT_THERE}"),
+    ([*JUDGE, "."], 4, "", "read failed\n.: it can't be read\n"),
+    ([*JUDGE, "--html", "made.html"], 2, JUDGED, ""),
+    ([*JUDGE, "--html", "nowhere/unmade"], 4, "", f"write failed\nnowhere/unmade: {NOT_THERE}"),
+    ([*JUDGE, "--html", "./short.txt"], 4, "", "write failed\n./short.txt: the command reads this file, so name another\n"),
+    ([*JUDGE, "full.txt", "--html", "full.txt"], 4, "", "write failed\nfull.txt: the command reads this file, so name another\n"),
+    (["judge", "wrong.toml", "none.pcap", "--html", "unmade"], 2, "", BAD_BAG + SEE_EXPLAIN),
     (LATE, 5, "", "turns used up\n"),
     # the configuration is read before the script, and both are opened before a capture is made
     (["run", "wrong.toml", "none.txt", "--capture", "unmade"], 2, "", BAD_BAG),
@@ -148,6 +164,7 @@ PRINTED = [
     (EXPLAIN, 0, "no faults\n"),
     (["explain", "wrong.toml"], 2, EXPLAINED),
     (ANALYSE, 0, ANALYSIS),
+    (JUDGE, 2, JUDGED),
     (["--help"], 0, HELP),
     (["--version"], 0, f"afdx_bench {VERSION}\n"),
 ]
@@ -229,7 +246,9 @@ def numbers(room):
             room.is_refused("storm", "demo.toml", *words)
         if it.strip("0"):
             room.is_refused(*ANALYSE, "--lateness", it)
-    for words in (["explain"], [*EXPLAIN, "demo.toml"], [*EXPLAIN, "--html", "made.html"], ["report"], [*ANALYSE, "demo.toml"]):
+            room.is_refused(*JUDGE, "--jitter", it)
+            room.is_refused(*JUDGE, "--skew", it)
+    for words in (["explain"], [*EXPLAIN, "demo.toml"], [*EXPLAIN, "--html", "made.html"], ["report"], [*ANALYSE, "demo.toml"], ["judge", "demo.toml"]):
         room.is_refused(*words)
 
 
@@ -271,7 +290,7 @@ def great_plans(room):
         for words, status, out in PRINTED:
             if "demo.toml" in words:
                 words = [word.replace("demo.toml", "great.toml") for word in words]
-                told = f"read failed\ngreat.toml: {UNREAD}" if words[0] in ("explain", "report") else "read failed\n"
+                told = f"read failed\ngreat.toml: {UNREAD}" if words[0] in ("explain", "report", "judge") else "read failed\n"
                 room.ends(words, *((4, "", told) if more else (status, out, "")))
 
 

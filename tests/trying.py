@@ -34,6 +34,7 @@ Commands:
   check    Prints the plan and the jitter of a configuration; `explain` locates its faults
   explain  Prints the faults of a configuration, each with its place and what is allowed there
   report   Prints the loads, the jitter and the longest waits of a configuration
+  judge    Prints what is wrong with a recording of an end system
   storm    Has all ports of a configuration send at once, and prints what came of it
 
 Options:

@@ -3,12 +3,13 @@ _afdx_bench() {
     local word=${COMP_WORDS[COMP_CWORD]} before=${COMP_WORDS[COMP_CWORD - 1]} words
     case $before in
     --capture | --html | --traffic | --csv) words= ;;
-    --lateness | --messages | --turns) COMPREPLY=() && return ;;
+    --lateness | --jitter | --skew | --messages | --turns) COMPREPLY=() && return ;;
     *)
         case ${COMP_CWORD}:${COMP_WORDS[1]-} in
-        1:*) words='run check explain report storm --help --version' ;;
+        1:*) words='run check explain report judge storm --help --version' ;;
         *:run) words='--capture --help' ;;
         *:report) words='--lateness --html --traffic --csv --strict --help' ;;
+        *:judge) words='--jitter --skew --late --fcs --html --help' ;;
         *:storm) words='--messages --turns --help' ;;
         *) words=--help ;;
         esac

@@ -1,11 +1,12 @@
 # Completions of afdx_bench for fish.
-set -l commands run check explain report storm
+set -l commands run check explain report judge storm
 complete -c afdx_bench -l help -s h -d 'Print help'
 complete -c afdx_bench -f -n "not __fish_seen_subcommand_from $commands" -l version -s V -d 'Print version'
 complete -c afdx_bench -f -n "not __fish_seen_subcommand_from $commands" -a run -d 'Runs a script over a configuration'
 complete -c afdx_bench -f -n "not __fish_seen_subcommand_from $commands" -a check -d 'Prints the plan and the jitter'
 complete -c afdx_bench -f -n "not __fish_seen_subcommand_from $commands" -a explain -d 'Prints the faults, each with its place'
 complete -c afdx_bench -f -n "not __fish_seen_subcommand_from $commands" -a report -d 'Prints the loads and the longest waits'
+complete -c afdx_bench -f -n "not __fish_seen_subcommand_from $commands" -a judge -d 'Prints what is wrong with a recording'
 complete -c afdx_bench -f -n "not __fish_seen_subcommand_from $commands" -a storm -d 'Has all ports send at once'
 complete -c afdx_bench -n '__fish_seen_subcommand_from run' -l capture -r -F -d 'Also writes the frames to a file'
 complete -c afdx_bench -n '__fish_seen_subcommand_from report' -l lateness -x -d 'How late polls come at most'
@@ -13,5 +14,10 @@ complete -c afdx_bench -n '__fish_seen_subcommand_from report' -l html -r -F -d 
 complete -c afdx_bench -n '__fish_seen_subcommand_from report' -l traffic -r -F -d 'The periods and deadlines of the ports'
 complete -c afdx_bench -n '__fish_seen_subcommand_from report' -l csv -r -F -d 'Also writes a row for each port'
 complete -c afdx_bench -n '__fish_seen_subcommand_from report' -l strict -d 'Ends with status 2 if a limit or a deadline is missed'
+complete -c afdx_bench -n '__fish_seen_subcommand_from judge' -l jitter -x -d 'How much closer than a BAG frames may come'
+complete -c afdx_bench -n '__fish_seen_subcommand_from judge' -l skew -x -d 'How far the networks may be apart'
+complete -c afdx_bench -n '__fish_seen_subcommand_from judge' -l late -d 'The recording began after the end system'
+complete -c afdx_bench -n '__fish_seen_subcommand_from judge' -l fcs -d 'Frames were recorded with their check sequence'
+complete -c afdx_bench -n '__fish_seen_subcommand_from judge' -l html -r -F -d 'Also writes the summary as a page'
 complete -c afdx_bench -n '__fish_seen_subcommand_from storm' -l messages -x -d 'How many messages each port sends'
 complete -c afdx_bench -n '__fish_seen_subcommand_from storm' -l turns -x -d 'How often each thread may try'

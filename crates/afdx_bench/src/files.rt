@@ -23,16 +23,10 @@ pub fn open(rt: &HostRuntime, path: &str, named: Named) -> Result<File, Stop> {
     File::open(rt, path).map_err(|error| failed(error, RunFault::Read, named))
 }
 
-/// Makes a file that a word names, or empties it. If it is one of the two files that are read, under any name,
-/// returns Write and leaves the file unchanged.
-pub fn create(
-    rt: &HostRuntime,
-    path: &str,
-    named: Named,
-    one: &File,
-    other: &File,
-) -> Result<File, Stop> {
-    match is_either(rt, path, one, other) {
+/// Makes a file that a word names, or empties it. If it is one of the files that are read, under any name, returns
+/// Write and leaves the file unchanged.
+pub fn create(rt: &HostRuntime, path: &str, named: Named, read: &[&File]) -> Result<File, Stop> {
+    match is_any(rt, path, read) {
         Ok(false) => {}
         Ok(true) => {
             let failure = Failure::Run(RunFault::Write);
@@ -51,12 +45,17 @@ fn failed(error: io::Error, fault: RunFault, named: Named) -> Stop {
     }
 }
 
-/// Whether a path leads to one of two open files.
-fn is_either(rt: &HostRuntime, path: &str, first: &File, second: &File) -> io::Result<bool> {
+/// Whether a path leads to one of some open files.
+fn is_any(rt: &HostRuntime, path: &str, files: &[&File]) -> io::Result<bool> {
     match fs::metadata(rt, path) {
-        Ok(found) => Ok(
-            is_same(&found, &first.metadata()?) || is_same(&found, &second.metadata()?),
-        ),
+        Ok(found) => {
+            for file in files {
+                if is_same(&found, &file.metadata()?) {
+                    return Ok(true);
+                }
+            }
+            Ok(false)
+        }
         Err(error) if error.kind() == io::ErrorKind::NotFound => Ok(false),
         Err(error) => Err(error),
     }

@@ -6,12 +6,16 @@ ghost use Rattle.std.specs.Prelude.{◌≤◌};
 ghost use Rattle.plan_report.specs.Status.{IsInRange};
 
 mod files;
+mod hearing;
+mod judging;
 mod report;
+mod source;
 mod stop;
 
 use afdx_plan::{Config, demo_config};
 use capture::write_capture;
 use files::{create, open, stand_in};
+use judging::judge_files;
 use plan_report::{
     End, Failure, Halting, Words, check, read_plan, read_words, status_of, tell_faults, tell_words,
 };
@@ -72,7 +76,7 @@ fn run_files<W: Write>(
     let script = open(rt, script, Named::Script)?;
     let ran = match capture {
         Some(path) => {
-            let file = create(rt, path, Named::Capture, &text, &script)?;
+            let file = create(rt, path, Named::Capture, &[&text, &script])?;
             run_captured(alloc, config, script, file, writer)
         }
         None => run_script(alloc, config, script, writer)
@@ -117,6 +121,28 @@ fn run_storm<W: Write, T: Threads + Wait + Sync>(
     Ok(End::Told)
 }
 
+/// Runs a script from standard input over the demonstration configuration.
+fn run_demo<W: Write>(rt: &HostRuntime, writer: &mut W) -> Result<End, Stop> {
+    let alloc = rt.alloc();
+    let config = demo_config(alloc).map_err(Failure::Config)?;
+    let ran = run_script(alloc, config, rt.stdin(), writer);
+    let ended = ran.map(End::Ran).map_err(Failure::Run);
+    ended.map_err(|failure| Stop::reading(failure, Named::Script))
+}
+
+/// Writes the plan and the jitter of a configuration, by the path of its file.
+fn check_file<W: Write>(rt: &HostRuntime, config: &str, writer: &mut W) -> Result<End, Stop> {
+    let checked = check(rt.alloc(), open(rt, config, Named::Plan)?, writer);
+    checked.map_err(|failure| Stop::reading(failure, Named::Plan))?;
+    Ok(End::Told)
+}
+
+/// Writes the faults of a configuration, by the path of its file.
+fn explain_file<W: Write>(rt: &HostRuntime, config: &str, writer: &mut W) -> Result<End, Stop> {
+    let told = tell_faults(rt.alloc(), open(rt, config, Named::Plan)?, writer);
+    told.map_err(|failure| Stop::reading(failure, Named::Plan))
+}
+
 /// Runs the command of the words. The runtime is passed a second time for threads, since only a bound
 /// lets a function start them.
 fn obey<W: Write, T: Threads + Wait + Sync>(
@@ -127,31 +153,21 @@ fn obey<W: Write, T: Threads + Wait + Sync>(
 ) -> Result<End, Stop>
     requires { IsInRange words.now }
 {
-    let alloc = rt.alloc();
     match words {
-        Words::Script => {
-            let config = demo_config(alloc).map_err(Failure::Config)?;
-            let ran = run_script(alloc, config, rt.stdin(), writer);
-            let ended = ran.map(End::Ran).map_err(Failure::Run);
-            ended.map_err(|failure| Stop::reading(failure, Named::Script))
-        }
+        Words::Script => run_demo(rt, writer),
         Words::Run {
             config,
             script,
             capture,
-        } => {
-            let capture = capture.as_ref().map(|path| path.as_str());
-            run_files(rt, config.as_str(), script.as_str(), capture, writer)
-        }
-        Words::Check { config } => {
-            let checked = check(alloc, open(rt, config.as_str(), Named::Plan)?, writer);
-            checked.map_err(|failure| Stop::reading(failure, Named::Plan))?;
-            Ok(End::Told)
-        }
-        Words::Explain { config } => {
-            let told = tell_faults(alloc, open(rt, config.as_str(), Named::Plan)?, writer);
-            told.map_err(|failure| Stop::reading(failure, Named::Plan))
-        }
+        } => run_files(
+            rt,
+            config.as_str(),
+            script.as_str(),
+            capture.as_ref().map(|path| path.as_str()),
+            writer,
+        ),
+        Words::Check { config } => check_file(rt, config.as_str(), writer),
+        Words::Explain { config } => explain_file(rt, config.as_str(), writer),
         Words::Report {
             config,
             lateness,
@@ -160,18 +176,15 @@ fn obey<W: Write, T: Threads + Wait + Sync>(
             csv,
             strict,
         } => {
-            let files = Files {
-                html: html.as_ref().map(|path| path.as_str()),
-                traffic: traffic.as_ref().map(|path| path.as_str()),
-                csv: csv.as_ref().map(|path| path.as_str()),
-            };
+            let files = Files::of(html, traffic, csv);
             report(rt, config.as_str(), *lateness, files, *strict, writer)
         }
+        Words::Judge(case) => judge_files(rt, case, writer),
         Words::Storm {
             config,
             messages,
             turns,
-        } => run_storm(rt, threads, config.as_str(), *messages, *turns, writer),
+        } => { run_storm(rt, threads, config.as_str(), *messages, *turns, writer) }
     }
 }
 

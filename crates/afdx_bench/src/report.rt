@@ -26,6 +26,21 @@ pub struct Files<'a> {
     pub csv: Option<&'a str>,
 }
 
+impl<'a> Files<'a> {
+    /// The files that words name.
+    pub fn of(
+        html: &'a Option<String>,
+        traffic: &'a Option<String>,
+        csv: &'a Option<String>,
+    ) -> Files<'a> {
+        Files {
+            html: html.as_ref().map(|path| path.as_str()),
+            traffic: traffic.as_ref().map(|path| path.as_str()),
+            csv: csv.as_ref().map(|path| path.as_str()),
+        }
+    }
+}
+
 /// Writes the verdict, the loads, the jitter and the longest waits of a configuration, by the path of its file, if
 /// polls come at most `lateness` microseconds late; and before that the page and the rows to their files. If the
 /// traffic has faults, writes these alone.
@@ -105,11 +120,11 @@ fn save(
     assessment: &Assessment<'_>,
 ) -> Result<(), Stop> {
     if let Some(path) = files.html {
-        let page = create(rt, path, Named::Page, text, other)?;
+        let page = create(rt, path, Named::Page, &[text, other])?;
         save_page(rt.alloc(), page, assessment)?;
     }
     if let Some(path) = files.csv {
-        let rows = create(rt, path, Named::Rows, text, other)?;
+        let rows = create(rt, path, Named::Rows, &[text, other])?;
         save_rows(rt.alloc(), rows, assessment)?;
     }
     Ok(())

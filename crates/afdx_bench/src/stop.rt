@@ -10,7 +10,9 @@ pub enum Named {
     Script,
     Traffic,
     Capture,
-    /// The page of a report.
+    /// The capture of network B.
+    Other,
+    /// The page of a report or of a judged recording.
     Page,
     /// The rows of a report.
     Rows,
@@ -60,10 +62,13 @@ impl Stop {
         }
     }
 
-    /// Writes the file, the reason or what to do next to standard error: on a terminal, and for the commands `explain`
-    /// and `report`.
+    /// Writes the file, the reason or what to do next to standard error: on a terminal, and for the commands `explain`,
+    /// `report` and `judge`.
     pub fn tell_more(&self, rt: &HostRuntime, words: &Words) {
-        let is_always = matches!(words, Words::Explain { .. } | Words::Report { .. });
+        let is_always = matches!(
+            words,
+            Words::Explain { .. } | Words::Report { .. } | Words::Judge(_)
+        );
         if is_always || rt.stderr().is_terminal() {
             match &self.file {
                 Some((named, cause)) => tell_cause(rt, path_of(words, *named), *named, cause),
@@ -105,6 +110,16 @@ fn path_of<'a>(words: &'a Words, named: Named) -> &'a str {
             },
             Named::Rows,
         ) => path.as_str(),
+        (Words::Judge(case), Named::Capture) => case.capture.as_str(),
+        (Words::Judge(case), Named::Other) => match &case.other {
+            Some(path) => path.as_str(),
+            None => case.capture.as_str(),
+        },
+        (Words::Judge(case), Named::Page) => match &case.html {
+            Some(path) => path.as_str(),
+            None => case.config.as_str(),
+        },
+        (Words::Judge(case), _) => case.config.as_str(),
         (Words::Run { config, .. }, _) => config.as_str(),
         (Words::Check { config }, _) => config.as_str(),
         (Words::Explain { config }, _) => config.as_str(),

@@ -7,7 +7,7 @@ use Rattle.plan_report.specs.declared.status.End.TheVariants.{Told, Ran, FaultsT
 use Rattle.script_text.specs.declared.faults.RunFault.{RunFault}
 use Rattle.script_text.specs.declared.faults.RunFault.TheVariants.{Line, Lines, Read, Write, Memory}
 use Rattle.plan_report.specs.declared.words.Words.{Words}
-use Rattle.plan_report.specs.declared.words.Words.TheVariants.{Report, Storm}
+use Rattle.plan_report.specs.declared.words.Words.TheVariants.{Report, Judge, Storm}
 use Rattle.clap.specs.declared.error.kind.ErrorKind.{ErrorKind}
 use Rattle.clap.specs.declared.error.kind.ErrorKind.TheVariants.{DisplayHelp, DisplayVersion, OutOfMemory}
 use Rattle.afdx_plan.specs.declared.fault.ConfigFault.TheVariants as Plan
@@ -38,11 +38,12 @@ exit_status Missed = 2
 exit_status WordsRefused = 2
 exit_status (Failed failure) = failure_status failure
 
--- the numbers of a storm and of a report lie in their ranges
+-- the numbers of a storm, of a report and of a judgment lie in their ranges
 abbrev pub IsInRange : Words → Type 0
 IsInRange (Storm config messages turns) =
     ((1 ≤ messages) × (messages ≤ 65535)) × ((1 ≤ turns) × (turns ≤ 1000000000))
 IsInRange (Report config lateness html traffic csv strict) = lateness ≤ 1000000
+IsInRange (Judge case) = (case.jitter ≤ 1000000) × (case.skew ≤ 1000000)
 IsInRange _ = ⊤
 
 -- a message was written, or standard output failed

@@ -9,7 +9,7 @@ const WIDTH: u64 = 10_000;
 const MARK: u64 = 50;
 
 /// The begin of a drawing: a track of the whole width.
-pub(crate) const TRACK: &str = "<svg viewBox=\"0 0 10000 100\" preserveAspectRatio=\"none\" \
+pub const TRACK: &str = "<svg viewBox=\"0 0 10000 100\" preserveAspectRatio=\"none\" \
     aria-hidden=\"true\"><rect class=\"track\" width=\"10000\" height=\"100\"/>";
 
 /// The position of a value in the drawing of a bar that `scale` fills.
@@ -19,10 +19,10 @@ fn place(scale: u64, value: u64) -> u64 {
 
 /// A bar of one value. Scale and value are in one unit.
 #[derive(Drop)]
-pub(crate) struct Bar {
+pub struct Bar {
     // the value that fills the bar
-    pub(crate) scale: u64,
-    pub(crate) value: u64,
+    pub scale: u64,
+    pub value: u64,
 }
 
 impl fmt::Display for Bar {
@@ -37,7 +37,7 @@ impl fmt::Display for Bar {
 
 /// A bar of several parts, being drawn over a track. Scale and fill are in the unit of its values.
 #[derive(Drop)]
-pub(crate) struct Parts {
+pub struct Parts {
     scale: u64,
     filled: u64,
     // whether the next part has the second color
@@ -46,7 +46,7 @@ pub(crate) struct Parts {
 
 impl Parts {
     /// A bar with no part; a value of `scale` fills it.
-    pub(crate) fn new(scale: u64) -> Parts {
+    pub fn new(scale: u64) -> Parts {
         Parts {
             scale,
             filled: 0,
@@ -55,7 +55,7 @@ impl Parts {
     }
 
     /// Adds a part. Neighbouring parts differ in color.
-    pub(crate) fn fill<W: Write>(&mut self, writer: &mut W, value: u64) -> io::Result<()> {
+    pub fn fill<W: Write>(&mut self, writer: &mut W, value: u64) -> io::Result<()> {
         let start = place(self.scale, self.filled);
         self.filled = self.filled.saturating_add(value);
         let width = place(self.scale, self.filled).saturating_sub(start);
@@ -70,10 +70,10 @@ impl Parts {
 
 /// The mark of a limit on a bar of parts, and the end of the drawing.
 #[derive(Drop)]
-pub(crate) struct Mark {
+pub struct Mark {
     // the value that fills the bar
-    pub(crate) scale: u64,
-    pub(crate) limit: u64,
+    pub scale: u64,
+    pub limit: u64,
 }
 
 impl fmt::Display for Mark {

@@ -1,7 +1,7 @@
 //! The style sheet of the page.
 
 /// The style of the page, for light and dark color schemes.
-pub(crate) const STYLE: &str = "
+pub const STYLE: &str = "
 :root{color-scheme:light dark;--back:#fff;--text:#1b1f24;--quiet:#57606a;
 --line:#d8dee4;--one:#2f6fab;--two:#86b6e0;--over:#c4432b}
 @media(prefers-color-scheme:dark){:root{--back:#12161b;--text:#e6edf3;--quiet:#9aa4ae;

@@ -4,6 +4,7 @@ ghost use Rattle.script_text.specs.Command.{number_of};
 ghost use Rattle.plan_report.specs.Status.{IsInRange, EndsWords};
 ghost use Rattle.clap.specs.Values.{kind_of};
 
+use crate::judge_words::{Case, case_of, judge_command};
 use crate::status::{End, Failure};
 use clap::error::ErrorKind;
 use clap::{Arg, ArgAction, ArgMatches, Command, Error, value_parser};
@@ -42,6 +43,8 @@ pub enum Words {
         csv: Option<String>,
         strict: bool,
     },
+    /// `judge <config> <capture> [<capture_b>]`
+    Judge(Case),
     /// `storm <config> --messages <n> --turns <t>`
     Storm {
         config: String,
@@ -116,6 +119,7 @@ fn words_of(alloc: Global, name: &str, matches: &ArgMatches<'_>) -> Result<Words
         "check" => Ok(Words::Check { config }),
         "explain" => Ok(Words::Explain { config }),
         "report" => report_words(alloc, matches, config),
+        "judge" => case_of(alloc, matches, config),
         _ => storm_words(alloc, matches, config),
     }
 }
@@ -194,6 +198,7 @@ fn command<'a>(alloc: Global) -> Result<Command<'a>, AllocError> {
         "Prints the faults of a configuration, each with its place and what is allowed there";
     let program = with(program, over_config(alloc, "explain", about))?;
     let program = with(program, report_command(alloc))?;
+    let program = with(program, judge_command(alloc))?;
     with(program, storm_command(alloc))
 }
 

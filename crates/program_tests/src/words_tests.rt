@@ -29,6 +29,10 @@ report a.toml --lateness 1000000 --html b.html => Report { config: \"a.toml\", l
     html: Some(\"b.html\"), traffic: None, csv: None, strict: false }
 report --lateness=007 a.toml --strict --traffic=t.csv --csv w.csv => Report { config: \"a.toml\", lateness: 7, \
     html: None, traffic: Some(\"t.csv\"), csv: Some(\"w.csv\"), strict: true }
+judge a.toml b.pcap => Judge(Case { config: \"a.toml\", capture: \"b.pcap\", other: None, jitter: 0, skew: 10000, \
+    late: false, fcs: false, html: None })
+judge a.toml b.pcap c.pcap --jitter 1000000 --skew=07 --late --fcs --html d => Judge(Case { config: \"a.toml\", \
+    capture: \"b.pcap\", other: Some(\"c.pcap\"), jitter: 1000000, skew: 7, late: true, fcs: true, html: Some(\"d\") })
 storm a.toml --messages 65535 --turns 1000000000 => Storm { config: \"a.toml\", messages: 65535, turns: 1000000000 }
 storm --turns 1 --messages 2 a.toml => Storm { config: \"a.toml\", messages: 2, turns: 1 }
 storm a.toml --messages 0065535 --turns=01 => Storm { config: \"a.toml\", messages: 65535, turns: 1 }";
@@ -38,7 +42,7 @@ fn each_command_has_its_words(rt: HostRuntime) {
     for row in COMMANDS.lines() {
         let (line, wanted) = columns(&rt, row);
         let words = parsed(&rt, line).ok().expect(&rt, line);
-        let text = InlineText::<128>::of(format_args!("{words:?}"));
+        let text = InlineText::<256>::of(format_args!("{words:?}"));
         assert_same(&rt, text.as_str(), wanted, line);
     }
 }
@@ -47,7 +51,8 @@ fn each_command_has_its_words(rt: HostRuntime) {
 const REFUSED: &str = "help,chekc a.toml,check,check a.toml b.txt,check --all a.toml,run a.toml,\
     run a.toml b.txt c.txt,run a.toml b.txt --capture,run a.toml b.txt --capture c --capture d,\
     check a.toml --capture c.pcapng,report,report a.toml --lateness 1000001,report a.toml --lateness +1,\
-    report a.toml --html,report a.toml --capture c.pcapng,storm a.toml,storm a.toml --messages 1,\
+    report a.toml --html,report a.toml --capture c.pcapng,judge a.toml,judge a.toml b c d,judge a.toml b --jitter,\
+    judge a.toml b --jitter 1000001,judge a.toml b --skew +1,storm a.toml,storm a.toml --messages 1,\
     storm a.toml --messages 0 --turns 1,storm a.toml --messages 65536 --turns 1,\
     storm a.toml --messages 1 --turns 0,storm a.toml --messages 1 --turns 1000000001,\
     storm a.toml --messages x --turns 1,storm a.toml --messages +5 --turns 1,\
@@ -55,7 +60,7 @@ const REFUSED: &str = "help,chekc a.toml,check,check a.toml b.txt,check --all a.
     storm a.toml --messages -5 --turns 1,storm a.toml --messages= --turns 1,\
     storm a.toml --messages 0x5 --turns 1,storm a.toml --messages 5 --turns 1_000,check --version";
 
-const PRINTED: &str = "--version,-V,--help,-h,check --help,run -h,report -h,storm --help";
+const PRINTED: &str = "--version,-V,--help,-h,check --help,run -h,report -h,judge -h,storm --help";
 
 #[test]
 fn other_words_are_refused_and_help_and_the_version_are_printed(rt: HostRuntime) {

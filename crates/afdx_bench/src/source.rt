@@ -1,0 +1,168 @@
+//! A capture that is read in pieces.
+ghost use Rattle.std.specs.Prelude.{◌≤◌, length, vec_len, IfOk};
+
+use crate::hearing::Hearing;
+use afdx_frame::Net;
+use capture::{End, GREATEST_UNIT, Reading, Stop};
+use judge_report::Captured;
+use plan_report::Failure;
+use std::alloc::{AllocError, Global};
+use std::fs::File;
+use std::io::{ErrorKind, Read, Write};
+use tx_script::RunFault;
+
+// The bytes of the window: any unit fits in one half.
+const WINDOW: usize = 2 * GREATEST_UNIT;
+
+/// Which packets of a capture are heard, and of which network they are.
+#[derive(Clone, Copy, Debug, PartialEq, Eq)]
+pub enum Part {
+    /// Those of both networks, by their interfaces.
+    Both,
+    /// Those of one network, by their interfaces.
+    Interface(Net),
+    /// All, of this network.
+    File(Net),
+}
+
+impl Part {
+    /// The network of a packet that is heard, by that of its interface.
+    fn heard(self, network: Option<Net>) -> Option<Net> {
+        match self {
+            Part::Both => network,
+            Part::Interface(net) => if network == Some(net) { network } else { None },
+            Part::File(net) => Some(net),
+        }
+    }
+}
+
+/// A capture, and a window on it.
+#[derive(Drop)]
+pub struct Source {
+    file: File,
+    part: Part,
+    reading: Reading,
+    window: Vec<u8>,
+    // The bytes of the window that are read and not used.
+    start: usize,
+    end: usize,
+    // The bytes of the capture that are used.
+    used: u64,
+    packets: u64,
+    others: u64,
+    // The time of the next packet, at first the least, and the end of the capture once it is read.
+    next: u128,
+    ended: Option<End>,
+    ghost ordered: { start ≤ end },
+    ghost within: { end ≤ vec_len window },
+}
+
+impl Source {
+    /// A source of a file, of which nothing is read.
+    pub fn new(alloc: Global, file: File, part: Part) -> Result<Source, AllocError> {
+        Ok(Source {
+            file,
+            part,
+            reading: Reading::new(),
+            window: vec![in alloc; 0u8; WINDOW]?,
+            start: 0,
+            end: 0,
+            used: 0,
+            packets: 0,
+            others: 0,
+            next: 0,
+            ended: None,
+        })
+    }
+
+    /// The time of the next packet, or `None` at the end. Before anything is read, any packet may be next.
+    pub fn next(&self) -> Option<u128> {
+        match self.ended {
+            Some(_) => None,
+            None => Some(self.next),
+        }
+    }
+
+    /// Has its packets heard up to the first one of a time after `until`, which comes next.
+    pub fn read_until<W: Write>(
+        &mut self,
+        until: u128,
+        hearing: &mut Hearing,
+        writer: &mut W,
+    ) -> Result<(), Failure> {
+        for _ in 0..u64::MAX {
+            let rest = &self.window.as_slice()[self.start..self.end];
+            match self.reading.step(rest) {
+                Ok(step) => {
+                    if let Some(packet) = step.packet {
+                        let net = self.part.heard(packet.network);
+                        let at = packet.at.unwrap_or(0);
+                        if net.is_some() && at > until {
+                            self.next = at;
+                            return Ok(());
+                        }
+                        self.packets = self.packets.saturating_add(1);
+                        match net {
+                            Some(net) => hearing.hear(writer, net, self.packets, &packet)?,
+                            None => self.others = counted(self.others, packet.network),
+                        }
+                    }
+                    self.start += step.used;
+                    self.used = self.used.saturating_add(step.used as u64);
+                }
+                Err(stop) => {
+                    if stop != Stop::More || !self.fill()? {
+                        let rest = &self.window.as_slice()[self.start..self.end];
+                        self.ended = Some(self.reading.end(self.used, rest, stop));
+                        return Ok(());
+                    }
+                }
+            }
+        }
+        Ok(())
+    }
+
+    /// Moves what isn't used to the front of the window, and reads more. Returns whether there was more.
+    fn fill(&mut self) -> Result<bool, Failure> {
+        self.window
+            .as_mut_slice()
+            .copy_within(self.start..self.end, 0);
+        self.end -= self.start;
+        self.start = 0;
+        let count = read_some(&mut self.file, &mut self.window.as_mut_slice()[self.end..])?;
+        self.end += count;
+        Ok(count > 0)
+    }
+
+    /// What was read.
+    pub fn captured(&self) -> Captured {
+        Captured {
+            packets: self.packets,
+            others: self.others,
+            end: self.ended.unwrap_or(End::CutOff(self.used)),
+        }
+    }
+}
+
+/// A count of packets of neither network, with one more packet.
+fn counted(others: u64, network: Option<Net>) -> u64 {
+    match network {
+        Some(_) => others,
+        None => others.saturating_add(1),
+    }
+}
+
+/// Reads once, and again after an interruption. Returns how many bytes were read: 0 at the end of the file, or if there
+/// is no room.
+fn read_some(file: &mut File, room: &mut [u8]) -> Result<usize, Failure>
+    ensures { IfOk result (λ count. count ≤ length room.old) }
+{
+    for _ in 0..u64::MAX {
+        match file.read(room) {
+            Ok(count) => return Ok(count),
+            Err(error) if error.kind() == ErrorKind::Interrupted => {}
+            Err(_) => return Err(Failure::Run(RunFault::Read)),
+        }
+    }
+    Err(Failure::Run(RunFault::Read))
+}

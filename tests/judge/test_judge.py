@@ -1,0 +1,346 @@
+#!/usr/bin/env python3
+"""Tests `afdx_bench judge` from outside: what it prints of recordings, and how it ends.
+
+    python3 tests/judge/test_judge.py [--all]
+
+It runs what `rt ci` has built. `verdict.py` computes all that the program has to print of a plan and captures, and `breaking.py`
+plants faults, one at a time, with the findings that each has to bring. With --all there are 10,000 runs, 300 faults of each kind,
+10,000 recordings with many changes and 100,000 damaged captures. The last line is 'N passed, M failed'.
+"""
+import itertools
+import os
+import random
+import re
+import subprocess
+import sys
+import tempfile
+import zlib
+from collections.abc import Callable, Iterable, Iterator
+from concurrent.futures import ProcessPoolExecutor
+from typing import NamedTuple
+
+HERE = os.path.dirname(os.path.abspath(__file__))
+ROOT = os.path.dirname(os.path.dirname(HERE))
+PROGRAM = f"{ROOT}/crates/afdx_bench/out/afdx_bench"
+sys.dont_write_bytecode = True
+sys.path[:0] = [f"{ROOT}/tests", HERE, f"{ROOT}/tests/run", f"{ROOT}/tests/explain"]
+import breaking  # noqa: E402
+import refusals  # noqa: E402
+import refusals_wanted  # noqa: E402
+import test_run  # noqa: E402
+import trying  # noqa: E402
+import verdict  # noqa: E402
+from captures import PLAIN, Packet, Reader, random_form, written  # noqa: E402
+from planting import text_of  # noqa: E402
+from recordings import MICRO, by_time, recorded  # noqa: E402
+from verdict import KINDS, Options  # noqa: E402
+
+
+class Counts(NamedTuple):
+    """How many tries there are: runs, faults of each kind, recordings with many faults, damaged captures."""
+
+    runs: int
+    planted: int
+    mixed: int
+    damaged: int
+
+
+FEW, ALL = Counts(300, 12, 300, 1_500), Counts(10_000, 300, 10_000, 100_000)
+Verdict = tuple[int, str, str]
+
+
+def run_judge(plan: str, captures: list[bytes], options: Options, is_piped: bool = False) -> Verdict:
+    """Runs the program on a plan and captures, in files of this process's own. Returns its status and what it prints."""
+    names = [f"{os.getpid()}-{kind}" for kind in ("plan", *range(len(captures)))]
+    for name, data in zip(names, (plan.encode(), *captures), strict=True):
+        with open(name, "wb") as file:
+            file.write(data)
+    how = {"input": captures[0]} if is_piped else {"stdin": subprocess.DEVNULL}
+    words = [PROGRAM, "judge", names[0], *(["/dev/stdin"] if is_piped else names[1:]), *options.words()]
+    done = subprocess.run(words, capture_output=True, check=False, timeout=60, **how)
+    return done.returncode, done.stdout.decode(), done.stderr.decode()
+
+
+def faults_of(
+    name: str, plan: str, captures: list[bytes], options: Options, wanted: list | None = None, is_piped: bool = False
+) -> list[str]:
+    """What is wrong with a verdict, beside the model's; and with the findings, if some are wanted: kind, rule, number of the
+    packet and network."""
+    status, out, found = verdict.judged(plan, captures, options, is_piped)
+    told, faults = run_judge(plan, captures, options, is_piped), []
+    if told != (status, out, ""):
+        pairs = itertools.zip_longest(told[1].splitlines(), out.splitlines())
+        line = next((f"\n    {is_}\nfor {to_be}" for is_, to_be in pairs if is_ != to_be), "")
+        faults.append(f"{name}, {options}: {told[0]}, {told[2]!r} for {status}{line}\nover the plan\n{plan[:900]}")
+    findings = [(it.kind, it.rule, it.packet, it.network) for it in found]
+    if wanted is not None and findings != wanted:
+        faults.append(f"{name}: {findings[:5]} for {wanted}")
+    return faults
+
+
+def tried(task: Callable[..., list[str]], cases: Iterable) -> list[str]:
+    """What is wrong in cases, which other processes try."""
+    with ProcessPoolExecutor(len(os.sched_getaffinity(0))) as pool:
+        return [fault for found in pool.map(task, cases, chunksize=8) for fault in found]
+
+
+def files_of(packets: list[Packet], rng: random.Random, plain: bool = False) -> list[bytes]:
+    """Packets as one capture or as two."""
+    if plain:
+        return [written(packets, PLAIN, rng)]
+    if rng.random() < 0.6:
+        return [written(packets, random_form(rng, 2), rng)]
+    return [written([it for it in packets if it.network == net], random_form(rng, 1), rng, net) for net in "AB"]
+
+
+def number_of(packets: list[Packet], packet: Packet, files: int) -> int:
+    """The number of a packet in its file."""
+    place = next(place for place, it in enumerate(packets) if it is packet)
+    return 1 + sum(files == 1 or it.network == packet.network for it in packets[:place])
+
+
+def clean_run(run: tuple[str, str, bytes]) -> list[str]:
+    """What is wrong with the verdict on a run's capture: nothing is found."""
+    name, plan, script = run
+    names = [f"{os.getpid()}-{kind}" for kind in ("run", "script", "capture")]
+    for path, data in zip(names, (plan.encode(), script), strict=False):
+        with open(path, "wb") as file:
+            file.write(data)
+    subprocess.run([PROGRAM, "run", *names[:2], "--capture", names[2]], capture_output=True, check=False, timeout=60)
+    with open(names[2], "rb") as file:
+        return faults_of(name, plan, [file.read()], Options(), [])
+
+
+def planted(case: tuple[int, int]) -> list[str]:
+    """What is wrong with the verdict on one fault of a kind, in a random recording."""
+    kind, seed = case
+    for turn in itertools.count():
+        rng = random.Random(f"{kind} {seed} {turn}")
+        try:
+            it = breaking.PLANTS[kind](breaking.Ground(rng, recorded(rng)))
+        except breaking.Unfit:
+            continue
+        captures = files_of(it.packets, rng)
+        wanted = [(kind, rule, number_of(it.packets, packet, len(captures)), packet.network) for kind, rule, packet in it.wanted]
+        return faults_of(f"{KINDS[kind]} {seed}", text_of(it.plan, rng), captures, Options(), wanted)
+    return []
+
+
+def late(seed: int) -> list[str]:
+    """What is wrong with the verdict on the end of a recording: nothing is found if the command knows that it began late."""
+    rng = random.Random(f"late {seed}")
+    recording = recorded(rng)
+    packets = recording.packets[rng.randrange(len(recording.packets) + 1) :]
+    return faults_of(f"late {seed}", text_of(recording.plan, rng), files_of(packets, rng), Options(late=True), [])
+
+
+def checked(seed: int) -> list[str]:
+    """What is wrong with the verdicts on frames with their check sequences: nothing is found if the command knows of them, and
+    else one finding. A wrong one is found."""
+    rng = random.Random(f"checked {seed}")
+    recording = recorded(rng)
+    packets = [it._replace(data=it.data + zlib.crc32(it.data).to_bytes(4, "little"), original=it.original + 4) for it in recording.packets]
+    plan, captures = text_of(recording.plan, rng), files_of(packets, rng)
+    first = [("Frame", "Recorded", 1, packets[0].network)] if packets else []
+    faults = faults_of(f"checked {seed}", plan, captures, Options(fcs=True), [])
+    faults += faults_of(f"unchecked {seed}", plan, captures, Options(), first)
+    at = rng.randrange(len(packets))
+    bad = packets[at]._replace(data=packets[at].data[:-1] + bytes([packets[at].data[-1] ^ 1]))
+    packets.insert(at, bad)
+    wanted = [("Frame", "CheckSequence", at + 1, bad.network)]
+    return faults + faults_of(f"wrong {seed}", plan, [written(packets, PLAIN, rng)], Options(fcs=True), wanted)
+
+
+def lost(seed: int) -> list[str]:
+    """What is wrong with the verdict on a recording that one network lost a frame of: it lacks a number, unless it was the last
+    one, and the other's frame has no twin."""
+    rng = random.Random(f"lost {seed}")
+    recording = recorded(rng)
+    gone = rng.choice(recording.packets)
+    packets = [it for it in recording.packets if it is not gone]
+    plan, captures = text_of(recording.plan, rng), files_of(packets, rng)
+    found = verdict.judged(plan, captures, Options())[2]
+    kinds = sorted(it.kind for it in found)
+    is_well = kinds in ([], ["Missing"], ["Number"], ["Missing", "Number"])
+    return faults_of(f"lost {seed}", plan, captures, Options()) + ([] if is_well else [f"lost {seed}: {kinds}"])
+
+
+def changed(packets: list[Packet], rng: random.Random) -> None:
+    """Changes packets in one way."""
+    at = rng.randrange(len(packets))
+    it, turn = packets[at], rng.randrange(9)
+    if turn == 0:
+        del packets[at]
+    elif turn == 1:
+        packets.insert(rng.randrange(len(packets)), it)
+    elif turn == 2:
+        other = rng.randrange(len(packets))
+        packets[at], packets[other] = packets[other], it
+    elif turn == 3:
+        packets[at] = it._replace(at=max(0, it.at + MICRO * rng.choice((-20_000, -999, -1, 1, 999, 20_000))))
+    elif turn == 4:
+        packets[at] = it._replace(network="B" if it.network == "A" else "A")
+    elif turn == 5:
+        packets[at] = it._replace(data=it.data[: rng.randrange(len(it.data) + 1)])
+    elif turn == 6 and it.data:
+        packets[at] = breaking.moved(it, it.data[:-1] + bytes([(it.data[-1] + rng.choice((1, 254))) % 256]))
+    elif it.data:
+        place = rng.choice((rng.randrange(len(it.data)), rng.randrange(min(len(it.data), 48))))
+        data = breaking.put(it.data, place, bytes([it.data[place] ^ 1 << rng.randrange(8)]))
+        packets[at] = breaking.moved(it, breaking.summed(data) if turn == 7 and len(data) > 34 else data)
+
+
+def mixed(seed: int) -> list[str]:
+    """What is wrong with the verdict on a recording with several changes, under random options."""
+    rng = random.Random(f"mixed {seed}")
+    recording = recorded(rng, rng.choice((3, 20, 60)))
+    packets = list(recording.packets)
+    for _ in range(rng.choice((1, 2, 5, 40))):
+        if packets:
+            changed(packets, rng)
+    packets = by_time(packets) if rng.random() < 0.5 else packets
+    jitter, skew = rng.choice((0, 0, 1, 999, 1_000_000)), rng.choice((10_000, 0, 1, 4_999, 1_000_000))
+    options = Options(jitter, skew, rng.random() < 0.3, rng.random() < 0.1)
+    captures = files_of(packets, rng)
+    is_piped = len(captures) == 1 and rng.random() < 0.2
+    return faults_of(f"mixed {seed}", text_of(recording.plan, rng), captures, options, is_piped=is_piped)
+
+
+def unmerged(seed: int) -> list[str]:
+    """What is wrong with the verdict on a capture that has the packets of one network after the other's: nothing is found."""
+    rng = random.Random(f"unmerged {seed}")
+    recording = recorded(rng)
+    packets = sorted(recording.packets, key=lambda it: it.network, reverse=rng.random() < 0.5)
+    return faults_of(f"unmerged {seed}", text_of(recording.plan, rng), [written(packets, random_form(rng, 2), rng)], Options(), [])
+
+
+def damaged(seed: int) -> list[str]:
+    """What is wrong with the verdict on a capture some of whose bytes are others, lacking or more."""
+    rng = random.Random(f"damaged {seed % 200}")
+    recording = recorded(rng, 12)
+    captures = files_of(recording.packets, rng)
+    rng = random.Random(f"damage {seed}")
+    place = rng.randrange(len(captures))
+    data = bytearray(captures[place])
+    for _ in range(rng.choice((1, 1, 2, 6))):
+        at, turn = rng.randrange(len(data) + 1) if rng.random() < 0.7 else rng.randrange(min(len(data), 100) + 1), rng.randrange(6)
+        if turn == 0:
+            del data[at : at + rng.choice((1, 4, 60))]
+        elif turn == 1:
+            data[at:at] = rng.randbytes(rng.choice((1, 4, 16)))
+        elif at < len(data):
+            data[at] = rng.choice((data[at] ^ 1 << rng.randrange(8), 0, 255, rng.randrange(256)))
+    captures[place] = bytes(data)
+    return faults_of(f"damaged {seed}", text_of(recording.plan, rng), captures, Options(late=rng.random() < 0.3))
+
+
+def prefix(case: tuple[str, bytes, int]) -> list[str]:
+    """What is wrong with the verdict on the first bytes of a capture."""
+    plan, data, size = case
+    return faults_of(f"{size} bytes", plan, [data[:size]], Options())
+
+
+def prefixes(polls: int) -> Iterator[tuple[str, bytes, int]]:
+    """Each prefix of a capture of each format."""
+    for seed, form in enumerate((PLAIN, PLAIN._replace(is_blocks=False, order=">"))):
+        rng = random.Random(seed)
+        recording = recorded(rng, polls)
+        packets = [it for it in recording.packets if form.is_blocks or it.network == "A"][: 2 * polls]
+        data = written(packets, form, rng)
+        yield from ((text_of(recording.plan, rng), data, size) for size in range(len(data) + 1))
+
+
+def guide() -> list[str]:
+    """What is wrong with the example of the guide: the run of `program.md` without the second frame of network B."""
+    starts = {"configuration": "version", "program": "send", "judge": "3 A"}
+    pages = {name: re.findall(r"(?ms)^```\n(.*?)^```", trying.text_of(f"docs/guide/{name}.md")) for name in starts}
+    plan, script, wanted = (next(it for it in pages[name] if it.startswith(start)) for name, start in starts.items())
+    files = {"guide.toml": plan, "guide.txt": script}
+    for name, text in files.items():
+        with open(name, "w", encoding="utf-8") as file:
+            file.write(text)
+    subprocess.run([PROGRAM, "run", *files, "--capture", "guide.pcapng"], capture_output=True, check=True)
+    with open("guide.pcapng", "rb") as file:
+        packets = Reader(file.read()).packets
+    del packets[3]
+    told = run_judge(plan, [written(packets, PLAIN, random.Random(0))], Options(skew=100))
+    return [] if told == (2, wanted, "") else [f"{told} for {wanted}"]
+
+
+def page(seed: int) -> list[str]:
+    """What is wrong with the page of a recording: its cells are those of the rows and of the line of findings."""
+    rng = random.Random(f"page {seed}")
+    recording = recorded(rng, 12)
+    names, packets = [f"{os.getpid()}-{kind}" for kind in ("page", "plan", "capture")], list(recording.packets)
+    changed(packets, rng)
+    plan, capture = text_of(recording.plan, rng), written(packets, PLAIN, rng)
+    for name, data in zip(names[1:], (plan.encode(), capture), strict=True):
+        with open(name, "wb") as file:
+            file.write(data)
+    done = subprocess.run([PROGRAM, "judge", *names[1:], "--html", names[0]], capture_output=True, check=False, timeout=60)
+    with open(names[0], encoding="utf-8") as file:
+        text = file.read()
+    out = verdict.judged(plan, [capture], Options())[1]
+    *_, rows = out.partition("lead-ns\n")
+    cells = [row.split() for row in rows.splitlines()]
+    both = {vl: lead for vl, _, *_, lead in cells if sum(row[0] == vl for row in cells) == 2}
+    gaps = re.findall(r"<span>link (\d+) ([AB])</span><svg.*?</svg><span>(\d+|-) ns</span>", text)
+    leads = re.findall(r"<span>link (\d+)</span><svg.*?</svg><span>(\d+|-) ns</span>", text)
+    told = re.findall(r'<p id="verdict">(.*)</p>', text)
+    is_well = gaps == [(row[0], row[1], row[6]) for row in cells] and dict(leads) == both
+    is_well = is_well and told == re.findall(r"(?m)^no findings$|^\d+ findings?: .*", out)
+    return [] if is_well and done.stdout.decode() == out else [f"page {seed}: {gaps} {leads} {told} for\n{out}"]
+
+
+def crowd() -> list[str]:
+    """What is wrong with a verdict of more findings than are printed."""
+    faults = []
+    for count in (1_000, 1_001, 2_500):
+        rng = random.Random(count)
+        recording = recorded(rng, 5)
+        bad = breaking.moved(recording.packets[0], bytes(60))
+        captures = files_of([*recording.packets, *[bad] * count], rng)
+        faults += faults_of(f"{count} findings", text_of(recording.plan, rng), captures, Options())
+    return faults
+
+
+def refused() -> list[str]:
+    """What is wrong with runs in each of which an allocation or a write fails, or standard output is closed."""
+    rng = random.Random(3)
+    recording = recorded(rng, 6)
+    plan, captures = text_of(recording.plan, rng), files_of(recording.packets, rng, True)
+    with open("judged.toml", "w", encoding="utf-8") as file:
+        file.write(plan)
+    with open("judged.pcapng", "wb") as file:
+        file.write(captures[0])
+    words, out = ["judge", "judged.toml", "judged.pcapng"], verdict.judged(plan, captures, Options())[1]
+    bench = refusals.Bench(os.getcwd())
+    cases = [refusals_wanted.command(words, out, many=many) for many in (1, 0)]
+    faults = [fault for case in cases for fault in refusals.tried_case(bench, PROGRAM, case)[0]]
+    return faults + refusals.tried_closed(bench, PROGRAM, words)[0] + refusals.tried_writes(bench, PROGRAM, words)[0]
+
+
+def main() -> int:
+    """Runs all tests."""
+    counts = ALL if sys.argv[1:] == ["--all"] else FEW
+    tries = trying.Tries()
+    with tempfile.TemporaryDirectory() as folder:
+        os.chdir(folder)
+        name = f"{counts.runs} random scripts over random plans: nothing is found"
+        tries.attempt(name, lambda: (tried(clean_run, test_run.random_runs(counts.runs)), ""))
+        for kind, word in enumerate(KINDS):
+            cases = [(kind, seed) for seed in range(counts.planted)]
+            tries.attempt(f"{counts.planted} times {word} alone", lambda cases=cases: (tried(planted, cases), ""))
+        for task in (late, checked, lost, unmerged, mixed):
+            tries.attempt(f"{task.__name__}, {counts.mixed} times", lambda task=task: (tried(task, range(counts.mixed)), ""))
+        tries.attempt("each prefix of a capture", lambda: (tried(prefix, prefixes(4 if counts is FEW else 60)), ""))
+        tries.attempt(f"{counts.damaged} damaged captures", lambda: (tried(damaged, range(counts.damaged)), ""))
+        tries.attempt("40 pages", lambda: (tried(page, range(40)), ""))
+        tries.attempt("the example of the guide", lambda: (guide(), ""))
+        tries.attempt("more findings than lines", lambda: (crowd(), ""))
+        tries.attempt("refused memory and writes", lambda: (refused(), ""))
+    return tries.end()
+
+
+if __name__ == "__main__":
+    sys.exit(main())
