@@ -1,5 +1,5 @@
 -- The analysis of a plan.
-use Rattle.std.specs.Prelude.{ℕ, ◌≡◌, ◌+◌, ◌*◌, List, map}
+use Rattle.std.specs.Prelude.{ℕ, ◌≡◌, ◌+◌, ◌*◌, List, map, filter}
 use Rattle.afdx_plan.specs.Config.{Plan}
 use Rattle.afdx_plan.specs.Plan.{jitter_of}
 use Rattle.afdx_plan.specs.declared.link_plan.LinkPlan.{LinkPlan}
@@ -10,7 +10,7 @@ use Rattle.plan_analysis.specs.declared.analysis.NetworkName.{NetworkName}
 use Rattle.plan_analysis.specs.declared.analysis.NetworkName.TheVariants.{A, B}
 use Rattle.plan_analysis.specs.declared.analysis.NetworkRow.{NetworkRow}
 use Rattle.plan_analysis.specs.declared.analysis.PortRow.{PortRow}
-use Rattle.plan_analysis.specs.Load.{window_bits, line_bits, bit_rate, share, is_over}
+use Rattle.plan_analysis.specs.Load.{window_bits, line_bits, bit_rate, share, is_over, carries}
 use Rattle.plan_analysis.specs.Wait.{link_of, port_pieces, worst_wait, sustained}
 
 -- the row of a link: its part of the jitter is 80 nanoseconds for each byte of its greatest frame on the wire
@@ -22,6 +22,10 @@ link_row link = record {
   jitter = 80 * (20 + link.lmax);
 }
 
+-- the jitter of the links that a network carries
+abbrev pub network_jitter : NetworkName → List LinkPlan → ℕ
+network_jitter name links = jitter_of (filter (λ (l : LinkPlan). carries name l.networks) links)
+
 -- the row of a network
 abbrev pub network_row : NetworkName → List LinkPlan → NetworkRow
 network_row name links = record {
@@ -29,6 +33,7 @@ network_row name links = record {
   load = bit_rate (line_bits name links);
   share = share (line_bits name links);
   exceeded = is_over (line_bits name links);
+  jitter = network_jitter name links;
 }
 
 -- the row of a port, if polls come at most `late` microseconds late

@@ -5,7 +5,9 @@ ghost use Rattle.afdx_plan.specs.Plan.{IsLink, IsPort};
 ghost use Rattle.plan_analysis.specs.Wait.{link_of as link_of_port};
 
 use crate::fragments::{message_wait, most_pieces, port_pieces, sustained, used_sub_vls};
-use crate::load::{bit_rate, is_over, network_bits, share, window_bits};
+use crate::load::{
+    bit_rate, is_over, link_jitter, network_bits, network_jitter, share, window_bits,
+};
 use afdx_plan::{Config, LinkPlan, PortId, PortPlan, VlId, jitter_ns};
 use std::alloc::{AllocError, Global};
 
@@ -82,7 +84,7 @@ pub(crate) fn link_row(plan: &LinkPlan) -> LinkRow
         plan: *plan,
         load: bit_rate(bits),
         share: share(bits),
-        jitter: 80 * (20 + plan.lmax.bytes() as u64),
+        jitter: link_jitter(plan),
     }
 }
 
@@ -103,6 +105,8 @@ pub struct NetworkRow {
     pub share: u64,
     // whether the load is more than 100 Mbit/s
     pub exceeded: bool,
+    // the jitter of its links, in nanoseconds
+    pub jitter: u64,
 }
 
 /// Analyzes network `name`, which carries those of `links` that the plan routes over it.
@@ -116,6 +120,7 @@ pub(crate) fn network_row(name: NetworkName, links: &[LinkPlan]) -> NetworkRow
         load: bit_rate(bits),
         share: share(bits),
         exceeded: is_over(bits),
+        jitter: network_jitter(name, links),
     }
 }
 

@@ -37,7 +37,7 @@ fn has_port(link: &LinkPlan, sub: u8, ports: &[PortPlan]) -> bool
 }
 
 /// The number of sub-VLs of a link that have a port.
-pub(crate) fn used_sub_vls(link: &LinkPlan, ports: &[PortPlan]) -> u64
+pub fn used_sub_vls(link: &LinkPlan, ports: &[PortPlan]) -> u64
     ensures value { result ≡ used_by_ports link.now ports.now }
     ensures most { result ≤ link.now.sub_vls }
 {

@@ -11,5 +11,6 @@ mod traffic;
 pub use analysis::{
     Analysis, JITTER_LIMIT, LATENESS_LIMIT, LinkRow, NetworkName, NetworkRow, PortRow, analyze,
 };
-pub use load::carries;
+pub use fragments::used_sub_vls;
+pub use load::{OWN_JITTER, carries};
 pub use traffic::{Sender, traffic_waits};

@@ -1,13 +1,20 @@
-//! The load on the wire.
+//! The load on the wire, and the jitter.
 ghost use Rattle.std.specs.Prelude.{◌≡◌, ◌+◌, ◌*◌, ◌≤◌, All, length};
 ghost use Rattle.afdx_plan.specs.Plan.{IsLink};
 ghost use Rattle.plan_analysis.specs.Load.{window_bits as bits_of_window, line_bits, bit_rate as rate_of_bits, share as share_of_bits, is_over as is_over_line, carries as is_on};
+ghost use Rattle.plan_analysis.specs.Analysis.{network_jitter as jitter_on};
 
 use crate::analysis::NetworkName;
 use afdx_plan::{LinkPlan, Networks};
 
 /// The bytes around each frame on the wire: preamble, start delimiter and gap.
 const AROUND: u64 = 20;
+
+/// The nanoseconds that a byte takes at 100 Mbit/s.
+const BYTE_NS: u64 = 80;
+
+/// The jitter of an end system without links, in nanoseconds.
+pub const OWN_JITTER: u64 = 40_000;
 
 /// The greatest BAG in milliseconds. Every BAG divides it.
 const WINDOW_MS: u64 = 128;
@@ -62,6 +69,28 @@ pub(crate) fn share(bits: u64) -> u64
     ensures { result ≡ share_of_bits bits }
 {
     (bits * 10_000).div_ceil(WINDOW_BITS)
+}
+
+/// The part of the jitter that a link adds, in nanoseconds.
+pub(crate) fn link_jitter(link: &LinkPlan) -> u64
+    ensures value { result ≡ 80 * (20 + link.now.lmax) }
+    ensures most { result ≤ 123040 }
+{
+    BYTE_NS * (AROUND + link.lmax.bytes() as u64)
+}
+
+/// The jitter of the links that a network carries, in nanoseconds.
+pub(crate) fn network_jitter(network: NetworkName, links: &[LinkPlan]) -> u64
+    requires { length links.now ≤ 64 }
+    ensures { result ≡ jitter_on network links.now }
+{
+    let mut jitter = OWN_JITTER;
+    for link in links {
+        if carries(network, link.networks) {
+            jitter += link_jitter(link);
+        }
+    }
+    jitter
 }
 
 /// Whether bits in 128 milliseconds exceed 100 Mbit/s.
