@@ -7,8 +7,10 @@
    of message k is k + 1 + i modulo 256, both counted from 0.
 
    In the first form each port has a thread that sends; the main thread polls by the monotonic clock and writes the frames
-   to two network interfaces, which needs the right to open raw sockets. An interface that doesn't take a frame has failed
-   and gets no other. Then the ports are given back, the remaining frames are transmitted, and the counts are printed.
+   to two network interfaces, which needs the right to open raw sockets. Between polls it sleeps until a link is due
+   (afdx_next_due), or until a port has sent, which an eventfd reports: no call of the library does. An interface that
+   doesn't take a frame has failed and gets no other. Then the ports are given back, the remaining frames are transmitted,
+   and the counts are printed.
 
    With --dump only standard output is written and no clock is read: polls are 1,000 microseconds apart, from 0 on, and
    before each of them the ports send, in their order, until there is no room. The frames are printed as `afdx_bench run`
@@ -20,11 +22,15 @@
 #include <inttypes.h>
 #include <linux/if_packet.h>
 #include <net/if.h>
+#include <poll.h>
 #include <pthread.h>
 #include <stdarg.h>
+#include <stdatomic.h>
+#include <stdbool.h>
 #include <stdio.h>
 #include <stdlib.h>
 #include <string.h>
+#include <sys/eventfd.h>
 #include <sys/socket.h>
 #include <time.h>
 #include <unistd.h>
@@ -32,7 +38,7 @@
 /* The most ports of a configuration, the most bytes of a message and of a configuration's text. */
 enum { MOST_PORTS = 128, GREATEST_MESSAGE = 8192, GREATEST_TEXT = 1 << 20 };
 
-/* The time between polls of a dump, and the least of the other form, in microseconds. */
+/* The time between polls of a dump, and how long a sender waits for room, in microseconds. */
 enum { DUMP_STEP = 1000, PAUSE = 100 };
 
 /* The longest run of the other form, in microseconds. */
@@ -45,6 +51,8 @@ struct sender {
     uint32_t messages, sent;
     size_t bytes;
     uint8_t refused; /* the answer that ended its sending, or 0 */
+    int wake;        /* the eventfd that is written once messages were accepted, and at the end */
+    atomic_bool ended;
     pthread_t thread;
 };
 
@@ -83,9 +91,24 @@ static int send_some(struct sender *sender) {
     return 0;
 }
 
+/* Wakes the thread that polls. */
+static void wake_up(int wake) {
+    const uint64_t one = 1;
+    /* (it only fails if the thread has been woken 2^64 - 2 times and hasn't slept since) */
+    if (write(wake, &one, sizeof one) != (ssize_t)sizeof one) perror("eventfd");
+}
+
 /* The thread of a port. */
-static void *send_all(void *sender) {
-    while (send_some(sender)) usleep(PAUSE);
+static void *send_all(void *port) {
+    struct sender *sender = port;
+    uint32_t sent = 0;
+    while (send_some(sender)) {
+        if (sender->sent > sent) wake_up(sender->wake);
+        sent = sender->sent;
+        usleep(PAUSE);
+    }
+    atomic_store(&sender->ended, true);
+    wake_up(sender->wake);
     return NULL;
 }
 
@@ -141,16 +164,27 @@ static int gather(afdx_end_system *end_system, struct sender *senders, size_t co
     return 0;
 }
 
+/* Sleeps until a link is due, until a port has sent or its thread has ended, or until the longest run is over. */
+static void sleep_until_due(afdx_end_system *end_system, int wake, uint64_t begun) {
+    uint64_t until = AFDX_NEVER, now = clock_micros() - begun, count = 0;
+    if (afdx_next_due(end_system, &until) != 0 || until > PATIENCE) until = PATIENCE + 1;
+    uint64_t left = until > now ? until - now : 0;
+    struct timespec time = {.tv_sec = (time_t)(left / 1000000), .tv_nsec = (long)(left % 1000000 * 1000)};
+    struct pollfd sent = {.fd = wake, .events = POLLIN};
+    if (ppoll(&sent, 1, &time, NULL) > 0 && read(wake, &count, sizeof count) < 0) perror("eventfd");
+}
+
 /* Polls until all that was accepted is sent. */
-static int drain(afdx_end_system *end_system, struct network networks[2], uint64_t now, uint64_t begun) {
+static int drain(afdx_end_system *end_system, struct network networks[2], uint64_t now, uint64_t begun, int wake) {
     uint8_t done = 0;
-    for (;;) {
+    for (bool is_polled = false;; is_polled = true) {
         if (afdx_is_done(end_system, &done) != 0) return complain("it doesn't drain\n");
         if (done) return 0;
         if (begun == UINT64_MAX) {
             now += DUMP_STEP;
         } else {
-            usleep(PAUSE);
+            /* (a message may have come since the last poll: afdx_next_due doesn't speak of links that are due) */
+            if (is_polled) sleep_until_due(end_system, wake, begun);
             now = clock_micros() - begun;
             if (now > PATIENCE) return complain("not all was sent in time\n");
         }
@@ -169,23 +203,22 @@ static int dump(afdx_end_system *end_system, struct sender *senders, size_t coun
         now += DUMP_STEP;
     }
     if (gather(end_system, senders, count) != 0) return -1;
-    return drain(end_system, networks, now, UINT64_MAX);
+    return drain(end_system, networks, now, UINT64_MAX, -1);
 }
 
-/* Joins the threads in order, up to the first that still runs. Returns whether all are joined. */
+/* Joins the threads in order, up to the first that still sends. Returns whether all are joined. */
 static int join_sent(struct sender *senders, size_t *joined, size_t count) {
-    while (*joined < count) {
-        if (pthread_tryjoin_np(senders[*joined].thread, NULL) != 0) return 0;
-        ++*joined;
-    }
-    return 1;
+    while (*joined < count && atomic_load(&senders[*joined].ended)) pthread_join(senders[(*joined)++].thread, NULL);
+    return *joined == count;
 }
 
 /* The ports send in threads of their own; this one polls by the clock. */
 static int run(afdx_end_system *end_system, struct sender *senders, size_t count, struct network networks[2]) {
     uint64_t begun = clock_micros(), now = 0;
     size_t started = 0, joined = 0;
-    int failed = 0;
+    int failed = 0, wake = eventfd(0, EFD_NONBLOCK | EFD_CLOEXEC);
+    if (wake < 0) return complain("eventfd: %s\n", strerror(errno));
+    for (size_t k = 0; k < count; k++) senders[k].wake = wake;
     while (started < count && pthread_create(&senders[started].thread, NULL, send_all, &senders[started]) == 0) started++;
     if (started < count) failed = complain("a thread can't be started\n");
     while (!join_sent(senders, &joined, started)) {
@@ -193,10 +226,12 @@ static int run(afdx_end_system *end_system, struct sender *senders, size_t count
         if (!failed && now > PATIENCE) failed = complain("not all was accepted in time\n");
         /* (the threads of an end system that is no longer polled would try on) */
         if (failed || poll_once(end_system, networks, now) != 0) exit(1);
-        usleep(PAUSE);
+        sleep_until_due(end_system, wake, begun);
     }
-    if (failed || gather(end_system, senders, count) != 0) return -1;
-    return drain(end_system, networks, clock_micros() - begun, begun);
+    if (!failed && gather(end_system, senders, count) != 0) failed = -1;
+    if (!failed) failed = drain(end_system, networks, clock_micros() - begun, begun, wake);
+    close(wake);
+    return failed;
 }
 
 /* The text of a file. */
