@@ -42,25 +42,29 @@ AreApart apart (first ∷ times) = All (λ (t : ℕ). first + apart ≤ t) times
 -- Messages were accepted in this order, none before the start, and those of a port with a period at least that apart.
 pub record KeepPeriods (senders : List Sender) (start : ℕ) (arrivals : List Arrival) : Type 0 where
   pub ordered : AreApart 0 (start ∷ times_in arrivals)
-  pub apart : All (λ (s : Sender). IfSome s.period (λ p. AreApart p (times_in (filter (is_from s.port) arrivals)))) senders
+  pub apart : All (λ (s : Sender). IfSome s.period (λ p. AreApart p (times_in (filter (is_from s.port) arrivals))))
+      senders
 
 -- The number of fragments of the messages that a sub-VL accepted before a time: those before the start, and these.
 abbrev pub accepted_by : Plan → ℕ → List Sent → List Arrival → ℕ → ℕ
-accepted_by plan k before arrivals now = length (fragments_of plan k (before ++ messages_in (filter (is_before now) arrivals)))
+accepted_by plan k before arrivals now =
+    length (fragments_of plan k (before ++ messages_in (filter (is_before now) arrivals)))
 
--- Polls of an emitter, each of which finds the messages that were accepted before it until they are sent, or of a drain of
--- the accepted messages. `count` has the number of fragments of the messages accepted before each time.
+-- Polls of an emitter, each of which finds the messages that were accepted before it until they are sent, or of a drain
+-- of the accepted messages. `count` has the number of fragments of the messages accepted before each time.
 abbrev pub AreFindingAll : Plan → Accepted → (k s : ℕ) → (count : ℕ → ℕ) → List ℕ → (lines after : Lines) → Type 0
 AreFindingAll plan accepted k s count =
     ArePolls (λ now lines after. FindsIt plan k s (count now) now lines after ⊎ IsDrained now plan accepted lines after)
 
 -- A message is wholly released within the wait by traffic of its port, from its acceptance on. At the start of the run
--- its sub-VL had sent all that it had accepted. Since then its ports keep their periods, the polls come when its link is
--- due, find the accepted messages, and continue until the wait is over. A network that carries the link is up after them.
+-- its sub-VL had sent all that it had accepted. Since then its ports keep their periods, the polls come when its link
+-- is due, find the accepted messages, and continue until the wait is over. A network that carries the link is up after
+-- them.
 abbrev pub TrafficInRun : Type 0
 TrafficInRun = (plan : Plan) (senders : List Sender) (accepted : Accepted) (moments : List ℕ) (lines after : Lines)
-    (k s late start wait : ℕ) (before : List Sent) (earlier : List Arrival) (own : Arrival) (later : List Sent) (sender : Sender)
-    → IsPlan plan → AreSendersOf plan senders → sender.port ≡ own.sent.port → IsWaitOf late plan senders sender (Some wait)
+    (k s late start wait : ℕ) (before : List Sent) (earlier : List Arrival) (own : Arrival) (later : List Sent)
+    (sender : Sender) → IsPlan plan → AreSendersOf plan senders → sender.port ≡ own.sent.port
+    → IsWaitOf late plan senders sender (Some wait)
     → IsAccepted plan accepted k s (before ++ messages_in earlier) own.sent later
     → IsLater (latest None (stream_at plan k lines)) start
     → seen_of s (stream_at plan k lines) ≡ fragments_of plan k before
@@ -69,5 +73,5 @@ TrafficInRun = (plan : Plan) (senders : List Sender) (accepted : Accepted) (mome
     → IsPrefixOf (seen_of s (stream_at plan k after)) (fragments_of plan k (accepted k s))
     → any_up (link_plan_at plan.links k).networks after ≡ true
     → AreTimely (bag_micros (link_plan_at plan.links k).bag) late (own.at + wait) start moments
-    → AreReleasedBy plan k s ((before ++ messages_in earlier) ++ own.sent ∷ []) (stream_at plan k lines) (stream_at plan k after)
-    (own.at + wait)
+    → AreReleasedBy plan k s ((before ++ messages_in earlier) ++ own.sent ∷ []) (stream_at plan k lines)
+    (stream_at plan k after) (own.at + wait)

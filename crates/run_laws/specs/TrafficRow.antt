@@ -24,21 +24,23 @@ sender_of period = record { port = short_port 1; period = Some period }
 
 -- the ports of the link of three sub-VLs, of which that of sub-VL 1 keeps a period
 abbrev pub three_senders : List Sender
-three_senders = record { port = demo_port; period = None } ∷ sender_of 9000 ∷ record { port = short_port 2; period = None } ∷ []
+three_senders = record { port = demo_port; period = None } ∷ sender_of 9000
+    ∷ record { port = short_port 2; period = None } ∷ []
 
 -- the one message of the run, at its start
 abbrev pub third_arrival : List Arrival
 third_arrival = accepted_at 3000 (short_sent 1) ∷ []
 
--- The run of `WaitsItsTurn`: sub-VL 1 has sent its first message at 3,000, and accepts another then. Its wait by traffic
--- is 9,000, one round of three sub-VLs, and the message is released at exactly 12,000.
+-- The run of `WaitsItsTurn`: sub-VL 1 has sent its first message at 3,000, and accepts another then. Its wait by
+-- traffic is 9,000, one round of three sub-VLs, and the message is released at exactly 12,000.
 pub record TakesItsWait : Type 0 where
   pub senders : AreSendersOf three_plan three_senders
   pub wait : IsWaitOf 2000 three_plan three_senders (sender_of 9000) (Some 9000)
   pub run : WaitsItsTurn
   pub quiet : seen_of 1 (stream_at three_plan 0 (line_after 2)) ≡ fragments_of three_plan 0 (short_sent 1 ∷ [])
   pub keep : KeepPeriods three_senders 3000 third_arrival
-  pub finding : ArePolls (λ now lines after. FindsIt three_plan 0 1 (accepted_by three_plan 0 (short_sent 1 ∷ []) third_arrival now) now lines after)
+  pub finding : ArePolls (λ now lines after.
+      FindsIt three_plan 0 1 (accepted_by three_plan 0 (short_sent 1 ∷ []) third_arrival now) now lines after)
       (6000 ∷ 9000 ∷ 12000 ∷ []) (line_after 2) (line_after 5)
 
 -- The link of one sub-VL, whose port sends messages of one byte, and keeps a period of 1,000 microseconds.
@@ -65,25 +67,28 @@ byte_arrivals times = map (λ (at : ℕ). accepted_at at (short_sent 0)) times
 abbrev pub Unless : (failing premise : ℕ) → Type 0 → Type 0
 Unless failing premise P = Holds (not (nat_eq failing premise)) P
 
--- The law for the message accepted at `at`, with no lateness. The sub-VL accepted `many` messages in all, `before` of them
--- before the start, and others at the times `earlier`. A poll follows at `now`. The premise of number `failing` fails,
--- each other one holds, and the conclusion fails.
-pub record ArrivalCase (failing : ℕ) (senders : List Sender) (wait many before start : ℕ) (earlier : List ℕ) (at now : ℕ)
-    (lines after : Lines) : Type 0 where
+-- The law for the message accepted at `at`, with no lateness. The sub-VL accepted `many` messages in all, `before` of
+-- them before the start, and others at the times `earlier`. A poll follows at `now`. The premise of number `failing`
+-- fails, each other one holds, and the conclusion fails.
+pub record ArrivalCase (failing : ℕ) (senders : List Sender) (wait many before start : ℕ) (earlier : List ℕ)
+    (at now : ℕ) (lines after : Lines) : Type 0 where
   pub senders_are : Unless failing 0 (AreSendersOf byte_plan senders)
   pub wait_is : Unless failing 1 (IsWaitOf 0 byte_plan senders byte_sender (Some wait))
   pub accepted : Unless failing 2 (IsAccepted byte_plan (bytes_accepted many) 0 0
       (replicate before (short_sent 0) ++ messages_in (byte_arrivals earlier)) (short_sent 0) [])
   pub starts : Unless failing 3 (IsLater (latest None (stream_at byte_plan 0 lines)) start)
-  pub quiet : Unless failing 4 (seen_of 0 (stream_at byte_plan 0 lines) ≡ fragments_of byte_plan 0 (replicate before (short_sent 0)))
+  pub quiet : Unless failing 4 (seen_of 0 (stream_at byte_plan 0 lines)
+      ≡ fragments_of byte_plan 0 (replicate before (short_sent 0)))
   pub keep : Unless failing 5 (KeepPeriods senders start (byte_arrivals earlier ++ accepted_at at (short_sent 0) ∷ []))
   pub finding : Unless failing 6 (AreFindingAll byte_plan (bytes_accepted many) 0 0
-      (accepted_by byte_plan 0 (replicate before (short_sent 0)) (byte_arrivals earlier ++ accepted_at at (short_sent 0) ∷ []))
-      (now ∷ []) lines after)
-  pub begins : Unless failing 7 (IsPrefixOf (seen_of 0 (stream_at byte_plan 0 after)) (fragments_of byte_plan 0 (bytes_accepted many 0 0)))
+      (accepted_by byte_plan 0 (replicate before (short_sent 0))
+      (byte_arrivals earlier ++ accepted_at at (short_sent 0) ∷ [])) (now ∷ []) lines after)
+  pub begins : Unless failing 7 (IsPrefixOf (seen_of 0 (stream_at byte_plan 0 after))
+      (fragments_of byte_plan 0 (bytes_accepted many 0 0)))
   pub is_up : Unless failing 8 (any_up (link_plan_at byte_plan.links 0).networks after ≡ true)
   pub timely : Unless failing 9 (AreTimely 1000 0 (at + wait) start (now ∷ []))
-  pub missed : AreReleasedBy byte_plan 0 0 ((replicate before (short_sent 0) ++ messages_in (byte_arrivals earlier)) ++ short_sent 0 ∷ [])
+  pub missed : AreReleasedBy byte_plan 0 0
+      ((replicate before (short_sent 0) ++ messages_in (byte_arrivals earlier)) ++ short_sent 0 ∷ [])
       (stream_at byte_plan 0 lines) (stream_at byte_plan 0 after) (at + wait) → ⊥
 
 -- Each of these premises is needed.
