@@ -279,7 +279,7 @@ static void check_explain(void) {
 static size_t formula(size_t links, size_t sub_vls, size_t capacity, size_t each) {
     size_t ports = links * sub_vls * each;
     return 199593 + 280 * links + 24 * (links < 4 ? 4 : links) + 176 * ports + 32 * (ports < 4 ? 4 : ports)
-        + links * sub_vls * (360 + 48 * capacity);
+        + links * sub_vls * (272 + 48 * capacity);
 }
 
 /* What is held beyond that for a moment while an end system is opened. */

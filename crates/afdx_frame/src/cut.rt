@@ -5,7 +5,7 @@ ghost use Rattle.afdx_frame.specs.Frame.{frame_of, greatest_message, greatest_da
 ghost use Rattle.afdx_frame.specs.Header.{IsFrameOf};
 ghost use Rattle.afdx_frame.specs.Fragments.{blanked, fragments_at, fragments_left};
 ghost use Rattle.afdx_frame.specs.declared.net.Net.{Net as Network};
-ghost use Rattle.afdx_frame.specs.Cutting.{Cutting, IsCut, cutting, pieces_from, pieces_left, piece_at, SameMessage, TakesFirst, released, uncut, written};
+ghost use Rattle.afdx_frame.specs.Cutting.{cut_of, cutting, pieces_from, pieces_left, piece_at, SameMessage, TakesFirst, whole, written};
 
 use crate::buffer::FrameBuffer;
 use crate::net::{Frame, Net};
@@ -13,35 +13,50 @@ use crate::piece::Piece;
 use crate::template::Template;
 use crate::write::write_frame;
 use afdx_plan::{LinkPlan, PortPlan};
+use std::alloc::Global;
 use std::marker::Model;
 
-/// A message of a port at a place of its sub-VL, given frame by frame. The datagram's bytes before
-/// `start` were given. No call allocates, and the message's list doesn't grow.
+/// A message at a place of its sub-VL, given frame by frame by the template of its port, which is
+/// lent at each call. The datagram's bytes before `start` were given. No call allocates, and the
+/// message's list doesn't grow.
 #[derive(Drop)]
-pub struct Cut {
+pub struct Rest {
     bytes: Vec<u8>,
     place: u64,
-    template: Template,
     start: usize,
     // The length of the datagram.
     end: usize,
 }
 
-impl Model for Cut {
+impl Model for Rest {
     ghost use Rattle.std.specs.Prelude.{◌≡◌, ◌+◌, length, vec_capacity};
-    ghost use Rattle.afdx_frame.specs.Cutting.{Cutting, IsCut};
+    ghost use Rattle.afdx_frame.specs.Cutting.{Remains, IsCut};
+
+    ghost Value = { Remains };
+
+    ghost view = { λ r. record {
+      place = r.place;
+      bytes = r.bytes.items;
+      capacity = vec_capacity r.bytes;
+      start = r.start;
+    } };
+
+    ghost invariant = { λ r. IsCut r.bytes.items r.start × (r.end ≡ 8 + length r.bytes.items) };
+}
+
+/// A message of a port at a place of its sub-VL, given frame by frame.
+#[derive(Drop)]
+pub struct Cut {
+    template: Template,
+    rest: Rest,
+}
+
+impl Model for Cut {
+    ghost use Rattle.afdx_frame.specs.Cutting.{Cutting, cut_of};
 
     ghost Value = { Cutting };
 
-    ghost view = { λ c. record {
-      port = c.template;
-      place = c.place;
-      bytes = c.bytes.items;
-      capacity = vec_capacity c.bytes;
-      start = c.start;
-    } };
-
-    ghost invariant = { λ c. IsCut c.bytes.items c.start × (c.end ≡ 8 + length c.bytes.items) };
+    ghost view = { λ c. cut_of c.template c.rest };
 }
 
 /// The next piece, if there is one. If the rest doesn't fit into the room, the piece is the
@@ -72,6 +87,124 @@ fn next_piece(room: usize, len: usize, start: usize) -> Option<Piece>
     }
 }
 
+impl Rest {
+    /// A message of 1 to 8,192 bytes, of which nothing was given. `place` counts the accepted
+    /// messages of the sub-VL from 0.
+    pub fn new(bytes: Vec<u8>, place: u64) -> Rest
+        requires some { 1 ≤ vec_len bytes }
+        requires most { vec_len bytes ≤ greatest_message }
+        ensures { result ≡ whole place bytes.items (vec_capacity bytes) }
+    {
+        let end = 8 + bytes.len();
+        Rest {
+            bytes,
+            place,
+            start: 0,
+            end,
+        }
+    }
+
+    /// No message: all pieces were given.
+    #[tactic(auto, using(crate::proofs::CuttingLemmas::left_none))]
+    pub fn none(alloc: Global) -> Rest
+        ensures free { result.capacity ≡ 0 }
+        ensures none { (port : _) (room : ℕ) → pieces_left room (cut_of port result) ≡ [] }
+    {
+        Rest {
+            bytes: Vec::new(alloc),
+            place: 0,
+            start: 8,
+            end: 8,
+        }
+    }
+
+    /// Another message in place of this one, as `new`.
+    #[inline(always)]
+    pub fn restart(&mut self, bytes: Vec<u8>, place: u64)
+        requires some { 1 ≤ vec_len bytes }
+        requires most { vec_len bytes ≤ greatest_message }
+        ensures { self.new ≡ whole place bytes.items (vec_capacity bytes) }
+    {
+        self.end = 8 + bytes.len();
+        self.bytes = bytes;
+        self.place = place;
+        self.start = 0;
+    }
+
+    /// Frees the message's memory, once all pieces were given. None is left afterwards.
+    #[tactic(auto, using(crate::proofs::CuttingLemmas::left_none))]
+    #[inline(always)]
+    pub fn release(&mut self)
+        requires done { (port : _) (room : ℕ) → pieces_left room (cut_of port self.old) ≡ [] }
+        ensures free { self.new.capacity ≡ 0 }
+        ensures none { (port : _) (room : ℕ) → pieces_left room (cut_of port self.new) ≡ [] }
+    {
+        let alloc = *self.bytes.allocator();
+        self.bytes = Vec::new(alloc);
+        self.start = 8;
+        self.end = 8;
+    }
+
+    /// Whether all pieces were given.
+    #[tactic(auto, using(crate::proofs::CuttingLemmas::left_none, crate::proofs::CuttingLemmas::left_only))]
+    #[inline(always)]
+    pub fn is_done(&self) -> bool
+        ensures { (port : _) (room : ℕ) →
+            IsTrue result ↔ (pieces_left room (cut_of port self.now) ≡ []) }
+    {
+        self.start == self.end
+    }
+
+    /// Writes the frame of the next piece, with this sequence number, for this network, into the
+    /// caller's buffer, which it overwrites. Returns whether a piece was left; if none was, the
+    /// buffer and the message are unchanged.
+    #[inline(always)]
+    pub fn write_next(
+        &mut self,
+        template: &Template,
+        link: &LinkPlan,
+        end_system: u16,
+        number: u8,
+        net: Net,
+        out: &mut FrameBuffer,
+    ) -> bool
+        requires { SendsOver template.now link.now }
+        ensures frame { TakesFirst
+            (λ piece frame. frame.items ≡ frame_of
+            end_system template.now self.old.bytes self.old.place piece net number)
+            (pieces_left (room_of link.now.lmax) (cut_of template.now self.old))
+            (written result out.new)
+            (pieces_left (room_of link.now.lmax) (cut_of template.now self.new)) }
+        ensures same { SameMessage (cut_of template.now self.old) (cut_of template.now self.new) }
+        ensures memory { self.new.capacity ≡ self.old.capacity }
+        ensures fragments { MatchOption (written result out.new)
+            (fragments_left end_system (room_of link.now.lmax) net (cut_of template.now self.old) ≡ [])
+            (λ frame. fragments_left end_system (room_of link.now.lmax) net (cut_of template.now self.old)
+            ≡ blanked frame.items
+            ∷ fragments_left end_system (room_of link.now.lmax) net (cut_of template.now self.new)) }
+        ensures header { result ≡ true →
+            IsFrameOf template.now.vl.0 template.now.sub number net out.new.items }
+        ensures none { result ≡ false → out.new ≡ out.old }
+    {
+        let room = link.lmax.room() as usize;
+        let Some(piece) = next_piece(room, self.end, self.start) else {
+            return false;
+        };
+        write_frame(
+            out,
+            end_system,
+            template,
+            &self.bytes,
+            self.place,
+            piece,
+            net,
+            number,
+        );
+        self.start += piece.len;
+        true
+    }
+}
+
 impl Cut {
     /// Begins to cut a message of 1 to 8,192 bytes. `place` counts the accepted messages of the
     /// sub-VL from 0.
@@ -90,64 +223,21 @@ impl Cut {
             ≡ fragments_at end_system room net place
             (record { port = port.now; bytes = bytes.items }) }
     {
-        Cut::from_template(bytes, place, &Template::new(port))
-    }
-
-    /// As `new`, for the port of a template.
-    pub fn from_template(bytes: Vec<u8>, place: u64, template: &Template) -> Cut
-        requires some { 1 ≤ vec_len bytes }
-        requires most { vec_len bytes ≤ greatest_message }
-        ensures { result ≡ uncut template.now place bytes.items (vec_capacity bytes) }
-    {
-        let end = 8 + bytes.len();
         Cut {
-            bytes,
-            place,
-            template: *template,
-            start: 0,
-            end,
+            template: Template::new(port),
+            rest: Rest::new(bytes, place),
         }
     }
 
-    /// Begins to cut another message, as `from_template`, in place of this one.
-    #[inline(always)]
-    pub fn restart(&mut self, bytes: Vec<u8>, place: u64, template: &Template)
-        requires some { 1 ≤ vec_len bytes }
-        requires most { vec_len bytes ≤ greatest_message }
-        ensures { self.new ≡ uncut template.now place bytes.items (vec_capacity bytes) }
-    {
-        self.end = 8 + bytes.len();
-        self.bytes = bytes;
-        self.place = place;
-        self.template = *template;
-        self.start = 0;
-    }
-
     /// Whether all pieces were given.
-    #[tactic(auto, using(crate::proofs::CuttingLemmas::left_none, crate::proofs::CuttingLemmas::left_only))]
     pub fn is_done(&self) -> bool
         ensures { (room : ℕ) → IsTrue result ↔ (pieces_left room self.now ≡ []) }
     {
-        self.start == self.end
-    }
-
-    /// Frees the message's memory, once all pieces were given. None is left afterwards.
-    #[tactic(auto, using(crate::proofs::CuttingLemmas::left_none))]
-    #[inline(always)]
-    pub fn release(&mut self)
-        requires done { (room : ℕ) → pieces_left room self.old ≡ [] }
-        ensures free { self.new ≡ released self.old }
-        ensures none { (room : ℕ) → pieces_left room self.new ≡ [] }
-    {
-        let alloc = *self.bytes.allocator();
-        self.bytes = Vec::new(alloc);
-        self.start = 8;
-        self.end = 8;
+        self.rest.is_done()
     }
 
     /// Returns the frame of the next piece, with this sequence number, for this network. Returns
     /// `None`, and changes nothing, exactly if all pieces were given.
-    #[inline(always)]
     pub fn next_frame(
         &mut self,
         link: &LinkPlan,
@@ -171,56 +261,12 @@ impl Cut {
             ∷ fragments_left end_system (room_of link.now.lmax) net self.new) }
     {
         let mut frame = FrameBuffer::new();
-        if !self.write_next(link, end_system, number, net, &mut frame) {
+        if !self
+            .rest
+            .write_next(&self.template, link, end_system, number, net, &mut frame)
+        {
             return None;
         }
         Some(frame.to_frame())
-    }
-
-    /// As `next_frame`, into the caller's buffer, which it overwrites. Returns whether a piece was
-    /// left; if none was, the buffer and the message are unchanged.
-    #[inline(always)]
-    pub fn write_next(
-        &mut self,
-        link: &LinkPlan,
-        end_system: u16,
-        number: u8,
-        net: Net,
-        out: &mut FrameBuffer,
-    ) -> bool
-        requires { SendsOver self.old.port link.now }
-        ensures frame { TakesFirst
-            (λ piece frame. frame.items ≡ frame_of
-            end_system self.old.port self.old.bytes self.old.place piece net number)
-            (pieces_left (room_of link.now.lmax) self.old)
-            (written result out.new)
-            (pieces_left (room_of link.now.lmax) self.new) }
-        ensures same { SameMessage self.old self.new }
-        ensures memory { self.new.capacity ≡ self.old.capacity }
-        ensures fragments { MatchOption (written result out.new)
-            (fragments_left end_system (room_of link.now.lmax) net self.old ≡ [])
-            (λ frame. fragments_left end_system (room_of link.now.lmax) net self.old
-            ≡ blanked frame.items
-            ∷ fragments_left end_system (room_of link.now.lmax) net self.new) }
-        ensures header { result ≡ true →
-            IsFrameOf self.old.port.vl.0 self.old.port.sub number net out.new.items }
-        ensures none { result ≡ false → out.new ≡ out.old }
-    {
-        let room = link.lmax.room() as usize;
-        let Some(piece) = next_piece(room, self.end, self.start) else {
-            return false;
-        };
-        write_frame(
-            out,
-            end_system,
-            &self.template,
-            &self.bytes,
-            self.place,
-            piece,
-            net,
-            number,
-        );
-        self.start += piece.len;
-        true
     }
 }

@@ -4,8 +4,8 @@ ghost use Rattle.afdx_plan.specs.Plan.{IsPort, SendsOver};
 
 use crate::testing::*;
 use afdx_frame::{
-    Cut, Frame, FrameBuffer, Net, Template, ident_of, more_of, offset_of, sn_of, sub_of, twin,
-    vl_of,
+    Cut, Frame, FrameBuffer, Net, Rest, Template, ident_of, more_of, offset_of, sn_of, sub_of,
+    twin, vl_of,
 };
 use afdx_plan::{Bag, Kind, LinkPlan, Lmax, Networks, PortId, PortPlan, UdpSum, VlId};
 
@@ -81,11 +81,16 @@ fn only_frame(rt: &impl Host, port: &PortPlan, net: Net) -> Frame
     requires sub { port.now.sub ≡ 0 }
 {
     let bytes = [1u8].to_vec(rt.alloc()).expect(rt, "memory");
-    let mut cut = Cut::from_template(bytes, 0, &Template::new(port));
+    let (template, link) = (Template::new(port), link(Lmax::new(1518), 1));
+    let mut rest = Rest::new(bytes, 0);
     let mut frame = FrameBuffer::new();
-    let was_done = cut.is_done();
-    let was_left = cut.write_next(&link(Lmax::new(1518), 1), 1, 0, net, &mut frame);
-    assert_same(rt, [was_done, was_left, cut.is_done()], [false, true, true]);
+    let was_done = rest.is_done();
+    let was_left = rest.write_next(&template, &link, 1, 0, net, &mut frame);
+    assert_same(
+        rt,
+        [was_done, was_left, rest.is_done()],
+        [false, true, true],
+    );
     frame.to_frame()
 }
 

@@ -11,7 +11,7 @@ use crate::queues::{gather_told, send_told, take_told};
 use crate::quiet::tell_fields;
 use crate::shelf::{Shelf, empty_shelf, tell_shelves};
 use crate::trouble::*;
-use afdx_frame::{Cut, Frame, FrameBuffer, Net, twin};
+use afdx_frame::{Cut, Frame, Net, twin};
 use afdx_plan::laws::flows_apart;
 use afdx_plan::{Bag, Config, Networks, PortId, VlId, jitter_ns};
 use redundant_mux::{MemNetwork, Mux};
@@ -130,7 +130,7 @@ fn use_cut(out: &mut Out<'_>, config: &Config, message: Letter) -> Ended {
     let (port, link) = first_flow(config)?;
     let Letter { bytes } = message;
     let mut cut = Cut::new(bytes, 0, &port);
-    let _is_written = cut.write_next(&link, 1, 0, Net::A, &mut FrameBuffer::new());
+    let _first = cut.next_frame(&link, 1, 0, Net::A);
     let second = cut.next_frame(&link, 1, 1, Net::A).unwrap_or_default();
     out.line(format_args!("all given: {}", cut.is_done()));
     tell_fields(out, second.as_slice());

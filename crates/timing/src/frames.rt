@@ -5,7 +5,7 @@ ghost use Rattle.redundant_mux.specs.Lines.{entries_of};
 
 use crate::trouble::{Ended, Global, Trouble};
 use crate::{Letter, Load, Watch, message, plan};
-use afdx_frame::{Cut, FrameBuffer, Net, Template};
+use afdx_frame::{FrameBuffer, Net, Rest, Template};
 use afdx_plan::{LinkPlan, Networks};
 use redundant_mux::{HandFault, Mux, Network, Trail};
 use script_text::{FrameLog, write_streams};
@@ -62,16 +62,17 @@ impl Network for Touch {
 
 /// Sends each frame of a message to both networks.
 #[tactic(auto, using(afdx_frame::proofs::Twins::twin_same))]
-fn send_cut<N: Network + Drop>(
+fn send_rest<N: Network + Drop>(
     mux: &mut Mux<N, N>,
     frame: &mut Box<FrameBuffer>,
+    port: &Template,
     link: &LinkPlan,
-    cut: &mut Cut,
+    rest: &mut Rest,
 )
-    requires { SendsOver cut.old.port link.now }
+    requires { SendsOver port.now link.now }
 {
     for number in 0..FRAMES {
-        if !cut.write_next(link, 1, number, Net::A, frame) {
+        if !rest.write_next(port, link, 1, number, Net::A, frame) {
             return;
         }
         let _standing = mux.hand_with(0, frame, Networks::Both);
@@ -94,8 +95,8 @@ fn send_all<N: Network + Drop>(
             return;
         };
         let Letter { bytes } = message;
-        let mut cut = Cut::from_template(bytes, 0, port);
-        send_cut(mux, frame, link, &mut cut);
+        let mut rest = Rest::new(bytes, 0);
+        send_rest(mux, frame, port, link, &mut rest);
     }
 }
 

@@ -1,6 +1,9 @@
 -- A queue after a poll, the fragments left, and the invariant of its sub-VL.
-use Rattle.vl_link.proofs.Names.{ℕ, ◌≡◌, List, [], ◌∷◌, ◌++◌, Some, arith, sym, subst, append_assoc, length-append, get_or_append_left, All-push, Seen, receiving, gathered, taken_of, known_of, ports_of, queue_of, total_of, FindsNothing, Finds, IsSameQueue, ◌+◌, ◌%◌, Option, PortPlan, Cutting, SubVl, IsSub, IsCutOf, ◌≢◌, ◌<◌, length, map, refl, Bool, true, not, room_of, A, cutting, pieces_from, pieces_left, Sent, cutting_some, TellsCutting, left_of, message_fragments, fragments_at, unnumbered}
+use Rattle.vl_link.proofs.Names.{ℕ, ◌≡◌, List, [], ◌∷◌, ◌++◌, arith, sym, subst, append_assoc, length-append, get_or_append_left, All-push, Seen, receiving, gathered, taken_of, known_of, ports_of, queue_of, total_of, FindsNothing, Finds, IsSameQueue, ◌+◌, SubVl, PortPlan, ◌≢◌, ◌<◌, length, map, refl, Bool, true, room_of, A, cutting, pieces_from, pieces_left, Sent, cutting_some, left_of, message_fragments, fragments_at, unnumbered}
+use Rattle.afdx_plan.specs.Config.{port_plan_at}
+use Rattle.afdx_frame.specs.Cutting.{Remains, cut_of}
 use Rattle.subvl_queue.specs.Messages.{IsItem, AreItems}
+use Rattle.vl_link.specs.Kept.{cut_among}
 
 -- A poll that found a message took it.
 pub taken_finds : (old : Seen) (message : ℕ × List ℕ) (new : Seen) → Finds old message new
@@ -42,27 +45,20 @@ same_name old new e = grind arith
 pub same_total : (old new : Seen) → IsSameQueue old new → total_of new ≡ total_of old
 same_total old new e = grind arith
 
--- A message was found and is cut: the next place is one higher.
-pub kept_finds : (of : SubVl) (ports : List PortPlan) (sending : Option Cutting) (cut : Cutting) (old new : Seen) (place : ℕ)
-    (message : ℕ × List ℕ) → IsSub of ports sending old place → Finds old message new → IsCutOf of cut
-    → IsSub of ports (Some cut) new ((place + 1) % 16384)
-kept_finds of ports sending cut old new place message h finds own = grind (arith, same_ports, same_finds, length-append)
-
--- Another message is being sent.
-pub kept_cut : (of : SubVl) (ports : List PortPlan) (sending : Option Cutting) (cut : Cutting) (seen : Seen) (place : ℕ)
-    → IsSub of ports sending seen place → IsCutOf of cut → IsSub of ports (Some cut) seen place
-kept_cut of ports sending cut seen place h own = grind arith
-
 -- Only an empty list has an empty image.
 map_nil : {X Y : Type 0} (f : X → Y) (xs : List X) → map f xs ≡ [] → xs ≡ []
 map_nil f [] e = refl
 map_nil f (x ∷ xs) e = cc
 
--- A cut is done exactly if none of its fragments is left.
-pub done_tells : (of : SubVl) (cut : Cutting) (done : Bool)
-    → ((room : ℕ) → (done ≡ true → pieces_left room cut ≡ []) × (pieces_left room cut ≡ [] → done ≡ true))
-    → TellsCutting (not done) (left_of of (Some cut))
-done_tells of cut done h = grind (arith, map_nil)
+-- All is given exactly if no fragment is left.
+pub done_tells : (of : SubVl) (ports : List PortPlan) (port : ℕ) (rest : Remains) (done : Bool)
+    → ((p : PortPlan) (room : ℕ) → (done ≡ true → pieces_left room (cut_of p rest) ≡ [])
+    × (pieces_left room (cut_of p rest) ≡ [] → done ≡ true))
+    → (done ≡ true → left_of of (cut_among ports port rest) ≡ [])
+    × (left_of of (cut_among ports port rest) ≡ [] → done ≡ true)
+done_tells of ports port rest done h =
+    let here = h (port_plan_at ports port) (room_of of.link.lmax) in
+    grind (arith, map_nil)
 
 -- Each message has a fragment.
 pub fragments_some : (of : SubVl) (place : ℕ) (sent : Sent) → message_fragments of place sent ≢ []

@@ -1,5 +1,5 @@
 -- The invariants of a sub-VL and of a link, and the choices that the link's stream shows.
-use Rattle.std.specs.Prelude.{ℕ, Bool, true, false, nat_eq, if◌then◌else◌, Option, Some, List, [], ◌∷◌, ◌≡◌, ◌<◌, ◌++◌, None, ◌≤◌, ◌%◌, length, All, IfSome}
+use Rattle.std.specs.Prelude.{ℕ, Bool, true, false, nat_eq, if◌then◌else◌, Option, Some, List, [], ◌∷◌, ◌≡◌, ◌<◌, ◌++◌, None, ◌≤◌, ◌%◌, length, All}
 use Rattle.afdx_frame.specs.Header.{sub_in}
 use Rattle.redundant_mux.specs.Lines.{Entry, log}
 use Rattle.vl_shaper.specs.Pace.{Choice, IsChosen, turn_of}
@@ -10,8 +10,9 @@ use Rattle.afdx_frame.specs.declared.net.Net.TheVariants.{A}
 use Rattle.afdx_frame.specs.Fragments.{fragments}
 use Rattle.afdx_legal.specs.Counting.{counts_in}
 use Rattle.vl_link.specs.Links.{Held, LinkState, held_at, taken_by, sub_fragments, pace_of, left_of}
+use Rattle.afdx_plan.specs.Config.{port_plan_at}
 use Rattle.afdx_plan.specs.declared.port_plan.PortPlan.{PortPlan}
-use Rattle.afdx_frame.specs.Cutting.{Cutting}
+use Rattle.afdx_frame.specs.Cutting.{Cutting, Remains, cut_of}
 use Rattle.vl_link.specs.declared.sub.SubVl.{SubVl}
 use Rattle.vl_link.specs.declared.queue.Queue.{Queue}
 use Rattle.vl_link.specs.declared.queue.Queue.TheVariants.{Receiving, Gathered, Empty}
@@ -92,18 +93,21 @@ pub record IsPortOf (owner : SubVl) (sender : PortPlan) : Type 0 where
   pub over : SendsOver sender owner.link
   pub of_sub : sender.sub ≡ owner.sub
 
--- The message being sent is of this sub-VL. With its last fragment its memory was freed.
-pub record IsCutOf (owner : SubVl) (cut : Cutting) : Type 0 where
-  pub over : SendsOver cut.port owner.link
-  pub of_sub : cut.port.sub ≡ owner.sub
-  pub free : left_of owner (Some cut) ≡ [] → cut.capacity ≡ 0
+-- what remains of a message of one of these ports
+abbrev pub cut_among : List PortPlan → ℕ → Remains → Cutting
+cut_among ports port rest = cut_of (port_plan_at ports port) rest
+
+-- What remains of the message being sent is of one of the ports. With the last fragment its memory was freed.
+pub record IsRestOf (owner : SubVl) (ports : List PortPlan) (port : ℕ) (rest : Remains) : Type 0 where
+  pub within : (left_of owner (cut_among ports port rest) ≡ [] → ⊥) → port < length ports
+  pub free : left_of owner (cut_among ports port rest) ≡ [] → rest.capacity ≡ 0
 
 -- The ports are of this sub-VL, and the queue has no more senders than ports. The place of the next
 -- message is the number of messages taken modulo 16,384.
-pub record IsSub (owner : SubVl) (ports : List PortPlan) (sending : Option Cutting)
+pub record IsSub (owner : SubVl) (ports : List PortPlan) (port : ℕ) (rest : Remains)
     (seen : Seen) (next : ℕ) : Type 0 where
   pub link : IsLink owner.link
   pub senders : All (IsPortOf owner) ports
   pub count : ports_of seen ≤ length ports
-  pub sending_is : IfSome sending (IsCutOf owner)
+  pub rest_is : IsRestOf owner ports port rest
   pub place : next ≡ length (taken_of seen) % 16384

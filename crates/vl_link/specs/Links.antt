@@ -1,5 +1,5 @@
 -- A link of an emitter, and the effect of one turn.
-use Rattle.std.specs.Prelude.{ℕ, ◌≡◌, ◌⊎◌, ◌<◌, List, [], ◌∷◌, Bool, true, false, length, map, get_or, Option, Some, None}
+use Rattle.std.specs.Prelude.{ℕ, ◌≡◌, ◌⊎◌, ◌<◌, List, [], ◌∷◌, Bool, true, false, length, map, get_or, None}
 use Rattle.afdx_plan.specs.Config.{link_plan_at, port_plan_at}
 use Rattle.afdx_plan.specs.Plan.{bag_micros, sequence_number, room_of}
 use Rattle.afdx_plan.specs.declared.link_plan.LinkPlan.{LinkPlan}
@@ -48,15 +48,9 @@ sent_by ports items = map (sent_of ports) items
 abbrev pub taken_by : Held → List Sent
 taken_by held = sent_by held.ports (taken_of held.seen)
 
--- the fragments that are left of a cut message, if there is one
-abbrev pub left_of : SubVl → Option Cutting → List (List ℕ)
-left_of of None = []
-left_of of (Some cut) = fragments_left of.end_system (room_of of.link.lmax) A cut
-
--- whether a fragment is left
-abbrev pub TellsCutting : Bool → List (List ℕ) → Type 0
-TellsCutting true left = left ≡ [] → ⊥
-TellsCutting false left = left ≡ []
+-- the fragments that are left of a cut message
+abbrev pub left_of : SubVl → Cutting → List (List ℕ)
+left_of of cut = fragments_left of.end_system (room_of of.link.lmax) A cut
 
 -- a message is being sent, and nothing changes
 pub record GoesOn (old new : Held) : Type 0 where

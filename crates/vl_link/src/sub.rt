@@ -1,15 +1,12 @@
 //! A sub-VL: its queue, and the message being sent.
-ghost use Rattle.std.specs.Prelude.{◌≡◌, ◌≢◌, ◌≤◌, [], ◌∷◌, length, All, Some, IfOk, IfErr, vec_len, vec_capacity};
+ghost use Rattle.std.specs.Prelude.{◌≡◌, ◌≢◌, ◌≤◌, [], ◌∷◌, length, All, Some, IfOk, IfErr};
 ghost use Rattle.afdx_plan.specs.Plan.{IsLink};
 ghost use Rattle.afdx_frame.specs.declared.net.Net.TheVariants.{A as ForA};
-ghost use Rattle.afdx_frame.specs.Cutting.{uncut};
 ghost use Rattle.afdx_frame.specs.Fragments.{blanked};
 ghost use Rattle.afdx_frame.specs.Header.{IsFrameOf};
-ghost use Rattle.afdx_frame.specs.Frame.{greatest_message};
-ghost use Rattle.vl_link.specs.Links.{left_of, TellsCutting};
 
 use crate::queue::Queue;
-use afdx_frame::{Cut, FrameBuffer, Net, Template};
+use afdx_frame::{FrameBuffer, Net, Rest, Template};
 use afdx_plan::LinkPlan;
 use std::alloc::AllocError;
 use std::boxed::BoxedSlice;
@@ -20,30 +17,33 @@ use subvl_queue::{Item, Receiver, Sender};
 /// A sub-VL. Contracts see its ports, the fragments left of the message being sent, and its queue.
 #[derive(Drop)]
 pub struct Sub {
-    of: SubVl,
-    // In the order of the configuration. A message's port is an index into them.
-    ports: BoxedSlice<Template>,
-    sending: Option<Cut>,
+    // What a turn reads is side by side.
     queue: Queue,
+    // What is left of the message being sent, and the index of its port.
+    rest: Rest,
+    port: u8,
     // The place of the next message, modulo 16,384.
     place: u16,
+    // In the order of the configuration. A message's port is an index into them.
+    ports: BoxedSlice<Template>,
+    of: SubVl,
 }
 
 impl Model for Sub {
     ghost use Rattle.std.specs.Box.{boxed_slice_items};
     ghost use Rattle.vl_link.specs.Links.{Held, left_of};
-    ghost use Rattle.vl_link.specs.Kept.{IsSub, seen_of};
+    ghost use Rattle.vl_link.specs.Kept.{IsSub, cut_among, seen_of};
 
     ghost Value = { Held };
 
     ghost view = { λ s. record {
       of = s.of;
       ports = boxed_slice_items s.ports;
-      left = left_of s.of s.sending;
+      left = left_of s.of (cut_among (boxed_slice_items s.ports) s.port s.rest);
       seen = seen_of s.queue;
     } };
 
-    ghost invariant = { λ s. IsSub s.of (boxed_slice_items s.ports) s.sending (seen_of s.queue) s.place };
+    ghost invariant = { λ s. IsSub s.of (boxed_slice_items s.ports) s.port s.rest (seen_of s.queue) s.place };
 }
 
 impl Sub {
@@ -68,12 +68,14 @@ impl Sub {
           seen = receiving receiver;
         } }
     {
+        let rest = Rest::none(*ports.allocator());
         Sub {
-            of,
-            ports: ports.into_boxed_slice(),
-            sending: None,
             queue: Queue::Receiving(receiver),
+            rest,
+            port: 0,
             place: 0,
+            ports: ports.into_boxed_slice(),
+            of,
         }
     }
 
@@ -82,15 +84,15 @@ impl Sub {
     pub fn ready(&mut self) -> bool
         ensures { Asks result self.old self.new }
     {
-        if is_cutting(&self.sending) {
+        if !self.rest.is_done() {
             return true;
         }
         match self.queue.take() {
             None => false,
             Some(item) => {
                 let Item { port, bytes } = item;
-                let sender = &self.ports[usize::from(port)];
-                start(&mut self.sending, bytes, u64::from(self.place), sender);
+                self.rest.restart(bytes, u64::from(self.place));
+                self.port = port;
                 self.place = (self.place + 1) % 16384;
                 true
             }
@@ -101,7 +103,7 @@ impl Sub {
     pub fn is_done(&self) -> bool
         ensures { TellsSubDone result self.now }
     {
-        !is_cutting(&self.sending) && self.queue.is_drained()
+        self.rest.is_done() && self.queue.is_drained()
     }
 
     /// Writes the next frame, for network A and with this sequence number, into the caller's
@@ -112,17 +114,15 @@ impl Sub {
         ensures frame { IsFrameOf self.old.of.link.id.0 self.old.of.sub number ForA out.new.items }
         ensures same { self.new ≡ record self.old { left = self.new.left } }
     {
-        let of = &self.of;
-        match &mut self.sending {
-            None => unreachable!(),
-            Some(cut) => {
-                if !cut.write_next(&of.link, of.end_system, number, Net::A, out) {
-                    unreachable!()
-                }
-                if cut.is_done() {
-                    cut.release();
-                }
-            }
+        let (template, of) = (&self.ports[usize::from(self.port)], &self.of);
+        if !self
+            .rest
+            .write_next(template, &of.link, of.end_system, number, Net::A, out)
+        {
+            unreachable!()
+        }
+        if self.rest.is_done() {
+            self.rest.release();
         }
     }
 
@@ -172,41 +172,6 @@ impl Sub {
             unreachable!()
         };
         self.queue = Queue::Gathered(receiver.into_gathered());
-    }
-}
-
-/// Begins to send a message of the port of a template, in place of one that was sent.
-#[inline(always)]
-fn start(sending: &mut Option<Cut>, bytes: Vec<u8>, place: u64, port: &Template)
-    requires some { 1 ≤ vec_len bytes }
-    requires most { vec_len bytes ≤ greatest_message }
-    ensures { sending.new ≡ Some (uncut port.now place bytes.items (vec_capacity bytes)) }
-{
-    match sending {
-        Some(cut) => cut.restart(bytes, place, port),
-        None => start_first(sending, bytes, place, port),
-    }
-}
-
-/// As `start`, for the first message. Not inlined, so that others need no room for a new cut.
-#[cold]
-#[inline(never)]
-fn start_first(sending: &mut Option<Cut>, bytes: Vec<u8>, place: u64, port: &Template)
-    requires some { 1 ≤ vec_len bytes }
-    requires most { vec_len bytes ≤ greatest_message }
-    ensures { sending.new ≡ Some (uncut port.now place bytes.items (vec_capacity bytes)) }
-{
-    *sending = Some(Cut::from_template(bytes, place, port));
-}
-
-/// Whether a message is being sent.
-#[tactic(auto, using(crate::proofs::QueueLooks::done_tells))]
-fn is_cutting(sending: &Option<Cut>) -> bool
-    ensures { (of : _) → TellsCutting result (left_of of sending.now) }
-{
-    match sending {
-        None => false,
-        Some(cut) => !cut.is_done(),
     }
 }
 

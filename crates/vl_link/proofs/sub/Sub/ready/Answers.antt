@@ -1,50 +1,53 @@
-use Rattle.vl_link.proofs.Names.{ℕ, ◌≡◌, ◌∙◌, ◌%◌, ◌<◌, ap, sym, arith, [], Bool, false, Option, length, get_or_read, room_of, Cutting, A, fragments_again, SubVl, taken_of, TellsCutting, left_of, message_fragments, sent_of, IsPortOf, seen_of}
+use Rattle.vl_link.proofs.Names.{ℕ, ◌≡◌, ◌≢◌, ◌∙◌, [], ap, sym, arith, length, length-append, room_of, A, Sent, fragments_again, taken_of, left_of, message_fragments, sent_of, seen_of}
 use Rattle.afdx_frame.proofs.Twins.{cut_whole}
-use Rattle.vl_link.proofs.QueueLooks.{fragments_some, kept_finds}
+use Rattle.afdx_frame.specs.Cutting.{Remains}
+use Rattle.vl_link.specs.Kept.{cut_among}
+use Rattle.vl_link.proofs.QueueLooks.{done_tells, fragments_some, same_finds, same_ports}
 use Rattle.vl_link.proofs.sub.Sub.ready.Goals as goal
 
--- The message's port is one of the sub-VL's.
-has_port : (c : goal.After-self-1) → c.from.result < length c.self.inside.ports.items.items
-has_port c = grind arith
+-- the found message
+abbrev sent : goal.After-self-in-Some-1 → Sent
+sent c = sent_of c.self.inside.ports.items.items (c.item.inside.port, c.item.inside.bytes.items)
 
--- The message is sent from a port of this sub-VL.
-own : (c : goal.After-self-1) → IsPortOf c.self.inside.of c.index-sender.result.now
-own c = grind arith
+found_is : (c : goal.After-self-in-Some-1) → sent c ≡ sent_of c.self.inside.ports.items.items c.in-Some.item
+found_is c = grind arith
 
--- The cut message is the found one.
-cut_is : (c : goal.After-self-1)
-    → record { port = c.index-sender.result.now; bytes = c.item.inside.bytes.items } ≡ sent_of c.self.inside.ports.items.items c.in-Some.item
-cut_is c = grind (arith, get_or_read)
+-- The fragments left are those of the found message, at the kept place.
+all_left : (c : goal.After-self-in-Some-1) → left_of c.self.inside.of
+    (cut_among c.self.inside.ports.items.items c.item.inside.port c.restart.new.self)
+    ≡ message_fragments c.self.inside.of c.from.result (sent c)
+all_left c =
+    let of = c.self.inside.of in
+    ap (λ (rest : Remains). left_of of (cut_among c.self.inside.ports.items.items c.item.inside.port rest)) c.restart.ensures
+    ∙ cut_whole of.end_system (room_of of.link.lmax) A _ _ (sent c)
 
--- No message was being sent.
-is_whole : (of : SubVl) (sending : Option Cutting) (cutting : Bool)
-    → cutting ≡ false → TellsCutting cutting (left_of of sending) → left_of of sending ≡ []
-is_whole of sending cutting idle tells = rw idle at tells
+-- There is one.
+some_left : (c : goal.After-self-in-Some-1) → left_of c.self.inside.of
+    (cut_among c.self.inside.ports.items.items c.item.inside.port c.restart.new.self) ≢ []
+some_left c none = fragments_some c.self.inside.of _ (sent c) (sym (all_left c) ∙ none)
+
+pub returns-then-not-is_done : goal.returns-then-not-is_done
+returns-then-not-is_done c =
+    let tells = done_tells c.self.inside.of c.self.inside.ports.items.items c.self.inside.port _ c.is_done.result c.is_done.ensures in
+    grind arith
 
 pub returns-in-Some : goal.returns-in-Some
 returns-in-Some c =
     let of = c.self.inside.of in
-    let left = ap (left_of of) c.start.ensures
-    ∙ cut_whole of.end_system (room_of of.link.lmax) A _ _ (record { port = c.index-sender.result.now; bytes = c.item.inside.bytes.items })
-    ∙ ap (λ (place : ℕ). message_fragments c.self.inside.of place
-    (record { port = c.index-sender.result.now; bytes = c.item.inside.bytes.items })) (grind arith)
-    ∙ ap (message_fragments c.self.inside.of (length (taken_of (seen_of c.self.inside.queue)) % 16384)) (cut_is c)
-    ∙ fragments_again of.end_system (room_of of.link.lmax) A (length (taken_of (seen_of c.self.inside.queue)))
-    (sent_of c.self.inside.ports.items.items c.in-Some.item) in
-    grind (arith, is_whole, fragments_some)
+    let tells = done_tells of c.self.inside.ports.items.items c.self.inside.port _ c.is_done.result c.is_done.ensures in
+    let left = all_left c
+    ∙ ap (λ (place : ℕ). message_fragments of place (sent c)) (grind arith)
+    ∙ fragments_again of.end_system (room_of of.link.lmax) A (length (taken_of (seen_of c.self.inside.queue))) (sent c)
+    ∙ ap (message_fragments of (length (taken_of (seen_of c.self.inside.queue)))) (found_is c) in
+    let some = some_left c in
+    grind arith
 
-pub invariant_of-self : goal.invariant_of-self
-invariant_of-self c = grind arith
+pub returns-in-None : goal.returns-in-None
+returns-in-None c =
+    let tells = done_tells c.self.inside.of c.self.inside.ports.items.items c.self.inside.port _ c.is_done.result c.is_done.ensures in
+    grind arith
 
 pub invariant_of-self-in-Some : goal.invariant_of-self-in-Some
 invariant_of-self-in-Some c =
-    rw c.start.ensures (kept_finds _ _ _ _ _ _ _ _ c.self.invariant c.in-Some.ensures.some
-    (record {
-      over = (own c).over;
-      of_sub = (own c).of_sub;
-      free = λ none. absurd (fragments_some c.self.inside.of _ (record { port = c.index-sender.result.now; bytes = c.item.inside.bytes.items })
-          (sym (cut_whole c.self.inside.of.end_system (room_of c.self.inside.of.link.lmax) A _ _ _) ∙ none));
-    }))
-
-pub returns-in-None : goal.returns-in-None
-returns-in-None c = grind arith
+    let some = some_left c in
+    grind (arith, same_ports, same_finds, length-append)

@@ -2,7 +2,7 @@ use Rattle.afdx_frame.proofs.Names.{◌+◌, ◌≤◌, length, arith, rules, Is
 use Rattle.afdx_frame.proofs.CuttingLemmas.{left_none, left_first}
 use Rattle.afdx_frame.proofs.Says.{header_says}
 use Rattle.afdx_frame.proofs.Twins.{step_fragments}
-use Rattle.afdx_frame.proofs.cut.Cut.write_next.Goals as goal
+use Rattle.afdx_frame.proofs.cut.Rest.write_next.Goals as goal
 
 pub returns-in_default-clause-frame : goal.returns-in_default-clause-frame
 returns-in_default-clause-frame c = grind (arith, left_none)
@@ -22,8 +22,8 @@ returns-clause-fragments c =
 pub returns-clause-header : goal.returns-clause-header
 returns-clause-header c =
     let within : c.in-Some.piece.start + c.in-Some.piece.len ≤ 8 + length c.deref.result.now = search (rules, arith) in
-    let says : IsFrameOf c.self.inside.template.vl.0 c.self.inside.template.sub c.args.number c.args.net c.write_frame.new.out.items =
+    let says : IsFrameOf c.args.template.now.vl.0 c.args.template.now.sub c.args.number c.args.net c.write_frame.new.out.items =
     rw c.write_frame.ensures.frame
-    (header_says c.args.end_system c.self.inside.template c.deref.result.now c.self.inside.place c.in-Some.piece
+    (header_says c.args.end_system c.args.template.now c.deref.result.now c.self.inside.place c.in-Some.piece
     c.args.net c.args.number c.write_frame.ensures.port within) in
     grind arith
