@@ -206,9 +206,9 @@ def too_long(ground: Ground) -> Planted:
 
 
 def miscounted(ground: Ground) -> Planted:
-    """Sequence numbers that go on with another one than the next."""
+    """Sequence numbers that go on with another one than the next, which no frame had of late."""
     vl, k = ground.choose(lambda vl, k: True)
-    more = ground.rng.randint(1, 254)
+    more = ground.rng.randint(1, 200)
     for later in range(k, len(ground.events[vl])):
         number = (later + more - 1) % 255 + 1
         ground.rewrite(vl, later, lambda data, number=number: data[:-1] + bytes([number]))
