@@ -8,3 +8,4 @@ pub mod Lines
 pub mod Rules
 pub mod Twins
 pub mod Waiting
+pub mod Worked

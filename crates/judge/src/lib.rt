@@ -6,6 +6,7 @@ mod fields;
 mod finding;
 mod joining;
 mod judge;
+pub mod laws;
 mod layout;
 mod line;
 mod link;

@@ -1,0 +1,7 @@
+//! Laws of the definitions. Their functions do nothing: the contract is the law.
+ghost use Rattle.judge.specs.Worked.{ChecksDigits};
+
+/// The check sequence of the digits 1 to 9, which tables of such codes list.
+pub fn checks_digits()
+    ensures worked { ChecksDigits }
+{}
