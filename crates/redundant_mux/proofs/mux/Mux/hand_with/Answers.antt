@@ -1,5 +1,7 @@
 use Rattle.std.proofs.Common.{arith, ap}
-use Rattle.redundant_mux.specs.Lines.{entry, lines_of, IsMirrored}
+use Rattle.afdx_plan.specs.Plan.{carries_a, carries_b}
+use Rattle.afdx_frame.specs.declared.net.Net.TheVariants.{B}
+use Rattle.redundant_mux.specs.Lines.{Handing, entry, lines_of, side, IsMirrored}
 use Rattle.redundant_mux.proofs.MirroredLines.{handed_on}
 use Rattle.redundant_mux.proofs.mux.Mux.hand_with.Given
 use Rattle.redundant_mux.proofs.mux.Mux.hand_with.Goals as goal
@@ -10,10 +12,14 @@ left : (g : Given.Over) (c : goal.After-result-1 g)
     (g.A.Network.failures c.hand_to.new.network) (g.B.Network.failures c.hand_with.new.network)
     c.hand_to.new.stands c.hand_with.new.stands c.note.new.trail.logged)
 left g c =
-    let for_a = ap (entry c.args.at) c.requires in
-    let a = rw (c.carries_a-named_a.ensures, c.as_slice-bytes.ensures.value, c.deref.ensures) at c.hand_to.ensures.handing in
-    let b = rw (c.carries_b-named_b.ensures, c.turn.ensures, c.deref_mut.ensures.value) at c.hand_with.ensures.handing in
-    handed_on _ _ c.args.networks (entry c.args.at c.args.frame.now.value.items) c.self.invariant.mirrored for_a a b
+    let handed = entry c.args.at c.args.frame.now.value.items in
+    let a : Handing (carries_a c.args.networks) handed c.self.inside.standing.a c.hand_to.new.stands
+    (g.A.Network.handed c.self.inside.a) (g.A.Network.handed c.hand_to.new.network)
+    (g.A.Network.failures c.self.inside.a) (g.A.Network.failures c.hand_to.new.network) = grind arith in
+    let b : Handing (carries_b c.args.networks) (side B handed) c.self.inside.standing.b c.hand_with.new.stands
+    (g.B.Network.handed c.self.inside.b) (g.B.Network.handed c.hand_with.new.network)
+    (g.B.Network.failures c.self.inside.b) (g.B.Network.failures c.hand_with.new.network) = grind arith in
+    handed_on _ _ c.args.networks handed c.self.invariant.mirrored (ap (entry c.args.at) c.requires) a b
     (grind arith) (grind arith)
 
 pub invariant_of-self : goal.invariant_of-self
