@@ -284,8 +284,8 @@ def page(seed: int) -> list[str]:
     *_, rows = out.partition("lead-ns\n")
     cells = [row.split() for row in rows.splitlines()]
     both = {vl: lead for vl, _, *_, lead in cells if sum(row[0] == vl for row in cells) == 2}
-    gaps = re.findall(r"<span>link (\d+) ([AB])</span><svg.*?</svg><span>(\d+|-) ns</span>", text)
-    leads = re.findall(r"<span>link (\d+)</span><svg.*?</svg><span>(\d+|-) ns</span>", text)
+    gaps = re.findall(r'<tr><td>(\d+)</td><td>([AB])</td><td>(\d+|-) ns</td><td class="bar"><svg.*?</svg></td></tr>', text)
+    leads = re.findall(r'<tr><td>(\d+)</td><td>(\d+|-) ns</td><td class="bar"><svg.*?</svg></td></tr>', text)
     told = re.findall(r'<p id="verdict">(.*)</p>', text)
     is_well = gaps == [(row[0], row[1], row[6]) for row in cells] and dict(leads) == both
     is_well = is_well and told == re.findall(r"(?m)^no findings$|^\d+ findings?: .*", out)

@@ -36,8 +36,10 @@ def wanted(plan: Plan, lateness: int) -> Tables:
             + [str(80 * (link["lmax"] + 20))]
         )
     for name, kinds in carried.items():
-        bits = sum((load[link["id"]] for link in plan["vl"] if link.get("networks", "both") in kinds), Fraction())
-        tables["networks"].append([name, decimal(up(bits), 3), decimal(up(bits / 10_000), 2), "yes" if bits > 10**8 else "no"])
+        links_on = [link for link in plan["vl"] if link.get("networks", "both") in kinds]
+        bits = sum((load[link["id"]] for link in links_on), Fraction())
+        exceeded, jitter = "yes" if bits > 10**8 else "no", str(jitter_of({"vl": links_on}))
+        tables["networks"].append([name, decimal(up(bits), 3), decimal(up(bits / 10_000), 2), exceeded, jitter])
     for port in plan["port"]:
         link = links[port["vl"]]
         own = pieces(link, port["max"])

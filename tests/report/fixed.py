@@ -61,9 +61,9 @@ end system 1, polls up to 0 us late
  link bag-ms lmax subs  nets    load-kbit/s  share-%  jitter-ns
     1      1 1518    1   A+B      12304.000    12.31     123040
 jitter 163040 ns of 500000
-network    load-kbit/s  share-%  exceeded
-      A      12304.000    12.31        no
-      B      12304.000    12.31        no
+network    load-kbit/s  share-%  exceeded  jitter-ns
+      A      12304.000    12.31        no     163040
+      B      12304.000    12.31        no     163040
  port  link sub fragments        wait-us   messages/s
    10     1   0         6          17000      166.666
 """,
@@ -74,9 +74,9 @@ end system 1, polls up to 250 us late
     1      2  200    4   A+B        880.000     0.88      17600
     2    128   65    1     B          5.313     0.01       6800
 jitter 64400 ns of 500000
-network    load-kbit/s  share-%  exceeded
-      A        880.000     0.88        no
-      B        885.313     0.89        no
+network    load-kbit/s  share-%  exceeded  jitter-ns
+      A        880.000     0.88        no      57600
+      B        885.313     0.89        no      64400
  port  link sub fragments        wait-us   messages/s
    10     1   0         1          94500      500.000
    11     1   0         7         121500       71.428

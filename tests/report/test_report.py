@@ -1,6 +1,6 @@
 #!/usr/bin/env python3
-"""Tests `afdx_bench report`: its text against numbers that are computed here from the plan, its page against its text,
-number by number, and its bars against its rows (`picture.py`), its waits against runs of the end system, and its ends when
+"""Tests `afdx_bench report`: its text and its CSV file against numbers that are computed here from the plan, its page
+against a model of each number, bar, mark and line (`picture.py`), its waits against runs of the end system, and its ends when
 an allocation or a write fails. And what `afdx_bench check` prints of the same plans. `fixed.py` has plans with fixed texts.
 The last line is 'N passed, M failed'.
 
@@ -9,10 +9,10 @@ The last line is 'N passed, M failed'.
 PLANS small plans, 500 by default, are run as scripts, in each of which one message meets the worst that the others can
 send. It is released at exactly its printed wait. In many plans some sub-VLs have no port.
 """
-import html.parser
 import csv
 import os
 import random
+import re
 import subprocess
 import sys
 import tempfile
@@ -30,52 +30,24 @@ import refusals  # noqa: E402
 import refusals_wanted  # noqa: E402
 import traffic  # noqa: E402
 from expected import Plan, Tables, check_of, jitter_of, pieces, wanted  # noqa: E402
-from trying import DEMO  # noqa: E402
-
-class Page(html.parser.HTMLParser):
-    """The tables of a page, and the texts with a name."""
-
-    def __init__(self, text: str) -> None:
-        super().__init__()
-        self.tables: Tables = {}
-        self.named: dict[str, str] = {}
-        self.rows: list[list[str]] | None = None
-        self.name: str | None = None
-        self.elsewhere: list[str] = []
-        self.feed(text)
-
-    def handle_starttag(self, tag: str, attrs: list[tuple[str, str | None]]) -> None:
-        words = dict(attrs)
-        self.elsewhere += [f"{tag} {key}" for key in words if key in ("src", "href")] + ([tag] if tag == "script" else [])
-        self.name = words.get("id")
-        if tag == "table":
-            self.rows = self.tables.setdefault(str(self.name), [])
-        elif tag == "tr" and self.rows is not None:
-            self.rows.append([])
-        elif tag == "td" and self.rows is not None:
-            self.rows[-1].append("")
-
-    def handle_endtag(self, tag: str) -> None:
-        self.rows = None if tag == "table" else self.rows
-        self.name = None
-
-    def handle_data(self, data: str) -> None:
-        if self.rows and self.rows[-1]:
-            self.rows[-1][-1] = (self.rows[-1][-1] + data).strip()
-        elif self.name:
-            self.named[self.name] = data
+from trying import DEMO, text_of  # noqa: E402
 
 
-def ran(command: str, text: str, *words: str) -> subprocess.CompletedProcess[str]:
-    """Runs a command on a configuration's text."""
-    with open("plan.toml", "w", encoding="utf-8") as file:
-        file.write(text)
-    return subprocess.run([PROGRAM, command, "plan.toml", *words], capture_output=True, text=True, check=False, timeout=60)
+VERSION = re.search('AFDX_VERSION "(.*)"', text_of("crates/afdx/afdx.h"))[1]
+# Names of a plan's file and dates, some with what HTML gives a meaning.
+NAMES = ("plan.toml", "a&b <c>.toml", "'\"Ä.toml")
+DATES = (None, "2026-11-28 06:25 UTC", "<script>&amp;\"'</script>")
 
 
-def report(text: str, *words: str) -> subprocess.CompletedProcess[str]:
+def ran(command: str, text: str, *words: str, name: str = "plan.toml") -> subprocess.CompletedProcess[str]:
+    """Runs a command on a configuration's text, in a file of this name."""
+    save(name, text)
+    return subprocess.run([PROGRAM, command, name, *words], capture_output=True, text=True, check=False, timeout=60)
+
+
+def report(text: str, *words: str, name: str = "plan.toml") -> subprocess.CompletedProcess[str]:
     """Runs a report of a configuration's text. `page.html` is the page."""
-    return ran("report", text, *words)
+    return ran("report", text, *words, name=name)
 
 
 def text_faults(command: str, text: str, wanted: str, *words: str) -> Iterator[str]:
@@ -127,21 +99,32 @@ def faults_of(text: str, lateness: int) -> Iterator[str]:
     strict = report(text, "--lateness", str(lateness), "--strict")
     if (strict.returncode, strict.stdout) != (2 if "exceeded" in verdict else 0, done.stdout):
         yield f"strict: {strict.returncode}"
-    with open("page.html", encoding="utf-8") as file:
-        whole = file.read()
-    if not (whole.startswith("<!DOCTYPE html>") and whole.endswith("</html>\n")):
-        yield f"the page is {whole[:40]} .. {whole[-40:]}"
-    page = Page(whole)
-    told, shown = tables_of(done.stdout), {name: [row for row in rows if row] for name, rows in page.tables.items()}
+    told = tables_of(done.stdout)
     for name, rows in wanted(plan, lateness).items():
         yield from (f"text, {name}: {is_} for {to_be}" for is_, to_be in zip(told.get(name, []), rows, strict=False) if is_ != to_be)
-        if told.get(name) != rows or shown.get(name) != rows:
-            yield f"{name} differ: {len(told.get(name, []))} rows of text, {len(shown.get(name, []))} of the page"
-    named = {"end-system": str(plan["end_system"]["id"]), "lateness": str(lateness), "jitter": str(jitter)}
-    if page.named | named != page.named:
-        yield f"the page names {page.named}"
-    yield from (f"the page has {what}" for what in page.elsewhere)
-    yield from picture.faults_of(whole, wanted(plan, lateness), jitter)
+        if told.get(name) != rows:
+            yield f"{name} differ: {len(told.get(name, []))} rows"
+    yield from page_faults(text, {}, "", lateness)
+
+
+def page_faults(text: str, demands: dict[int, tuple], given: str, lateness: int) -> Iterator[str]:
+    """What is wrong with the page of a plan and its traffic. A second run must write the same bytes."""
+    rng = random.Random(text)
+    file, date = rng.choice(NAMES), rng.choice(DATES)
+    save("traffic.csv", given)
+    words = ["--lateness", str(lateness), "--html", "page.html"] + ["--traffic", "traffic.csv"] * bool(given) + (["--date", date] if date else [])
+    pages = []
+    for _ in range(2):
+        done = report(text, *words, name=file)
+        with open("page.html", encoding="utf-8", newline="") as page:
+            pages.append(page.read())
+    if done.returncode or pages[0] != pages[1]:
+        yield f"{done}, or two runs differ"
+        return
+    plan, tables = tomllib.loads(text), wanted(tomllib.loads(text), lateness)
+    rows, verdict = traffic.rows_of(plan, demands, tables, lateness), done.stdout.splitlines()[0]
+    source = picture.Source(plan, lateness, bool(demands), tables, rows, verdict, file, text, VERSION, date)
+    yield from picture.faults_of(pages[0], source)
 
 
 def configuration(links: list[Plan], ports: list[Plan]) -> str:
@@ -248,6 +231,26 @@ def traffic_rows(text: str, demands: dict[int, tuple], given: str, lateness: int
     yield from (f"CSV: {is_} for {to_be}" for is_, to_be in zip(written, rows, strict=True) if is_ != to_be)
     shown = tables_of(done.stdout)["traffic"]
     yield from (f"text: {is_} for {to_be}" for is_, to_be in zip(shown, map(traffic.text_row, rows), strict=True) if is_ != to_be)
+    yield from page_faults(text, demands, given, lateness)
+
+
+def wide_faults(seed: int) -> Iterator[str]:
+    """What is wrong with a report of a random plan of several links, as text, CSV file and page."""
+    rng = random.Random(seed)
+    links = [
+        {"id": number, "bag_ms": 2 ** rng.randrange(8), "lmax": rng.choice((64, 65, 200, 1000, 1518)), "sub_vls": rng.randint(1, 4)}
+        | {"capacity": rng.choice((1, 2, 64)), "networks": rng.choice(("both", "a", "b"))}
+        for number in rng.sample(range(65536), rng.randint(1, 9))
+    ]
+    ports = []
+    for number in rng.sample(range(65536), rng.randint(1, 30)):
+        link = rng.choice(links)
+        port = port_of(number, link["id"], rng.randrange(link["sub_vls"]), rng.choice((1, 20, 300, 8192)))
+        ports.append(port | {"source": 1 + number % 65535, "partition": rng.randrange(32)})
+    text, lateness = configuration(links, ports), rng.choice((0, 250, 1_000_000))
+    demands = traffic.random_demands(rng, tomllib.loads(text), seed % 2 > 0) if seed % 5 else {}
+    rows = traffic_rows(text, demands, traffic.text_of(rng, demands), lateness) if demands else faults_of(text, lateness)
+    yield from (f"plan {seed}: {fault}" for fault in rows)
 
 
 def traffic_faults(seed: int) -> Iterator[str]:
@@ -330,6 +333,7 @@ def main() -> int:
         "the greatest plan with its periods": lambda: traffic_rows(*greatest_traffic()),
         "traffic with faults": traffic_text_faults,
         "refused memory and writes, with traffic": lambda: refusal_faults(DEMO, "--traffic", "demo.csv", "--csv", "rows.csv"),
+        f"{plans // 5} plans of several links": lambda: (fault for seed in range(plans // 5) for fault in wide_faults(seed)),
         f"{plans} waits by traffic": lambda: (fault for seed in range(plans) for fault in traffic_faults(seed)),
         f"{plans} waits": lambda: (fault for seed in range(plans) for fault in wait_faults(seed)),
     }

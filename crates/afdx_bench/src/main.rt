@@ -19,7 +19,7 @@ use judging::judge_files;
 use plan_report::{
     End, Failure, Halting, Words, check, read_plan, read_words, status_of, tell_faults, tell_words,
 };
-use report::{Files, report};
+use report::{Asked, report};
 use std::alloc::Global;
 use std::fs::File;
 use std::io::{self, BufWriter, IsTerminal, Write};
@@ -174,10 +174,18 @@ fn obey<W: Write, T: Threads + Wait + Sync>(
             html,
             traffic,
             csv,
+            date,
             strict,
         } => {
-            let files = Files::of(html, traffic, csv);
-            report(rt, config.as_str(), *lateness, files, *strict, writer)
+            let asked = Asked {
+                lateness: *lateness,
+                html: html.as_ref().map(|path| path.as_str()),
+                date: date.as_ref().map(|date| date.as_str()),
+                traffic: traffic.as_ref().map(|path| path.as_str()),
+                csv: csv.as_ref().map(|path| path.as_str()),
+                strict: *strict,
+            };
+            report(rt, config.as_str(), asked, writer)
         }
         Words::Judge(case) => judge_files(rt, case, writer),
         Words::Storm {

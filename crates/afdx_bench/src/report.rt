@@ -7,82 +7,90 @@ use afdx_plan::Config;
 use csv::{ErrorKind, WriterBuilder};
 use plan_analysis::{LATENESS_LIMIT, analyze, traffic_waits};
 use plan_report::{
-    Assessment, End, Failure, Halting, Traffic, no_traffic, read_plan, read_text, read_traffic,
-    senders_of, write_analysis, write_page, write_rows, write_traffic, write_verdict,
+    Assessment, Digested, End, Failure, Halting, Origin, Traffic, no_traffic, read_digested,
+    read_text, read_traffic, senders_of, write_analysis, write_page, write_rows, write_traffic,
+    write_verdict,
 };
 use std::alloc::{AllocError, Global};
 use std::fs::File;
 use std::io::{self, BufWriter, Write};
+use std::path::Path;
 use tx_script::RunFault;
 
-/// The files that a report reads and writes beside the configuration, by their paths.
+/// What the words say of a report beside the configuration. Files are named by their paths.
 #[derive(Clone, Copy)]
-pub struct Files<'a> {
-    // a page
+pub struct Asked<'a> {
+    // the greatest lateness of a poll, in microseconds
+    pub lateness: u64,
+    // a page, and its date
     pub html: Option<&'a str>,
+    pub date: Option<&'a str>,
     // the traffic of the ports
     pub traffic: Option<&'a str>,
     // rows for a spreadsheet
     pub csv: Option<&'a str>,
+    // whether a missed limit or deadline is a failure
+    pub strict: bool,
 }
 
-impl<'a> Files<'a> {
-    /// The files that words name.
-    pub fn of(
-        html: &'a Option<String>,
-        traffic: &'a Option<String>,
-        csv: &'a Option<String>,
-    ) -> Files<'a> {
-        Files {
-            html: html.as_ref().map(|path| path.as_str()),
-            traffic: traffic.as_ref().map(|path| path.as_str()),
-            csv: csv.as_ref().map(|path| path.as_str()),
-        }
-    }
-}
-
-/// Writes the verdict, the loads, the jitter and the longest waits of a configuration, by the path of its file, if
-/// polls come at most `lateness` microseconds late; and before that the page and the rows to their files. If the
-/// traffic has faults, writes these alone.
+/// Writes the verdict, the loads, the jitter and the longest waits of a configuration, by the path of its file; and
+/// before that the page and the rows to their files. If the traffic has faults, writes these alone.
 pub fn report<W: Write>(
     rt: &HostRuntime,
     config: &str,
-    lateness: u64,
-    files: Files<'_>,
-    strict: bool,
+    asked: Asked<'_>,
     writer: &mut W,
 ) -> Result<End, Stop>
-    requires { lateness ≤ LATENESS_LIMIT }
+    requires { asked.lateness ≤ LATENESS_LIMIT }
 {
     let alloc = rt.alloc();
     let text = open(rt, config, Named::Plan)?;
-    let read = read_plan(alloc, &text);
+    let read = read_digested(alloc, &text);
     let plan = read.map_err(|failure| Stop::reading(failure, Named::Plan))?;
-    let demands = match files.traffic {
+    let demands = match asked.traffic {
         Some(path) => Some(open(rt, path, Named::Traffic)?),
         None => None,
     };
-    let read = traffic_of(alloc, &plan, demands.as_ref());
+    let read = traffic_of(alloc, &plan.config, demands.as_ref());
     let traffic = read.map_err(|failure| Stop::reading(failure, Named::Traffic))?;
     if !traffic.faults.is_empty() {
         return Ok(tell(&traffic, writer)?);
     }
-    let analysis = analyze(alloc, &plan, lateness).map_err(no_memory)?;
-    let senders = senders_of(alloc, &plan, &traffic).map_err(no_memory)?;
-    let waits = traffic_waits(alloc, &plan, lateness, senders.as_slice()).map_err(no_memory)?;
+    let lateness = asked.lateness;
+    let analysis = analyze(alloc, &plan.config, lateness).map_err(no_memory)?;
+    let senders = senders_of(alloc, &plan.config, &traffic).map_err(no_memory)?;
+    let waits = traffic_waits(alloc, &plan.config, lateness, senders.as_slice()).map_err(
+        no_memory,
+    )?;
     let assessment = Assessment {
         analysis: &analysis,
         traffic: &traffic,
         waits: waits.as_slice(),
     };
     let other = demands.as_ref().unwrap_or(&text);
-    save(rt, files, &text, other, &assessment)?;
-    write_verdict(writer, &assessment).map_err(unwritten)?;
-    write_analysis(writer, &analysis).map_err(unwritten)?;
-    if files.traffic.is_some() {
-        write_traffic(writer, &assessment).map_err(unwritten)?;
+    if let Some(path) = asked.html {
+        let page = create(rt, path, Named::Page, &[&text, other])?;
+        save_page(alloc, page, config, asked.date, &plan, &assessment)?;
     }
-    if strict && !assessment.all_kept() {
+    if let Some(path) = asked.csv {
+        let rows = create(rt, path, Named::Rows, &[&text, other])?;
+        save_rows(alloc, rows, &assessment)?;
+    }
+    Ok(tell_report(writer, &assessment, asked).map_err(unwritten)?)
+}
+
+/// Writes the text of a report.
+fn tell_report<W: Write>(
+    writer: &mut W,
+    assessment: &Assessment<'_>,
+    asked: Asked<'_>,
+) -> io::Result<End> {
+    write_verdict(writer, assessment)?;
+    write_analysis(writer, assessment.analysis)?;
+    if asked.traffic.is_some() {
+        write_traffic(writer, assessment)?;
+    }
+    if asked.strict && !assessment.all_kept() {
         Ok(End::Missed)
     } else {
         Ok(End::Told)
@@ -111,30 +119,23 @@ fn tell<W: Write>(traffic: &Traffic, writer: &mut W) -> Result<End, Failure> {
     Ok(End::FaultsTold)
 }
 
-/// Writes the page and the rows to the files that are named for them, which are neither of two open files.
-fn save(
-    rt: &HostRuntime,
-    files: Files<'_>,
-    text: &File,
-    other: &File,
+/// Writes the page of a report to a file. `config` is the path of the configuration's.
+fn save_page(
+    alloc: Global,
+    page: File,
+    config: &str,
+    date: Option<&str>,
+    plan: &Digested,
     assessment: &Assessment<'_>,
-) -> Result<(), Stop> {
-    if let Some(path) = files.html {
-        let page = create(rt, path, Named::Page, &[text, other])?;
-        save_page(rt.alloc(), page, assessment)?;
-    }
-    if let Some(path) = files.csv {
-        let rows = create(rt, path, Named::Rows, &[text, other])?;
-        save_rows(rt.alloc(), rows, assessment)?;
-    }
-    Ok(())
-}
-
-/// Writes the page of an analysis to a file.
-fn save_page(alloc: Global, page: File, assessment: &Assessment<'_>) -> Result<(), Failure> {
+) -> Result<(), Failure> {
     let file = BufWriter::new(alloc, Halting::new(page));
     let mut output = file.map_err(|_| Failure::Run(RunFault::Memory))?;
-    write_page(&mut output, assessment.analysis).map_err(unwritten)?;
+    let origin = Origin {
+        file: Path::new(config).file_name().unwrap_or(config),
+        digest: &plan.digest,
+        date,
+    };
+    write_page(&mut output, &plan.config, assessment, origin).map_err(unwritten)?;
     output.flush().map_err(unwritten)
 }
 

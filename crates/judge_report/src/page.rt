@@ -5,7 +5,7 @@ use crate::tally::Tally;
 use afdx_frame::Net;
 use afdx_plan::LinkPlan;
 use judge::{Figures, Judge};
-use plan_report::{Bar, Mark, Parts, STYLE, TRACK};
+use plan_report::{Parts, STYLE};
 use std::io::{self, Write};
 
 /// Writes what came of a recording as a page: the number of findings, the least gap of each link beside its BAG, and the
@@ -31,11 +31,12 @@ pub fn write_page<W: Write>(
     writer.write_all(b"</body>\n</html>\n")
 }
 
-/// Writes a bar for the least gap of each link on each network.
+/// Writes a row for the least gap of each link on each network.
 fn write_gaps<W: Write>(writer: &mut W, judge: &Judge) -> io::Result<()> {
     writer.write_all(
         b"<h2>Gaps</h2>\n<p>The least gap of each link on each network. The mark is its BAG, and \
-        a whole bar two.</p>\n<div class=\"bars\" id=\"gaps\">\n",
+        a whole bar two.</p>\n<table id=\"gaps\">\n<thead><tr><th>link</th><th>network</th>\
+        <th>least gap</th><th class=\"bar\"></th></tr></thead>\n<tbody>\n",
     )?;
     for (place, link) in judge.config().links().iter().enumerate() {
         for &net in &[Net::A, Net::B] {
@@ -45,7 +46,7 @@ fn write_gaps<W: Write>(writer: &mut W, judge: &Judge) -> io::Result<()> {
             }
         }
     }
-    writer.write_all(b"</div>\n")
+    writer.write_all(b"</tbody>\n</table>\n")
 }
 
 fn write_gap<W: Write>(
@@ -56,34 +57,46 @@ fn write_gap<W: Write>(
 ) -> io::Result<()> {
     let (id, network) = (link.id.0, network_name(net));
     let bag = link.bag.ms().saturating_mul(1_000_000);
-    let scale = bag.saturating_mul(2);
-    write!(writer, "<span>link {id} {network}</span>{TRACK}")?;
-    Parts::new(scale).fill(writer, drawn(figures.least_gap, scale))?;
-    let mark = Mark { scale, limit: bag };
     let gap = Cell(figures.least_gap);
-    writeln!(writer, "{mark}<span>{gap} ns</span>")
+    write!(
+        writer,
+        "<tr><td>{id}</td><td>{network}</td><td>{gap} ns</td>"
+    )?;
+    write_bar(writer, bag.saturating_mul(2), bag, figures.least_gap)
 }
 
-/// Writes a bar for the lead of each link on both networks.
+/// Writes a row for the lead of each link on both networks.
 fn write_leads<W: Write>(writer: &mut W, judge: &Judge, skew: u64) -> io::Result<()> {
     writer.write_all(
-        b"<h2>Leads</h2>\n<p>The greatest time between a frame and its twin. A whole bar is the \
-        skew.</p>\n<div class=\"bars\" id=\"leads\">\n",
+        b"<h2>Leads</h2>\n<p>The greatest time between a frame and its twin. The mark is the \
+        skew, at the end of the bar.</p>\n<table id=\"leads\">\n<thead><tr><th>link</th>\
+        <th>lead</th><th class=\"bar\"></th></tr></thead>\n<tbody>\n",
     )?;
     let scale = skew.saturating_mul(1_000);
     for (place, link) in judge.config().links().iter().enumerate() {
         if link.networks.carries_a() && link.networks.carries_b() {
             let id = link.id.0;
             let lead = judge.lead(place);
-            let bar = Bar {
-                scale,
-                value: drawn(lead, scale),
-            };
             let cell = Cell(lead);
-            writeln!(writer, "<span>link {id}</span>{bar}<span>{cell} ns</span>")?;
+            write!(writer, "<tr><td>{id}</td><td>{cell} ns</td>")?;
+            write_bar(writer, scale, scale, lead)?;
         }
     }
-    writer.write_all(b"</div>\n")
+    writer.write_all(b"</tbody>\n</table>\n")
+}
+
+/// Writes the bar that ends a row.
+fn write_bar<W: Write>(
+    writer: &mut W,
+    scale: u64,
+    limit: u64,
+    nanos: Option<u128>,
+) -> io::Result<()> {
+    writer.write_all(b"<td class=\"bar\">")?;
+    let mut bar = Parts::begin(writer, scale, limit)?;
+    bar.fill(writer, drawn(nanos, scale))?;
+    bar.end(writer)?;
+    writer.write_all(b"</td></tr>\n")
 }
 
 /// A time as it is drawn: at most the whole scale, and 0 if there is none.

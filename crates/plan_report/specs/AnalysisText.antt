@@ -61,7 +61,7 @@ jitter_line jitter = codes "jitter " ++ decimal jitter ++ codes " ns of " ++ dec
 
 -- the column heads of the networks
 unfoldable pub networks_head : List ℕ
-networks_head = codes "network    load-kbit/s  share-%  exceeded" ++ 10 ∷ []
+networks_head = codes "network    load-kbit/s  share-%  exceeded  jitter-ns" ++ 10 ∷ []
 
 -- the name of a network
 abbrev pub network_name : NetworkName → List ℕ
@@ -75,7 +75,7 @@ exceeded_cell exceeded = if exceeded then codes "       yes" else codes "       
 -- the row of a network
 unfoldable pub network_line : NetworkRow → List ℕ
 network_line row = network_name row.name ++ thousandths 11 row.load ++ hundredths 6 row.share
-    ++ exceeded_cell row.exceeded ++ 10 ∷ []
+    ++ exceeded_cell row.exceeded ++ right 11 row.jitter ++ 10 ∷ []
 
 -- the column heads of the ports
 unfoldable pub ports_head : List ℕ

@@ -42,7 +42,7 @@ exit_status (Failed failure) = failure_status failure
 abbrev pub IsInRange : Words → Type 0
 IsInRange (Storm config messages turns) =
     ((1 ≤ messages) × (messages ≤ 65535)) × ((1 ≤ turns) × (turns ≤ 1000000000))
-IsInRange (Report config lateness html traffic csv strict) = lateness ≤ 1000000
+IsInRange (Report config lateness html traffic csv date strict) = lateness ≤ 1000000
 IsInRange (Judge case) = (case.jitter ≤ 1000000) × (case.skew ≤ 1000000)
 IsInRange _ = ⊤
 

@@ -37,7 +37,7 @@ fn write_networks_table<W: Write>(writer: &mut W, a: &NetworkRow, b: &NetworkRow
     ensures { OnOk result (Appends (W.contents writer.old) (W.contents writer.new)
         (networks_table a.now b.now)) }
 {
-    writer.write_all(b"network    load-kbit/s  share-%  exceeded\n")?;
+    writer.write_all(b"network    load-kbit/s  share-%  exceeded  jitter-ns\n")?;
     write_network(writer, a)?;
     write_network(writer, b)
 }
@@ -131,7 +131,8 @@ fn write_network<W: Write>(writer: &mut W, row: &NetworkRow) -> io::Result<()>
     let load = Load(row.load);
     let share = Share(row.share);
     let exceeded = exceeded_cell(row.exceeded);
-    writeln!(writer, "{name}{load}{share}{exceeded}")
+    let jitter = row.jitter;
+    writeln!(writer, "{name}{load}{share}{exceeded}{jitter:>11}")
 }
 
 pub(crate) fn network_name(name: NetworkName) -> &'static str

@@ -31,6 +31,12 @@ impl Assessment<'_> {
         })
     }
 
+    /// Whether a traffic text has a row.
+    pub(crate) fn has_traffic(&self) -> bool {
+        let demands = self.traffic.demands.as_slice();
+        demands.iter().any(|demand| demand.line.is_some())
+    }
+
     /// Whether neither network carries more than it can.
     pub(crate) fn loads_kept(&self) -> bool {
         !self.analysis.network_a.exceeded && !self.analysis.network_b.exceeded

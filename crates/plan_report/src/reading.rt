@@ -3,12 +3,14 @@ ghost use Rattle.std.specs.Prelude.{◌≡◌, ◌≢◌, ◌≤◌, ◌⊎◌, 
 ghost use Rattle.std.specs.Io.KnownBytes.{Keeps};
 ghost use Rattle.plan_report.specs.Reading.{IsRefusal, Reports, TellsFaults, end_of, text_limit};
 ghost use Rattle.afdx_config.specs.Faults.{IsPlanOf};
+ghost use Rattle.sha2.specs.Sha256.{sha256};
 
 use crate::report::write_report;
 use crate::status::{End, Failure};
 use afdx_config::{Explanation, explain, read_config};
 use afdx_plan::Config;
 use script_text::RunFault;
+use sha2::{Digest, Sha256};
 use std::alloc::Global;
 use std::io::{self, Read, Write};
 
@@ -26,6 +28,30 @@ pub fn read_plan<R: Read + Drop>(alloc: Global, reader: R) -> Result<Config, Fai
 {
     let text = read_text(alloc, reader)?;
     read_config(alloc, text.as_slice()).map_err(Failure::Config)
+}
+
+/// A plan, and the SHA-256 digest of its text.
+#[derive(Debug, Drop)]
+pub struct Digested {
+    pub config: Config,
+    pub digest: [u8; 32],
+}
+
+/// Reads as `read_plan` does, and computes the digest of the text.
+pub fn read_digested<R: Read + Drop>(alloc: Global, reader: R) -> Result<Digested, Failure>
+    ensures plan { IfOk result (λ read. IfSome (R.remaining reader) (λ text.
+        IsPlanOf text read.config)) }
+    ensures digest { IfOk result (λ read. IfSome (R.remaining reader) (λ text.
+        read.digest ≡ sha256 text)) }
+    ensures refused { IfErr result (λ failure. IfSome (R.remaining reader) (λ text.
+        IsRefusal text failure)) }
+{
+    let text = read_text(alloc, reader)?;
+    let config = read_config(alloc, text.as_slice()).map_err(Failure::Config)?;
+    Ok(Digested {
+        config,
+        digest: Sha256::digest(text.as_slice()),
+    })
 }
 
 /// Reads a configuration and writes the report on its plan. Writes nothing if the configuration is

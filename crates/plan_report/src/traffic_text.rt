@@ -38,21 +38,8 @@ impl fmt::Display for Slack {
 /// Writes the verdict on a plan, one line: whether its loads and its jitter are within their limits, and
 /// whether its ports keep their deadlines.
 pub fn write_verdict<W: Write>(writer: &mut W, assessment: &Assessment<'_>) -> io::Result<()> {
-    let loads = kept(assessment.loads_kept());
-    let jitter = kept(assessment.jitter_kept());
-    write!(writer, "loads {loads}, jitter {jitter}, deadlines ")?;
-    let (given, missed) = assessment.deadlines();
-    if given == 0 {
-        writer.write_all(b"not given\n")
-    } else if missed == 0 {
-        writer.write_all(b"kept\n")
-    } else {
-        writeln!(writer, "missed: {missed} of {given}")
-    }
-}
-
-fn kept(is_kept: bool) -> &'static str {
-    if is_kept { "within limits" } else { "exceeded" }
+    let [loads, jitter, deadlines] = assessment.verdict();
+    writeln!(writer, "{loads}, {jitter}, {deadlines}")
 }
 
 /// Writes a table of the ports: period, deadline, the wait by the queue, the wait by traffic, which of the

@@ -34,13 +34,15 @@ pub enum Words {
         config: String,
     },
     /// `report <config>`, with the greatest lateness of a poll in microseconds, the files of a page, of the
-    /// ports' traffic and of rows for a spreadsheet, and whether a missed limit or deadline is a failure
+    /// ports' traffic and of rows for a spreadsheet, the date on the page, and whether a missed limit or deadline
+    /// is a failure
     Report {
         config: String,
         lateness: u64,
         html: Option<String>,
         traffic: Option<String>,
         csv: Option<String>,
+        date: Option<String>,
         strict: bool,
     },
     /// `judge <config> <capture> [<capture_b>]`
@@ -181,7 +183,7 @@ pub(crate) fn given_path(
 }
 
 /// The program's version, which is the library's: `AFDX_VERSION` in `afdx.h`.
-const VERSION: &str = "1.0.0";
+pub(crate) const VERSION: &str = "1.0.0";
 
 /// All command lines of the program.
 fn command<'a>(alloc: Global) -> Result<Command<'a>, AllocError> {
@@ -268,6 +270,7 @@ pub(crate) fn report_words(
             html: given_path(alloc, matches, "html")?,
             traffic: given_path(alloc, matches, "traffic")?,
             csv: given_path(alloc, matches, "csv")?,
+            date: given_path(alloc, matches, "date")?,
             strict: matches.get_flag("strict"),
         }),
         None => refuse_number(alloc),
@@ -298,6 +301,8 @@ pub(crate) fn report_command<'a>(alloc: Global) -> Result<Command<'a>, AllocErro
     let report = report.arg(flag(alloc, "traffic", help).value_name("file"))?;
     let help = "Also writes a row for each port to a CSV file";
     let report = report.arg(flag(alloc, "csv", help).value_name("file"))?;
+    let help = "The date that the page names";
+    let report = report.arg(flag(alloc, "date", help).value_name("text"))?;
     let help = "Ends with status 2 if a limit or a deadline is missed";
     report.arg(flag(alloc, "strict", help).action(ArgAction::SetTrue))
 }

@@ -24,11 +24,11 @@ explain a.toml => Explain { config: \"a.toml\" }
 run a.toml b.txt => Run { config: \"a.toml\", script: \"b.txt\", capture: None }
 run a.toml b.txt --capture c.pcapng => Run { config: \"a.toml\", script: \"b.txt\", capture: Some(\"c.pcapng\") }
 run --capture=c.pcapng a.toml b.txt => Run { config: \"a.toml\", script: \"b.txt\", capture: Some(\"c.pcapng\") }
-report a.toml => Report { config: \"a.toml\", lateness: 0, html: None, traffic: None, csv: None, strict: false }
+report a.toml => Report { config: \"a.toml\", lateness: 0, html: None, traffic: None, csv: None, date: None, strict: false }
 report a.toml --lateness 1000000 --html b.html => Report { config: \"a.toml\", lateness: 1000000, \
-    html: Some(\"b.html\"), traffic: None, csv: None, strict: false }
-report --lateness=007 a.toml --strict --traffic=t.csv --csv w.csv => Report { config: \"a.toml\", lateness: 7, \
-    html: None, traffic: Some(\"t.csv\"), csv: Some(\"w.csv\"), strict: true }
+    html: Some(\"b.html\"), traffic: None, csv: None, date: None, strict: false }
+report --lateness=007 a.toml --strict --traffic=t.csv --csv w.csv --date=1 => Report { config: \"a.toml\", lateness: 7, \
+    html: None, traffic: Some(\"t.csv\"), csv: Some(\"w.csv\"), date: Some(\"1\"), strict: true }
 judge a.toml b.pcap => Judge(Case { config: \"a.toml\", capture: \"b.pcap\", other: None, jitter: 0, skew: 10000, \
     late: false, fcs: false, html: None })
 judge a.toml b.pcap c.pcap --jitter 1000000 --skew=07 --late --fcs --html d => Judge(Case { config: \"a.toml\", \

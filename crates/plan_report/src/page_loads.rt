@@ -1,0 +1,136 @@
+//! The tables of the networks and of the links of a page, with bars of loads and jitter.
+use crate::analysis_text::{network_name, networks_cell};
+use crate::bars::{DRAWING, Parts, Rect, place};
+use crate::html::{Decimal, Grouped, Time};
+use plan_analysis::{
+    Analysis, JITTER_LIMIT, LinkRow, NetworkName, NetworkRow, OWN_JITTER, carries,
+};
+use std::io::{self, Write};
+
+/// The rate of a network in bits a second.
+const LINE_RATE: u64 = 100_000_000;
+
+/// The bits a second of a link with a BAG of a millisecond and the longest frames that there are.
+const GREATEST_RATE: u64 = 12_304_000;
+
+/// Writes the table of the networks, each with its load and its jitter by link.
+pub(crate) fn write_networks<W: Write>(writer: &mut W, analysis: &Analysis) -> io::Result<()> {
+    writer.write_all(
+        b"<h2>Networks</h2>\n<p>Load and jitter by link, in the order of their table. The marks are \
+        100&nbsp;Mbit/s and 500&nbsp;&micro;s. The first part of a jitter is the end system's own. \
+        The verdict is on the jitter of all links, as if one network carried them.</p>\n\
+        <table id=\"networks\">\n<thead><tr><th>network<th>load kbit/s<th>share %<th class=\"bar\">\
+        <th>jitter<th class=\"bar\">\n<tbody>\n",
+    )?;
+    write_network(writer, analysis, &analysis.network_a)?;
+    write_network(writer, analysis, &analysis.network_b)?;
+    let jitter = Time(analysis.jitter);
+    let over = over(analysis.jitter > JITTER_LIMIT);
+    write!(
+        writer,
+        "<tr><td>all links<td>–<td>–<td class=\"bar\"><td{over}>{jitter}<td class=\"bar\">"
+    )?;
+    write_jitter_bar(writer, analysis, None)?;
+    writer.write_all(b"\n</table>\n")
+}
+
+/// The class of a cell whose value exceeds a limit.
+pub(crate) fn over(is_over: bool) -> &'static str {
+    if is_over { " class=\"over\"" } else { "" }
+}
+
+fn write_network<W: Write>(
+    writer: &mut W,
+    analysis: &Analysis,
+    row: &NetworkRow,
+) -> io::Result<()> {
+    let name = network_name(row.name).trim();
+    let load = Decimal::Thousandths(row.load);
+    let share = Decimal::Hundredths(row.share);
+    let over = over(row.exceeded);
+    write!(
+        writer,
+        "<tr><td>{name}<td{over}>{load}<td>{share}<td class=\"bar\">"
+    )?;
+    write_load_bar(writer, analysis, row.name)?;
+    let jitter = Time(row.jitter);
+    write!(writer, "<td>{jitter}<td class=\"bar\">")?;
+    write_jitter_bar(writer, analysis, Some(row.name))?;
+    writer.write_all(b"\n")
+}
+
+/// Whether a link is one of those of a network, or of all if none is named.
+fn is_on(network: Option<NetworkName>, link: &LinkRow) -> bool {
+    match network {
+        Some(name) => carries(name, link.plan.networks),
+        None => true,
+    }
+}
+
+/// Writes the load of a network by link.
+fn write_load_bar<W: Write>(
+    writer: &mut W,
+    analysis: &Analysis,
+    network: NetworkName,
+) -> io::Result<()> {
+    let most = analysis.network_a.load.max(analysis.network_b.load);
+    let mut bar = Parts::begin(writer, most.max(LINE_RATE), LINE_RATE)?;
+    for row in analysis.links.as_slice() {
+        if is_on(Some(network), row) {
+            bar.fill(writer, row.load)?;
+        }
+    }
+    bar.end(writer)
+}
+
+/// Writes the jitter of a network, or of all links, by link.
+fn write_jitter_bar<W: Write>(
+    writer: &mut W,
+    analysis: &Analysis,
+    network: Option<NetworkName>,
+) -> io::Result<()> {
+    let mut bar = Parts::begin(writer, analysis.jitter.max(JITTER_LIMIT), JITTER_LIMIT)?;
+    bar.fill(writer, OWN_JITTER)?;
+    for row in analysis.links.as_slice() {
+        if is_on(network, row) {
+            bar.fill(writer, row.jitter)?;
+        }
+    }
+    bar.end(writer)
+}
+
+/// Writes the table of the links.
+pub(crate) fn write_links<W: Write>(writer: &mut W, links: &[LinkRow]) -> io::Result<()> {
+    writer.write_all(
+        b"<h2>Links</h2>\n<p>A bar is the load of a link beside what its BAG allows: a whole one is a \
+        frame of 1,518 bytes each BAG. Shares are of 100&nbsp;Mbit/s.</p>\n\
+        <table id=\"links\">\n<thead><tr><th>link<th>BAG<th>Lmax bytes<th>sub-VLs<th>on\
+        <th>load kbit/s<th>share %<th>jitter<th class=\"bar\">\n<tbody>\n",
+    )?;
+    for row in links {
+        write_link(writer, row)?;
+    }
+    writer.write_all(b"</table>\n")
+}
+
+fn write_link<W: Write>(writer: &mut W, row: &LinkRow) -> io::Result<()> {
+    let plan = &row.plan;
+    let id = plan.id.0;
+    let bag = Time::of_micros(plan.bag.micros());
+    let lmax = Grouped(plan.lmax.bytes() as u64);
+    let subs = plan.sub_vls;
+    let networks = networks_cell(plan.networks).trim();
+    write!(
+        writer,
+        "<tr><td>{id}<td>{bag}<td>{lmax}<td>{subs}<td>{networks}"
+    )?;
+    let load = Decimal::Thousandths(row.load);
+    let share = Decimal::Hundredths(row.share);
+    let jitter = Time(row.jitter);
+    let track = Rect::track();
+    let bar = Rect::to("one", place(GREATEST_RATE / plan.bag.ms().max(1), row.load));
+    writeln!(
+        writer,
+        "<td>{load}<td>{share}<td>{jitter}<td class=\"bar\">{DRAWING}{track}{bar}</svg>"
+    )
+}
