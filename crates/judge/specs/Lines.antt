@@ -11,7 +11,7 @@ use Rattle.judge.specs.declared.joining.Joining.{Joining}
 use Rattle.judge.specs.declared.joining.Joining.TheVariants.{Any, Between}
 use Rattle.judge.specs.declared.line.Arrived.{Arrived}
 use Rattle.judge.specs.declared.line.Figures.{Figures}
-use Rattle.judge.specs.declared.line.Last.{Last}
+use Rattle.judge.specs.declared.last.Last.{Last}
 use Rattle.judge.specs.declared.line.Line.{Line}
 use Rattle.judge.specs.declared.line.Measure.{Measure}
 use Rattle.judge.specs.declared.line.Sub.{Sub}

@@ -4,7 +4,7 @@ ghost use Rattle.afdx_frame.specs.Profile.{total_length};
 ghost use Rattle.judge.specs.Fields.{piece_of, flow_of, fields_of, AreSmall};
 ghost use Rattle.judge.specs.Layouts.{IsReadable};
 
-use crate::words::{word_at, word_sum};
+use afdx_frame::{word_at, word_sum};
 
 /// The fields of a frame.
 #[derive(Clone, Copy)]

@@ -4,9 +4,8 @@ ghost use Rattle.afdx_frame.specs.Profile.{total_length};
 ghost use Rattle.judge.specs.Layouts.{unless_kept, length_broken, has_destination_mac, has_source_mac, has_interface, has_type, link_broken, framed, has_version, has_total, has_fragment, has_protocol, has_header_sum, internet_broken, has_source_address, has_destination_address, address_broken, first_nonzero, padding_broken, layout_broken, has_four_more, IsReadable};
 
 use crate::finding::{Deviation, Kind, Layout, first_of};
-use crate::words::{word_at, word_sum};
-use afdx_frame::GREATEST_FRAME;
 use afdx_frame::net::SHORTEST_FRAME;
+use afdx_frame::{GREATEST_FRAME, word_at, word_sum};
 
 /// A rule whose field begins at a byte, unless it is kept.
 fn unless_kept(kept: bool, rule: Layout, byte: u64) -> Option<Deviation>

@@ -6,6 +6,7 @@ mod fields;
 mod finding;
 mod joining;
 mod judge;
+mod last;
 pub mod laws;
 mod layout;
 mod line;
@@ -14,7 +15,6 @@ mod options;
 mod rules;
 mod times;
 mod twins;
-mod words;
 
 pub use finding::{Ending, Finding, Kind, Layout, Misfit};
 pub use judge::Judge;

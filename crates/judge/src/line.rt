@@ -6,6 +6,7 @@ ghost use Rattle.judge.specs.Lines.{new_sub, new_line, number_after, next_number
 use crate::fields::Fields;
 use crate::finding::{Deviation, Kind};
 use crate::joining::{Joining, end_deviation, joined};
+use crate::last::{Last, early_since, gap_since, next_number, number_unless};
 use afdx_plan::PortPlan;
 
 /// The state of a link on a network.
@@ -15,13 +16,6 @@ pub(crate) struct Line {
     pub(crate) figures: Figures,
     /// The sub-VLs, by their indices.
     pub(crate) subs: [Sub; 4],
-}
-
-/// The sequence number and the time in nanoseconds of the last frame of a link on a network.
-#[derive(Clone, Copy)]
-pub(crate) struct Last {
-    pub(crate) number: u8,
-    pub(crate) at: u128,
 }
 
 /// The state of a sub-VL on a network.
@@ -74,73 +68,6 @@ pub(crate) struct Verdict {
     pub(crate) fragment: Option<Deviation>,
     pub(crate) message: Option<Deviation>,
     pub(crate) turn: Option<Deviation>,
-}
-
-/// The sequence number after one.
-fn number_after(number: u8) -> u8
-    ensures { result ≡ number_after number }
-{
-    if number == 255 { 1 } else { number + 1 }
-}
-
-/// The number of the next frame, if it is known.
-fn next_number(late: bool, last: Option<Last>) -> Option<u8>
-    ensures { result ≡ next_number late last }
-{
-    match last {
-        Some(last) => Some(number_after(last.number)),
-        None if late => None,
-        None => Some(0),
-    }
-}
-
-/// A finding, unless a number is the one that is wanted, if one is.
-fn number_unless(seen: u8, wanted: Option<u8>) -> Option<Deviation>
-    ensures { result ≡ number_unless seen wanted }
-{
-    match wanted {
-        None => None,
-        Some(wanted) => {
-            if seen == wanted {
-                return None;
-            }
-            Some(Deviation {
-                kind: Kind::Number,
-                seen: seen as u64,
-                wanted: wanted as u64,
-            })
-        }
-    }
-}
-
-/// The time since the last frame.
-fn gap_since(at: u128, last: Option<Last>) -> Option<u128>
-    ensures { result ≡ gap_since at last }
-{
-    match last {
-        None => None,
-        Some(last) => Some(at.saturating_sub(last.at)),
-    }
-}
-
-/// A finding, unless a frame comes at least a gap after the last one.
-fn early_since(gap: u64, at: u128, last: Option<Last>) -> Option<Deviation>
-    ensures { result ≡ early_since gap at last }
-{
-    match last {
-        None => None,
-        Some(last) => {
-            let since = at.saturating_sub(last.at);
-            if last.at <= at && gap as u128 <= since {
-                return None;
-            }
-            Some(Deviation {
-                kind: Kind::Early,
-                seen: since as u64,
-                wanted: gap,
-            })
-        }
-    }
 }
 
 /// The lesser of two times, of which either may be missing.
