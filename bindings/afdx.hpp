@@ -230,6 +230,13 @@ public:
         return length;
     }
 
+    /* The virtual link, sub-VL and sequence number of frame k of the last poll. Throws Misuse (NoFrame). */
+    afdx_released released(Network network, std::size_t k) const {
+        afdx_released released = afdx_released();
+        detail::want(afdx_release(handle_.get(), static_cast<std::uint8_t>(network), k, &released));
+        return released;
+    }
+
     /* Copies all frames of the last poll into a buffer, one after the other, and their lengths, and returns their
        number. Throws Misuse (SmallBuffer: there is room for fewer). */
     std::size_t all_frames(Network network, std::uint8_t *buffer, std::size_t size, std::size_t *lengths,

@@ -122,22 +122,22 @@ def try_readers(tried):
 def try_names(tried):
     """The name of each answer, and the version."""
     header = re.sub(r"/\*.*?\*/", "", text_of("crates/afdx/afdx.h"), flags=re.DOTALL)
-    listed = [enum for enum in re.findall(r"enum \{(.*?)\}", header, re.DOTALL) if not re.search("STANDS|AFDX_A|GREATEST|CALL", enum)]
-    calls = {"AFDX_CONFIG_": "OPEN", "AFDX_EMPTY": "SEND", "AFDX_BOTH_DOWN": "POLL"}
+    listed = [enum for enum in re.findall(r"enum \{(.*?)\}", header, re.DOTALL) if not re.search("STANDS|AFDX_A|GREATEST|CALL|SAYS", enum)]
+    calls = {"AFDX_CONFIG_": "OPEN", "AFDX_EMPTY": "SEND", "AFDX_BOTH_DOWN": "POLL", "AFDX_LINE_": "LINE"}
     rows = []
     for enum in listed:
         (call,) = [word for start, word in calls.items() if start in enum] or ["OTHER"]
         rows += [f'    {{AFDX_CALL_{call}, {name}, "{name}"}},' for name in re.findall(r"AFDX_\w+(?= =)", enum)]
     rows += [f'    {{AFDX_CALL_{call}, {number}, "unknown answer"}},' for call, number in
-             (("OPEN", 16), ("SEND", 6), ("POLL", 2), ("OTHER", 1), ("OPEN", 31), ("SEND", 255))]
+             (("OPEN", 16), ("SEND", 6), ("POLL", 2), ("LINE", 6), ("OTHER", 1), ("OPEN", 31), ("SEND", 255))]
     with open(f"{tried.room}/empty/names.c", "w", encoding="utf-8") as file:
         file.write("#include <afdx.h>\n#include <stdio.h>\n#include <string.h>\n"
                    "static const struct { afdx_call call; uint8_t answer; const char *name; } rows[] = {\n" + "\n".join(rows) + "\n};\n"
                    "int main(void) {\n    int wrong = 0;\n    for (size_t k = 0; k < sizeof rows / sizeof *rows; k++)\n"
                    "        wrong += strcmp(afdx_answer_name(rows[k].call, rows[k].answer), rows[k].name) != 0;\n"
                    '    printf("%s %d.%d.%d\\n", afdx_version(), AFDX_VERSION_MAJOR, AFDX_VERSION_MINOR, AFDX_VERSION_PATCH);\n'
-                   "    return wrong;\n}\n")
-    made = tried.ran([tried.cc, *WARNINGS, f"-I{tried.prefix}/include", "names.c", "-o", "names"])
+                   "    return wrong + (afdx_version_number() != AFDX_VERSION_NUMBER);\n}\n")
+    made = tried.ran([tried.cc, *WARNINGS, f"-I{tried.prefix}/include", "names.c", f"{tried.prefix}/lib/libafdx.a", "-o", "names"])
     if made.returncode == 0:
         made = tried.ran(["./names"])
     tried.show(f"{len(rows)} names of answers", made, f"{VERSION} {VERSION}\n")

@@ -87,7 +87,8 @@ def names() -> None:
     found = {error.__name__: number for table in errors for number, error in table.items()}
     wanted = {}
     for name, number in re.findall(r"\bAFDX_(\w+) = (\d+)", header):
-        if name not in ("OK", "A", "B", "A_STANDS", "B_STANDS", "GREATEST_FRAME", "MOST_FRAMES"):
+        is_other = name.startswith(("LINE_", "SAYS_"))
+        if not is_other and name not in ("OK", "A", "B", "A_STANDS", "B_STANDS", "GREATEST_FRAME", "MOST_FRAMES"):
             words = name.removeprefix("CONFIG_").split("_")
             wanted["OutOfMemory" if name == "MEMORY" else "".join(it.capitalize() for it in words)] = int(number)
     assert found == wanted, set(found.items()) ^ set(wanted.items())
@@ -132,8 +133,8 @@ def answers() -> None:
     raises(afdx.WrongHandle, it.give_back, other)
     raises(afdx.NoSub, it.close, 1, 1)
     raises(afdx.NoLink, it.counts, 2)
-    for call in (it.fail, it.frames):
-        raises(afdx.NoNetwork, call, 2)
+    for call, words in ((it.fail, (2,)), (it.frames, (2,)), (it.release, (2, 0))):
+        raises(afdx.NoNetwork, call, *words)
     assert it.close(1, 0) == 2
     raises(afdx.Closed, port.send, b"3")
     raises(afdx.NotGathered, lambda: it.is_done)
@@ -143,6 +144,8 @@ def answers() -> None:
     assert it.frame(A, 0) == it.frame(A, 0, 60) == frame
     raises(afdx.SmallBuffer, it.frame, A, 0, 59)
     raises(afdx.NoFrame, it.frame, B, 1)
+    raises(afdx.NoFrame, it.release, B, 1)
+    assert it.release(B, 0) == afdx.Released(1, 0, 0) and it.release(A, 0).number == frame[-1]
     for call, words in ((it.port, (65546,)), (it.poll, (-1,)), (it.fail, (256,)), (it.close, (1, 256)), (it.counts, (-1,))):
         raises(OverflowError, call, *words)
     port.give_back()
@@ -193,7 +196,7 @@ def tries() -> None:
 
 def version() -> None:
     """The version is the header's, and what is exported is there."""
-    assert f'"{afdx.__version__}"' in text_of("crates/afdx/afdx.h")
+    assert f'"{afdx.__version__}"' in text_of("crates/afdx/afdx.h") and afdx.library_version() == afdx.__version__
     assert all(hasattr(afdx, name) for name in afdx.__all__) and len({*afdx.__all__}) == len(afdx.__all__)
 
 

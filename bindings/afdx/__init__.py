@@ -29,13 +29,13 @@ from types import TracebackType
 from typing import Callable, Iterator, NamedTuple
 
 from . import errors
-from ._library import BytesLike, Handle, LinkCounts, bytes_of, fits, lib, want
+from ._library import BytesLike, FrameRelease, Handle, LinkCounts, bytes_of, fits, lib, want
 from .errors import *
 from .errors import CONFIG_ERRORS, POLL_ERRORS, SEND_ERRORS, AfdxError, ConfigError, Full, NotHeld, OutOfMemory, SmallBuffer
 
 __all__ = [
     "A", "B", "GREATEST_FRAME", "MOST_FRAMES", "MOST_LINKS", "MOST_PORTS", "NEVER", "BytesLike", "Counts", "EndSystem",
-    "Poll", "Port", "explain",
+    "Poll", "Port", "Released", "explain", "library_version",
 ]
 __all__ += errors.__all__
 __version__ = "1.0.0"
@@ -59,6 +59,20 @@ def explain(text: str | BytesLike) -> str:
         answer = lib.afdx_explain(data, len(data), told, len(told), byref(length))
     want(answer)
     return told.raw.decode()
+
+
+def library_version() -> str:
+    """The version of the library that was loaded; `__version__` is that of the package."""
+    number: int = lib.afdx_version_number()
+    return f"{number // 10_000}.{number // 100 % 100}.{number % 100}"
+
+
+class Released(NamedTuple):
+    """What a frame carries: the identifier of its virtual link, its sub-VL, and its sequence number."""
+
+    vl: int
+    sub: int
+    number: int
 
 
 class Counts(NamedTuple):
@@ -187,6 +201,12 @@ class EndSystem:
         room = fits(min(size, GREATEST_FRAME), 64)
         want(lib.afdx_frame(byref(self._handle), fits(network, 8), fits(k, 64), self._buffer, room, byref(length)))
         return ctypes.string_at(self._buffer, length.value)
+
+    def release(self, network: int, k: int) -> Released:
+        """What frame `k` of those carries. Raises `NoNetwork` or `NoFrame`."""
+        released = FrameRelease()
+        want(lib.afdx_release(byref(self._handle), fits(network, 8), fits(k, 64), byref(released)))
+        return Released(released.vl, released.sub, released.number)
 
     @property
     def next_due(self) -> int | None:

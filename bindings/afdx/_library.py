@@ -3,7 +3,7 @@ from __future__ import annotations
 
 import ctypes
 import os
-from ctypes import POINTER, c_size_t, c_uint8, c_uint16, c_uint64, c_void_p
+from ctypes import POINTER, c_size_t, c_uint8, c_uint16, c_uint32, c_uint64, c_void_p
 from pathlib import Path
 from typing import Any, Union
 
@@ -27,6 +27,12 @@ class LinkCounts(ctypes.Structure):
     _fields_ = [("frames", c_uint64), ("bytes", c_uint64), ("messages", c_uint64), ("last", c_uint64)]
 
 
+class FrameRelease(ctypes.Structure):
+    """`afdx_released`."""
+
+    _fields_ = [("vl", c_uint16), ("sub", c_uint8), ("number", c_uint8)]
+
+
 def _library() -> ctypes.CDLL:
     package = Path(__file__).resolve().parent
     near = [path for folder in [package, *package.parents[:2]] if (path := folder / LIBRARY).exists()]
@@ -45,6 +51,7 @@ def _calls(library: ctypes.CDLL) -> None:
         "frames": [handle, c_uint8, POINTER(size)],
         "frame": [handle, c_uint8, size, c_void_p, size, POINTER(size)],
         "all_frames": [handle, c_uint8, c_void_p, size, POINTER(size), size, POINTER(size)],
+        "release": [handle, c_uint8, size, POINTER(FrameRelease)],
         "next_due": [handle, POINTER(c_uint64)],
         "ports": [handle, POINTER(c_uint16), size, POINTER(size)],
         "links": [handle, POINTER(c_uint16), size, POINTER(size)],
@@ -60,6 +67,7 @@ def _calls(library: ctypes.CDLL) -> None:
     for name, arguments in calls.items():
         call = getattr(library, f"afdx_{name}")
         call.argtypes, call.restype = arguments, c_uint8
+    library.afdx_version_number.argtypes, library.afdx_version_number.restype = [], c_uint32
 
 
 lib = _library()

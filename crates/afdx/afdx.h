@@ -25,6 +25,7 @@
    - malloc, realloc and free come from one allocator. No call is made from a signal handler, or in the forked child
      of a process with threads.
    A call that takes a pointer to const for a handle changes neither the handle nor the end system or port in it.
+   afdx_script_line, afdx_explain and afdx_version_number take no handle, and may be called by any thread.
 
    Calls detect, and report by their numbers: a call after afdx_free, a port that is taken twice, a port of another
    end system, a time that goes back, an unknown identifier, and a buffer that is too small. */
@@ -44,6 +45,8 @@ extern "C" {
 #define AFDX_VERSION_MAJOR 1 /**< its first number */
 #define AFDX_VERSION_MINOR 0 /**< its second number */
 #define AFDX_VERSION_PATCH 0 /**< its third number */
+/** All three as one number, as afdx_version_number returns those of the library. */
+#define AFDX_VERSION_NUMBER (10000 * AFDX_VERSION_MAJOR + 100 * AFDX_VERSION_MINOR + AFDX_VERSION_PATCH)
 
 /** An end system: sending while its ports are out, or draining after it has gathered them. {0} is one that isn't
    open, in C++ {}. */
@@ -67,6 +70,25 @@ typedef struct {
     uint64_t messages; /**< those whose last frame is among them */
     uint64_t last;     /**< the time of the last frame in microseconds, 0 before the first */
 } afdx_counts;
+
+/** What a frame carries. */
+typedef struct {
+    uint16_t vl;    /**< the identifier of its virtual link */
+    uint8_t sub;    /**< its sub-VL, from 0 */
+    uint8_t number; /**< its sequence number */
+} afdx_released;
+
+/** What a line of a script says. A field that the line doesn't need is 0. */
+typedef struct {
+    uint8_t kind;  /**< AFDX_SAYS_NOTHING, AFDX_SAYS_SEND, AFDX_SAYS_AT or AFDX_SAYS_CLOSE */
+    uint8_t sub;   /**< the sub-VL to close */
+    uint16_t id;   /**< the port that sends, or the virtual link whose sub-VL is to be closed */
+    uint64_t at;   /**< the time of a poll in microseconds */
+    size_t length; /**< the length of the message in bytes */
+} afdx_line;
+
+/** What a line says. */
+enum { AFDX_SAYS_NOTHING = 0, AFDX_SAYS_SEND = 1, AFDX_SAYS_AT = 2, AFDX_SAYS_CLOSE = 3 };
 
 /** The networks. */
 enum { AFDX_A = 0, AFDX_B = 1 };
@@ -104,6 +126,15 @@ enum {
 
 /** Why afdx_send refuses a message. AFDX_MEMORY: the copy could not be allocated. */
 enum { AFDX_EMPTY = 1, AFDX_TOO_LONG = 2, AFDX_CLOSED = 3, AFDX_EXHAUSTED = 4, AFDX_FULL = 5 };
+
+/** Why a line of a script is refused, in the order in which they are returned: LONG, WORD, NUMBER, HEX, EXTRA. */
+enum {
+    AFDX_LINE_WORD = 1,   /**< it begins with another word, or lacks one */
+    AFDX_LINE_NUMBER = 2, /**< a number isn't decimal, or exceeds its range */
+    AFDX_LINE_HEX = 3,    /**< other than hexadecimal digits, or an odd number of them */
+    AFDX_LINE_EXTRA = 4,  /**< more words */
+    AFDX_LINE_LONG = 5    /**< over 20,000 bytes */
+};
 
 /** Why a poll does nothing: both networks have failed before. */
 enum { AFDX_BOTH_DOWN = 1 };
@@ -248,6 +279,15 @@ uint8_t afdx_frame(const afdx_end_system *it, uint8_t network, size_t k, uint8_t
 uint8_t afdx_all_frames(const afdx_end_system *it, uint8_t network, uint8_t *buffer, size_t size, size_t *lengths,
                         size_t room, size_t *count);
 
+/** Writes the virtual link, the sub-VL and the sequence number of frame k, from 0, that the last poll made for a network:
+   what afdx_frame's bytes of it say.
+   @param it the end system
+   @param network AFDX_A or AFDX_B
+   @param k which frame, from 0
+   @param out what the frame carries
+   @return AFDX_OK. Refused: AFDX_NOT_HELD, AFDX_WRONG_HANDLE, AFDX_NO_NETWORK, AFDX_NO_FRAME, with nothing written. */
+uint8_t afdx_release(const afdx_end_system *it, uint8_t network, size_t k, afdx_released *out);
+
 /** Makes a network fail: its next frame fails, and it gets none afterwards.
    @param it the end system
    @param network AFDX_A or AFDX_B
@@ -303,9 +343,24 @@ uint8_t afdx_free(afdx_end_system *it);
    @return AFDX_OK. Refused: AFDX_NOT_HELD, AFDX_WRONG_HANDLE. */
 uint8_t afdx_free_port(afdx_port *port);
 
-/** The calls, by the meaning of their least numbers: those of afdx_open, afdx_send and afdx_poll are faults of their
-   own. */
-typedef enum { AFDX_CALL_OPEN, AFDX_CALL_SEND, AFDX_CALL_POLL, AFDX_CALL_OTHER } afdx_call;
+/** Reads a line of a script (docs/guide/program.md), given without its end: a line feed, or a carriage return and a line
+   feed. Needs no handle. Allocates memory for the message, and frees it.
+   @param line the line
+   @param length its length in bytes
+   @param out what it says
+   @param buffer where the message of a send is copied to
+   @param size its size in bytes; 10,000 are always enough
+   @return AFDX_OK. Refused: AFDX_LINE_LONG, AFDX_LINE_WORD, AFDX_LINE_NUMBER, AFDX_LINE_HEX, AFDX_LINE_EXTRA, AFDX_MEMORY,
+   with nothing written; AFDX_SMALL_BUFFER: the message is longer than the buffer, and only `out` is written. */
+uint8_t afdx_script_line(const uint8_t *line, size_t length, afdx_line *out, uint8_t *buffer, size_t size);
+
+/** The version of the library that a program runs with, as one number.
+   @return 10,000 times its first number, 100 times its second, and its third: AFDX_VERSION_NUMBER of its header */
+uint32_t afdx_version_number(void);
+
+/** The calls, by the meaning of their least numbers: those of afdx_open, afdx_send, afdx_poll and afdx_script_line are
+   faults of their own. */
+typedef enum { AFDX_CALL_OPEN, AFDX_CALL_SEND, AFDX_CALL_POLL, AFDX_CALL_OTHER, AFDX_CALL_LINE } afdx_call;
 
 /** The version of the header that a program is compiled with.
    @return AFDX_VERSION */
@@ -322,6 +377,7 @@ static inline const char *afdx_answer_name(afdx_call call, uint8_t answer) {
         "AFDX_CONFIG_NO_SUCH_VL", "AFDX_CONFIG_NO_SUCH_SUB", "AFDX_CONFIG_SAMPLING_TOO_LONG", "AFDX_CONFIG_SAME_FLOW",
         "AFDX_CONFIG_SHARED_UNICAST", "AFDX_CONFIG_LIMIT"};
     static const char *const of_send[] = {"AFDX_EMPTY", "AFDX_TOO_LONG", "AFDX_CLOSED", "AFDX_EXHAUSTED", "AFDX_FULL"};
+    static const char *const of_line[] = {"AFDX_LINE_WORD", "AFDX_LINE_NUMBER", "AFDX_LINE_HEX", "AFDX_LINE_EXTRA", "AFDX_LINE_LONG"};
     static const char *const of_any[] = {
         "AFDX_NOT_HELD", "AFDX_WRONG_HANDLE", "AFDX_HELD", "AFDX_TIME_BACK", "AFDX_NO_PORT", "AFDX_NO_SUB", "AFDX_NO_LINK",
         "AFDX_NO_NETWORK", "AFDX_NO_FRAME", "AFDX_SMALL_BUFFER", "AFDX_PORT_MISSING", "AFDX_GATHERED", "AFDX_NOT_GATHERED"};
@@ -332,6 +388,7 @@ static inline const char *afdx_answer_name(afdx_call call, uint8_t answer) {
     if (call == AFDX_CALL_OPEN && k <= sizeof of_open / sizeof *of_open) return of_open[k - 1];
     if (call == AFDX_CALL_SEND && k <= sizeof of_send / sizeof *of_send) return of_send[k - 1];
     if (call == AFDX_CALL_POLL && k == AFDX_BOTH_DOWN) return "AFDX_BOTH_DOWN";
+    if (call == AFDX_CALL_LINE && k <= sizeof of_line / sizeof *of_line) return of_line[k - 1];
     return "unknown answer";
 }
 

@@ -103,6 +103,8 @@ static void try_misuse(const std::string &demo) {
     CHECK(is_misuse(MisuseFault::NoNetwork, [&] { it.fail(static_cast<Network>(2)); }));
     CHECK(is_misuse(MisuseFault::NoFrame, [&] { it.frame(Network::B, 1, buffer, sizeof buffer); }));
     CHECK(is_misuse(MisuseFault::SmallBuffer, [&] { it.frame(Network::B, 0, buffer, sizeof buffer); }));
+    CHECK(it.released(Network::B, 0).vl == 1 && it.released(Network::B, 0).sub == 0 && it.released(Network::B, 0).number == 0);
+    CHECK(is_misuse(MisuseFault::NoFrame, [&] { it.released(Network::A, 1); }));
     CHECK(is_misuse(MisuseFault::PortMissing, [&] { it.gather(); }));
     CHECK(is_misuse(MisuseFault::NotGathered, [&] { it.is_done(); }));
 }

@@ -4,4 +4,5 @@
 mod content;
 mod opening;
 mod reading;
+mod script;
 mod sending;

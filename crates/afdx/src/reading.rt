@@ -2,6 +2,7 @@
 ghost use Rattle.std.specs.Prelude.{◌≡◌, ◌≢◌, ◌⊎◌, ◌↔◌, ◌<◌, ◌≤◌, ◌++◌, [], ◌∷◌, None, Some, IsSome, IsNone, IsSomeAnd, false, length, drop};
 ghost use Rattle.afdx_tx.specs.Emitter.{LacksLink};
 ghost use Rattle.afdx_handle.specs.Numbers.{AreCountsOf, IsOneOf, net_of};
+ghost use Rattle.afdx_handle.specs.Release.{IsReleaseOf};
 ghost use Rattle.afdx_handle.specs.EndSystem.{made_for, made_at, IsAllSent};
 ghost use Rattle.afdx_legal.specs.Counting.{counts_in};
 ghost use Rattle.afdx_legal.specs.Streams.{own_stream};
@@ -14,7 +15,7 @@ use crate::content::{at_end, with_end};
 use afdx_handle::answer::{
     DONE, NO_FRAME, NO_LINK, NO_NETWORK, NOT_GATHERED, NOT_HELD, SMALL_BUFFER, WRONG_HANDLE, net_of,
 };
-use afdx_handle::{Handle, Home, LinkCounts};
+use afdx_handle::{FrameRelease, Handle, Home, LinkCounts};
 
 /// Writes the identifiers of the ports, in the order of the configuration, and their number.
 #[unsafe(no_mangle)]
@@ -147,6 +148,26 @@ pub extern "C" fn afdx_all_frames(
 {
     with_end!(it, end => match net_of(network) {
         Some(net) => end.all_frames(net, buffer, lengths, count),
+        None => NO_NETWORK,
+    })
+}
+
+/// Writes the link, the sub-VL and the number of frame `k`, from 0, that the last poll made for a network.
+#[unsafe(no_mangle)]
+pub extern "C" fn afdx_release(it: &mut Handle, network: u8, k: usize, out: &mut FrameRelease) -> u8
+    ensures answers { IsOneOf result (DONE ∷ NOT_HELD ∷ WRONG_HANDLE ∷ NO_NETWORK ∷ NO_FRAME ∷ []) }
+    ensures not_held { (result ≡ NOT_HELD) ↔ HoldsNothing it.old.kept.home }
+    ensures wrong_handle { (result ≡ WRONG_HANDLE) ↔ IsSome (port_of it.old.kept.home) }
+    ensures no_network { (result ≡ NO_NETWORK) ↔ (IsSome (end_of it.old.kept.home) × IsNone (net_of network)) }
+    ensures no_frame { (result ≡ NO_FRAME) ↔ HoldsEnd it.old.kept.home (λ end.
+        IsSomeAnd (net_of network) (λ net. made_for net end ≤ k)) }
+    ensures released { result ≡ DONE → HoldsEnd it.old.kept.home (λ end. IsSomeAnd (net_of network) (λ net.
+        IsReleaseOf (made_at net k end) out.new)) }
+    ensures same { HoldsSame it.old.kept.home it.new.kept.home }
+    ensures unwritten { result ≢ DONE → out.new ≡ out.old }
+{
+    with_end!(it, end => match net_of(network) {
+        Some(net) => end.release(net, k, out),
         None => NO_NETWORK,
     })
 }

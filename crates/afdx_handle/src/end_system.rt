@@ -7,6 +7,7 @@ use crate::answer::{
 };
 use crate::block::Block;
 use crate::listing::{put_at, write_link_ids, write_port_ids};
+use crate::release::{FrameRelease, release_of};
 use crate::stage::Stage;
 use afdx_frame::Net;
 use afdx_plan::VlId;
@@ -55,6 +56,7 @@ impl EndSystem {
     ghost use Rattle.afdx_legal.specs.Counting.{counts_in};
     ghost use Rattle.afdx_legal.specs.Streams.{own_stream};
     ghost use Rattle.afdx_handle.specs.Numbers.{line_of, standing_bits};
+    ghost use Rattle.afdx_handle.specs.Release.{IsReleaseOf};
     ghost use Rattle.afdx_handle.specs.Polling.{IsNextDue};
     ghost use Rattle.afdx_handle.specs.EndSystem.{PollsEnd, ClosesEnd, before_of, made_for, made_at, IsAllSent};
     ghost use Rattle.afdx_handle.specs.Listing.{with_front, port_ids, link_ids, all_made, bytes_of, lengths_of};
@@ -187,6 +189,21 @@ impl EndSystem {
             unreachable!();
         };
         kept.frame.as_slice()
+    }
+
+    /// Writes the link, the sub-VL and the number of frame `k`, from 0, that the last poll made for a network. Writes
+    /// nothing on `NO_FRAME`, if the poll made fewer frames.
+    pub fn release(&self, net: Net, k: usize, out: &mut FrameRelease) -> u8
+        ensures answers { (result ≡ DONE) ⊎ (result ≡ NO_FRAME) }
+        ensures no_frame { (result ≡ NO_FRAME) ↔ (made_for net self.now ≤ k) }
+        ensures released { result ≡ DONE → IsReleaseOf (made_at net k self.now) out.new }
+        ensures unwritten { result ≢ DONE → out.new ≡ out.old }
+    {
+        if k >= self.frames(net) {
+            return NO_FRAME;
+        }
+        *out = release_of(self.made(net, k));
+        DONE
     }
 
     /// The length in all of the frames that the last poll made for a network.

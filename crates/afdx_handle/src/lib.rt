@@ -11,6 +11,8 @@ mod home;
 mod listing;
 mod opening;
 mod ports;
+mod release;
+mod script;
 mod seal;
 mod stage;
 
@@ -22,5 +24,7 @@ pub use handle::{Handle, Marked, Opening};
 pub use home::{Home, OwnPort};
 pub use opening::open_home;
 pub use ports::{gather, give_to, is_nothing, send, take_port};
+pub use release::FrameRelease;
+pub use script::{ScriptLine, VERSION, read_script_line};
 pub use seal::Sealed;
 pub use stage::Stage;
