@@ -67,7 +67,6 @@ BAD_BAG = "configuration refused: 6 BadBag\n"
 NOT_THERE, UNREAD = "No such file or directory (os error 2)\n", "it can't be read, or has more than 16 MiB\n"
 SEE_EXPLAIN = "wrong.toml: for all faults and their places, run `afdx_bench explain wrong.toml`\n"
 EXPLAIN, ANALYSE, ANALYSIS = ["explain", "demo.toml"], ["report", "demo.toml"], ANALYSES[DEMO, 0]
-EXPLAINED = "1 fault\n6 BadBag: vl 1 (id 1), bag_ms is 3: 1, 2, 4, 8, 16, 32, 64 or 128\n"
 JUDGE = ["judge", "demo.toml", "short.txt"]
 JUDGED = f"""no findings
 capture 1: 0 packets, malformed at byte 0: Format
@@ -75,6 +74,7 @@ capture 1: 0 packets, malformed at byte 0: Format
     1   A           0             0           0     1000000              -           -
     1   B           0             0           0     1000000              -           -
 """
+EXPLAINED = "1 fault\nwrong.toml:6: 6 BadBag: vl 1 (id 1), bag_ms is 3: 1, 2, 4, 8, 16, 32, 64 or 128\n"
 NO_TEXT = WRONG.replace("unrecognized subcommand 'frob'", "a word is not UTF-8")
 
 # Words, and how a run of them ends: its status, standard output and standard error. Standard input is empty.

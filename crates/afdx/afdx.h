@@ -166,9 +166,9 @@ enum {
 uint8_t afdx_open(afdx_end_system *out, const uint8_t *text, size_t length);
 
 /** Explains a refused configuration: its faults, each with its place, as `afdx_bench explain` prints them
-   (docs/guide/program.md), in lines that end in a line feed; "no faults" if there is none. The first line counts
-   them all; 1,000 have a line, and of more the last line is "and N more". Copies as much of the explanation as fits
-   into the buffer, without a terminating zero, and writes its length.
+   (docs/guide/program.md) after the file and the line, in lines that end in a line feed; "no faults" if there is none.
+   The first line counts them all; 1,000 have a line, and of more the last line is "and N more". Copies as much of the
+   explanation as fits into the buffer, without a terminating zero, and writes its length.
    @param text the text
    @param length its length in bytes
    @param buffer where the explanation is copied to

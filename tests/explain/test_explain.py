@@ -5,7 +5,8 @@
 
 It runs what `rt ci` has built. The expected output is computed here, from the tables of `docs/guide/configuration.md` and the
 lines of `docs/guide/program.md`: all of it, for each text that is TOML. TEXTS texts, 2,000 by default, have one to three planted
-faults each, and each must be reported at its place. For any text, the first line must count the others, and the first
+faults each, and each must be reported at its place. `layouts.py` writes texts of random layouts, and knows the line of each
+fault. For any text, the first line must count the others, and the first
 fault must be the one that `check` reports, which prints nothing else then. The last line is 'N passed, M failed'.
 """
 import os
@@ -27,6 +28,7 @@ sys.path[:0] = [f"{ROOT}/tests", os.path.dirname(os.path.abspath(__file__))]
 import refusals  # noqa: E402
 import refusals_wanted  # noqa: E402
 import trying  # noqa: E402
+from layouts import laid_out  # noqa: E402
 from planting import bad_values, plan_of, planted, text_of  # noqa: E402
 from wanted import FIELDS, GAPS, NAMES, OPTIONAL, SAME, explanation, subject  # noqa: E402
 
@@ -39,11 +41,22 @@ def ran(command: str, text: bytes) -> subprocess.CompletedProcess[bytes]:
     return subprocess.run([PROGRAM, command, path], capture_output=True, check=False, timeout=60)
 
 
+# What a line of a fault begins with: the file's name, and the number of a line, if that is known.
+PLACE = re.compile(r"(?m)^plan-\d+\.toml:(\d+:)? ")
+
+
+def without_places(told: str) -> str:
+    """What is told without the files and lines that lines of faults begin with. Each of them has to begin so."""
+    head, *rest = told.splitlines(keepends=True) or [""]
+    lacks = [line for line in rest if not PLACE.match(line) and not re.fullmatch(r"and \d+ more\n", line)]
+    return "".join(f"no place: {line}" for line in lacks) + head + PLACE.sub("", "".join(rest))
+
+
 def faults_of(text: str | bytes, lines: Iterable[str] = (), whole: str | None = None) -> list[str]:
     """What is wrong with the explanation of a text. It must have lines with these starts, and be `whole` if that is given."""
     raw = text.encode() if isinstance(text, str) else text
     explained, checked = ran("explain", raw), ran("check", raw)
-    told, faults = explained.stdout.decode(), []
+    told, faults = without_places(explained.stdout.decode()), []
     try:
         wanted = whole or explanation(tomllib.loads(raw.decode()))
     except (tomllib.TOMLDecodeError, UnicodeDecodeError):
@@ -223,9 +236,31 @@ def keys() -> Iterable[tuple]:
                 yield text_of(document, rng), [f"{fault} {NAMES[fault]}: {subject(document, at, key)}: "] if told else []
 
 
+def layout_faults(seed: int) -> list[str]:
+    """What is wrong with the lines that are told of a text of a random layout."""
+    rng = random.Random(seed)
+    text, wanted = laid_out(rng)
+    told = ran("explain", text.encode()).stdout.decode()
+    found = {}
+    for line in told.splitlines()[1:]:
+        place, fault = re.fullmatch(r"plan-\d+\.toml:(?:(\d+):)? (.*)", line).groups()
+        found[fault.partition(": ")[2]] = int(place) if place else None
+    lines = {what: line for what, line in found.items() if any(what.startswith(start) for start in wanted)}
+    missing = [start for start in wanted if not any(what.startswith(start) for what in found)]
+    wrong = [f"{what}: line {line}" for what, line in lines.items() if {line} != {at for start, at in wanted.items() if what.startswith(start)}]
+    return [f"{wrong or missing} of seed {seed}, wanted {wanted}, told\n{told}\nof\n{text[:3000]}"] if wrong or missing else []
+
+
+def layouts(count: int) -> tuple[list[str], str]:
+    """The lines of faults in texts of random layouts."""
+    with ThreadPoolExecutor(len(os.sched_getaffinity(0))) as pool:
+        return [fault for found in pool.map(layout_faults, range(count)) for fault in found], ""
+
+
 def refused(text: str, status: int) -> list[str]:
     """What is wrong with runs in each of which an allocation or a write fails, or standard output is closed."""
-    answer, words, bench = ran("explain", text.encode()).stdout.decode(), ["explain", "plan.toml"], refusals.Bench(os.getcwd())
+    answer = re.sub(r"plan-\d+\.toml", "plan.toml", ran("explain", text.encode()).stdout.decode())
+    words, bench = ["explain", "plan.toml"], refusals.Bench(os.getcwd())
     with open("plan.toml", "w", encoding="utf-8") as file:
         file.write(text)
     cases = [refusals_wanted.command(words, answer, many=many, status=status) for many in (1, 0)]
@@ -273,6 +308,7 @@ def main() -> int:
         tries.show(f"{count} texts with planted faults", all_faults(planted(seed) for seed in range(count)))
         sound = [(text_of(plan_of(rng, k % 8 + 1, k + 1, (None, 1, 2)[k % 3]), rng), (), "no faults\n") for k in range(65)]
         tries.show("65 plans without a fault", all_faults(sound))
+        tries.attempt(f"the lines of {count // 4} texts of random layouts", lambda: layouts(count // 4))
         tries.attempt("refused memory and writes, no fault", lambda: (refused(trying.DEMO, 0), ""))
         tries.attempt("refused memory, two faults", lambda: (refused(trying.DEMO.replace("bag_ms = 1", "bag_ms = 3\nx = 1"), 2), ""))
         tries.attempt("refused memory, no TOML", lambda: (refused(trying.DEMO + "=", 2), ""))

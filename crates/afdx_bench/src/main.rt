@@ -139,7 +139,7 @@ fn check_file<W: Write>(rt: &HostRuntime, config: &str, writer: &mut W) -> Resul
 
 /// Writes the faults of a configuration, by the path of its file.
 fn explain_file<W: Write>(rt: &HostRuntime, config: &str, writer: &mut W) -> Result<End, Stop> {
-    let told = tell_faults(rt.alloc(), open(rt, config, Named::Plan)?, writer);
+    let told = tell_faults(rt.alloc(), open(rt, config, Named::Plan)?, config, writer);
     told.map_err(|failure| Stop::reading(failure, Named::Plan))
 }
 

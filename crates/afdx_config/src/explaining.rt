@@ -9,8 +9,9 @@ ghost use Rattle.afdx_config.specs.Seen.{Holds, finding_of, IsDocument, data_of}
 
 use crate::document::Document;
 use crate::findings::{Finding, Found, Place, add};
+use crate::layout::lines_of_findings;
 use crate::plan_findings::add_plan;
-use crate::told::{text_of, text_of_toml};
+use crate::told::{Origin, text_of, text_of_toml};
 use crate::value_findings::add_values;
 use afdx_plan::ConfigFault;
 use std::alloc::{AllocError, Global};
@@ -41,18 +42,45 @@ fn findings_in(alloc: Global, document: &Document<'_>) -> Result<Found, AllocErr
     Ok(found)
 }
 
-/// Explains a document.
-fn explain_document(alloc: Global, table: &Table) -> Result<Explanation, AllocError>
+/// The text of a document's findings, whose lines name the file of the text if it has a name.
+fn lines_with(
+    alloc: Global,
+    document: &Document<'_>,
+    found: &Found,
+    text: &[u8],
+    name: Option<&str>,
+) -> Result<Vec<u8>, AllocError>
+    ensures { IfOk result (λ lines. HasLines found.now.count lines.items) }
+{
+    let written = match name {
+        Some(name) => {
+            let lines = lines_of_findings(alloc, text, found.first.as_slice())?;
+            let lines = lines.as_slice();
+            text_of(alloc, document, found, Some(&Origin { name, lines }))
+        }
+        None => text_of(alloc, document, found, None),
+    };
+    match written {
+        Ok(lines) => Ok(lines),
+        Err(_) => Err(AllocError),
+    }
+}
+
+/// Explains a document, which is that of a text.
+fn explain_document(
+    alloc: Global,
+    table: &Table,
+    text: &[u8],
+    name: Option<&str>,
+) -> Result<Explanation, AllocError>
     ensures findings { IfOk result (λ e.
         TellsDocument (table_view table.now) (map finding_of e.findings.items) e.count) }
     ensures text { IfOk result (λ e. HasLines e.count e.text.items) }
 {
     let document = Document::of(alloc, table)?;
     let found = findings_in(alloc, &document)?;
-    match text_of(alloc, &document, &found) {
-        Ok(text) => Ok(explanation_of(found, text)),
-        Err(_) => Err(AllocError),
-    }
+    let lines = lines_with(alloc, &document, &found, text, name)?;
+    Ok(explanation_of(found, lines))
 }
 
 fn explanation_of(found: Found, text: Vec<u8>) -> Explanation
@@ -88,7 +116,12 @@ fn column_of(before: &[u8]) -> usize
 }
 
 /// Explains a text that is not TOML.
-fn explain_toml(alloc: Global, text: &[u8], error: &Error) -> Result<Explanation, AllocError>
+fn explain_toml(
+    alloc: Global,
+    text: &[u8],
+    error: &Error,
+    name: Option<&str>,
+) -> Result<Explanation, AllocError>
     requires { IsWithin text.now error.now }
     ensures findings { IfOk result (λ e. TellsToml text.now (map finding_of e.findings.items) e.count) }
     ensures text { IfOk result (λ e. HasLines e.count e.text.items) }
@@ -98,11 +131,16 @@ fn explain_toml(alloc: Global, text: &[u8], error: &Error) -> Result<Explanation
         None => 0,
     };
     let (before, _rest) = text.split_at(start);
-    tell_toml(alloc, before, error.message())
+    tell_toml(alloc, before, error.message(), name)
 }
 
 /// Explains a text that stops being TOML after the bytes `before`.
-fn tell_toml(alloc: Global, before: &[u8], message: &str) -> Result<Explanation, AllocError>
+fn tell_toml(
+    alloc: Global,
+    before: &[u8],
+    message: &str,
+    name: Option<&str>,
+) -> Result<Explanation, AllocError>
     ensures findings { IfOk result (λ e.
         TellsStop before.now message.now (map finding_of e.findings.items) e.count) }
     ensures text { IfOk result (λ e. HasLines e.count e.text.items) }
@@ -113,7 +151,7 @@ fn tell_toml(alloc: Global, before: &[u8], message: &str) -> Result<Explanation,
     let place = Place::Text(line, column);
     let fault = ConfigFault::Toml;
     add(&mut found, fault, place, message, None)?;
-    match text_of_toml(alloc, line, column, message) {
+    match text_of_toml(alloc, line, column, message, name) {
         Ok(text) => Ok(explanation_of(found, text)),
         Err(_) => Err(AllocError),
     }
@@ -126,13 +164,29 @@ pub fn explain(alloc: Global, text: &[u8]) -> Result<Explanation, AllocError>
     ensures { IfOk result (λ e.
         Explains text.now (map finding_of e.findings.items) e.count e.text.items) }
 {
+    explain_named(alloc, text, None)
+}
+
+/// Explains a configuration as `explain` does. Each line of a finding begins with the name of the file of the text, and
+/// with the number of the finding's line, if the text has the usual form up to that line.
+pub fn explain_file(alloc: Global, text: &[u8], name: &str) -> Result<Explanation, AllocError>
+    ensures { IfOk result (λ e.
+        Explains text.now (map finding_of e.findings.items) e.count e.text.items) }
+{
+    explain_named(alloc, text, Some(name))
+}
+
+fn explain_named(alloc: Global, text: &[u8], name: Option<&str>) -> Result<Explanation, AllocError>
+    ensures { IfOk result (λ e.
+        Explains text.now (map finding_of e.findings.items) e.count e.text.items) }
+{
     match toml::table_from_slice(alloc, text) {
-        Ok(table) => explain_document(alloc, &table),
+        Ok(table) => explain_document(alloc, &table, text, name),
         Err(error) => {
             if error.is_memory() {
                 Err(AllocError)
             } else {
-                explain_toml(alloc, text, &error)
+                explain_toml(alloc, text, &error, name)
             }
         }
     }

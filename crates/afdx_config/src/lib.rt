@@ -10,6 +10,7 @@ mod findings;
 mod format;
 mod keyed;
 pub mod laws;
+mod layout;
 mod pairs;
 mod parts;
 mod plan_findings;
@@ -25,6 +26,6 @@ pub use afdx_plan::{
     Bag, CAPACITY_LIMIT, Config, ConfigFault, Kind, LINKS_LIMIT, LinkPlan, Lmax, MESSAGE_LIMIT,
     Networks, PORTS_LIMIT, PortId, PortPlan, SUB_PORTS_LIMIT, UdpSum, VlId, demo_config, jitter_ns,
 };
-pub use explaining::{Explanation, explain};
+pub use explaining::{Explanation, explain, explain_file};
 pub use findings::{Finding, Place};
 pub use read::read_config;

@@ -157,10 +157,34 @@ fn write_finding(out: &mut Text, document: &Document<'_>, finding: &Finding) -> 
     }
 }
 
+/// The file of a text, and the lines of its findings, of those that are known.
+#[derive(Clone, Copy)]
+pub(crate) struct Origin<'a> {
+    pub name: &'a str,
+    pub lines: &'a [Option<usize>],
+}
+
+/// Writes the file of a finding, and its line, if that is known.
+fn write_origin(out: &mut Text, name: &str, line: Option<usize>) -> Result<()> {
+    match line {
+        Some(line) => write!(out, "{name}:{line}: "),
+        None => write!(out, "{name}: "),
+    }
+}
+
 /// The lines of findings.
-fn lines_of(alloc: Global, document: &Document<'_>, findings: &[Finding]) -> Result<Text> {
+fn lines_of(
+    alloc: Global,
+    document: &Document<'_>,
+    findings: &[Finding],
+    origin: Option<&Origin<'_>>,
+) -> Result<Text> {
     let mut lines = Vec::new(alloc);
-    for finding in findings {
+    for (k, finding) in findings.iter().enumerate() {
+        if let Some(origin) = origin {
+            let line = origin.lines.get(k).copied().flatten();
+            write_origin(&mut lines, origin.name, line)?;
+        }
         write_finding(&mut lines, document, finding)?;
     }
     Ok(lines)
@@ -191,24 +215,52 @@ fn write_rest(out: &mut Text, count: usize) -> Result<()>
 }
 
 /// The text of a document's findings: their number, a line for each of those kept, and the number of the others.
-pub(crate) fn text_of(alloc: Global, document: &Document<'_>, found: &Found) -> Result<Text>
+pub(crate) fn text_of(
+    alloc: Global,
+    document: &Document<'_>,
+    found: &Found,
+    origin: Option<&Origin<'_>>,
+) -> Result<Text>
     ensures { IfOk result (λ text. HasLines found.now.count text.items) }
 {
     let mut text = Vec::new(alloc);
     write_count(&mut text, found.count)?;
-    let lines = lines_of(alloc, document, found.first.as_slice())?;
+    let lines = lines_of(alloc, document, found.first.as_slice(), origin)?;
     text.write_all(lines.as_slice())?;
     write_rest(&mut text, found.count)?;
     Ok(text)
 }
 
+/// The line of a text that stops being TOML, with the message of the TOML parser.
+fn line_of_toml(
+    alloc: Global,
+    line: usize,
+    column: usize,
+    message: &str,
+    name: Option<&str>,
+) -> Result<Text> {
+    let mut text = Vec::new(alloc);
+    if let Some(name) = name {
+        write_origin(&mut text, name, Some(line))?;
+    }
+    writeln!(text, "1 Toml: line {line}, column {column}: {message}")?;
+    Ok(text)
+}
+
 /// The text for the place at which a text stops being TOML, and the message of the TOML parser.
 #[tactic(auto, unfolding(crate::specs::Explained::rest_line))]
-pub(crate) fn text_of_toml(alloc: Global, line: usize, column: usize, message: &str) -> Result<Text>
+pub(crate) fn text_of_toml(
+    alloc: Global,
+    line: usize,
+    column: usize,
+    message: &str,
+    name: Option<&str>,
+) -> Result<Text>
     ensures { IfOk result (λ text. HasLines 1 text.items) }
 {
     let mut text = Vec::new(alloc);
     write_count(&mut text, 1)?;
-    writeln!(text, "1 Toml: line {line}, column {column}: {message}")?;
+    let told = line_of_toml(alloc, line, column, message, name)?;
+    text.write_all(told.as_slice())?;
     Ok(text)
 }

@@ -7,7 +7,7 @@ ghost use Rattle.sha2.specs.Sha256.{sha256};
 
 use crate::report::write_report;
 use crate::status::{End, Failure};
-use afdx_config::{Explanation, explain, read_config};
+use afdx_config::{Explanation, explain_file, read_config};
 use afdx_plan::Config;
 use script_text::RunFault;
 use sha2::{Digest, Sha256};
@@ -75,11 +75,12 @@ pub fn check<R: Read + Drop, W: Write>(
     }
 }
 
-/// Reads a configuration and writes the text of its explanation. Writes nothing if an allocation or the
-/// reader fails.
+/// Reads a configuration and writes the text of its explanation, whose lines begin with the name of its file. Writes
+/// nothing if an allocation or the reader fails.
 pub fn tell_faults<R: Read + Drop, W: Write>(
     alloc: Global,
     reader: R,
+    name: &str,
     writer: &mut W,
 ) -> Result<End, Failure>
     ensures ok { IfOk result (λ end. IfSome (R.remaining reader) (λ text.
@@ -90,7 +91,7 @@ pub fn tell_faults<R: Read + Drop, W: Write>(
         Keeps (W.contents writer.old) (W.contents writer.new)) }
 {
     let text = read_text(alloc, reader)?;
-    match explain(alloc, text.as_slice()) {
+    match explain_file(alloc, text.as_slice(), name) {
         Ok(told) => {
             let end = end_of(&told);
             match writer.write_all(told.text.as_slice()) {

@@ -1,0 +1,217 @@
+//! The lines at which the tables and keys of a text begin. They are known of a text in the usual form: each header and
+//! each key begins a line, and each value ends on its line. From the first line of another form on, none is known.
+use crate::findings::{Finding, Place};
+use std::alloc::{AllocError, Global};
+use std::collections::BTreeMap;
+use std::str;
+
+/// The kind of a table, and its number among those of the kind, from 1; 0 for a kind that has one table.
+type TableName = (u8, usize);
+
+const TOP: TableName = (0, 0);
+
+const END_SYSTEM: TableName = (1, 0);
+
+const LINK: u8 = 2;
+
+const PORT: u8 = 3;
+// A table that the format lacks.
+const OTHER: TableName = (4, 0);
+
+/// A table and a key in it. The header of the table has no key.
+type Spot<'a> = (TableName, &'a str);
+
+/// The lines of spots, from 1; 0 of a spot that wasn't found.
+type Lines<'a> = BTreeMap<Spot<'a>, usize>;
+
+/// What a line begins with.
+#[derive(Clone, Copy)]
+enum Start<'a> {
+    /// A comment, or nothing.
+    Nothing,
+    /// `[name]`, or with two brackets one more table of an array.
+    Header(&'a str, bool),
+    /// A key, whose value ends on the line.
+    Key(&'a str),
+    /// A key, whose value may end on a later line.
+    Open(&'a str),
+    /// Another form.
+    Unusual,
+}
+
+fn is_bare(c: char) -> bool {
+    c.is_ascii_alphanumeric() || c == '-' || c == '_'
+}
+
+/// The bare key that a text begins with, and the rest of the text.
+fn bare_key(text: &str) -> Option<(&str, &str)> {
+    let end = match text.find(|c| !is_bare(c)) {
+        Some(end) => end,
+        None => text.len(),
+    };
+    let (key, rest) = text.split_at_checked(end)?;
+    if key.is_empty() {
+        return None;
+    }
+    Some((key, rest))
+}
+
+/// The key that a text begins with, bare or in quotes, and the rest of the text.
+fn key_of(text: &str) -> Option<(&str, &str)> {
+    for quote in ["\"", "'"] {
+        if let Some(quoted) = text.strip_prefix(quote) {
+            let (key, rest) = bare_key(quoted)?;
+            return Some((key, rest.strip_prefix(quote)?));
+        }
+    }
+    bare_key(text)
+}
+
+/// Reads a header, whose first bracket is left out.
+fn header_of(text: &str) -> Option<Start<'_>> {
+    match text.strip_prefix("[") {
+        Some(name) => {
+            let (name, rest) = bare_key(name)?;
+            rest.strip_prefix("]]")?;
+            Some(Start::Header(name, true))
+        }
+        None => {
+            let (name, rest) = bare_key(text)?;
+            rest.strip_prefix("]")?;
+            Some(Start::Header(name, false))
+        }
+    }
+}
+
+/// Reads a key and what its value begins with.
+fn pair_of(line: &str) -> Option<Start<'_>> {
+    let (key, rest) = key_of(line)?;
+    let value = rest.trim_ascii_start().strip_prefix("=")?;
+    let value = value.trim_ascii_start();
+    let is_open = ["[", "{", "\"\"\"", "'''"]
+        .iter()
+        .any(|open| value.starts_with(*open));
+    if is_open {
+        Some(Start::Open(key))
+    } else {
+        Some(Start::Key(key))
+    }
+}
+
+/// What a line begins with.
+fn start_of(line: &str) -> Start<'_> {
+    let line = line.trim_ascii_start();
+    if line.is_empty() || line.starts_with("#") {
+        return Start::Nothing;
+    }
+    let start = match line.strip_prefix("[") {
+        Some(header) => header_of(header),
+        None => pair_of(line),
+    };
+    match start {
+        Some(start) => start,
+        None => Start::Unusual,
+    }
+}
+
+/// Keeps the first line of a spot, if that is looked for.
+fn keep<'a>(lines: &mut Lines<'a>, spot: Spot<'a>, line: usize) {
+    if let Some(kept) = lines.get_mut(&spot) {
+        if *kept == 0 {
+            *kept = line;
+        }
+    }
+}
+
+/// How many tables of links and ports have begun.
+#[derive(Clone, Copy)]
+struct Begun {
+    links: usize,
+    ports: usize,
+}
+
+/// The table of a header.
+fn table_of(begun: &mut Begun, name: &str, is_row: bool) -> TableName {
+    match (name, is_row) {
+        ("end_system", false) => END_SYSTEM,
+        ("vl", true) => {
+            begun.links = begun.links.saturating_add(1);
+            (LINK, begun.links)
+        }
+        ("port", true) => {
+            begun.ports = begun.ports.saturating_add(1);
+            (PORT, begun.ports)
+        }
+        _ => OTHER,
+    }
+}
+
+/// Looks for spots in a text.
+fn search<'a>(lines: &mut Lines<'a>, text: &'a str) {
+    let mut begun = Begun { links: 0, ports: 0 };
+    let mut table = TOP;
+    let text = match text.strip_prefix("\u{feff}") {
+        Some(text) => text,
+        None => text,
+    };
+    for (k, line) in text.split('\n').enumerate() {
+        let line_number = k.saturating_add(1);
+        match start_of(line) {
+            Start::Nothing => {}
+            Start::Header(name, is_row) => {
+                keep(lines, (TOP, name), line_number);
+                table = table_of(&mut begun, name, is_row);
+                keep(lines, (table, ""), line_number);
+            }
+            Start::Key(key) => keep(lines, (table, key), line_number),
+            Start::Open(key) => {
+                keep(lines, (table, key), line_number);
+                return;
+            }
+            Start::Unusual => return,
+        }
+    }
+}
+
+/// The table of a place.
+fn table_at(place: Place) -> TableName {
+    match place {
+        Place::Text(_, _) | Place::Top => TOP,
+        Place::EndSystem => END_SYSTEM,
+        Place::Link(k) => (LINK, k),
+        Place::Port(k) => (PORT, k),
+    }
+}
+
+/// The line of a finding: that of its key, or else of its table's header.
+fn line_of<'a>(lines: &Lines<'a>, finding: &'a Finding) -> Option<usize> {
+    let table = table_at(finding.place);
+    let of_key = lines.get(&(table, finding.key.as_str())).copied();
+    let of_table = lines.get(&(table, "")).copied();
+    [of_key, of_table]
+        .into_iter()
+        .flatten()
+        .find(|line| *line != 0)
+}
+
+/// The line of each finding, from 1, if it is known.
+pub(crate) fn lines_of_findings<'a>(
+    alloc: Global,
+    text: &'a [u8],
+    findings: &'a [Finding],
+) -> Result<Vec<Option<usize>>, AllocError> {
+    let mut lines = BTreeMap::new(alloc);
+    for finding in findings {
+        let table = table_at(finding.place);
+        lines.insert((table, finding.key.as_str()), 0)?;
+        lines.insert((table, ""), 0)?;
+    }
+    if let Ok(text) = str::from_utf8(text) {
+        search(&mut lines, text);
+    }
+    let mut found = Vec::new(alloc);
+    for finding in findings {
+        found.push(line_of(&lines, finding))?;
+    }
+    Ok(found)
+}
