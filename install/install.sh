@@ -3,7 +3,8 @@
 set -eu
 usage() {
     cat <<'EOF'
-Installs the AFDX end system: the library for C, C++, CMake and Python, the program afdx_bench, and examples.
+Installs the AFDX end system: the library for C, C++, CMake and Python, the programs afdx_bench and afdx_play, and
+examples.
 
     bash install/install.sh [--built] PREFIX
     bash install/install.sh --help
@@ -54,6 +55,9 @@ echo '{ global: afdx_*; local: *; };' > "$room/exports"
 ${CC:-cc} -shared -Wl,-soname,"$shared",-z,defs,--version-script="$room/exports" -Wl,--whole-archive "$room/libafdx.a" \
     -Wl,--no-whole-archive -o "$room/$shared"
 
+# The player, a C program over that archive.
+${CC:-cc} -O2 -std=gnu11 -Icrates/afdx examples/play/*.c "$room/libafdx.a" -o "$room/afdx_play"
+
 # Copies files into a folder of the prefix: by default files that aren't run.
 mode=644
 into() {
@@ -62,7 +66,7 @@ into() {
     mkdir -p "$folder"
     install -m $mode "$@" "$folder"
 }
-for it in afdx.pc afdxConfig.cmake afdxConfigVersion.cmake afdx_bench.1; do
+for it in afdx.pc afdxConfig.cmake afdxConfigVersion.cmake afdx_bench.1 afdx_play.1; do
     sed "s/@VERSION@/$version/; s/@SHARED@/$shared/" "install/$it" > "$room/$it"
 done
 into include crates/afdx/afdx.h bindings/afdx.hpp
@@ -75,8 +79,8 @@ if command -v python3 >/dev/null; then
     python3 -B install/wheel.py "$version" "$room/$shared" "$room"
     into share/afdx "$room"/*.whl
 fi
-mode=755 into bin crates/afdx_bench/out/afdx_bench
-into share/man/man1 "$room/afdx_bench.1"
+mode=755 into bin crates/afdx_bench/out/afdx_bench "$room/afdx_play"
+into share/man/man1 "$room/afdx_bench.1" "$room/afdx_play.1"
 into share/bash-completion/completions install/completions/afdx_bench.bash
 mv "$prefix/share/bash-completion/completions/afdx_bench.bash" "$prefix/share/bash-completion/completions/afdx_bench"
 into share/zsh/site-functions install/completions/_afdx_bench
@@ -85,6 +89,7 @@ into share/doc/afdx LICENSE-MIT LICENSE-APACHE CHANGELOG.md docs/guide/{c,config
 into share/afdx bindings/afdx.lua
 into share/afdx/examples/c examples/c/example.c examples/c/demo.toml examples/c/wire.toml
 mode=755 into share/afdx/examples/c examples/c/build.sh examples/c/wire.sh examples/c/receive.py
+into share/afdx/examples/play examples/play/*.c examples/play/play.h
 into share/afdx/examples/cpp examples/cpp/main.cpp
 into share/afdx/examples/cmake examples/cmake/CMakeLists.txt examples/cmake/main.c
 into share/afdx/examples/python examples/python/main.py examples/python/bench.py

@@ -63,7 +63,9 @@ class Interface:
         names = [value for code, value in options if code == NAME]
         want(len(names) == 1, f"{len(names)} names of an interface")
         self.name = names[0].decode("utf-8")
-        want(all(code != RESOLUTION for code, _ in options), "moments aren't in microseconds")
+        units = [value[0] for code, value in options if code == RESOLUTION and len(value) == 1]
+        want(len(units) == len([code for code, _ in options if code == RESOLUTION]) <= 1, "no resolution of times")
+        self.resolution = units[0] if units else 6
 
 
 class Packet:
@@ -144,6 +146,7 @@ def checks(path, transcript=None):
     with open(path, "rb") as file:
         capture = Capture(file.read())
     want([it.name for it in capture.interfaces] == ["A", "B"], "the interfaces aren't A and B")
+    want(all(it.resolution == 6 for it in capture.interfaces), "moments aren't in microseconds")
     order = [(packet.moment, packet.name) for packet in capture.packets]
     results = [True] * capture.blocks + [order == sorted(order)]
     if not results[-1]:

@@ -25,17 +25,19 @@ WARNINGS = ["-Wall", "-Wextra", "-Werror", "-Wpedantic", "-Wconversion", "-g", "
 SANITIZERS = ["-fsanitize=address,undefined", "-fno-sanitize-recover=all"]
 VERSION = re.search('AFDX_VERSION "(.*)"', text_of("crates/afdx/afdx.h"))[1]
 FILES = f"""\
-bin/afdx_bench include/afdx.h include/afdx.hpp
+bin/afdx_bench bin/afdx_play include/afdx.h include/afdx.hpp
 lib/libafdx.a lib/libafdx.so lib/libafdx.so.1 lib/pkgconfig/afdx.pc lib/cmake/afdx/afdxConfig.cmake lib/cmake/afdx/afdxConfigVersion.cmake
 lib/python/afdx/__init__.py lib/python/afdx/_library.py lib/python/afdx/errors.py
 lib/python/afdx/py.typed share/afdx/afdx-{VERSION}-py3-none-linux_x86_64.whl share/afdx/afdx.lua
 share/bash-completion/completions/afdx_bench share/zsh/site-functions/_afdx_bench
-share/fish/vendor_completions.d/afdx_bench.fish share/man/man1/afdx_bench.1 share/doc/afdx/LICENSE-MIT
+share/fish/vendor_completions.d/afdx_bench.fish share/man/man1/afdx_bench.1 share/man/man1/afdx_play.1 share/doc/afdx/LICENSE-MIT
 share/doc/afdx/LICENSE-APACHE share/doc/afdx/CHANGELOG.md share/doc/afdx/c.md share/doc/afdx/configuration.md
 share/doc/afdx/judge.md share/doc/afdx/program.md share/afdx/examples/c/build.sh share/afdx/examples/c/receive.py share/afdx/examples/c/wire.sh
 share/afdx/examples/c/wire.toml
 share/afdx/examples/c/demo.toml share/afdx/examples/c/example.c share/afdx/examples/cmake/CMakeLists.txt
 share/afdx/examples/cmake/main.c share/afdx/examples/cpp/main.cpp
+share/afdx/examples/play/main.c share/afdx/examples/play/script.c share/afdx/examples/play/faults.c
+share/afdx/examples/play/wire.c share/afdx/examples/play/play.h
 share/afdx/examples/python/bench.py share/afdx/examples/python/main.py""".split()
 
 
@@ -113,7 +115,8 @@ def try_readers(tried):
     if not tried.lacks("clang-tidy", shutil.which("clang-tidy")):
         # (_GNU_SOURCE is reserved; two numbers beside each other are what the calls take)
         checks = "bugprone-*,performance-*,-bugprone-reserved-identifier,-bugprone-easily-swappable-parameters"
-        for source, version in (("c/example.c", "gnu11"), ("cmake/main.c", "c99"), ("cpp/main.cpp", "c++11")):
+        for source, version in (("c/example.c", "gnu11"), *((f"play/{it}.c", "gnu11") for it in ("main", "script", "faults", "wire")), ("cmake/main.c", "c99"),
+                                ("cpp/main.cpp", "c++11")):
             words = ["clang-tidy", "--quiet", "--header-filter=.*", "--warnings-as-errors=*", f"--checks=-*,{checks}", f"{tried.examples}/{source}"]
             read = tried.ran([*words, "--", f"-std={version}", f"-I{tried.prefix}/include"])
             tried.tries.show(f"clang-tidy {source}", [] if read.returncode == 0 else [read.stdout[-2000:] + read.stderr[-1000:]])
@@ -161,6 +164,20 @@ def try_program(tried, words, name, source, more, wanted=ONE_FRAME, says=""):
     run = tried.ran(["./main", *(["--dump", tried.config, "10"] if "example.c" in source else [tried.config])])
     run.stderr = run.stderr.removeprefix(says)
     tried.show(name, run, wanted)
+
+
+def try_play(tried, more):
+    """The player builds where it is installed, without a warning and with sanitizers, and says its words."""
+    sources = sorted(glob(f"{tried.examples}/play/*.c"))
+    for flags in ([], SANITIZERS):
+        made = tried.ran([tried.cc, "-std=gnu11", *flags, *WARNINGS, *sources, *more, "-o", "play"])
+        tried.show(f"afdx_play{' with sanitizers' if flags else ''}", made, "")
+        tried.show("afdx_play --version", tried.ran(["./play", "--version"]), f"afdx_play {VERSION}\n")
+    with open(f"{tried.prefix}/share/man/man1/afdx_play.1", encoding="utf-8") as file:
+        page = file.read().replace("\\-", "-")
+    told = tried.ran([f"{tried.prefix}/bin/afdx_play", "--help"]).stdout
+    lost = [word for word in re.findall(r"--\w+", told) if word not in page]
+    tried.tries.show("afdx_play.1 has the words of its help", [f"it lacks {lost}"] if lost or not told else [])
 
 
 def try_c(tried, more):
@@ -265,7 +282,8 @@ def try_bench(tried):
         lost = [f"it lacks {it}" for it in flat if not re.search(rf"\b{it}\b", text)]
         tried.tries.show(f"{os.path.relpath(path, share)} has {len(flat)} words", lost)
     if not tried.lacks("man", shutil.which("man") and shutil.which("groff")):
-        tried.show("man", tried.ran(["groff", "-man", "-Tutf8", "-ww", "-z", page]), "")
+        for it in ("afdx_bench", "afdx_play"):
+            tried.show(f"man {it}", tried.ran(["groff", "-man", "-Tutf8", "-ww", "-z", f"{share}/man/man1/{it}.1"]), "")
     for command, options in words.items():
         line = ["afdx_bench", *([command] if command else []), "-"]
         told = tried.ran(["bash", "-c", f'. "{bash}"; COMP_WORDS=({" ".join(line)}); COMP_CWORD={len(line) - 1}; _afdx_bench; echo "${{COMPREPLY[@]}}"'])
@@ -339,6 +357,7 @@ def main():
             try_names(tried)
             more = linked(tried)
             try_c(tried, more)
+            try_play(tried, more)
             try_cpp(tried, more)
             try_cmake(tried)
             try_shared(tried)

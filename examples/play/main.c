@@ -1,0 +1,324 @@
+/* Plays a script by the clock: the proved AFDX end system of a plan over two network interfaces.
+
+       afdx_play PLAN SCRIPT INTERFACE_A INTERFACE_B [--speed X] [--capture FILE] [--fault TEXT].. [--priority]
+
+   docs/guide/program.md says what it prints, how it ends, and what a fault on purpose is. */
+#define _GNU_SOURCE
+#include "play.h"
+
+#include <errno.h>
+#include <inttypes.h>
+#include <sched.h>
+#include <signal.h>
+#include <stdlib.h>
+#include <string.h>
+#include <sys/mman.h>
+#include <sys/prctl.h>
+#include <sys/stat.h>
+#include <time.h>
+#include <unistd.h>
+
+static const char USAGE[] =
+    "usage: afdx_play PLAN SCRIPT INTERFACE_A INTERFACE_B [--speed X] [--capture FILE] [--fault TEXT].. [--priority]\n";
+static const char HELP[] =
+    "\n"
+    "Plays a script (as afdx_bench run) by the clock, over two network interfaces. It needs the right to open packet\n"
+    "sockets.\n"
+    "\n"
+    "  --speed X       X times as fast: 0.001 to 1000\n"
+    "  --capture FILE  records what the interfaces took: pcapng with nanoseconds\n"
+    "  --priority      locks memory and asks for SCHED_FIFO\n"
+    "  --fault TEXT    a fault on purpose, after the library: lose A 100, repeat B 7, swap A 5 6, number A 9 200,\n"
+    "                  early A 12 300 (microseconds), flip B 20 1a (index of a byte), down A 1000. Frames of a network\n"
+    "                  count from 1\n";
+
+/* The words of the command line. */
+struct words {
+    const char *paths[4];
+    double speed;
+    const char *capture;
+    bool has_priority;
+    struct faults faults;
+};
+
+/* A run: the time of its start, and how late each poll's frames were sent, in nanoseconds. */
+struct play {
+    struct tx tx;
+    struct script script;
+    struct network networks[2];
+    struct capture capture;
+    struct words words;
+    uint64_t begun, offset, first, last;
+    uint64_t *late;
+    size_t polls, refused;
+};
+
+static volatile sig_atomic_t is_stopped;
+
+static void stop(int signal_number) {
+    (void)signal_number;
+    is_stopped = 1;
+}
+
+/* Reads the words. Returns -1, or how the player ends at once. */
+static int read_words(int argc, char **argv, struct words *words) {
+    size_t count = 0;
+    for (int k = 1; k < argc; k++) {
+        const char *word = argv[k], *value = k + 1 < argc ? argv[k + 1] : "";
+        if (strcmp(word, "--help") == 0) return printf("%s%s", USAGE, HELP) < 0 ? ENDS_BROKEN : ENDS_WELL;
+        if (strcmp(word, "--version") == 0) return printf("afdx_play %s\n", AFDX_VERSION) < 0 ? ENDS_BROKEN : ENDS_WELL;
+        bool has_value = true, is_right = true;
+        if (strcmp(word, "--speed") == 0) {
+            char *end = NULL;
+            words->speed = strtod(value, &end);
+            is_right = end != value && *end == '\0' && words->speed >= 0.001 && words->speed <= 1000;
+        } else if (strcmp(word, "--capture") == 0) {
+            words->capture = value;
+        } else if (strcmp(word, "--fault") == 0) {
+            is_right = read_fault(&words->faults, value);
+        } else {
+            has_value = false;
+            is_right = strcmp(word, "--priority") == 0 || (word[0] != '-' && count < 4);
+            words->has_priority |= word[0] == '-';
+            if (word[0] != '-' && is_right) words->paths[count++] = word;
+        }
+        k += has_value;
+        if (!is_right || k >= argc) {
+            fprintf(stderr, "%s %s isn't understood\n%s", word, has_value ? value : "", USAGE);
+            return ENDS_UNREAD;
+        }
+    }
+    if (count == 4) return -1;
+    fputs(USAGE, stderr);
+    return ENDS_UNREAD;
+}
+
+/* The number of nanoseconds from the start to a time of the script. */
+static uint64_t nanos_of(const struct play *play, uint64_t at) {
+    if (at <= play->first) return 0;
+    long double nanos = (long double)(at - play->first) * 1000 / (long double)play->words.speed;
+    return nanos < 9e18L ? (uint64_t)nanos : UINT64_MAX / 2;
+}
+
+/* Sleeps until so many nanoseconds after the start. Returns whether it did. */
+static bool sleep_until(const struct play *play, uint64_t nanos) {
+    uint64_t until = play->begun + nanos;
+    struct timespec time = {.tv_sec = (time_t)(until / 1000000000), .tv_nsec = (long)(until % 1000000000)};
+    while (!is_stopped && clock_nanosleep(CLOCK_MONOTONIC, TIMER_ABSTIME, &time, NULL) == EINTR) continue;
+    return !is_stopped;
+}
+
+/* Sends the frames that are sent early, of those that come before a time. */
+static void send_early(struct play *play, uint64_t before) {
+    struct fault *early;
+    while ((early = next_early(&play->words.faults)) != NULL) {
+        uint64_t at = early->own.at < early->value ? 0 : early->own.at - early->value;
+        if (at > before || !sleep_until(play, nanos_of(play, at))) return;
+        transmit(&play->networks[early->network], &early->own, 1, &play->capture, play->offset);
+        early->done = true;
+    }
+}
+
+/* Copies the frames of a poll for a network, changed by the faults. Returns how many are to be sent. */
+static size_t take_frames(struct play *play, struct network *network, uint64_t at, struct frame *frames) {
+    size_t made = 0, count = 0;
+    if (afdx_frames(&play->tx.end_system, network->which, &made) != AFDX_OK) return 0;
+    for (size_t k = 0; k < made; k++) {
+        struct frame *frame = &frames[count];
+        if (afdx_frame(&play->tx.end_system, network->which, k, frame->bytes, sizeof frame->bytes, &frame->length) != AFDX_OK) return count;
+        frame->at = at;
+        int times = alter(&play->words.faults, network->which, ++network->made, frame);
+        if (times == 2) frames[count + 1] = *frame;
+        count += (size_t)times;
+    }
+    return count;
+}
+
+/* Polls once, at its time, and sends the frames. Returns the number of afdx_poll. */
+static uint8_t poll_at(struct play *play, uint64_t at) {
+    static struct frame frames[2][2 * AFDX_MOST_FRAMES];
+    uint8_t standing = 0;
+    if (at >= play->last) {
+        send_early(play, at);
+        if (!sleep_until(play, nanos_of(play, at))) return AFDX_OK;
+    }
+    uint8_t answer = afdx_poll(&play->tx.end_system, at, &standing);
+    if (answer != AFDX_OK) return answer;
+    play->last = at;
+    for (int n = 0; n < 2; n++) {
+        struct network *network = &play->networks[n];
+        size_t count = take_frames(play, network, at, frames[n]);
+        transmit(network, frames[n], count, &play->capture, play->offset);
+        if (network->failed) afdx_fail(&play->tx.end_system, network->which);
+    }
+    uint64_t now = nanos_now(), due = play->begun + nanos_of(play, at);
+    play->late[play->polls++] = now > due ? now - due : 0;
+    return AFDX_OK;
+}
+
+/* Obeys a line, and prints its note. Returns how the run ends, or 0. */
+static int obey(struct play *play, const struct command *command) {
+    const afdx_line *says = &command->says;
+    uint64_t total = 0;
+    uint8_t answer = AFDX_OK;
+    if (says->kind == AFDX_SAYS_SEND) answer = send_by(&play->tx, command);
+    if (says->kind == AFDX_SAYS_AT) answer = poll_at(play, says->at);
+    if (says->kind == AFDX_SAYS_CLOSE) answer = afdx_close(&play->tx.end_system, says->id, says->sub, &total);
+    if (says->kind == AFDX_SAYS_AT && answer == AFDX_BOTH_DOWN) return ENDS_BROKEN;
+    if (answer == AFDX_MEMORY) {
+        fprintf(stderr, "out of memory\n");
+        return ENDS_BROKEN;
+    }
+    if (answer != AFDX_OK) {
+        printf("line %zu: refused %s\n", command->line, short_name(says->kind == AFDX_SAYS_SEND ? AFDX_CALL_SEND : AFDX_CALL_OTHER, answer));
+        play->refused++;
+    } else if (says->kind == AFDX_SAYS_CLOSE) {
+        printf("line %zu: closed %" PRIu64 "\n", command->line, total);
+    }
+    return 0;
+}
+
+/* Finds the frames that faults have to know: plays the script without the clock and the networks. */
+static int rehearse(struct play *play, const uint8_t *text, size_t length) {
+    static struct tx tx;
+    static struct frame frame;
+    uint64_t made[2] = {0, 0}, total = 0;
+    int failed = open_tx(&tx, text, length);
+    for (size_t k = 0; k < play->script.count && !failed; k++) {
+        const struct command *command = &play->script.commands[k];
+        uint8_t standing = 0;
+        if (command->says.kind == AFDX_SAYS_SEND && send_by(&tx, command) == AFDX_MEMORY) failed = ENDS_BROKEN;
+        if (command->says.kind == AFDX_SAYS_CLOSE) afdx_close(&tx.end_system, command->says.id, command->says.sub, &total);
+        if (command->says.kind != AFDX_SAYS_AT || afdx_poll(&tx.end_system, command->says.at, &standing) != AFDX_OK) continue;
+        frame.at = command->says.at;
+        for (uint8_t n = 0; n < 2; n++)
+            for (size_t i = 0; afdx_frame(&tx.end_system, n, i, frame.bytes, sizeof frame.bytes, &frame.length) == AFDX_OK; i++)
+                learn(&play->words.faults, n, ++made[n], &frame);
+    }
+    free_tx(&tx);
+    return failed;
+}
+
+/* Asks for a time slice before all others, and for memory that stays. */
+static void ask_for_priority(void) {
+    struct sched_param most = {.sched_priority = sched_get_priority_max(SCHED_FIFO) / 2};
+    if (mlockall(MCL_CURRENT | MCL_FUTURE) != 0) perror("--priority: memory isn't locked");
+    if (sched_setscheduler(0, SCHED_FIFO, &most) != 0) perror("--priority: no SCHED_FIFO");
+}
+
+/* Whether a file is one of the two that are read. */
+static bool is_read(const struct words *words) {
+    struct stat one, other;
+    if (words->capture == NULL || stat(words->capture, &one) != 0) return false;
+    for (int k = 0; k < 2; k++)
+        if (stat(words->paths[k], &other) == 0 && one.st_dev == other.st_dev && one.st_ino == other.st_ino) return true;
+    return false;
+}
+
+/* Opens all. Returns how the player ends if that fails, or 0. */
+static int prepare(struct play *play) {
+    size_t length = 0;
+    uint8_t *text = read_file(play->words.paths[0], &length);
+    if (text == NULL) return ENDS_BROKEN;
+    int failed = open_tx(&play->tx, text, length);
+    if (!failed) failed = read_script(play->words.paths[1], &play->script);
+    if (!failed && has_to_rehearse(&play->words.faults)) failed = rehearse(play, text, length);
+    free(text);
+    if (failed) return failed;
+    play->late = calloc(play->script.polls + 1, sizeof *play->late);
+    if (play->late == NULL) {
+        fprintf(stderr, "out of memory\n");
+        return ENDS_BROKEN;
+    }
+    if (is_read(&play->words)) {
+        fprintf(stderr, "write failed\n%s: the command reads this file, so name another\n", play->words.capture);
+        return ENDS_BROKEN;
+    }
+    for (int n = 0; n < 2; n++) {
+        play->networks[n] = (struct network){.which = (uint8_t)n, .interface = play->words.paths[2 + n], .socket = -1};
+        if (!open_network(&play->networks[n])) return ENDS_BROKEN;
+    }
+    return play->words.capture == NULL || open_capture(&play->capture, play->words.capture) ? 0 : ENDS_BROKEN;
+}
+
+/* Runs the script. Returns how that ends. */
+static int run(struct play *play) {
+    const struct sigaction action = {.sa_handler = stop};
+    sigaction(SIGINT, &action, NULL);
+    sigaction(SIGTERM, &action, NULL);
+    prctl(PR_SET_TIMERSLACK, 1UL, 0UL, 0UL, 0UL);
+    if (play->words.has_priority) ask_for_priority();
+    for (size_t k = play->script.count; k > 0; k--)
+        if (play->script.commands[k - 1].says.kind == AFDX_SAYS_AT) play->first = play->last = play->script.commands[k - 1].says.at;
+    setvbuf(stdout, NULL, _IOFBF, BUFSIZ * 8);
+    struct timespec day;
+    clock_gettime(CLOCK_REALTIME, &day);
+    play->begun = nanos_now();
+    play->offset = (uint64_t)day.tv_sec * 1000000000 + (uint64_t)day.tv_nsec - play->begun;
+    play->begun += 10000000; /* (the first poll's time has to come) */
+    for (size_t k = 0; k < play->script.count && !is_stopped; k++) {
+        int ends = obey(play, &play->script.commands[k]);
+        if (ends != 0) return ends;
+    }
+    if (!is_stopped) send_early(play, UINT64_MAX);
+    return 0;
+}
+
+static int by_size(const void *one, const void *other) {
+    uint64_t a = *(const uint64_t *)one, b = *(const uint64_t *)other;
+    return (a > b) - (a < b);
+}
+
+/* The lateness of the poll of this rank, in microseconds, rounded up. */
+static uint64_t late_micros(const struct play *play, size_t rank) {
+    return play->polls == 0 ? 0 : (play->late[rank < play->polls ? rank : play->polls - 1] + 999) / 1000;
+}
+
+/* Prints what was sent, and how late. */
+static void tell(struct play *play) {
+    uint16_t ids[AFDX_MOST_LINKS];
+    size_t count = 0;
+    afdx_counts counts;
+    afdx_links(&play->tx.end_system, ids, AFDX_MOST_LINKS, &count);
+    for (size_t k = 0; k < count; k++)
+        if (afdx_link_counts(&play->tx.end_system, ids[k], &counts) == AFDX_OK)
+            printf("link %u: frames %" PRIu64 ", bytes %" PRIu64 ", messages %" PRIu64 "\n", ids[k], counts.frames, counts.bytes, counts.messages);
+    for (int n = 0; n < 2; n++)
+        printf("network %c, %s: took %" PRIu64 " of %" PRIu64 " frames%s\n", "AB"[n], play->networks[n].interface,
+               play->networks[n].taken, play->networks[n].made, play->networks[n].failed ? ", failed" : "");
+    qsort(play->late, play->polls, sizeof *play->late, by_size);
+    printf("lines refused %zu\n", play->refused);
+    printf("polls %zu, late in microseconds: half %" PRIu64 ", 99.99 %% %" PRIu64 ", greatest %" PRIu64 "\n", play->polls,
+           late_micros(play, play->polls / 2), late_micros(play, play->polls - play->polls / 10000 - 1), late_micros(play, play->polls));
+    if (play->words.faults.count > 0) printf("faults on purpose, after the library:");
+    for (size_t k = 0; k < play->words.faults.count; k++) printf("%s %s", k > 0 ? "," : "", play->words.faults.list[k].text);
+    if (play->words.faults.count > 0) printf("\n");
+}
+
+static void let_go(struct play *play) {
+    for (size_t k = 0; k < play->script.count; k++) free(play->script.commands[k].message);
+    free(play->script.commands);
+    free(play->late);
+    free_tx(&play->tx);
+    for (int n = 0; n < 2; n++)
+        if (play->networks[n].interface != NULL && play->networks[n].socket >= 0) close(play->networks[n].socket);
+}
+
+int main(int argc, char **argv) {
+    static struct play play;
+    play.words.speed = 1;
+    int ends = read_words(argc, argv, &play.words);
+    if (ends >= 0) return ends;
+    ends = prepare(&play);
+    bool is_ready = ends == 0;
+    if (is_ready) {
+        ends = run(&play);
+        tell(&play);
+        if (ends == 0) ends = play.networks[0].failed || play.networks[1].failed ? ENDS_BROKEN : tell_end(&play.script);
+        if (ends == 0 && play.refused > 0) ends = ENDS_REFUSED;
+    }
+    bool is_kept = close_capture(&play.capture) && fflush(stdout) == 0;
+    if (!is_kept) fprintf(stderr, "write failed\n");
+    let_go(&play);
+    return is_kept ? ends : ENDS_BROKEN;
+}

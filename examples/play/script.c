@@ -1,0 +1,134 @@
+/* The script of afdx_play: its lines, read by the library, and the end system that obeys them. */
+#define _GNU_SOURCE
+#include "play.h"
+
+#include <ctype.h>
+#include <stdlib.h>
+#include <string.h>
+
+/* The most lines of a script, the most bytes of a message in a line, the most bytes of a file. */
+enum { MOST_LINES = 1000000, GREATEST_MESSAGE = 10000, FIRST_ROOM = 1 << 16 };
+static const size_t GREATEST_FILE = (size_t)1 << 32;
+
+const char *short_name(afdx_call call, uint8_t answer) {
+    static char name[40];
+    const char *from = afdx_answer_name(call, answer);
+    for (const char *const *front = (const char *const[]){"AFDX_", "CONFIG_", "LINE_", NULL}; *front != NULL; front++)
+        if (strncmp(from, *front, strlen(*front)) == 0) from += strlen(*front);
+    size_t length = 0;
+    for (bool is_first = true; *from != '\0' && length + 1 < sizeof name; from++) {
+        if (*from != '_') name[length++] = (char)(is_first ? *from : tolower((unsigned char)*from));
+        is_first = *from == '_';
+    }
+    name[length] = '\0';
+    return name;
+}
+
+uint8_t *read_file(const char *path, size_t *length) {
+    FILE *file = fopen(path, "rb");
+    size_t room = FIRST_ROOM, got = 0;
+    uint8_t *text = malloc(room);
+    while (file != NULL && text != NULL) {
+        got += fread(text + got, 1, room - got, file);
+        if (got < room || room >= GREATEST_FILE) break;
+        uint8_t *more = realloc(text, room *= 2);
+        if (more == NULL) free(text);
+        text = more;
+    }
+    bool is_read = file != NULL && text != NULL && feof(file) && !ferror(file);
+    if (!is_read) {
+        fprintf(stderr, text == NULL ? "out of memory\n" : "read failed\n");
+        perror(path);
+        free(text);
+    }
+    if (file != NULL) fclose(file);
+    *length = got;
+    return is_read ? text : NULL;
+}
+
+/* Adds what a line says. Returns 0, the number of the line's fault, or AFDX_MEMORY. */
+static uint8_t add_line(struct script *script, size_t number, const uint8_t *line, size_t length) {
+    static uint8_t message[GREATEST_MESSAGE];
+    struct command command = {.line = number};
+    uint8_t answer = afdx_script_line(line, length, &command.says, message, sizeof message);
+    if (answer != AFDX_OK || command.says.kind == AFDX_SAYS_NOTHING) return answer;
+    if ((script->count & (script->count + 1)) == 0) {
+        struct command *more = realloc(script->commands, (2 * script->count + 2) * sizeof *more);
+        if (more == NULL) return AFDX_MEMORY;
+        script->commands = more;
+    }
+    if (command.says.length > 0) {
+        command.message = malloc(command.says.length);
+        if (command.message == NULL) return AFDX_MEMORY;
+        memcpy(command.message, message, command.says.length);
+    }
+    script->polls += command.says.kind == AFDX_SAYS_AT;
+    script->commands[script->count++] = command;
+    return AFDX_OK;
+}
+
+int read_script(const char *path, struct script *script) {
+    size_t length = 0, number = 0;
+    uint8_t *text = read_file(path, &length);
+    if (text == NULL) return ENDS_BROKEN;
+    const uint8_t *at = text, *end = text + length;
+    if (length >= 3 && memcmp(at, "\xef\xbb\xbf", 3) == 0) at += 3;
+    while (at < end && script->faulty == 0 && !script->is_too_long) {
+        const uint8_t *feed = memchr(at, '\n', (size_t)(end - at)), *stop = feed == NULL ? end : feed;
+        const uint8_t *last = feed != NULL && stop > at && stop[-1] == '\r' ? stop - 1 : stop;
+        if (++number > MOST_LINES) {
+            script->is_too_long = true;
+        } else if ((script->fault = add_line(script, number, at, (size_t)(last - at))) != AFDX_OK) {
+            script->faulty = number;
+        }
+        at = feed == NULL ? end : feed + 1;
+    }
+    free(text);
+    if (script->fault != AFDX_MEMORY) return 0;
+    fprintf(stderr, "out of memory\n");
+    return ENDS_BROKEN;
+}
+
+int tell_end(const struct script *script) {
+    if (script->is_too_long) fprintf(stderr, "script refused: too many lines\n");
+    if (script->faulty != 0)
+        fprintf(stderr, "script line %zu: %d %s\n", script->faulty, script->fault, short_name(AFDX_CALL_LINE, script->fault));
+    return script->is_too_long || script->faulty != 0 ? ENDS_UNREAD : 0;
+}
+
+/* Prints the faults of a plan, each with its place. */
+static void explain(const uint8_t *text, size_t length) {
+    size_t size = 0;
+    if (afdx_explain(text, length, NULL, 0, &size) != AFDX_SMALL_BUFFER) return;
+    uint8_t *lines = malloc(size);
+    if (lines != NULL && afdx_explain(text, length, lines, size, &size) == AFDX_OK) fwrite(lines, 1, size, stderr);
+    free(lines);
+}
+
+int open_tx(struct tx *tx, const uint8_t *text, size_t length) {
+    uint8_t answer = afdx_open(&tx->end_system, text, length);
+    if (answer == AFDX_OK) {
+        answer = afdx_ports(&tx->end_system, tx->ids, AFDX_MOST_PORTS, &tx->count);
+        for (size_t k = 0; k < tx->count && answer == AFDX_OK; k++)
+            answer = afdx_port_of(&tx->end_system, tx->ids[k], &tx->ports[k]);
+    }
+    if (answer == AFDX_OK) return 0;
+    if (answer == AFDX_MEMORY) {
+        fprintf(stderr, "out of memory\n");
+        return ENDS_BROKEN;
+    }
+    fprintf(stderr, "configuration refused: %d %s\n", answer, short_name(AFDX_CALL_OPEN, answer));
+    explain(text, length);
+    return ENDS_UNREAD;
+}
+
+void free_tx(struct tx *tx) {
+    for (size_t k = 0; k < tx->count; k++) afdx_free_port(&tx->ports[k]);
+    afdx_free(&tx->end_system);
+}
+
+uint8_t send_by(struct tx *tx, const struct command *command) {
+    for (size_t k = 0; k < tx->count; k++)
+        if (tx->ids[k] == command->says.id) return afdx_send(&tx->ports[k], command->message, command->says.length);
+    return AFDX_NO_PORT;
+}

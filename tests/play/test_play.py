@@ -1,0 +1,331 @@
+#!/usr/bin/env python3
+"""Tests `afdx_play` over two veth pairs: what the kernel's sockets get on each network, against the model of `tests/run`.
+
+    python3 tests/play/test_play.py [PROGRAM]
+
+It runs the player that `install/install.sh --built` installs, in a network namespace of its own, with the receivers of each
+network in another. Without root or veth pairs only its words are tried. The last line is 'N passed, M failed'.
+"""
+import itertools
+import json
+import os
+import random
+import re
+import shutil
+import subprocess
+import sys
+import tempfile
+import time
+from collections.abc import Iterator
+
+HERE = os.path.dirname(os.path.abspath(__file__))
+ROOT = os.path.dirname(os.path.dirname(HERE))
+sys.dont_write_bytecode = True
+sys.path[:0] = [f"{ROOT}/tests", f"{ROOT}/tests/run"]
+import model  # noqa: E402
+import pcapng  # noqa: E402
+import trying  # noqa: E402
+
+NETWORKS = "AB"
+BAG = 1_000_000
+# How late a poll may be for the tests that need times, in nanoseconds: beyond it the machine is too busy to tell.
+BUSY = 20_000_000
+USAGE = "usage: afdx_play PLAN SCRIPT INTERFACE_A INTERFACE_B"
+
+
+def plan_of(links: int) -> str:
+    """A plan of links of 1 to 4 ms, of one and two sub-VLs, the third one on network A alone, with long and short messages."""
+    text = "version = 2\n[end_system]\nid = 1\n"
+    for k in range(1, links + 1):
+        text += f"[[vl]]\nid = {k}\nbag_ms = {1 << k % 3}\nlmax = {(1518, 200, 300)[k % 3]}\nsub_vls = {1 + k % 2}\ncapacity = 64\n"
+        text += "networks = 'a'\n" if k == 3 else ""
+        text += f"[[port]]\nid = {10 + k}\nvl = {k}\nsub = {k % 2}\npartition = {k}\nkind = 'queuing'\nsource = {1000 + k}\n"
+        text += f"destination = {2000 + k}\nmax = 2000\n" + ("checksum = 'udp'\n" if k % 4 == 0 else "")
+    return text
+
+
+def script_of(links: int, millis: int, seed: int, gap: int = 1) -> str:
+    """A script of this many milliseconds that sends a message in each `gap` milliseconds, in turn, and polls each half one."""
+    rng, lines, turn = random.Random(seed), [], itertools.cycle(range(1, links + 1))
+    for now in range(0, millis * 1000, 500):
+        if now % (1000 * gap) == 0 and now < 900 * millis:
+            lines.append(f"send {10 + next(turn)} {rng.randbytes(rng.choice((1, 18, 100, 500, 1400))).hex()}")
+        lines.append(f"at {now}")
+    return "\n".join([*lines, "send 99 00", "close 1 0", ""])
+
+
+class Receiver:
+    """The receivers of a network, in a namespace of their own."""
+
+    def __init__(self, name: str, links: int) -> None:
+        words = [f"{k}:{2000 + k}" for k in range(1, links + 1)]
+        command = ["unshare", "--net", sys.executable, "-B", f"{HERE}/receiving.py", f"peer{name}", *words]
+        self.process = subprocess.Popen(command, stdin=subprocess.PIPE, stdout=subprocess.PIPE, text=True)
+        while os.readlink(f"/proc/{self.process.pid}/ns/net") == os.readlink("/proc/self/ns/net"):
+            time.sleep(0.01)
+        for line in (f"link add name wire{name} type veth peer name peer{name}", f"link set peer{name} netns {self.process.pid}"):
+            subprocess.run(["ip", *line.split()], check=True)
+        ipv6 = f"/proc/sys/net/ipv6/conf/wire{name}/disable_ipv6"
+        if os.path.exists(ipv6):
+            with open(ipv6, "w", encoding="ascii") as file:
+                file.write("1")
+        subprocess.run(["ip", "link", "set", f"wire{name}", "up"], check=True)
+        assert self.process.stdout.readline() == "listening\n"
+
+    def take(self) -> dict:
+        """What came since the last time."""
+        self.process.stdin.write("take\n")
+        self.process.stdin.flush()
+        return json.loads(self.process.stdout.readline())
+
+    def end(self) -> None:
+        """Ends the receivers."""
+        self.process.communicate()
+
+
+class Played:
+    """A run of the player: how it ended, what came on each network, and its capture."""
+
+    def __init__(self, rig, plan: str, script: str, *words: str) -> None:
+        for name, text in (("plan.toml", plan), ("script.txt", script)):
+            with open(name, "w", encoding="utf-8") as file:
+                file.write(text)
+        command = [rig.program, "plan.toml", "script.txt", "wireA", "wireB", "--capture", "frames.pcapng", *words]
+        self.ran = subprocess.run(command, capture_output=True, text=True, timeout=120, check=False)
+        time.sleep(0.3)
+        self.came = {name: receiver.take() for name, receiver in rig.receivers.items()}
+        status, out, error = model.run(plan, script.encode())
+        self.wanted, self.transcript = (status, error), out
+        self.frames = {name: [(int(line.split()[1]), line.split()[2]) for line in out.splitlines() if line.startswith(f"{name} ")]
+                       for name in NETWORKS}
+        with open("frames.pcapng", "rb") as file:
+            capture = pcapng.Capture(file.read())
+        assert [it.resolution for it in capture.interfaces] == [9, 9]
+        self.captured = {name: [(it.moment, it.data.hex()) for it in capture.packets if it.name == name] for name in NETWORKS}
+        late = re.search(r"greatest (\d+)", self.ran.stdout)
+        self.late = 1000 * int(late[1]) if late else BUSY
+
+    def differences(self, wanted: dict[str, list[str]]) -> list[str]:
+        """What is wrong with the frames that came and those that were captured, which must be these."""
+        faults = []
+        for name in NETWORKS:
+            for where, frames in (("came", self.came[name]["frames"]), ("were captured", self.captured[name])):
+                found = [data for _, data in frames]
+                if found != wanted[name]:
+                    at = next((k for k, (one, other) in enumerate(zip(found, wanted[name])) if one != other), min(len(found), len(wanted[name])))
+                    faults.append(f"network {name}: {len(found)} frames {where} for {len(wanted[name])}, the first other one is {at + 1}")
+        return faults
+
+    def said(self) -> list[str]:
+        """What is wrong with the run's end and notes."""
+        notes = "".join(f"{line}\n" for line in self.transcript.splitlines() if line.startswith("line "))
+        is_well = (self.ran.returncode, self.ran.stderr) == self.wanted and self.ran.stdout.startswith(notes)
+        return [] if is_well else [f"status {self.ran.returncode}: {self.ran.stdout[:500]}{self.ran.stderr[:500]}"]
+
+
+def all_of(played: Played) -> dict[str, list[str]]:
+    """The frames of the model."""
+    return {name: [data for _, data in frames] for name, frames in played.frames.items()}
+
+
+def messages_of(frames: list[str]) -> dict[str, list[str]]:
+    """The messages whose fragments are all among these frames, by link and UDP port, as reassembly makes them."""
+    parts, done = {}, {}
+    for data in map(bytes.fromhex, frames):
+        link, total = int.from_bytes(data[4:6], "big"), int.from_bytes(data[16:18], "big")
+        key, piece = (link, data[18:20]), data[34 : 14 + total]
+        parts[key] = parts.get(key, b"") + piece
+        if not data[20] & 0x20:
+            datagram = parts.pop(key)
+            done.setdefault(f"{link}:{int.from_bytes(datagram[2:4], 'big')}", []).append(datagram[8:].hex())
+    return done
+
+
+def try_clean(played: Played) -> tuple[list[str], str]:
+    """A run without faults on purpose: each frame and each message comes, none too early, and the counts are right."""
+    wanted = all_of(played)
+    faults = played.differences(wanted) + played.said()
+    for name in NETWORKS:
+        messages = messages_of(wanted[name])
+        came = {word: found for word, found in played.came[name]["messages"].items() if found}
+        faults += [] if came == messages else [f"network {name}: {sum(map(len, came.values()))} messages for {sum(map(len, messages.values()))}"]
+        count = len(wanted[name])
+        faults += [] if f"network {name}, wire{name}: took {count} of {count} frames\n" in played.ran.stdout else [played.ran.stdout]
+        faults += gaps(played.captured[name], 10, played.late)
+    for link in {data[8:12] for data in wanted["A"]}:
+        own = [data for data in wanted["A"] if data[8:12] == link]
+        row = f"link {int(link, 16)}: frames {len(own)}, bytes {sum(map(len, own)) // 2}, messages "
+        faults += [] if row in played.ran.stdout else [f"not said: {row}"]
+    late = re.search(r"(?m)^polls (\d+), late in microseconds: half (\d+), 99.99 % (\d+), greatest (\d+)$", played.ran.stdout)
+    faults += [] if late and int(late[2]) <= int(late[3]) <= int(late[4]) else ["lateness isn't said"]
+    return faults, late[0] if late else ""
+
+
+def gaps(captured: list[tuple[int, str]], links: int, late: int) -> list[str]:
+    """What is wrong with the times of captured frames: those of a link are a BAG apart, but for how late polls were."""
+    last, faults = {}, []
+    for at, data in captured:
+        link = int(data[8:12], 16)
+        least = BAG * (1 << link % 3) - late
+        if link in last and at - last[link] < least:
+            faults.append(f"link {link}: {at - last[link]} ns after the last frame, of at least {least}")
+        last[link] = at
+    return faults
+
+
+def changed(frames: list[str], word: str, first: int, second: str = "") -> list[str]:
+    """The frames with a fault on purpose."""
+    frames, k = list(frames), first - 1
+    if word == "lose":
+        del frames[k]
+    elif word == "repeat":
+        frames.insert(k, frames[k])
+    elif word == "swap":
+        other = int(second) - 1
+        frames[k], frames[other] = frames[other], frames[k]
+    elif word == "number":
+        frames[k] = f"{frames[k][:-2]}{int(second):02x}"
+    elif word == "flip":
+        data = bytearray.fromhex(frames[k])
+        data[int(second, 16)] ^= 255
+        frames[k] = data.hex()
+    elif word == "down":
+        del frames[k:]
+    return frames
+
+
+def try_fault(rig, text: str) -> tuple[list[str], str]:
+    """A run with a fault on purpose: that frame of that network is changed, and nothing else."""
+    played = Played(rig, plan_of(1), script_of(1, 60, 7), "--fault", text)
+    word, network, first, *second = text.split()
+    wanted = all_of(played)
+    wanted[network] = changed(wanted[network], word, int(first), *second)
+    faults = played.differences(wanted) + played.said()
+    is_last = played.ran.stdout.splitlines()[-1] == f"faults on purpose, after the library: {text}"
+    faults += [] if is_last else [played.ran.stdout[-200:]]
+    if word == "early":
+        at = int(first) - 1
+        for name in NETWORKS:
+            early = (played.frames[name][at][0] - played.frames[name][at - 1][0]) * 1000 - (int(second[0]) * 1000 if name == network else 0)
+            gap = played.captured[name][at][0] - played.captured[name][at - 1][0]
+            faults += [] if abs(gap - early) <= played.late else [f"network {name}: a gap of {gap} ns for {early}, late {played.late}"]
+    return faults, ""
+
+
+FAULTS = ["lose A 10", "lose B 1", "repeat B 7", "swap A 5 6", "number A 9 200", "early A 12 300", "flip B 20 1a", "down A 30", "down B 1"]
+
+
+def try_down(rig) -> tuple[list[str], str]:
+    """An interface that is taken down fails, and the other gets each frame."""
+    subprocess.run(["ip", "link", "set", "wireB", "down"], check=True)
+    played = Played(rig, plan_of(1), script_of(1, 30, 8))
+    subprocess.run(["ip", "link", "set", "wireB", "up"], check=True)
+    wanted = all_of(played) | {"B": []}
+    faults = played.differences(wanted)
+    is_told = played.ran.returncode == 4 and played.ran.stderr == "write failed\nwireB: Network is down\n"
+    return faults + ([] if is_told else [f"{played.ran}"]), ""
+
+
+def try_speed(rig) -> tuple[list[str], str]:
+    """Four times as fast, a script of 400 ms takes 100 ms, and the frames are the same."""
+    faults = []
+    for words, least in (([], 0.4), (["--speed", "4"], 0.1)):
+        played = Played(rig, plan_of(2), script_of(2, 400, 9), *words)
+        times = sorted(at for frames in played.captured.values() for at, _ in frames)
+        wanted = [at for frames in played.frames.values() for at, _ in frames]
+        took, span = (times[-1] - times[0]) / 1e9, (max(wanted) - min(wanted)) / 1e6 * least / 0.4
+        faults += played.differences(all_of(played))
+        faults += [] if abs(took - span) <= played.late / 1e9 else [f"{words}: the frames took {took} s for {span}"]
+    return faults, ""
+
+
+def try_ends(rig) -> tuple[list[str], str]:
+    """A line's fault ends a run, after the lines before it; a byte order mark before the script is none."""
+    faults = []
+    for script in ("\ufeffsend 11 01\nat 0\nat x\nsend 11 02\n", "send 11 01\r\nat 0\r\nat 5 6\r\n", "", "\n" * 1_000_001, "send 11 01\nat 9\nat 8\n"):
+        played = Played(rig, plan_of(1), script)
+        wanted = model.run(plan_of(1), script.removeprefix("\ufeff").encode())
+        played.wanted = (wanted[0], wanted[2])
+        played.frames = {name: [(0, line.split()[2]) for line in wanted[1].splitlines() if line.startswith(f"{name} ")] for name in NETWORKS}
+        played.transcript = wanted[1]
+        faults += played.differences(all_of(played)) + played.said()
+    return faults, ""
+
+
+def try_words(program: str) -> Iterator[tuple[str, list[str]]]:
+    """Words that the player refuses, and files that it can't use."""
+    for name, text in (("wrong.toml", trying.DEMO.replace("bag_ms = 1", "bag_ms = 3")), ("demo.toml", trying.DEMO), ("short.txt", trying.SCRIPT)):
+        with open(name, "w", encoding="utf-8") as file:
+            file.write(text)
+    rest, refused = ["short.txt", "lo", "lo"], "configuration refused: 6 BadBag\n"
+    rows = [([], 2, USAGE), (["demo.toml"], 2, USAGE), (["demo.toml", *rest, "more"], 2, "more"), (["--frob"], 2, "--frob"),
+            (["none.toml", *rest], 4, "read failed\nnone.toml: No such file"), (["wrong.toml", *rest], 2, refused),
+            (["demo.toml", "none.txt", "lo", "lo"], 4, "read failed\nnone.txt: No such file"),
+            (["demo.toml", "short.txt", "nowhere", "lo"], 4, "write failed\nnowhere: No such device"),
+            (["demo.toml", *rest, "--capture", "short.txt"], 4, "write failed\nshort.txt: the command reads")]
+    bad = ["", "lose", "lose A", "lose C 1", "lose A 0", "lose A 1 2", "lose A x", "swap A 6 5", "swap A 5", "number A 1 256", "flip A 1 zz",
+           "flip A 1 5ea", "early A 1", "down A 1 1", "frob A 1"]
+    rows += [(["demo.toml", *rest, "--fault", it], 2, "--fault") for it in bad]
+    rows += [(["demo.toml", *rest, "--speed", it], 2, "--speed") for it in ("", "0", "x", "1001", "2x", "-1", "nan")]
+    rows += [(["demo.toml", *rest, it], 2, it) for it in ("--speed", "--fault", "--capture")]
+    for words, status, start in rows:
+        ran = subprocess.run([program, *words], capture_output=True, text=True, check=False)
+        is_well = ran.returncode == status and ran.stderr.startswith(start) and not ran.stdout
+        yield f"afdx_play {' '.join(words)}: status {status}", [] if is_well else [f"{ran}"]
+    told = subprocess.run([program, "--help"], capture_output=True, text=True, check=False)
+    lacks = [word for word in ("--speed", "--capture", "--fault", "--priority", *(it.split()[0] for it in FAULTS)) if word not in told.stdout]
+    yield "afdx_play --help", [f"it lacks {lacks}: {told}"] if lacks or told.returncode or told.stderr else []
+    version = subprocess.run([program, "--version"], capture_output=True, text=True, check=False).stdout
+    yield "afdx_play --version", [] if version == f"afdx_play {re.search('AFDX_VERSION .(.*).', trying.text_of('crates/afdx/afdx.h'))[1]}\n" else [version]
+
+
+class Rig:
+    """The player, and the receivers of both networks."""
+
+    def __init__(self, program: str, links: int) -> None:
+        self.program, self.receivers = program, {name: Receiver(name, links) for name in NETWORKS}
+
+
+def inside(program: str, millis: int) -> int:
+    """The tests that need networks, in a namespace of their own."""
+    tries = trying.Tries()
+    for name, faults in try_words(program):
+        tries.show(name, faults)
+    rig = Rig(program, 12)
+    try:
+        played = Played(rig, plan_of(12), script_of(12, millis, 1))
+        tries.attempt(f"{millis} ms of twelve links", lambda: try_clean(played))
+        for text in FAULTS:
+            tries.attempt(f"--fault '{text}'", lambda text=text: try_fault(rig, text))
+        tries.attempt("an interface that is down", lambda: try_down(rig))
+        tries.attempt("--speed 4", lambda: try_speed(rig))
+        tries.attempt("ends", lambda: try_ends(rig))
+    finally:
+        for receiver in rig.receivers.values():
+            receiver.end()
+    return tries.end()
+
+
+def main() -> int:
+    """Installs the player, and tries it where networks can be made."""
+    if sys.argv[1:2] == ["--inside"]:
+        return inside(sys.argv[2], int(sys.argv[3]))
+    with tempfile.TemporaryDirectory(prefix="play-") as room:
+        program = os.path.abspath(sys.argv[1]) if sys.argv[1:] else f"{room}/prefix/bin/afdx_play"
+        if not sys.argv[1:]:
+            subprocess.run(["bash", f"{ROOT}/install/install.sh", "--built", f"{room}/prefix"], check=True)
+        os.chdir(room)
+        has_tools = os.geteuid() == 0 and all(map(shutil.which, ("ip", "unshare")))
+        veth = ["unshare", "--net", "ip", "link", "add", "one", "type", "veth", "peer", "name", "two"]
+        if has_tools and subprocess.run(veth, capture_output=True, check=False).returncode == 0:
+            millis = sys.argv[2] if sys.argv[2:] else "3000"
+            return subprocess.run(["unshare", "--net", sys.executable, "-B", __file__, "--inside", program, millis], check=False).returncode
+        print("no root, ip, unshare or veth pairs: what networks get is skipped", flush=True)
+        tries = trying.Tries()
+        for name, faults in try_words(program):
+            tries.show(name, faults)
+        return tries.end()
+
+
+if __name__ == "__main__":
+    sys.exit(main())
