@@ -6,8 +6,7 @@
 It runs what `rt ci` has built, the program `afdx_bench` as each compiler makes it: each exit status with its text,
 which of two faults is reported, words and numbers that are none, lines and plans of the greatest length, standard
 streams that are closed or full, a storm and failures whose standard error is a terminal, and captures, which
-`tests/pcapng.py` reads. The last line is 'N passed, M failed', and the exit status 0
-exactly if nothing failed.
+`tests/pcapng.py` reads. The last line is 'N passed, M failed', the exit status 0 exactly if nothing failed.
 """
 import os
 import pty
@@ -21,7 +20,7 @@ import tty
 # (no compiled copy is left beside the scripts)
 sys.dont_write_bytecode = True
 import pcapng
-from trying import DEMO, HELP, ONE_FRAME, REPORT, ROOT, SCRIPT, WRONG, Tries, built, started, text_of, totals
+from trying import DEMO, HELP, JUDGED, ONE_FRAME, REPORT, ROOT, SCRIPT, WRONG, Tries, built, started, text_of, totals
 
 sys.path.append(f"{ROOT}/tests/report")
 from fixed import ANALYSES
@@ -35,8 +34,7 @@ LONG = "".join(
     f"send 10 {'5a' * (1 + 977 * place % 8192)}\nsend 20 {place:02x}\n" for place in range(40)
 ) + "".join(f"at {at}\n" for at in range(0, 600_000, 500)) + "at 4294967299\nat 8589934592\n"
 # A line that is refused while running.
-FULL = "send 10 01\nsend 10 02\nsend 10 03\nat 0\n"
-FULL_NOTED = "line 3: refused Full\n" + ONE_FRAME
+FULL, FULL_NOTED = "send 10 01\nsend 10 02\nsend 10 03\nat 0\n", "line 3: refused Full\n" + ONE_FRAME
 # The most bytes of a plan, and of a line of a script.
 TEXT_LIMIT, LINE_LIMIT = 16 * 2**20, 20_000
 # Many ports with little room.
@@ -57,7 +55,7 @@ FILES = {
     "lines.txt": "\n" * 1_000_001,
     "old.pcapng": "\0" * 100_000,
 }
-RUN, CHECK = ["run", "demo.toml", "short.txt"], ["check", "demo.toml"]
+RUN, JUDGE, CHECK = ["run", "demo.toml", "short.txt"], ["judge", "demo.toml", "short.txt"], ["check", "demo.toml"]
 STORM = ["storm", "demo.toml", "--messages", "2", "--turns", "1000"]
 LATE = ["storm", "demo.toml", "--messages", "3", "--turns", "1"]
 CAPTURED = [*RUN, "--capture", "frames.pcapng"]
@@ -67,13 +65,6 @@ BAD_BAG = "configuration refused: 6 BadBag\n"
 NOT_THERE, UNREAD = "No such file or directory (os error 2)\n", "it can't be read, or has more than 16 MiB\n"
 SEE_EXPLAIN = "wrong.toml: for all faults and their places, run `afdx_bench explain wrong.toml`\n"
 EXPLAIN, ANALYSE, ANALYSIS = ["explain", "demo.toml"], ["report", "demo.toml"], ANALYSES[DEMO, 0]
-JUDGE = ["judge", "demo.toml", "short.txt"]
-JUDGED = f"""no findings
-capture 1: 0 packets, malformed at byte 0: Format
- link net      frames         bytes    messages      bag-ns   least-gap-ns     lead-ns
-    1   A           0             0           0     1000000              -           -
-    1   B           0             0           0     1000000              -           -
-"""
 EXPLAINED = "1 fault\nwrong.toml:6: 6 BadBag: vl 1 (id 1), bag_ms is 3: 1, 2, 4, 8, 16, 32, 64 or 128\n"
 NO_TEXT = WRONG.replace("unrecognized subcommand 'frob'", "a word is not UTF-8")
 

@@ -24,6 +24,13 @@ link 1: bag 1 ms, lmax 1518, sub-VLs 1, capacity 2
 port 10: link 1 sub 0, partition 1, queuing, 1000 to 2000, max 8192, multicast
 jitter 163040 ns, limit 500000
 """
+# What `judge` prints of a text that is no capture.
+JUDGED = """no findings
+capture 1: 0 packets, malformed at byte 0: Format
+ link net      frames         bytes    messages      bag-ns   least-gap-ns     lead-ns
+    1   A           0             0           0     1000000              -           -
+    1   B           0             0           0     1000000              -           -
+"""
 HELP = """\
 A transmitting AFDX end system. Without words it runs a script from standard input.
 

@@ -5,7 +5,7 @@ import tomllib
 import zlib
 from typing import NamedTuple
 
-from captures import SECOND, Packet, Reader
+from captures import SECOND, Packet, Reader, merged
 
 Table = dict
 KINDS = "Frame Source Link Network Size Number Early Port Fragment Message Turn Twin Missing".split()
@@ -361,23 +361,6 @@ class Judge:
             for it in waiting:
                 if not self.near(self.latest, it.at):
                     self.missing(vl, it)
-
-
-def merged(readers: list[Reader], is_piped: bool) -> list[tuple[int, str, Packet]]:
-    """The packets of both networks by time, with their numbers in their files. A network's packets come in their order, as all do
-    that come through a pipe. Those of other interfaces are left out; of two captures, the first is network A and the second B."""
-    numbered = [[*enumerate(reader.packets, 1)] for reader in readers]
-    if is_piped:
-        return [(number, it.network, it) for number, it in numbered[0] if it.network]
-    if len(readers) == 1:
-        queues = [[(number, net, it) for number, it in numbered[0] if it.network == net] for net in "AB"]
-    else:
-        queues = [[(number, net, it) for number, it in packets] for net, packets in zip("AB", numbered, strict=True)]
-    order, (a, b) = [], (queue[::-1] for queue in queues)
-    while a or b:
-        is_a = a and (not b or (a[-1][2].at or 0) <= (b[-1][2].at or 0))
-        order.append((a if is_a else b).pop())
-    return order
 
 
 def read_line(place: int, reader: Reader, is_only: bool) -> str:

@@ -15,6 +15,7 @@ mod config_read;
 #[cfg(test)]
 mod frame;
 #[cfg(test)]
+mod judged;
 mod judging;
 #[cfg(test)]
 mod mux;
