@@ -1,10 +1,12 @@
 #!/usr/bin/env python3
-"""Tests `afdx_play` over two veth pairs: what the kernel's sockets get on each network, against the model of `tests/run`.
+"""Tests `afdx_play` over two veth pairs: what the kernel's sockets get on each network, against the model of `tests/run`,
+and what `afdx_bench judge` finds of its captures.
 
-    python3 tests/play/test_play.py [PROGRAM]
+    python3 tests/play/test_play.py [PLAYER [MILLIS]]
 
-It runs the player that `install/install.sh --built` installs, in a network namespace of its own, with the receivers of each
-network in another. Without root or veth pairs only its words are tried. The last line is 'N passed, M failed'.
+It runs the player and the bench beside it that `install/install.sh --built` installs, in a network namespace of its own,
+with the receivers of each network in another. Without root or veth pairs only the player's words are tried. MILLIS is how
+long the run of twelve links takes. The last line is 'N passed, M failed'.
 """
 import itertools
 import json
@@ -16,6 +18,7 @@ import subprocess
 import sys
 import tempfile
 import time
+from collections import Counter
 from collections.abc import Iterator
 
 HERE = os.path.dirname(os.path.abspath(__file__))
@@ -30,6 +33,8 @@ NETWORKS = "AB"
 BAG = 1_000_000
 # How late a poll may be for the tests that need times, in nanoseconds: beyond it the machine is too busy to tell.
 BUSY = 20_000_000
+# How far the networks may be apart for the judge, in nanoseconds.
+SKEW = 20_000_000
 USAGE = "usage: afdx_play PLAN SCRIPT INTERFACE_A INTERFACE_B"
 
 
@@ -104,6 +109,15 @@ class Played:
         self.captured = {name: [(it.moment, it.data.hex()) for it in capture.packets if it.name == name] for name in NETWORKS}
         late = re.search(r"greatest (\d+)", self.ran.stdout)
         self.late = 1000 * int(late[1]) if late else BUSY
+        self.bench = f"{os.path.dirname(rig.program)}/afdx_bench"
+
+    def found(self) -> Counter:
+        """What the judge finds of the capture, at the lateness that was printed: how many of each kind."""
+        words = ["judge", "plan.toml", "frames.pcapng", "--jitter", str(self.late // 1000), "--skew", str(SKEW // 1000)]
+        out = subprocess.run([self.bench, *words], capture_output=True, text=True, check=False).stdout
+        line = re.search(r"(?m)^(?:no findings|\d+ findings?: (.*))$", out)
+        assert line, out
+        return Counter({kind: int(count) for kind, count in re.findall(r"(\w+) (\d+)", line[1] or "")})
 
     def differences(self, wanted: dict[str, list[str]]) -> list[str]:
         """What is wrong with the frames that came and those that were captured, which must be these."""
@@ -156,6 +170,8 @@ def try_clean(played: Played) -> tuple[list[str], str]:
         own = [data for data in wanted["A"] if data[8:12] == link]
         row = f"link {int(link, 16)}: frames {len(own)}, bytes {sum(map(len, own)) // 2}, messages "
         faults += [] if row in played.ran.stdout else [f"not said: {row}"]
+    found = played.found()
+    faults += [f"the judge finds {dict(found)}"] if found else []
     late = re.search(r"(?m)^polls (\d+), late in microseconds: half (\d+), 99.99 % (\d+), greatest (\d+)$", played.ran.stdout)
     faults += [] if late and int(late[2]) <= int(late[3]) <= int(late[4]) else ["lateness isn't said"]
     return faults, late[0] if late else ""
@@ -194,6 +210,34 @@ def changed(frames: list[str], word: str, first: int, second: str = "") -> list[
     return frames
 
 
+# What the judge finds of each fault: how many of each kind.
+TRACES = {
+    "lose": {"Number": 1, "Missing": 1},
+    "repeat": {"Number": 1, "Early": 1, "Missing": 1},
+    "swap": {"Number": 3},
+    "number": {"Number": 2, "Missing": 2},
+    "early": {"Early": 1},
+    "flip": {"Frame": 1, "Number": 1, "Missing": 1},
+}
+
+
+def misjudged(played: Played, text: str) -> list[str]:
+    """What is wrong with the findings of a run with a fault: they are its trace, and nothing else."""
+    word, network, first, *second = text.split()
+    found = played.found()
+    if word == "down":
+        last = max(at for frames in played.captured.values() for at, _ in frames)
+        lost = [at for at, _ in played.captured["AB".replace(network, "")][int(first) - 1 :]]
+        least, most = (sum(at < last - SKEW + late for at in lost) for late in (-played.late, played.late))
+        return [] if not found - Counter(Missing=most) and found["Missing"] >= least else [f"{dict(found)} for {least} to {most} missing"]
+    wanted = Counter(TRACES[word])
+    # (a frame that is early by less than the lateness may be no finding)
+    by = 1000 * int(second[0]) if word == "early" else 2 * BAG
+    if by <= played.late:
+        wanted["Early"] = found["Early"] = 0
+    return [] if +found == +wanted else [f"the judge finds {dict(found)} for {dict(wanted)}, late {played.late}"]
+
+
 def try_fault(rig, text: str) -> tuple[list[str], str]:
     """A run with a fault on purpose: that frame of that network is changed, and nothing else."""
     played = Played(rig, plan_of(1), script_of(1, 60, 7), "--fault", text)
@@ -209,7 +253,7 @@ def try_fault(rig, text: str) -> tuple[list[str], str]:
             early = (played.frames[name][at][0] - played.frames[name][at - 1][0]) * 1000 - (int(second[0]) * 1000 if name == network else 0)
             gap = played.captured[name][at][0] - played.captured[name][at - 1][0]
             faults += [] if abs(gap - early) <= played.late else [f"network {name}: a gap of {gap} ns for {early}, late {played.late}"]
-    return faults, ""
+    return faults + misjudged(played, text), ""
 
 
 FAULTS = ["lose A 10", "lose B 1", "repeat B 7", "swap A 5 6", "number A 9 200", "early A 12 300", "flip B 20 1a", "down A 30", "down B 1"]
