@@ -72,7 +72,6 @@ int read_script(const char *path, struct script *script) {
     uint8_t *text = read_file(path, &length);
     if (text == NULL) return ENDS_BROKEN;
     const uint8_t *at = text, *end = text + length;
-    if (length >= 3 && memcmp(at, "\xef\xbb\xbf", 3) == 0) at += 3;
     while (at < end && script->faulty == 0 && !script->is_too_long) {
         const uint8_t *feed = memchr(at, '\n', (size_t)(end - at)), *stop = feed == NULL ? end : feed;
         const uint8_t *last = feed != NULL && stop > at && stop[-1] == '\r' ? stop - 1 : stop;

@@ -135,8 +135,8 @@ class EndSystem:
 
 
 def words_of(line: bytes) -> list[bytes]:
-    """The words of a line, none if it has no effect."""
-    words = [word for word in line.replace(b"\t", b" ").split(b" ") if word]
+    """The words of a line after its byte order mark, none if it has no effect."""
+    words = [word for word in line.removeprefix(b"\xef\xbb\xbf").replace(b"\t", b" ").split(b" ") if word]
     return [] if words and words[0].startswith(b"#") else words
 
 
