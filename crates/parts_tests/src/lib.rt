@@ -16,6 +16,7 @@ mod config_read;
 mod frame;
 #[cfg(test)]
 mod judged;
+#[cfg(test)]
 mod judging;
 #[cfg(test)]
 mod mux;

@@ -3,7 +3,7 @@ use Rattle.std.proofs.Common.{◌≡◌, ℕ, ◌+◌, ◌*◌, ◌<◌, ◌≤�
 use Rattle.std.specs.Prelude.{IfSome, Ok, Err, Result}
 use Rattle.std.specs.Io.KnownBytes.{Appends}
 use Rattle.std.proofs.KnownBytes.{Appends-nil, Appends-trans}
-use Rattle.std.proofs.lemmas.List.Elements.{All-head, All-tail}
+use Rattle.std.proofs.lemmas.List.Elements.{All-cons, All-head, All-tail}
 use Rattle.std.proofs.lemmas.Option.{IfSome_then}
 use Rattle.afdx_plan.specs.Config.{Plan}
 use Rattle.afdx_tx.specs.Emitter.{Tx}
@@ -15,7 +15,7 @@ use Rattle.script_text.specs.declared.notes.Outcome.{Outcome}
 use Rattle.script_text.specs.declared.faults.RunFault.{RunFault}
 use Rattle.script_text.specs.declared.faults.RunFault.TheVariants as Fault
 use Rattle.script_text.specs.declared.notes.Summary.{Summary as Sums}
-use Rattle.tx_script.specs.AtBench.{AtBench, IsFreshBench, Obeys, OnlyTakes, ClosesOnly, AreTold, IsGathered}
+use Rattle.tx_script.specs.AtBench.{AtBench, IsFreshBench, Obeys, OnlyTakes, ClosesOnly, AreTold, TellsTotal, IsGathered}
 use Rattle.tx_script.specs.Play.{AnsweredLine, Play, play, ClosesAt, transcript}
 use Rattle.tx_script.specs.Run.{left_after, AreRun, HasPlayed, IsWhole, Plays, Ends, Leaves}
 use Rattle.tx_script.specs.Running.{SaysLine, ReadsLine, Running, Halted, Stops, HandsOver, Finishes, EndsEarly}
@@ -102,7 +102,8 @@ module _ (plan : Plan) (bytes left old mid : Option (List ℕ)) (bench : AtBench
         ran = record {
           lines = grind arith;
           matches = ran.matches;
-          told = grind arith;
+          told = All-cons (λ (t : AnsweredLine). TellsTotal bench2.tx (meaning_of t.line) t.answer) turn known.turns
+              ran.told (told_still _ bench.tx bench2.tx known.turns obeyed.closes known.ran.told);
           others = λ place sub none.
               let mine = rw obeyed.closes.plan at none in
               let not = λ (t : AnsweredLine). ClosesAt bench.tx.plan (meaning_of t.line) place sub → ⊥ in
@@ -134,12 +135,12 @@ module _ (plan : Plan) (text : List ℕ) (old mid fin : Option (List ℕ)) (benc
   -- the ports were taken back after some lines were run
   are_run : (before : AtBench) (turns : List AnsweredLine) → Running plan text old mid before turns
       → OnlyTakes before bench → IsGathered bench → AreRun plan text turns
-  are_run before turns ran since gathered = grind (
-    arith,
-    finds_first (play plan turns) before bench ran.matches since gathered,
-    totals_are (play plan turns) before bench ran.matches since gathered turns (grind arith),
-    told_still _ before.tx bench.tx turns since.closes ran.told,
-  )
+  are_run before turns ran since gathered = record {
+    lines = ran.lines;
+    finds = finds_first (play plan turns) before bench ran.matches since gathered;
+    totals = totals_are (play plan turns) before bench ran.matches since gathered turns
+        (told_still _ before.tx bench.tx turns since.closes ran.told);
+  }
 
   -- the streams follow the notes
   has_played : (a b : FrameLog) (turns : List AnsweredLine) → Running plan text old mid bench turns
