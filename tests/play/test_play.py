@@ -33,7 +33,7 @@ NETWORKS = "AB"
 BAG = 1_000_000
 # How late a poll may be for the tests that need times, in nanoseconds: beyond it the machine is too busy to tell.
 BUSY = 20_000_000
-# How far the networks may be apart for the judge, in nanoseconds.
+# How far the networks may be apart for the judge, in nanoseconds, unless polls were later.
 SKEW = 20_000_000
 USAGE = "usage: afdx_play PLAN SCRIPT INTERFACE_A INTERFACE_B"
 
@@ -109,11 +109,12 @@ class Played:
         self.captured = {name: [(it.moment, it.data.hex()) for it in capture.packets if it.name == name] for name in NETWORKS}
         late = re.search(r"greatest (\d+)", self.ran.stdout)
         self.late = 1000 * int(late[1]) if late else BUSY
+        self.skew = max(SKEW, self.late + 1000)
         self.bench = f"{os.path.dirname(rig.program)}/afdx_bench"
 
     def found(self) -> Counter:
         """What the judge finds of the capture, at the lateness that was printed: how many of each kind."""
-        words = ["judge", "plan.toml", "frames.pcapng", "--jitter", str(self.late // 1000), "--skew", str(SKEW // 1000)]
+        words = ["judge", "plan.toml", "frames.pcapng", "--jitter", str(self.late // 1000), "--skew", str(self.skew // 1000)]
         out = subprocess.run([self.bench, *words], capture_output=True, text=True, check=False).stdout
         line = re.search(r"(?m)^(?:no findings|\d+ findings?: (.*))$", out)
         assert line, out
@@ -210,28 +211,28 @@ def changed(frames: list[str], word: str, first: int, second: str = "") -> list[
     return frames
 
 
-# What the judge finds of each fault: how many of each kind.
+# What the judge finds of each fault, beside frames without a twin: how many of each kind.
 TRACES = {
-    "lose": {"Number": 1, "Missing": 1},
-    "repeat": {"Number": 1, "Early": 1, "Missing": 1},
+    "lose": {"Number": 1},
+    "repeat": {"Number": 1, "Early": 1},
     "swap": {"Number": 3},
-    "number": {"Number": 2, "Missing": 2},
+    "number": {"Number": 2},
     "early": {"Early": 1},
-    "flip": {"Frame": 1, "Number": 1, "Missing": 1},
+    "flip": {"Frame": 1, "Number": 1},
+    "down": {},
 }
 
 
 def misjudged(played: Played, text: str) -> list[str]:
     """What is wrong with the findings of a run with a fault: they are its trace, and nothing else."""
     word, network, first, *second = text.split()
-    found = played.found()
-    if word == "down":
-        last = max(at for frames in played.captured.values() for at, _ in frames)
-        lost = [at for at, _ in played.captured["AB".replace(network, "")][int(first) - 1 :]]
-        least, most = (sum(at < last - SKEW + late for at in lost) for late in (-played.late, played.late))
-        return [] if not found - Counter(Missing=most) and found["Missing"] >= least else [f"{dict(found)} for {least} to {most} missing"]
-    wanted = Counter(TRACES[word])
-    # (a frame that is early by less than the lateness may be no finding)
+    own, other, k = played.captured[network], played.captured["AB".replace(network, "")], int(first) - 1
+    alone = {"lose": other[k : k + 1], "repeat": own[k + 1 : k + 2], "number": [*own[k : k + 1], *other[k : k + 1]],
+             "flip": other[k : k + 1], "down": other[k:]}.get(word, [])
+    # (frames within the skew of the end aren't missed)
+    last = max(at for at, _ in own + other)
+    wanted, found = Counter(TRACES[word], Missing=sum(last - at > played.skew for at, _ in alone)), played.found()
+    # (nor is a frame early by less than the lateness)
     by = 1000 * int(second[0]) if word == "early" else 2 * BAG
     if by <= played.late:
         wanted["Early"] = found["Early"] = 0
