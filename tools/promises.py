@@ -13,6 +13,7 @@ import sys
 import tomllib
 from glob import glob
 from graphlib import TopologicalSorter
+from itertools import chain
 
 # (no compiled copy is left beside the scripts)
 sys.dont_write_bytecode = True
@@ -99,28 +100,48 @@ def findings(source, functions, edits, tests):
     yield from ("" if edit in edited else f"no row has the edit {edit}" for edit in sorted(edits))
 
 
-def cell(names):
-    """Names in a cell, each without the crate and the type that the one before it has too."""
+def cell(names, homes):
+    """Clauses in a cell: a function without its crate if its type is of one crate, or if the one before it is of the
+    same crate, and without its type if that is the one before's too."""
     shown, before = [], ["", ""]
     for name in names:
         crate, owner, last = re.fullmatch(r"(\w+)::((?:\w+::)?)(.*)", name).groups()
-        shown.append(last if [crate, owner] == before else owner + last if owner and crate == before[0] else name)
+        is_known = last.startswith(f"{crate}_") or owner and (crate == before[0] or homes.get(owner[:-2]) == {crate})
+        shown.append(last if [crate, owner] == before else owner + last if is_known else name)
         before = [crate, owner]
     return f"`{', '.join(shown)}`"
 
 
-def promises_page(source):
+def test_cell(names, tests):
+    """Tests in a cell: a function after its file's name, which the one before it in that file has for both; a test of a
+    crate by the first words of its name, three at least, with which no other begins."""
+    shown, last = [], ""
+    for name in names:
+        file, _, function = name.rpartition("::")
+        words, stem = name.split("_"), os.path.basename(file).partition(".")[0]
+        starts = ["_".join(words[:count]) for count in range(3, len(words))]
+        short = next((it for it in starts if sum(test.startswith(it) for test in tests) == 1), name)
+        shown.append(function if file and file == last else f"{stem}::{function}" if file else short)
+        last = file
+    return f"`{', '.join(shown)}`" if shown else ""
+
+
+def promises_page(source, functions, tests):
     """The matrix, a table for each group."""
-    lines = ["# Promises", "", source["about"].strip()]
+    homes, lines = {}, ["# Promises", "", source["about"].strip()]
+    for crate, owner in re.findall(r"(?m)^(\w+)::(?:\w+::)?([A-Z]\w*)::", "\n".join(functions)):
+        homes.setdefault(owner, set()).add(crate)
     for group in source["group"]:
         lines += ["", f"## {group['name']}", "", "| Promise | By | Edits | Tests |", "|-|-|-|-|"]
         for row in group["row"]:
-            by = row["by"] if isinstance(row["by"], str) else cell(row["by"])
-            edits = [it.partition("/")[2] for it in row.get("edits", [])]
-            more = [f"`{', '.join(it)}`" if it else "" for it in (edits, row.get("tests"))]
-            lines.append("|".join(["", row["says"], by, *more, ""]))
+            by = row["by"] if isinstance(row["by"], str) else cell(row["by"], homes)
+            edits = f"`{', '.join(it.partition('/')[2] for it in row['edits'])}`" if "edits" in row else ""
+            lines.append("|".join(["", row["says"], by, edits, test_cell(row.get("tests", []), tests), ""]))
     lines += ["", "## Supporting", "", "Public functions with a contract that no row has, by name in `promises.toml`:", ""]
     lines += [f"- {len(it['functions'])} of `{it['functions'][0].partition('::')[0]}`: {it['reason']}" for it in source["supporting"]]
+    named = {*re.findall(r"[A-Z]\w*(?=::)", "\n".join(lines))}
+    types = {crate: [it for it in sorted(named) if homes.get(it) == {crate}] for crate in sorted({*chain(*homes.values())})}
+    lines += ["", "## Types", "", "; ".join(f"`{crate}`: {', '.join(it)}" for crate, it in types.items() if it)]
     return "\n".join([*lines, ""])
 
 
@@ -151,8 +172,9 @@ def headline_page(source, results):
 
 def main():
     source = tomllib.loads(text_of(f"{FOLDER}/promises.toml"))
-    results = [*findings(source, *read_tree())]
-    pages = {"promises.md": promises_page(source), "headline.md": headline_page(source, results)}
+    functions, edits, tests = read_tree()
+    results = [*findings(source, functions, edits, tests)]
+    pages = {"promises.md": promises_page(source, functions, tests), "headline.md": headline_page(source, results)}
     for name, text in pages.items():
         if "--write" in sys.argv:
             with open(f"{ROOT}/{FOLDER}/{name}", "w", encoding="utf-8") as file:
