@@ -159,7 +159,8 @@ inline std::string explain(const std::string &text) {
    gather then: give it back instead. */
 class Port {
 public:
-    /* Copies a message in. Throws SendError (of Full: poll, and try again) or OutOfMemory. */
+    /* Copies a message in. Throws SendError or OutOfMemory. After Full poll, then try again: each Full uses one of the
+       port's 2^40 slot requests. */
     void send(const std::uint8_t *message, std::size_t length) {
         detail::want(try_send(message, length), AFDX_CALL_SEND);
     }

@@ -117,7 +117,7 @@ class Port:
 
     def send(self, message: BytesLike) -> None:
         """Sends a message of 1 byte up to the port's greatest. Raises `Empty`, `TooLong`, `Closed`, `Exhausted`, `Full`
-        (poll, and try again) or `OutOfMemory`."""
+        (poll, then try again) or `OutOfMemory`."""
         want(self._sent(message), SEND_ERRORS)
 
     def try_send(self, message: BytesLike) -> bool:

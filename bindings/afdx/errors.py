@@ -117,7 +117,7 @@ class Limit(ConfigError):
 
 
 class SendError(AfdxError):
-    """The message is refused, and nothing has changed."""
+    """The message is refused, and isn't queued."""
 
 
 class Empty(SendError):
@@ -145,7 +145,7 @@ class Exhausted(SendError):
 
 
 class Full(SendError):
-    """The queue is full: poll, and try again."""
+    """The queue is full: poll, then try again. Each such refusal uses one of the port's 2^40 slot requests."""
 
     number = 5
 

@@ -212,7 +212,8 @@ uint8_t afdx_links(const afdx_end_system *it, uint16_t *ids, size_t room, size_t
    @param length its length in bytes
    @return AFDX_OK. Refused: AFDX_NOT_HELD, AFDX_WRONG_HANDLE; AFDX_EMPTY, AFDX_TOO_LONG, by the length alone,
    before anything is allocated or copied; AFDX_MEMORY, also of a queue that is closed or full; AFDX_CLOSED,
-   AFDX_EXHAUSTED (the port has used its 2^40 slot requests), AFDX_FULL: try again after a poll. */
+   AFDX_EXHAUSTED (the port has used its 2^40 slot requests, one for each send that finds its queue open),
+   AFDX_FULL: try again after a poll. A refused message isn't queued, but each AFDX_FULL uses a slot request. */
 uint8_t afdx_send(afdx_port *port, const uint8_t *message, size_t length);
 
 /** Writes the number of a port's accepted messages. Called by the thread that has the port.

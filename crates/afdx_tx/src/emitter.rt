@@ -158,10 +158,10 @@ impl<A: Network + Drop, B: Network + Drop> Emitter<A, B> {
     ghost use Rattle.afdx_tx.specs.Calls.{LacksSub, ClosesTx};
 
     /// Closes a sub-VL, by its link and its index there, and returns the number of accepted
-    /// messages. None is accepted from then on: each later close returns the same number, and so
-    /// does gathering the ports. Accepted messages are still transmitted. Fails, and changes
-    /// nothing, exactly if the configuration has no such sub-VL. Never waits, and allocates
-    /// nothing.
+    /// messages. None is accepted from then on: each later close returns the same number, and
+    /// after `gather` exactly that many are known. Accepted messages are still transmitted. Fails,
+    /// and changes nothing, exactly if the configuration has no such sub-VL. Never waits, and
+    /// allocates nothing.
     pub fn close(&mut self, vl: VlId, sub: u8) -> Result<u64, NoSuchSub>
         ensures missing { IsErr result ↔ LacksSub self.old.plan vl.0 sub }
         ensures unchanged { OnErr result (self.new ≡ self.old) }
