@@ -102,13 +102,17 @@ def findings(source, functions, edits, tests):
 
 def cell(names, homes):
     """Clauses in a cell: a function without its crate if its type is of one crate, or if the one before it is of the
-    same crate, and without its type if that is the one before's too."""
-    shown, before = [], ["", ""]
+    same crate, and without its type if that is the one before's too. `f/g [clauses]` are those of each."""
+    shown, before = [], ["", "", ""]
     for name in names:
-        crate, owner, last = re.fullmatch(r"(\w+)::((?:\w+::)?)(.*)", name).groups()
+        crate, owner, last, clauses = re.fullmatch(r"(\w+)::((?:\w+::)?)(\w+)(.*)", name).groups()
         is_known = last.startswith(f"{crate}_") or owner and (crate == before[0] or homes.get(owner[:-2]) == {crate})
-        shown.append(last if [crate, owner] == before else owner + last if is_known else name)
-        before = [crate, owner]
+        if clauses and [crate, owner, clauses] == before:
+            shown[-1] = f"{shown[-1].removesuffix(clauses)}/{last}{clauses}"
+        else:
+            is_next = [crate, owner] == before[:2]
+            shown.append(f"{'' if is_next else owner if is_known else name[:name.rindex(last)]}{last}{clauses}")
+        before = [crate, owner, clauses]
     return f"`{', '.join(shown)}`"
 
 
@@ -132,7 +136,7 @@ def promises_page(source, functions, tests):
     for crate, owner in re.findall(r"(?m)^(\w+)::(?:\w+::)?([A-Z]\w*)::", "\n".join(functions)):
         homes.setdefault(owner, set()).add(crate)
     for group in source["group"]:
-        lines += ["", f"## {group['name']}", "", "| Promise | By | Edits | Tests |", "|-|-|-|-|"]
+        lines += ["", f"## {group['name']}", "", "|Promise|By|Edits|Tests|", "|-|-|-|-|"]
         for row in group["row"]:
             by = row["by"] if isinstance(row["by"], str) else cell(row["by"], homes)
             edits = f"`{', '.join(it.partition('/')[2] for it in row['edits'])}`" if "edits" in row else ""
