@@ -23,6 +23,7 @@ from trying import ROOT, text_of
 FOLDER = "docs/assurance"
 BLOCK = re.compile(r"(?:pub )?(?:impl|(trait))\b(?:<.*?>)? (?:(.+) for )?(\w+)")
 FUNCTION = re.compile(r' *(pub(?:\(\w+\))? )?(?:const )?(extern "C" )?fn (\w+)')
+FUNCTION_NAMED = re.compile(r"(\w+)::((?:\w+::)?)(\w+)(.*)")
 CLAUSE = re.compile(r"\s+(?:ensures|requires) (\w*) ?\{")
 USE = re.compile(r"(?m)^use Rattle\.(\w+)\.specs\.(\w+)\.\{(.*)\}")
 DEFINITION = re.compile(r"(?m)^(?:pub )?(?:abbrev|record|data|unfoldable) (?:pub )?(?=\w)")
@@ -100,13 +101,13 @@ def findings(source, functions, edits, tests):
     yield from ("" if edit in edited else f"no row has the edit {edit}" for edit in sorted(edits))
 
 
-def cell(names, homes):
-    """Clauses in a cell: a function without its crate if its type is of one crate, or if the one before it is of the
-    same crate, and without its type if that is the one before's too. `f/g [clauses]` are those of each."""
+def cell(names, homes, home):
+    """Clauses in a cell: a function without its crate if its type is of one crate, or if it is of the group's crate, and
+    as the one before it without what is the same. `f/g [clauses]` are those of each."""
     shown, before = [], ["", "", ""]
     for name in names:
-        crate, owner, last, clauses = re.fullmatch(r"(\w+)::((?:\w+::)?)(\w+)(.*)", name).groups()
-        is_known = last.startswith(f"{crate}_") or owner and (crate == before[0] or homes.get(owner[:-2]) == {crate})
+        crate, owner, last, clauses = FUNCTION_NAMED.fullmatch(name).groups()
+        is_known = last.startswith(f"{crate}_") or homes.get(owner[:-2], {home}) == {crate}
         if clauses and [crate, owner, clauses] == before:
             shown[-1] = f"{shown[-1].removesuffix(clauses)}/{last}{clauses}"
         else:
@@ -136,9 +137,12 @@ def promises_page(source, functions, tests):
     for crate, owner in re.findall(r"(?m)^(\w+)::(?:\w+::)?([A-Z]\w*)::", "\n".join(functions)):
         homes.setdefault(owner, set()).add(crate)
     for group in source["group"]:
-        lines += ["", f"## {group['name']}", "", "|Promise|By|Edits|Tests|", "|-|-|-|-|"]
+        named = [FUNCTION_NAMED.match(it) for row in group["row"] if not isinstance(row["by"], str) for it in row["by"]]
+        crates = [it[1] for it in named if it[2][:-2] not in homes]
+        home = max((it for it in crates if crates.count(it) > 3), key=crates.count, default="")
+        lines += ["", f"## {group['name']}{home and f' (`{home}`)'}", "", "|Promise|By|Edits|Tests|", "|-|-|-|-|"]
         for row in group["row"]:
-            by = row["by"] if isinstance(row["by"], str) else cell(row["by"], homes)
+            by = row["by"] if isinstance(row["by"], str) else cell(row["by"], homes, home)
             edits = f"`{', '.join(it.partition('/')[2] for it in row['edits'])}`" if "edits" in row else ""
             lines.append("|".join(["", row["says"], by, edits, test_cell(row.get("tests", []), tests), ""]))
     lines += ["", "## Supporting", "", "Public functions with a contract that no row has, by name in `promises.toml`:", ""]
