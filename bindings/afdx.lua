@@ -7,7 +7,11 @@
 -- address begins with 03 00 00 00 and its source MAC address with 02 00 00. Fields to filter by: afdx.vl, afdx.network,
 -- afdx.end_system, afdx.interface, afdx.partition, afdx.sub_vl, afdx.seq; afdx.note is in each frame with an expert info
 -- of this file. A frame check sequence may be recorded or not. Preferences: the plan, from which the links, their BAGs,
--- Lmax and networks are taken; without one the BAG of all virtual links and that of some; an allowed jitter.
+-- Lmax and networks are taken, and whose tables and keys each begin a line; without one the BAG of all virtual links and
+-- that of some (afdx.bag, afdx.bags); an allowed jitter (afdx.jitter).
+--
+-- Wireshark itself notes that a unicast address has a time to live of 1, and the number after the padding. To hide both:
+--     -o 'uat:expert_severity:"ip.ttl.too_small","Comment"' -o 'uat:expert_severity:"eth.padding_bad","Comment"'
 
 local afdx = Proto("afdx", "AFDX")
 

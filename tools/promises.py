@@ -13,7 +13,6 @@ import sys
 import tomllib
 from glob import glob
 from graphlib import TopologicalSorter
-from itertools import chain
 
 # (no compiled copy is left beside the scripts)
 sys.dont_write_bytecode = True
@@ -101,55 +100,49 @@ def findings(source, functions, edits, tests):
     yield from ("" if edit in edited else f"no row has the edit {edit}" for edit in sorted(edits))
 
 
-def cell(names, homes, home):
-    """Clauses in a cell: a function without its crate if its type is of one crate, or if it is of the group's crate, and
-    as the one before it without what is the same. `f/g [clauses]` are those of each."""
+def cell(names, home):
+    """Clauses in a cell: a function without its crate if that is the group's, and without its crate and its type if the
+    one before it has them. `f/g [clauses]` are those of each."""
     shown, before = [], ["", "", ""]
     for name in names:
         crate, owner, last, clauses = FUNCTION_NAMED.fullmatch(name).groups()
-        is_known = last.startswith(f"{crate}_") or homes.get(owner[:-2], {home}) == {crate}
         if clauses and [crate, owner, clauses] == before:
             shown[-1] = f"{shown[-1].removesuffix(clauses)}/{last}{clauses}"
+        elif [crate, owner] == before[:2]:
+            shown.append(f"{last}{clauses}")
         else:
-            is_next = [crate, owner] == before[:2]
-            shown.append(f"{'' if is_next else owner if is_known else name[:name.rindex(last)]}{last}{clauses}")
+            shown.append(name.removeprefix(f"{home}::") if before[0] in ("", home) or crate != home else name)
         before = [crate, owner, clauses]
     return f"`{', '.join(shown)}`"
 
 
 def test_cell(names, tests):
     """Tests in a cell: a function after its file's name, which the one before it in that file has for both; a test of a
-    crate by the first words of its name, three at least, with which no other begins."""
+    crate by the first words of its name, two at least, with which no other begins."""
     shown, last = [], ""
     for name in names:
         file, _, function = name.rpartition("::")
         words, stem = name.split("_"), os.path.basename(file).partition(".")[0]
-        starts = ["_".join(words[:count]) for count in range(3, len(words))]
+        starts = ["_".join(words[:count]) for count in range(2, len(words))]
         short = next((it for it in starts if sum(test.startswith(it) for test in tests) == 1), name)
         shown.append(function if file and file == last else f"{stem}::{function}" if file else short)
         last = file
     return f"`{', '.join(shown)}`" if shown else ""
 
 
-def promises_page(source, functions, tests):
-    """The matrix, a table for each group."""
-    homes, lines = {}, ["# Promises", "", source["about"].strip()]
-    for crate, owner in re.findall(r"(?m)^(\w+)::(?:\w+::)?([A-Z]\w*)::", "\n".join(functions)):
-        homes.setdefault(owner, set()).add(crate)
+def promises_page(source, tests):
+    """The matrix, a table for each group, which has in its heading the crate that most of its functions are of."""
+    lines = ["# Promises", "", source["about"].strip()]
     for group in source["group"]:
-        named = [FUNCTION_NAMED.match(it) for row in group["row"] if not isinstance(row["by"], str) for it in row["by"]]
-        crates = [it[1] for it in named if it[2][:-2] not in homes]
-        home = max((it for it in crates if crates.count(it) > 3), key=crates.count, default="")
-        lines += ["", f"## {group['name']}{home and f' (`{home}`)'}", "", "|Promise|By|Edits|Tests|", "|-|-|-|-|"]
+        crates = [it.partition("::")[0] for row in group["row"] if not isinstance(row["by"], str) for it in row["by"]]
+        home = max(crates, key=crates.count, default="")
+        lines += ["", f"## {group['name']}{home and f' (`{home}`)'}", "", "Promise|By|Edits|Tests", "-|-|-|-"]
         for row in group["row"]:
-            by = row["by"] if isinstance(row["by"], str) else cell(row["by"], homes, home)
+            by = row["by"] if isinstance(row["by"], str) else cell(row["by"], home)
             edits = f"`{', '.join(it.partition('/')[2] for it in row['edits'])}`" if "edits" in row else ""
-            lines.append("|".join(["", row["says"], by, edits, test_cell(row.get("tests", []), tests), ""]))
+            lines.append("|".join([row["says"], by, edits, test_cell(row.get("tests", []), tests)]).rstrip("|"))
     lines += ["", "## Supporting", "", "Public functions with a contract that no row has, by name in `promises.toml`:", ""]
     lines += [f"- {len(it['functions'])} of `{it['functions'][0].partition('::')[0]}`: {it['reason']}" for it in source["supporting"]]
-    named = {*re.findall(r"[A-Z]\w*(?=::)", "\n".join(lines))}
-    types = {crate: [it for it in sorted(named) if homes.get(it) == {crate}] for crate in sorted({*chain(*homes.values())})}
-    lines += ["", "## Types", "", "; ".join(f"`{crate}`: {', '.join(it)}" for crate, it in types.items() if it)]
     return "\n".join([*lines, ""])
 
 
@@ -182,7 +175,7 @@ def main():
     source = tomllib.loads(text_of(f"{FOLDER}/promises.toml"))
     functions, edits, tests = read_tree()
     results = [*findings(source, functions, edits, tests)]
-    pages = {"promises.md": promises_page(source, functions, tests), "headline.md": headline_page(source, results)}
+    pages = {"promises.md": promises_page(source, tests), "headline.md": headline_page(source, results)}
     for name, text in pages.items():
         if "--write" in sys.argv:
             with open(f"{ROOT}/{FOLDER}/{name}", "w", encoding="utf-8") as file:
