@@ -116,31 +116,35 @@ def cell(names, home):
     return f"`{', '.join(shown)}`"
 
 
-def test_cell(names, tests):
-    """Tests in a cell: a function after its file's name, which the one before it in that file has for both; a test of a
-    crate by the first words of its name, two at least, with which no other begins."""
+def shortest(name, names):
+    """The first words of a name, two at least, with which none of the other names begins."""
+    words = name.split("_")
+    starts = ("_".join(words[:count]) for count in range(2, len(words)))
+    return next((it for it in starts if sum(other.startswith(it) for other in names) == 1), name)
+
+
+def test_cell(row, tests):
+    """Tests in a cell: a function after its file's name, which the one before it in that file has for both."""
     shown, last = [], ""
-    for name in names:
+    for name in row.get("tests", []):
         file, _, function = name.rpartition("::")
-        words, stem = name.split("_"), os.path.basename(file).partition(".")[0]
-        starts = ["_".join(words[:count]) for count in range(2, len(words))]
-        short = next((it for it in starts if sum(test.startswith(it) for test in tests) == 1), name)
-        shown.append(function if file and file == last else f"{stem}::{function}" if file else short)
+        stem = os.path.basename(file).partition(".")[0]
+        shown.append(function if file and file == last else f"{stem}::{function}" if file else shortest(name, tests))
         last = file
     return f"`{', '.join(shown)}`" if shown else ""
 
 
-def promises_page(source, tests):
+def promises_page(source, edits, tests):
     """The matrix, a table for each group, which has in its heading the crate that most of its functions are of."""
-    lines = ["# Promises", "", source["about"].strip()]
+    lines, wrongs = ["# Promises", "", source["about"].strip()], [it.partition("/")[2] for it in edits]
     for group in source["group"]:
         crates = [it.partition("::")[0] for row in group["row"] if not isinstance(row["by"], str) for it in row["by"]]
         home = max(crates, key=crates.count, default="")
         lines += ["", f"## {group['name']}{home and f' (`{home}`)'}", "", "Promise|By|Edits|Tests", "-|-|-|-"]
         for row in group["row"]:
             by = row["by"] if isinstance(row["by"], str) else cell(row["by"], home)
-            edits = f"`{', '.join(it.partition('/')[2] for it in row['edits'])}`" if "edits" in row else ""
-            lines.append("|".join([row["says"], by, edits, test_cell(row.get("tests", []), tests)]).rstrip("|"))
+            wrong = ", ".join(shortest(it.partition("/")[2], wrongs) for it in row.get("edits", []))
+            lines.append("|".join([row["says"], by, wrong and f"`{wrong}`", test_cell(row, tests)]).rstrip("|"))
     lines += ["", "## Supporting", "", "Public functions with a contract that no row has, by name in `promises.toml`:", ""]
     lines += [f"- {len(it['functions'])} of `{it['functions'][0].partition('::')[0]}`: {it['reason']}" for it in source["supporting"]]
     return "\n".join([*lines, ""])
@@ -175,7 +179,7 @@ def main():
     source = tomllib.loads(text_of(f"{FOLDER}/promises.toml"))
     functions, edits, tests = read_tree()
     results = [*findings(source, functions, edits, tests)]
-    pages = {"promises.md": promises_page(source, tests), "headline.md": headline_page(source, results)}
+    pages = {"promises.md": promises_page(source, edits, tests), "headline.md": headline_page(source, results)}
     for name, text in pages.items():
         if "--write" in sys.argv:
             with open(f"{ROOT}/{FOLDER}/{name}", "w", encoding="utf-8") as file:
