@@ -204,8 +204,9 @@ def typed() -> None:
     """The package and the examples are clean under `mypy --strict` and rated over 9.5 by pylint, where these are installed."""
     examples = f"{PREFIX.name}/share/afdx/examples/python"
     with tempfile.TemporaryDirectory() as room:
-        for name, words in (("mypy", ["--strict", "--cache-dir", room, "afdx", f"{examples}/main.py", f"{examples}/bench.py"]),
-                            ("pylint", ["--fail-under=9.5", "--max-line-length=140", "afdx"])):
+        sources = ["afdx", f"{examples}/main.py", f"{examples}/bench.py"]
+        for name, words in (("mypy", ["--strict", "--cache-dir", room, *sources]),
+                            ("pylint", ["--fail-under=9.5", "--max-line-length=140", *sources])):
             if not shutil.which(name):
                 print(f"no {name}: skipped")
                 continue
