@@ -1,0 +1,87 @@
+#!/usr/bin/env python3
+"""Tests what README.md and the guides show: the program prints what they say of the same plan, script and recording,
+and each link leads to a file, and to a heading there. The last line is 'N passed, M failed'."""
+import os
+import re
+import subprocess
+import sys
+import tempfile
+from glob import glob
+
+sys.dont_write_bytecode = True
+from trying import ROOT, Tries, built, started, text_of
+
+PAGES = ["README.md", "CONTRIBUTING.md", *sorted(glob("docs/**/*.md", root_dir=ROOT, recursive=True))]
+# A plan with the faults that program.md shows.
+FAULTY = """[end_system]\nid = "1"\n\n[[vl]]\nid = 6\nbag_ms = 1\nlmax = 64\nsub_vls = 1\ncapacity = 1
+[[vl]]\nid = 7\nlmax = 63\nbag_ms = 3\nsub_vls = 1\ncapacity = 2
+[[port]]\nid = 20\nvl = 6\nsub = 0\npartition = 1\nkind = "queuing"\nsource = 1\ndestination = 2\nmax = 3\n"""
+
+
+def blocks(page):
+    """The texts that a page shows, but for those in a language."""
+    return [text for language, text in re.findall(r"(?ms)^```(\w*)\n(.*?)^```$", text_of(page)) if not language]
+
+
+def without_packet(capture, k):
+    """A capture of ours without packet k, from 1: its first three blocks are the section and two interfaces."""
+    at = ends = 0
+    for _ in range(3 + k):
+        at, ends = ends, ends + int.from_bytes(capture[ends + 4 : ends + 8], "little")
+    return capture[:at] + capture[ends:]
+
+
+def shown(program, folder):
+    """Commands that pages show, each with its run and what they say that it prints."""
+    def ran(*words, **how):
+        how = {"stdout": subprocess.PIPE, "stderr": subprocess.STDOUT, "text": True, **how}
+        return started(program, words, cwd=folder, **how).stdout
+
+    def write(name, data):
+        with open(f"{folder}/{name}", "wb") as file:
+            file.write(data)
+
+    quick, wanted, *_ = blocks("README.md")
+    yield "README.md", ran(input=re.search("'(.*)'", quick)[1].encode().decode("unicode_escape")), wanted
+    script, transcript, faults, traffic, storm, *_ = blocks("docs/guide/program.md")
+    plan = blocks("docs/guide/configuration.md")[0]
+    for name, text in {"plan.toml": plan, "script.txt": script, "traffic.csv": traffic}.items():
+        write(name, text.encode())
+    # (the pages show the lines of A, from which those of B differ in byte 11)
+    others = re.sub("(?m)^A (.* .{22})20", r"B \g<1>40", transcript.partition("\n")[2])
+    yield "run", ran("run", "plan.toml", "script.txt", "--capture", "run.pcapng"), transcript + others
+    verdict = "loads within limits, jitter within limits, deadlines kept"
+    yield "report", ran("report", "plan.toml", "--traffic", "traffic.csv").partition("\n")[0], verdict
+    yield "storm", ran("storm", "plan.toml", "--messages", "1000", "--turns", "100000"), storm
+    with open(f"{folder}/run.pcapng", "rb") as file:
+        write("run.pcapng", without_packet(file.read(), 4))
+    wanted = next(it for it in blocks("docs/guide/judge.md") if " findings: " in it)
+    yield "judge", ran("judge", "plan.toml", "run.pcapng", "--skew", "100"), wanted
+    write("plan.toml", FAULTY.encode())
+    yield "explain", ran("explain", "plan.toml"), faults
+
+
+def dead_links(page):
+    """The links of a page that lead nowhere."""
+    for link in re.findall(r"\]\((?!https?:)([^)]+)\)", text_of(page)):
+        path, _, heading = link.partition("#")
+        target = os.path.normpath(f"{os.path.dirname(page)}/{path}") if path else page
+        is_there = os.path.exists(f"{ROOT}/{target}")
+        titles = re.findall(r"(?m)^#+ (.*)$", text_of(target)) if is_there and heading else []
+        anchors = [re.sub(r"[^\w -]", "", it.lower()).replace(" ", "-") for it in titles]
+        if not is_there or heading and heading not in anchors:
+            yield f"{page}: {link}"
+
+
+def main():
+    tries = Tries()
+    tries.show("links", [link for page in PAGES for link in dead_links(page)])
+    for build, program in built("afdx_bench").items():
+        with tempfile.TemporaryDirectory(prefix="pages-") as folder:
+            for name, printed, wanted in shown(program, folder):
+                tries.show(f"{name} by {build}", [] if printed == wanted else [f"printed {printed}, shown {wanted}"])
+    return tries.end()
+
+
+if __name__ == "__main__":
+    sys.exit(main())
