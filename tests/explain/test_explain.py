@@ -25,6 +25,7 @@ ROOT = os.path.dirname(os.path.dirname(os.path.dirname(os.path.abspath(__file__)
 PROGRAM = f"{ROOT}/crates/afdx_bench/out/afdx_bench"
 sys.dont_write_bytecode = True
 sys.path[:0] = [f"{ROOT}/tests", os.path.dirname(os.path.abspath(__file__))]
+import changes  # noqa: E402
 import refusals  # noqa: E402
 import refusals_wanted  # noqa: E402
 import trying  # noqa: E402
@@ -52,13 +53,20 @@ def without_places(told: str) -> str:
     return "".join(f"no place: {line}" for line in lacks) + head + PLACE.sub("", "".join(rest))
 
 
+def document_of(raw: bytes) -> dict:
+    """The document of a text. Its whole numbers have 64 bits."""
+    if any(not -(2**63) <= int(it) < 2**63 for it in re.findall(rb"= (-?\d+)\n", raw)):
+        raise tomllib.TOMLDecodeError
+    return tomllib.loads(raw.decode())
+
+
 def faults_of(text: str | bytes, lines: Iterable[str] = (), whole: str | None = None) -> list[str]:
     """What is wrong with the explanation of a text. It must have lines with these starts, and be `whole` if that is given."""
     raw = text.encode() if isinstance(text, str) else text
     explained, checked = ran("explain", raw), ran("check", raw)
     told, faults = without_places(explained.stdout.decode()), []
     try:
-        wanted = whole or explanation(tomllib.loads(raw.decode()))
+        wanted = whole or explanation(document_of(raw))
     except (tomllib.TOMLDecodeError, UnicodeDecodeError):
         wanted = told if re.fullmatch(r"1 fault\n1 Toml: line \d+, column \d+: [^\n]+\n", told) else "a fault of the text"
     head, *rest = told.splitlines() or [""]
@@ -236,6 +244,11 @@ def keys() -> Iterable[tuple]:
                 yield text_of(document, rng), [f"{fault} {NAMES[fault]}: {subject(document, at, key)}: "] if told else []
 
 
+def few_changes() -> Iterable[tuple]:
+    """The texts of `changes.py`, with the number of the first fault."""
+    return ((text, [f"{number} "] if number else [], None if number else "no faults\n") for text, number in changes.changed())
+
+
 def layout_faults(seed: int) -> list[str]:
     """What is wrong with the lines that are told of a text of a random layout."""
     rng = random.Random(seed)
@@ -304,6 +317,8 @@ def main() -> int:
         tries.show("each number", all_faults(numbers()))
         tries.show("more faults than lines", all_faults(crowds()))
         tries.show("each key", all_faults(keys()))
+        tries.show("few changes", all_faults(few_changes()))
+        tries.show("each byte replaced", all_faults((text,) for text in changes.replaced()))
         tries.show("each prefix", all_faults((demo[:size],) for size in range(len(demo) + 1)))
         tries.show(f"{count} texts with planted faults", all_faults(planted(seed) for seed in range(count)))
         sound = [(text_of(plan_of(rng, k % 8 + 1, k + 1, (None, 1, 2)[k % 3]), rng), (), "no faults\n") for k in range(65)]

@@ -1,23 +1,13 @@
-//! Tests of the parts that a transmitter is made of, a module each: plans and their texts, frames, captures, the
+//! Tests of the parts that a transmitter is made of, a module each: plans, frames, the
 //! regulation of a link, networks, the status board and the ring that a queue is.
 #![tactic(auto)]
 
 #[cfg(test)]
 mod board;
 #[cfg(test)]
-mod capture_read;
-#[cfg(test)]
 mod checksum;
 #[cfg(test)]
-mod config_damage;
-#[cfg(test)]
-mod config_read;
-#[cfg(test)]
 mod frame;
-#[cfg(test)]
-mod judged;
-#[cfg(test)]
-mod judging;
 #[cfg(test)]
 mod mux;
 #[cfg(test)]

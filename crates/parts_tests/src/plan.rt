@@ -1,5 +1,4 @@
 //! Tests of plans.
-use crate::config_read::only;
 use crate::frame::demo_port;
 use crate::testing::*;
 use afdx_plan::{Bag, ConfigFault, Lmax, PortId, VlId, demo_config, jitter_ns, laws};
@@ -10,8 +9,8 @@ fn the_demonstration_is_one_link_and_one_port_which_are_found_by_their_identifie
 ) {
     let config = demo_config(rt.alloc()).expect(&rt, "memory");
     assert_same(&rt, (config.end_system(), jitter_ns(&config)), (1, 163_040));
-    let (_link, port) = only(&rt, &config);
-    assert_same(&rt, *port, demo_port());
+    assert_same(&rt, config.links().len(), 1);
+    assert_same(&rt, config.ports(), [demo_port()].as_slice());
     let of_links = [config.link_index(VlId(1)), config.link_index(VlId(2))];
     assert_same(&rt, of_links, [Some(0), None]);
     let of_ports = [config.port_index(PortId(10)), config.port_index(PortId(1))];

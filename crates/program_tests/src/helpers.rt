@@ -1,6 +1,5 @@
 //! What these tests share.
 use std::fmt::Debug;
-pub use std::fmt::InlineText;
 pub use std::io::ErrorKind;
 use std::io::{self, Read, Write};
 pub use std::process::Abort;
@@ -94,17 +93,4 @@ impl Write for Lapsing {
         self.flushes = self.flushes.saturating_add(1);
         Ok(())
     }
-}
-
-pub fn joined(rt: &impl Host, parts: &[&str]) -> String {
-    parts.concat(rt.alloc()).expect(rt, "memory")
-}
-
-pub fn repeated(rt: &impl Host, part: &str, many: usize) -> String {
-    part.repeat(rt.alloc(), many).expect(rt, "memory")
-}
-
-/// The columns of a row of a table: the text before ` => `, and the text after it.
-pub fn columns<'a>(rt: &impl Abort, row: &'a str) -> (&'a str, &'a str) {
-    row.split_once(" => ").expect(rt, row)
 }

@@ -1,6 +1,5 @@
-//! Tests of the program's libraries: lines and transcripts of scripts, captures, readers and writers that fail,
-//! storms over whole end systems, words, failures and exit statuses. What a whole command prints of a text is
-//! tried in `tests/`.
+//! Tests of the program's libraries that no run of the program shows: readers and writers that fail at each byte
+//! and each call, and storms over whole end systems whose threads are held.
 #![tactic(auto)]
 
 #[cfg(test)]
@@ -10,8 +9,6 @@ mod gates;
 #[cfg(test)]
 mod helpers;
 #[cfg(test)]
-mod line_tests;
-#[cfg(test)]
 mod plans;
 #[cfg(test)]
 mod report_tests;
@@ -20,10 +17,4 @@ mod storm_tests;
 #[cfg(test)]
 mod stream_tests;
 #[cfg(test)]
-mod text_tests;
-#[cfg(test)]
-mod transcript_tests;
-#[cfg(test)]
 mod turn_tests;
-#[cfg(test)]
-mod words_tests;

@@ -1,16 +1,13 @@
 //! The configurations and assertions that tests of storms share.
-ghost use Rattle.std.specs.Prelude.{◌≤◌};
-
 use afdx_config::read_config;
 use afdx_plan::Config;
-use plan_report::Failure;
 use redundant_mux::MemNetwork;
 use std::fmt::Debug;
 pub use std::process::Abort;
 use std::sync::Wait;
 use std::thread::Threads;
 pub use storm::{Gate, OpenGate, StormFault, StormReport};
-use storm::{bench_storm, storm, storm_over};
+use storm::{storm, storm_over};
 
 /// The runtime of a test, which asserts, allocates, starts threads and waits for them.
 pub trait Host: Abort + AllocGlobal + Threads + Wait + Sync {}
@@ -164,22 +161,4 @@ pub fn assert_report(
         (told, report.back, sent.as_slice()),
         (wanted, false, links),
     );
-}
-
-/// Asserts the result of the command over the plan of a text, and what it writes.
-pub fn assert_told(
-    rt: &impl Host,
-    text: &str,
-    messages: u32,
-    turns: u64,
-    wanted: Result<(), Failure>,
-    lines: &str,
-)
-    requires messages { (1 ≤ messages) × (messages ≤ 65535) }
-    requires turns { (1 ≤ turns) × (turns ≤ 1000000000) }
-{
-    let mut told = Vec::new(rt.alloc());
-    let text = text.as_bytes();
-    let ended = bench_storm(rt, rt.alloc(), text, &mut told, messages, turns, &OpenGate);
-    assert_same(rt, (ended, told.as_slice()), (wanted, lines.as_bytes()));
 }
