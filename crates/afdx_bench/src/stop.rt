@@ -78,54 +78,35 @@ impl Stop {
     }
 }
 
-/// The path of a file.
+/// The path of a file, or else of the plan.
 fn path_of<'a>(words: &'a Words, named: Named) -> &'a str {
-    match (words, named) {
-        (Words::Run { script, .. }, Named::Script) => script.as_str(),
-        (
-            Words::Run {
-                capture: Some(path),
-                ..
-            },
-            Named::Capture,
-        ) => path.as_str(),
-        (
-            Words::Report {
-                html: Some(path),
-                ..
-            },
-            Named::Page,
-        ) => path.as_str(),
-        (
-            Words::Report {
-                traffic: Some(path),
-                ..
-            },
-            Named::Traffic,
-        ) => path.as_str(),
-        (
-            Words::Report {
-                csv: Some(path),
-                ..
-            },
-            Named::Rows,
-        ) => path.as_str(),
-        (Words::Judge(case), Named::Capture) => case.capture.as_str(),
-        (Words::Judge(case), Named::Other) => match &case.other {
-            Some(path) => path.as_str(),
-            None => case.capture.as_str(),
-        },
-        (Words::Judge(case), Named::Page) => match &case.html {
-            Some(path) => path.as_str(),
-            None => case.config.as_str(),
-        },
-        (Words::Judge(case), _) => case.config.as_str(),
-        (Words::Run { config, .. }, _) => config.as_str(),
-        (Words::Check { config }, _) => config.as_str(),
-        (Words::Explain { config }, _) => config.as_str(),
-        (Words::Report { config, .. }, _) => config.as_str(),
-        (Words::Storm { config, .. }, _) => config.as_str(),
-        (Words::Script, _) => "standard input",
+    let path = match (words, named) {
+        (Words::Run { script, .. }, Named::Script) => Some(script),
+        (Words::Run { capture, .. }, Named::Capture) => capture.as_ref(),
+        (Words::Report { html, .. }, Named::Page) => html.as_ref(),
+        (Words::Report { traffic, .. }, Named::Traffic) => traffic.as_ref(),
+        (Words::Report { csv, .. }, Named::Rows) => csv.as_ref(),
+        (Words::Judge(case), Named::Capture) => Some(&case.capture),
+        (Words::Judge(case), Named::Other) => case.other.as_ref(),
+        (Words::Judge(case), Named::Page) => case.html.as_ref(),
+        _ => None,
+    };
+    match path {
+        Some(path) => path.as_str(),
+        None => plan_of(words),
+    }
+}
+
+/// The path of the plan.
+fn plan_of(words: &Words) -> &str {
+    match words {
+        Words::Run { config, .. } => config.as_str(),
+        Words::Check { config } => config.as_str(),
+        Words::Explain { config } => config.as_str(),
+        Words::Report { config, .. } => config.as_str(),
+        Words::Storm { config, .. } => config.as_str(),
+        Words::Judge(case) => case.config.as_str(),
+        Words::Script => "standard input",
     }
 }
 
