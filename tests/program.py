@@ -20,7 +20,7 @@ import tty
 # (no compiled copy is left beside the scripts)
 sys.dont_write_bytecode = True
 import pcapng
-from trying import DEMO, HELP, JUDGED, ONE_FRAME, REPORT, ROOT, SCRIPT, WRONG, Tries, built, started, text_of, totals
+from trying import DEMO, HELP, JUDGED, ONE_FRAME, REPORT, ROOT, SCRIPT, STORM_HELP, WRONG, Tries, built, started, text_of, totals
 
 sys.path.append(f"{ROOT}/tests/report")
 from fixed import ANALYSES
@@ -68,7 +68,7 @@ ROWS = [
     (["storm", "--turns", "1000000000", "--messages=002", "demo.toml"], 0, totals(2), ""),
     (["run", "--capture=frames.pcapng", "demo.toml", "short.txt"], 0, ONE_FRAME, ""),
     ([*JUDGE, "--jitter", "1000000", "--skew=07", "--late", "--fcs"], 2, JUDGED, ""),
-    (["--help"], 0, HELP, ""),
+    (["--help"], 0, HELP, ""), (["storm", "--help"], 0, STORM_HELP, ""),
     (["--version"], 0, f"afdx_bench {VERSION}\n", ""),
     (EXPLAIN, 0, "no faults\n", ""),
     (["explain", "wrong.toml"], 2, EXPLAINED, ""),

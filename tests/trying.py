@@ -48,6 +48,19 @@ Options:
   -h, --help     Print help
   -V, --version  Print version
 """
+STORM_HELP = """\
+Has all ports of a configuration send at once, and prints what came of it
+
+Usage: afdx_bench storm --messages <messages> --turns <turns> <config>
+
+Arguments:
+  <config>  The file of the configuration
+
+Options:
+      --messages <messages>  How many messages each port sends, each about 3 KB of memory
+      --turns <turns>        How often each thread may try
+  -h, --help                 Print help
+"""
 WRONG = """\
 error: unrecognized subcommand 'frob'
 

@@ -246,7 +246,8 @@ fn run_command<'a>(alloc: Global) -> Result<Command<'a>, AllocError> {
 fn storm_command<'a>(alloc: Global) -> Result<Command<'a>, AllocError> {
     let about = "Has all ports of a configuration send at once, and prints what came of it";
     let storm = over_config(alloc, "storm", about)?;
-    let messages = flag(alloc, "messages", "How many messages each port sends")
+    let help = "How many messages each port sends, each about 3 KB of memory";
+    let messages = flag(alloc, "messages", help)
         .required(true)
         .value_parser(value_parser!(u32).range(1..65536));
     let storm = storm.arg(messages)?;
