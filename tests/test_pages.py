@@ -1,6 +1,6 @@
 #!/usr/bin/env python3
 """Tests what README.md and the guides show: the program prints what they say of the same plan, script and recording,
-and each link leads to a file, and to a heading there. The last line is 'N passed, M failed'."""
+and their paths and links lead to files, and to headings there. The last line is 'N passed, M failed'."""
 import os
 import re
 import subprocess
@@ -62,7 +62,10 @@ def shown(program, folder):
 
 
 def dead_links(page):
-    """The links of a page that lead nowhere."""
+    """The links and the paths in a page that lead nowhere."""
+    for path in re.findall(r"`((?:crates|tests|tools|bindings|install|examples|bench)/[\w./]+)`", text_of(page)):
+        if not re.search("NAME|/a/", path) and not os.path.exists(f"{ROOT}/{path}"):
+            yield f"{page}: {path}"
     for link in re.findall(r"\]\((?!https?:)([^)]+)\)", text_of(page)):
         path, _, heading = link.partition("#")
         target = os.path.normpath(f"{os.path.dirname(page)}/{path}") if path else page
@@ -73,13 +76,17 @@ def dead_links(page):
             yield f"{page}: {link}"
 
 
+def tried(program):
+    """Which of the commands that pages show prints something else."""
+    with tempfile.TemporaryDirectory(prefix="pages-") as folder:
+        return [f"{name}: printed {printed}, shown {wanted}" for name, printed, wanted in shown(program, folder) if printed != wanted], ""
+
+
 def main():
     tries = Tries()
-    tries.show("links", [link for page in PAGES for link in dead_links(page)])
+    tries.show("paths and links", [link for page in PAGES for link in dead_links(page)])
     for build, program in built("afdx_bench").items():
-        with tempfile.TemporaryDirectory(prefix="pages-") as folder:
-            for name, printed, wanted in shown(program, folder):
-                tries.show(f"{name} by {build}", [] if printed == wanted else [f"printed {printed}, shown {wanted}"])
+        tries.attempt(f"commands by {build}", lambda: tried(program))
     return tries.end()
 
 
