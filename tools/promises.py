@@ -128,7 +128,7 @@ def test_cell(row, tests):
     shown, last = [], ""
     for name in row.get("tests", []):
         file, _, function = name.rpartition("::")
-        stem = os.path.basename(file).partition(".")[0]
+        stem = os.path.basename(file).partition(".")[0].removeprefix("test_")
         shown.append(function if file and file == last else f"{stem}::{function}" if file else shortest(name, tests))
         last = file
     return f"`{', '.join(shown)}`" if shown else ""
@@ -145,9 +145,9 @@ def promises_page(source, edits, tests):
             by = row["by"] if isinstance(row["by"], str) else cell(row["by"], home)
             wrong = ", ".join(shortest(it.partition("/")[2], wrongs) for it in row.get("edits", []))
             lines.append("|".join([row["says"], by, wrong and f"`{wrong}`", test_cell(row, tests)]).rstrip("|"))
-    lines += ["", "## Supporting", "", "Public functions with a contract that no row has, by name in `promises.toml`:", ""]
-    lines += [f"- {len(it['functions'])} of `{it['functions'][0].partition('::')[0]}`: {it['reason']}" for it in source["supporting"]]
-    return "\n".join([*lines, ""])
+    count = sum(len(it["functions"]) for it in source["supporting"])
+    lines += ["", f"Of {count} more public functions with a contract `promises.toml` says why no row has them.", ""]
+    return "\n".join(lines)
 
 
 def headline_page(source, results):
