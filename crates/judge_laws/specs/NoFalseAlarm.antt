@@ -1,0 +1,60 @@
+-- No false alarm: what a judge finds in a recording of legal transmission.
+use Rattle.std.specs.Prelude.{ℕ, ◌≡◌, ◌+◌, ◌*◌, ◌≤◌, ◌<◌, Bool, true, false, List, length, map, filter, All, Option, Some}
+use Rattle.std.specs.List.{AllZip}
+use Rattle.afdx_plan.specs.Config.{Plan, IsPlan, link_plan_at}
+use Rattle.afdx_plan.specs.Plan.{bag_micros, is_both}
+use Rattle.afdx_frame.specs.declared.net.Net.{Net}
+use Rattle.afdx_frame.specs.declared.net.Net.TheVariants.{A, B}
+use Rattle.redundant_mux.specs.Lines.{Entry}
+use Rattle.afdx_legal.specs.Accepted.{AreAllowed}
+use Rattle.afdx_legal.specs.Legal.{Accepted, IsLegal}
+use Rattle.afdx_legal.specs.Streams.{TakeTurns}
+use Rattle.capture.specs.Recording.{Recorded}
+use Rattle.judge.specs.Judging.{OnNet, findings}
+use Rattle.judge.specs.Twins.{same_net}
+use Rattle.judge.specs.declared.finding.Finding.{Finding}
+use Rattle.judge.specs.declared.finding.Kind.TheVariants.{Missing}
+use Rattle.judge.specs.declared.options.Options.{Options}
+
+-- what an emitter of a valid plan sent to the two networks
+pub record IsSent (plan : Plan) (accepted : Accepted) (a b : List Entry) : Type 0 where
+  pub valid : IsPlan plan
+  pub legal : IsLegal plan accepted a b
+  pub allowed : AreAllowed plan accepted
+  pub turns : TakeTurns plan a b
+
+-- A packet is an entry's frame, whole, at most `jitter` microseconds after the entry's time. Time 0 of the entries is
+-- `origin` on the recording's clock, in nanoseconds.
+pub record IsRecord (origin jitter : ℕ) (e : Entry) (packet : Recorded) : Type 0 where
+  pub at : ℕ
+  pub told : packet.at ≡ Some at
+  pub least : origin + 1000 * e.at ≤ at
+  pub most : at ≤ origin + 1000 * (e.at + jitter)
+  pub whole : packet.original ≡ length packet.bytes
+  pub bytes : packet.bytes ≡ e.frame
+
+-- the packets of a network, in order
+abbrev pub packets_of : Net → List OnNet → List Recorded
+packets_of net recording = map (λ (p : OnNet). p.packet) (filter (λ (p : OnNet). same_net p.net net) recording)
+
+-- A recording has every frame of both networks, those of each network in order.
+pub record IsRecording (origin jitter : ℕ) (a b : List Entry) (recording : List OnNet) : Type 0 where
+  pub of_a : AllZip (IsRecord origin jitter) a (packets_of A recording)
+  pub of_b : AllZip (IsRecord origin jitter) b (packets_of B recording)
+
+-- Frames are recorded without their check sequence. The jitter is at most each gap. No twin can be mistaken: a number
+-- comes again after 255 gaps.
+pub record AreFit (plan : Plan) (options : Options) : Type 0 where
+  pub fcs : options.fcs ≡ false
+  pub jitter : (k : ℕ) → k < length plan.links → options.jitter ≤ bag_micros (link_plan_at plan.links k).bag
+  pub skew : (k : ℕ) → k < length plan.links → is_both (link_plan_at plan.links k).networks ≡ true
+      → options.skew + options.jitter < 255 * bag_micros (link_plan_at plan.links k).bag
+
+abbrev pub IsMissing : Finding → Type 0
+IsMissing finding = finding.kind ≡ Missing
+
+-- Of a recording of what was sent legally, each finding is a frame without a twin.
+abbrev pub NoFalseAlarm : Type 0
+NoFalseAlarm = (plan : Plan) (accepted : Accepted) (a b : List Entry) (options : Options) (origin : ℕ)
+    (recording : List OnNet) → IsSent plan accepted a b → AreFit plan options
+    → IsRecording origin options.jitter a b recording → All IsMissing (findings plan options recording)

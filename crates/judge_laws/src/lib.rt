@@ -1,0 +1,4 @@
+//! What the findings of a judge mean, as laws.
+#![tactic(auto)]
+
+pub mod laws;
