@@ -7,5 +7,6 @@ pub mod Layouts
 pub mod Lines
 pub mod Rules
 pub mod Twins
+pub mod Types
 pub mod Waiting
 pub mod Worked
