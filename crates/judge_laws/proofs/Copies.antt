@@ -1,15 +1,15 @@
 -- A link's stream on two networks: frames with one number that are less than 255 gaps apart are copies of one frame.
-use Rattle.std.proofs.Common.{ℕ, ◌≡◌, zero, suc, ◌+◌, ◌*◌, ◌-◌, ◌%◌, ◌<◌, ◌≤◌, Bool, true, false, List, [], ◌∷◌, length, map, take, drop, get_or, set, Option, Some, None, arith, refl, inl, inr, length-set}
+use Rattle.std.proofs.Common.{ℕ, ◌≡◌, zero, suc, ◌+◌, ◌*◌, ◌-◌, ◌%◌, ◌<◌, ◌≤◌, Bool, true, false, List, [], ◌∷◌, length, map, take, drop, get_or, set, Option, Some, None, arith, refl, inl, inr, length-set, sym, ◌∙◌}
 use Rattle.std.specs.Prelude.{All, Contains, slice_range}
-use Rattle.std.proofs.lemmas.Bool.{cases_lt}
+use Rattle.std.proofs.lemmas.Bool.{cases_lt, cases_eq}
 use Rattle.std.proofs.lemmas.Bool.Decides.{nat_tests}
-use Rattle.std.proofs.lemmas.List.{take-set-le, drop-set-lt}
+use Rattle.std.proofs.lemmas.List.{take-set-le, drop-set-lt, length-map, length-take, get_or-map, get_or-take}
 use Rattle.afdx_plan.specs.Plan.{sequence_number}
 use Rattle.afdx_frame.proofs.Twins.{twin_number, length-twin}
 use Rattle.afdx_frame.specs.declared.net.Net.{Net}
 use Rattle.afdx_frame.specs.Frame.{interface_byte}
 use Rattle.afdx_frame.specs.Header.{number_in, twin_of}
-use Rattle.redundant_mux.specs.Lines.{Entry, side}
+use Rattle.redundant_mux.specs.Lines.{Entry, entry, side}
 use Rattle.vl_shaper.specs.declared.shaper.Stamp.{Stamp}
 use Rattle.afdx_legal.proofs.StreamLemmas.{numbered_at}
 use Rattle.afdx_legal.specs.Streams.{IsNumbered, IsSpaced, entry_number, stamp_of}
@@ -21,11 +21,15 @@ pub record IsStream (gap : ℕ) (stream : List Entry) : Type 0 where
   pub spaced : IsSpaced gap None stream
   pub long : All (λ (e : Entry). 60 ≤ length e.frame) stream
 
+-- the entry at a place of a stream
+abbrev pub own_at : List Entry → ℕ → Entry
+own_at stream place = get_or stream place (entry 0 [])
+
 -- an entry is a network's copy of one of a stream
 pub record IsCopy (stream : List Entry) (net : Net) (e : Entry) : Type 0 where
-  pub own : Entry
-  pub within : Contains stream own
-  pub is : e ≡ side net own
+  pub place : ℕ
+  pub inside : place < length stream
+  pub is : e ≡ side net (own_at stream place)
 
 same_bytes : (i : ℕ) (xs : List ℕ) → first_other i xs xs ≡ None
 same_bytes i [] = refl
@@ -37,36 +41,67 @@ unfolding twin_other
 no_other first second frame = rw (
   length-set frame 11 (interface_byte first),
   length-set frame 11 (interface_byte second),
-  take-set-le 11 frame 11 (interface_byte first),
-  take-set-le 11 frame 11 (interface_byte second),
-  drop-set-lt 12 frame 11 (interface_byte first),
-  drop-set-lt 12 frame 11 (interface_byte second),
+  take-set-le 11 frame 11 (interface_byte first) (omega arith),
+  take-set-le 11 frame 11 (interface_byte second) (omega arith),
+  drop-set-lt 12 frame 11 (interface_byte first) (omega arith),
+  drop-set-lt 12 frame 11 (interface_byte second) (omega arith),
   same_bytes 0 (take 11 frame),
-) (same_bytes 12 _)
+) (same_bytes 12 (slice_range frame 12 (length frame)))
 
 spaced_by : (gap : ℕ) (before : Option Stamp) (es : List Entry) (i n : ℕ) (spare : Entry) → IsSpaced gap before es
     → i + n < length es → (get_or es i spare).at + n * gap ≤ (get_or es (i + n) spare).at
 spaced_by gap before [] i n spare spaced inside = absurd (omega arith)
-spaced_by gap before (e ∷ es) (suc i) n spare spaced inside = spaced_by gap (Some (stamp_of e)) es i n spare spaced.1 (omega arith)
+spaced_by gap before (e ∷ es) (suc i) n spare spaced inside =
+    grind (arith, spaced_by gap (Some (stamp_of e)) es i n spare spaced.1 (omega arith))
 spaced_by gap before (e ∷ es) zero zero spare spaced inside = omega arith
 spaced_by gap before (e ∷ []) zero (suc n) spare spaced inside = absurd (omega arith)
 spaced_by gap before (e ∷ (d ∷ es)) zero (suc n) spare spaced inside =
     let more = spaced_by gap (Some (stamp_of e)) (d ∷ es) zero n spare spaced.1 (omega arith) in
-    let first = spaced.1.0 in
-    omega (arith, more, first)
+    grind (arith, more, spaced.1.0)
 
 -- a number comes again after 255 frames
 again : (i j : ℕ) → sequence_number i ≡ sequence_number j → i < j → i + 255 ≤ j
 again i j same before = grind (arith, nat_tests)
 
-far : (gap i j : ℕ) (stream : List Entry) (spare : Entry) → IsStream gap stream → i < j → j < length stream
-    → number_in (get_or stream i spare).frame ≡ number_in (get_or stream j spare).frame
-    → (get_or stream i spare).at + 255 * gap ≤ (get_or stream j spare).at
-far gap i j stream spare is before inside same =
-    let first = numbered_at entry_number 0 stream is.numbered i spare (omega arith) in
-    let second = numbered_at entry_number 0 stream is.numbered j spare inside in
-    let later : i + 255 ≤ j = again i j (cc (first, second, same)) before in
-    let near = spaced_by gap None stream i 255 spare is.spaced (omega arith) in
-    let on = spaced_by gap None stream (i + 255) (j - (i + 255)) spare is.spaced (omega arith) in
+far : (gap i j : ℕ) (stream : List Entry) → IsStream gap stream → i < j → j < length stream
+    → number_in (own_at stream i).frame ≡ number_in (own_at stream j).frame
+    → (own_at stream i).at + 255 * gap ≤ (own_at stream j).at
+far gap i j stream is before inside same =
+    let first = numbered_at entry_number 0 stream is.numbered i (entry 0 []) (omega arith) in
+    let second = numbered_at entry_number 0 stream is.numbered j (entry 0 []) inside in
+    let later : 0 + i + 255 ≤ 0 + j = again (0 + i) (0 + j) (sym first ∙ same ∙ second) (omega arith) in
+    let near = spaced_by gap None stream i 255 (entry 0 []) is.spaced (omega arith) in
+    let on = spaced_by gap None stream (i + 255) (j - (i + 255)) (entry 0 []) is.spaced (omega arith) in
     let there : i + 255 + (j - (i + 255)) ≡ j = omega arith in
-    ?
+    let past = rw there at on in
+    omega (arith, near, past)
+
+same_place : (gap : ℕ) (stream : List Entry) (i j : ℕ) → IsStream gap stream → i < length stream → j < length stream
+    → number_in (own_at stream i).frame ≡ number_in (own_at stream j).frame
+    → (own_at stream i).at < (own_at stream j).at + 255 * gap → (own_at stream j).at < (own_at stream i).at + 255 * gap
+    → i ≡ j
+same_place gap stream i j is first second same before after =
+    grind (arith, cases_lt i j, cases_lt j i, far gap i j stream is, far gap j i stream is)
+
+copy_number : (gap : ℕ) (stream : List Entry) (net : Net) (e : Entry) → IsStream gap stream → (copy : IsCopy stream net e)
+    → number_in e.frame ≡ number_in (own_at stream copy.place).frame
+copy_number gap stream net e is copy =
+    rw copy.is (twin_number net (own_at stream copy.place).frame (is.long copy.place (entry 0 []) copy.inside))
+
+-- copies with one number, less than 255 gaps apart
+pub copies_agree : (gap : ℕ) (stream : List Entry) (m n : Net) (d e : Entry) → IsStream gap stream → IsCopy stream m d
+    → IsCopy stream n e → number_in d.frame ≡ number_in e.frame → d.at < e.at + 255 * gap → e.at < d.at + 255 * gap
+    → twin_other d.frame e.frame ≡ None
+copies_agree gap stream m n d e is dc ec same first second =
+    let number = sym (copy_number gap stream m d is dc) ∙ same ∙ copy_number gap stream n e is ec in
+    let one : dc.place ≡ ec.place = same_place gap stream dc.place ec.place is dc.inside ec.inside number
+    (rw (dc.is, ec.is) at first) (rw (dc.is, ec.is) at second) in
+    rw (dc.is, ec.is, one) (no_other m n (own_at stream ec.place).frame)
+
+-- what a network got of a stream are its copies
+pub all_copies : (stream : List Entry) (net : Net) (n : ℕ) → All (IsCopy stream net) (map (side net) (take n stream))
+all_copies stream net n = λ k spare inside. record {
+  place = k;
+  inside = grind (arith, length-map, length-take);
+  is = grind (arith, get_or-map, get_or-take, length-map, length-take);
+}

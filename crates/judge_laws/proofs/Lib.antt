@@ -1,3 +1,4 @@
 pub mod Copies
 pub mod Numbers
 pub mod Turns
+pub mod Waits

@@ -5,7 +5,7 @@ use Rattle.afdx_plan.specs.Plan.{sequence_number}
 use Rattle.vl_shaper.specs.declared.shaper.Stamp.{Stamp}
 use Rattle.afdx_legal.specs.Streams.{IsApart}
 use Rattle.judge.specs.Lines.{number_after, next_number, number_unless, early_since}
-use Rattle.judge.specs.Types.{OfLast as Last}
+use Rattle.judge.specs.Types.{Last}
 
 -- a recorded time: that of an entry, delayed by at most a jitter
 pub record IsDelayed (origin jitter at recorded : ℕ) : Type 0 where

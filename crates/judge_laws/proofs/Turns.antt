@@ -9,7 +9,7 @@ use Rattle.afdx_frame.specs.Header.{sub_in}
 use Rattle.redundant_mux.specs.Lines.{Entry}
 use Rattle.afdx_legal.specs.Streams.{sub_stream, before_next, more_in, IsFollowedInTurn}
 use Rattle.judge.specs.Lines.{sub_at, new_sub, passed_by, due_before}
-use Rattle.judge.specs.Types.{OfSub as Sub}
+use Rattle.judge.specs.Types.{Sub}
 
 -- What the sub-VLs of a line say of the frames that are still to come. `frames` came so far. While a piece of a sub-VL
 -- is due, each other one has at most one frame before it, and none more if one came already.
@@ -19,7 +19,7 @@ pub record AreDue (subs : List Sub) (frames : ℕ) (rest : List Entry) : Type 0 
   pub came : (p : ℕ) → (sub_at subs p).came ≤ frames
   pub once : (p q : ℕ) → (sub_at subs p).due ≡ true → length (sub_stream q (before_next p rest)) ≤ 1
   pub passed : (p q : ℕ) → (sub_at subs p).due ≡ true → (sub_at subs p).came < (sub_at subs q).came
-      → sub_stream q (before_next p rest) ≡ []
+      → length (sub_stream q (before_next p rest)) ≤ 0
 
 abbrev is_passed : ℕ → Sub → Bool
 is_passed came s = s.due && nat_lt s.came came
@@ -58,7 +58,7 @@ once_after subs frames e es s p q new due few its more turn is =
 passed_after : (subs : List Sub) (frames : ℕ) (e : Entry) (es : List Entry) (s p q : ℕ) (new : Sub) → AreDue subs frames (e ∷ es)
     → s < 4 → sub_in e.frame ≡ s → new.came ≡ min (frames + 1) (2 ^ 64 - 1)
     → (sub_at (slice_set subs s new) p).due ≡ true
-    → (sub_at (slice_set subs s new) p).came < (sub_at (slice_set subs s new) q).came → sub_stream q (before_next p es) ≡ []
+    → (sub_at (slice_set subs s new) p).came < (sub_at (slice_set subs s new) q).came → length (sub_stream q (before_next p es)) ≤ 0
 passed_after subs frames e es s p q new due few its counts is before =
     grind (arith, nat_tests, cases_eq p s, cases_eq q s, sub_same, sub_other, due.once p q, due.passed p q, due.came q)
 
