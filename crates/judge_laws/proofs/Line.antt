@@ -1,0 +1,208 @@
+-- A line of a judge: what it knows of a link on a network while the frames `rest` of a legal stream are to come, and that
+-- nothing is wrong with the next one.
+use Rattle.std.proofs.Common.{ℕ, ◌≡◌, ◌≢◌, ◌+◌, ◌*◌, ◌-◌, ◌^◌, ◌<◌, ◌≤◌, Bool, true, false, List, [], ◌∷◌, ◌++◌, length, Option, Some, None, arith, refl, sym, inl, inr, cond, eqb, ◌∙◌, subst}
+use Rattle.std.specs.Prelude.{min, slice_set, nat_eq, if◌then◌else◌}
+use Rattle.std.proofs.lemmas.Bool.{cases_Bool, cases_eq, eq-eqb, ne_eqb}
+use Rattle.std.proofs.lemmas.Bool.Decides.{nat_tests}
+use Rattle.afdx_plan.specs.Config.{Plan, IsPlan, link_plan_at}
+use Rattle.afdx_plan.specs.Plan.{bag_micros, room_of}
+use Rattle.afdx_plan.specs.declared.port_plan.PortPlan.{PortPlan}
+use Rattle.afdx_frame.specs.Fragments.{blanked}
+use Rattle.afdx_frame.specs.Header.{number_in, sub_in}
+use Rattle.afdx_frame.specs.declared.net.Net.{Net}
+use Rattle.redundant_mux.specs.Lines.{Entry, names}
+use Rattle.vl_shaper.specs.declared.shaper.Stamp.{Stamp}
+use Rattle.afdx_legal.specs.Streams.{IsNumbered, IsPrefixOf, IsSpaced, TakesTurns, entry_number, stamp_of, sub_stream, told}
+use Rattle.judge.specs.Fields.{fields_of}
+use Rattle.judge.specs.Joining.{end_deviation, fragment_deviation, head_now, joined}
+use Rattle.judge.specs.Judging.{arrived, first_port, measure_of}
+use Rattle.judge.specs.Lines.{early_deviation, figures_with, line_after, line_with, number_deviation, port_deviation, settled, sub_at, turn_deviation, verdict, sub_in as judge_sub}
+use Rattle.judge.specs.Types.{Arrived, Line, Measure, Sub, Tag, Verdict}
+use Rattle.judge.specs.declared.options.Options.{Options}
+use Rattle.judge_laws.proofs.Numbers.{IsDelayed, IsLast, none_early, number_fits}
+use Rattle.judge_laws.proofs.Pieces.{IsAwaiting, IsClean, one_frame}
+use Rattle.judge_laws.proofs.Turns.{AreDue, due_after, none_passed, sub_other, sub_same}
+
+pub record IsLine (plan : Plan) (k : ℕ) (net : Net) (origin jitter : ℕ) (line : Line) (rest : List Entry) : Type 0 where
+  pub place : ℕ
+  pub before : Option Stamp
+  pub last : IsLast origin jitter place before line.last
+  pub numbered : IsNumbered entry_number place rest
+  pub spaced : IsSpaced (bag_micros (link_plan_at plan.links k).bag) before rest
+  pub turns : TakesTurns rest
+  pub due : AreDue line.subs line.figures.frames rest
+  pub carried : names net (link_plan_at plan.links k).networks ≡ false → rest ≡ []
+  pub left : ℕ → List (List ℕ)
+  pub awaiting : (s : ℕ) → s < (link_plan_at plan.links k).sub_vls
+      → IsAwaiting plan k s net (sub_at line.subs s).joining (left s)
+  pub first : (s : ℕ) → s < (link_plan_at plan.links k).sub_vls → IsPrefixOf (told (sub_stream s rest)) (left s)
+
+-- nothing is wrong with a frame
+abbrev pub faultless : Verdict
+faultless = record { number = None; early = None; port = None; fragment = None; message = None; turn = None }
+
+-- what a frame on its line is told to be, and the line after it
+abbrev pub port_at : Plan → ℕ → List ℕ → Option PortPlan
+port_at plan k frame = first_port plan.ports (link_plan_at plan.links k).id (fields_of frame)
+
+abbrev pub measure_at : Plan → ℕ → Options → Measure
+measure_at plan k options = measure_of options (link_plan_at plan.links k)
+
+-- the line after a frame of a sub-VL with which nothing is wrong
+abbrev pub sub_of : Option PortPlan → Arrived → Line → ℕ → Sub
+sub_of port come line s = record {
+  joining = joined come.fields.piece (head_now port come.fields (sub_at line.subs s).joining);
+  came = (figures_with come line).frames;
+  due = come.fields.piece.more;
+}
+
+abbrev pub line_of : Option PortPlan → Arrived → Line → ℕ → Line
+line_of port come line s = record {
+  last = Some (record { number = come.fields.number; at = come.at });
+  figures = figures_with come line;
+  subs = slice_set line.subs s (sub_of port come line s);
+}
+
+-- what is to hold of a frame of a sub-VL
+record IsRight (measure : Measure) (port : Option PortPlan) (come : Arrived) (line : Line) (s : ℕ) : Type 0 where
+  number : number_deviation measure.late come.fields.number line ≡ None
+  early : early_deviation measure.gap come.at line ≡ None
+  of_port : port_deviation come.fields port ≡ None
+  fits : fragment_deviation measure.room come.fields (sub_at line.subs s).joining ≡ None
+  ends : end_deviation come.fields.piece (head_now port come.fields (sub_at line.subs s).joining) ≡ None
+  turn : turn_deviation s line ≡ None
+
+settles : (measure : Measure) (port : Option PortPlan) (come : Arrived) (line : Line)
+    → IsRight measure port come line (judge_sub come.fields) → settled measure come line ≡ line
+settles measure port come line right = rw (right.number, right.turn) refl
+
+right_after : (measure : Measure) (port : Option PortPlan) (come : Arrived) (line : Line)
+    → IsRight measure port come line (judge_sub come.fields)
+    → line_after measure port come line ≡ line_of port come line (judge_sub come.fields)
+unfolding line_after line_with
+right_after measure port come line right = rw (settles measure port come line right, right.fits) refl
+
+right_verdict : (measure : Measure) (port : Option PortPlan) (come : Arrived) (line : Line)
+    → IsRight measure port come line (judge_sub come.fields) → verdict measure port come line ≡ faultless
+unfolding verdict
+right_verdict measure port come line right =
+    rw (settles measure port come line right, right.number, right.turn, right.early, right.of_port, right.fits, right.ends) refl
+
+-- the fragment that an entry is
+told_next : (s : ℕ) (e : Entry) (es : List Entry) → sub_in e.frame ≡ s
+    → told (sub_stream s (e ∷ es)) ≡ blanked e.frame ∷ told (sub_stream s es)
+told_next s e es its = grind (arith, nat_tests)
+
+told_later : (s : ℕ) (e : Entry) (es : List Entry) → sub_in e.frame ≢ s → told (sub_stream s (e ∷ es)) ≡ told (sub_stream s es)
+told_later s e es other = grind (arith, nat_tests)
+
+pub record IsTaken (plan : Plan) (k : ℕ) (net : Net) (origin : ℕ) (options : Options) (line : Line) (tag : Tag) (e : Entry)
+    (es : List Entry) : Type 0 where
+  pub left : List (List ℕ)
+  pub clean : IsClean plan k (sub_in e.frame) net (sub_at line.subs (sub_in e.frame)).joining e.frame left
+  pub wrong : verdict (measure_at plan k options) (port_at plan k e.frame) (arrived tag e.frame) line ≡ faultless
+  pub after : IsLine plan k net origin options.jitter
+      (line_after (measure_at plan k options) (port_at plan k e.frame) (arrived tag e.frame) line) es
+
+named : (plan : Plan) (k : ℕ) (net : Net) (origin jitter : ℕ) (line : Line) (e : Entry) (es : List Entry)
+    → IsLine plan k net origin jitter line (e ∷ es) → names net (link_plan_at plan.links k).networks ≡ true
+named plan k net origin jitter line e es is = elim (cases_Bool (names net (link_plan_at plan.links k).networks)) [
+  | inl is_named ↦ is_named
+  | inr isnt ↦ absurd (cc (is.carried isnt))
+]
+
+-- one piece of a sub-VL's fragments less
+next_left : (s : ℕ) (e : Entry) (es : List Entry) (left : List (List ℕ)) → sub_in e.frame ≡ s
+    → (p : IsPrefixOf (told (sub_stream s (e ∷ es))) left) → left ≡ blanked e.frame ∷ (told (sub_stream s es) ++ p.0)
+next_left s e es left its p = grind (arith, told_next s e es its, p.1)
+
+pub line_taken : (plan : Plan) (k : ℕ) (net : Net) (origin : ℕ) (options : Options) (line : Line) (tag : Tag) (e : Entry)
+    (es : List Entry) → IsPlan plan → k < length plan.links → 60 ≤ length e.frame
+    → sub_in e.frame < (link_plan_at plan.links k).sub_vls → options.jitter ≤ bag_micros (link_plan_at plan.links k).bag
+    → IsLine plan k net origin options.jitter line (e ∷ es) → IsDelayed origin options.jitter e.at tag.at
+    → IsTaken plan k net origin options line tag e es
+line_taken plan k net origin options line tag e es valid inside long index fit is delayed = record {
+  left = left;
+  clean = clean;
+  wrong = right_verdict measure port come line its;
+  after = rw (right_after measure port come line its)
+      (subst (λ q. IsLine plan k net origin options.jitter (line_of port come line q) es) (sym clean.of_sub) after);
+}
+  where
+    s : ℕ
+    s = sub_in e.frame
+
+    measure : Measure
+    measure = measure_at plan k options
+
+    port : Option PortPlan
+    port = port_at plan k e.frame
+
+    come : Arrived
+    come = arrived tag e.frame
+
+    left : List (List ℕ)
+    left = told (sub_stream s es) ++ (is.first s index).0
+
+    clean : IsClean plan k s net (sub_at line.subs s).joining e.frame left
+    clean = one_frame plan k s net (sub_at line.subs s).joining e.frame left valid inside (named plan k net origin options.jitter line e es is)
+        index long (rw (next_left s e es (is.left s) refl (is.first s index)) at (is.awaiting s index))
+
+    right : IsRight measure port come line s
+    right = record {
+      number = number_fits origin options.jitter is.place (fields_of e.frame).number is.before options.late line.last is.last
+          (clean.number ∙ is.numbered.0);
+      early = none_early origin options.jitter (bag_micros (link_plan_at plan.links k).bag) is.place e.at tag.at is.before line.last
+          fit is.last is.spaced.0 delayed;
+      of_port = clean.port;
+      fits = clean.fits;
+      ends = clean.ends;
+      turn = rw (none_passed line.subs line.figures.frames e es s is.due refl) refl;
+    }
+
+    its : IsRight measure port come line (judge_sub come.fields)
+    its = subst (λ q. IsRight measure port come line q) (sym clean.of_sub) right
+
+    new : Sub
+    new = sub_of port come line s
+
+    lefts : ℕ → List (List ℕ)
+    lefts q = if nat_eq q s then left else is.left q
+
+    four : s < 4
+    four = grind (arith, valid.each_link k (link_plan_at [] 0) inside)
+
+    awaits : (q : ℕ) → q < (link_plan_at plan.links k).sub_vls
+        → IsAwaiting plan k q net (sub_at (slice_set line.subs s new) q).joining (lefts q)
+    awaits q within = elim (cases_eq q s) [
+      | inl same ↦ rw (same, eq-eqb s s refl, sub_same line.subs s new (omega (arith, is.due.size))) clean.next
+      | inr other ↦ rw (sub_other line.subs s q new other, ne_eqb q s other) (is.awaiting q within)
+    ]
+
+    firsts : (q : ℕ) → q < (link_plan_at plan.links k).sub_vls → IsPrefixOf (told (sub_stream q es)) (lefts q)
+    firsts q within = elim (cases_eq q s) [
+      | inl same ↦ rw (same, eq-eqb s s refl) ((is.first s index).0, refl)
+      | inr other ↦ rw (ne_eqb q s other, ← told_later q e es (λ its. other (sym its))) (is.first q within)
+    ]
+
+    after : IsLine plan k net origin options.jitter (line_of port come line s) es
+    after = record {
+      place = is.place + 1;
+      before = Some (stamp_of e);
+      last = record {
+        n = is.place;
+        count = refl;
+        number = clean.number ∙ is.numbered.0;
+        stamp = stamp_of e;
+        known = refl;
+        delayed = delayed;
+      };
+      numbered = is.numbered.1;
+      spaced = is.spaced.1;
+      turns = is.turns.1;
+      due = due_after line.subs line.figures.frames e es s new is.due four refl refl clean.more is.turns.0;
+      carried = λ isnt. absurd (cc (isnt, named plan k net origin options.jitter line e es is));
+      left = lefts;
+      awaiting = awaits;
+      first = firsts;
+    }
