@@ -1,4 +1,7 @@
 pub mod Copies
+pub mod Line
+pub mod Link
 pub mod Numbers
+pub mod Pieces
 pub mod Turns
 pub mod Waits
