@@ -1,0 +1,243 @@
+-- A judge over a whole recording: it goes on from packet to packet, and all that it finds is missing twins.
+use Rattle.std.proofs.Common.{ℕ, ◌≡◌, ◌≢◌, ◌+◌, ◌*◌, ◌<◌, ◌≤◌, Bool, true, false, List, [], ◌∷◌, ◌++◌, length, get_or, Option, Some, None, Ok, arith, refl, sym, subst, ap, ◌∙◌, inl, inr, length-set}
+use Rattle.std.specs.Prelude.{All, slice_set, nat_eq}
+use Rattle.std.specs.List.{AllZip}
+use Rattle.std.proofs.lemmas.Bool.{cases_eq, eq-eqb, ne_eqb}
+use Rattle.std.proofs.lemmas.Bool.Decides.{nat_tests}
+use Rattle.std.proofs.lemmas.List.{get_or-set_same, get_or-set_other}
+use Rattle.afdx_plan.specs.Config.{Plan, IsPlan, link_plan_at}
+use Rattle.afdx_plan.specs.declared.link_plan.LinkPlan.{LinkPlan}
+use Rattle.afdx_plan.specs.declared.port_plan.VlId.{VlId}
+use Rattle.afdx_frame.specs.Header.{link_in, sub_in}
+use Rattle.afdx_frame.specs.declared.net.Net.{Net}
+use Rattle.afdx_frame.specs.declared.net.Net.TheVariants.{A, B}
+use Rattle.redundant_mux.specs.Lines.{Entry}
+use Rattle.afdx_legal.specs.Legal.{IsKnown, AreKnown}
+use Rattle.afdx_legal.specs.Streams.{link_stream}
+use Rattle.capture.specs.Recording.{Recorded}
+use Rattle.judge.specs.Judging.{Judging, OnNet, admitted, after_packet, after_timed, found_from, found_left, found_of_arrival, found_on_link, found_timed, found_with_end, found_with_packet, link_after, link_at, new_link, setting_of, tag_of, times_with, with_arrival}
+use Rattle.judge.specs.Rules.{frame_in, place_of}
+use Rattle.judge.specs.Types.{Link, Nearness, Tag, Times}
+use Rattle.judge.specs.declared.finding.Finding.{Finding}
+use Rattle.judge.specs.declared.options.Options.{Options}
+use Rattle.judge_laws.specs.NoFalseAlarm.{AreFit, IsMissing, IsRecord, packets_of}
+use Rattle.judge_laws.proofs.Line.{IsLine, port_at}
+use Rattle.judge_laws.proofs.Link.{AreCopies, IsLinkOf, IsLinkTaken, link_taken, rest_after}
+use Rattle.judge_laws.proofs.Numbers.{IsDelayed}
+use Rattle.judge_laws.proofs.Waits.{missing_at_end}
+
+-- the judge of a plan
+abbrev pub judge_of : Plan → Options → Times → Bool → List Link → Judging
+judge_of plan options times told links =
+    record { plan = plan; options = options; times = times; told = told; links = links }
+
+abbrev pub id_of : Plan → ℕ → ℕ
+id_of plan k = (link_plan_at plan.links k).id.0
+
+-- the frames of a link that are to come
+abbrev pub rest_of : Plan → ℕ → (Net → List Entry) → Net → List Entry
+rest_of plan k rest net = link_stream (id_of plan k) (rest net)
+
+-- what a judge knows while the frames `rest` of each network are to come
+pub record IsGoing (plan : Plan) (origin : ℕ) (options : Options) (links : List Link) (rest : Net → List Entry) : Type 0 where
+  pub size : length links ≡ length plan.links
+  pub known : (net : Net) → AreKnown plan.links net (rest net)
+  pub each : (k : ℕ) → k < length plan.links → IsLinkOf plan k origin options (link_at links k) (rest_of plan k rest)
+
+-- ---- the lists of frames that are to come
+
+-- equal lists serve alike
+same_rest : (plan : Plan) (k origin : ℕ) (options : Options) (link : Link) (rest other : Net → List Entry)
+    → ((net : Net) → rest net ≡ other net) → IsLinkOf plan k origin options link rest → IsLinkOf plan k origin options link other
+same_rest plan k origin options link rest other same is =
+    let all : rest ≡ other = λ i net. same net i in
+    subst (IsLinkOf plan k origin options link) all is
+
+own_next : (plan : Plan) (k : ℕ) (e : Entry) (es : List Entry) (rest : Net → List Entry) (n m : Net) → rest n ≡ e ∷ es
+    → link_in e.frame ≡ id_of plan k → rest_after n (link_stream (id_of plan k) es) (rest_of plan k rest) m
+    ≡ rest_of plan k (rest_after n es rest) m
+own_next plan k e es rest A A next its = refl
+own_next plan k e es rest A B next its = refl
+own_next plan k e es rest B A next its = refl
+own_next plan k e es rest B B next its = refl
+
+stream_next : (vl : ℕ) (e : Entry) (es : List Entry) → link_in e.frame ≡ vl → link_stream vl (e ∷ es) ≡ e ∷ link_stream vl es
+stream_next vl e es its = grind (arith, nat_tests)
+
+stream_same : (vl : ℕ) (e : Entry) (es : List Entry) → link_in e.frame ≢ vl → link_stream vl (e ∷ es) ≡ link_stream vl es
+stream_same vl e es other = grind (arith, nat_tests)
+
+other_next : (plan : Plan) (k : ℕ) (e : Entry) (es : List Entry) (rest : Net → List Entry) (n m : Net) → rest n ≡ e ∷ es
+    → link_in e.frame ≢ id_of plan k → rest_of plan k rest m ≡ rest_of plan k (rest_after n es rest) m
+other_next plan k e es rest A A next other = rw next (stream_same (id_of plan k) e es other)
+other_next plan k e es rest A B next other = refl
+other_next plan k e es rest B A next other = refl
+other_next plan k e es rest B B next other = rw next (stream_same (id_of plan k) e es other)
+
+known_after : (links : List LinkPlan) (e : Entry) (es : List Entry) (rest : Net → List Entry) (n m : Net) → rest n ≡ e ∷ es
+    → ((net : Net) → AreKnown links net (rest net)) → AreKnown links m (rest_after n es rest m)
+known_after links e es rest A A next known = (rw next at (known A)).1
+known_after links e es rest A B next known = known B
+known_after links e es rest B A next known = known A
+known_after links e es rest B B next known = (rw next at (known B)).1
+
+abbrev vl_of : ℕ → VlId
+vl_of number = record { 0 = number }
+
+-- ---- a packet
+
+admitted_is : (plan : Plan) (options : Options) (times : Times) (told : Bool) (links : List Link) (net : Net) (packet : Recorded)
+    (frame : List ℕ) (k : ℕ) → frame_in options.fcs packet ≡ Ok frame → place_of plan net frame ≡ Ok k
+    → admitted net packet (judge_of plan options times told links) ≡ Ok (record { place = k; frame = frame })
+unfolding admitted
+admitted_is plan options times told links net packet frame k is placed = rw (is, placed) refl
+
+abbrev new_links : Plan → Options → Times → Bool → List Link → ℕ → Tag → List ℕ → List Link
+new_links plan options times told links k tag frame = slice_set links k
+    (link_after (setting_of (judge_of plan options times told links) k) tag (port_at plan k frame) frame (link_at links k))
+
+after_is : (plan : Plan) (options : Options) (times : Times) (told : Bool) (links : List Link) (net : Net) (number at : ℕ)
+    (packet : Recorded) (frame : List ℕ) (k : ℕ) → packet.at ≡ Some at → frame_in options.fcs packet ≡ Ok frame → place_of plan net frame ≡ Ok k
+    → after_packet net number packet (judge_of plan options times told links)
+    ≡ judge_of plan options (times_with at times) told
+    (new_links plan options (times_with at times) told links k (tag_of net number at) frame)
+unfolding after_packet with_arrival
+after_is plan options times told links net number at packet frame k timed is placed =
+    ap (after_timed net number packet (judge_of plan options times told links)) timed
+    ∙ rw (admitted_is plan options (times_with at times) told links net packet frame k is placed) refl
+
+found_is : (plan : Plan) (options : Options) (times : Times) (told : Bool) (links : List Link) (net : Net) (number at : ℕ)
+    (packet : Recorded) (frame : List ℕ) (k : ℕ) (found : List Finding) → packet.at ≡ Some at → frame_in options.fcs packet ≡ Ok frame
+    → place_of plan net frame ≡ Ok k
+    → found_with_packet net number packet (judge_of plan options times told links) found
+    ≡ found_on_link (setting_of (judge_of plan options (times_with at times) told links) k) (tag_of net number at) (port_at plan k frame) frame
+    (link_at links k) found
+unfolding found_with_packet found_of_arrival
+found_is plan options times told links net number at packet frame k found timed is placed =
+    ap (found_timed net number packet (judge_of plan options times told links) found) timed
+    ∙ rw (admitted_is plan options (times_with at times) told links net packet frame k is placed) refl
+
+-- ---- a recording
+
+new_at : (links : List Link) (k : ℕ) (new : Link) → k < length links → link_at (slice_set links k new) k ≡ new
+new_at links k new inside = get_or-set_same links k new (new_link false) inside
+
+other_at : (links : List Link) (k j : ℕ) (new : Link) → j ≢ k → link_at (slice_set links k new) j ≡ link_at links j
+other_at links k j new other = get_or-set_other links k j new (new_link false) other
+
+pub record IsPacketTaken (plan : Plan) (origin : ℕ) (options : Options) (times : Times) (told : Bool) (links : List Link)
+    (net : Net) (number : ℕ) (packet : Recorded) (es : List Entry) (rest : Net → List Entry) : Type 0 where
+  pub at : ℕ
+  pub new : List Link
+  pub after : after_packet net number packet (judge_of plan options times told links) ≡ judge_of plan options (times_with at times) told new
+  pub going : IsGoing plan origin options new (rest_after net es rest)
+  pub found : (found : List Finding) → All IsMissing found
+      → All IsMissing (found_with_packet net number packet (judge_of plan options times told links) found)
+
+packet_taken : (plan : Plan) (origin : ℕ) (options : Options) (times : Times) (told : Bool) (links : List Link) (net : Net)
+    (number : ℕ) (packet : Recorded) (e : Entry) (es : List Entry) (rest : Net → List Entry) → IsPlan plan → AreFit plan options
+    → IsGoing plan origin options links rest → rest net ≡ e ∷ es → IsRecord origin options.jitter e packet
+    → IsPacketTaken plan origin options times told links net number packet es rest
+packet_taken plan origin options times told links net number packet e es rest valid fit is next record_of = record {
+  at = record_of.at;
+  new = new;
+  after = after_is plan options times told links net number record_of.at packet e.frame k record_of.told frame taken.line.clean.placed;
+  going = record {
+    size = length-set links k link ∙ is.size;
+    known = λ m. known_after plan.links e es rest net m next is.known;
+    each = each;
+  };
+  found = λ found all. rw (found_is plan options times told links net number record_of.at packet e.frame k found record_of.told frame taken.line.clean.placed)
+      (taken.found found all);
+}
+  where
+    know : IsKnown plan.links net e.frame
+    know = (rw next at (is.known net)).0
+
+    k : ℕ
+    k = know.k
+
+    tag : Tag
+    tag = tag_of net number record_of.at
+
+    nearness : Nearness
+    nearness = (setting_of (judge_of plan options (times_with record_of.at times) told links) k).nearness
+
+    taken : IsLinkTaken plan k origin options nearness (link_at links k) tag e (link_stream (id_of plan k) es) (rest_of plan k rest)
+    taken = link_taken plan k origin options nearness (link_at links k) tag e (link_stream (id_of plan k) es) (rest_of plan k rest)
+        valid know.within know.size know.of_sub fit refl (is.each k know.within)
+        (ap (link_stream (id_of plan k)) next ∙ stream_next (id_of plan k) e es know.link)
+        (record { least = record_of.least; most = record_of.most })
+
+    frame : frame_in options.fcs packet ≡ Ok e.frame
+    frame = rw fit.fcs (taken.line.clean.admitted packet record_of.bytes (record_of.whole ∙ ap length record_of.bytes))
+
+    link : Link
+    link = link_after (setting_of (judge_of plan options (times_with record_of.at times) told links) k) tag (port_at plan k e.frame) e.frame
+        (link_at links k)
+
+    new : List Link
+    new = slice_set links k link
+
+    each : (j : ℕ) → j < length plan.links → IsLinkOf plan j origin options (link_at new j) (rest_of plan j (rest_after net es rest))
+    each j inside = elim (cases_eq j k) [
+      | inl same ↦ rw (same, new_at links k link (rw is.size know.within))
+          (same_rest plan k origin options _ _ _ (λ m. own_next plan k e es rest net m next know.link) taken.after)
+      | inr other ↦ rw (other_at links k j link other)
+          (same_rest plan j origin options _ _ _ (λ m. other_next plan j e es rest net m next (λ its. other
+          (valid.links_apart j k inside know.within (ap vl_of (sym its ∙ know.link))))) (is.each j inside))
+    ]
+
+-- a list that a packet records begins with its entry
+record IsNext (origin jitter : ℕ) (packet : Recorded) (es : List Entry) : Type 0 where
+  first : Entry
+  later : List Entry
+  is : es ≡ first ∷ later
+  recorded : IsRecord origin jitter first packet
+
+next_of : (origin jitter : ℕ) (packet : Recorded) (packets : List Recorded) (es : List Entry)
+    → AllZip (IsRecord origin jitter) es (packet ∷ packets) → IsNext origin jitter packet es
+next_of origin jitter packet packets [] zip = absurd zip
+next_of origin jitter packet packets (e ∷ es) zip = record { first = e; later = es; is = refl; recorded = zip.0 }
+
+abbrev pub AreRecorded : (origin jitter : ℕ) (rest : Net → List Entry) (recording : List OnNet) → Type 0
+AreRecorded origin jitter rest recording = (net : Net) → AllZip (IsRecord origin jitter) (rest net) (packets_of net recording)
+
+recorded_next : (origin jitter number : ℕ) (packet : Recorded) (rest : Net → List Entry) (ps : List OnNet) (n : Net)
+    → AreRecorded origin jitter rest (record { net = n; number = number; packet = packet } ∷ ps) → IsNext origin jitter packet (rest n)
+recorded_next origin jitter number packet rest ps A zip = next_of origin jitter packet (packets_of A ps) (rest A) (zip A)
+recorded_next origin jitter number packet rest ps B zip = next_of origin jitter packet (packets_of B ps) (rest B) (zip B)
+
+recorded_after : (origin jitter number : ℕ) (packet : Recorded) (e : Entry) (es : List Entry) (rest : Net → List Entry) (ps : List OnNet)
+    (n : Net) → AreRecorded origin jitter rest (record { net = n; number = number; packet = packet } ∷ ps) → rest n ≡ e ∷ es
+    → AreRecorded origin jitter (rest_after n es rest) ps
+recorded_after origin jitter number packet e es rest ps n zip next m = by n m zip next
+  where
+    by : (n m : Net) → AreRecorded origin jitter rest (record { net = n; number = number; packet = packet } ∷ ps) → rest n ≡ e ∷ es
+        → AllZip (IsRecord origin jitter) (rest_after n es rest m) (packets_of m ps)
+    by A A zip next = (rw next at (zip A)).1
+    by A B zip next = zip B
+    by B A zip next = zip A
+    by B B zip next = (rw next at (zip B)).1
+
+left_missing : (nearness : Nearness) (at : ℕ) (plans : List LinkPlan) (links : List Link) (found : List Finding) → All IsMissing found
+    → All IsMissing (found_left nearness at plans links found)
+left_missing nearness at [] links found all = all
+left_missing nearness at (plan ∷ plans) [] found all = all
+left_missing nearness at (plan ∷ plans) (link ∷ links) found all =
+    left_missing nearness at plans links _ (missing_at_end nearness plan.id at link.twins.waiting found all)
+
+pub goes_on : (plan : Plan) (origin : ℕ) (options : Options) (times : Times) (told : Bool) (links : List Link) (recording : List OnNet)
+    (rest : Net → List Entry) (found : List Finding) → IsPlan plan → AreFit plan options → IsGoing plan origin options links rest
+    → AreRecorded origin options.jitter rest recording → All IsMissing found
+    → All IsMissing (found_from recording (judge_of plan options times told links) found)
+unfolding found_with_end
+goes_on plan origin options times told links [] rest found valid fit is zip all =
+    left_missing _ _ plan.links links found all
+goes_on plan origin options times told links (p ∷ ps) rest found valid fit is zip all =
+    let next = recorded_next origin options.jitter p.number p.packet rest ps p.net zip in
+    let taken = packet_taken plan origin options times told links p.net p.number p.packet next.first next.later rest valid fit is next.is
+    next.recorded in
+    rw taken.after (goes_on plan origin options (times_with taken.at times) told taken.new ps (rest_after p.net next.later rest) _ valid fit
+    taken.going (recorded_after origin options.jitter p.number p.packet next.first next.later rest ps p.net zip next.is)
+    (taken.found found all))
