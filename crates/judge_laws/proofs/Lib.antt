@@ -1,3 +1,4 @@
+pub mod Begin
 pub mod Copies
 pub mod Line
 pub mod Link
