@@ -1,5 +1,5 @@
 -- The message of a sub-VL on a network, as its pieces come: which piece is next, and what is wrong with a whole message.
-use Rattle.std.specs.Prelude.{ℕ, ◌+◌, ◌-◌, ◌*◌, ◌%◌, nat_eq, nat_lt, nat_le, not, ◌&&◌, ◌||◌, Bool, true, if◌then◌else◌, List, find, Option, Some, None}
+use Rattle.std.specs.Prelude.{ℕ, ◌+◌, ◌-◌, ◌*◌, ◌%◌, nat_eq, nat_lt, nat_le, not, ◌&&◌, ◌||◌, Bool, true, false, if◌then◌else◌, List, find, Option, Some, None}
 use Rattle.afdx_plan.specs.Address.{destination_address}
 use Rattle.afdx_plan.specs.Plan.{step_of}
 use Rattle.afdx_plan.specs.declared.port_plan.PortPlan.{PortPlan}
@@ -14,10 +14,10 @@ use Rattle.judge.specs.declared.finding.Ending.{Ending}
 use Rattle.judge.specs.declared.finding.Ending.TheVariants.{UdpLength, Size as TooLong, UdpChecksum}
 use Rattle.judge.specs.declared.finding.Kind.TheVariants.{Fragment, Message}
 use Rattle.judge.specs.declared.finding.Misfit.{Misfit}
-use Rattle.judge.specs.declared.finding.Misfit.TheVariants.{Offset, Identification, Addresses, Length}
+use Rattle.judge.specs.declared.finding.Misfit.TheVariants.{Offset, Identification, Repeated, Addresses, Length}
 use Rattle.judge.specs.declared.joining.Head.{Head}
 use Rattle.judge.specs.declared.joining.Joining.{Joining}
-use Rattle.judge.specs.declared.joining.Joining.TheVariants.{Any, Between, Within}
+use Rattle.judge.specs.declared.joining.Joining.TheVariants.{Any, Between, After, Within}
 
 -- ---- ports
 
@@ -30,13 +30,13 @@ abbrev pub is_towards : Flow → PortPlan → Bool
 is_towards flow port = nat_eq flow.partition port.partition
     && nat_eq flow.address (address_number (destination_address port))
 
--- a first piece of a sub-VL is of a port: the UDP ports are its too
-abbrev pub is_of_port : ℕ → ℕ → Flow → PortPlan → Bool
-is_of_port vl sub flow port = nat_eq port.vl.0 vl && nat_eq port.sub sub && nat_eq flow.source port.source
-    && nat_eq flow.destination port.destination && is_towards flow port
+-- a first piece of a link is of a port: the UDP ports are its too, and so is the sub-VL, if the identification says which
+abbrev pub is_of_port : Bool → ℕ → ℕ → Flow → PortPlan → Bool
+is_of_port arinc vl sub flow port = nat_eq port.vl.0 vl && (arinc || nat_eq port.sub sub)
+    && nat_eq flow.source port.source && nat_eq flow.destination port.destination && is_towards flow port
 
-abbrev pub port_of : List PortPlan → ℕ → ℕ → Flow → Option PortPlan
-port_of ports vl sub flow = find (is_of_port vl sub flow) ports
+abbrev pub port_of : Bool → List PortPlan → ℕ → ℕ → Flow → Option PortPlan
+port_of arinc ports vl sub flow = find (is_of_port arinc vl sub flow) ports
 
 -- ---- the message
 
@@ -58,18 +58,28 @@ head_with head fields = record head { sum = (head.sum + fields.sum) % 65535 }
 abbrev pub next_of : Joining → Option ℕ
 next_of Any = None
 next_of (Between ident) = Some 0
+next_of (After before) = Some 0
 next_of (Within message) = Some message.next
 
 abbrev pub ident_of : Joining → Option ℕ
 ident_of Any = None
 ident_of (Between ident) = Some ident
+ident_of (After before) = None
 ident_of (Within message) = Some message.ident
 
 -- what is known of the message that was begun
 abbrev pub begun : Joining → Option Head
 begun Any = None
 begun (Between ident) = None
+begun (After before) = None
 begun (Within message) = message.head
+
+-- the identification that the next message doesn't have
+abbrev pub ident_before : Joining → Option ℕ
+ident_before Any = None
+ident_before (Between ident) = None
+ident_before (After before) = before
+ident_before (Within message) = None
 
 -- a piece has the addresses of its message, if they are known
 abbrev pub has_addresses : Option Head → Flow → Bool
@@ -84,6 +94,10 @@ abbrev pub misfit_if : Misfit → Option ℕ → ℕ → Option Deviation
 misfit_if how None seen = None
 misfit_if how (Some wanted) seen = if nat_eq seen wanted then None else misfit how seen wanted
 
+abbrev pub repeated_if : Option ℕ → ℕ → Option Deviation
+repeated_if None seen = None
+repeated_if (Some before) seen = if nat_eq seen before then misfit Repeated seen 0 else None
+
 abbrev pub addresses_deviation : Option Head → Flow → Option Deviation
 addresses_deviation head flow = if has_addresses head flow then None else misfit Addresses 0 0
 
@@ -97,11 +111,25 @@ length_deviation room piece =
     else (if nat_lt 0 piece.start && nat_le piece.len (room - step_of room)
     then misfit Length piece.len (room - step_of room + 1) else None)
 
+-- a piece goes on with a message in progress: it has its identification and its addresses (RFC 791, 3.2, reassembly)
+abbrev pub goes_on : Fields → Joining → Bool
+goes_on fields Any = false
+goes_on fields (Between ident) = false
+goes_on fields (After before) = false
+goes_on fields (Within message) = nat_eq fields.piece.ident message.ident && has_addresses message.head fields.flow
+
+abbrev pub is_unknown : Joining → Bool
+is_unknown Any = true
+is_unknown (Between ident) = false
+is_unknown (After before) = false
+is_unknown (Within message) = false
+
 -- how a piece isn't the next one
 unfoldable pub fragment_deviation : ℕ → Fields → Joining → Option Deviation
 fragment_deviation room fields joining = first_of (misfit_if Offset (next_of joining) fields.piece.start)
     (first_of (misfit_if Identification (ident_of joining) fields.piece.ident)
-    (first_of (addresses_deviation (begun joining) fields.flow) (length_deviation room fields.piece)))
+    (first_of (repeated_if (ident_before joining) fields.piece.ident)
+    (first_of (addresses_deviation (begun joining) fields.flow) (length_deviation room fields.piece))))
 
 -- what is known of the message with one more piece
 abbrev pub head_after : Option Head → Fields → Option Head
@@ -140,8 +168,11 @@ if_known len (Some head) = message_deviation len head
 abbrev pub end_deviation : PieceIn → Option Head → Option Deviation
 end_deviation piece head = if piece.more then None else if_known (piece.start + piece.len) head
 
--- what is known after a piece
-abbrev pub joined : PieceIn → Option Head → Joining
-joined piece head =
+-- what is known after a piece: the next message's identification follows, or by ARINC 664 alone is another one
+abbrev pub after_message : Bool → ℕ → Joining
+after_message arinc ident = if arinc then After (Some ident) else Between ((ident + 4) % 65536)
+
+abbrev pub joined : Bool → PieceIn → Option Head → Joining
+joined arinc piece head =
     if piece.more then Within (record { ident = piece.ident; next = piece.start + piece.len; head = head })
-    else Between ((piece.ident + 4) % 65536)
+    else after_message arinc piece.ident

@@ -11,7 +11,7 @@ use Rattle.capture.specs.Recording.{Recorded}
 use Rattle.judge.specs.Deviations.{deviation, with_finding}
 use Rattle.judge.specs.Fields.{fields_of}
 use Rattle.judge.specs.Joining.{port_of}
-use Rattle.judge.specs.Lines.{new_line, line_after, verdict, sub_in}
+use Rattle.judge.specs.Lines.{new_line, line_after, verdict, sub_in, sub_of}
 use Rattle.judge.specs.Rules.{frame_in, place_of, size_deviation}
 use Rattle.judge.specs.Twins.{found_missing, left_waiting, twin_deviation, pairing_with, found_at_end}
 use Rattle.judge.specs.declared.fields.Fields.{Fields}
@@ -34,11 +34,15 @@ use Rattle.judge.specs.declared.twins.Nearness.{Nearness}
 
 -- ---- a link
 
-abbrev pub new_link : Bool → Link
-new_link late = record { a = new_line late; b = new_line late; twins = record { waiting = []; lead = None } }
+abbrev pub new_link : Bool → Bool → Link
+new_link late arinc = record {
+  a = new_line late arinc;
+  b = new_line late arinc;
+  twins = record { waiting = []; lead = None };
+}
 
 abbrev pub link_at : List Link → ℕ → Link
-link_at links place = get_or links place (new_link false)
+link_at links place = get_or links place (new_link false false)
 
 abbrev pub line_on : Net → Link → Line
 line_on A link = link.a
@@ -87,17 +91,23 @@ found_twin setting tag number frame link found =
     if is_both setting.plan.networks
     then with_finding tag (Some setting.plan.id) (twin_deviation tag number frame link.twins) found else found
 
-abbrev pub arrived : Tag → List ℕ → Arrived
-arrived tag frame = record { at = tag.at; len = length frame; fields = fields_of frame }
+abbrev pub arrived : Measure → Tag → Option PortPlan → List ℕ → Line → Arrived
+arrived measure tag port frame line = record {
+  at = tag.at;
+  len = length frame;
+  fields = fields_of frame;
+  sub = sub_of measure port (fields_of frame) line;
+}
 
 -- a frame on its line
 abbrev pub with_frame : Setting → Tag → Option PortPlan → List ℕ → Link → Link
 with_frame setting tag port frame link = with_line tag.net
-    (line_after setting.measure port (arrived tag frame) (line_on tag.net link)) link
+    (line_after setting.measure port (arrived setting.measure tag port frame (line_on tag.net link)) (line_on tag.net link))
+    link
 
 abbrev pub found_on_line : Setting → Tag → Option PortPlan → List ℕ → Link → List Finding → List Finding
 found_on_line setting tag port frame link found = with_verdict tag setting.plan.id
-    (verdict setting.measure port (arrived tag frame) (line_on tag.net link))
+    (verdict setting.measure port (arrived setting.measure tag port frame (line_on tag.net link)) (line_on tag.net link))
     (with_finding tag (Some setting.plan.id) (size_deviation setting.plan (length frame)) found)
 
 -- the link after a frame, and the findings with the frame's
@@ -134,7 +144,7 @@ at_start plan options = record {
   options = options;
   times = no_times;
   told = false;
-  links = replicate (length plan.links) (new_link options.late);
+  links = replicate (length plan.links) (new_link options.late options.arinc);
 }
 
 -- the first time, and the latest
@@ -154,6 +164,7 @@ measure_of options link = record {
   room = room_of link.lmax;
   gap = 1000 * (bag_micros link.bag - options.jitter);
   late = options.late;
+  arinc = options.arinc;
 }
 
 abbrev pub nearness_of : Options → Times → Nearness
@@ -168,12 +179,13 @@ setting_of j place = record {
 }
 
 -- the port of a first piece
-abbrev pub first_port : List PortPlan → VlId → Fields → Option PortPlan
-first_port ports vl fields =
-    if nat_eq fields.piece.start 0 then port_of ports vl.0 (sub_in fields) fields.flow else None
+abbrev pub first_port : Bool → List PortPlan → VlId → Fields → Option PortPlan
+first_port arinc ports vl fields =
+    if nat_eq fields.piece.start 0 then port_of arinc ports vl.0 (sub_in fields) fields.flow else None
 
 abbrev pub port_on : Judging → ℕ → List ℕ → Option PortPlan
-port_on j place frame = first_port j.plan.ports (link_plan_at j.plan.links place).id (fields_of frame)
+port_on j place frame =
+    first_port j.options.arinc j.plan.ports (link_plan_at j.plan.links place).id (fields_of frame)
 
 -- a frame of the link at a place
 unfoldable pub with_arrival : Tag → ℕ → List ℕ → Judging → Judging
@@ -213,7 +225,7 @@ placed plan net (Ok frame) = at_place frame (place_of plan net frame)
 placed plan net (Err why) = Err why
 
 unfoldable pub admitted : Net → Recorded → Judging → Result Admitted Refused
-admitted net packet j = placed j.plan net (frame_in j.options.fcs packet)
+admitted net packet j = placed j.plan net (frame_in j.options packet)
 
 abbrev pub judged : Tag → Result Admitted Refused → Judging → Judging
 judged tag (Ok it) j = with_arrival tag it.place it.frame j

@@ -45,9 +45,9 @@ link_broken f = first_of (unless_kept (has_destination_mac f) DestinationMac 0)
 abbrev pub framed : ℕ → ℕ
 framed total = max (15 + total) 60
 
--- version 4, a header of 20 bytes, type of service 0
-abbrev pub has_version : List ℕ → Bool
-has_version f = has_byte f 14 69 && has_byte f 15 0
+-- version 4, a header of 20 bytes, and type of service 0, which this project chose
+abbrev pub has_version : Bool → List ℕ → Bool
+has_version arinc f = has_byte f 14 69 && (arinc || has_byte f 15 0)
 
 -- some bytes of a piece, the frame's length, and of a piece that more follow whole units of 8 bytes
 abbrev pub has_total : List ℕ → Bool
@@ -59,18 +59,18 @@ abbrev pub has_fragment : List ℕ → Bool
 has_fragment f = nat_lt (fragment_field f) 16384
     && nat_le (8 * (fragment_field f % offset_modulus) + total_length f) (20 + greatest_datagram)
 
--- time to live 1, and UDP
-abbrev pub has_protocol : List ℕ → Bool
-has_protocol f = has_byte f 22 1 && has_byte f 23 17
+-- time to live 1, which this project chose, and UDP
+abbrev pub has_protocol : Bool → List ℕ → Bool
+has_protocol arinc f = (arinc || has_byte f 22 1) && has_byte f 23 17
 
 abbrev pub has_header_sum : List ℕ → Bool
 has_header_sum f = nat_eq (word_sum (slice_range f 14 34) % 65535) 0
 
-unfoldable pub internet_broken : List ℕ → Option Deviation
-internet_broken f = first_of (unless_kept (has_version f) Version 14)
+unfoldable pub internet_broken : Bool → List ℕ → Option Deviation
+internet_broken arinc f = first_of (unless_kept (has_version arinc f) Version 14)
     (first_of (unless_kept (has_total f) TotalLength 16)
     (first_of (unless_kept (has_fragment f) Fragment 20)
-    (first_of (unless_kept (has_protocol f) Protocol 22) (unless_kept (has_header_sum f) HeaderSum 24))))
+    (first_of (unless_kept (has_protocol arinc f) Protocol 22) (unless_kept (has_header_sum f) HeaderSum 24))))
 
 -- the source address: 10, the end system of the source MAC address, a partition from 0 to 31
 abbrev pub has_source_address : List ℕ → Bool
@@ -89,7 +89,7 @@ unfoldable pub address_broken : List ℕ → Option Deviation
 address_broken f = first_of (unless_kept (has_source_address f) SourceAddress 26)
     (unless_kept (has_destination_address f) DestinationAddress 30)
 
--- the bytes between the piece and the sequence number, and the first one that isn't zero
+-- the bytes between the piece and the sequence number, and the first one that isn't zero: zeros are this project's choice
 abbrev pub padding_of : List ℕ → List ℕ
 padding_of f = slice_range f (14 + total_length f) (length f - 1)
 
@@ -100,13 +100,14 @@ abbrev pub broken_after : ℕ → Option ℕ → Option Deviation
 broken_after start None = None
 broken_after start (Some place) = Some (deviation (Frame Padding) (start + place) 0)
 
-unfoldable pub padding_broken : List ℕ → Option Deviation
-padding_broken f = broken_after (14 + total_length f) (first_nonzero (padding_of f))
+unfoldable pub padding_broken : Bool → List ℕ → Option Deviation
+padding_broken arinc f =
+    if arinc then None else broken_after (14 + total_length f) (first_nonzero (padding_of f))
 
--- the rules in their order
-unfoldable pub layout_broken : List ℕ → Option Deviation
-layout_broken f = first_of (length_broken f)
-    (first_of (link_broken f) (first_of (internet_broken f) (first_of (address_broken f) (padding_broken f))))
+-- The rules in their order. By ARINC 664 alone (`arinc`), what only this project chose isn't one.
+unfoldable pub layout_broken : Bool → List ℕ → Option Deviation
+layout_broken arinc f = first_of (length_broken f) (first_of (link_broken f)
+    (first_of (internet_broken arinc f) (first_of (address_broken f) (padding_broken arinc f))))
 
 -- four bytes more than the total length says, as a frame with its check sequence has
 abbrev pub has_four_more : List ℕ → Bool

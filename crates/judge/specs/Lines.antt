@@ -1,14 +1,14 @@
 -- A link on a network: its sequence numbers, its gaps, the turns of its sub-VLs, and the messages of these.
-use Rattle.std.specs.Prelude.{ℕ, ◌+◌, ◌-◌, ◌%◌, ◌^◌, nat_eq, nat_lt, nat_le, ◌&&◌, ◌||◌, Bool, true, false, if◌then◌else◌, min, List, [], ◌∷◌, slice_set, get_or, position, Option, Some, None}
+use Rattle.std.specs.Prelude.{ℕ, ◌+◌, ◌-◌, ◌%◌, ◌^◌, nat_eq, nat_lt, nat_le, ◌&&◌, ◌||◌, Bool, true, false, if◌then◌else◌, min, List, [], ◌∷◌, slice_set, get_or, position, unwrap_or, Option, Some, None}
 use Rattle.std.specs.Option.{is_some}
 use Rattle.afdx_plan.specs.declared.port_plan.PortPlan.{PortPlan}
-use Rattle.judge.specs.Deviations.{deviation}
-use Rattle.judge.specs.Joining.{fragment_deviation, head_now, end_deviation, joined}
+use Rattle.judge.specs.Deviations.{deviation, first_of}
+use Rattle.judge.specs.Joining.{fragment_deviation, head_now, end_deviation, joined, goes_on, is_unknown}
 use Rattle.judge.specs.declared.fields.Fields.{Fields}
 use Rattle.judge.specs.declared.finding.Deviation.{Deviation}
 use Rattle.judge.specs.declared.finding.Kind.TheVariants.{Number, Early, Port, Turn}
 use Rattle.judge.specs.declared.joining.Joining.{Joining}
-use Rattle.judge.specs.declared.joining.Joining.TheVariants.{Any, Between}
+use Rattle.judge.specs.declared.joining.Joining.TheVariants.{Any, Between, After}
 use Rattle.judge.specs.declared.line.Arrived.{Arrived}
 use Rattle.judge.specs.declared.line.Figures.{Figures}
 use Rattle.judge.specs.declared.last.Last.{Last}
@@ -19,9 +19,10 @@ use Rattle.judge.specs.declared.line.Verdict.{Verdict}
 
 -- ---- a line of which nothing came
 
-abbrev pub new_sub : Bool → ℕ → Sub
-new_sub late sub = record {
-  joining = if late then Any else Between sub;
+-- its first message has an identification of the sub-VL, or by ARINC 664 alone any one
+abbrev pub new_sub : Bool → Bool → ℕ → Sub
+new_sub late arinc sub = record {
+  joining = if late then Any else (if arinc then After None else Between sub);
   came = 0;
   due = false;
 }
@@ -29,15 +30,27 @@ new_sub late sub = record {
 abbrev pub no_figures : Figures
 no_figures = record { frames = 0; bytes = 0; messages = 0; least_gap = None }
 
-abbrev pub new_line : Bool → Line
-new_line late = record {
+abbrev pub new_line : Bool → Bool → Line
+new_line late arinc = record {
   last = None;
   figures = no_figures;
-  subs = new_sub late 0 ∷ new_sub late 1 ∷ new_sub late 2 ∷ new_sub late 3 ∷ [];
+  subs = new_sub late arinc 0 ∷ new_sub late arinc 1 ∷ new_sub late arinc 2 ∷ new_sub late arinc 3 ∷ [];
+}
+
+abbrev pub unknown_place : List Sub → Option ℕ
+unknown_place subs = position (λ (s : Sub). is_unknown s.joining) subs
+
+-- The sub-VL of a frame, if it is one of the four. Else the frame begins a message, unless it may be of a sub-VL of whose
+-- message nothing is known.
+abbrev pub other_sub : List Sub → Sub
+other_sub subs = record {
+  joining = if is_some (unknown_place subs) then Any else After None;
+  came = 0;
+  due = false;
 }
 
 abbrev pub sub_at : List Sub → ℕ → Sub
-sub_at subs sub = get_or subs sub (new_sub true 0)
+sub_at subs sub = get_or subs sub (other_sub subs)
 
 -- ---- numbers and gaps
 
@@ -120,8 +133,20 @@ abbrev pub port_deviation : Fields → Option PortPlan → Option Deviation
 port_deviation fields port =
     if nat_lt 0 fields.piece.start || is_some port then None else Some (deviation Port fields.flow.source 0)
 
+-- the sub-VL of a frame: what this project's formula says of its identification
 abbrev pub sub_in : Fields → ℕ
 sub_in fields = fields.piece.ident % 4
+
+-- By ARINC 664 alone: that of a first piece's port, or that with whose message the piece goes on; 4 if none is known.
+abbrev pub going_on : Fields → List Sub → Option ℕ
+going_on fields subs = position (λ (s : Sub). goes_on fields s.joining) subs
+
+abbrev pub sub_shown : Option PortPlan → Fields → List Sub → ℕ
+sub_shown (Some port) fields subs = port.sub
+sub_shown None fields subs = unwrap_or (going_on fields subs) 4
+
+abbrev pub sub_of : Measure → Option PortPlan → Fields → Line → ℕ
+sub_of measure port fields line = if measure.arinc then sub_shown port fields line.subs else sub_in fields
 
 -- a count stops at 2^64 - 1
 abbrev pub counted : ℕ → ℕ → ℕ
@@ -141,9 +166,9 @@ figures_with arrived line = record {
 }
 
 -- after a piece that isn't the next one nothing is known of the message
-abbrev pub joining_after : Option Deviation → Fields → Option PortPlan → Joining → Joining
-joining_after (Some deviation) fields port joining = Any
-joining_after None fields port joining = joined fields.piece (head_now port fields joining)
+abbrev pub joining_after : Bool → Option Deviation → Fields → Option PortPlan → Joining → Joining
+joining_after arinc (Some deviation) fields port joining = Any
+joining_after arinc None fields port joining = joined arinc fields.piece (head_now port fields joining)
 
 abbrev pub message_after : Option Deviation → Fields → Option PortPlan → Joining → Option Deviation
 message_after (Some deviation) fields port joining = None
@@ -151,7 +176,7 @@ message_after None fields port joining = end_deviation fields.piece (head_now po
 
 -- the message of a frame's sub-VL, and how its piece isn't the next one
 abbrev pub joining_on : Arrived → Line → Joining
-joining_on arrived line = (sub_at line.subs (sub_in arrived.fields)).joining
+joining_on arrived line = (sub_at line.subs arrived.sub).joining
 
 abbrev pub fragment_on : Measure → Arrived → Line → Option Deviation
 fragment_on measure arrived line = fragment_deviation measure.room arrived.fields (joining_on arrived line)
@@ -159,7 +184,7 @@ fragment_on measure arrived line = fragment_deviation measure.room arrived.field
 -- a sub-VL after its frame
 abbrev pub sub_after : Measure → Option PortPlan → Arrived → Line → Sub
 sub_after measure port arrived line = record {
-  joining = joining_after (fragment_on measure arrived line) arrived.fields port (joining_on arrived line);
+  joining = joining_after measure.arinc (fragment_on measure arrived line) arrived.fields port (joining_on arrived line);
   came = (figures_with arrived line).frames;
   due = arrived.fields.piece.more;
 }
@@ -169,7 +194,7 @@ unfoldable pub line_with : Measure → Option PortPlan → Arrived → Line → 
 line_with measure port arrived line = record {
   last = Some (record { number = arrived.fields.number; at = arrived.at });
   figures = figures_with arrived line;
-  subs = slice_set line.subs (sub_in arrived.fields) (sub_after measure port arrived line);
+  subs = slice_set line.subs arrived.sub (sub_after measure port arrived line);
 }
 
 -- the line on which a frame is judged: after its number, and after its turn
@@ -180,10 +205,20 @@ abbrev pub settled_from : ℕ → Line → Line
 settled_from sub line = after_turn (turn_deviation sub line) line
 
 abbrev pub settled : Measure → Arrived → Line → Line
-settled measure arrived line = settled_from (sub_in arrived.fields) (numbered measure arrived line)
+settled measure arrived line = settled_from arrived.sub (numbered measure arrived line)
+
+-- By ARINC 664 alone messages show the sub-VL of a piece: nothing is known of them after a piece that isn't the next one of
+-- any, or is of no port.
+abbrev pub traced : Bool → Option Deviation → Line → Line
+traced arinc stray line = if arinc && is_some stray then unsettled line else line
+
+abbrev pub traced_with : Measure → Option PortPlan → Arrived → Line → Line
+traced_with measure port arrived line =
+    traced measure.arinc (first_of (port_deviation arrived.fields port) (fragment_on measure arrived line))
+    (line_with measure port arrived line)
 
 unfoldable pub line_after : Measure → Option PortPlan → Arrived → Line → Line
-line_after measure port arrived line = line_with measure port arrived (settled measure arrived line)
+line_after measure port arrived line = traced_with measure port arrived (settled measure arrived line)
 
 abbrev pub message_on : Measure → Option PortPlan → Arrived → Line → Option Deviation
 message_on measure port arrived line =
@@ -197,5 +232,5 @@ verdict measure port arrived line = record {
   port = port_deviation arrived.fields port;
   fragment = fragment_on measure arrived (settled measure arrived line);
   message = message_on measure port arrived (settled measure arrived line);
-  turn = turn_deviation (sub_in arrived.fields) (numbered measure arrived line);
+  turn = turn_deviation arrived.sub (numbered measure arrived line);
 }

@@ -17,6 +17,7 @@ use Rattle.judge.specs.declared.finding.Deviation.{Deviation}
 use Rattle.judge.specs.declared.finding.Kind.{Kind}
 use Rattle.judge.specs.declared.finding.Kind.TheVariants.{Frame, Source, Link, Network, Size}
 use Rattle.judge.specs.declared.finding.Layout.TheVariants.{Snapped, CheckSequence, Recorded as WithCheck, Length}
+use Rattle.judge.specs.declared.options.Options.{Options}
 use Rattle.judge.specs.declared.rules.Refused.{Refused}
 
 abbrev pub refused : Option VlId → Kind → ℕ → ℕ → Refused
@@ -40,16 +41,16 @@ abbrev pub if_kept : List ℕ → Option Deviation → Result (List ℕ) Refused
 if_kept frame None = Ok frame
 if_kept frame (Some broken) = Err (record { deviation = broken; link = None })
 
-abbrev pub in_layout : Result (List ℕ) Refused → Result (List ℕ) Refused
-in_layout (Ok frame) = if_kept frame (layout_broken frame)
-in_layout (Err why) = Err why
+abbrev pub in_layout : Bool → Result (List ℕ) Refused → Result (List ℕ) Refused
+in_layout arinc (Ok frame) = if_kept frame (layout_broken arinc frame)
+in_layout arinc (Err why) = Err why
 
 -- the frame of a packet, which is whole and of the layout
-unfoldable pub frame_in : Bool → Recorded → Result (List ℕ) Refused
-frame_in fcs packet =
+unfoldable pub frame_in : Options → Recorded → Result (List ℕ) Refused
+frame_in options packet =
     if nat_lt (length packet.bytes) packet.original
     then Err (refused None (Frame Snapped) (length packet.bytes) packet.original)
-    else in_layout (if fcs then checked packet.bytes else unchecked packet.bytes)
+    else in_layout options.arinc (if options.fcs then checked packet.bytes else unchecked packet.bytes)
 
 -- the interface identifier that a link's frame has on a network, 0 if the network doesn't carry it
 abbrev pub interface_on : LinkPlan → Net → ℕ

@@ -1,7 +1,7 @@
 //! The message of a sub-VL on a network, as its pieces come.
 ghost use Rattle.std.specs.Prelude.{◌≡◌, ◌+◌, ◌%◌, ◌≤◌, length, option_copied};
 ghost use Rattle.judge.specs.Fields.{AreSmall};
-ghost use Rattle.judge.specs.Joining.{address_number, is_towards, is_of_port, port_of, head_of, head_with, next_of, ident_of, begun, has_addresses, misfit, misfit_if, addresses_deviation, length_deviation, fragment_deviation, head_from, head_after, head_now, right_sum, ending, message_deviation, if_known, end_deviation, joined};
+ghost use Rattle.judge.specs.Joining.{address_number, is_towards, is_of_port, port_of, head_of, head_with, next_of, ident_of, begun, has_addresses, misfit, misfit_if, addresses_deviation, length_deviation, fragment_deviation, ident_before, goes_on, is_unknown, repeated_if, after_message, head_from, head_after, head_now, right_sum, ending, message_deviation, if_known, end_deviation, joined};
 ghost use Rattle.afdx_plan.specs.Address.{destination_address};
 
 use crate::fields::{Fields, Flow, PieceIn};
@@ -15,6 +15,8 @@ pub(crate) enum Joining {
     Any,
     /// The next message begins, with this identification.
     Between(u16),
+    /// The next message begins, with another identification than the one before it.
+    After(Option<u16>),
     /// More pieces of a message are to come.
     Within(Open),
 }
@@ -64,29 +66,43 @@ fn is_towards(flow: &Flow, port: &PortPlan) -> bool
     flow.partition == port.partition && flow.address == address_of(port)
 }
 
-/// Whether a first piece of a sub-VL is of a port.
-fn is_of_port(vl: u16, sub: u8, flow: &Flow, port: &PortPlan) -> bool
-    ensures { result ≡ is_of_port vl sub flow.now port.now }
+/// Whether a first piece of a link is of a port, of this sub-VL if the identification says so.
+fn is_of_port(arinc: bool, vl: u16, sub: u8, flow: &Flow, port: &PortPlan) -> bool
+    ensures { result ≡ is_of_port arinc vl sub flow.now port.now }
 {
     port.vl.0 == vl
-        && port.sub == sub
+        && (arinc || port.sub == sub)
         && flow.source == port.source
         && flow.destination == port.destination
         && is_towards(flow, port)
 }
 
 /// The first port that a first piece of a sub-VL is of.
-fn find_port<'a>(ports: &'a [PortPlan], vl: u16, sub: u8, flow: &Flow) -> Option<&'a PortPlan>
-    ensures { option_copied result ≡ port_of ports.now vl sub flow.now }
+fn find_port<'a>(
+    arinc: bool,
+    ports: &'a [PortPlan],
+    vl: u16,
+    sub: u8,
+    flow: &Flow,
+) -> Option<&'a PortPlan>
+    ensures { option_copied result ≡ port_of arinc ports.now vl sub flow.now }
 {
-    ports.iter().find(|port| is_of_port(vl, sub, flow, port))
+    ports
+        .iter()
+        .find(|port| is_of_port(arinc, vl, sub, flow, port))
 }
 
 /// The port of a first piece of a sub-VL.
-pub(crate) fn port_of(ports: &[PortPlan], vl: VlId, sub: u8, flow: &Flow) -> Option<PortPlan>
-    ensures { result ≡ port_of ports.now vl.0 sub flow.now }
+pub(crate) fn port_of(
+    arinc: bool,
+    ports: &[PortPlan],
+    vl: VlId,
+    sub: u8,
+    flow: &Flow,
+) -> Option<PortPlan>
+    ensures { result ≡ port_of arinc ports.now vl.0 sub flow.now }
 {
-    match find_port(ports, vl.0, sub, flow) {
+    match find_port(arinc, ports, vl.0, sub, flow) {
         Some(port) => Some(*port),
         None => None,
     }
@@ -150,6 +166,16 @@ fn misfit_if(how: Misfit, wanted: Option<u32>, seen: u32) -> Option<Deviation>
     }
 }
 
+/// A misfit, if an identification is the one before.
+fn repeated_if(before: Option<u16>, seen: u16) -> Option<Deviation>
+    ensures { result ≡ repeated_if before seen }
+{
+    match before {
+        Some(before) if seen == before => misfit(Misfit::Repeated, seen as u64, 0),
+        _ => None,
+    }
+}
+
 /// How a piece has another length than the cutting gives it (RFC 791, the example procedure of fragmentation). A frame
 /// that is too long is another finding.
 #[tactic(auto, unfolding(crate::specs::Joining::length_deviation))]
@@ -178,7 +204,7 @@ impl Joining {
     {
         match self {
             Joining::Any => None,
-            Joining::Between(_) => Some(0),
+            Joining::Between(_) | Joining::After(_) => Some(0),
             Joining::Within(open) => Some(open.next),
         }
     }
@@ -190,6 +216,7 @@ impl Joining {
         match self {
             Joining::Any => None,
             Joining::Between(ident) => Some(*ident as u32),
+            Joining::After(_) => None,
             Joining::Within(open) => Some(open.ident as u32),
         }
     }
@@ -201,7 +228,45 @@ impl Joining {
         match self {
             Joining::Any => None,
             Joining::Between(_) => None,
+            Joining::After(_) => None,
             Joining::Within(open) => open.head,
+        }
+    }
+
+    /// The identification that the next message doesn't have.
+    fn ident_before(&self) -> Option<u16>
+        ensures { result ≡ ident_before self.now }
+    {
+        match self {
+            Joining::Any => None,
+            Joining::Between(_) => None,
+            Joining::After(before) => *before,
+            Joining::Within(_) => None,
+        }
+    }
+
+    /// Whether a piece goes on with a message in progress.
+    pub(crate) fn goes_on(&self, fields: &Fields) -> bool
+        ensures { result ≡ goes_on fields.now self.now }
+    {
+        match self {
+            Joining::Any => false,
+            Joining::Between(_) => false,
+            Joining::After(_) => false,
+            Joining::Within(open) => fields.piece.ident == open.ident
+                && has_addresses(open.head, &fields.flow),
+        }
+    }
+
+    /// Whether nothing is known.
+    pub(crate) fn is_unknown(&self) -> bool
+        ensures { result ≡ is_unknown self.now }
+    {
+        match self {
+            Joining::Any => true,
+            Joining::Between(_) => false,
+            Joining::After(_) => false,
+            Joining::Within(_) => false,
         }
     }
 
@@ -216,9 +281,13 @@ impl Joining {
             self.ident(),
             fields.piece.ident as u32,
         );
+        let repeated = repeated_if(self.ident_before(), fields.piece.ident);
         let addresses = addresses_deviation(self.begun(), &fields.flow);
         let len = length_deviation(room, &fields.piece);
-        first_of(offset, first_of(ident, first_of(addresses, len)))
+        first_of(
+            offset,
+            first_of(ident, first_of(repeated, first_of(addresses, len))),
+        )
     }
 
     /// What is known of the message with this piece, the next one, whose port this is if it is a first piece.
@@ -335,10 +404,10 @@ pub(crate) fn end_deviation(piece: &PieceIn, head: Option<Head>) -> Option<Devia
 }
 
 /// What is known after a piece, with what is known of its message.
-pub(crate) fn joined(piece: &PieceIn, head: Option<Head>) -> Joining
+pub(crate) fn joined(arinc: bool, piece: &PieceIn, head: Option<Head>) -> Joining
     requires start { piece.now.start ≤ 65528 }
     requires len { piece.now.len ≤ 1500 }
-    ensures { result ≡ joined piece.now head }
+    ensures { result ≡ joined arinc piece.now head }
 {
     if piece.more {
         Joining::Within(Open {
@@ -346,6 +415,8 @@ pub(crate) fn joined(piece: &PieceIn, head: Option<Head>) -> Joining
             next: piece.start + piece.len,
             head,
         })
+    } else if arinc {
+        Joining::After(Some(piece.ident))
     } else {
         Joining::Between(piece.ident.wrapping_add(4))
     }

@@ -65,6 +65,7 @@ fn measure_of(options: &Options, link: &LinkPlan) -> Measure
         room: link.lmax.room(),
         gap: 1_000 * link.bag.micros().saturating_sub(options.jitter),
         late: options.late,
+        arinc: options.arinc,
     }
 }
 
@@ -79,23 +80,23 @@ fn nearness_of(options: &Options, times: &Times) -> Nearness
 }
 
 /// The port of a first piece.
-fn first_port(ports: &[PortPlan], vl: VlId, fields: &Fields) -> Option<PortPlan>
-    ensures { result ≡ first_port ports.now vl fields.now }
+fn first_port(arinc: bool, ports: &[PortPlan], vl: VlId, fields: &Fields) -> Option<PortPlan>
+    ensures { result ≡ first_port arinc ports.now vl fields.now }
 {
     if fields.piece.start == 0 {
-        port_of(ports, vl, sub_in(fields), &fields.flow)
+        port_of(arinc, ports, vl, sub_in(fields), &fields.flow)
     } else {
         None
     }
 }
 
 /// The links of a plan, of which nothing came.
-fn make_links(alloc: Global, count: usize, late: bool) -> Result<Vec<Link>, AllocError>
-    ensures { IfOk result (λ links. links.items ≡ replicate count (new_link late)) }
+fn make_links(alloc: Global, count: usize, late: bool, arinc: bool) -> Result<Vec<Link>, AllocError>
+    ensures { IfOk result (λ links. links.items ≡ replicate count (new_link late arinc)) }
 {
     let mut links = Vec::new(alloc);
     'links: while links.len() < count {
-        links.push(Link::new(alloc, late))?;
+        links.push(Link::new(alloc, late, arinc))?;
     }
     Ok(links)
 }
@@ -105,7 +106,7 @@ impl Judge {
     pub fn new(alloc: Global, config: Config, options: Options) -> Result<Judge, AllocError>
         ensures { IfOk result (λ judge. judge ≡ at_start config options) }
     {
-        let links = make_links(alloc, config.links().len(), options.late)?;
+        let links = make_links(alloc, config.links().len(), options.late, options.arinc)?;
         Ok(Judge {
             config,
             options,
@@ -225,7 +226,7 @@ impl Judge {
         ensures readable { IfOk result (λ it. IsReadable it.frame.now) }
         ensures within { IfOk result (λ it. it.place < length self.now.plan.links) }
     {
-        let frame = frame_in(packet, self.options.fcs)?;
+        let frame = frame_in(packet, &self.options)?;
         let place = place_of(&self.config, net, frame)?;
         Ok(Found { place, frame })
     }
@@ -280,7 +281,12 @@ impl Judge {
     {
         let setting = self.setting(place);
         let fields = fields_of(frame);
-        let port = first_port(self.config.ports(), setting.plan.id, &fields);
+        let port = first_port(
+            self.options.arinc,
+            self.config.ports(),
+            setting.plan.id,
+            &fields,
+        );
         let link = &mut self.links[place];
         link.arrive(&setting, tag, port, frame, &fields, found)
     }

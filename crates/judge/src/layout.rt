@@ -102,11 +102,11 @@ fn framed(total: usize) -> usize
 }
 
 /// Whether the header's version and length, and the type of service, are those of the profile.
-fn has_version(b: &[u8]) -> bool
+fn has_version(arinc: bool, b: &[u8]) -> bool
     requires { 60 ≤ length b.now }
-    ensures { result ≡ has_version b.now }
+    ensures { result ≡ has_version arinc b.now }
 {
-    b[14] == 0x45 && b[15] == 0
+    b[14] == 0x45 && (arinc || b[15] == 0)
 }
 
 /// Whether the total length is a piece's: that of the frame, and whole units of 8 bytes if more pieces follow.
@@ -129,11 +129,11 @@ fn has_fragment(b: &[u8]) -> bool
 }
 
 /// Whether the time to live is 1, and the protocol UDP.
-fn has_protocol(b: &[u8]) -> bool
+fn has_protocol(arinc: bool, b: &[u8]) -> bool
     requires { 60 ≤ length b.now }
-    ensures { result ≡ has_protocol b.now }
+    ensures { result ≡ has_protocol arinc b.now }
 {
-    b[22] == 1 && b[23] == 17
+    (arinc || b[22] == 1) && b[23] == 17
 }
 
 /// Whether the header's checksum is right.
@@ -146,16 +146,16 @@ fn has_header_sum(b: &[u8]) -> bool
 
 /// The rules of the internet header without its addresses.
 #[tactic(auto, unfolding(crate::specs::Layouts::internet_broken))]
-fn internet_broken(b: &[u8]) -> Option<Deviation>
+fn internet_broken(arinc: bool, b: &[u8]) -> Option<Deviation>
     requires { 60 ≤ length b.now }
-    ensures value { result ≡ internet_broken b.now }
+    ensures value { result ≡ internet_broken arinc b.now }
     ensures some { result ≡ None → 21 ≤ total_length b.now }
     ensures piece { result ≡ None → 15 + total_length b.now ≤ length b.now }
 {
-    let version = unless_kept(has_version(b), Layout::Version, 14);
+    let version = unless_kept(has_version(arinc, b), Layout::Version, 14);
     let total = unless_kept(has_total(b), Layout::TotalLength, 16);
     let fragment = unless_kept(has_fragment(b), Layout::Fragment, 20);
-    let protocol = unless_kept(has_protocol(b), Layout::Protocol, 22);
+    let protocol = unless_kept(has_protocol(arinc, b), Layout::Protocol, 22);
     let sum = unless_kept(has_header_sum(b), Layout::HeaderSum, 24);
     first_of(
         version,
@@ -199,10 +199,13 @@ fn first_nonzero(bytes: &[u8]) -> Option<usize>
 
 /// The rule of padding.
 #[tactic(auto, unfolding(crate::specs::Layouts::padding_broken))]
-fn padding_broken(b: &[u8]) -> Option<Deviation>
+fn padding_broken(arinc: bool, b: &[u8]) -> Option<Deviation>
     requires { IsReadable b.now }
-    ensures { result ≡ padding_broken b.now }
+    ensures { result ≡ padding_broken arinc b.now }
 {
+    if arinc {
+        return None;
+    }
     let start = 14 + word_at(b, 16) as usize;
     match first_nonzero(&b[start..b.len() - 1]) {
         Some(place) => unless_kept(false, Layout::Padding, (start + place) as u64),
@@ -210,10 +213,10 @@ fn padding_broken(b: &[u8]) -> Option<Deviation>
     }
 }
 
-/// The first rule of the layout that a frame breaks.
+/// The first rule of the layout that a frame breaks; by ARINC 664 alone, of those that it has.
 #[tactic(auto, unfolding(crate::specs::Layouts::layout_broken))]
-pub(crate) fn layout_broken(frame: &[u8]) -> Option<Deviation>
-    ensures value { result ≡ layout_broken frame.now }
+pub(crate) fn layout_broken(arinc: bool, frame: &[u8]) -> Option<Deviation>
+    ensures value { result ≡ layout_broken arinc frame.now }
     ensures readable { result ≡ None → IsReadable frame.now }
 {
     if let Some(broken) = length_broken(frame) {
@@ -222,10 +225,10 @@ pub(crate) fn layout_broken(frame: &[u8]) -> Option<Deviation>
     if let Some(broken) = link_broken(frame) {
         return Some(broken);
     }
-    if let Some(broken) = internet_broken(frame) {
+    if let Some(broken) = internet_broken(arinc, frame) {
         return Some(broken);
     }
-    first_of(address_broken(frame), padding_broken(frame))
+    first_of(address_broken(frame), padding_broken(arinc, frame))
 }
 
 /// Whether a frame has four bytes more than its total length says, as one with its check sequence has.

@@ -1,10 +1,10 @@
 //! A link on a network: its numbers, its gaps and its sub-VLs.
-ghost use Rattle.std.specs.Prelude.{◌≡◌, ◌+◌, ◌≤◌, ◌<◌, ◌%◌};
+ghost use Rattle.std.specs.Prelude.{◌≡◌, ◌+◌, ◌≤◌, ◌<◌, ◌%◌, slice_set, None};
 ghost use Rattle.judge.specs.Fields.{AreSmall};
-ghost use Rattle.judge.specs.Lines.{new_sub, new_line, number_after, next_number, number_unless, number_deviation, gap_since, early_since, early_deviation, unsettled_sub, unsettled, excused_sub, excused, turn_deviation, due_before, sub_at, port_deviation, sub_in, least_of, figures_with, joining_after, message_after, line_with, line_after, verdict, after_number, after_turn, fragment_on};
+ghost use Rattle.judge.specs.Lines.{new_sub, new_line, number_after, next_number, number_unless, number_deviation, gap_since, early_since, early_deviation, unsettled_sub, unsettled, excused_sub, excused, turn_deviation, due_before, sub_at, other_sub, unknown_place, going_on, port_deviation, sub_in, sub_shown, sub_of, traced, least_of, figures_with, joining_after, message_after, line_with, line_after, verdict, after_number, after_turn, fragment_on};
 
 use crate::fields::Fields;
-use crate::finding::{Deviation, Kind};
+use crate::finding::{Deviation, Kind, first_of};
 use crate::joining::{Joining, end_deviation, joined};
 use crate::last::{Last, early_since, gap_since, next_number, number_unless};
 use afdx_plan::PortPlan;
@@ -46,6 +46,8 @@ pub(crate) struct Arrived {
     pub(crate) at: u128,
     pub(crate) len: u64,
     pub(crate) fields: Fields,
+    /// The sub-VL, 4 if it isn't known.
+    pub(crate) sub: u8,
 }
 
 /// What a line judges its frames by.
@@ -57,6 +59,8 @@ pub(crate) struct Measure {
     pub(crate) gap: u64,
     /// The recording began after the end system.
     pub(crate) late: bool,
+    /// Frames are judged by ARINC 664 Part 7 alone.
+    pub(crate) arinc: bool,
 }
 
 /// What a line finds wrong with a frame, in the order of the kinds.
@@ -102,21 +106,36 @@ fn passed_by(subs: &[Sub], came: u64) -> Option<usize>
     subs.iter().position(|s| s.due && s.came < came)
 }
 
-/// The sub-VL of a frame.
+/// The sub-VL that a frame's identification says.
 pub(crate) fn sub_in(fields: &Fields) -> u8
-    ensures value { result ≡ sub_in fields.now }
-    ensures few { result < 4 }
+    ensures { result ≡ sub_in fields.now }
 {
     (fields.piece.ident % 4) as u8
 }
 
+/// The first sub-VL of whose message nothing is known.
+fn unknown_place(subs: &[Sub]) -> Option<usize>
+    ensures { result ≡ unknown_place subs.now }
+{
+    subs.iter().position(|s| s.joining.is_unknown())
+}
+
+/// The first sub-VL with whose message a piece goes on.
+fn going_on(fields: &Fields, subs: &[Sub]) -> Option<usize>
+    ensures { result ≡ going_on fields.now subs.now }
+{
+    subs.iter().position(|s| s.joining.goes_on(fields))
+}
+
 impl Sub {
     /// A sub-VL of which nothing came.
-    fn new(late: bool, sub: u16) -> Sub
-        ensures { result ≡ new_sub late sub }
+    fn new(late: bool, arinc: bool, sub: u16) -> Sub
+        ensures { result ≡ new_sub late arinc sub }
     {
         let joining = if late {
             Joining::Any
+        } else if arinc {
+            Joining::After(None)
         } else {
             Joining::Between(sub)
         };
@@ -148,8 +167,8 @@ impl Sub {
 
 impl Line {
     /// A line of which nothing came.
-    pub(crate) fn new(late: bool) -> Line
-        ensures { result ≡ new_line late }
+    pub(crate) fn new(late: bool, arinc: bool) -> Line
+        ensures { result ≡ new_line late arinc }
     {
         let figures = Figures {
             frames: 0,
@@ -161,10 +180,10 @@ impl Line {
             last: None,
             figures,
             subs: [
-                Sub::new(late, 0),
-                Sub::new(late, 1),
-                Sub::new(late, 2),
-                Sub::new(late, 3),
+                Sub::new(late, arinc, 0),
+                Sub::new(late, arinc, 1),
+                Sub::new(late, arinc, 2),
+                Sub::new(late, arinc, 3),
             ],
         }
     }
@@ -215,10 +234,9 @@ impl Line {
 
     /// A finding, if a frame of a sub-VL is the second one before a piece of another that is due.
     fn turn_deviation(&self, sub: u8) -> Option<Deviation>
-        requires { sub < 4 }
         ensures { result ≡ turn_deviation sub self.now }
     {
-        match passed_by(&self.subs, self.came(sub)) {
+        match passed_by(&self.subs, self.sub(sub).came) {
             Some(due) => {
                 Some(Deviation {
                     kind: Kind::Turn,
@@ -230,12 +248,40 @@ impl Line {
         }
     }
 
-    /// How many frames of the link had come with the last one of a sub-VL.
-    fn came(&self, sub: u8) -> u64
-        requires { sub < 4 }
-        ensures { result ≡ (sub_at self.now.subs sub).came }
+    /// What is known of a frame that is of none of the four sub-VLs.
+    fn other(&self) -> Sub
+        ensures { result ≡ other_sub self.now.subs }
     {
-        self.subs[sub as usize].came
+        let joining = match unknown_place(&self.subs) {
+            Some(_) => Joining::Any,
+            None => Joining::After(None),
+        };
+        Sub {
+            joining,
+            came: 0,
+            due: false,
+        }
+    }
+
+    /// The sub-VL of a frame.
+    fn sub(&self, sub: u8) -> Sub
+        ensures { result ≡ sub_at self.now.subs sub }
+    {
+        match self.subs.get(sub as usize) {
+            Some(s) => *s,
+            None => self.other(),
+        }
+    }
+
+    /// The sub-VL of a frame, of this port if it is a first piece; 4 if it isn't known.
+    pub(crate) fn sub_of(&self, measure: &Measure, port: Option<PortPlan>, fields: &Fields) -> u8
+        ensures { result ≡ sub_of measure.now port fields.now self.now }
+    {
+        match port {
+            _ if !measure.arinc => sub_in(fields),
+            Some(port) => port.sub,
+            None => going_on(fields, &self.subs).unwrap_or(4) as u8,
+        }
     }
 
     /// The figures with one more frame.
@@ -275,27 +321,38 @@ impl Line {
     fn fragment_on(&self, measure: &Measure, arrived: &Arrived) -> Option<Deviation>
         ensures { result ≡ fragment_on measure.now arrived.now self.now }
     {
-        let sub = sub_in(&arrived.fields) as usize;
-        self.subs[sub]
-            .joining
+        let sub = self.sub(arrived.sub);
+        sub.joining
             .fragment_deviation(measure.room, &arrived.fields)
     }
 }
 
 /// What is known of a message after a frame.
 fn joining_after(
+    arinc: bool,
     fragment: Option<Deviation>,
     fields: &Fields,
     port: Option<PortPlan>,
     joining: &Joining,
 ) -> Joining
     requires { AreSmall fields.now }
-    ensures { result ≡ joining_after fragment fields.now port joining.now }
+    ensures { result ≡ joining_after arinc fragment fields.now port joining.now }
 {
     match fragment {
         Some(_) => Joining::Any,
-        None => joined(&fields.piece, joining.head_now(port, fields)),
+        None => joined(arinc, &fields.piece, joining.head_now(port, fields)),
     }
+}
+
+/// The four sub-VLs with this one, if it is one of them.
+fn with_sub(subs: [Sub; 4], sub: u8, after: Sub) -> [Sub; 4]
+    ensures { result ≡ slice_set subs sub after }
+{
+    let mut subs = subs;
+    if sub < 4 {
+        subs[sub as usize] = after;
+    }
+    subs
 }
 
 /// What is wrong with the message that a frame ends.
@@ -329,14 +386,14 @@ impl Line {
         ensures { result ≡ line_with measure.now port arrived.now self.now }
     {
         let fields = &arrived.fields;
-        let sub = sub_in(fields) as usize;
         let figures = self.figures_with(arrived);
-        let mut subs = self.subs;
-        subs[sub] = Sub {
-            joining: joining_after(fragment, fields, port, &subs[sub].joining),
+        let joining = self.sub(arrived.sub).joining;
+        let after = Sub {
+            joining: joining_after(measure.arinc, fragment, fields, port, &joining),
             came: figures.frames,
             due: fields.piece.more,
         };
+        let subs = with_sub(self.subs, arrived.sub, after);
         Line {
             last: Some(Last {
                 number: fields.number,
@@ -344,6 +401,17 @@ impl Line {
             }),
             figures,
             subs,
+        }
+    }
+
+    /// The line after a frame that isn't the next piece of a message, or is of no port, if there is such a finding.
+    fn traced(self, arinc: bool, stray: Option<Deviation>) -> Line
+        ensures { result ≡ traced arinc stray self }
+    {
+        if arinc && stray.is_some() {
+            self.unsettled()
+        } else {
+            self
         }
     }
 
@@ -360,19 +428,23 @@ impl Line {
         ensures verdict { result ≡ verdict measure.now port arrived.now self.old }
     {
         let fields = &arrived.fields;
-        let sub = sub_in(fields);
         let number = self.number_deviation(measure.late, fields.number);
         let early = self.early_deviation(measure.gap, arrived.at);
         let numbered = self.after_number(number);
-        let turn = numbered.turn_deviation(sub);
+        let turn = numbered.turn_deviation(arrived.sub);
         let settled = numbered.after_turn(turn);
         let fragment = settled.fragment_on(measure, arrived);
-        let message = message_after(fragment, fields, port, &settled.subs[sub as usize].joining);
-        *self = settled.line_with(measure, port, arrived, fragment);
+        let joining = settled.sub(arrived.sub).joining;
+        let message = message_after(fragment, fields, port, &joining);
+        let port_fault = port_deviation(fields, port);
+        let stray = first_of(port_fault, fragment);
+        *self = settled
+            .line_with(measure, port, arrived, fragment)
+            .traced(measure.arinc, stray);
         Verdict {
             number,
             early,
-            port: port_deviation(fields, port),
+            port: port_fault,
             fragment,
             message,
             turn,

@@ -60,12 +60,12 @@ fn is_both(link: &LinkPlan) -> bool
 
 impl Link {
     /// A link of which nothing came.
-    pub(crate) fn new(alloc: Global, late: bool) -> Link
-        ensures { result ≡ new_link late }
+    pub(crate) fn new(alloc: Global, late: bool, arinc: bool) -> Link
+        ensures { result ≡ new_link late arinc }
     {
         Link {
-            a: Line::new(late),
-            b: Line::new(late),
+            a: Line::new(late, arinc),
+            b: Line::new(late, arinc),
             twins: Twins::new(alloc),
         }
     }
@@ -109,6 +109,16 @@ impl Link {
             add(found, tag, Some(setting.plan.id), twin)?;
         }
         Ok(())
+    }
+
+    /// The line of a network.
+    fn line_on(&self, net: Net) -> &Line
+        ensures { result.now ≡ line_on net self.now }
+    {
+        match net {
+            Net::A => &self.a,
+            Net::B => &self.b,
+        }
     }
 
     /// Takes a frame on its line.
@@ -158,6 +168,7 @@ impl Link {
             at: tag.at,
             len: frame.len() as u64,
             fields: *fields,
+            sub: self.line_on(tag.net).sub_of(&setting.measure, port, fields),
         };
         let verdict = self.take(setting, tag, port, &arrived);
         add_verdict(found, tag, vl, &verdict)?;

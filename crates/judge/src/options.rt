@@ -12,4 +12,7 @@ pub struct Options {
     pub late: bool,
     /// Frames were recorded with their check sequence, which is tested.
     pub fcs: bool,
+    /// Frames are judged by ARINC 664 Part 7 alone, as those of other makers: their time to live, type of service and
+    /// padding may be any. Identifications only tell neighbouring messages of a sub-VL apart.
+    pub arinc: bool,
 }

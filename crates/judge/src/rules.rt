@@ -10,6 +10,7 @@ ghost use Rattle.afdx_frame.specs.Frame.{interface_byte};
 use crate::check_sequence::check_sequence;
 use crate::finding::{Deviation, Kind, Layout};
 use crate::layout::{has_four_more, layout_broken};
+use crate::options::Options;
 use afdx_frame::net::SHORTEST_FRAME;
 use afdx_frame::{Net, word_at};
 use afdx_plan::{Config, LinkPlan, Networks, VlId};
@@ -67,11 +68,11 @@ fn unchecked(bytes: &[u8]) -> Result<&[u8], Refused>
     Ok(bytes)
 }
 
-/// The frame of a packet, which is whole and of the layout. With `fcs` its check sequence is tested, and left out.
+/// The frame of a packet, which is whole and of the layout. A check sequence is tested, and left out.
 #[tactic(auto, unfolding(crate::specs::Rules::frame_in))]
-pub(crate) fn frame_in<'a>(packet: &Packet<'a>, fcs: bool) -> Result<&'a [u8], Refused>
-    ensures ok { IfOk result (λ frame. frame_in fcs (recorded packet.now) ≡ Ok frame.now) }
-    ensures err { IfErr result (λ why. frame_in fcs (recorded packet.now) ≡ Err why) }
+pub(crate) fn frame_in<'a>(packet: &Packet<'a>, options: &Options) -> Result<&'a [u8], Refused>
+    ensures ok { IfOk result (λ frame. frame_in options.now (recorded packet.now) ≡ Ok frame.now) }
+    ensures err { IfErr result (λ why. frame_in options.now (recorded packet.now) ≡ Err why) }
     ensures readable { IfOk result (λ frame. IsReadable frame.now) }
 {
     let bytes = packet.bytes;
@@ -79,12 +80,12 @@ pub(crate) fn frame_in<'a>(packet: &Packet<'a>, fcs: bool) -> Result<&'a [u8], R
     if len < original {
         return Err(refusal(None, Kind::Frame(Layout::Snapped), len, original));
     }
-    let frame = if fcs {
+    let frame = if options.fcs {
         checked(bytes)?
     } else {
         unchecked(bytes)?
     };
-    match layout_broken(frame) {
+    match layout_broken(options.arinc, frame) {
         Some(deviation) => {
             Err(Refused {
                 deviation,
