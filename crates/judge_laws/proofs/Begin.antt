@@ -19,44 +19,44 @@ use Rattle.afdx_legal.specs.Accepted.{AreAllowed}
 use Rattle.afdx_legal.specs.Legal.{Accepted, AreKnown, AreTwins, IsKnown, IsLegalOn, is_on_both, on_both}
 use Rattle.afdx_legal.specs.Streams.{TakesTurns, TakeTurnsOn, link_stream}
 use Rattle.afdx_laws.proofs.LegalLinks.{stream_front}
-use Rattle.judge.specs.Judging.{OnNet, line_on, link_at, new_link, no_times}
+use Rattle.judge.specs.Judging.{OnNet, findings, line_on, link_at, new_link, no_times}
 use Rattle.judge.specs.Lines.{new_line, new_sub, sub_at}
 use Rattle.judge.specs.Types.{Line, Link, Sub}
 use Rattle.judge.specs.declared.finding.Finding.{Finding}
 use Rattle.judge.specs.declared.options.Options.{Options}
 use Rattle.judge_laws.specs.NoFalseAlarm.{AreFit, IsMissing, IsRecord, IsRecording, IsSent, NoFalseAlarm, packets_of}
 use Rattle.judge_laws.proofs.Copies.{IsCopy, IsStream, all_copies}
-use Rattle.judge_laws.proofs.Line.{IsLine}
+use Rattle.judge_laws.proofs.Line.{IsLine, of_profile}
 use Rattle.judge_laws.proofs.Link.{AreCopies, IsLinkOf}
 use Rattle.judge_laws.proofs.Pieces.{IsAwaiting, awaits_all}
 use Rattle.judge_laws.proofs.Recording.{IsGoing, goes_on, id_of, rest_of}
-use Rattle.judge_laws.proofs.Turns.{AreDue}
+use Rattle.judge_laws.proofs.Turns.{AreDue, own_sub}
 use Rattle.judge_laws.proofs.Waits.{IsWait}
 
 -- ---- a new line
 
-new_due : (late : Bool) (p : ℕ) → (sub_at (new_line late).subs p).due ≡ false
+new_due : (late : Bool) (p : ℕ) → (own_sub (new_line late false).subs p).due ≡ false
 new_due late zero = refl
 new_due late (suc zero) = refl
 new_due late (suc (suc zero)) = refl
 new_due late (suc (suc (suc zero))) = refl
 new_due late (suc (suc (suc (suc p)))) = refl
 
-new_came : (late : Bool) (p : ℕ) → (sub_at (new_line late).subs p).came ≡ 0
+new_came : (late : Bool) (p : ℕ) → (own_sub (new_line late false).subs p).came ≡ 0
 new_came late zero = refl
 new_came late (suc zero) = refl
 new_came late (suc (suc zero)) = refl
 new_came late (suc (suc (suc zero))) = refl
 new_came late (suc (suc (suc (suc p)))) = refl
 
-new_joining : (late : Bool) (s : ℕ) → s < 4 → (sub_at (new_line late).subs s).joining ≡ (new_sub late s).joining
+new_joining : (late : Bool) (s : ℕ) → s < 4 → (sub_at (new_line late false).subs s).joining ≡ (new_sub late false s).joining
 new_joining late zero few = refl
 new_joining late (suc zero) few = refl
 new_joining late (suc (suc zero)) few = refl
 new_joining late (suc (suc (suc zero))) few = refl
 new_joining late (suc (suc (suc (suc s)))) few = absurd (omega arith)
 
-none_due : (late : Bool) (rest : List Entry) → AreDue (new_line late).subs (new_line late).figures.frames rest
+none_due : (late : Bool) (rest : List Entry) → AreDue (new_line late false).subs (new_line late false).figures.frames rest
 none_due late rest = record {
   size = refl;
   most = omega arith;
@@ -67,7 +67,7 @@ none_due late rest = record {
 
 line_begins : (plan : Plan) (accepted : Accepted) (k origin jitter : ℕ) (net : Net) (late : Bool) (handed : List Entry) → IsPlan plan
     → k < length plan.links → IsLegalOn plan accepted net handed → AreAllowed plan accepted
-    → TakesTurns (link_stream (id_of plan k) handed) → IsLine plan k net origin jitter (new_line late) (link_stream (id_of plan k) handed)
+    → TakesTurns (link_stream (id_of plan k) handed) → IsLine plan k net origin jitter (new_line late false) (link_stream (id_of plan k) handed)
 line_begins plan accepted k origin jitter net late handed valid inside legal allowed turns = record {
   place = 0;
   before = None;
@@ -140,7 +140,7 @@ handed_to a b B = b
 
 copies_begin : (plan : Plan) (accepted : Accepted) (a b : List Entry) (k origin jitter : ℕ) (late : Bool) → IsSent plan accepted a b
     → k < length plan.links → is_both (link_plan_at plan.links k).networks ≡ true
-    → AreCopies (bag_micros (link_plan_at plan.links k).bag) origin jitter (new_link late) (rest_of plan k (handed_to a b))
+    → AreCopies (bag_micros (link_plan_at plan.links k).bag) origin jitter (new_link late false) (rest_of plan k (handed_to a b))
 unfolding handed_to
 copies_begin plan accepted a b k origin jitter late sent inside both =
     elim (cases_lt (length (on_both plan.links a)) (length (on_both plan.links b))) [
@@ -169,7 +169,7 @@ copies_begin plan accepted a b k origin jitter late sent inside both =
 
 lines_begin : (plan : Plan) (accepted : Accepted) (a b : List Entry) (k origin jitter : ℕ) (late : Bool) (net : Net)
     → IsSent plan accepted a b → k < length plan.links
-    → IsLine plan k net origin jitter (line_on net (new_link late)) (rest_of plan k (handed_to a b) net)
+    → IsLine plan k net origin jitter (line_on net (new_link late false)) (rest_of plan k (handed_to a b) net)
 unfolding handed_to
 lines_begin plan accepted a b k origin jitter late A sent inside =
     line_begins plan accepted k origin jitter A late a sent.valid inside sent.legal.on_a sent.allowed (sent.turns.on_a k inside)
@@ -183,11 +183,11 @@ known_begin plan accepted a b sent A = sent.legal.on_a.known
 known_begin plan accepted a b sent B = sent.legal.on_b.known
 
 begins : (plan : Plan) (accepted : Accepted) (a b : List Entry) (origin : ℕ) (options : Options) → IsSent plan accepted a b
-    → IsGoing plan origin options (replicate (length plan.links) (new_link options.late)) (handed_to a b)
+    → IsGoing plan origin options (replicate (length plan.links) (new_link options.late false)) (handed_to a b)
 begins plan accepted a b origin options sent = record {
-  size = length-replicate (length plan.links) (new_link options.late);
+  size = length-replicate (length plan.links) (new_link options.late false);
   known = known_begin plan accepted a b sent;
-  each = λ k inside. rw (get_or-replicate (length plan.links) k (new_link options.late) (new_link false) inside) (record {
+  each = λ k inside. rw (get_or-replicate (length plan.links) k (new_link options.late false) (new_link false false) inside) (record {
     lines = λ net. lines_begin plan accepted a b k origin options.jitter options.late net sent inside;
     twins = λ both. copies_begin plan accepted a b k origin options.jitter options.late sent inside both;
   });
@@ -196,9 +196,12 @@ begins plan accepted a b origin options sent = record {
 pub no_false_alarm_holds : NoFalseAlarm
 unfolding handed_to
 no_false_alarm_holds plan accepted a b options origin recording sent fit recorded =
-    goes_on plan origin options no_times false (replicate (length plan.links) (new_link options.late)) recording (handed_to a b) []
-    sent.valid fit (begins plan accepted a b origin options sent) (λ net. by net) (All-nil IsMissing)
+    subst (λ o. All IsMissing (findings plan o recording)) (sym own) (goes_on plan origin options no_times false (replicate (length plan.links) (new_link options.late false)) recording (handed_to a b) []
+    sent.valid fit (begins plan accepted a b origin options sent) (λ net. by net) (All-nil IsMissing))
   where
+    own : options ≡ of_profile options
+    own = ap (λ (arinc : Bool). let o : Options = record options { arinc = arinc } in o) fit.profile
+
     by : (net : Net) → AllZip (IsRecord origin options.jitter) (handed_to a b net) (packets_of net recording)
     by A = recorded.of_a
     by B = recorded.of_b

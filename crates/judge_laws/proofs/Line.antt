@@ -21,7 +21,7 @@ use Rattle.judge.specs.Types.{Arrived, Line, Measure, Sub, Tag, Verdict}
 use Rattle.judge.specs.declared.options.Options.{Options}
 use Rattle.judge_laws.proofs.Numbers.{IsDelayed, IsLast, none_early, number_fits}
 use Rattle.judge_laws.proofs.Pieces.{IsAwaiting, IsClean, one_frame}
-use Rattle.judge_laws.proofs.Turns.{AreDue, due_after, none_passed, sub_other, sub_same}
+use Rattle.judge_laws.proofs.Turns.{AreDue, due_after, new_at, none_passed, other_at}
 
 pub record IsLine (plan : Plan) (k : ℕ) (net : Net) (origin jitter : ℕ) (line : Line) (rest : List Entry) : Type 0 where
   pub place : ℕ
@@ -41,17 +41,21 @@ pub record IsLine (plan : Plan) (k : ℕ) (net : Net) (origin jitter : ℕ) (lin
 abbrev pub faultless : Verdict
 faultless = record { number = None; early = None; port = None; fragment = None; message = None; turn = None }
 
--- what a frame on its line is told to be, and the line after it
+-- the options of a judge of what this project sends
+abbrev pub of_profile : Options → Options
+of_profile options = record options { arinc = false }
+
+-- the port of a frame, and by what it is judged
 abbrev pub port_at : Plan → ℕ → List ℕ → Option PortPlan
-port_at plan k frame = first_port plan.ports (link_plan_at plan.links k).id (fields_of frame)
+port_at plan k frame = first_port false plan.ports (link_plan_at plan.links k).id (fields_of frame)
 
 abbrev pub measure_at : Plan → ℕ → Options → Measure
-measure_at plan k options = measure_of options (link_plan_at plan.links k)
+measure_at plan k options = measure_of (of_profile options) (link_plan_at plan.links k)
 
 -- the line after a frame of a sub-VL with which nothing is wrong
 abbrev pub sub_of : Option PortPlan → Arrived → Line → ℕ → Sub
 sub_of port come line s = record {
-  joining = joined come.fields.piece (head_now port come.fields (sub_at line.subs s).joining);
+  joining = joined false come.fields.piece (head_now port come.fields (sub_at line.subs s).joining);
   came = (figures_with come line).frames;
   due = come.fields.piece.more;
 }
@@ -65,6 +69,7 @@ line_of port come line s = record {
 
 -- what is to hold of a frame of a sub-VL
 record IsRight (measure : Measure) (port : Option PortPlan) (come : Arrived) (line : Line) (s : ℕ) : Type 0 where
+  profile : measure.arinc ≡ false
   number : number_deviation measure.late come.fields.number line ≡ None
   early : early_deviation measure.gap come.at line ≡ None
   of_port : port_deviation come.fields port ≡ None
@@ -73,17 +78,17 @@ record IsRight (measure : Measure) (port : Option PortPlan) (come : Arrived) (li
   turn : turn_deviation s line ≡ None
 
 settles : (measure : Measure) (port : Option PortPlan) (come : Arrived) (line : Line)
-    → IsRight measure port come line (judge_sub come.fields) → settled measure come line ≡ line
+    → IsRight measure port come line come.sub → settled measure come line ≡ line
 settles measure port come line right = rw (right.number, right.turn) refl
 
 right_after : (measure : Measure) (port : Option PortPlan) (come : Arrived) (line : Line)
-    → IsRight measure port come line (judge_sub come.fields)
-    → line_after measure port come line ≡ line_of port come line (judge_sub come.fields)
+    → IsRight measure port come line come.sub
+    → line_after measure port come line ≡ line_of port come line come.sub
 unfolding line_after line_with
-right_after measure port come line right = rw (settles measure port come line right, right.fits) refl
+right_after measure port come line right = rw (settles measure port come line right, right.profile, right.fits) refl
 
 right_verdict : (measure : Measure) (port : Option PortPlan) (come : Arrived) (line : Line)
-    → IsRight measure port come line (judge_sub come.fields) → verdict measure port come line ≡ faultless
+    → IsRight measure port come line come.sub → verdict measure port come line ≡ faultless
 unfolding verdict
 right_verdict measure port come line right =
     rw (settles measure port come line right, right.number, right.turn, right.early, right.of_port, right.fits, right.ends) refl
@@ -100,9 +105,9 @@ pub record IsTaken (plan : Plan) (k : ℕ) (net : Net) (origin : ℕ) (options :
     (es : List Entry) : Type 0 where
   pub left : List (List ℕ)
   pub clean : IsClean plan k (sub_in e.frame) net (sub_at line.subs (sub_in e.frame)).joining e.frame left
-  pub wrong : verdict (measure_at plan k options) (port_at plan k e.frame) (arrived tag e.frame) line ≡ faultless
+  pub wrong : verdict (measure_at plan k options) (port_at plan k e.frame) (arrived (measure_at plan k options) tag (port_at plan k e.frame) e.frame line) line ≡ faultless
   pub after : IsLine plan k net origin options.jitter
-      (line_after (measure_at plan k options) (port_at plan k e.frame) (arrived tag e.frame) line) es
+      (line_after (measure_at plan k options) (port_at plan k e.frame) (arrived (measure_at plan k options) tag (port_at plan k e.frame) e.frame line) line) es
 
 named : (plan : Plan) (k : ℕ) (net : Net) (origin jitter : ℕ) (line : Line) (e : Entry) (es : List Entry)
     → IsLine plan k net origin jitter line (e ∷ es) → names net (link_plan_at plan.links k).networks ≡ true
@@ -139,7 +144,7 @@ line_taken plan k net origin options line tag e es valid inside long index fit i
     port = port_at plan k e.frame
 
     come : Arrived
-    come = arrived tag e.frame
+    come = arrived measure tag port e.frame line
 
     left : List (List ℕ)
     left = told (sub_stream s es) ++ (is.first s index).0
@@ -148,8 +153,12 @@ line_taken plan k net origin options line tag e es valid inside long index fit i
     clean = one_frame plan k s net (sub_at line.subs s).joining e.frame left valid inside (named plan k net origin options.jitter line e es is)
         index long (rw (next_left s e es (is.left s) refl (is.first s index)) at (is.awaiting s index))
 
+    four : s < 4
+    four = grind (arith, valid.each_link k (link_plan_at [] 0) inside)
+
     right : IsRight measure port come line s
     right = record {
+      profile = refl;
       number = number_fits origin options.jitter is.place (fields_of e.frame).number is.before options.late line.last is.last
           (clean.number ∙ is.numbered.0);
       early = none_early origin options.jitter (bag_micros (link_plan_at plan.links k).bag) is.place e.at tag.at is.before line.last
@@ -157,10 +166,10 @@ line_taken plan k net origin options line tag e es valid inside long index fit i
       of_port = clean.port;
       fits = clean.fits;
       ends = clean.ends;
-      turn = rw (none_passed line.subs line.figures.frames e es s is.due refl) refl;
+      turn = rw (none_passed line.subs line.figures.frames e es s is.due refl four) refl;
     }
 
-    its : IsRight measure port come line (judge_sub come.fields)
+    its : IsRight measure port come line come.sub
     its = subst (λ q. IsRight measure port come line q) (sym clean.of_sub) right
 
     new : Sub
@@ -169,14 +178,11 @@ line_taken plan k net origin options line tag e es valid inside long index fit i
     lefts : ℕ → List (List ℕ)
     lefts q = if nat_eq q s then left else is.left q
 
-    four : s < 4
-    four = grind (arith, valid.each_link k (link_plan_at [] 0) inside)
-
     awaits : (q : ℕ) → q < (link_plan_at plan.links k).sub_vls
         → IsAwaiting plan k q net (sub_at (slice_set line.subs s new) q).joining (lefts q)
     awaits q within = elim (cases_eq q s) [
-      | inl same ↦ rw (same, eq-eqb s s refl, sub_same line.subs s new (omega (arith, is.due.size))) clean.next
-      | inr other ↦ rw (sub_other line.subs s q new other, ne_eqb q s other) (is.awaiting q within)
+      | inl same ↦ rw (same, eq-eqb s s refl, new_at line.subs s new (omega (arith, is.due.size))) clean.next
+      | inr other ↦ rw (other_at line.subs s q new other (grind (arith, is.due.size, valid.each_link k (link_plan_at [] 0) inside)), ne_eqb q s other) (is.awaiting q within)
     ]
 
     firsts : (q : ℕ) → q < (link_plan_at plan.links k).sub_vls → IsPrefixOf (told (sub_stream q es)) (lefts q)

@@ -183,7 +183,7 @@ link_taken plan k origin options nearness link tag e es rest valid inside long i
     before = given_up setting tag number link
 
     new : Line
-    new = line_after setting.measure port (arrived tag e.frame) (line_on tag.net before)
+    new = line_after setting.measure port (arrived setting.measure tag port e.frame (line_on tag.net before)) (line_on tag.net before)
 
     new_line : IsLine plan k tag.net origin options.jitter new es
     new_line = rw (line_given_up setting tag number link tag.net) line.after

@@ -21,7 +21,7 @@ use Rattle.judge.specs.Types.{Link, Nearness, Tag, Times}
 use Rattle.judge.specs.declared.finding.Finding.{Finding}
 use Rattle.judge.specs.declared.options.Options.{Options}
 use Rattle.judge_laws.specs.NoFalseAlarm.{AreFit, IsMissing, IsRecord, packets_of}
-use Rattle.judge_laws.proofs.Line.{IsLine, port_at}
+use Rattle.judge_laws.proofs.Line.{IsLine, of_profile, port_at}
 use Rattle.judge_laws.proofs.Link.{AreCopies, IsLinkOf, IsLinkTaken, link_taken, rest_after}
 use Rattle.judge_laws.proofs.Numbers.{IsDelayed}
 use Rattle.judge_laws.proofs.Waits.{missing_at_end}
@@ -29,7 +29,7 @@ use Rattle.judge_laws.proofs.Waits.{missing_at_end}
 -- the judge of a plan
 abbrev pub judge_of : Plan → Options → Times → Bool → List Link → Judging
 judge_of plan options times told links =
-    record { plan = plan; options = options; times = times; told = told; links = links }
+    record { plan = plan; options = of_profile options; times = times; told = told; links = links }
 
 abbrev pub id_of : Plan → ℕ → ℕ
 id_of plan k = (link_plan_at plan.links k).id.0
@@ -87,7 +87,7 @@ vl_of number = record { 0 = number }
 -- ---- a packet
 
 admitted_is : (plan : Plan) (options : Options) (times : Times) (told : Bool) (links : List Link) (net : Net) (packet : Recorded)
-    (frame : List ℕ) (k : ℕ) → frame_in options.fcs packet ≡ Ok frame → place_of plan net frame ≡ Ok k
+    (frame : List ℕ) (k : ℕ) → frame_in (of_profile options) packet ≡ Ok frame → place_of plan net frame ≡ Ok k
     → admitted net packet (judge_of plan options times told links) ≡ Ok (record { place = k; frame = frame })
 unfolding admitted
 admitted_is plan options times told links net packet frame k is placed = rw (is, placed) refl
@@ -97,7 +97,7 @@ new_links plan options times told links k tag frame = slice_set links k
     (link_after (setting_of (judge_of plan options times told links) k) tag (port_at plan k frame) frame (link_at links k))
 
 after_is : (plan : Plan) (options : Options) (times : Times) (told : Bool) (links : List Link) (net : Net) (number at : ℕ)
-    (packet : Recorded) (frame : List ℕ) (k : ℕ) → packet.at ≡ Some at → frame_in options.fcs packet ≡ Ok frame → place_of plan net frame ≡ Ok k
+    (packet : Recorded) (frame : List ℕ) (k : ℕ) → packet.at ≡ Some at → frame_in (of_profile options) packet ≡ Ok frame → place_of plan net frame ≡ Ok k
     → after_packet net number packet (judge_of plan options times told links)
     ≡ judge_of plan options (times_with at times) told
     (new_links plan options (times_with at times) told links k (tag_of net number at) frame)
@@ -107,7 +107,7 @@ after_is plan options times told links net number at packet frame k timed is pla
     ∙ rw (admitted_is plan options (times_with at times) told links net packet frame k is placed) refl
 
 found_is : (plan : Plan) (options : Options) (times : Times) (told : Bool) (links : List Link) (net : Net) (number at : ℕ)
-    (packet : Recorded) (frame : List ℕ) (k : ℕ) (found : List Finding) → packet.at ≡ Some at → frame_in options.fcs packet ≡ Ok frame
+    (packet : Recorded) (frame : List ℕ) (k : ℕ) (found : List Finding) → packet.at ≡ Some at → frame_in (of_profile options) packet ≡ Ok frame
     → place_of plan net frame ≡ Ok k
     → found_with_packet net number packet (judge_of plan options times told links) found
     ≡ found_on_link (setting_of (judge_of plan options (times_with at times) told links) k) (tag_of net number at) (port_at plan k frame) frame
@@ -120,10 +120,10 @@ found_is plan options times told links net number at packet frame k found timed 
 -- ---- a recording
 
 new_at : (links : List Link) (k : ℕ) (new : Link) → k < length links → link_at (slice_set links k new) k ≡ new
-new_at links k new inside = get_or-set_same links k new (new_link false) inside
+new_at links k new inside = get_or-set_same links k new (new_link false false) inside
 
 other_at : (links : List Link) (k j : ℕ) (new : Link) → j ≢ k → link_at (slice_set links k new) j ≡ link_at links j
-other_at links k j new other = get_or-set_other links k j new (new_link false) other
+other_at links k j new other = get_or-set_other links k j new (new_link false false) other
 
 pub record IsPacketTaken (plan : Plan) (origin : ℕ) (options : Options) (times : Times) (told : Bool) (links : List Link)
     (net : Net) (number : ℕ) (packet : Recorded) (es : List Entry) (rest : Net → List Entry) : Type 0 where
@@ -169,8 +169,8 @@ packet_taken plan origin options times told links net number packet e es rest va
         (ap (link_stream (id_of plan k)) next ∙ stream_next (id_of plan k) e es know.link)
         (record { least = record_of.least; most = record_of.most })
 
-    frame : frame_in options.fcs packet ≡ Ok e.frame
-    frame = rw fit.fcs (taken.line.clean.admitted packet record_of.bytes (record_of.whole ∙ ap length record_of.bytes))
+    frame : frame_in (of_profile options) packet ≡ Ok e.frame
+    frame = (taken.line.clean.admitted (of_profile options) packet refl fit.fcs record_of.bytes (record_of.whole ∙ ap length record_of.bytes))
 
     link : Link
     link = link_after (setting_of (judge_of plan options (times_with record_of.at times) told links) k) tag (port_at plan k e.frame) e.frame

@@ -42,9 +42,10 @@ pub record IsRecording (origin jitter : ℕ) (a b : List Entry) (recording : Lis
   pub of_a : AllZip (IsRecord origin jitter) a (packets_of A recording)
   pub of_b : AllZip (IsRecord origin jitter) b (packets_of B recording)
 
--- Frames are recorded without their check sequence. The jitter is at most each gap. No twin can be mistaken: a number
--- comes again after 255 gaps.
+-- The judge expects what this project sends, and frames without their check sequence. The jitter is at most each gap.
+-- No twin can be mistaken: a number comes again after 255 gaps.
 pub record AreFit (plan : Plan) (options : Options) : Type 0 where
+  pub profile : options.arinc ≡ false
   pub fcs : options.fcs ≡ false
   pub jitter : (k : ℕ) → k < length plan.links → options.jitter ≤ bag_micros (link_plan_at plan.links k).bag
   pub skew : (k : ℕ) → k < length plan.links → is_both (link_plan_at plan.links k).networks ≡ true
