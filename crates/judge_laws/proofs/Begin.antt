@@ -1,34 +1,36 @@
 -- A judge before the first packet of a recording, and the law: of what was sent legally it finds nothing but missing twins.
-use Rattle.std.proofs.Common.{ℕ, ◌≡◌, suc, zero, ◌+◌, ◌*◌, ◌<◌, ◌≤◌, Bool, true, false, List, [], ◌∷◌, length, map, take, get_or, replicate, Option, None, arith, refl, sym, subst, ap, ◌∙◌, inl, inr}
+use Rattle.std.proofs.Common.{append_assoc, ℕ, ◌≡◌, ◌++◌, Some, suc, zero, ◌+◌, ◌*◌, ◌<◌, ◌≤◌, Bool, true, false, List, [], ◌∷◌, length, map, take, get_or, replicate, Option, None, arith, refl, sym, subst, ap, ◌∙◌, inl, inr}
 use Rattle.std.specs.Prelude.{All, filter, nat_eq}
 use Rattle.std.specs.List.{AllZip}
 use Rattle.std.proofs.lemmas.Bool.{cases_Bool, cases_lt, eqb-true}
 use Rattle.std.proofs.lemmas.Bool.Decides.{nat_tests}
-use Rattle.std.proofs.lemmas.List.{get_or-replicate, get_or_default, length-replicate}
-use Rattle.std.proofs.lemmas.List.Elements.{All-filter, All-nil, All-weaker}
+use Rattle.std.proofs.lemmas.List.{get_or-replicate, get_or_default, length-replicate, map-append}
+use Rattle.std.proofs.lemmas.List.Elements.{All-filter, All-nil, All-tail, All-weaker}
 use Rattle.afdx_plan.specs.Config.{Plan, IsPlan, link_plan_at}
+use Rattle.afdx_plan.specs.declared.link_plan.LinkPlan.{LinkPlan}
+use Rattle.vl_shaper.specs.declared.shaper.Stamp.{Stamp}
 use Rattle.afdx_plan.specs.Plan.{bag_micros, is_both, room_of}
 use Rattle.afdx_frame.proofs.Twins.{twin_same}
-use Rattle.afdx_frame.specs.Fragments.{fragments}
-use Rattle.afdx_frame.specs.Header.{link_in}
+use Rattle.afdx_frame.specs.Fragments.{Sent, blanked, fragments}
+use Rattle.afdx_frame.specs.Header.{link_in, sub_in}
 use Rattle.afdx_frame.specs.declared.net.Net.{Net}
 use Rattle.afdx_frame.specs.declared.net.Net.TheVariants.{A, B}
 use Rattle.redundant_mux.specs.Lines.{Entry, entry, side}
-use Rattle.afdx_legal.proofs.StreamLemmas.{known_all, on_both_is}
-use Rattle.afdx_legal.specs.Accepted.{AreAllowed}
+use Rattle.afdx_legal.proofs.StreamLemmas.{known_all, on_both_is, with_append}
+use Rattle.afdx_legal.specs.Accepted.{AreAllowed, IsAllowed}
 use Rattle.afdx_legal.specs.Legal.{Accepted, AreKnown, AreTwins, IsKnown, IsLegalOn, is_on_both, on_both}
-use Rattle.afdx_legal.specs.Streams.{TakesTurns, TakeTurnsOn, link_stream}
+use Rattle.afdx_legal.specs.Streams.{IsNumbered, IsSpaced, TakesTurns, TakeTurnsOn, entry_number, latest, link_stream, stamp_of, sub_stream, told}
 use Rattle.afdx_laws.proofs.LegalLinks.{stream_front}
 use Rattle.judge.specs.Judging.{OnNet, findings, line_on, link_at, new_link, no_times}
 use Rattle.judge.specs.Lines.{new_line, new_sub, sub_at}
 use Rattle.judge.specs.Types.{Line, Link, Sub}
 use Rattle.judge.specs.declared.finding.Finding.{Finding}
 use Rattle.judge.specs.declared.options.Options.{Options}
-use Rattle.judge_laws.specs.NoFalseAlarm.{AreFit, IsMissing, IsRecord, IsRecording, IsSent, NoFalseAlarm, packets_of}
+use Rattle.judge_laws.specs.NoFalseAlarm.{AreFit, IsMissing, IsRecording, IsRunOf, IsSent, NoFalseAlarm, packets_of}
 use Rattle.judge_laws.proofs.Copies.{IsCopy, IsStream, all_copies}
-use Rattle.judge_laws.proofs.Line.{IsLine, of_profile}
+use Rattle.judge_laws.proofs.Line.{IsAhead, IsLine, of_profile}
 use Rattle.judge_laws.proofs.Link.{AreCopies, IsLinkOf}
-use Rattle.judge_laws.proofs.Pieces.{IsAwaiting, awaits_all}
+use Rattle.judge_laws.proofs.Pieces.{IsAwaiting, awaits_all, awaits_late}
 use Rattle.judge_laws.proofs.Recording.{IsGoing, goes_on, id_of, rest_of}
 use Rattle.judge_laws.proofs.Turns.{AreDue, own_sub}
 use Rattle.judge_laws.proofs.Waits.{IsWait}
@@ -65,24 +67,82 @@ none_due late rest = record {
   passed = λ p q is. absurd (cc (is, new_due late p));
 }
 
-line_begins : (plan : Plan) (accepted : Accepted) (k origin jitter : ℕ) (net : Net) (late : Bool) (handed : List Entry) → IsPlan plan
-    → k < length plan.links → IsLegalOn plan accepted net handed → AreAllowed plan accepted
-    → TakesTurns (link_stream (id_of plan k) handed) → IsLine plan k net origin jitter (new_line late false) (link_stream (id_of plan k) handed)
-line_begins plan accepted k origin jitter net late handed valid inside legal allowed turns = record {
-  place = 0;
-  before = None;
-  last = refl;
-  numbered = legal.numbered k inside;
-  spaced = legal.spaced k inside;
-  turns = turns;
-  due = none_due late (link_stream (id_of plan k) handed);
-  carried = legal.carried k inside;
-  left = λ s. fragments plan.end_system (room_of (link_plan_at plan.links k).lmax) net (accepted k s);
-  awaiting = λ s index.
-      let few : s < 4 = grind (arith, valid.each_link k (link_plan_at [] 0) inside) in
-      rw (new_joining late s few) (awaits_all plan k s net late (accepted k s) valid inside index (allowed k s inside index));
-  first = λ s index. legal.prefixes k s inside index;
+-- what is known of a sub-VL whose fragments `left` are to come
+awaits : (plan : Plan) (k s : ℕ) (net : Net) (late : Bool) (accepted : List Sent) (before left : List (List ℕ)) → IsPlan plan
+    → k < length plan.links → s < (link_plan_at plan.links k).sub_vls → All (IsAllowed plan k s) accepted
+    → fragments plan.end_system (room_of (link_plan_at plan.links k).lmax) net accepted ≡ before ++ left
+    → (late ≡ false → before ≡ []) → IsAwaiting plan k s net (new_sub late false s).joining left
+awaits plan k s net true accepted before left valid inside index allowed are first =
+    awaits_late plan k s net accepted before left valid inside index allowed are
+awaits plan k s net false accepted before left valid inside index allowed are first =
+    subst (IsAwaiting plan k s net (new_sub false false s).joining) (are ∙ rw (first refl) refl)
+    (awaits_all plan k s net accepted valid inside index allowed)
+
+-- a list is numbered, spaced and in turn from a place on
+numbered_on : (i : ℕ) (xs ys : List Entry) → IsNumbered entry_number i (xs ++ ys) → IsNumbered entry_number (i + length xs) ys
+numbered_on i [] ys numbered = subst (λ n. IsNumbered entry_number n ys) (omega arith) numbered
+numbered_on i (x ∷ xs) ys numbered = subst (λ n. IsNumbered entry_number n ys) (omega arith) (numbered_on (i + 1) xs ys numbered.1)
+
+spaced_on : (gap : ℕ) (before : Option Stamp) (xs ys : List Entry) → IsSpaced gap before (xs ++ ys) → IsSpaced gap (latest before xs) ys
+spaced_on gap before [] ys spaced = spaced
+spaced_on gap before (x ∷ xs) ys spaced = spaced_on gap (Some (stamp_of x)) xs ys spaced.1
+
+turns_on : (xs ys : List Entry) → TakesTurns (xs ++ ys) → TakesTurns ys
+turns_on [] ys turns = turns
+turns_on (x ∷ xs) ys turns = turns_on xs ys turns.1
+
+known_on : (links : List LinkPlan) (net : Net) (xs ys : List Entry) → AreKnown links net (xs ++ ys) → AreKnown links net ys
+known_on links net [] ys known = known
+known_on links net (x ∷ xs) ys known = known_on links net xs ys known.1
+
+told_both : (s : ℕ) (xs ys : List Entry) → told (sub_stream s (xs ++ ys)) ≡ told (sub_stream s xs) ++ told (sub_stream s ys)
+told_both s xs ys = rw (with_append (λ (e : Entry). sub_in e.frame) s xs ys) (map-append (λ (e : Entry). blanked e.frame) _ _)
+
+all_on : {X : Type 0} (P : X → Type 0) (xs ys : List X) → All P (xs ++ ys) → All P ys
+all_on P [] ys all = all
+all_on P (x ∷ xs) ys all = all_on P xs ys (All-tail P x (xs ++ ys) all)
+
+none_left : (xs ys : List Entry) → xs ++ ys ≡ [] → ys ≡ []
+none_left [] ys none = none
+none_left (x ∷ xs) ys none = absurd (cc)
+
+line_begins : (plan : Plan) (accepted : Accepted) (k origin : ℕ) (options : Options) (net : Net) (before rest : List Entry) → IsPlan plan
+    → k < length plan.links → IsLegalOn plan accepted net (before ++ rest) → AreAllowed plan accepted
+    → TakesTurns (link_stream (id_of plan k) (before ++ rest)) → (options.late ≡ false → before ≡ [])
+    → IsLine plan k net origin options (new_line options.late false) (link_stream (id_of plan k) rest)
+line_begins plan accepted k origin options net before rest valid inside legal allowed turns first = record {
+  place = 0 + length sent;
+  before = latest None sent;
+  last = λ early. rw (first early) refl;
+  numbered = numbered_on 0 sent own (rw split at (legal.numbered k inside));
+  spaced = spaced_on (bag_micros (link_plan_at plan.links k).bag) None sent own (rw split at (legal.spaced k inside));
+  turns = turns_on sent own (rw split at turns);
+  due = none_due options.late own;
+  carried = λ isnt. none_left sent own (rw split at (legal.carried k inside isnt));
+  pieces = λ s index. rw (new_joining options.late s (grind (arith, valid.each_link k (link_plan_at [] 0) inside))) (pieces s index);
 }
+  where
+    vl : ℕ
+    vl = id_of plan k
+
+    sent : List Entry
+    sent = link_stream vl before
+
+    own : List Entry
+    own = link_stream vl rest
+
+    split : link_stream vl (before ++ rest) ≡ sent ++ own
+    split = with_append (λ (e : Entry). link_in e.frame) vl before rest
+
+    pieces : (s : ℕ) → s < (link_plan_at plan.links k).sub_vls → IsAhead plan k s net (new_sub options.late false s).joining own
+    pieces s index =
+        let all = legal.prefixes k s inside index in
+        record {
+          left = told (sub_stream s own) ++ all.0;
+          awaiting = awaits plan k s net options.late (accepted k s) (told (sub_stream s sent)) (told (sub_stream s own) ++ all.0)
+              valid inside index (allowed k s inside index) (sym all.1 ∙ rw (split, told_both s sent own, append_assoc) refl) (λ early. rw (first early) refl);
+          first = (all.0, refl);
+        }
 
 -- ---- the streams of a link on both networks
 
@@ -138,70 +198,89 @@ handed_to : (a b : List Entry) → Net → List Entry
 handed_to a b A = a
 handed_to a b B = b
 
-copies_begin : (plan : Plan) (accepted : Accepted) (a b : List Entry) (k origin jitter : ℕ) (late : Bool) → IsSent plan accepted a b
-    → k < length plan.links → is_both (link_plan_at plan.links k).networks ≡ true
-    → AreCopies (bag_micros (link_plan_at plan.links k).bag) origin jitter (new_link late false) (rest_of plan k (handed_to a b))
+legal_on : (plan : Plan) (accepted : Accepted) (a b : List Entry) → IsSent plan accepted a b → (net : Net)
+    → IsLegalOn plan accepted net (handed_to a b net)
 unfolding handed_to
-copies_begin plan accepted a b k origin jitter late sent inside both =
+legal_on plan accepted a b sent A = sent.legal.on_a
+legal_on plan accepted a b sent B = sent.legal.on_b
+
+turns_of : (plan : Plan) (accepted : Accepted) (a b : List Entry) → IsSent plan accepted a b → (net : Net)
+    → TakeTurnsOn plan (handed_to a b net)
+unfolding handed_to
+turns_of plan accepted a b sent A = sent.turns.on_a
+turns_of plan accepted a b sent B = sent.turns.on_b
+
+-- the stream of a link on both networks, of which what each was sent are copies
+record IsOwnStream (plan : Plan) (k : ℕ) (a b : List Entry) : Type 0 where
+  stream : List Entry
+  is : IsStream (bag_micros (link_plan_at plan.links k).bag) stream
+  copies : (net : Net) → All (IsCopy stream net) (link_stream (id_of plan k) (handed_to a b net))
+
+own_stream : (plan : Plan) (accepted : Accepted) (a b : List Entry) (k : ℕ) → IsSent plan accepted a b
+    → k < length plan.links → is_both (link_plan_at plan.links k).networks ≡ true → IsOwnStream plan k a b
+unfolding handed_to
+own_stream plan accepted a b k sent inside both =
     elim (cases_lt (length (on_both plan.links a)) (length (on_both plan.links b))) [
       | inl shorter ↦
           let is = both_copies plan accepted k B A b a sent.valid inside both sent.legal.on_b (sent.legal.twins.a_shorter (omega arith)) in
-          record {
-            stream = link_stream (id_of plan k) b;
-            is_stream = is.stream;
-            copies = each (link_stream (id_of plan k) b) is.other is.own;
-            waits = All-nil (IsWait origin jitter (link_stream (id_of plan k) b));
-          }
+          record { stream = link_stream (id_of plan k) b; is = is.stream; copies = each (link_stream (id_of plan k) b) is.other is.own }
       | inr longer ↦
           let is = both_copies plan accepted k A B a b sent.valid inside both sent.legal.on_a (sent.legal.twins.b_shorter longer) in
-          record {
-            stream = link_stream (id_of plan k) a;
-            is_stream = is.stream;
-            copies = each (link_stream (id_of plan k) a) is.own is.other;
-            waits = All-nil (IsWait origin jitter (link_stream (id_of plan k) a));
-          }
+          record { stream = link_stream (id_of plan k) a; is = is.stream; copies = each (link_stream (id_of plan k) a) is.own is.other }
     ]
   where
     each : (stream : List Entry) → All (IsCopy stream A) (link_stream (id_of plan k) a) → All (IsCopy stream B) (link_stream (id_of plan k) b)
-        → (net : Net) → All (IsCopy stream net) (rest_of plan k (handed_to a b) net)
+        → (net : Net) → All (IsCopy stream net) (link_stream (id_of plan k) (handed_to a b net))
     each stream on_a on_b A = on_a
     each stream on_a on_b B = on_b
-
-lines_begin : (plan : Plan) (accepted : Accepted) (a b : List Entry) (k origin jitter : ℕ) (late : Bool) (net : Net)
-    → IsSent plan accepted a b → k < length plan.links
-    → IsLine plan k net origin jitter (line_on net (new_link late false)) (rest_of plan k (handed_to a b) net)
-unfolding handed_to
-lines_begin plan accepted a b k origin jitter late A sent inside =
-    line_begins plan accepted k origin jitter A late a sent.valid inside sent.legal.on_a sent.allowed (sent.turns.on_a k inside)
-lines_begin plan accepted a b k origin jitter late B sent inside =
-    line_begins plan accepted k origin jitter B late b sent.valid inside sent.legal.on_b sent.allowed (sent.turns.on_b k inside)
-
-known_begin : (plan : Plan) (accepted : Accepted) (a b : List Entry) → IsSent plan accepted a b → (net : Net)
-    → AreKnown plan.links net (handed_to a b net)
-unfolding handed_to
-known_begin plan accepted a b sent A = sent.legal.on_a.known
-known_begin plan accepted a b sent B = sent.legal.on_b.known
-
-begins : (plan : Plan) (accepted : Accepted) (a b : List Entry) (origin : ℕ) (options : Options) → IsSent plan accepted a b
-    → IsGoing plan origin options (replicate (length plan.links) (new_link options.late false)) (handed_to a b)
-begins plan accepted a b origin options sent = record {
-  size = length-replicate (length plan.links) (new_link options.late false);
-  known = known_begin plan accepted a b sent;
-  each = λ k inside. rw (get_or-replicate (length plan.links) k (new_link options.late false) (new_link false false) inside) (record {
-    lines = λ net. lines_begin plan accepted a b k origin options.jitter options.late net sent inside;
-    twins = λ both. copies_begin plan accepted a b k origin options.jitter options.late sent inside both;
-  });
-}
 
 pub no_false_alarm_holds : NoFalseAlarm
 unfolding handed_to
 no_false_alarm_holds plan accepted a b options origin recording sent fit recorded =
-    subst (λ o. All IsMissing (findings plan o recording)) (sym own) (goes_on plan origin options no_times false (replicate (length plan.links) (new_link options.late false)) recording (handed_to a b) []
-    sent.valid fit (begins plan accepted a b origin options sent) (λ net. by net) (All-nil IsMissing))
+    subst (λ o. All IsMissing (findings plan o recording)) (sym own) (goes_on plan origin options no_times false
+    (replicate (length plan.links) (new_link options.late false)) recording rest [] sent.valid fit begins
+    (λ net. record { recorded = (run net).recorded; after = (run net).after; whole = refl; each = (run net).each }) (All-nil IsMissing))
   where
     own : options ≡ of_profile options
     own = ap (λ (arinc : Bool). let o : Options = record options { arinc = arinc } in o) fit.profile
 
-    by : (net : Net) → AllZip (IsRecord origin options.jitter) (handed_to a b net) (packets_of net recording)
-    by A = recorded.of_a
-    by B = recorded.of_b
+    run : (net : Net) → IsRunOf origin options (handed_to a b net) (packets_of net recording)
+    run A = recorded.of_a
+    run B = recorded.of_b
+
+    rest : Net → List Entry
+    rest net = (run net).recorded ++ (run net).after
+
+    legal : (net : Net) → IsLegalOn plan accepted net ((run net).before ++ rest net)
+    legal net = subst (IsLegalOn plan accepted net) (run net).whole (legal_on plan accepted a b sent net)
+
+    lines : (k : ℕ) → k < length plan.links → (net : Net)
+        → IsLine plan k net origin options (new_line options.late false) (rest_of plan k rest net)
+    lines k inside net = line_begins plan accepted k origin options net (run net).before (rest net) sent.valid inside (legal net) sent.allowed
+        (subst (TakeTurnsOn plan) (run net).whole (turns_of plan accepted a b sent net) k inside) (run net).first
+
+    twins : (k : ℕ) → k < length plan.links → is_both (link_plan_at plan.links k).networks ≡ true
+        → AreCopies (bag_micros (link_plan_at plan.links k).bag) origin options.jitter (new_link options.late false) (rest_of plan k rest)
+    twins k inside both =
+        let owns = own_stream plan accepted a b k sent inside both in
+        record {
+          stream = owns.stream;
+          is_stream = owns.is;
+          copies = λ net. all_on (IsCopy owns.stream net) (link_stream (id_of plan k) (run net).before) (rest_of plan k rest net)
+              (subst (All (IsCopy owns.stream net)) (ap (link_stream (id_of plan k)) (run net).whole
+              ∙ with_append (λ (e : Entry). link_in e.frame) (id_of plan k) (run net).before (rest net)) (owns.copies net));
+          waits = All-nil (IsWait origin options.jitter owns.stream);
+        }
+
+    link_lines : (k : ℕ) → k < length plan.links → (net : Net)
+        → IsLine plan k net origin options (line_on net (new_link options.late false)) (rest_of plan k rest net)
+    link_lines k inside A = lines k inside A
+    link_lines k inside B = lines k inside B
+
+    begins : IsGoing plan origin options (replicate (length plan.links) (new_link options.late false)) rest
+    begins = record {
+      size = length-replicate (length plan.links) (new_link options.late false);
+      known = λ net. known_on plan.links net (run net).before (rest net) (legal net).known;
+      each = λ k inside. rw (get_or-replicate (length plan.links) k (new_link options.late false) (new_link false false) inside)
+          (record { lines = link_lines k inside; twins = twins k inside });
+    }

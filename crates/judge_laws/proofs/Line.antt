@@ -17,25 +17,28 @@ use Rattle.judge.specs.Fields.{fields_of}
 use Rattle.judge.specs.Joining.{end_deviation, fragment_deviation, head_now, joined}
 use Rattle.judge.specs.Judging.{arrived, first_port, measure_of}
 use Rattle.judge.specs.Lines.{early_deviation, figures_with, line_after, line_with, number_deviation, port_deviation, settled, sub_at, turn_deviation, verdict, sub_in as judge_sub}
-use Rattle.judge.specs.Types.{Arrived, Line, Measure, Sub, Tag, Verdict}
+use Rattle.judge.specs.Types.{Arrived, Joining, Line, Measure, Sub, Tag, Verdict}
 use Rattle.judge.specs.declared.options.Options.{Options}
 use Rattle.judge_laws.proofs.Numbers.{IsDelayed, IsLast, none_early, number_fits}
 use Rattle.judge_laws.proofs.Pieces.{IsAwaiting, IsClean, one_frame}
 use Rattle.judge_laws.proofs.Turns.{AreDue, due_after, new_at, none_passed, other_at}
 
-pub record IsLine (plan : Plan) (k : ℕ) (net : Net) (origin jitter : ℕ) (line : Line) (rest : List Entry) : Type 0 where
+-- the frames of a sub-VL are the first of the fragments that are left of its messages
+pub record IsAhead (plan : Plan) (k s : ℕ) (net : Net) (joining : Joining) (rest : List Entry) : Type 0 where
+  pub left : List (List ℕ)
+  pub awaiting : IsAwaiting plan k s net joining left
+  pub first : IsPrefixOf (told (sub_stream s rest)) left
+
+pub record IsLine (plan : Plan) (k : ℕ) (net : Net) (origin : ℕ) (options : Options) (line : Line) (rest : List Entry) : Type 0 where
   pub place : ℕ
   pub before : Option Stamp
-  pub last : IsLast origin jitter place before line.last
+  pub last : IsLast origin options.jitter options.late place before line.last
   pub numbered : IsNumbered entry_number place rest
   pub spaced : IsSpaced (bag_micros (link_plan_at plan.links k).bag) before rest
   pub turns : TakesTurns rest
   pub due : AreDue line.subs line.figures.frames rest
   pub carried : names net (link_plan_at plan.links k).networks ≡ false → rest ≡ []
-  pub left : ℕ → List (List ℕ)
-  pub awaiting : (s : ℕ) → s < (link_plan_at plan.links k).sub_vls
-      → IsAwaiting plan k s net (sub_at line.subs s).joining (left s)
-  pub first : (s : ℕ) → s < (link_plan_at plan.links k).sub_vls → IsPrefixOf (told (sub_stream s rest)) (left s)
+  pub pieces : (s : ℕ) → s < (link_plan_at plan.links k).sub_vls → IsAhead plan k s net (sub_at line.subs s).joining rest
 
 -- nothing is wrong with a frame
 abbrev pub faultless : Verdict
@@ -106,12 +109,12 @@ pub record IsTaken (plan : Plan) (k : ℕ) (net : Net) (origin : ℕ) (options :
   pub left : List (List ℕ)
   pub clean : IsClean plan k (sub_in e.frame) net (sub_at line.subs (sub_in e.frame)).joining e.frame left
   pub wrong : verdict (measure_at plan k options) (port_at plan k e.frame) (arrived (measure_at plan k options) tag (port_at plan k e.frame) e.frame line) line ≡ faultless
-  pub after : IsLine plan k net origin options.jitter
+  pub after : IsLine plan k net origin options
       (line_after (measure_at plan k options) (port_at plan k e.frame) (arrived (measure_at plan k options) tag (port_at plan k e.frame) e.frame line) line) es
 
-named : (plan : Plan) (k : ℕ) (net : Net) (origin jitter : ℕ) (line : Line) (e : Entry) (es : List Entry)
-    → IsLine plan k net origin jitter line (e ∷ es) → names net (link_plan_at plan.links k).networks ≡ true
-named plan k net origin jitter line e es is = elim (cases_Bool (names net (link_plan_at plan.links k).networks)) [
+named : (plan : Plan) (k : ℕ) (net : Net) (origin : ℕ) (options : Options) (line : Line) (e : Entry) (es : List Entry)
+    → IsLine plan k net origin options line (e ∷ es) → names net (link_plan_at plan.links k).networks ≡ true
+named plan k net origin options line e es is = elim (cases_Bool (names net (link_plan_at plan.links k).networks)) [
   | inl is_named ↦ is_named
   | inr isnt ↦ absurd (cc (is.carried isnt))
 ]
@@ -124,14 +127,14 @@ next_left s e es left its p = grind (arith, told_next s e es its, p.1)
 pub line_taken : (plan : Plan) (k : ℕ) (net : Net) (origin : ℕ) (options : Options) (line : Line) (tag : Tag) (e : Entry)
     (es : List Entry) → IsPlan plan → k < length plan.links → 60 ≤ length e.frame
     → sub_in e.frame < (link_plan_at plan.links k).sub_vls → options.jitter ≤ bag_micros (link_plan_at plan.links k).bag
-    → IsLine plan k net origin options.jitter line (e ∷ es) → IsDelayed origin options.jitter e.at tag.at
+    → IsLine plan k net origin options line (e ∷ es) → IsDelayed origin options.jitter e.at tag.at
     → IsTaken plan k net origin options line tag e es
 line_taken plan k net origin options line tag e es valid inside long index fit is delayed = record {
   left = left;
   clean = clean;
   wrong = right_verdict measure port come line its;
   after = rw (right_after measure port come line its)
-      (subst (λ q. IsLine plan k net origin options.jitter (line_of port come line q) es) (sym clean.of_sub) after);
+      (subst (λ q. IsLine plan k net origin options (line_of port come line q) es) (sym clean.of_sub) after);
 }
   where
     s : ℕ
@@ -146,12 +149,15 @@ line_taken plan k net origin options line tag e es valid inside long index fit i
     come : Arrived
     come = arrived measure tag port e.frame line
 
+    ahead : IsAhead plan k s net (sub_at line.subs s).joining (e ∷ es)
+    ahead = is.pieces s index
+
     left : List (List ℕ)
-    left = told (sub_stream s es) ++ (is.first s index).0
+    left = told (sub_stream s es) ++ ahead.first.0
 
     clean : IsClean plan k s net (sub_at line.subs s).joining e.frame left
-    clean = one_frame plan k s net (sub_at line.subs s).joining e.frame left valid inside (named plan k net origin options.jitter line e es is)
-        index long (rw (next_left s e es (is.left s) refl (is.first s index)) at (is.awaiting s index))
+    clean = one_frame plan k s net (sub_at line.subs s).joining e.frame left valid inside (named plan k net origin options line e es is)
+        index long (rw (next_left s e es ahead.left refl ahead.first) at ahead.awaiting)
 
     four : s < 4
     four = grind (arith, valid.each_link k (link_plan_at [] 0) inside)
@@ -161,7 +167,7 @@ line_taken plan k net origin options line tag e es valid inside long index fit i
       profile = refl;
       number = number_fits origin options.jitter is.place (fields_of e.frame).number is.before options.late line.last is.last
           (clean.number ∙ is.numbered.0);
-      early = none_early origin options.jitter (bag_micros (link_plan_at plan.links k).bag) is.place e.at tag.at is.before line.last
+      early = none_early origin options.jitter (bag_micros (link_plan_at plan.links k).bag) is.place e.at tag.at options.late is.before line.last
           fit is.last is.spaced.0 delayed;
       of_port = clean.port;
       fits = clean.fits;
@@ -175,23 +181,19 @@ line_taken plan k net origin options line tag e es valid inside long index fit i
     new : Sub
     new = sub_of port come line s
 
-    lefts : ℕ → List (List ℕ)
-    lefts q = if nat_eq q s then left else is.left q
-
-    awaits : (q : ℕ) → q < (link_plan_at plan.links k).sub_vls
-        → IsAwaiting plan k q net (sub_at (slice_set line.subs s new) q).joining (lefts q)
-    awaits q within = elim (cases_eq q s) [
-      | inl same ↦ rw (same, eq-eqb s s refl, new_at line.subs s new (omega (arith, is.due.size))) clean.next
-      | inr other ↦ rw (other_at line.subs s q new other (grind (arith, is.due.size, valid.each_link k (link_plan_at [] 0) inside)), ne_eqb q s other) (is.awaiting q within)
+    pieces : (q : ℕ) → q < (link_plan_at plan.links k).sub_vls → IsAhead plan k q net (sub_at (slice_set line.subs s new) q).joining es
+    pieces q within = elim (cases_eq q s) [
+      | inl same ↦ rw (same, new_at line.subs s new (omega (arith, is.due.size)))
+          (record { left = left; awaiting = clean.next; first = (ahead.first.0, refl) })
+      | inr other ↦ rw (other_at line.subs s q new other (grind (arith, is.due.size, valid.each_link k (link_plan_at [] 0) inside)))
+          (record {
+            left = (is.pieces q within).left;
+            awaiting = (is.pieces q within).awaiting;
+            first = rw (told_later q e es (λ its. other (sym its))) at (is.pieces q within).first;
+          })
     ]
 
-    firsts : (q : ℕ) → q < (link_plan_at plan.links k).sub_vls → IsPrefixOf (told (sub_stream q es)) (lefts q)
-    firsts q within = elim (cases_eq q s) [
-      | inl same ↦ rw (same, eq-eqb s s refl) ((is.first s index).0, refl)
-      | inr other ↦ rw (ne_eqb q s other, ← told_later q e es (λ its. other (sym its))) (is.first q within)
-    ]
-
-    after : IsLine plan k net origin options.jitter (line_of port come line s) es
+    after : IsLine plan k net origin options (line_of port come line s) es
     after = record {
       place = is.place + 1;
       before = Some (stamp_of e);
@@ -207,8 +209,6 @@ line_taken plan k net origin options line tag e es valid inside long index fit i
       spaced = is.spaced.1;
       turns = is.turns.1;
       due = due_after line.subs line.figures.frames e es s new is.due four refl refl clean.more is.turns.0;
-      carried = λ isnt. absurd (cc (isnt, named plan k net origin options.jitter line e es is));
-      left = lefts;
-      awaiting = awaits;
-      first = firsts;
+      carried = λ isnt. absurd (cc (isnt, named plan k net origin options line e es is));
+      pieces = pieces;
     }

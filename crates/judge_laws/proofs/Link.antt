@@ -39,7 +39,7 @@ pub record AreCopies (gap origin jitter : ℕ) (link : Link) (rest : Net → Lis
   pub waits : All (IsWait origin jitter stream) link.twins.waiting
 
 pub record IsLinkOf (plan : Plan) (k origin : ℕ) (options : Options) (link : Link) (rest : Net → List Entry) : Type 0 where
-  pub lines : (net : Net) → IsLine plan k net origin options.jitter (line_on net link) (rest net)
+  pub lines : (net : Net) → IsLine plan k net origin options (line_on net link) (rest net)
   pub twins : is_both (link_plan_at plan.links k).networks ≡ true
       → AreCopies (bag_micros (link_plan_at plan.links k).bag) origin options.jitter link rest
 
@@ -77,13 +77,13 @@ twins_with_line : (net : Net) (line : Line) (link : Link) → (with_line net lin
 twins_with_line A line link = refl
 twins_with_line B line link = refl
 
-lines_after : (plan : Plan) (k origin jitter : ℕ) (link : Link) (new : Line) (rest : Net → List Entry) (es : List Entry) (n m : Net)
-    → ((net : Net) → IsLine plan k net origin jitter (line_on net link) (rest net)) → IsLine plan k n origin jitter new es
-    → IsLine plan k m origin jitter (line_on m (with_line n new link)) (rest_after n es rest m)
-lines_after plan k origin jitter link new rest es A A lines after = after
-lines_after plan k origin jitter link new rest es A B lines after = lines B
-lines_after plan k origin jitter link new rest es B A lines after = lines A
-lines_after plan k origin jitter link new rest es B B lines after = after
+lines_after : (plan : Plan) (k origin : ℕ) (options : Options) (link : Link) (new : Line) (rest : Net → List Entry) (es : List Entry) (n m : Net)
+    → ((net : Net) → IsLine plan k net origin options (line_on net link) (rest net)) → IsLine plan k n origin options new es
+    → IsLine plan k m origin options (line_on m (with_line n new link)) (rest_after n es rest m)
+lines_after plan k origin options link new rest es A A lines after = after
+lines_after plan k origin options link new rest es A B lines after = lines B
+lines_after plan k origin options link new rest es B A lines after = lines A
+lines_after plan k origin options link new rest es B B lines after = after
 
 copies_after : (stream : List Entry) (rest : Net → List Entry) (es : List Entry) (n m : Net)
     → ((net : Net) → All (IsCopy stream net) (rest net)) → All (IsCopy stream n) es → All (IsCopy stream m) (rest_after n es rest m)
@@ -185,13 +185,13 @@ link_taken plan k origin options nearness link tag e es rest valid inside long i
     new : Line
     new = line_after setting.measure port (arrived setting.measure tag port e.frame (line_on tag.net before)) (line_on tag.net before)
 
-    new_line : IsLine plan k tag.net origin options.jitter new es
+    new_line : IsLine plan k tag.net origin options new es
     new_line = rw (line_given_up setting tag number link tag.net) line.after
 
-    lines : (net : Net) → IsLine plan k net origin options.jitter (line_on net (after_number setting tag port e.frame link number))
+    lines : (net : Net) → IsLine plan k net origin options (line_on net (after_number setting tag port e.frame link number))
         (rest_after tag.net es rest net)
     lines net = rw (line_paired setting tag number e.frame (with_line tag.net new before) net)
-        (lines_after plan k origin options.jitter before new rest es tag.net net
+        (lines_after plan k origin options before new rest es tag.net net
         (λ m. rw (line_given_up setting tag number link m) (is.lines m)) new_line)
 
     arrival : (copies : AreCopies gap origin options.jitter link rest) → IsArrival origin options.jitter copies.stream tag e

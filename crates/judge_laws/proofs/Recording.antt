@@ -188,37 +188,52 @@ packet_taken plan origin options times told links net number packet e es rest va
           (valid.links_apart j k inside know.within (ap vl_of (sym its ∙ know.link))))) (is.each j inside))
     ]
 
--- a list that a packet records begins with its entry
-record IsNext (origin jitter : ℕ) (packet : Recorded) (es : List Entry) : Type 0 where
+-- a list of which packets record a beginning
+pub record IsRecorded (origin jitter : ℕ) (es : List Entry) (packets : List Recorded) : Type 0 where
+  pub recorded : List Entry
+  pub after : List Entry
+  pub whole : es ≡ recorded ++ after
+  pub each : AllZip (IsRecord origin jitter) recorded packets
+
+-- its first entry is that of the first packet
+record IsNext (origin jitter : ℕ) (packet : Recorded) (packets : List Recorded) (es : List Entry) : Type 0 where
   first : Entry
   later : List Entry
   is : es ≡ first ∷ later
   recorded : IsRecord origin jitter first packet
+  going : IsRecorded origin jitter later packets
 
-next_of : (origin jitter : ℕ) (packet : Recorded) (packets : List Recorded) (es : List Entry)
-    → AllZip (IsRecord origin jitter) es (packet ∷ packets) → IsNext origin jitter packet es
-next_of origin jitter packet packets [] zip = absurd zip
-next_of origin jitter packet packets (e ∷ es) zip = record { first = e; later = es; is = refl; recorded = zip.0 }
+next_of : (origin jitter : ℕ) (packet : Recorded) (packets : List Recorded) (es recorded after : List Entry)
+    → es ≡ recorded ++ after → AllZip (IsRecord origin jitter) recorded (packet ∷ packets) → IsNext origin jitter packet packets es
+next_of origin jitter packet packets es [] after whole zip = absurd zip
+next_of origin jitter packet packets es (d ∷ ds) after whole zip = record {
+  first = d;
+  later = ds ++ after;
+  is = whole;
+  recorded = zip.0;
+  going = record { recorded = ds; after = after; whole = refl; each = zip.1 };
+}
 
 abbrev pub AreRecorded : (origin jitter : ℕ) (rest : Net → List Entry) (recording : List OnNet) → Type 0
-AreRecorded origin jitter rest recording = (net : Net) → AllZip (IsRecord origin jitter) (rest net) (packets_of net recording)
+AreRecorded origin jitter rest recording = (net : Net) → IsRecorded origin jitter (rest net) (packets_of net recording)
+
+abbrev packet_of : Net → ℕ → Recorded → OnNet
+packet_of net number packet = record { net = net; number = number; packet = packet }
 
 recorded_next : (origin jitter number : ℕ) (packet : Recorded) (rest : Net → List Entry) (ps : List OnNet) (n : Net)
-    → AreRecorded origin jitter rest (record { net = n; number = number; packet = packet } ∷ ps) → IsNext origin jitter packet (rest n)
-recorded_next origin jitter number packet rest ps A zip = next_of origin jitter packet (packets_of A ps) (rest A) (zip A)
-recorded_next origin jitter number packet rest ps B zip = next_of origin jitter packet (packets_of B ps) (rest B) (zip B)
+    → AreRecorded origin jitter rest (packet_of n number packet ∷ ps) → IsNext origin jitter packet (packets_of n ps) (rest n)
+recorded_next origin jitter number packet rest ps A are =
+    next_of origin jitter packet (packets_of A ps) (rest A) (are A).recorded (are A).after (are A).whole (are A).each
+recorded_next origin jitter number packet rest ps B are =
+    next_of origin jitter packet (packets_of B ps) (rest B) (are B).recorded (are B).after (are B).whole (are B).each
 
-recorded_after : (origin jitter number : ℕ) (packet : Recorded) (e : Entry) (es : List Entry) (rest : Net → List Entry) (ps : List OnNet)
-    (n : Net) → AreRecorded origin jitter rest (record { net = n; number = number; packet = packet } ∷ ps) → rest n ≡ e ∷ es
-    → AreRecorded origin jitter (rest_after n es rest) ps
-recorded_after origin jitter number packet e es rest ps n zip next m = by n m zip next
-  where
-    by : (n m : Net) → AreRecorded origin jitter rest (record { net = n; number = number; packet = packet } ∷ ps) → rest n ≡ e ∷ es
-        → AllZip (IsRecord origin jitter) (rest_after n es rest m) (packets_of m ps)
-    by A A zip next = (rw next at (zip A)).1
-    by A B zip next = zip B
-    by B A zip next = zip A
-    by B B zip next = (rw next at (zip B)).1
+recorded_after : (origin jitter number : ℕ) (packet : Recorded) (es : List Entry) (rest : Net → List Entry) (ps : List OnNet)
+    (n m : Net) → AreRecorded origin jitter rest (packet_of n number packet ∷ ps) → IsRecorded origin jitter es (packets_of n ps)
+    → IsRecorded origin jitter (rest_after n es rest m) (packets_of m ps)
+recorded_after origin jitter number packet es rest ps A A are later = later
+recorded_after origin jitter number packet es rest ps A B are later = are B
+recorded_after origin jitter number packet es rest ps B A are later = are A
+recorded_after origin jitter number packet es rest ps B B are later = later
 
 left_missing : (nearness : Nearness) (at : ℕ) (plans : List LinkPlan) (links : List Link) (found : List Finding) → All IsMissing found
     → All IsMissing (found_left nearness at plans links found)
@@ -239,5 +254,5 @@ goes_on plan origin options times told links (p ∷ ps) rest found valid fit is 
     let taken = packet_taken plan origin options times told links p.net p.number p.packet next.first next.later rest valid fit is next.is
     next.recorded in
     rw taken.after (goes_on plan origin options (times_with taken.at times) told taken.new ps (rest_after p.net next.later rest) _ valid fit
-    taken.going (recorded_after origin options.jitter p.number p.packet next.first next.later rest ps p.net zip next.is)
+    taken.going (λ m. recorded_after origin options.jitter p.number p.packet next.later rest ps p.net m zip next.going)
     (taken.found found all))

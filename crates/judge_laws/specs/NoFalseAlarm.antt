@@ -1,5 +1,5 @@
 -- No false alarm: what a judge finds in a recording of legal transmission.
-use Rattle.std.specs.Prelude.{ℕ, ◌≡◌, ◌+◌, ◌*◌, ◌≤◌, ◌<◌, Bool, true, false, List, length, map, filter, All, Option, Some}
+use Rattle.std.specs.Prelude.{ℕ, ◌≡◌, ◌+◌, ◌*◌, ◌≤◌, ◌<◌, Bool, true, false, List, [], ◌++◌, length, map, filter, All, Option, Some}
 use Rattle.std.specs.List.{AllZip}
 use Rattle.afdx_plan.specs.Config.{Plan, IsPlan, link_plan_at}
 use Rattle.afdx_plan.specs.Plan.{bag_micros, is_both}
@@ -37,10 +37,19 @@ pub record IsRecord (origin jitter : ℕ) (e : Entry) (packet : Recorded) : Type
 abbrev pub packets_of : Net → List OnNet → List Recorded
 packets_of net recording = map (λ (p : OnNet). p.packet) (filter (λ (p : OnNet). same_net p.net net) recording)
 
--- A recording has every frame of both networks, those of each network in order.
-pub record IsRecording (origin jitter : ℕ) (a b : List Entry) (recording : List OnNet) : Type 0 where
-  pub of_a : AllZip (IsRecord origin jitter) a (packets_of A recording)
-  pub of_b : AllZip (IsRecord origin jitter) b (packets_of B recording)
+-- Packets record consecutive entries of what was sent to a network, from the first one on unless the recording began late.
+pub record IsRunOf (origin : ℕ) (options : Options) (handed : List Entry) (packets : List Recorded) : Type 0 where
+  pub before : List Entry
+  pub recorded : List Entry
+  pub after : List Entry
+  pub whole : handed ≡ before ++ (recorded ++ after)
+  pub first : options.late ≡ false → before ≡ []
+  pub each : AllZip (IsRecord origin options.jitter) recorded packets
+
+-- a recording of both networks, however their packets interleave
+pub record IsRecording (origin : ℕ) (options : Options) (a b : List Entry) (recording : List OnNet) : Type 0 where
+  pub of_a : IsRunOf origin options a (packets_of A recording)
+  pub of_b : IsRunOf origin options b (packets_of B recording)
 
 -- The judge expects what this project sends, and frames without their check sequence. The jitter is at most each gap.
 -- No twin can be mistaken: a number comes again after 255 gaps.
@@ -58,4 +67,4 @@ IsMissing finding = finding.kind ≡ Missing
 abbrev pub NoFalseAlarm : Type 0
 NoFalseAlarm = (plan : Plan) (accepted : Accepted) (a b : List Entry) (options : Options) (origin : ℕ)
     (recording : List OnNet) → IsSent plan accepted a b → AreFit plan options
-    → IsRecording origin options.jitter a b recording → All IsMissing (findings plan options recording)
+    → IsRecording origin options a b recording → All IsMissing (findings plan options recording)
