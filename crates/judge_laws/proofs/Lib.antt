@@ -1,8 +1,13 @@
 pub mod Begin
+pub mod Carried
 pub mod Copies
+pub mod Found
+pub mod Heard
 pub mod Line
 pub mod Link
+pub mod Message
 pub mod Numbers
+pub mod OfProfile
 pub mod Pieces
 pub mod Recording
 pub mod Turns

@@ -1,0 +1,113 @@
+-- The link and the port that the judge finds for a frame of a valid plan.
+use Rattle.std.proofs.Common.{◌≡◌, ℕ, zero, suc, ◌<◌, Bool, true, false, List, [], ◌∷◌, length, get_or, slice_index, ◌==◌, Option, Some, None, inl, inr, refl, ap, ◌∙◌, arith}
+use Rattle.std.specs.Prelude.{Contains, IfSome, Ok, find, position}
+use Rattle.std.specs.List.{position_or_len}
+use Rattle.std.proofs.lemmas.Bool.{both_ways, cases_Bool, ne_eqb}
+use Rattle.std.proofs.lemmas.Bool.Decides.{nat_tests}
+use Rattle.std.proofs.lemmas.Grind.{same_number_lists}
+use Rattle.std.proofs.lemmas.List.Elements.{All-contains}
+use Rattle.std.proofs.lemmas.List.Sums.{position_or_len_is}
+use Rattle.afdx_plan.specs.Address.{destination_address, destination_of}
+use Rattle.afdx_plan.specs.Config.{AreSameFlow, Plan, IsPlan, link_plan_at}
+use Rattle.afdx_plan.specs.Plan.{IsPort, IsUnicast}
+use Rattle.afdx_plan.specs.declared.link_plan.LinkPlan.{LinkPlan}
+use Rattle.afdx_plan.specs.declared.port_plan.PortPlan.{PortPlan}
+use Rattle.afdx_plan.specs.declared.port_plan.VlId.{VlId}
+use Rattle.afdx_frame.specs.Frame.{interface_byte}
+use Rattle.afdx_frame.specs.Header.{link_in}
+use Rattle.afdx_frame.specs.Profile.{word_at}
+use Rattle.afdx_frame.specs.declared.net.Net.{Net}
+use Rattle.redundant_mux.specs.Lines.{names}
+use Rattle.judge.specs.Joining.{address_number, is_of_port, port_of}
+unfoldable use Rattle.judge.specs.Rules.{place_of}
+use Rattle.judge.specs.Types.{Flow}
+
+-- the one member that passes is found
+find_one : {X : Type 0} (p : X → Bool) (xs : List X) (x : X) → Contains xs x → p x ≡ true
+    → ((y : X) → Contains xs y → p y ≡ true → y ≡ x) → find p xs ≡ Some x
+find_one p [] x member passes only = absurd (omega (arith, member.1))
+find_one p (y ∷ ys) x member passes only = elim (cases_Bool (p y)) [
+  | inl is ↦ rw (is, only y (0, omega arith, refl) is) refl
+  | inr isnt ↦ rw isnt (find_one p ys x (behind isnt member) passes (λ z in_z. only z (suc in_z.0, omega (arith, in_z.1), in_z.2)))
+]
+  where
+    behind : p y ≡ false → Contains (y ∷ ys) x → Contains ys x
+    behind isnt (zero, below, here) = absurd (both_ways (p y) isnt (ap p here ∙ passes))
+    behind isnt (suc k, below, here) = (k, omega arith, here)
+
+-- unicast addresses with one number are one
+one_unicast : (s t : List ℕ) → IsUnicast s → IsUnicast t → address_number s ≡ address_number t → s ≡ t
+one_unicast s t is_s is_t same = same_number_lists s t (omega (arith, is_s.four, is_t.four)) (λ k below. each k (omega (arith, is_s.four)))
+  where
+    small : (k : ℕ) → (get_or s k 0 < 256) × (get_or t k 0 < 256)
+    small k = (is_s.bytes k, is_t.bytes k)
+
+    each : (k : ℕ) → k < 4 → get_or s k 0 ≡ get_or t k 0
+    each zero below = omega (arith, small)
+    each (suc zero) below = omega (arith, small)
+    each (suc (suc zero)) below = omega (arith, small)
+    each (suc (suc (suc zero))) below = omega (arith, small)
+    each (suc (suc (suc (suc k)))) below = absurd (omega arith)
+
+-- so are the destinations of two ports of a link
+one_destination : (v w : ℕ) (s t : Option (List ℕ)) → v ≡ w → IfSome s IsUnicast → IfSome t IsUnicast
+    → address_number (destination_of v s) ≡ address_number (destination_of w t) → destination_of v s ≡ destination_of w t
+one_destination v w None None link is_s is_t same = rw link refl
+one_destination v w None (Some t) link is_s is_t same = absurd (omega (arith, is_t.first))
+one_destination v w (Some s) None link is_s is_t same = absurd (omega (arith, is_s.first))
+one_destination v w (Some s) (Some t) link is_s is_t same = one_unicast s t is_s is_t same
+
+same_id : (v w : VlId) → v.0 ≡ w.0 → v ≡ w
+same_id v w same = ap (λ (n : ℕ). let id : VlId = record { 0 = n } in id) same
+
+-- what a first piece says of its port
+told : (port : PortPlan) (vl sub : ℕ) (flow : Flow) → is_of_port false vl sub flow port ≡ true
+    → (port.vl.0 ≡ vl) × (flow.source ≡ port.source) × (flow.destination ≡ port.destination)
+    × (flow.partition ≡ port.partition) × (flow.address ≡ address_number (destination_address port))
+told port vl sub flow its = grind (arith, nat_tests)
+
+-- two ports of a first piece are one
+same_flow : (p q : PortPlan) (vl sub : ℕ) (flow : Flow) → is_of_port false vl sub flow p ≡ true → is_of_port false vl sub flow q ≡ true
+    → IsPort p → IsPort q → AreSameFlow p q
+same_flow p q vl sub flow of_p of_q is_p is_q =
+    let by_p = told p vl sub flow of_p in
+    let by_q = told q vl sub flow of_q in
+    record {
+      vl = same_id p.vl q.vl (omega arith);
+      partition = omega arith;
+      source = omega arith;
+      destination = omega arith;
+      address = one_destination p.vl.0 q.vl.0 p.unicast q.unicast (omega arith) is_p.unicast is_q.unicast (omega arith);
+    }
+
+-- A first piece's port is found.
+pub port_found : (plan : Plan) (port : PortPlan) (flow : Flow) → IsPlan plan → Contains plan.ports port
+    → is_of_port false port.vl.0 port.sub flow port ≡ true → port_of false plan.ports port.vl.0 port.sub flow ≡ Some port
+port_found plan port flow valid member its = find_one (is_of_port false port.vl.0 port.sub flow) plan.ports port member its only
+  where
+    only : (other : PortPlan) → Contains plan.ports other → is_of_port false port.vl.0 port.sub flow other ≡ true → other ≡ port
+    only other among passes = valid.flows_apart other port among member (same_flow other port port.vl.0 port.sub flow passes its
+        (All-contains IsPort plan.ports other valid.each_port among) (All-contains IsPort plan.ports port valid.each_port member))
+
+-- A link's place is found.
+link_found : (plan : Plan) (k : ℕ) → IsPlan plan → k < length plan.links
+    → position (λ (link : LinkPlan). link.id.0 == (link_plan_at plan.links k).id.0) plan.links ≡ Some k
+link_found plan k valid within =
+    let at : position_or_len its plan.links ≡ k =
+    position_or_len_is its plan.links k (link_plan_at [] 0) (omega arith) before (λ inside. grind (arith, nat_tests)) in
+    grind (arith, nat_tests)
+  where
+    its : LinkPlan → Bool
+    its link = link.id.0 == (link_plan_at plan.links k).id.0
+
+    before : (j : ℕ) → j < k → its (link_plan_at plan.links j) ≡ false
+    before j below = ne_eqb _ _ (λ same. absurd (omega (arith, valid.links_apart j k (omega arith) within (same_id _ _ same))))
+
+-- A frame's link is found.
+pub place_found : (plan : Plan) (k : ℕ) (net : Net) (frame : List ℕ) → IsPlan plan → k < length plan.links
+    → names net (link_plan_at plan.links k).networks ≡ true → word_at frame 9 ≡ plan.end_system
+    → link_in frame ≡ (link_plan_at plan.links k).id.0 → slice_index frame 11 ≡ interface_byte net → place_of plan net frame ≡ Ok k
+unfolding place_of
+place_found plan k net frame valid within on source link interface =
+    let found = link_found plan k valid within in
+    rw (source, link, found) (grind (arith, nat_tests))
