@@ -76,7 +76,7 @@ awaits plan k s net true accepted before left valid inside index allowed are fir
     awaits_late plan k s net accepted before left valid inside index allowed are
 awaits plan k s net false accepted before left valid inside index allowed are first =
     subst (IsAwaiting plan k s net (new_sub false false s).joining) (are ∙ rw (first refl) refl)
-    (awaits_all plan k s net accepted valid inside index allowed)
+    (awaits_all plan k s net false accepted valid inside index allowed)
 
 -- a list is numbered, spaced and in turn from a place on
 numbered_on : (i : ℕ) (xs ys : List Entry) → IsNumbered entry_number i (xs ++ ys) → IsNumbered entry_number (i + length xs) ys

@@ -1,0 +1,5 @@
+use Rattle.judge_laws.proofs.Begin.{no_false_alarm_holds}
+use Rattle.judge_laws.proofs.laws.no_false_alarm.Goals as goal
+
+pub returns : goal.returns
+returns c = no_false_alarm_holds
