@@ -12,3 +12,4 @@ pub mod Pieces
 pub mod Recording
 pub mod Turns
 pub mod Waits
+pub mod WorkedRecordings

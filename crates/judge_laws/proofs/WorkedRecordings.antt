@@ -1,0 +1,132 @@
+-- The worked recordings, by computation.
+use Rattle.std.proofs.Common.{◌≡◌, ◌≤◌, ◌+◌, ◌*◌, ◌<◌, ℕ, [], ◌∷◌, List, None, ap, refl, arith}
+use Rattle.afdx_frame.specs.Checksum.{checksum}
+use Rattle.afdx_frame.specs.Frame.{addresses, datagram, header_front, internet_header, link_header, udp_header, unnumbered}
+use Rattle.afdx_plan.specs.Demo.{demo_plan}
+use Rattle.afdx_plan.proofs.DemoPlan.{demo_valid}
+use Rattle.afdx_laws.proofs.WorkedDemo.{needs_legal}
+use Rattle.afdx_laws.specs.WorkedPlan.{pair_at, second_frame, two_accepted, two_entries}
+use Rattle.afdx_frame.specs.declared.net.Net.TheVariants.{A, B}
+use Rattle.judge_laws.specs.NoFalseAlarm.{AreFit, IsMissing, IsRecord, IsRecording, IsRunOf, IsSent}
+use Rattle.std.specs.Prelude.{Bool, true, false}
+use Rattle.judge.specs.CheckSequence.{check_sequence, with_byte}
+use Rattle.judge.specs.Fields.{fields_of}
+use Rattle.judge.specs.Joining.{fragment_deviation, head_now, length_deviation, message_deviation}
+use Rattle.judge.specs.Judging.{admitted, after_packet, findings, found_of_arrival, found_on_link, found_with_end, found_with_packet, link_after, with_arrival, with_verdict}
+use Rattle.judge.specs.Layouts.{address_broken, internet_broken, layout_broken, link_broken, padding_broken}
+use Rattle.judge.specs.Lines.{line_after, line_with, verdict}
+use Rattle.judge.specs.Rules.{checked, frame_in, place_of, unchecked}
+use Rattle.judge.specs.Twins.{found_at_end, found_missing, left_waiting, pairing_with, twin_deviation, twin_other}
+use Rattle.judge_laws.specs.Worked.{FindsNothing, NeedsItsPremises, OnlyMissing, both_at, late, loose, packet, seconds_at, strict, with_check}
+use Rattle.afdx_legal.specs.Worked.{one_frame}
+use Rattle.redundant_mux.specs.Lines.{entry}
+use Rattle.afdx_frame.specs.declared.net.Net.{Net}
+use Rattle.judge.specs.declared.options.Options.{Options}
+use Rattle.judge.specs.declared.finding.Finding.{Finding}
+use Rattle.judge.specs.declared.finding.Kind.TheVariants.{Missing}
+use Rattle.judge.specs.Deviations.{kind_number}
+use Rattle.afdx_laws.proofs.ListLemmas.{fails_by}
+use Rattle.judge_laws.proofs.Begin.{no_false_alarm_holds}
+
+pair_sent : IsSent demo_plan two_accepted (two_entries A) (two_entries B)
+unfolding checksum addresses datagram header_front internet_header link_header udp_header unnumbered
+pair_sent = record {
+  valid = demo_valid;
+  legal = needs_legal.each.first.legal;
+  allowed = grind arith;
+  turns = grind arith;
+}
+
+fit : (late : Bool) → AreFit demo_plan (record strict { late = late })
+fit late = grind arith
+
+-- a packet is a record
+recorded : (origin jitter t at : ℕ) (net : Net) (frame : List ℕ) → origin + 1000 * t ≤ at → at ≤ origin + 1000 * (t + jitter)
+    → IsRecord origin jitter (entry t frame) (packet net at frame).packet
+recorded origin jitter t at net frame least most =
+    record { at = at; told = refl; least = least; most = most; whole = refl; bytes = refl }
+
+pair_run : (origin first second : ℕ) (options : Options) (net : Net) → origin ≤ first → first ≤ origin + 1000 * options.jitter
+    → origin + 1000000 ≤ second → second ≤ origin + 1000000 + 1000 * options.jitter
+    → IsRunOf origin options (two_entries net) ((packet net first (one_frame net)).packet ∷ (packet net second (second_frame net)).packet ∷ [])
+pair_run origin first second options net a b c d = record {
+  before = [];
+  recorded = two_entries net;
+  after = [];
+  whole = refl;
+  first = λ early. refl;
+  each = (recorded origin options.jitter 0 first net (one_frame net) (omega arith) (omega arith),
+    (recorded origin options.jitter 1000 second net (second_frame net) (omega arith) (omega arith), tt));
+}
+
+second_run : (net : Net) → IsRunOf 7 late (two_entries net) ((packet net 1000007 (second_frame net)).packet ∷ [])
+second_run net = record {
+  before = entry 0 (one_frame net) ∷ [];
+  recorded = entry 1000 (second_frame net) ∷ [];
+  after = [];
+  whole = refl;
+  first = λ early. absurd (cc (early));
+  each = (recorded 7 0 1000 1000007 net (second_frame net) (omega arith) (omega arith), tt);
+}
+
+pub finds_nothing : FindsNothing
+unfolding admitted after_packet found_of_arrival found_on_link found_with_end found_with_packet link_after with_arrival with_verdict fields_of fragment_deviation head_now length_deviation message_deviation address_broken internet_broken layout_broken link_broken padding_broken line_after line_with verdict frame_in place_of checked unchecked check_sequence with_byte found_at_end found_missing left_waiting pairing_with twin_deviation twin_other checksum addresses datagram header_front internet_header link_header udp_header unnumbered
+finds_nothing = record {
+  sent = pair_sent;
+  fit = fit false;
+  recorded = record {
+    of_a = pair_run 7 7 1000007 strict A (omega arith) (omega arith) (omega arith) (omega arith);
+    of_b = pair_run 7 7 1000007 strict B (omega arith) (omega arith) (omega arith) (omega arith);
+  };
+  nothing = refl;
+  late_fit = fit true;
+  late_recorded = record { of_a = second_run A; of_b = second_run B };
+  late_nothing = refl;
+}
+
+some : Finding
+some = record { kind = Missing; packet = 0; net = A; at = 0; link = None; seen = 0; wanted = 0 }
+
+not_missing : (n : ℕ) → n < 13 → n ≡ 13 → ⊥
+not_missing n other is = absurd (omega arith)
+
+near_run : (net : Net) → IsRunOf 0 strict (pair_at 999 net) ((packet net 0 (one_frame net)).packet ∷ (packet net 999000 (second_frame net)).packet ∷ [])
+near_run net = record {
+  before = [];
+  recorded = pair_at 999 net;
+  after = [];
+  whole = refl;
+  first = λ early. refl;
+  each = (recorded 0 0 0 0 net (one_frame net) (omega arith) (omega arith),
+    (recorded 0 0 999 999000 net (second_frame net) (omega arith) (omega arith), tt));
+}
+
+loosely : IsRecording 0 loose (two_entries A) (two_entries B) (both_at 2000000 1000000)
+loosely = record {
+  of_a = pair_run 0 2000000 1000000 loose A (omega arith) (omega arith) (omega arith) (omega arith);
+  of_b = pair_run 0 2000000 1000000 loose B (omega arith) (omega arith) (omega arith) (omega arith);
+}
+
+exactly : IsRecording 0 with_check (two_entries A) (two_entries B) (both_at 0 1000000)
+exactly = record {
+  of_a = pair_run 0 0 1000000 with_check A (omega arith) (omega arith) (omega arith) (omega arith);
+  of_b = pair_run 0 0 1000000 with_check B (omega arith) (omega arith) (omega arith) (omega arith);
+}
+
+pub needs_its_premises : NeedsItsPremises
+unfolding admitted after_packet found_of_arrival found_on_link found_with_end found_with_packet link_after with_arrival with_verdict fields_of fragment_deviation head_now length_deviation message_deviation address_broken internet_broken layout_broken link_broken padding_broken line_after line_with verdict frame_in place_of checked unchecked check_sequence with_byte found_at_end found_missing left_waiting pairing_with twin_deviation twin_other checksum addresses datagram header_front internet_header link_header udp_header unnumbered
+needs_its_premises = record {
+  sent = fails_by (λ sent. no_false_alarm_holds demo_plan two_accepted _ _ strict 0 (both_at 0 999000) sent (fit false) (record {
+    of_a = near_run A;
+    of_b = near_run B;
+  })) (λ all. not_missing 7 (omega arith) (ap kind_number (all 0 some (omega arith))));
+  early = fails_by (λ is. no_false_alarm_holds demo_plan two_accepted _ _ strict 0 (both_at 0 999999) pair_sent (fit false) is)
+      (λ all. not_missing 7 (omega arith) (ap kind_number (all 0 some (omega arith))));
+  loose_recorded = loosely;
+  jitter = fails_by (λ is. no_false_alarm_holds demo_plan two_accepted _ _ loose 0 (both_at 2000000 1000000) pair_sent is loosely)
+      (λ all. not_missing 7 (omega arith) (ap kind_number (all 0 some (omega arith))));
+  fcs = fails_by (λ is. no_false_alarm_holds demo_plan two_accepted _ _ with_check 0 (both_at 0 1000000) pair_sent is exactly)
+      (λ all. not_missing 1 (omega arith) (ap kind_number (all 0 some (omega arith))));
+  first = fails_by (λ is. no_false_alarm_holds demo_plan two_accepted _ _ strict 0 (seconds_at 1000000) pair_sent (fit false) is)
+      (λ all. not_missing 6 (omega arith) (ap kind_number (all 0 some (omega arith))));
+}

@@ -1,0 +1,64 @@
+-- Worked recordings of the demonstration configuration: two messages of one byte, a frame each, sent to both networks.
+use Rattle.std.specs.Prelude.{◌≡◌, ℕ, true, false, List, [], ◌∷◌, All, None, Some, length}
+use Rattle.afdx_plan.specs.Demo.{demo_plan}
+use Rattle.afdx_frame.specs.declared.net.Net.{Net}
+use Rattle.afdx_frame.specs.declared.net.Net.TheVariants.{A, B}
+use Rattle.afdx_legal.specs.Worked.{one_frame}
+use Rattle.afdx_laws.specs.Rows.{BothFail}
+use Rattle.afdx_laws.specs.WorkedPlan.{pair_at, second_frame, two_accepted, two_entries}
+use Rattle.judge.specs.Judging.{OnNet, findings}
+use Rattle.judge.specs.declared.options.Options.{Options}
+use Rattle.judge_laws.specs.NoFalseAlarm.{AreFit, IsMissing, IsRecording, IsSent}
+
+-- nothing is allowed for
+abbrev pub strict : Options
+strict = record { jitter = 0; skew = 0; late = false; fcs = false; arinc = false }
+
+abbrev pub packet : Net → ℕ → List ℕ → OnNet
+packet net at frame = record {
+  net = net;
+  number = 1;
+  packet = record { interface = 0; network = None; at = Some at; original = length frame; bytes = frame };
+}
+
+-- the two frames on both networks, at these times in nanoseconds, network B first
+abbrev pub both_at : (first second : ℕ) → List OnNet
+both_at first second = packet B first (one_frame B) ∷ packet A first (one_frame A)
+    ∷ packet A second (second_frame A) ∷ packet B second (second_frame B) ∷ []
+
+abbrev pub seconds_at : ℕ → List OnNet
+seconds_at at = packet A at (second_frame A) ∷ packet B at (second_frame B) ∷ []
+
+abbrev pub late : Options
+late = record strict { late = true }
+
+-- The recording meets the premises, and nothing is found. Nor is anything in one that began after the first frame.
+pub record FindsNothing : Type 0 where
+  pub sent : IsSent demo_plan two_accepted (two_entries A) (two_entries B)
+  pub fit : AreFit demo_plan strict
+  pub recorded : IsRecording 7 strict (two_entries A) (two_entries B) (both_at 7 1000007)
+  pub nothing : findings demo_plan strict (both_at 7 1000007) ≡ []
+  pub late_fit : AreFit demo_plan late
+  pub late_recorded : IsRecording 7 late (two_entries A) (two_entries B) (seconds_at 1000007)
+  pub late_nothing : findings demo_plan late (seconds_at 1000007) ≡ []
+
+abbrev pub OnlyMissing : Options → List OnNet → Type 0
+OnlyMissing options recording = All IsMissing (findings demo_plan options recording)
+
+-- frames may be delayed by two gaps
+abbrev pub loose : Options
+loose = record strict { jitter = 2000 }
+
+abbrev pub with_check : Options
+with_check = record strict { fcs = true }
+
+-- Each premise is needed. Frames a microsecond less than a gap apart are not sent legally, and one is early. So is one that
+-- is recorded a nanosecond before its time. A frame that is delayed by more than a gap may come after the next one, and a
+-- frame without its check sequence isn't one with it. A recording that began late, unless the judge is told, lacks a number.
+pub record NeedsItsPremises : Type 0 where
+  pub sent : BothFail (IsSent demo_plan two_accepted (pair_at 999 A) (pair_at 999 B)) (OnlyMissing strict (both_at 0 999000))
+  pub early : BothFail (IsRecording 0 strict (two_entries A) (two_entries B) (both_at 0 999999)) (OnlyMissing strict (both_at 0 999999))
+  pub loose_recorded : IsRecording 0 loose (two_entries A) (two_entries B) (both_at 2000000 1000000)
+  pub jitter : BothFail (AreFit demo_plan loose) (OnlyMissing loose (both_at 2000000 1000000))
+  pub fcs : BothFail (AreFit demo_plan with_check) (OnlyMissing with_check (both_at 0 1000000))
+  pub first : BothFail (IsRecording 0 strict (two_entries A) (two_entries B) (seconds_at 1000000)) (OnlyMissing strict (seconds_at 1000000))
