@@ -1,8 +1,8 @@
 -- The frames of a sub-VL on a network: the judge finds nothing wrong with the one that is due, and awaits the next one.
-use Rattle.std.proofs.Common.{◌≡◌, ℕ, suc, ◌+◌, ◌<◌, ◌≤◌, ◌⊎◌, Bool, true, false, List, [], ◌∷◌, ◌++◌, length, max, Option, None, inl, inr, refl, sym, ◌∙◌, arith}
-use Rattle.std.specs.Prelude.{All, Ok}
+use Rattle.std.proofs.Common.{◌≡◌, ℕ, suc, ◌+◌, ◌-◌, ◌<◌, ◌≤◌, ◌⊎◌, Bool, true, false, List, [], ◌∷◌, ◌++◌, length, max, Option, None, inl, inr, refl, sym, ◌∙◌, arith}
+use Rattle.std.specs.Prelude.{All, Ok, if◌then◌else◌}
 use Rattle.std.proofs.lemmas.Bool.Decides.{nat_tests}
-use Rattle.std.proofs.lemmas.List.{take_all, take_more}
+use Rattle.std.proofs.lemmas.List.{drop_at, length-append, take_all, take_at, take_more}
 use Rattle.std.proofs.lemmas.List.Elements.{All-contains, All-head, All-tail}
 use Rattle.afdx_plan.specs.Config.{Plan, IsPlan, link_plan_at}
 use Rattle.afdx_plan.specs.Plan.{IsLink, IsPort, identification}
@@ -28,7 +28,7 @@ use Rattle.judge.specs.Judging.{first_port}
 use Rattle.judge.specs.Layouts.{has_four_more}
 use Rattle.judge.specs.Lines.{new_sub, port_deviation, sub_in}
 use Rattle.judge.specs.Rules.{place_of, size_deviation}
-unfoldable use Rattle.judge.specs.Rules.{frame_in, unchecked}
+unfoldable use Rattle.judge.specs.Rules.{checked, frame_in, unchecked}
 use Rattle.judge.specs.Types.{Head, Joining}
 use Rattle.judge.specs.declared.options.Options.{Options}
 use Rattle.judge_laws.proofs.Carried.{Carries, carries, source_ok}
@@ -36,6 +36,7 @@ use Rattle.judge_laws.proofs.Found.{place_found}
 use Rattle.judge_laws.proofs.Heard.{IsDue, IsHeard, IsTrueAt, first_found, message_fits, piece_fits, port_fits, room_at, true_after, true_behind}
 use Rattle.judge_laws.proofs.Message.{IsNext, IsTrue, its_port, next_piece, piece_is}
 use Rattle.judge_laws.proofs.OfProfile.{layout_is_profile}
+use Rattle.judge_laws.specs.Frames.{IsRecordedAs}
 
 -- a message of which `start` bytes came
 abbrev pub cut_at : Sent → ℕ → ℕ → Cutting
@@ -63,8 +64,8 @@ pub record IsAwaiting (plan : Plan) (k sub : ℕ) (net : Net) (joining : Joining
 
 -- The judge finds nothing wrong with a frame, and awaits what is left.
 pub record IsClean (plan : Plan) (k sub : ℕ) (net : Net) (joining : Joining) (frame : List ℕ) (left : List (List ℕ)) : Type 0 where
-  pub admitted : (options : Options) (packet : Recorded) → options.arinc ≡ false → options.fcs ≡ false → packet.bytes ≡ frame
-      → packet.original ≡ length frame → frame_in options packet ≡ Ok frame
+  pub admitted : (options : Options) (packet : Recorded) → options.arinc ≡ false → IsRecordedAs options.fcs frame packet.bytes
+      → packet.original ≡ length packet.bytes → frame_in options packet ≡ Ok frame
   pub placed : place_of plan net frame ≡ Ok k
   pub sized : size_deviation (link_plan_at plan.links k) (length frame) ≡ None
   pub port : port_deviation (fields_of frame) (first_port false plan.ports (link_plan_at plan.links k).id (fields_of frame)) ≡ None
@@ -138,6 +139,15 @@ goes_on plan k sub net sent place start later joining piece next due are known b
       rw none (between plan k sub net joining (suc place) later are (behind last.0))
 ]
 
+-- a frame is read, with its check sequence or without
+read_ok : (fcs : Bool) (frame bytes : List ℕ) → IsRecordedAs fcs frame bytes → has_four_more frame ≡ false
+    → (if fcs then checked bytes else unchecked bytes) ≡ Ok frame
+unfolding checked unchecked
+read_ok false frame bytes is short = rw (is, short) refl
+read_ok true frame bytes (sequence, ends, is) short =
+    let size : length (frame ++ sequence) - 4 ≡ length frame = omega (arith, length-append frame sequence, ends.four) in
+    rw (is, size, drop_at frame sequence (length frame) refl, take_at frame sequence (length frame) refl, ends.number) (grind (arith, nat_tests, length-append))
+
 module _ (plan : Plan) (k sub : ℕ) (net : Net) (sent : Sent) (place start number : ℕ) (joining : Joining) (valid : IsPlan plan)
     (within : k < length plan.links) (on : names net (link_plan_at plan.links k).networks ≡ true)
     (due : IsDue plan k sub sent start) (known : IsTrueAt plan sub sent place start joining) where
@@ -171,16 +181,16 @@ module _ (plan : Plan) (k sub : ℕ) (net : Net) (sent : Sent) (place start numb
   sized : size_deviation (link_plan_at plan.links k) (length frame) ≡ None
   sized = let link = link_is.lmax in grind (arith, nat_tests, size_is, next)
 
-  admitted : (options : Options) (packet : Recorded) → options.arinc ≡ false → options.fcs ≡ false → packet.bytes ≡ frame
-      → packet.original ≡ length frame → frame_in options packet ≡ Ok frame
-  unfolding frame_in unchecked
-  admitted options packet own fcs bytes whole =
+  admitted : (options : Options) (packet : Recorded) → options.arinc ≡ false → IsRecordedAs options.fcs frame packet.bytes
+      → packet.original ≡ length packet.bytes → frame_in options packet ≡ Ok frame
+  unfolding frame_in
+  admitted options packet own recorded whole =
       let profile : IsFrame frame = (says plan.end_system sent.port sent.bytes place piece net number port_is
       due.allowed.queued.most its_piece).frame in
       let kept = (layout_is_profile frame).1 profile in
       let total = total_ok plan.end_system sent.port sent.bytes place piece net number its_piece.len.1 in
       let short : has_four_more frame ≡ false = grind (arith, nat_tests, size_is) in
-      rw (whole, bytes, fcs, own) (grind (arith, nat_tests))
+      rw (whole, own, read_ok options.fcs frame packet.bytes recorded short) (grind (arith, nat_tests))
 
   placed : place_of plan net frame ≡ Ok k
   placed =
