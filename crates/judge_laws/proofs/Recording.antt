@@ -136,7 +136,7 @@ pub record IsPacketTaken (plan : Plan) (origin : ℕ) (options : Options) (times
 
 packet_taken : (plan : Plan) (origin : ℕ) (options : Options) (times : Times) (told : Bool) (links : List Link) (net : Net)
     (number : ℕ) (packet : Recorded) (e : Entry) (es : List Entry) (rest : Net → List Entry) → IsPlan plan → AreFit plan options
-    → IsGoing plan origin options links rest → rest net ≡ e ∷ es → IsRecord origin options.jitter e packet
+    → IsGoing plan origin options links rest → rest net ≡ e ∷ es → IsRecord origin options e packet
     → IsPacketTaken plan origin options times told links net number packet es rest
 packet_taken plan origin options times told links net number packet e es rest valid fit is next record_of = record {
   at = record_of.at;
@@ -170,7 +170,7 @@ packet_taken plan origin options times told links net number packet e es rest va
         (record { least = record_of.least; most = record_of.most })
 
     frame : frame_in (of_profile options) packet ≡ Ok e.frame
-    frame = (taken.line.clean.admitted (of_profile options) packet refl fit.fcs record_of.bytes (record_of.whole ∙ ap length record_of.bytes))
+    frame = taken.line.clean.admitted (of_profile options) packet refl record_of.bytes record_of.whole
 
     link : Link
     link = link_after (setting_of (judge_of plan options (times_with record_of.at times) told links) k) tag (port_at plan k e.frame) e.frame
@@ -189,24 +189,24 @@ packet_taken plan origin options times told links net number packet e es rest va
     ]
 
 -- a list of which packets record a beginning
-pub record IsRecorded (origin jitter : ℕ) (es : List Entry) (packets : List Recorded) : Type 0 where
+pub record IsRecorded (origin : ℕ) (options : Options) (es : List Entry) (packets : List Recorded) : Type 0 where
   pub recorded : List Entry
   pub after : List Entry
   pub whole : es ≡ recorded ++ after
-  pub each : AllZip (IsRecord origin jitter) recorded packets
+  pub each : AllZip (IsRecord origin options) recorded packets
 
 -- its first entry is that of the first packet
-record IsNext (origin jitter : ℕ) (packet : Recorded) (packets : List Recorded) (es : List Entry) : Type 0 where
+record IsNext (origin : ℕ) (options : Options) (packet : Recorded) (packets : List Recorded) (es : List Entry) : Type 0 where
   first : Entry
   later : List Entry
   is : es ≡ first ∷ later
-  recorded : IsRecord origin jitter first packet
-  going : IsRecorded origin jitter later packets
+  recorded : IsRecord origin options first packet
+  going : IsRecorded origin options later packets
 
-next_of : (origin jitter : ℕ) (packet : Recorded) (packets : List Recorded) (es recorded after : List Entry)
-    → es ≡ recorded ++ after → AllZip (IsRecord origin jitter) recorded (packet ∷ packets) → IsNext origin jitter packet packets es
-next_of origin jitter packet packets es [] after whole zip = absurd zip
-next_of origin jitter packet packets es (d ∷ ds) after whole zip = record {
+next_of : (origin : ℕ) (options : Options) (packet : Recorded) (packets : List Recorded) (es recorded after : List Entry)
+    → es ≡ recorded ++ after → AllZip (IsRecord origin options) recorded (packet ∷ packets) → IsNext origin options packet packets es
+next_of origin options packet packets es [] after whole zip = absurd zip
+next_of origin options packet packets es (d ∷ ds) after whole zip = record {
   first = d;
   later = ds ++ after;
   is = whole;
@@ -214,26 +214,26 @@ next_of origin jitter packet packets es (d ∷ ds) after whole zip = record {
   going = record { recorded = ds; after = after; whole = refl; each = zip.1 };
 }
 
-abbrev pub AreRecorded : (origin jitter : ℕ) (rest : Net → List Entry) (recording : List OnNet) → Type 0
-AreRecorded origin jitter rest recording = (net : Net) → IsRecorded origin jitter (rest net) (packets_of net recording)
+abbrev pub AreRecorded : (origin : ℕ) (options : Options) (rest : Net → List Entry) (recording : List OnNet) → Type 0
+AreRecorded origin options rest recording = (net : Net) → IsRecorded origin options (rest net) (packets_of net recording)
 
 abbrev packet_of : Net → ℕ → Recorded → OnNet
 packet_of net number packet = record { net = net; number = number; packet = packet }
 
-recorded_next : (origin jitter number : ℕ) (packet : Recorded) (rest : Net → List Entry) (ps : List OnNet) (n : Net)
-    → AreRecorded origin jitter rest (packet_of n number packet ∷ ps) → IsNext origin jitter packet (packets_of n ps) (rest n)
-recorded_next origin jitter number packet rest ps A are =
-    next_of origin jitter packet (packets_of A ps) (rest A) (are A).recorded (are A).after (are A).whole (are A).each
-recorded_next origin jitter number packet rest ps B are =
-    next_of origin jitter packet (packets_of B ps) (rest B) (are B).recorded (are B).after (are B).whole (are B).each
+recorded_next : (origin number : ℕ) (options : Options) (packet : Recorded) (rest : Net → List Entry) (ps : List OnNet) (n : Net)
+    → AreRecorded origin options rest (packet_of n number packet ∷ ps) → IsNext origin options packet (packets_of n ps) (rest n)
+recorded_next origin number options packet rest ps A are =
+    next_of origin options packet (packets_of A ps) (rest A) (are A).recorded (are A).after (are A).whole (are A).each
+recorded_next origin number options packet rest ps B are =
+    next_of origin options packet (packets_of B ps) (rest B) (are B).recorded (are B).after (are B).whole (are B).each
 
-recorded_after : (origin jitter number : ℕ) (packet : Recorded) (es : List Entry) (rest : Net → List Entry) (ps : List OnNet)
-    (n m : Net) → AreRecorded origin jitter rest (packet_of n number packet ∷ ps) → IsRecorded origin jitter es (packets_of n ps)
-    → IsRecorded origin jitter (rest_after n es rest m) (packets_of m ps)
-recorded_after origin jitter number packet es rest ps A A are later = later
-recorded_after origin jitter number packet es rest ps A B are later = are B
-recorded_after origin jitter number packet es rest ps B A are later = are A
-recorded_after origin jitter number packet es rest ps B B are later = later
+recorded_after : (origin number : ℕ) (options : Options) (packet : Recorded) (es : List Entry) (rest : Net → List Entry) (ps : List OnNet)
+    (n m : Net) → AreRecorded origin options rest (packet_of n number packet ∷ ps) → IsRecorded origin options es (packets_of n ps)
+    → IsRecorded origin options (rest_after n es rest m) (packets_of m ps)
+recorded_after origin number options packet es rest ps A A are later = later
+recorded_after origin number options packet es rest ps A B are later = are B
+recorded_after origin number options packet es rest ps B A are later = are A
+recorded_after origin number options packet es rest ps B B are later = later
 
 left_missing : (nearness : Nearness) (at : ℕ) (plans : List LinkPlan) (links : List Link) (found : List Finding) → All IsMissing found
     → All IsMissing (found_left nearness at plans links found)
@@ -244,15 +244,15 @@ left_missing nearness at (plan ∷ plans) (link ∷ links) found all =
 
 pub goes_on : (plan : Plan) (origin : ℕ) (options : Options) (times : Times) (told : Bool) (links : List Link) (recording : List OnNet)
     (rest : Net → List Entry) (found : List Finding) → IsPlan plan → AreFit plan options → IsGoing plan origin options links rest
-    → AreRecorded origin options.jitter rest recording → All IsMissing found
+    → AreRecorded origin options rest recording → All IsMissing found
     → All IsMissing (found_from recording (judge_of plan options times told links) found)
 unfolding found_with_end
 goes_on plan origin options times told links [] rest found valid fit is zip all =
     left_missing _ _ plan.links links found all
 goes_on plan origin options times told links (p ∷ ps) rest found valid fit is zip all =
-    let next = recorded_next origin options.jitter p.number p.packet rest ps p.net zip in
+    let next = recorded_next origin p.number options p.packet rest ps p.net zip in
     let taken = packet_taken plan origin options times told links p.net p.number p.packet next.first next.later rest valid fit is next.is
     next.recorded in
     rw taken.after (goes_on plan origin options (times_with taken.at times) told taken.new ps (rest_after p.net next.later rest) _ valid fit
-    taken.going (λ m. recorded_after origin options.jitter p.number p.packet next.later rest ps p.net m zip next.going)
+    taken.going (λ m. recorded_after origin p.number options p.packet next.later rest ps p.net m zip next.going)
     (taken.found found all))

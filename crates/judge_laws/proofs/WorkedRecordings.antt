@@ -40,23 +40,26 @@ pair_sent = record {
 fit : (late : Bool) → AreFit demo_plan (record strict { late = late })
 fit late = grind arith
 
--- a packet is a record
-recorded : (origin jitter t at : ℕ) (net : Net) (frame : List ℕ) → origin + 1000 * t ≤ at → at ≤ origin + 1000 * (t + jitter)
-    → IsRecord origin jitter (entry t frame) (packet net at frame).packet
-recorded origin jitter t at net frame least most =
-    record { at = at; told = refl; least = least; most = most; whole = refl; bytes = refl }
+with_check_fit : AreFit demo_plan with_check
+with_check_fit = grind arith
 
-pair_run : (origin first second : ℕ) (options : Options) (net : Net) → origin ≤ first → first ≤ origin + 1000 * options.jitter
+-- a packet is a record
+recorded : (origin t at : ℕ) (options : Options) (net : Net) (frame : List ℕ) → options.fcs ≡ false → origin + 1000 * t ≤ at
+    → at ≤ origin + 1000 * (t + options.jitter) → IsRecord origin options (entry t frame) (packet net at frame).packet
+recorded origin t at options net frame plain least most =
+    record { at = at; told = refl; least = least; most = most; whole = refl; bytes = rw plain refl }
+
+pair_run : (origin first second : ℕ) (options : Options) (net : Net) → options.fcs ≡ false → origin ≤ first → first ≤ origin + 1000 * options.jitter
     → origin + 1000000 ≤ second → second ≤ origin + 1000000 + 1000 * options.jitter
     → IsRunOf origin options (two_entries net) ((packet net first (one_frame net)).packet ∷ (packet net second (second_frame net)).packet ∷ [])
-pair_run origin first second options net a b c d = record {
+pair_run origin first second options net plain a b c d = record {
   before = [];
   recorded = two_entries net;
   after = [];
   whole = refl;
   first = λ early. refl;
-  each = (recorded origin options.jitter 0 first net (one_frame net) (omega arith) (omega arith),
-    (recorded origin options.jitter 1000 second net (second_frame net) (omega arith) (omega arith), tt));
+  each = (recorded origin 0 first options net (one_frame net) plain (omega arith) (omega arith),
+    (recorded origin 1000 second options net (second_frame net) plain (omega arith) (omega arith), tt));
 }
 
 second_run : (net : Net) → IsRunOf 7 late (two_entries net) ((packet net 1000007 (second_frame net)).packet ∷ [])
@@ -66,7 +69,7 @@ second_run net = record {
   after = [];
   whole = refl;
   first = λ early. absurd (cc (early));
-  each = (recorded 7 0 1000 1000007 net (second_frame net) (omega arith) (omega arith), tt);
+  each = (recorded 7 1000 1000007 late net (second_frame net) refl (omega arith) (omega arith), tt);
 }
 
 pub finds_nothing : FindsNothing
@@ -75,8 +78,8 @@ finds_nothing = record {
   sent = pair_sent;
   fit = fit false;
   recorded = record {
-    of_a = pair_run 7 7 1000007 strict A (omega arith) (omega arith) (omega arith) (omega arith);
-    of_b = pair_run 7 7 1000007 strict B (omega arith) (omega arith) (omega arith) (omega arith);
+    of_a = pair_run 7 7 1000007 strict A refl (omega arith) (omega arith) (omega arith) (omega arith);
+    of_b = pair_run 7 7 1000007 strict B refl (omega arith) (omega arith) (omega arith) (omega arith);
   };
   nothing = refl;
   late_fit = fit true;
@@ -97,20 +100,14 @@ near_run net = record {
   after = [];
   whole = refl;
   first = λ early. refl;
-  each = (recorded 0 0 0 0 net (one_frame net) (omega arith) (omega arith),
-    (recorded 0 0 999 999000 net (second_frame net) (omega arith) (omega arith), tt));
+  each = (recorded 0 0 0 strict net (one_frame net) refl (omega arith) (omega arith),
+    (recorded 0 999 999000 strict net (second_frame net) refl (omega arith) (omega arith), tt));
 }
 
 loosely : IsRecording 0 loose (two_entries A) (two_entries B) (both_at 2000000 1000000)
 loosely = record {
-  of_a = pair_run 0 2000000 1000000 loose A (omega arith) (omega arith) (omega arith) (omega arith);
-  of_b = pair_run 0 2000000 1000000 loose B (omega arith) (omega arith) (omega arith) (omega arith);
-}
-
-exactly : IsRecording 0 with_check (two_entries A) (two_entries B) (both_at 0 1000000)
-exactly = record {
-  of_a = pair_run 0 0 1000000 with_check A (omega arith) (omega arith) (omega arith) (omega arith);
-  of_b = pair_run 0 0 1000000 with_check B (omega arith) (omega arith) (omega arith) (omega arith);
+  of_a = pair_run 0 2000000 1000000 loose A refl (omega arith) (omega arith) (omega arith) (omega arith);
+  of_b = pair_run 0 2000000 1000000 loose B refl (omega arith) (omega arith) (omega arith) (omega arith);
 }
 
 pub needs_its_premises : NeedsItsPremises
@@ -125,7 +122,7 @@ needs_its_premises = record {
   loose_recorded = loosely;
   jitter = fails_by (λ is. no_false_alarm_holds demo_plan two_accepted _ _ loose 0 (both_at 2000000 1000000) pair_sent is loosely)
       (λ all. not_missing 7 (omega arith) (ap kind_number (all 0 some (omega arith))));
-  fcs = fails_by (λ is. no_false_alarm_holds demo_plan two_accepted _ _ with_check 0 (both_at 0 1000000) pair_sent is exactly)
+  fcs = fails_by (λ is. no_false_alarm_holds demo_plan two_accepted _ _ with_check 0 (both_at 0 1000000) pair_sent with_check_fit is)
       (λ all. not_missing 1 (omega arith) (ap kind_number (all 0 some (omega arith))));
   first = fails_by (λ is. no_false_alarm_holds demo_plan two_accepted _ _ strict 0 (seconds_at 1000000) pair_sent (fit false) is)
       (λ all. not_missing 6 (omega arith) (ap kind_number (all 0 some (omega arith))));

@@ -15,6 +15,7 @@ use Rattle.judge.specs.Twins.{same_net}
 use Rattle.judge.specs.declared.finding.Finding.{Finding}
 use Rattle.judge.specs.declared.finding.Kind.TheVariants.{Missing}
 use Rattle.judge.specs.declared.options.Options.{Options}
+use Rattle.judge_laws.specs.Frames.{IsRecordedAs}
 
 -- what an emitter of a valid plan sent to the two networks
 pub record IsSent (plan : Plan) (accepted : Accepted) (a b : List Entry) : Type 0 where
@@ -23,15 +24,15 @@ pub record IsSent (plan : Plan) (accepted : Accepted) (a b : List Entry) : Type 
   pub allowed : AreAllowed plan accepted
   pub turns : TakeTurns plan a b
 
--- A packet is an entry's frame, whole, at most `jitter` microseconds after the entry's time. Time 0 of the entries is
--- `origin` on the recording's clock, in nanoseconds.
-pub record IsRecord (origin jitter : ℕ) (e : Entry) (packet : Recorded) : Type 0 where
+-- A packet is an entry's frame, whole, at most the jitter after the entry's time. Time 0 of the entries is `origin` on the
+-- recording's clock, in nanoseconds.
+pub record IsRecord (origin : ℕ) (options : Options) (e : Entry) (packet : Recorded) : Type 0 where
   pub at : ℕ
   pub told : packet.at ≡ Some at
   pub least : origin + 1000 * e.at ≤ at
-  pub most : at ≤ origin + 1000 * (e.at + jitter)
+  pub most : at ≤ origin + 1000 * (e.at + options.jitter)
   pub whole : packet.original ≡ length packet.bytes
-  pub bytes : packet.bytes ≡ e.frame
+  pub bytes : IsRecordedAs options.fcs e.frame packet.bytes
 
 -- the packets of a network, in order
 abbrev pub packets_of : Net → List OnNet → List Recorded
@@ -44,18 +45,17 @@ pub record IsRunOf (origin : ℕ) (options : Options) (handed : List Entry) (pac
   pub after : List Entry
   pub whole : handed ≡ before ++ (recorded ++ after)
   pub first : options.late ≡ false → before ≡ []
-  pub each : AllZip (IsRecord origin options.jitter) recorded packets
+  pub each : AllZip (IsRecord origin options) recorded packets
 
 -- a recording of both networks, however their packets interleave
 pub record IsRecording (origin : ℕ) (options : Options) (a b : List Entry) (recording : List OnNet) : Type 0 where
   pub of_a : IsRunOf origin options a (packets_of A recording)
   pub of_b : IsRunOf origin options b (packets_of B recording)
 
--- The judge expects what this project sends, and frames without their check sequence. The jitter is at most each gap.
--- No twin can be mistaken: a number comes again after 255 gaps.
+-- The judge expects what this project sends. The jitter is at most each gap. No twin can be mistaken: a number comes again
+-- after 255 gaps.
 pub record AreFit (plan : Plan) (options : Options) : Type 0 where
   pub profile : options.arinc ≡ false
-  pub fcs : options.fcs ≡ false
   pub jitter : (k : ℕ) → k < length plan.links → options.jitter ≤ bag_micros (link_plan_at plan.links k).bag
   pub skew : (k : ℕ) → k < length plan.links → is_both (link_plan_at plan.links k).networks ≡ true
       → options.skew + options.jitter < 255 * bag_micros (link_plan_at plan.links k).bag

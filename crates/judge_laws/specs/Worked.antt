@@ -60,5 +60,5 @@ pub record NeedsItsPremises : Type 0 where
   pub early : BothFail (IsRecording 0 strict (two_entries A) (two_entries B) (both_at 0 999999)) (OnlyMissing strict (both_at 0 999999))
   pub loose_recorded : IsRecording 0 loose (two_entries A) (two_entries B) (both_at 2000000 1000000)
   pub jitter : BothFail (AreFit demo_plan loose) (OnlyMissing loose (both_at 2000000 1000000))
-  pub fcs : BothFail (AreFit demo_plan with_check) (OnlyMissing with_check (both_at 0 1000000))
+  pub fcs : BothFail (IsRecording 0 with_check (two_entries A) (two_entries B) (both_at 0 1000000)) (OnlyMissing with_check (both_at 0 1000000))
   pub first : BothFail (IsRecording 0 strict (two_entries A) (two_entries B) (seconds_at 1000000)) (OnlyMissing strict (seconds_at 1000000))
