@@ -63,7 +63,7 @@ spaced_by gap before (e ∷ (d ∷ es)) zero (suc n) spare spaced inside =
 again : (i j : ℕ) → sequence_number i ≡ sequence_number j → i < j → i + 255 ≤ j
 again i j same before = grind (arith, nat_tests)
 
-far : (gap i j : ℕ) (stream : List Entry) → IsStream gap stream → i < j → j < length stream
+pub far : (gap i j : ℕ) (stream : List Entry) → IsStream gap stream → i < j → j < length stream
     → number_in (own_at stream i).frame ≡ number_in (own_at stream j).frame
     → (own_at stream i).at + 255 * gap ≤ (own_at stream j).at
 far gap i j stream is before inside same =

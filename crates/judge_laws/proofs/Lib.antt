@@ -3,6 +3,8 @@ pub mod Carried
 pub mod Copies
 pub mod Found
 pub mod Heard
+pub mod LeadTaken
+pub mod Leading
 pub mod Line
 pub mod Link
 pub mod Message

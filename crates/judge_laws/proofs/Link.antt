@@ -104,13 +104,23 @@ found_number setting tag port frame link found number =
     found_twin setting tag number frame (given_up setting tag number link)
     (found_on_line setting tag port frame (given_up setting tag number link) (found_given_up setting tag number link found))
 
+-- the link after a frame
+abbrev pub link_then : Plan → ℕ → Options → Nearness → Tag → List ℕ → Link → Link
+link_then plan k options nearness tag frame link =
+    link_after (setting_at plan k options nearness) tag (port_at plan k frame) frame link
+
+-- The frame is taken: nothing is found but frames that it shows to have no twin.
 pub record IsLinkTaken (plan : Plan) (k origin : ℕ) (options : Options) (nearness : Nearness) (link : Link) (tag : Tag) (e : Entry)
     (es : List Entry) (rest : Net → List Entry) : Type 0 where
   pub line : IsTaken plan k tag.net origin options (line_on tag.net link) tag e es
-  pub after : IsLinkOf plan k origin options (link_after (setting_at plan k options nearness) tag (port_at plan k e.frame) e.frame link)
-      (rest_after tag.net es rest)
-  pub found : (found : List Finding) → All IsMissing found
-      → All IsMissing (found_on_link (setting_at plan k options nearness) tag (port_at plan k e.frame) e.frame link found)
+  pub after : IsLinkOf plan k origin options (link_then plan k options nearness tag e.frame link) (rest_after tag.net es rest)
+  pub twins : is_both (link_plan_at plan.links k).networks ≡ true → (link_then plan k options nearness tag e.frame link).twins
+      ≡ pairing_with tag (number_in e.frame) e.frame (left_waiting nearness tag (number_in e.frame) link.twins)
+  pub alone : is_both (link_plan_at plan.links k).networks ≡ false
+      → (link_then plan k options nearness tag e.frame link).twins ≡ link.twins
+  pub found : (found : List Finding)
+      → found_on_link (setting_at plan k options nearness) tag (port_at plan k e.frame) e.frame link found
+      ≡ found_given_up (setting_at plan k options nearness) tag (number_in e.frame) link found
 
 faultless_found : (tag : Tag) (vl : VlId) (found : List Finding) → with_verdict tag vl faultless found ≡ found
 unfolding with_verdict
@@ -133,6 +143,10 @@ twins_after setting tag port number frame link both =
     ∙ ap (pairing_with tag number frame) (twins_with_line tag.net _ (given_up setting tag number link)
     ∙ twins_given_up setting tag number link both)
 
+twins_alone : (setting : Setting) (tag : Tag) (port : Option PortPlan) (number : ℕ) (frame : List ℕ) (link : Link)
+    → is_both setting.plan.networks ≡ false → (after_number setting tag port frame link number).twins ≡ link.twins
+twins_alone setting tag port number frame link one = rw one (twins_with_line tag.net _ link)
+
 twin_fits : (setting : Setting) (tag : Tag) (number : ℕ) (frame : List ℕ) (link : Link) (found : List Finding)
     → (is_both setting.plan.networks ≡ true → twin_deviation tag number frame (left_waiting setting.nearness tag number link.twins) ≡ None)
     → found_twin setting tag number frame (given_up setting tag number link) found ≡ found
@@ -141,7 +155,7 @@ twin_fits setting tag number frame link found none = elim (cases_Bool (is_both s
   | inr one ↦ rw one refl
 ]
 
-all_given_up : (setting : Setting) (tag : Tag) (number : ℕ) (link : Link) (found : List Finding) → All IsMissing found
+pub all_given_up : (setting : Setting) (tag : Tag) (number : ℕ) (link : Link) (found : List Finding) → All IsMissing found
     → All IsMissing (found_given_up setting tag number link found)
 all_given_up setting tag number link found all = by (is_both setting.plan.networks)
   where
@@ -159,8 +173,12 @@ link_taken plan k origin options nearness link tag e es rest valid inside long i
   line = line;
   after = subst (λ n. IsLinkOf plan k origin options (after_number setting tag port e.frame link n) (rest_after tag.net es rest))
       (sym line.clean.number) after;
-  found = λ found all. subst (λ n. All IsMissing (found_number setting tag port e.frame link found n)) (sym line.clean.number)
-      (founds found all);
+  twins = λ both. subst (λ n. (after_number setting tag port e.frame link n).twins
+      ≡ pairing_with tag number e.frame (left_waiting nearness tag number link.twins)) (sym line.clean.number)
+      (twins_after setting tag port number e.frame link both);
+  alone = λ one. twins_alone setting tag port (fields_of e.frame).number e.frame link one;
+  found = λ found. subst (λ n. found_number setting tag port e.frame link found n ≡ found_given_up setting tag number link found)
+      (sym line.clean.number) (founds found);
 }
   where
     gap : ℕ
@@ -217,12 +235,13 @@ link_taken plan k origin options nearness link tag e es rest valid inside long i
       };
     }
 
-    founds : (found : List Finding) → All IsMissing found → All IsMissing (found_number setting tag port e.frame link found number)
-    founds found all = rw (
+    founds : (found : List Finding) → found_number setting tag port e.frame link found number
+        ≡ found_given_up setting tag number link found
+    founds found = rw (
       twin_fits setting tag number e.frame link (found_on_line setting tag port e.frame before (found_given_up setting tag number link found))
           (λ both. (met both).same),
       line_given_up setting tag number link tag.net,
       line.wrong,
       line.clean.sized,
       faultless_found,
-    ) (all_given_up setting tag number link found all)
+    ) refl

@@ -8,21 +8,21 @@ use Rattle.std.proofs.lemmas.List.{get_or-set_same, get_or-set_other}
 use Rattle.afdx_plan.specs.Config.{Plan, IsPlan, link_plan_at}
 use Rattle.afdx_plan.specs.declared.link_plan.LinkPlan.{LinkPlan}
 use Rattle.afdx_plan.specs.declared.port_plan.VlId.{VlId}
-use Rattle.afdx_frame.specs.Header.{link_in, sub_in}
+use Rattle.afdx_frame.specs.Header.{link_in, number_in, sub_in}
 use Rattle.afdx_frame.specs.declared.net.Net.{Net}
 use Rattle.afdx_frame.specs.declared.net.Net.TheVariants.{A, B}
 use Rattle.redundant_mux.specs.Lines.{Entry}
 use Rattle.afdx_legal.specs.Legal.{IsKnown, AreKnown}
 use Rattle.afdx_legal.specs.Streams.{link_stream}
 use Rattle.capture.specs.Recording.{Recorded}
-use Rattle.judge.specs.Judging.{Judging, OnNet, admitted, after_packet, after_timed, found_from, found_left, found_of_arrival, found_on_link, found_timed, found_with_end, found_with_packet, link_after, link_at, new_link, setting_of, tag_of, times_with, with_arrival}
+use Rattle.judge.specs.Judging.{Judging, OnNet, admitted, after_packet, after_timed, found_from, found_given_up, found_left, found_of_arrival, found_on_link, found_timed, found_with_end, found_with_packet, link_after, link_at, new_link, setting_of, tag_of, times_with, with_arrival}
 use Rattle.judge.specs.Rules.{frame_in, place_of}
 use Rattle.judge.specs.Types.{Link, Nearness, Tag, Times}
 use Rattle.judge.specs.declared.finding.Finding.{Finding}
 use Rattle.judge.specs.declared.options.Options.{Options}
 use Rattle.judge_laws.specs.NoFalseAlarm.{AreFit, IsMissing, IsRecord, packets_of}
 use Rattle.judge_laws.proofs.Line.{IsLine, of_profile, port_at}
-use Rattle.judge_laws.proofs.Link.{AreCopies, IsLinkOf, IsLinkTaken, link_taken, rest_after}
+use Rattle.judge_laws.proofs.Link.{AreCopies, IsLinkOf, IsLinkTaken, all_given_up, link_taken, link_then, rest_after, setting_at}
 use Rattle.judge_laws.proofs.Numbers.{IsDelayed}
 use Rattle.judge_laws.proofs.Waits.{missing_at_end}
 
@@ -125,30 +125,49 @@ new_at links k new inside = get_or-set_same links k new (new_link false false) i
 other_at : (links : List Link) (k j : ℕ) (new : Link) → j ≢ k → link_at (slice_set links k new) j ≡ link_at links j
 other_at links k j new other = get_or-set_other links k j new (new_link false false) other
 
+-- a packet is taken, as a frame of the link at a place
 pub record IsPacketTaken (plan : Plan) (origin : ℕ) (options : Options) (times : Times) (told : Bool) (links : List Link)
-    (net : Net) (number : ℕ) (packet : Recorded) (es : List Entry) (rest : Net → List Entry) : Type 0 where
+    (net : Net) (number : ℕ) (packet : Recorded) (e : Entry) (es : List Entry) (rest : Net → List Entry) : Type 0 where
   pub at : ℕ
+  pub k : ℕ
+  pub inside : k < length plan.links
+  pub its : link_in e.frame ≡ id_of plan k
+  pub nearness : Nearness
+  pub skew : nearness.skew ≡ 1000 * options.skew
+  pub taken : IsLinkTaken plan k origin options nearness (link_at links k) (tag_of net number at) e (link_stream (id_of plan k) es)
+      (rest_of plan k rest)
   pub new : List Link
+  pub own : link_at new k ≡ link_then plan k options nearness (tag_of net number at) e.frame (link_at links k)
+  pub others : (j : ℕ) → j ≢ k → link_at new j ≡ link_at links j
   pub after : after_packet net number packet (judge_of plan options times told links) ≡ judge_of plan options (times_with at times) told new
   pub going : IsGoing plan origin options new (rest_after net es rest)
-  pub found : (found : List Finding) → All IsMissing found
-      → All IsMissing (found_with_packet net number packet (judge_of plan options times told links) found)
+  pub found : (found : List Finding) → found_with_packet net number packet (judge_of plan options times told links) found
+      ≡ found_given_up (setting_at plan k options nearness) (tag_of net number at) (number_in e.frame) (link_at links k) found
 
-packet_taken : (plan : Plan) (origin : ℕ) (options : Options) (times : Times) (told : Bool) (links : List Link) (net : Net)
+pub packet_taken : (plan : Plan) (origin : ℕ) (options : Options) (times : Times) (told : Bool) (links : List Link) (net : Net)
     (number : ℕ) (packet : Recorded) (e : Entry) (es : List Entry) (rest : Net → List Entry) → IsPlan plan → AreFit plan options
     → IsGoing plan origin options links rest → rest net ≡ e ∷ es → IsRecord origin options e packet
-    → IsPacketTaken plan origin options times told links net number packet es rest
+    → IsPacketTaken plan origin options times told links net number packet e es rest
 packet_taken plan origin options times told links net number packet e es rest valid fit is next record_of = record {
   at = record_of.at;
+  k = k;
+  inside = know.within;
+  its = know.link;
+  nearness = nearness;
+  skew = refl;
+  taken = taken;
   new = new;
+  own = new_at links k link (rw is.size know.within);
+  others = λ j other. other_at links k j link other;
   after = after_is plan options times told links net number record_of.at packet e.frame k record_of.told frame taken.line.clean.placed;
   going = record {
     size = length-set links k link ∙ is.size;
     known = λ m. known_after plan.links e es rest net m next is.known;
     each = each;
   };
-  found = λ found all. rw (found_is plan options times told links net number record_of.at packet e.frame k found record_of.told frame taken.line.clean.placed)
-      (taken.found found all);
+  found = λ found.
+      found_is plan options times told links net number record_of.at packet e.frame k found record_of.told frame taken.line.clean.placed
+      ∙ taken.found found;
 }
   where
     know : IsKnown plan.links net e.frame
@@ -255,4 +274,5 @@ goes_on plan origin options times told links (p ∷ ps) rest found valid fit is 
     next.recorded in
     rw taken.after (goes_on plan origin options (times_with taken.at times) told taken.new ps (rest_after p.net next.later rest) _ valid fit
     taken.going (λ m. recorded_after origin p.number options p.packet next.later rest ps p.net m zip next.going)
-    (taken.found found all))
+    (subst (All IsMissing) (sym (taken.found found)) (all_given_up (setting_at plan taken.k options taken.nearness)
+    (tag_of p.net p.number taken.at) (number_in next.first.frame) (link_at links taken.k) found all)))
