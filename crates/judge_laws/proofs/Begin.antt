@@ -150,7 +150,7 @@ filter_twice : {X : Type 0} (p q : X → Bool) (xs : List X) → ((x : X) → p 
 filter_twice p q [] both = refl
 filter_twice p q (x ∷ xs) both = grind (arith, filter_twice p q xs both, both x)
 
-stream_on_both : (plan : Plan) (k : ℕ) (es : List Entry) → IsPlan plan → k < length plan.links
+pub stream_on_both : (plan : Plan) (k : ℕ) (es : List Entry) → IsPlan plan → k < length plan.links
     → is_both (link_plan_at plan.links k).networks ≡ true → link_stream (id_of plan k) (on_both plan.links es) ≡ link_stream (id_of plan k) es
 stream_on_both plan k es valid inside both = filter_twice (λ (e : Entry). nat_eq (link_in e.frame) (id_of plan k))
     (λ (e : Entry). is_on_both plan.links (link_in e.frame)) es (λ e its. rw (eqb-true (link_in e.frame) (id_of plan k) its) (on_both_is plan k valid inside ∙ both))
@@ -194,7 +194,7 @@ both_copies plan accepted k m n long short valid inside both legal twins =
 
 -- ---- a whole judge
 
-handed_to : (a b : List Entry) → Net → List Entry
+pub handed_to : (a b : List Entry) → Net → List Entry
 handed_to a b A = a
 handed_to a b B = b
 
@@ -234,30 +234,30 @@ own_stream plan accepted a b k sent inside both =
     each stream on_a on_b A = on_a
     each stream on_a on_b B = on_b
 
-pub no_false_alarm_holds : NoFalseAlarm
-unfolding handed_to
-no_false_alarm_holds plan accepted a b options origin recording sent fit recorded =
-    subst (λ o. All IsMissing (findings plan o recording)) (sym own) (goes_on plan origin options no_times false
-    (replicate (length plan.links) (new_link options.late false)) recording rest [] sent.valid fit begins
-    (λ net. record { recorded = (run net).recorded; after = (run net).after; whole = refl; each = (run net).each }) (All-nil IsMissing))
+-- a judge of which each network's frames `rest` are to come
+pub going_begins : (plan : Plan) (accepted : Accepted) (a b : List Entry) (options : Options) (origin : ℕ) (before rest : Net → List Entry)
+    → IsSent plan accepted a b → ((net : Net) → handed_to a b net ≡ before net ++ rest net)
+    → ((net : Net) → options.late ≡ false → before net ≡ [])
+    → IsGoing plan origin options (replicate (length plan.links) (new_link options.late false)) rest
+going_begins plan accepted a b options origin before rest sent whole first = record {
+  size = length-replicate (length plan.links) (new_link options.late false);
+  known = λ net. known_on plan.links net (before net) (rest net) (legal net).known;
+  each = λ k inside. rw (get_or-replicate (length plan.links) k (new_link options.late false) (new_link false false) inside)
+      (record { lines = link_lines k inside; twins = twins k inside });
+}
   where
-    own : options ≡ of_profile options
-    own = ap (λ (arinc : Bool). let o : Options = record options { arinc = arinc } in o) fit.profile
-
-    run : (net : Net) → IsRunOf origin options (handed_to a b net) (packets_of net recording)
-    run A = recorded.of_a
-    run B = recorded.of_b
-
-    rest : Net → List Entry
-    rest net = (run net).recorded ++ (run net).after
-
-    legal : (net : Net) → IsLegalOn plan accepted net ((run net).before ++ rest net)
-    legal net = subst (IsLegalOn plan accepted net) (run net).whole (legal_on plan accepted a b sent net)
+    legal : (net : Net) → IsLegalOn plan accepted net (before net ++ rest net)
+    legal net = subst (IsLegalOn plan accepted net) (whole net) (legal_on plan accepted a b sent net)
 
     lines : (k : ℕ) → k < length plan.links → (net : Net)
         → IsLine plan k net origin options (new_line options.late false) (rest_of plan k rest net)
-    lines k inside net = line_begins plan accepted k origin options net (run net).before (rest net) sent.valid inside (legal net) sent.allowed
-        (subst (TakeTurnsOn plan) (run net).whole (turns_of plan accepted a b sent net) k inside) (run net).first
+    lines k inside net = line_begins plan accepted k origin options net (before net) (rest net) sent.valid inside (legal net) sent.allowed
+        (subst (TakeTurnsOn plan) (whole net) (turns_of plan accepted a b sent net) k inside) (first net)
+
+    link_lines : (k : ℕ) → k < length plan.links → (net : Net)
+        → IsLine plan k net origin options (line_on net (new_link options.late false)) (rest_of plan k rest net)
+    link_lines k inside A = lines k inside A
+    link_lines k inside B = lines k inside B
 
     twins : (k : ℕ) → k < length plan.links → is_both (link_plan_at plan.links k).networks ≡ true
         → AreCopies (bag_micros (link_plan_at plan.links k).bag) origin options.jitter (new_link options.late false) (rest_of plan k rest)
@@ -266,21 +266,26 @@ no_false_alarm_holds plan accepted a b options origin recording sent fit recorde
         record {
           stream = owns.stream;
           is_stream = owns.is;
-          copies = λ net. all_on (IsCopy owns.stream net) (link_stream (id_of plan k) (run net).before) (rest_of plan k rest net)
-              (subst (All (IsCopy owns.stream net)) (ap (link_stream (id_of plan k)) (run net).whole
-              ∙ with_append (λ (e : Entry). link_in e.frame) (id_of plan k) (run net).before (rest net)) (owns.copies net));
+          copies = λ net. all_on (IsCopy owns.stream net) (link_stream (id_of plan k) (before net)) (rest_of plan k rest net)
+              (subst (All (IsCopy owns.stream net)) (ap (link_stream (id_of plan k)) (whole net)
+              ∙ with_append (λ (e : Entry). link_in e.frame) (id_of plan k) (before net) (rest net)) (owns.copies net));
           waits = All-nil (IsWait origin options.jitter owns.stream);
         }
 
-    link_lines : (k : ℕ) → k < length plan.links → (net : Net)
-        → IsLine plan k net origin options (line_on net (new_link options.late false)) (rest_of plan k rest net)
-    link_lines k inside A = lines k inside A
-    link_lines k inside B = lines k inside B
+pub own_options : (options : Options) → options.arinc ≡ false → options ≡ of_profile options
+own_options options profile = ap (λ (arinc : Bool). let o : Options = record options { arinc = arinc } in o) profile
 
-    begins : IsGoing plan origin options (replicate (length plan.links) (new_link options.late false)) rest
-    begins = record {
-      size = length-replicate (length plan.links) (new_link options.late false);
-      known = λ net. known_on plan.links net (run net).before (rest net) (legal net).known;
-      each = λ k inside. rw (get_or-replicate (length plan.links) k (new_link options.late false) (new_link false false) inside)
-          (record { lines = link_lines k inside; twins = twins k inside });
-    }
+pub no_false_alarm_holds : NoFalseAlarm
+unfolding handed_to
+no_false_alarm_holds plan accepted a b options origin recording sent fit recorded =
+    subst (λ o. All IsMissing (findings plan o recording)) (sym (own_options options fit.profile)) (goes_on plan origin options no_times false
+    (replicate (length plan.links) (new_link options.late false)) recording rest [] sent.valid fit
+    (going_begins plan accepted a b options origin (λ net. (run net).before) rest sent (λ net. (run net).whole) (λ net. (run net).first))
+    (λ net. record { recorded = (run net).recorded; after = (run net).after; whole = refl; each = (run net).each }) (All-nil IsMissing))
+  where
+    run : (net : Net) → IsRunOf origin options (handed_to a b net) (packets_of net recording)
+    run A = recorded.of_a
+    run B = recorded.of_b
+
+    rest : Net → List Entry
+    rest net = (run net).recorded ++ (run net).after

@@ -14,4 +14,5 @@ pub mod Pieces
 pub mod Recording
 pub mod Turns
 pub mod Waits
+pub mod Whole
 pub mod WorkedRecordings

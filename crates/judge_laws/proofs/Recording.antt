@@ -53,7 +53,7 @@ same_rest plan k origin options link rest other same is =
     let all : rest ≡ other = λ i net. same net i in
     subst (IsLinkOf plan k origin options link) all is
 
-own_next : (plan : Plan) (k : ℕ) (e : Entry) (es : List Entry) (rest : Net → List Entry) (n m : Net) → rest n ≡ e ∷ es
+pub own_next : (plan : Plan) (k : ℕ) (e : Entry) (es : List Entry) (rest : Net → List Entry) (n m : Net) → rest n ≡ e ∷ es
     → link_in e.frame ≡ id_of plan k → rest_after n (link_stream (id_of plan k) es) (rest_of plan k rest) m
     ≡ rest_of plan k (rest_after n es rest) m
 own_next plan k e es rest A A next its = refl
@@ -61,13 +61,13 @@ own_next plan k e es rest A B next its = refl
 own_next plan k e es rest B A next its = refl
 own_next plan k e es rest B B next its = refl
 
-stream_next : (vl : ℕ) (e : Entry) (es : List Entry) → link_in e.frame ≡ vl → link_stream vl (e ∷ es) ≡ e ∷ link_stream vl es
+pub stream_next : (vl : ℕ) (e : Entry) (es : List Entry) → link_in e.frame ≡ vl → link_stream vl (e ∷ es) ≡ e ∷ link_stream vl es
 stream_next vl e es its = grind (arith, nat_tests)
 
 stream_same : (vl : ℕ) (e : Entry) (es : List Entry) → link_in e.frame ≢ vl → link_stream vl (e ∷ es) ≡ link_stream vl es
 stream_same vl e es other = grind (arith, nat_tests)
 
-other_next : (plan : Plan) (k : ℕ) (e : Entry) (es : List Entry) (rest : Net → List Entry) (n m : Net) → rest n ≡ e ∷ es
+pub other_next : (plan : Plan) (k : ℕ) (e : Entry) (es : List Entry) (rest : Net → List Entry) (n m : Net) → rest n ≡ e ∷ es
     → link_in e.frame ≢ id_of plan k → rest_of plan k rest m ≡ rest_of plan k (rest_after n es rest) m
 other_next plan k e es rest A A next other = rw next (stream_same (id_of plan k) e es other)
 other_next plan k e es rest A B next other = refl
@@ -129,6 +129,9 @@ other_at links k j new other = get_or-set_other links k j new (new_link false fa
 pub record IsPacketTaken (plan : Plan) (origin : ℕ) (options : Options) (times : Times) (told : Bool) (links : List Link)
     (net : Net) (number : ℕ) (packet : Recorded) (e : Entry) (es : List Entry) (rest : Net → List Entry) : Type 0 where
   pub at : ℕ
+  pub timed : packet.at ≡ Some at
+  pub delayed : IsDelayed origin options.jitter e.at at
+  pub long : 60 ≤ length e.frame
   pub k : ℕ
   pub inside : k < length plan.links
   pub its : link_in e.frame ≡ id_of plan k
@@ -139,6 +142,7 @@ pub record IsPacketTaken (plan : Plan) (origin : ℕ) (options : Options) (times
   pub new : List Link
   pub own : link_at new k ≡ link_then plan k options nearness (tag_of net number at) e.frame (link_at links k)
   pub others : (j : ℕ) → j ≢ k → link_at new j ≡ link_at links j
+  pub unlike : (j : ℕ) → j < length plan.links → j ≢ k → link_in e.frame ≢ id_of plan j
   pub after : after_packet net number packet (judge_of plan options times told links) ≡ judge_of plan options (times_with at times) told new
   pub going : IsGoing plan origin options new (rest_after net es rest)
   pub found : (found : List Finding) → found_with_packet net number packet (judge_of plan options times told links) found
@@ -150,6 +154,9 @@ pub packet_taken : (plan : Plan) (origin : ℕ) (options : Options) (times : Tim
     → IsPacketTaken plan origin options times told links net number packet e es rest
 packet_taken plan origin options times told links net number packet e es rest valid fit is next record_of = record {
   at = record_of.at;
+  timed = record_of.told;
+  delayed = record { least = record_of.least; most = record_of.most };
+  long = know.size;
   k = k;
   inside = know.within;
   its = know.link;
@@ -159,6 +166,7 @@ packet_taken plan origin options times told links net number packet e es rest va
   new = new;
   own = new_at links k link (rw is.size know.within);
   others = λ j other. other_at links k j link other;
+  unlike = unlike;
   after = after_is plan options times told links net number record_of.at packet e.frame k record_of.told frame taken.line.clean.placed;
   going = record {
     size = length-set links k link ∙ is.size;
@@ -198,13 +206,15 @@ packet_taken plan origin options times told links net number packet e es rest va
     new : List Link
     new = slice_set links k link
 
+    unlike : (j : ℕ) → j < length plan.links → j ≢ k → link_in e.frame ≢ id_of plan j
+    unlike j inside other its = other (valid.links_apart j k inside know.within (ap vl_of (sym its ∙ know.link)))
+
     each : (j : ℕ) → j < length plan.links → IsLinkOf plan j origin options (link_at new j) (rest_of plan j (rest_after net es rest))
     each j inside = elim (cases_eq j k) [
       | inl same ↦ rw (same, new_at links k link (rw is.size know.within))
           (same_rest plan k origin options _ _ _ (λ m. own_next plan k e es rest net m next know.link) taken.after)
       | inr other ↦ rw (other_at links k j link other)
-          (same_rest plan j origin options _ _ _ (λ m. other_next plan j e es rest net m next (λ its. other
-          (valid.links_apart j k inside know.within (ap vl_of (sym its ∙ know.link))))) (is.each j inside))
+          (same_rest plan j origin options _ _ _ (λ m. other_next plan j e es rest net m next (unlike j inside other)) (is.each j inside))
     ]
 
 -- a list of which packets record a beginning

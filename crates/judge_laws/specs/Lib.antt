@@ -1,3 +1,4 @@
 pub mod Frames
 pub mod NoFalseAlarm
+pub mod NothingFound
 pub mod Worked

@@ -1,0 +1,195 @@
+-- A judge over a whole recording, in the order of time: nothing is found.
+use Rattle.std.proofs.Common.{ℕ, ◌≡◌, ◌≢◌, ◌+◌, ◌*◌, ◌<◌, ◌≤◌, Bool, true, false, List, [], ◌∷◌, ◌++◌, length, map, get_or, take, replicate, Option, Some, None, arith, refl, sym, subst, ap, ◌∙◌, inl, inr, append-nil, le_refl}
+use Rattle.std.specs.Prelude.{All, filter, if◌then◌else◌, unwrap_or, nat_eq}
+use Rattle.std.specs.List.{AllZip}
+use Rattle.std.proofs.lemmas.Bool.{cases_Bool, cases_eq}
+use Rattle.std.proofs.lemmas.List.{get_or-replicate, length-map, take_all}
+use Rattle.std.proofs.lemmas.List.Elements.{All-cons, All-filter, All-from_get_or, All-nil, All-tail, All-weaker}
+use Rattle.afdx_plan.specs.Config.{Plan, IsPlan, link_plan_at}
+use Rattle.afdx_plan.specs.Plan.{bag_micros, is_both}
+use Rattle.afdx_plan.specs.declared.link_plan.LinkPlan.{LinkPlan}
+use Rattle.afdx_frame.specs.Header.{link_in, number_in}
+use Rattle.afdx_frame.specs.declared.net.Net.{Net}
+use Rattle.afdx_frame.specs.declared.net.Net.TheVariants.{A, B}
+use Rattle.redundant_mux.specs.Lines.{Entry, side}
+use Rattle.afdx_legal.specs.Legal.{Accepted, on_both}
+use Rattle.afdx_legal.specs.Streams.{link_stream}
+use Rattle.afdx_laws.proofs.LegalLinks.{stream_side}
+use Rattle.capture.specs.Recording.{Recorded}
+use Rattle.judge.specs.Judging.{Judging, OnNet, found_from, found_given_up, found_left, found_with_end, findings, link_at, new_link, no_times, tag_of, times_with}
+use Rattle.judge.specs.Twins.{found_at_end, found_missing, is_lost, is_passed, left_waiting, missing_of, pairing_with, same_net}
+use Rattle.judge.specs.Types.{Link, Nearness, Setting, Tag, Times}
+use Rattle.judge.specs.Waiting.{Pairing, Wait}
+use Rattle.judge.specs.declared.finding.Finding.{Finding}
+use Rattle.judge.specs.declared.options.Options.{Options}
+use Rattle.judge_laws.specs.NoFalseAlarm.{AreFit, IsRecord, IsSent, packets_of}
+use Rattle.judge_laws.specs.NothingFound.{IsInOrder, IsWhole, NothingFound, time_of}
+use Rattle.judge_laws.proofs.Begin.{going_begins, handed_to, own_options, stream_on_both}
+use Rattle.judge_laws.proofs.Copies.{IsStream}
+use Rattle.judge_laws.proofs.LeadTaken.{IsInTime, LeadsOn, leads_on}
+use Rattle.judge_laws.proofs.Leading.{AreOpen, IsLeading, IsWaitFor, other, stay_found, stay_kept}
+use Rattle.judge_laws.proofs.Line.{of_profile}
+use Rattle.judge_laws.proofs.Link.{IsLinkTaken, rest_after, setting_at}
+use Rattle.judge_laws.proofs.Recording.{IsGoing, IsPacketTaken, id_of, judge_of, other_next, own_next, packet_taken, rest_of, stream_next}
+use Rattle.judge_laws.proofs.Numbers.{IsDelayed}
+
+-- one network of a link on both leads
+pub record IsPaired (plan : Plan) (k origin : ℕ) (options : Options) (latest : ℕ) (waiting : List Wait) (rest : Net → List Entry) : Type 0 where
+  pub stream : List Entry
+  pub is_stream : IsStream (bag_micros (link_plan_at plan.links k).bag) stream
+  pub leading : IsLeading stream origin options.jitter latest rest waiting
+
+-- the twins of all links: no frame of a link on one network waits
+pub record ArePaired (plan : Plan) (origin : ℕ) (options : Options) (latest : ℕ) (links : List Link) (rest : Net → List Entry) : Type 0 where
+  pub both : (k : ℕ) → k < length plan.links → is_both (link_plan_at plan.links k).networks ≡ true
+      → IsPaired plan k origin options latest (link_at links k).twins.waiting (rest_of plan k rest)
+  pub alone : (k : ℕ) → k < length plan.links → is_both (link_plan_at plan.links k).networks ≡ false
+      → (link_at links k).twins.waiting ≡ []
+
+-- ---- no entry that is to come is past
+
+open_later : (origin jitter now later : ℕ) (es : List Entry) → now ≤ later → AreOpen origin jitter later es → AreOpen origin jitter now es
+open_later origin jitter now later es up all = λ i spare inside. (let limit = all i spare inside in omega arith)
+
+time_is : (packet : Recorded) (at : ℕ) → packet.at ≡ Some at → time_of packet ≡ at
+time_is packet at told = ap (λ (time : Option ℕ). unwrap_or time 0) told
+
+open_next : (origin latest : ℕ) (options : Options) (net : Net) (p : OnNet) (ps : List OnNet) (its : Bool) (es : List Entry)
+    → latest ≤ time_of p.packet
+    → AllZip (IsRecord origin options) es (if its then p.packet ∷ packets_of net ps else packets_of net ps)
+    → ((es : List Entry) → AllZip (IsRecord origin options) es (packets_of net ps) → AreOpen origin options.jitter (time_of p.packet) es)
+    → AreOpen origin options.jitter latest es
+open_next origin latest options net p ps false es up zip later =
+    open_later origin options.jitter latest (time_of p.packet) es up (later es zip)
+open_next origin latest options net p ps true [] up zip later = absurd zip
+open_next origin latest options net p ps true (e ∷ es) up zip later =
+    let time : time_of p.packet ≡ zip.0.at = time_is p.packet zip.0.at zip.0.told in
+    let most = zip.0.most in
+    All-cons (λ (e : Entry). latest ≤ origin + 1000 * (e.at + options.jitter)) e es (omega arith)
+    (open_later origin options.jitter latest (time_of p.packet) es up (later es zip.1))
+
+packets_next : (net : Net) (p : OnNet) (ps : List OnNet)
+    → packets_of net (p ∷ ps) ≡ (if same_net p.net net then p.packet ∷ packets_of net ps else packets_of net ps)
+packets_next net p ps = elim (cases_Bool (same_net p.net net)) [
+  | inl its ↦ rw its refl
+  | inr isnt ↦ rw isnt refl
+]
+
+open_records : (origin latest : ℕ) (options : Options) (net : Net) (ps : List OnNet) (es : List Entry) → IsInOrder latest ps
+    → AllZip (IsRecord origin options) es (packets_of net ps) → AreOpen origin options.jitter latest es
+open_records origin latest options net [] [] order zip = All-nil (λ (e : Entry). latest ≤ origin + 1000 * (e.at + options.jitter))
+open_records origin latest options net [] (e ∷ es) order zip = absurd zip
+open_records origin latest options net (p ∷ ps) es order zip =
+    open_next origin latest options net p ps (same_net p.net net) es order.0 (subst (AllZip (IsRecord origin options) es) (packets_next net p ps) zip)
+    (λ es zip. open_records origin (time_of p.packet) options net ps es order.1 zip)
+
+-- ---- a frame
+
+-- nothing is given up
+none_given_up : (setting : Setting) (tag : Tag) (number : ℕ) (link : Link) (found : List Finding)
+    → (is_both setting.plan.networks ≡ true → All (λ (w : Wait). is_passed setting.nearness tag number w ≡ false) link.twins.waiting)
+    → found_given_up setting tag number link found ≡ found
+unfolding found_missing
+none_given_up setting tag number link found stay = elim (cases_Bool (is_both setting.plan.networks)) [
+  | inl both ↦ rw (both, stay_found setting.nearness tag number link.twins.waiting (stay both)) (append-nil found)
+  | inr one ↦ rw one refl
+]
+
+-- the link of the frame
+own_paired : (plan : Plan) (origin : ℕ) (options : Options) (times : Times) (told : Bool) (links : List Link) (net : Net) (number : ℕ)
+    (packet : Recorded) (e : Entry) (es : List Entry) (rest : Net → List Entry) (latest : ℕ) → AreFit plan options
+    → options.jitter ≤ options.skew → (t : IsPacketTaken plan origin options times told links net number packet e es rest)
+    → rest net ≡ e ∷ es → latest ≤ t.at
+    → ((m : Net) → AreOpen origin options.jitter t.at (rest_of plan t.k rest m))
+    → (pair : IsPaired plan t.k origin options latest (link_at links t.k).twins.waiting (rest_of plan t.k rest))
+    → is_both (link_plan_at plan.links t.k).networks ≡ true
+    → LeadsOn pair.stream origin options.jitter t.nearness (tag_of net number t.at) e
+    (rest_after net (link_stream (id_of plan t.k) es) (rest_of plan t.k rest)) (link_at links t.k).twins
+own_paired plan origin options times told links net number packet e es rest latest fit wide t next up limits pair both =
+    leads_on pair.stream (bag_micros (link_plan_at plan.links t.k).bag) origin options.jitter options.skew latest t.nearness (tag_of net number t.at)
+    (link_at links t.k).twins e (link_stream (id_of plan t.k) es) (rest_of plan t.k rest)
+    (record { is_stream = pair.is_stream; is_skew = t.skew; fit = wide; sum = fit.skew t.k t.inside both; later = up; delayed = t.delayed })
+    limits t.long (ap (link_stream (id_of plan t.k)) next ∙ stream_next (id_of plan t.k) e es t.its) pair.leading
+
+leading_same : (stream : List Entry) (origin jitter latest later : ℕ) (rest next : Net → List Entry) (ws vs : List Wait)
+    → ((m : Net) → rest m ≡ next m) → ws ≡ vs → latest ≤ later → IsLeading stream origin jitter latest rest ws
+    → IsLeading stream origin jitter later next vs
+leading_same stream origin jitter latest later rest next ws vs same are up is = record {
+  lead = is.lead;
+  done = is.done;
+  ahead = is.ahead;
+  coming = is.coming;
+  whole = is.whole;
+  leads = sym (same is.lead) ∙ is.leads;
+  lags = sym (same (other is.lead)) ∙ is.lags;
+  waits = subst (AllZip (IsWaitFor origin jitter is.lead) is.ahead) are is.waits;
+  past = subst (All (λ (w : Wait). w.tag.at ≤ later)) are
+      (All-weaker (λ (w : Wait). w.tag.at ≤ latest) (λ (w : Wait). w.tag.at ≤ later) (λ w before. omega arith) ws is.past);
+}
+
+pairs_after : (plan : Plan) (origin : ℕ) (options : Options) (times : Times) (told : Bool) (links : List Link) (net : Net) (number : ℕ)
+    (packet : Recorded) (e : Entry) (es : List Entry) (rest : Net → List Entry) (latest : ℕ) → IsPlan plan → AreFit plan options
+    → options.jitter ≤ options.skew → (t : IsPacketTaken plan origin options times told links net number packet e es rest)
+    → rest net ≡ e ∷ es → latest ≤ t.at → ((m : Net) → AreOpen origin options.jitter t.at (rest m))
+    → ArePaired plan origin options latest links rest → ArePaired plan origin options t.at t.new (rest_after net es rest)
+pairs_after plan origin options times told links net number packet e es rest latest valid fit wide t next up limits pairs = record {
+  both = λ j inside both. elim (cases_eq j t.k) [
+    | inl same ↦ subst (λ i. IsPaired plan i origin options t.at (link_at t.new i).twins.waiting (rest_of plan i (rest_after net es rest)))
+        (sym same) (own (subst (λ i. is_both (link_plan_at plan.links i).networks ≡ true) same both))
+    | inr apart ↦
+        let pair = pairs.both j inside both in
+        record {
+          stream = pair.stream;
+          is_stream = pair.is_stream;
+          leading = leading_same pair.stream origin options.jitter latest t.at (rest_of plan j rest) (rest_of plan j (rest_after net es rest)) _ _
+              (λ m. other_next plan j e es rest net m next (t.unlike j inside apart)) (ap waiting_of (sym (t.others j apart))) up pair.leading;
+        }
+  ];
+  alone = λ j inside one. elim (cases_eq j t.k) [
+    | inl same ↦ subst (λ i. (link_at t.new i).twins.waiting ≡ []) (sym same) (alone (subst (λ i. is_both (link_plan_at plan.links i).networks ≡ false) same one))
+    | inr apart ↦ ap waiting_of (t.others j apart) ∙ pairs.alone j inside one
+  ];
+}
+  where
+    waiting_of : Link → List Wait
+    waiting_of link = link.twins.waiting
+
+    own : is_both (link_plan_at plan.links t.k).networks ≡ true
+        → IsPaired plan t.k origin options t.at (link_at t.new t.k).twins.waiting (rest_of plan t.k (rest_after net es rest))
+    own both =
+        let pair = pairs.both t.k t.inside both in
+        let led = own_paired plan origin options times told links net number packet e es rest latest fit wide t next up
+        (λ m. All-filter (λ (e : Entry). nat_eq (link_in e.frame) (id_of plan t.k)) (λ (e : Entry). t.at ≤ origin + 1000 * (e.at + options.jitter))
+        (rest m) (limits m)) pair both in
+        record {
+          stream = pair.stream;
+          is_stream = pair.is_stream;
+          leading = leading_same pair.stream origin options.jitter t.at t.at _ (rest_of plan t.k (rest_after net es rest)) _ _
+              (λ m. own_next plan t.k e es rest net m next t.its)
+              (ap (λ (p : Pairing). p.waiting) (sym (ap (λ (link : Link). link.twins) t.own ∙ t.taken.twins both))) (le_refl t.at) led.after;
+        }
+
+    alone : is_both (link_plan_at plan.links t.k).networks ≡ false → (link_at t.new t.k).twins.waiting ≡ []
+    alone one = ap waiting_of t.own ∙ ap (λ (p : Pairing). p.waiting) (t.taken.alone one) ∙ pairs.alone t.k t.inside one
+
+-- ---- the end
+
+none_left : (nearness : Nearness) (at : ℕ) (plans : List LinkPlan) (links : List Link) (found : List Finding)
+    → All (λ (link : Link). link.twins.waiting ≡ []) links → found_left nearness at plans links found ≡ found
+unfolding found_at_end
+none_left nearness at [] links found all = refl
+none_left nearness at (plan ∷ plans) [] found all = refl
+none_left nearness at (plan ∷ plans) (link ∷ links) found all =
+    rw (all 0 link (omega arith)) (rw (append-nil found) (none_left nearness at plans links found
+    (All-tail (λ (link : Link). link.twins.waiting ≡ []) link links all)))
+
+nothing_waits : (stream : List Entry) (origin jitter latest : ℕ) (rest : Net → List Entry) (waiting : List Wait)
+    → ((net : Net) → rest net ≡ []) → IsLeading stream origin jitter latest rest waiting → waiting ≡ []
+nothing_waits stream origin jitter latest rest waiting none is =
+    by is.ahead waiting (sym (none (other is.lead)) ∙ is.lags) is.waits
+  where
+    by : (ahead : List Entry) (ws : List Wait) → [] ≡ map (side (other is.lead)) (ahead ++ is.coming)
+        → AllZip (IsWaitFor origin jitter is.lead) ahead ws → ws ≡ []
+    by [] [] are zip = refl
+    by [] (w ∷ ws) are zip = absurd zip
+    by (o ∷ os) ws are zip = absurd (cc (are))
