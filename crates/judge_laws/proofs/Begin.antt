@@ -156,10 +156,10 @@ stream_on_both plan k es valid inside both = filter_twice (λ (e : Entry). nat_e
     (λ (e : Entry). is_on_both plan.links (link_in e.frame)) es (λ e its. rw (eqb-true (link_in e.frame) (id_of plan k) its) (on_both_is plan k valid inside ∙ both))
 
 -- what each entry of a link's stream is
-abbrev IsOwn : Net → Entry → Type 0
+abbrev pub IsOwn : Net → Entry → Type 0
 IsOwn net e = (60 ≤ length e.frame) × (side net e ≡ e)
 
-owns : (plan : Plan) (net : Net) (vl : ℕ) (es : List Entry) → AreKnown plan.links net es → All (IsOwn net) (link_stream vl es)
+pub owns : (plan : Plan) (net : Net) (vl : ℕ) (es : List Entry) → AreKnown plan.links net es → All (IsOwn net) (link_stream vl es)
 owns plan net vl es known = All-filter (λ (e : Entry). nat_eq (link_in e.frame) vl) (IsOwn net) es
     (All-weaker (λ (e : Entry). IsKnown plan.links net e.frame) (IsOwn net)
     (λ e is. (is.size, ap (λ (frame : List ℕ). (let x : Entry = record { at = e.at; frame = frame } in x)) (twin_same net e.frame is.interface)))
@@ -168,12 +168,12 @@ owns plan net vl es known = All-filter (λ (e : Entry). nat_eq (link_in e.frame)
 own_copies : (net : Net) (stream : List Entry) → All (IsOwn net) stream → All (IsCopy stream net) stream
 own_copies net stream own = λ k spare inside. record { place = k; inside = inside; is = sym (own k spare inside).1 ∙ ap (side net) (get_or_default stream k spare (entry 0 []) inside) }
 
-record AreBoth (gap : ℕ) (m n : Net) (long short : List Entry) : Type 0 where
-  stream : IsStream gap long
-  own : All (IsCopy long m) long
-  other : All (IsCopy long n) short
+pub record AreBoth (gap : ℕ) (m n : Net) (long short : List Entry) : Type 0 where
+  pub stream : IsStream gap long
+  pub own : All (IsCopy long m) long
+  pub other : All (IsCopy long n) short
 
-both_copies : (plan : Plan) (accepted : Accepted) (k : ℕ) (m n : Net) (long short : List Entry) → IsPlan plan → k < length plan.links
+pub both_copies : (plan : Plan) (accepted : Accepted) (k : ℕ) (m n : Net) (long short : List Entry) → IsPlan plan → k < length plan.links
     → is_both (link_plan_at plan.links k).networks ≡ true → IsLegalOn plan accepted m long
     → on_both plan.links short ≡ map (side n) (take (length (on_both plan.links short)) (on_both plan.links long))
     → AreBoth (bag_micros (link_plan_at plan.links k).bag) m n (link_stream (id_of plan k) long) (link_stream (id_of plan k) short)
@@ -194,19 +194,17 @@ both_copies plan accepted k m n long short valid inside both legal twins =
 
 -- ---- a whole judge
 
-pub handed_to : (a b : List Entry) → Net → List Entry
+abbrev pub handed_to : (a b : List Entry) → Net → List Entry
 handed_to a b A = a
 handed_to a b B = b
 
 legal_on : (plan : Plan) (accepted : Accepted) (a b : List Entry) → IsSent plan accepted a b → (net : Net)
     → IsLegalOn plan accepted net (handed_to a b net)
-unfolding handed_to
 legal_on plan accepted a b sent A = sent.legal.on_a
 legal_on plan accepted a b sent B = sent.legal.on_b
 
 turns_of : (plan : Plan) (accepted : Accepted) (a b : List Entry) → IsSent plan accepted a b → (net : Net)
     → TakeTurnsOn plan (handed_to a b net)
-unfolding handed_to
 turns_of plan accepted a b sent A = sent.turns.on_a
 turns_of plan accepted a b sent B = sent.turns.on_b
 
@@ -218,7 +216,6 @@ record IsOwnStream (plan : Plan) (k : ℕ) (a b : List Entry) : Type 0 where
 
 own_stream : (plan : Plan) (accepted : Accepted) (a b : List Entry) (k : ℕ) → IsSent plan accepted a b
     → k < length plan.links → is_both (link_plan_at plan.links k).networks ≡ true → IsOwnStream plan k a b
-unfolding handed_to
 own_stream plan accepted a b k sent inside both =
     elim (cases_lt (length (on_both plan.links a)) (length (on_both plan.links b))) [
       | inl shorter ↦
@@ -276,7 +273,6 @@ pub own_options : (options : Options) → options.arinc ≡ false → options �
 own_options options profile = ap (λ (arinc : Bool). let o : Options = record options { arinc = arinc } in o) profile
 
 pub no_false_alarm_holds : NoFalseAlarm
-unfolding handed_to
 no_false_alarm_holds plan accepted a b options origin recording sent fit recorded =
     subst (λ o. All IsMissing (findings plan o recording)) (sym (own_options options fit.profile)) (goes_on plan origin options no_times false
     (replicate (length plan.links) (new_link options.late false)) recording rest [] sent.valid fit

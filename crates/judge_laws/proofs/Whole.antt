@@ -24,7 +24,7 @@ use Rattle.judge.specs.declared.finding.Finding.{Finding}
 use Rattle.judge.specs.declared.options.Options.{Options}
 use Rattle.judge_laws.specs.NoFalseAlarm.{AreFit, IsRecord, IsSent, packets_of}
 use Rattle.judge_laws.specs.NothingFound.{IsInOrder, IsWhole, NothingFound, time_of}
-use Rattle.judge_laws.proofs.Begin.{going_begins, handed_to, own_options, stream_on_both}
+use Rattle.judge_laws.proofs.Begin.{IsOwn, both_copies, going_begins, handed_to, own_options, owns, stream_on_both}
 use Rattle.judge_laws.proofs.Copies.{IsStream}
 use Rattle.judge_laws.proofs.LeadTaken.{IsInTime, LeadsOn, leads_on}
 use Rattle.judge_laws.proofs.Leading.{AreOpen, IsLeading, IsWaitFor, other, stay_found, stay_kept}
@@ -127,6 +127,11 @@ leading_same stream origin jitter latest later rest next ws vs same are up is = 
       (All-weaker (λ (w : Wait). w.tag.at ≤ latest) (λ (w : Wait). w.tag.at ≤ later) (λ w before. omega arith) ws is.past);
 }
 
+own_limits : (plan : Plan) (origin at : ℕ) (options : Options) (k : ℕ) (rest : Net → List Entry)
+    → ((m : Net) → AreOpen origin options.jitter at (rest m)) → (m : Net) → AreOpen origin options.jitter at (rest_of plan k rest m)
+own_limits plan origin at options k rest limits m = All-filter (λ (e : Entry). nat_eq (link_in e.frame) (id_of plan k))
+    (λ (e : Entry). at ≤ origin + 1000 * (e.at + options.jitter)) (rest m) (limits m)
+
 pairs_after : (plan : Plan) (origin : ℕ) (options : Options) (times : Times) (told : Bool) (links : List Link) (net : Net) (number : ℕ)
     (packet : Recorded) (e : Entry) (es : List Entry) (rest : Net → List Entry) (latest : ℕ) → IsPlan plan → AreFit plan options
     → options.jitter ≤ options.skew → (t : IsPacketTaken plan origin options times told links net number packet e es rest)
@@ -159,8 +164,7 @@ pairs_after plan origin options times told links net number packet e es rest lat
     own both =
         let pair = pairs.both t.k t.inside both in
         let led = own_paired plan origin options times told links net number packet e es rest latest fit wide t next up
-        (λ m. All-filter (λ (e : Entry). nat_eq (link_in e.frame) (id_of plan t.k)) (λ (e : Entry). t.at ≤ origin + 1000 * (e.at + options.jitter))
-        (rest m) (limits m)) pair both in
+        (own_limits plan origin t.at options t.k rest limits) pair both in
         record {
           stream = pair.stream;
           is_stream = pair.is_stream;
@@ -193,3 +197,118 @@ nothing_waits stream origin jitter latest rest waiting none is =
     by [] [] are zip = refl
     by [] (w ∷ ws) are zip = absurd zip
     by (o ∷ os) ws are zip = absurd (cc (are))
+
+-- ---- a recording
+
+record IsZipped (origin : ℕ) (options : Options) (packet : Recorded) (packets : List Recorded) (es : List Entry) : Type 0 where
+  first : Entry
+  later : List Entry
+  is : es ≡ first ∷ later
+  recorded : IsRecord origin options first packet
+  zip : AllZip (IsRecord origin options) later packets
+
+zipped : (origin : ℕ) (options : Options) (packet : Recorded) (packets : List Recorded) (es : List Entry)
+    → AllZip (IsRecord origin options) es (packet ∷ packets) → IsZipped origin options packet packets es
+zipped origin options packet packets [] zip = absurd zip
+zipped origin options packet packets (e ∷ es) zip = record { first = e; later = es; is = refl; recorded = zip.0; zip = zip.1 }
+
+abbrev AreZipped : (origin : ℕ) (options : Options) (rest : Net → List Entry) (recording : List OnNet) → Type 0
+AreZipped origin options rest recording = (net : Net) → AllZip (IsRecord origin options) (rest net) (packets_of net recording)
+
+zipped_next : (origin : ℕ) (options : Options) (rest : Net → List Entry) (ps : List OnNet) (n : Net) (number : ℕ) (packet : Recorded)
+    → AreZipped origin options rest (record { net = n; number = number; packet = packet } ∷ ps)
+    → IsZipped origin options packet (packets_of n ps) (rest n)
+zipped_next origin options rest ps A number packet zip = zipped origin options packet (packets_of A ps) (rest A) (zip A)
+zipped_next origin options rest ps B number packet zip = zipped origin options packet (packets_of B ps) (rest B) (zip B)
+
+zipped_after : (origin : ℕ) (options : Options) (rest : Net → List Entry) (ps : List OnNet) (n m : Net) (number : ℕ) (packet : Recorded)
+    (es : List Entry) → AreZipped origin options rest (record { net = n; number = number; packet = packet } ∷ ps)
+    → AllZip (IsRecord origin options) es (packets_of n ps) → AllZip (IsRecord origin options) (rest_after n es rest m) (packets_of m ps)
+zipped_after origin options rest ps A A number packet es zip later = later
+zipped_after origin options rest ps A B number packet es zip later = zip B
+zipped_after origin options rest ps B A number packet es zip later = zip A
+zipped_after origin options rest ps B B number packet es zip later = later
+
+all_came : (origin : ℕ) (options : Options) (es : List Entry) → AllZip (IsRecord origin options) es [] → es ≡ []
+all_came origin options [] zip = refl
+all_came origin options (e ∷ es) zip = absurd zip
+
+none_waits : (plan : Plan) (origin : ℕ) (options : Options) (latest : ℕ) (links : List Link) (rest : Net → List Entry)
+    → IsGoing plan origin options links rest → ArePaired plan origin options latest links rest → ((net : Net) → rest net ≡ [])
+    → All (λ (link : Link). link.twins.waiting ≡ []) links
+none_waits plan origin options latest links rest is pairs none =
+    All-from_get_or (λ (link : Link). link.twins.waiting ≡ []) links (new_link false false) (λ k within. by k (rw is.size at within))
+  where
+    by : (k : ℕ) → k < length plan.links → (link_at links k).twins.waiting ≡ []
+    by k inside = elim (cases_Bool (is_both (link_plan_at plan.links k).networks)) [
+      | inl both ↦ nothing_waits _ origin options.jitter latest (rest_of plan k rest) _
+          (λ net. ap (link_stream (id_of plan k)) (none net)) (pairs.both k inside both).leading
+      | inr one ↦ pairs.alone k inside one
+    ]
+
+goes_silent : (plan : Plan) (origin : ℕ) (options : Options) (times : Times) (told : Bool) (links : List Link) (recording : List OnNet)
+    (rest : Net → List Entry) (latest : ℕ) (found : List Finding) → IsPlan plan → AreFit plan options → options.jitter ≤ options.skew
+    → IsGoing plan origin options links rest → ArePaired plan origin options latest links rest → IsInOrder latest recording
+    → AreZipped origin options rest recording → found_from recording (judge_of plan options times told links) found ≡ found
+unfolding found_with_end
+goes_silent plan origin options times told links [] rest latest found valid fit wide is pairs order zip =
+    none_left _ _ plan.links links found
+    (none_waits plan origin options latest links rest is pairs (λ net. all_came origin options (rest net) (zip net)))
+goes_silent plan origin options times told links (p ∷ ps) rest latest found valid fit wide is pairs order zip =
+    let next = zipped_next origin options rest ps p.net p.number p.packet zip in
+    let t = packet_taken plan origin options times told links p.net p.number p.packet next.first next.later rest valid fit is next.is
+    next.recorded in
+    let time : time_of p.packet ≡ t.at = time_is p.packet t.at t.timed in
+    let up : latest ≤ t.at = rw time at order.0 in
+    let limits = λ (m : Net). open_records origin t.at options m (p ∷ ps) (rest m) (rw time (le_refl t.at), order.1) (zip m) in
+    let stay = λ (both : is_both (link_plan_at plan.links t.k).networks ≡ true). (own_paired plan origin options times told links p.net p.number p.packet
+    next.first next.later rest latest fit wide t next.is up (own_limits plan origin t.at options t.k rest limits) (pairs.both t.k t.inside both) both).stay in
+    let given = none_given_up (setting_at plan t.k options t.nearness) (tag_of p.net p.number t.at) (number_in next.first.frame) (link_at links t.k) found
+    stay in
+    rw (t.after, t.found found, given) (goes_silent plan origin options (times_with t.at times) told t.new ps (rest_after p.net next.later rest) t.at found
+    valid fit wide t.going (pairs_after plan origin options times told links p.net p.number p.packet next.first next.later rest latest valid fit wide t
+    next.is up limits pairs) (rw time at order.1)
+    (λ m. zipped_after origin options rest ps p.net m p.number p.packet next.later zip next.zip))
+
+map_own : (net : Net) (es : List Entry) → All (IsOwn net) es → map (side net) es ≡ es
+map_own net [] own = refl
+map_own net (e ∷ es) own = rw ((own 0 e (omega arith)).1, map_own net es (All-tail (IsOwn net) e es own)) refl
+
+pairs_begin : (plan : Plan) (accepted : Accepted) (a b : List Entry) (origin : ℕ) (options : Options) → IsSent plan accepted a b
+    → length (on_both plan.links a) ≡ length (on_both plan.links b)
+    → ArePaired plan origin options 0 (replicate (length plan.links) (new_link options.late false)) (handed_to a b)
+pairs_begin plan accepted a b origin options sent same = record {
+  both = λ k inside both. rw (get_or-replicate (length plan.links) k (new_link options.late false) (new_link false false) inside) (record {
+    stream = link_stream (id_of plan k) a;
+    is_stream = (both_copies plan accepted k A B a b sent.valid inside both sent.legal.on_a (sent.legal.twins.b_shorter (omega arith))).stream;
+    leading = record {
+      lead = A;
+      done = [];
+      ahead = [];
+      coming = link_stream (id_of plan k) a;
+      whole = refl;
+      leads = sym (map_own A (link_stream (id_of plan k) a) (owns plan A (id_of plan k) a sent.legal.on_a.known));
+      lags = sym (stream_on_both plan k b sent.valid inside both) ∙ ap (link_stream (id_of plan k)) all
+          ∙ stream_side B (id_of plan k) (on_both plan.links a)
+          ∙ ap (map (side B)) (stream_on_both plan k a sent.valid inside both);
+      waits = tt;
+      past = All-nil (λ (w : Wait). w.tag.at ≤ 0);
+    };
+  });
+  alone = λ k inside one. rw (get_or-replicate (length plan.links) k (new_link options.late false) (new_link false false) inside) refl;
+}
+  where
+    all : on_both plan.links b ≡ map (side B) (on_both plan.links a)
+    all = sent.legal.twins.b_shorter (omega arith)
+        ∙ ap (map (side B)) (take_all (length (on_both plan.links b)) (on_both plan.links a) (omega arith))
+
+pub nothing_found_holds : NothingFound
+nothing_found_holds plan accepted a b options origin recording sent fit wide whole =
+    subst (λ o. findings plan o recording ≡ []) (sym (own_options options fit.profile)) (goes_silent plan origin options no_times false
+    (replicate (length plan.links) (new_link options.late false)) recording (handed_to a b) 0 [] sent.valid fit wide
+    (going_begins plan accepted a b options origin (λ net. []) (handed_to a b) sent (λ net. refl) (λ net early. refl))
+    (pairs_begin plan accepted a b origin options sent whole.same) whole.in_order zip)
+  where
+    zip : AreZipped origin options (handed_to a b) recording
+    zip A = whole.of_a
+    zip B = whole.of_b
