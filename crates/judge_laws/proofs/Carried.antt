@@ -50,7 +50,7 @@ udp_field_range Omitted sum = omega arith
 udp_field_range Generated sum = omega arith
 
 -- an element of a part
-part_at : (xs ys : List ℕ) (n m j : ℕ) → take n (drop m xs) ≡ ys → j < n → get_or xs (m + j) 0 ≡ get_or ys j 0
+pub part_at : (xs ys : List ℕ) (n m j : ℕ) → take n (drop m xs) ≡ ys → j < n → get_or xs (m + j) 0 ≡ get_or ys j 0
 part_at xs ys n m j is below = grind (arith, get_or-take, get_or-drop)
 
 module _ (end_system : ℕ) (port : PortPlan) (message : List ℕ) (place : ℕ) (piece : Piece) (net : Net) (number : ℕ) where

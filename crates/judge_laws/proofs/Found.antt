@@ -35,9 +35,14 @@ find_one p (y ∷ ys) x member passes only = elim (cases_Bool (p y)) [
     behind isnt (zero, below, here) = absurd (both_ways (p y) isnt (ap p here ∙ passes))
     behind isnt (suc k, below, here) = (k, omega arith, here)
 
--- unicast addresses with one number are one
-one_unicast : (s t : List ℕ) → IsUnicast s → IsUnicast t → address_number s ≡ address_number t → s ≡ t
-one_unicast s t is_s is_t same = same_number_lists s t (omega (arith, is_s.four, is_t.four)) (λ k below. each k (omega (arith, is_s.four)))
+-- four bytes
+pub record IsAddress (address : List ℕ) : Type 0 where
+  pub four : length address ≡ 4
+  pub bytes : (i : ℕ) → get_or address i 0 < 256
+
+-- addresses with one number are one
+pub one_address : (s t : List ℕ) → IsAddress s → IsAddress t → address_number s ≡ address_number t → s ≡ t
+one_address s t is_s is_t same = same_number_lists s t (omega (arith, is_s.four, is_t.four)) (λ k below. each k (omega (arith, is_s.four)))
   where
     small : (k : ℕ) → (get_or s k 0 < 256) × (get_or t k 0 < 256)
     small k = (is_s.bytes k, is_t.bytes k)
@@ -49,13 +54,17 @@ one_unicast s t is_s is_t same = same_number_lists s t (omega (arith, is_s.four,
     each (suc (suc (suc zero))) below = omega (arith, small)
     each (suc (suc (suc (suc k)))) below = absurd (omega arith)
 
--- so are the destinations of two ports of a link
-one_destination : (v w : ℕ) (s t : Option (List ℕ)) → v ≡ w → IfSome s IsUnicast → IfSome t IsUnicast
-    → address_number (destination_of v s) ≡ address_number (destination_of w t) → destination_of v s ≡ destination_of w t
-one_destination v w None None link is_s is_t same = rw link refl
-one_destination v w None (Some t) link is_s is_t same = absurd (omega (arith, is_t.first))
-one_destination v w (Some s) None link is_s is_t same = absurd (omega (arith, is_s.first))
-one_destination v w (Some s) (Some t) link is_s is_t same = one_unicast s t is_s is_t same
+-- a destination is an address
+pub destination_is : (vl : ℕ) (unicast : Option (List ℕ)) → IfSome unicast IsUnicast → IsAddress (destination_of vl unicast)
+destination_is vl None is = record { four = refl; bytes = each }
+  where
+    each : (i : ℕ) → get_or (destination_of vl None) i 0 < 256
+    each zero = omega arith
+    each (suc zero) = omega arith
+    each (suc (suc zero)) = omega arith
+    each (suc (suc (suc zero))) = omega arith
+    each (suc (suc (suc (suc i)))) = omega arith
+destination_is vl (Some address) is = record { four = is.four; bytes = is.bytes }
 
 same_id : (v w : VlId) → v.0 ≡ w.0 → v ≡ w
 same_id v w same = ap (λ (n : ℕ). let id : VlId = record { 0 = n } in id) same
@@ -77,7 +86,8 @@ same_flow p q vl sub flow of_p of_q is_p is_q =
       partition = omega arith;
       source = omega arith;
       destination = omega arith;
-      address = one_destination p.vl.0 q.vl.0 p.unicast q.unicast (omega arith) is_p.unicast is_q.unicast (omega arith);
+      address = one_address (destination_address p) (destination_address q) (destination_is p.vl.0 p.unicast is_p.unicast)
+          (destination_is q.vl.0 q.unicast is_q.unicast) (omega arith);
     }
 
 -- A first piece's port is found.

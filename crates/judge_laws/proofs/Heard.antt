@@ -63,12 +63,12 @@ message_ok : (end_system : ℕ) (port : PortPlan) (message : List ℕ) → 1 ≤
 unfolding message_deviation
 message_ok end_system port message some most = rw (right_field end_system port message) (grind (arith, nat_tests))
 
-head_first : (port : Option PortPlan) (its : PortPlan) (fields : Fields) (joining : Joining) → fields.piece.start ≡ 0 → port ≡ Some its
+pub head_first : (port : Option PortPlan) (its : PortPlan) (fields : Fields) (joining : Joining) → fields.piece.start ≡ 0 → port ≡ Some its
     → head_now port fields joining ≡ Some (head_of its fields)
 unfolding head_now
 head_first port its fields joining first found = grind (arith, nat_tests)
 
-head_later : (port : Option PortPlan) (fields : Fields) (joining : Joining) → 0 < fields.piece.start
+pub head_later : (port : Option PortPlan) (fields : Fields) (joining : Joining) → 0 < fields.piece.start
     → head_now port fields joining ≡ head_after (begun joining) fields
 unfolding head_now
 head_later port fields joining later = grind (arith, nat_tests)

@@ -181,9 +181,8 @@ open_left origin jitter now net rest ahead coming is all = all_left (λ (e : Ent
 
 -- what is to be shown of the next frame, by what waits
 module _ (stream : List Entry) (gap origin jitter skew latest : ℕ) (nearness : Nearness) (tag : Tag) (p : Pairing) (e : Entry)
-  (es : List Entry) (rest : Net → List Entry) (time : IsInTime stream gap origin jitter skew latest nearness tag e)
-  (limits : (net : Net) → AreOpen origin jitter tag.at (rest net)) (long : 60 ≤ length e.frame) (next : rest tag.net ≡ e ∷ es) where
-
+    (es : List Entry) (rest : Net → List Entry) (time : IsInTime stream gap origin jitter skew latest nearness tag e)
+    (limits : (net : Net) → AreOpen origin jitter tag.at (rest net)) (long : 60 ≤ length e.frame) (next : rest tag.net ≡ e ∷ es) where
   new : Net → List Entry
   new = rest_after tag.net es rest
 

@@ -1,4 +1,5 @@
 pub mod Begin
+pub mod Brings
 pub mod Carried
 pub mod Copies
 pub mod Found
@@ -11,7 +12,11 @@ pub mod Message
 pub mod Numbers
 pub mod OfProfile
 pub mod Pieces
+pub mod Quiet
+pub mod Rebuilt
 pub mod Recording
+pub mod Silent
+pub mod Told
 pub mod Turns
 pub mod Waits
 pub mod Whole

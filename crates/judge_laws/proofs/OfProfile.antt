@@ -14,7 +14,7 @@ unfoldable use Rattle.judge.specs.Layouts.{link_broken, internet_broken, address
 use Rattle.judge.specs.Types.{Deviation}
 use Rattle.judge_laws.specs.Frames.{LayoutIsProfile}
 
-none_both : (a b : Option Deviation) → first_of a b ≡ None → (a ≡ None) × (b ≡ None)
+pub none_both : (a b : Option Deviation) → first_of a b ≡ None → (a ≡ None) × (b ≡ None)
 none_both None b e = grind arith
 none_both (Some d) b e = cc
 

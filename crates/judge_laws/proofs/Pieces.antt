@@ -102,7 +102,7 @@ between plan k sub net joining place (sent ∷ later) allowed known = record {
 }
 
 -- The fragment that is due comes first.
-comes_first : (plan : Plan) (k sub : ℕ) (net : Net) (sent : Sent) (place start : ℕ) (later : List Sent) → 25 ≤ room_at plan k
+pub comes_first : (plan : Plan) (k sub : ℕ) (net : Net) (sent : Sent) (place start : ℕ) (later : List Sent) → 25 ≤ room_at plan k
     → IsDue plan k sub sent start → due_from plan k net sent place start later
     ≡ unnumbered plan.end_system sent.port sent.bytes place (piece_at (room_at plan k) (8 + length sent.bytes) start) net
     ∷ due_from plan k net sent place (start + (piece_at (room_at plan k) (8 + length sent.bytes) start).len) later

@@ -1,0 +1,183 @@
+-- A frame in which the judge finds nothing brings the next piece of a message.
+use Rattle.std.proofs.Common.{◌≡◌, ℕ, ◌+◌, ◌-◌, ◌%◌, ◌<◌, ◌≤◌, true, false, List, [], ◌++◌, length, max, take, drop, get_or, Option, Some, None, inl, inr, refl, ap, ◌∙◌, arith}
+use Rattle.std.specs.Prelude.{Contains}
+use Rattle.std.proofs.lemmas.Bool.{cases_Bool, cases_lt}
+use Rattle.std.proofs.lemmas.Bool.Decides.{nat_tests}
+use Rattle.std.proofs.lemmas.List.{get_or_past, length-drop, length-take}
+use Rattle.std.proofs.lemmas.List.Elements.{All-contains}
+use Rattle.afdx_plan.specs.Config.{Plan, IsPlan, link_plan_at}
+use Rattle.afdx_plan.specs.Plan.{IsLink, IsPort, identification}
+use Rattle.afdx_plan.specs.declared.link_plan.LinkPlan.{LinkPlan}
+use Rattle.afdx_plan.specs.declared.port_plan.PortPlan.{PortPlan}
+use Rattle.afdx_frame.specs.Checksum.{word_sum}
+use Rattle.afdx_frame.specs.Frame.{addresses}
+unfoldable use Rattle.afdx_frame.specs.Frame.{datagram, unnumbered}
+use Rattle.afdx_frame.specs.Profile.{IsFrame, total_length}
+use Rattle.afdx_frame.specs.declared.net.Net.{Net}
+unfoldable use Rattle.judge.specs.Fields.{fields_of}
+use Rattle.judge.specs.Joining.{begun, end_deviation, head_after, head_now, head_of, head_with, ident_of, is_of_port, is_towards, message_deviation, next_of}
+use Rattle.judge.specs.Judging.{first_port}
+use Rattle.judge.specs.Lines.{sub_in}
+use Rattle.judge.specs.Rules.{size_deviation}
+use Rattle.judge.specs.Types.{Flow, Head, Joining, PieceIn}
+use Rattle.judge_laws.proofs.Carried.{part_at}
+use Rattle.judge_laws.proofs.Heard.{head_first, head_later, room_at}
+use Rattle.judge_laws.proofs.OfProfile.{layout_is_profile}
+use Rattle.judge_laws.proofs.Quiet.{Fits, IsQuiet, body_in, fits_says, found_says, length_says, piece_in, reads}
+use Rattle.judge_laws.proofs.Rebuilt.{IsRead, address_part, bytes_are}
+use Rattle.judge_laws.proofs.Told.{Tells, none_says, tells_more}
+
+-- between two messages
+pub record IsBetween (s place : ℕ) (joining : Joining) : Type 0 where
+  pub next : next_of joining ≡ Some 0
+  pub ident : ident_of joining ≡ Some (identification place s)
+
+-- a port sends on a sub-VL
+pub record IsSender (plan : Plan) (k s : ℕ) (port : PortPlan) : Type 0 where
+  pub member : Contains plan.ports port
+  pub over : port.vl.0 ≡ (link_plan_at plan.links k).id.0
+  pub its : port.sub ≡ s
+
+-- within a message of a port, of which these bytes came
+pub record IsWithin (plan : Plan) (k s place : ℕ) (given : List ℕ) (port : PortPlan) (joining : Joining) : Type 0 where
+  pub next : next_of joining ≡ Some (length given)
+  pub ident : ident_of joining ≡ Some (identification place s)
+  pub head : Head
+  pub begun_is : begun joining ≡ Some head
+  pub tells : Tells plan.end_system port given head
+  pub sender : IsSender plan k s port
+  pub units : length given % 8 ≡ 0
+
+-- a frame brings the next piece of a message of a port, of which these bytes came
+pub record Brings (plan : Plan) (k s : ℕ) (net : Net) (place : ℕ) (given : List ℕ) (port : PortPlan) (joining : Joining)
+    (frame : List ℕ) : Type 0 where
+  pub read : IsRead plan.end_system port net (identification place s) (piece_in frame) frame
+  pub start : (piece_in frame).start ≡ length given
+  pub head : Head
+  pub known : head_now (first_port false plan.ports (link_plan_at plan.links k).id (fields_of frame)) (fields_of frame) joining ≡ Some head
+  pub tells : Tells plan.end_system port (given ++ body_in frame) head
+  pub sender : IsSender plan k s port
+  pub units : length given % 8 ≡ 0
+
+-- the bytes of a part
+part_octets : (f : List ℕ) (n m : ℕ) → ((i : ℕ) → get_or f i 0 < 256) → (i : ℕ) → get_or (take n (drop m f)) i 0 < 256
+part_octets f n m octets i = elim (cases_lt i n) [
+  | inl inside ↦ rw (← part_at f (take n (drop m f)) n m i refl inside) (octets (m + i))
+  | inr past ↦ rw (get_or_past (take n (drop m f)) i 0 (omega (arith, length-take n (drop m f)))) (omega arith)
+]
+
+fits_in : (link : LinkPlan) (len : ℕ) → size_deviation link len ≡ None → len + 4 ≤ link.lmax
+fits_in link len none = grind (arith, nat_tests)
+
+-- what a first piece says of its port
+port_says : (vl sub : ℕ) (flow : Flow) (port : PortPlan) → is_of_port false vl sub flow port ≡ true → (port.vl.0 ≡ vl)
+    × (port.sub ≡ sub) × (flow.source ≡ port.source) × (flow.destination ≡ port.destination) × (is_towards flow port ≡ true)
+port_says vl sub flow port its = grind (arith, nat_tests)
+
+-- a last piece ends a message without a finding
+pub ends_says : (piece : PieceIn) (known : Option Head) (head : Head) → end_deviation piece known ≡ None → piece.more ≡ false
+    → known ≡ Some head → message_deviation (piece.start + piece.len) head ≡ None
+ends_says piece None head none last is = cc
+ends_says piece (Some h) head none last is = grind arith
+
+module _ (plan : Plan) (k s : ℕ) (net : Net) (place : ℕ) (joining : Joining) (frame : List ℕ) (valid : IsPlan plan)
+    (within : k < length plan.links) (quiet : IsQuiet plan k s net joining frame) where
+  its_frame : IsFrame frame
+  its_frame = (layout_is_profile frame).0 quiet.layout
+
+  link_is : IsLink (link_plan_at plan.links k)
+  link_is = valid.each_link k _ within
+
+  pub size : (1 ≤ (piece_in frame).len) × (length frame ≡ max 60 (35 + (piece_in frame).len)) × ((piece_in frame).len ≤ room_at plan k)
+      × (length (body_in frame) ≡ (piece_in frame).len)
+  size =
+      let small = fits_in (link_plan_at plan.links k) (length frame) quiet.sized in
+      let total = its_frame.internet.total in
+      let whole = its_frame.fits in
+      let most = link_is.lmax in (
+        omega arith,
+        omega arith,
+        omega arith,
+        omega (arith, length-take (total_length frame - 20) (drop 34 frame), length-drop 34 frame),
+      )
+
+  sum_is : (fields_of frame).sum ≡ word_sum (body_in frame)
+  unfolding fields_of
+  sum_is =
+      let total = its_frame.internet.total in
+      let many : 14 + total_length frame - 34 ≡ total_length frame - 20 = omega arith in
+      rw many refl
+
+  fits : Fits (room_at plan k) (fields_of frame) joining
+  fits = fits_says (room_at plan k) (fields_of frame) joining quiet.fits
+
+  -- what a first piece tells of its message
+  tells_first : (port : PortPlan) (ident : ℕ) → IsPort port → IsRead plan.end_system port net ident (piece_in frame) frame
+      → 8 ≤ length (body_in frame) → (fields_of frame).flow.source ≡ port.source → (fields_of frame).flow.destination ≡ port.destination
+      → Tells plan.end_system port (body_in frame) (head_of port (fields_of frame))
+  unfolding fields_of
+  tells_first port ident is_port read long source destination =
+      let here = λ (j : ℕ) (below : j < 8). part_at frame (body_in frame) (total_length frame - 20) 34 j refl (omega (arith, size)) in
+      let ends : word_sum (take 8 (drop 26 frame)) ≡ word_sum (addresses plan.end_system port) =
+      ap word_sum (bytes_are 8 26 frame (omega (arith, size)) ∙ address_part plan.end_system port net ident (piece_in frame) frame is_port read) in
+      record {
+        port_is = refl;
+        long = long;
+        octets = part_octets frame (total_length frame - 20) 34 quiet.octets;
+        source = rw (← here 0 (omega arith), ← here 1 (omega arith)) source;
+        destination = rw (← here 2 (omega arith), ← here 3 (omega arith)) destination;
+        udp_len = rw (← here 4 (omega arith), ← here 5 (omega arith)) refl;
+        udp_sum_is = rw (← here 6 (omega arith), ← here 7 (omega arith)) refl;
+        sum = rw (← here 6 (omega arith), ← here 7 (omega arith), ← ends, ← sum_is) refl;
+      }
+
+  -- a first piece has the UDP header
+  long_first : (port : PortPlan) → first_port false plan.ports (link_plan_at plan.links k).id (fields_of frame) ≡ Some port
+      → (fields_of frame).piece.start ≡ 0 → 8 ≤ length (body_in frame)
+  unfolding fields_of
+  long_first port found first = elim (cases_Bool (fields_of frame).piece.more) [
+    | inl more ↦ let step = (length_says (room_at plan k) (fields_of frame).piece fits.len (omega (arith, size))).0 more in
+        omega (arith, size, link_is.lmax)
+    | inr last ↦
+        let ends = ends_says (fields_of frame).piece _ _ quiet.ends last (head_first _ port (fields_of frame) joining first found) in
+        omega (arith, size, first, none_says _ _ ends)
+  ]
+
+  -- a first piece
+  pub brings_first : IsBetween s place joining → (port : PortPlan) × Brings plan k s net place [] port joining frame
+  unfolding fields_of
+  brings_first between =
+      let first : (fields_of frame).piece.start ≡ 0 = fits.start 0 between.next in
+      let found = found_says plan.ports (link_plan_at plan.links k).id (fields_of frame) quiet.port first in
+      let says = port_says (link_plan_at plan.links k).id.0 (sub_in (fields_of frame)) (fields_of frame).flow found.port found.its in
+      let is_port = All-contains IsPort plan.ports found.port valid.each_port found.member in
+      let read = reads plan k s net joining frame found.port _ quiet (fits.ident _ between.ident) says.0 says.4 in (
+        found.port,
+        record {
+          read = read;
+          start = first;
+          head = head_of found.port (fields_of frame);
+          known = head_first _ found.port (fields_of frame) joining first found.found;
+          tells = tells_first found.port _ is_port read (long_first found.port found.found first) says.2 says.3;
+          sender = record { member = found.member; over = says.0; its = says.1 ∙ quiet.of_sub };
+          units = refl;
+        },
+      )
+
+  -- a later piece
+  pub brings_later : (given : List ℕ) (port : PortPlan) → IsWithin plan k s place given port joining → Brings plan k s net place given port joining frame
+  unfolding fields_of
+  brings_later given port is =
+      let start : (fields_of frame).piece.start ≡ length given = fits.start _ is.next in
+      let towards : is_towards (fields_of frame).flow port ≡ true = rw is.tells.port_is at (fits.towards is.head is.begun_is) in
+      let behind : head_after (begun joining) (fields_of frame) ≡ Some (head_with is.head (fields_of frame)) = rw is.begun_is refl in
+      record {
+        read = reads plan k s net joining frame port _ quiet (fits.ident _ is.ident) is.sender.over towards;
+        start = start;
+        head = head_with is.head (fields_of frame);
+        known = head_later _ (fields_of frame) joining (omega (arith, is.tells.long)) ∙ behind;
+        tells = tells_more plan.end_system port given (body_in frame) is.head (fields_of frame) is.tells (omega (arith, is.units))
+            (part_octets frame (total_length frame - 20) 34 quiet.octets) sum_is;
+        sender = is.sender;
+        units = is.units;
+      }
