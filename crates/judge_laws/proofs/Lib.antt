@@ -7,6 +7,7 @@ pub mod Heard
 pub mod LeadTaken
 pub mod Leading
 pub mod Line
+pub mod LineSilent
 pub mod Link
 pub mod Message
 pub mod Numbers

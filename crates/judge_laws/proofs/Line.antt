@@ -71,20 +71,20 @@ line_of port come line s = record {
 }
 
 -- what is to hold of a frame of a sub-VL
-record IsRight (measure : Measure) (port : Option PortPlan) (come : Arrived) (line : Line) (s : ℕ) : Type 0 where
-  profile : measure.arinc ≡ false
-  number : number_deviation measure.late come.fields.number line ≡ None
-  early : early_deviation measure.gap come.at line ≡ None
-  of_port : port_deviation come.fields port ≡ None
-  fits : fragment_deviation measure.room come.fields (sub_at line.subs s).joining ≡ None
-  ends : end_deviation come.fields.piece (head_now port come.fields (sub_at line.subs s).joining) ≡ None
-  turn : turn_deviation s line ≡ None
+pub record IsRight (measure : Measure) (port : Option PortPlan) (come : Arrived) (line : Line) (s : ℕ) : Type 0 where
+  pub profile : measure.arinc ≡ false
+  pub number : number_deviation measure.late come.fields.number line ≡ None
+  pub early : early_deviation measure.gap come.at line ≡ None
+  pub of_port : port_deviation come.fields port ≡ None
+  pub fits : fragment_deviation measure.room come.fields (sub_at line.subs s).joining ≡ None
+  pub ends : end_deviation come.fields.piece (head_now port come.fields (sub_at line.subs s).joining) ≡ None
+  pub turn : turn_deviation s line ≡ None
 
 settles : (measure : Measure) (port : Option PortPlan) (come : Arrived) (line : Line)
     → IsRight measure port come line come.sub → settled measure come line ≡ line
 settles measure port come line right = rw (right.number, right.turn) refl
 
-right_after : (measure : Measure) (port : Option PortPlan) (come : Arrived) (line : Line)
+pub right_after : (measure : Measure) (port : Option PortPlan) (come : Arrived) (line : Line)
     → IsRight measure port come line come.sub
     → line_after measure port come line ≡ line_of port come line come.sub
 unfolding line_after line_with

@@ -26,7 +26,7 @@ abbrev pub IsLast : (origin jitter : ℕ) → Bool → ℕ → Option Stamp → 
 IsLast origin jitter late i before None = late ≡ false → i ≡ 0
 IsLast origin jitter late i before (Some last) = IsLastOf origin jitter i before last
 
-number_goes_on : (n : ℕ) → number_after (sequence_number n) ≡ sequence_number (n + 1)
+pub number_goes_on : (n : ℕ) → number_after (sequence_number n) ≡ sequence_number (n + 1)
 number_goes_on n = grind (arith, nat_tests)
 
 pub number_fits : (origin jitter i number : ℕ) (before : Option Stamp) (late : Bool) (last : Option Last)

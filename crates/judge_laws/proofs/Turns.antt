@@ -15,7 +15,7 @@ use Rattle.judge.specs.Types.{Sub}
 abbrev pub own_sub : List Sub → ℕ → Sub
 own_sub subs sub = get_or subs sub (new_sub true false 0)
 
-own_is : (subs : List Sub) (s : ℕ) → s < length subs → sub_at subs s ≡ own_sub subs s
+pub own_is : (subs : List Sub) (s : ℕ) → s < length subs → sub_at subs s ≡ own_sub subs s
 own_is subs s inside = get_or_default subs s (other_sub subs) (new_sub true false 0) inside
 
 -- What the sub-VLs of a line say of the frames that are still to come. `frames` came so far. While a piece of a sub-VL
@@ -28,7 +28,7 @@ pub record AreDue (subs : List Sub) (frames : ℕ) (rest : List Entry) : Type 0 
   pub passed : (p q : ℕ) → (own_sub subs p).due ≡ true → (own_sub subs p).came < (own_sub subs q).came
       → length (sub_stream q (before_next p rest)) ≤ 0
 
-abbrev is_passed : ℕ → Sub → Bool
+abbrev pub is_passed : ℕ → Sub → Bool
 is_passed came s = s.due && nat_lt s.came came
 
 in_turn : (subs : List Sub) (frames : ℕ) (e : Entry) (es : List Entry) (s p : ℕ) → AreDue subs frames (e ∷ es)
@@ -49,10 +49,10 @@ none_passed subs frames e es s due its few = rw (own_is subs s (omega (arith, du
     from (Some p) is = absurd (in_turn subs frames e es s p due its is)
 
 -- the sub-VLs after a frame
-sub_same : (subs : List Sub) (s : ℕ) (new : Sub) → s < length subs → own_sub (slice_set subs s new) s ≡ new
+pub sub_same : (subs : List Sub) (s : ℕ) (new : Sub) → s < length subs → own_sub (slice_set subs s new) s ≡ new
 sub_same subs s new inside = get_or-set_same subs s new (new_sub true false 0) inside
 
-sub_other : (subs : List Sub) (s p : ℕ) (new : Sub) → p ≢ s → own_sub (slice_set subs s new) p ≡ own_sub subs p
+pub sub_other : (subs : List Sub) (s p : ℕ) (new : Sub) → p ≢ s → own_sub (slice_set subs s new) p ≡ own_sub subs p
 sub_other subs s p new other = get_or-set_other subs s p new (new_sub true false 0) other
 
 pub new_at : (subs : List Sub) (s : ℕ) (new : Sub) → s < length subs → sub_at (slice_set subs s new) s ≡ new

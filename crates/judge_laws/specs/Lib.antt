@@ -1,4 +1,5 @@
 pub mod Frames
 pub mod NoFalseAlarm
 pub mod NothingFound
+pub mod NothingMissed
 pub mod Worked

@@ -1,0 +1,251 @@
+-- A line of a judge that finds nothing: the frames are numbered and spaced, and take turns.
+use Rattle.std.proofs.Common.{ℕ, zero, suc, ◌≡◌, ◌≢◌, ◌+◌, ◌*◌, ◌-◌, ◌/◌, ◌^◌, ◌<◌, ◌≤◌, Bool, true, false, List, [], ◌∷◌, ◌++◌, length, map, get_or, Option, Some, None, arith, refl, sym, subst, ap, ◌∙◌, inl, inr, length-set}
+use Rattle.std.specs.Prelude.{Ok, find, min, nat_eq, nat_lt, position, slice_index, slice_set, ◌&&◌}
+use Rattle.std.proofs.lemmas.Bool.{cases_Bool, cases_eq, cases_lt, eqb-true}
+use Rattle.std.proofs.lemmas.List.{get_or_past}
+use Rattle.judge.proofs.Pairs.{none_is}
+use Rattle.std.proofs.lemmas.Bool.Decides.{nat_tests}
+use Rattle.afdx_plan.specs.Config.{Plan, IsPlan, link_plan_at}
+use Rattle.afdx_plan.specs.Plan.{bag_micros, sequence_number}
+use Rattle.afdx_plan.specs.declared.port_plan.PortPlan.{PortPlan}
+use Rattle.afdx_frame.specs.Header.{number_in, sub_in}
+use Rattle.afdx_frame.specs.Profile.{word_at}
+use Rattle.afdx_frame.specs.declared.net.Net.{Net}
+use Rattle.redundant_mux.specs.Lines.{Entry}
+use Rattle.vl_shaper.specs.declared.shaper.Stamp.{Stamp}
+use Rattle.afdx_legal.specs.Streams.{IsApart, IsNumbered, IsSpaced, TakesTurns, before_next, entry_number, more_in, stamp_of, sub_stream}
+use Rattle.capture.specs.Recording.{Recorded}
+use Rattle.judge.specs.Fields.{fields_of}
+use Rattle.judge.specs.Judging.{arrived, tag_of}
+use Rattle.judge.specs.Layouts.{layout_broken}
+use Rattle.judge.specs.Lines.{new_sub, due_before, early_deviation, early_since, figures_with, line_after, message_on, next_number, number_deviation, number_unless, numbered, passed_by, settled, sub_at, turn_deviation, turn_if, verdict, sub_in as judge_sub}
+use Rattle.judge.specs.Rules.{place_of, size_deviation}
+use Rattle.judge.specs.Types.{Arrived, Last, Line, Measure, Sub, Verdict}
+use Rattle.judge.specs.declared.options.Options.{Options}
+use Rattle.judge_laws.specs.NothingFound.{time_of}
+use Rattle.judge_laws.specs.NothingMissed.{IsOctets, entry_of}
+use Rattle.judge_laws.proofs.Line.{IsRight, sub_of, faultless, line_of, measure_at, port_at, right_after}
+use Rattle.judge_laws.proofs.Numbers.{number_goes_on}
+use Rattle.judge_laws.proofs.Turns.{AreDue, is_passed, own_is, own_sub, sub_other, sub_same}
+
+-- a packet on its line
+abbrev pub come_of : Plan → ℕ → Options → Net → Line → Recorded → Arrived
+come_of plan k options net line r =
+    arrived (measure_at plan k options) (tag_of net 0 (time_of r)) (port_at plan k r.bytes) r.bytes line
+
+abbrev pub line_then : Plan → ℕ → Options → Net → Line → Recorded → Line
+line_then plan k options net line r =
+    line_after (measure_at plan k options) (port_at plan k r.bytes) (come_of plan k options net line r) line
+
+-- nothing is wrong with it
+pub record IsClear (plan : Plan) (k : ℕ) (options : Options) (net : Net) (line : Line) (r : Recorded) : Type 0 where
+  pub octets : IsOctets r
+  pub layout : layout_broken false r.bytes ≡ None
+  pub placed : place_of plan net r.bytes ≡ Ok k
+  pub sized : size_deviation (link_plan_at plan.links k) (length r.bytes) ≡ None
+  pub wrong : verdict (measure_at plan k options) (port_at plan k r.bytes) (come_of plan k options net line r) line ≡ faultless
+
+abbrev pub AreClear : Plan → ℕ → Options → Net → Line → List Recorded → Type 0
+AreClear plan k options net line [] = Unit {0}
+AreClear plan k options net line (r ∷ rs) = IsClear plan k options net line r
+    × AreClear plan k options net (line_then plan k options net line r) rs
+
+-- a line on which nothing is wrong with a frame
+numbered_same : (measure : Measure) (come : Arrived) (line : Line) → number_deviation measure.late come.fields.number line ≡ None
+    → numbered measure come line ≡ line
+numbered_same measure come line none = rw none refl
+
+wrong_right : (measure : Measure) (port : Option PortPlan) (come : Arrived) (line : Line) → measure.arinc ≡ false
+    → verdict measure port come line ≡ faultless → IsRight measure port come line come.sub
+unfolding verdict
+wrong_right measure port come line own wrong =
+    let number : number_deviation measure.late come.fields.number line ≡ None = ap (λ (v : Verdict). v.number) wrong in
+    let turn : turn_deviation come.sub line ≡ None = rw number at (ap (λ (v : Verdict). v.turn) wrong) in
+    let fits = rw (number, turn) at (ap (λ (v : Verdict). v.fragment) wrong) in
+    record {
+      profile = own;
+      number = number;
+      early = ap (λ (v : Verdict). v.early) wrong;
+      of_port = ap (λ (v : Verdict). v.port) wrong;
+      fits = fits;
+      ends = rw (number, turn, fits) at (ap (λ (v : Verdict). v.message) wrong);
+      turn = turn;
+    }
+
+-- ---- what a frame says
+
+number_of : (frame : List ℕ) → (fields_of frame).number ≡ number_in frame
+unfolding fields_of
+number_of frame = refl
+
+pub sub_of_frame : (frame : List ℕ) → judge_sub (fields_of frame) ≡ sub_in frame
+unfolding fields_of
+sub_of_frame frame = refl
+
+more_of : (frame : List ℕ) → (fields_of frame).piece.more ≡ more_in frame
+unfolding fields_of
+more_of frame = refl
+
+-- the last frame of a line after `i` frames
+abbrev pub IsLastAt : ℕ → Option Stamp → Option Last → Type 0
+IsLastAt i before None = (i ≡ 0) × (before ≡ None)
+IsLastAt i before (Some last) = (n : ℕ) × (i ≡ n + 1) × (last.number ≡ sequence_number n) × (stamp : Stamp) × (before ≡ Some stamp)
+    × (stamp.at ≡ last.at / 1000)
+
+number_from : (i number : ℕ) (before : Option Stamp) (last : Option Last) → IsLastAt i before last
+    → number_unless number (next_number false last) ≡ None → number ≡ sequence_number i
+number_from i number before None is none = grind (arith, nat_tests)
+number_from i number before (Some last) is none = grind (arith, nat_tests, number_goes_on is.0, is.1, is.2)
+
+apart_from : (gap i at : ℕ) (before : Option Stamp) (last : Option Last) → IsLastAt i before last
+    → early_since (1000 * gap) at last ≡ None → IsApart gap before (at / 1000)
+apart_from gap i at before None is none = rw is.1 tt
+apart_from gap i at None (Some last) is none = tt
+apart_from gap i at (Some stamp) (Some last) is none = grind (arith, nat_tests, is.4, is.5)
+
+-- ---- turns
+
+not_found : {X : Type 0} (p : X → Bool) (xs : List X) (i : ℕ) (d : X) → find p xs ≡ None → i < length xs → p (get_or xs i d) ≡ false
+not_found p [] i d none inside = absurd (omega arith)
+not_found p (x ∷ xs) zero d none inside = elim (cases_Bool (p x)) [
+  | inl is ↦ absurd (cc (rw is at none))
+  | inr isnt ↦ isnt
+]
+not_found p (x ∷ xs) (suc i) d none inside = elim (cases_Bool (p x)) [
+  | inl is ↦ absurd (cc (rw is at none))
+  | inr isnt ↦ not_found p xs i d (rw isnt at none) (omega arith)
+]
+
+no_turn : (subs : List Sub) (s p : ℕ) → length subs ≡ 4 → s < 4 → passed_by s subs ≡ None → (own_sub subs p).due ≡ true
+    → (own_sub subs p).came < (own_sub subs s).came → ⊥
+no_turn subs s p size few none due before = elim (cases_lt p 4) [
+  | inl inside ↦
+      let came : due_before (own_sub subs s).came subs ≡ None = rw (own_is subs s (rw size few)) at none in
+      let fails = not_found (is_passed (own_sub subs s).came) subs p (new_sub true false 0) (none_is (is_passed (own_sub subs s).came) subs came)
+      (rw size inside) in
+      grind (arith, nat_tests, fails)
+  | inr past ↦ absurd (cc (due, ap (λ (s : Sub). s.due) (get_or_past subs p (new_sub true false 0) (rw size past))))
+]
+
+-- the sub-VLs before a frame, from those after it
+due_back : (subs : List Sub) (i : ℕ) (e : Entry) (es : List Entry) (s : ℕ) (new : Sub) → AreDue (slice_set subs s new) (i + 1) es
+    → length subs ≡ 4 → ((p : ℕ) → (own_sub subs p).came ≤ i) → s < 4 → sub_in e.frame ≡ s → new.came ≡ i + 1 → passed_by s subs ≡ None
+    → AreDue subs i (e ∷ es)
+due_back subs i e es s new later size came few its counts none = record {
+  size = size;
+  most = (let most = later.most in omega arith);
+  came = came;
+  once = λ p q is. grind (arith, nat_tests, cases_eq p s, cases_eq q s, sub_same, sub_other, later.once p q, later.passed p q, came p);
+  passed = λ p q is before. grind (arith, nat_tests, cases_eq p s, cases_eq q s, sub_same, sub_other, later.passed p q, no_turn subs s p size few none is);
+}
+
+-- ---- a line
+
+-- where a line is after `i` frames
+pub record IsAt (line : Line) (i : ℕ) (before : Option Stamp) : Type 0 where
+  pub last : IsLastAt i before line.last
+  pub frames : line.figures.frames ≡ i
+  pub size : length line.subs ≡ 4
+  pub came : (p : ℕ) → (own_sub line.subs p).came ≤ i
+
+-- what its frames are
+pub record AreHeard (plan : Plan) (k i : ℕ) (before : Option Stamp) (subs : List Sub) (es : List Entry) : Type 0 where
+  pub numbered : IsNumbered entry_number i es
+  pub spaced : IsSpaced (bag_micros (link_plan_at plan.links k).bag) before es
+  pub due : AreDue subs i es
+  pub turns : TakesTurns es
+
+after_clear : (plan : Plan) (k : ℕ) (options : Options) (net : Net) (line : Line) (r : Recorded) → IsClear plan k options net line r
+    → line_then plan k options net line r
+    ≡ line_of (port_at plan k r.bytes) (come_of plan k options net line r) line (sub_in r.bytes)
+after_clear plan k options net line r clear =
+    right_after _ _ _ line (wrong_right _ _ _ line refl clear.wrong)
+    ∙ ap (line_of (port_at plan k r.bytes) (come_of plan k options net line r) line) (sub_of_frame r.bytes)
+
+came_next : (subs : List Sub) (i s : ℕ) (new : Sub) → length subs ≡ 4 → s < 4 → ((p : ℕ) → (own_sub subs p).came ≤ i)
+    → new.came ≡ i + 1 → (p : ℕ) → (own_sub (slice_set subs s new) p).came ≤ i + 1
+came_next subs i s new size few came counts p = grind (arith, cases_eq p s, sub_same, sub_other, came p)
+
+at_next : (plan : Plan) (k : ℕ) (options : Options) (net : Net) (line : Line) (r : Recorded) (i : ℕ) (before : Option Stamp)
+    → options.late ≡ false → IsAt line i before → i + 1 ≤ 2 ^ 64 - 1 → IsClear plan k options net line r
+    → IsAt (line_of (port_at plan k r.bytes) (come_of plan k options net line r) line (sub_in r.bytes)) (i + 1) (Some (stamp_of (entry_of r)))
+at_next plan k options net line r i before early is few clear =
+    let right = wrong_right _ _ _ line refl clear.wrong in
+    let number : number_in r.bytes ≡ sequence_number i = sym (number_of r.bytes)
+    ∙ number_from i (fields_of r.bytes).number before line.last is.last (rw early at right.number) in
+    let counts : (figures_with (come_of plan k options net line r) line).frames ≡ i + 1 = rw is.frames (omega arith) in
+    record {
+      last = (i, refl, number_of r.bytes ∙ number, stamp_of (entry_of r), refl, refl);
+      frames = counts;
+      size = length-set line.subs (sub_in r.bytes) _ ∙ is.size;
+      came = came_next line.subs i (sub_in r.bytes) _ is.size (omega arith) is.came counts;
+    }
+
+turn_none : (sub : ℕ) (due : Option ℕ) → turn_if sub due ≡ None → due ≡ None
+turn_none sub None none = refl
+turn_none sub (Some due) none = absurd (cc (none))
+
+heard_next : (plan : Plan) (k : ℕ) (options : Options) (net : Net) (line : Line) (r : Recorded) (rs : List Recorded) (i : ℕ)
+    (before : Option Stamp) → options.late ≡ false → options.jitter ≡ 0 → IsAt line i before → i + 1 ≤ 2 ^ 64 - 1
+    → IsClear plan k options net line r → AreHeard plan k (i + 1) (Some (stamp_of (entry_of r)))
+    (slice_set line.subs (sub_in r.bytes) (sub_of (port_at plan k r.bytes) (come_of plan k options net line r) line (sub_in r.bytes))) (map entry_of rs)
+    → AreHeard plan k i before line.subs (entry_of r ∷ map entry_of rs)
+heard_next plan k options net line r rs i before early jitter is few clear later = record {
+  numbered = (number, later.numbered);
+  spaced = (apart, later.spaced);
+  due = due_back line.subs i (entry_of r) (map entry_of rs) s new later.due is.size is.came four refl counts turn;
+  turns = (λ more q. later.due.once s q (ap (λ (x : Sub). x.due) (sub_same line.subs s new (rw is.size four)) ∙ more_of r.bytes ∙ more), later.turns);
+}
+  where
+    s : ℕ
+    s = sub_in r.bytes
+
+    four : s < 4
+    four = omega arith
+
+    come : Arrived
+    come = come_of plan k options net line r
+
+    new : Sub
+    new = sub_of (port_at plan k r.bytes) come line s
+
+    line' : Line
+    line' = line_of (port_at plan k r.bytes) come line s
+
+    right : IsRight (measure_at plan k options) (port_at plan k r.bytes) come line come.sub
+    right = wrong_right _ _ _ line refl clear.wrong
+
+    counts : (figures_with come line).frames ≡ i + 1
+    counts = rw is.frames (omega arith)
+
+    number : number_in r.bytes ≡ sequence_number i
+    number = sym (number_of r.bytes) ∙ number_from i (fields_of r.bytes).number before line.last is.last (rw early at right.number)
+
+    gap : 1000 * (bag_micros (link_plan_at plan.links k).bag - options.jitter) ≡ 1000 * bag_micros (link_plan_at plan.links k).bag
+    gap = rw jitter (omega arith)
+
+    apart : IsApart (bag_micros (link_plan_at plan.links k).bag) before (time_of r / 1000)
+    apart = apart_from (bag_micros (link_plan_at plan.links k).bag) i (time_of r) before line.last is.last (rw gap at right.early)
+
+    turn : passed_by s line.subs ≡ None
+    turn = subst (λ q. passed_by q line.subs ≡ None) (sub_of_frame r.bytes) (turn_none come.sub (passed_by come.sub line.subs) right.turn)
+
+pub heard : (plan : Plan) (k : ℕ) (options : Options) (net : Net) (line : Line) (rs : List Recorded) (i : ℕ) (before : Option Stamp)
+    → options.late ≡ false → options.jitter ≡ 0 → IsAt line i before → i + length rs ≤ 2 ^ 64 - 1 → AreClear plan k options net line rs
+    → AreHeard plan k i before line.subs (map entry_of rs)
+heard plan k options net line [] i before early jitter is few clear = record {
+  numbered = tt;
+  spaced = tt;
+  due = record {
+    size = is.size;
+    most = omega arith;
+    came = is.came;
+    once = λ p q due. omega arith;
+    passed = λ p q due up. omega arith;
+  };
+  turns = tt;
+}
+heard plan k options net line (r ∷ rs) i before early jitter is few clear = heard_next plan k options net line r rs i before early jitter is
+    (omega arith) clear.0 (heard plan k options net (line_of (port_at plan k r.bytes) (come_of plan k options net line r) line (sub_in r.bytes)) rs (i + 1)
+    (Some (stamp_of (entry_of r))) early jitter (at_next plan k options net line r i before early is (omega arith) clear.0) (omega arith)
+    (subst (λ l. AreClear plan k options net l rs) (after_clear plan k options net line r clear.0) clear.1))
