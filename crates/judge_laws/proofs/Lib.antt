@@ -3,6 +3,7 @@ pub mod Brings
 pub mod Carried
 pub mod Copies
 pub mod Found
+pub mod FoundNone
 pub mod Heard
 pub mod LeadTaken
 pub mod Leading

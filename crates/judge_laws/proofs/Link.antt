@@ -53,7 +53,7 @@ setting_at plan k options nearness = record {
 
 -- ---- lines and twins are apart
 
-line_given_up : (setting : Setting) (tag : Tag) (number : ℕ) (link : Link) (net : Net)
+pub line_given_up : (setting : Setting) (tag : Tag) (number : ℕ) (link : Link) (net : Net)
     → line_on net (given_up setting tag number link) ≡ line_on net link
 line_given_up setting tag number link net = by net (is_both setting.plan.networks)
   where

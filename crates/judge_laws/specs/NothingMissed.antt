@@ -27,11 +27,15 @@ pub record IsOctets (packet : Recorded) : Type 0 where
   pub octets : (i : ℕ) → slice_index packet.bytes i < 256
   pub sum : word_at packet.bytes 24 ≡ 65535 → ⊥
 
--- the last message of a stream is whole
-abbrev pub EndsWhole : List Entry → Type 0
+-- the frames of a sub-VL of a link
+abbrev pub frames_of : (vl sub : ℕ) → List Entry → List (List ℕ)
+frames_of vl sub handed = map (λ (e : Entry). e.frame) (sub_stream sub (link_stream vl handed))
+
+-- the last message of these frames is whole
+abbrev pub EndsWhole : List (List ℕ) → Type 0
 EndsWhole [] = Unit {0}
-EndsWhole (e ∷ []) = more_in e.frame ≡ false
-EndsWhole (e ∷ (d ∷ es)) = EndsWhole (d ∷ es)
+EndsWhole (f ∷ []) = more_in f ≡ false
+EndsWhole (f ∷ (g ∷ fs)) = EndsWhole (g ∷ fs)
 
 -- A judge that allows no jitter, of a recording from the first frame on, to the end of each message.
 pub record IsStrict (plan : Plan) (options : Options) (recording : List OnNet) : Type 0 where
@@ -42,7 +46,7 @@ pub record IsStrict (plan : Plan) (options : Options) (recording : List OnNet) :
   pub fcs : options.fcs ≡ false
   pub few : length recording < 2 ^ 64 - 1
   pub octets : All (λ (p : OnNet). IsOctets p.packet) recording
-  pub whole : (net : Net) (vl sub : ℕ) → EndsWhole (sub_stream sub (link_stream vl (sent_to net recording)))
+  pub whole : (net : Net) (vl sub : ℕ) → EndsWhole (frames_of vl sub (sent_to net recording))
 
 -- Some accepted messages were sent legally to a network, and their sub-VLs take turns.
 pub record IsSentTo (plan : Plan) (net : Net) (handed : List Entry) : Type 0 where
