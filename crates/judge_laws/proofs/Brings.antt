@@ -5,7 +5,7 @@ use Rattle.std.proofs.lemmas.Bool.{cases_Bool, cases_lt}
 use Rattle.std.proofs.lemmas.Bool.Decides.{nat_tests}
 use Rattle.std.proofs.lemmas.List.{get_or_past, length-drop, length-take}
 use Rattle.std.proofs.lemmas.List.Elements.{All-contains}
-use Rattle.afdx_plan.specs.Config.{Plan, IsPlan, link_plan_at}
+use Rattle.afdx_plan.specs.Config.{Plan, IsPlan, HasLink, link_plan_at}
 use Rattle.afdx_plan.specs.Plan.{IsLink, IsPort, identification}
 use Rattle.afdx_plan.specs.declared.link_plan.LinkPlan.{LinkPlan}
 use Rattle.afdx_plan.specs.declared.port_plan.PortPlan.{PortPlan}
@@ -17,13 +17,14 @@ use Rattle.afdx_frame.specs.declared.net.Net.{Net}
 unfoldable use Rattle.judge.specs.Fields.{fields_of}
 use Rattle.judge.specs.Joining.{begun, end_deviation, head_after, head_now, head_of, head_with, ident_of, is_of_port, is_towards, message_deviation, next_of}
 use Rattle.judge.specs.Judging.{first_port}
-use Rattle.judge.specs.Lines.{sub_in}
+use Rattle.judge.specs.Lines.{new_sub, sub_in}
 use Rattle.judge.specs.Rules.{size_deviation}
 use Rattle.judge.specs.Types.{Flow, Head, Joining, PieceIn}
 use Rattle.judge_laws.proofs.Carried.{part_at}
+use Rattle.judge_laws.proofs.Found.{same_id}
 use Rattle.judge_laws.proofs.Heard.{head_first, head_later, room_at}
 use Rattle.judge_laws.proofs.OfProfile.{layout_is_profile}
-use Rattle.judge_laws.proofs.Quiet.{Fits, IsQuiet, body_in, fits_says, found_says, length_says, piece_in, reads}
+use Rattle.judge_laws.proofs.Quiet.{Fits, IsQuiet, body_in, fits_says, found_says, length_says, piece_in, reads, placed_says}
 use Rattle.judge_laws.proofs.Rebuilt.{IsRead, address_part, bytes_are}
 use Rattle.judge_laws.proofs.Told.{Tells, none_says, tells_more}
 
@@ -181,3 +182,15 @@ module _ (plan : Plan) (k s : ℕ) (net : Net) (place : ℕ) (joining : Joining)
         sender = is.sender;
         units = is.units;
       }
+
+-- The sub-VL of a first frame in which nothing is found is one of its link.
+pub first_of_sub : (plan : Plan) (k s : ℕ) (net : Net) (frame : List ℕ) → IsPlan plan
+    → IsQuiet plan k s net (new_sub false false s).joining frame → s < (link_plan_at plan.links k).sub_vls
+first_of_sub plan k s net frame valid quiet =
+    let placed = placed_says plan net frame k quiet.placed ((layout_is_profile frame).0 quiet.layout) in
+    let brings = brings_first plan k s net 0 (new_sub false false s).joining frame valid placed.within quiet
+    (record { next = refl; ident = ap Some (omega (arith, quiet.of_sub)) }) in
+    let sender = brings.1.sender in
+    let link = All-contains (HasLink plan.links) plan.ports brings.0 valid.linked sender.member in
+    let same = valid.links_apart link.at k link.within placed.within (link.over.id ∙ same_id _ _ sender.over) in
+    omega (arith, sender.its, link.over.sub, ap (λ (i : ℕ). (link_plan_at plan.links i).sub_vls) same)

@@ -66,7 +66,7 @@ destination_is vl None is = record { four = refl; bytes = each }
     each (suc (suc (suc (suc i)))) = omega arith
 destination_is vl (Some address) is = record { four = is.four; bytes = is.bytes }
 
-same_id : (v w : VlId) → v.0 ≡ w.0 → v ≡ w
+pub same_id : (v w : VlId) → v.0 ≡ w.0 → v ≡ w
 same_id v w same = ap (λ (n : ℕ). let id : VlId = record { 0 = n } in id) same
 
 -- what a first piece says of its port
