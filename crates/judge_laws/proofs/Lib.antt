@@ -11,6 +11,7 @@ pub mod Line
 pub mod LineSilent
 pub mod Link
 pub mod Message
+pub mod Missed
 pub mod Numbers
 pub mod OfProfile
 pub mod Pieces

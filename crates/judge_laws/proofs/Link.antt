@@ -63,7 +63,7 @@ line_given_up setting tag number link net = by net (is_both setting.plan.network
     by B true = refl
     by m false = refl
 
-line_paired : (setting : Setting) (tag : Tag) (number : ℕ) (frame : List ℕ) (link : Link) (net : Net)
+pub line_paired : (setting : Setting) (tag : Tag) (number : ℕ) (frame : List ℕ) (link : Link) (net : Net)
     → line_on net (paired setting tag number frame link) ≡ line_on net link
 line_paired setting tag number frame link net = by net (is_both setting.plan.networks)
   where
@@ -73,7 +73,7 @@ line_paired setting tag number frame link net = by net (is_both setting.plan.net
     by B true = refl
     by m false = refl
 
-twins_with_line : (net : Net) (line : Line) (link : Link) → (with_line net line link).twins ≡ link.twins
+pub twins_with_line : (net : Net) (line : Line) (link : Link) → (with_line net line link).twins ≡ link.twins
 twins_with_line A line link = refl
 twins_with_line B line link = refl
 

@@ -64,7 +64,7 @@ own_next plan k e es rest B B next its = refl
 pub stream_next : (vl : ℕ) (e : Entry) (es : List Entry) → link_in e.frame ≡ vl → link_stream vl (e ∷ es) ≡ e ∷ link_stream vl es
 stream_next vl e es its = grind (arith, nat_tests)
 
-stream_same : (vl : ℕ) (e : Entry) (es : List Entry) → link_in e.frame ≢ vl → link_stream vl (e ∷ es) ≡ link_stream vl es
+pub stream_same : (vl : ℕ) (e : Entry) (es : List Entry) → link_in e.frame ≢ vl → link_stream vl (e ∷ es) ≡ link_stream vl es
 stream_same vl e es other = grind (arith, nat_tests)
 
 pub other_next : (plan : Plan) (k : ℕ) (e : Entry) (es : List Entry) (rest : Net → List Entry) (n m : Net) → rest n ≡ e ∷ es
@@ -81,22 +81,22 @@ known_after links e es rest A B next known = known B
 known_after links e es rest B A next known = known A
 known_after links e es rest B B next known = (rw next at (known B)).1
 
-abbrev vl_of : ℕ → VlId
+abbrev pub vl_of : ℕ → VlId
 vl_of number = record { 0 = number }
 
 -- ---- a packet
 
-admitted_is : (plan : Plan) (options : Options) (times : Times) (told : Bool) (links : List Link) (net : Net) (packet : Recorded)
+pub admitted_is : (plan : Plan) (options : Options) (times : Times) (told : Bool) (links : List Link) (net : Net) (packet : Recorded)
     (frame : List ℕ) (k : ℕ) → frame_in (of_profile options) packet ≡ Ok frame → place_of plan net frame ≡ Ok k
     → admitted net packet (judge_of plan options times told links) ≡ Ok (record { place = k; frame = frame })
 unfolding admitted
 admitted_is plan options times told links net packet frame k is placed = rw (is, placed) refl
 
-abbrev new_links : Plan → Options → Times → Bool → List Link → ℕ → Tag → List ℕ → List Link
+abbrev pub new_links : Plan → Options → Times → Bool → List Link → ℕ → Tag → List ℕ → List Link
 new_links plan options times told links k tag frame = slice_set links k
     (link_after (setting_of (judge_of plan options times told links) k) tag (port_at plan k frame) frame (link_at links k))
 
-after_is : (plan : Plan) (options : Options) (times : Times) (told : Bool) (links : List Link) (net : Net) (number at : ℕ)
+pub after_is : (plan : Plan) (options : Options) (times : Times) (told : Bool) (links : List Link) (net : Net) (number at : ℕ)
     (packet : Recorded) (frame : List ℕ) (k : ℕ) → packet.at ≡ Some at → frame_in (of_profile options) packet ≡ Ok frame → place_of plan net frame ≡ Ok k
     → after_packet net number packet (judge_of plan options times told links)
     ≡ judge_of plan options (times_with at times) told
@@ -106,7 +106,7 @@ after_is plan options times told links net number at packet frame k timed is pla
     ap (after_timed net number packet (judge_of plan options times told links)) timed
     ∙ rw (admitted_is plan options (times_with at times) told links net packet frame k is placed) refl
 
-found_is : (plan : Plan) (options : Options) (times : Times) (told : Bool) (links : List Link) (net : Net) (number at : ℕ)
+pub found_is : (plan : Plan) (options : Options) (times : Times) (told : Bool) (links : List Link) (net : Net) (number at : ℕ)
     (packet : Recorded) (frame : List ℕ) (k : ℕ) (found : List Finding) → packet.at ≡ Some at → frame_in (of_profile options) packet ≡ Ok frame
     → place_of plan net frame ≡ Ok k
     → found_with_packet net number packet (judge_of plan options times told links) found
@@ -119,10 +119,10 @@ found_is plan options times told links net number at packet frame k found timed 
 
 -- ---- a recording
 
-new_at : (links : List Link) (k : ℕ) (new : Link) → k < length links → link_at (slice_set links k new) k ≡ new
+pub new_at : (links : List Link) (k : ℕ) (new : Link) → k < length links → link_at (slice_set links k new) k ≡ new
 new_at links k new inside = get_or-set_same links k new (new_link false false) inside
 
-other_at : (links : List Link) (k j : ℕ) (new : Link) → j ≢ k → link_at (slice_set links k new) j ≡ link_at links j
+pub other_at : (links : List Link) (k j : ℕ) (new : Link) → j ≢ k → link_at (slice_set links k new) j ≡ link_at links j
 other_at links k j new other = get_or-set_other links k j new (new_link false false) other
 
 -- a packet is taken, as a frame of the link at a place
