@@ -12,6 +12,7 @@ pub mod LineSilent
 pub mod Link
 pub mod Message
 pub mod Missed
+pub mod MissedLines
 pub mod Numbers
 pub mod OfProfile
 pub mod Pieces

@@ -107,7 +107,7 @@ packet_timed plan options times links net number packet (Some at) none = record 
       (admitted net packet (judge_of plan options (times_with at times) false links)) refl none;
 }
 
-packet_silent : (plan : Plan) (options : Options) (times : Times) (links : List Link) (net : Net) (number : ℕ) (packet : Recorded)
+pub packet_silent : (plan : Plan) (options : Options) (times : Times) (links : List Link) (net : Net) (number : ℕ) (packet : Recorded)
     → options.fcs ≡ false → found_with_packet net number packet (judge_of plan options times false links) [] ≡ []
     → IsPacketSilent plan options times links net number packet
 unfolding found_with_packet

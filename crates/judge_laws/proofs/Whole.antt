@@ -51,7 +51,7 @@ pub record ArePaired (plan : Plan) (origin : ℕ) (options : Options) (latest : 
 open_later : (origin jitter now later : ℕ) (es : List Entry) → now ≤ later → AreOpen origin jitter later es → AreOpen origin jitter now es
 open_later origin jitter now later es up all = λ i spare inside. (let limit = all i spare inside in omega arith)
 
-time_is : (packet : Recorded) (at : ℕ) → packet.at ≡ Some at → time_of packet ≡ at
+pub time_is : (packet : Recorded) (at : ℕ) → packet.at ≡ Some at → time_of packet ≡ at
 time_is packet at told = ap (λ (time : Option ℕ). unwrap_or time 0) told
 
 open_next : (origin latest : ℕ) (options : Options) (net : Net) (p : OnNet) (ps : List OnNet) (its : Bool) (es : List Entry)
@@ -68,7 +68,7 @@ open_next origin latest options net p ps true (e ∷ es) up zip later =
     All-cons (λ (e : Entry). latest ≤ origin + 1000 * (e.at + options.jitter)) e es (omega arith)
     (open_later origin options.jitter latest (time_of p.packet) es up (later es zip.1))
 
-packets_next : (net : Net) (p : OnNet) (ps : List OnNet)
+pub packets_next : (net : Net) (p : OnNet) (ps : List OnNet)
     → packets_of net (p ∷ ps) ≡ (if same_net p.net net then p.packet ∷ packets_of net ps else packets_of net ps)
 packets_next net p ps = elim (cases_Bool (same_net p.net net)) [
   | inl its ↦ rw its refl
