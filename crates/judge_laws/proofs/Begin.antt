@@ -44,14 +44,14 @@ new_due late (suc (suc zero)) = refl
 new_due late (suc (suc (suc zero))) = refl
 new_due late (suc (suc (suc (suc p)))) = refl
 
-new_came : (late : Bool) (p : ℕ) → (own_sub (new_line late false).subs p).came ≡ 0
+pub new_came : (late : Bool) (p : ℕ) → (own_sub (new_line late false).subs p).came ≡ 0
 new_came late zero = refl
 new_came late (suc zero) = refl
 new_came late (suc (suc zero)) = refl
 new_came late (suc (suc (suc zero))) = refl
 new_came late (suc (suc (suc (suc p)))) = refl
 
-new_joining : (late : Bool) (s : ℕ) → s < 4 → (sub_at (new_line late false).subs s).joining ≡ (new_sub late false s).joining
+pub new_joining : (late : Bool) (s : ℕ) → s < 4 → (sub_at (new_line late false).subs s).joining ≡ (new_sub late false s).joining
 new_joining late zero few = refl
 new_joining late (suc zero) few = refl
 new_joining late (suc (suc zero)) few = refl

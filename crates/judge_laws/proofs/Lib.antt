@@ -19,7 +19,9 @@ pub mod Pieces
 pub mod Quiet
 pub mod Rebuilt
 pub mod Recording
+pub mod SentTo
 pub mod Silent
+pub mod SubSilent
 pub mod Told
 pub mod Turns
 pub mod Waits

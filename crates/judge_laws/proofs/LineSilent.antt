@@ -55,7 +55,7 @@ numbered_same : (measure : Measure) (come : Arrived) (line : Line) → number_de
     → numbered measure come line ≡ line
 numbered_same measure come line none = rw none refl
 
-wrong_right : (measure : Measure) (port : Option PortPlan) (come : Arrived) (line : Line) → measure.arinc ≡ false
+pub wrong_right : (measure : Measure) (port : Option PortPlan) (come : Arrived) (line : Line) → measure.arinc ≡ false
     → verdict measure port come line ≡ faultless → IsRight measure port come line come.sub
 unfolding verdict
 wrong_right measure port come line own wrong =
@@ -82,7 +82,7 @@ pub sub_of_frame : (frame : List ℕ) → judge_sub (fields_of frame) ≡ sub_in
 unfolding fields_of
 sub_of_frame frame = refl
 
-more_of : (frame : List ℕ) → (fields_of frame).piece.more ≡ more_in frame
+pub more_of : (frame : List ℕ) → (fields_of frame).piece.more ≡ more_in frame
 unfolding fields_of
 more_of frame = refl
 
@@ -155,7 +155,7 @@ pub record AreHeard (plan : Plan) (k i : ℕ) (before : Option Stamp) (subs : Li
   pub due : AreDue subs i es
   pub turns : TakesTurns es
 
-after_clear : (plan : Plan) (k : ℕ) (options : Options) (net : Net) (line : Line) (r : Recorded) → IsClear plan k options net line r
+pub after_clear : (plan : Plan) (k : ℕ) (options : Options) (net : Net) (line : Line) (r : Recorded) → IsClear plan k options net line r
     → line_then plan k options net line r
     ≡ line_of (port_at plan k r.bytes) (come_of plan k options net line r) line (sub_in r.bytes)
 after_clear plan k options net line r clear =
