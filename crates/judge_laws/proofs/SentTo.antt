@@ -1,6 +1,6 @@
 -- Nothing missed: where a judge finds nothing, what was recorded of each network was sent legally.
 use Rattle.std.proofs.Common.{zero, suc, ℕ, ◌≡◌, ◌≢◌, ◌+◌, ◌-◌, ◌^◌, ◌<◌, ◌≤◌, Bool, true, false, List, [], ◌∷◌, ◌++◌, length, map, get_or, replicate, Option, Some, None, Ok, arith, refl, sym, subst, ap, ◌∙◌, inl, inr}
-use Rattle.std.specs.Prelude.{All, filter, nat_eq}
+use Rattle.std.specs.Prelude.{◌⊎◌, All, filter, nat_eq}
 use Rattle.std.proofs.lemmas.Bool.{cases_Bool, cases_eq, cases_lt, eq-eqb, ne_eqb}
 use Rattle.std.proofs.lemmas.List.{append-nil, get_or-replicate, length-map, length-replicate}
 use Rattle.std.proofs.lemmas.List.Elements.{All-cons, All-head, All-nil, All-tail, All-weaker}
@@ -23,6 +23,7 @@ use Rattle.judge.specs.Lines.{new_line, new_sub, sub_at}
 use Rattle.judge.specs.Types.{Link}
 use Rattle.judge.specs.declared.options.Options.{Options}
 use Rattle.judge_laws.specs.NoFalseAlarm.{packets_of}
+use Rattle.judge.specs.Twins.{same_net}
 use Rattle.judge_laws.specs.NothingMissed.{EndsWhole, IsOctets, IsSentTo, IsStrict, NothingMissed, entry_of, frames_of, sent_to}
 use Rattle.judge_laws.proofs.Begin.{new_came, new_joining, own_options}
 use Rattle.judge_laws.proofs.Brings.{first_of_sub}
@@ -30,7 +31,7 @@ use Rattle.judge_laws.proofs.LineSilent.{AreClear, AreHeard, IsAt, heard}
 use Rattle.judge_laws.proofs.MissedLines.{IsPlacedAt, all_placed, lines_clear, own_packets}
 use Rattle.judge_laws.proofs.OfProfile.{layout_is_profile}
 use Rattle.judge_laws.proofs.Quiet.{IsPlaced, placed_says}
-use Rattle.judge_laws.proofs.Recording.{id_of, judge_of}
+use Rattle.judge_laws.proofs.Recording.{id_of, judge_of, vl_of}
 use Rattle.judge_laws.proofs.Silent.{IsSilent, silent_is_sent}
 use Rattle.judge_laws.proofs.SubSilent.{IsSubSilent, ends_silent, sub_frames, sub_silent}
 
@@ -47,15 +48,32 @@ frames_are s rs = ap (map (λ (e : Entry). e.frame))
 told_are : (s : ℕ) (rs : List Recorded) → told (sub_stream s (map entry_of rs)) ≡ map blanked (sub_frames s rs)
 told_are s rs = sym (map-map blanked (λ (e : Entry). e.frame) (sub_stream s (map entry_of rs))) ∙ ap (map blanked) (frames_are s rs)
 
--- an element that passes shows that some do
-some_pass : {X : Type 0} (read : X → ℕ) (n : ℕ) (xs : List X) (i : ℕ) (d : X) → i < length xs → read (get_or xs i d) ≡ n
-    → those_with read n xs ≡ [] → ⊥
-some_pass read n [] i d inside its none = absurd (omega arith)
-some_pass read n (x ∷ xs) zero d inside its none = absurd (cc (rw (eq-eqb (read x) n its) at none))
-some_pass read n (x ∷ xs) (suc i) d inside its none = elim (cases_Bool (nat_eq (read x) n)) [
-  | inl is ↦ absurd (cc (rw is at none))
-  | inr isnt ↦ some_pass read n xs i d (omega arith) its (rw isnt at none)
-]
+-- an element that passes both tests shows that some do
+some_pass : {X : Type 0} (f g : X → ℕ) (m n : ℕ) (xs : List X) (i : ℕ) (d : X) → i < length xs → f (get_or xs i d) ≡ m → g (get_or xs i d) ≡ n
+    → those_with f m (those_with g n xs) ≡ [] → ⊥
+some_pass f g m n [] i d inside first second none = absurd (omega arith)
+some_pass f g m n (x ∷ xs) zero d inside first second none =
+    absurd (cc (rw (eq-eqb (f x) m first) at (rw (eq-eqb (g x) n second) at none)))
+some_pass f g m n (x ∷ xs) (suc i) d inside first second none =
+    some_pass f g m n xs i d (omega arith) first second (rest_none (cases_Bool (nat_eq (g x) n)) (cases_Bool (nat_eq (f x) m)))
+  where
+    rest_none : (nat_eq (g x) n ≡ true) ⊎ (nat_eq (g x) n ≡ false) → (nat_eq (f x) m ≡ true) ⊎ (nat_eq (f x) m ≡ false)
+        → those_with f m (those_with g n xs) ≡ []
+    rest_none (inr other) of_f = rw other at none
+    rest_none (inl own) (inr other) = rw other at (rw own at none)
+    rest_none (inl own) (inl its) = absurd (cc (rw its at (rw own at none)))
+
+none_pass : {X : Type 0} (f : X → ℕ) (n : ℕ) (xs : List X) → ((i : ℕ) (d : X) → i < length xs → f (get_or xs i d) ≡ n → ⊥) → those_with f n xs ≡ []
+none_pass f n [] none = refl
+none_pass f n (x ∷ xs) none = rw (ne_eqb (f x) n (none 0 x (omega arith))) (none_pass f n xs (λ i d inside. none (suc i) d (omega arith)))
+
+filter_short : {X : Type 0} (p : X → Bool) (xs : List X) → length (filter p xs) ≤ length xs
+filter_short p [] = omega arith
+filter_short p (x ∷ xs) = grind (arith, filter_short p xs)
+
+map_none : {X Y : Type 0} (f : X → Y) (xs : List X) → map f xs ≡ [] → xs ≡ []
+map_none f [] none = refl
+map_none f (x ∷ xs) none = absurd (cc (none))
 
 module _ (plan : Plan) (options : Options) (recording : List OnNet) (net : Net) (strict : IsStrict plan options recording)
   (none : findings plan options recording ≡ []) where
@@ -83,7 +101,12 @@ module _ (plan : Plan) (options : Options) (recording : List OnNet) (net : Net) 
       start = ap (line_on net) (get_or-replicate (length plan.links) k (new_link options.late false) (new_link false false) inside) ∙ by net
 
   few : (k : ℕ) → 0 + length (own k) ≤ 2 ^ 64 - 1
-  few k = ?few
+  few k =
+      let of_link = filter_short (λ (r : Recorded). nat_eq (link_in r.bytes) (id_of plan k)) rs in
+      let of_net = filter_short (λ (p : OnNet). same_net p.net net) recording in
+      let packets = length-map (filter (λ (p : OnNet). same_net p.net net) recording) (λ (p : OnNet). p.packet) in
+      let most = strict.few in
+      omega (arith, of_link, of_net, packets)
 
   line_heard : (k : ℕ) → k < length plan.links → AreHeard plan k 0 None (new_line false false).subs (map entry_of (own k))
   line_heard k inside = heard plan k options net (new_line false false) (own k) 0 None strict.early strict.jitter
@@ -108,3 +131,76 @@ module _ (plan : Plan) (options : Options) (recording : List OnNet) (net : Net) 
       (ends_silent plan k s net (new_sub false false s).joining (sub_frames s (own k)) silent.last silent.silent refl
       (subst EndsWhole (sent_frames k s) (strict.whole net (id_of plan k) s))) in
       (sent.0, record { allowed = sent.1; are = sent.2 })
+
+  -- ---- legal transmission
+
+  places : All (IsPlacedAt plan net) rs
+  unfolding links
+  places = all_placed plan options no_times links recording strict.fcs
+      (subst (λ o. findings plan o recording ≡ []) (own_options options strict.profile) none) net
+
+  says : (r : Recorded) (p : IsPlacedAt plan net r) → IsPlaced plan p.k net r.bytes
+  says r p = placed_says plan net r.bytes p.k p.placed ((layout_is_profile r.bytes).0 p.layout)
+
+  -- a packet is of a sub-VL of its link, since the first one of its sub-VL is
+  sub_first : (k s : ℕ) (frames : List (List ℕ)) → IsSubSilent plan k s net (new_sub false false s).joining frames → (frames ≡ [] → ⊥)
+      → s < (link_plan_at plan.links k).sub_vls
+  sub_first k s [] silent some = absurd (some refl)
+  sub_first k s (f ∷ fs) silent some = first_of_sub plan k s net f strict.valid silent.silent.0
+
+  known : (i : ℕ) (spare : Recorded) → i < length rs → IsKnown plan.links net (get_or rs i spare).bytes
+  known i spare within =
+      let r : Recorded = get_or rs i spare in
+      let p = places i spare within in
+      let placed = says r p in
+      let frame : IsFrame r.bytes = (layout_is_profile r.bytes).0 p.layout in
+      record {
+        size = frame.size.0;
+        k = p.k;
+        within = placed.within;
+        link = placed.link;
+        of_sub = sub_first p.k (sub_in r.bytes) (sub_frames (sub_in r.bytes) (own p.k)) (sub_heard p.k (sub_in r.bytes) placed.within (omega arith))
+            (λ nothing. some_pass (λ (r : Recorded). sub_in r.bytes) (λ (r : Recorded). link_in r.bytes) (sub_in r.bytes) (id_of plan p.k) rs i spare within
+            refl placed.link (map_none (λ (r : Recorded). r.bytes) _ nothing));
+        interface = placed.interface;
+      }
+
+  all_known : (qs : List Recorded) → All (λ (r : Recorded). IsKnown plan.links net r.bytes) qs → AreKnown plan.links net (map entry_of qs)
+  all_known [] all = tt
+  all_known (q ∷ qs) all = (all 0 q (omega arith), all_known qs (All-tail (λ (r : Recorded). IsKnown plan.links net r.bytes) q qs all))
+
+  carried : (k : ℕ) → k < length plan.links → names net (link_plan_at plan.links k).networks ≡ false → own k ≡ []
+  carried k inside isnt = none_pass (λ (r : Recorded). link_in r.bytes) (id_of plan k) rs (λ i spare within its.
+      let p = places i spare within in
+      let placed = says (get_or rs i spare) p in
+      let same : p.k ≡ k = strict.valid.links_apart p.k k placed.within inside (ap vl_of (sym placed.link ∙ its)) in
+      absurd (cc (isnt, subst (λ j. names net (link_plan_at plan.links j).networks ≡ true) same placed.on)))
+
+  -- ---- the accepted lists
+
+  every : (k s : ℕ) → (accepted : List Sent) × (k < length plan.links → s < (link_plan_at plan.links k).sub_vls → IsOf k s accepted)
+  every k s = elim (cases_lt k (length plan.links)) [
+    | inr past ↦ ([], λ inside index. absurd (omega arith))
+    | inl inside ↦ elim (cases_lt s (link_plan_at plan.links k).sub_vls) [
+        | inr past ↦ ([], λ inside index. absurd (omega arith))
+        | inl index ↦ ((sub_sent k s inside index).0, λ inside' index'. (sub_sent k s inside index).1)
+      ]
+  ]
+
+  pub is_sent_to : IsSentTo plan net (sent_to net recording)
+  is_sent_to = record {
+    accepted = λ k s. (every k s).0;
+    allowed = λ k s inside index. ((every k s).1 inside index).allowed;
+    legal = record {
+      known = all_known rs known;
+      carried = λ k inside isnt. stream_is plan k rs ∙ ap (map entry_of) (carried k inside isnt);
+      prefixes = λ k s inside index. ([], append-nil _ ∙ ap (λ es. told (sub_stream s es)) (stream_is plan k rs) ∙ told_are s (own k)
+          ∙ ((every k s).1 inside index).are);
+      numbered = λ k inside. rw (stream_is plan k rs) (line_heard k inside).numbered;
+      spaced = λ k inside. rw (stream_is plan k rs) (line_heard k inside).spaced;
+    };
+    turns = λ k inside. rw (stream_is plan k rs) (line_heard k inside).turns;
+  }
+
+pub nothing_missed_holds : NothingMissed
+nothing_missed_holds plan options recording strict none net = is_sent_to plan options recording net strict none
