@@ -25,5 +25,5 @@ pub fn no_false_alarm()
 /// from the judge's rules.
 #[tactic(auto, using(crate::proofs::OfProfile::layout_is_profile))]
 pub fn layout_is_profile()
-    ensures { LayoutIsProfile }
+    ensures profile { LayoutIsProfile }
 {}
