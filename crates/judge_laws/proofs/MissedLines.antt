@@ -83,9 +83,8 @@ own_later : (plan : Plan) (k : ℕ) (r : Recorded) (rs : List Recorded) → link
 own_later plan k r rs other = rw (ne_eqb (link_in r.bytes) (id_of plan k) other) refl
 
 module _ (plan : Plan) (options : Options) (times : Times) (links : List Link) (net : Net) (number : ℕ) (packet : Recorded)
-  (valid : IsPlan plan) (size : length links ≡ length plan.links) (octets : IsOctets packet)
-  (p : IsPacketSilent plan options times links net number packet) where
-
+    (valid : IsPlan plan) (size : length links ≡ length plan.links) (octets : IsOctets packet)
+    (p : IsPacketSilent plan options times links net number packet) where
   abbrev tag : Tag
   tag = tag_of net number p.at
 
@@ -115,14 +114,17 @@ module _ (plan : Plan) (options : Options) (times : Times) (links : List Link) (
   -- the packet is on its link's line
   clear_own : (rs : List Recorded) → p.k < length plan.links → AreClear plan p.k options net (line_on net (link_at links_now p.k)) rs
       → AreClear plan p.k options net line (packet ∷ rs)
-  clear_own rs inside later = (record {
-    octets = octets;
-    layout = p.layout;
-    placed = p.placed;
-    sized = p.sized;
-    wrong = subst (λ (at : ℕ). verdict (measure_at plan p.k options) (port_at plan p.k packet.bytes)
-        (arrived (measure_at plan p.k options) (tag_of net number at) (port_at plan p.k packet.bytes) packet.bytes line) line ≡ faultless) (sym time) p.wrong;
-  }, subst (λ l. AreClear plan p.k options net l rs) (line_is inside) later)
+  clear_own rs inside later = (
+    record {
+      octets = octets;
+      layout = p.layout;
+      placed = p.placed;
+      sized = p.sized;
+      wrong = subst (λ (at : ℕ). verdict (measure_at plan p.k options) (port_at plan p.k packet.bytes)
+          (arrived (measure_at plan p.k options) (tag_of net number at) (port_at plan p.k packet.bytes) packet.bytes line) line ≡ faultless) (sym time) p.wrong;
+    },
+    subst (λ l. AreClear plan p.k options net l rs) (line_is inside) later,
+  )
 
   -- or on another
   same_line : (k : ℕ) (m : Net) → k < length plan.links → (k ≡ p.k → same_net net m ≡ false)

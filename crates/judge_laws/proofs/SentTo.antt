@@ -76,8 +76,7 @@ map_none f [] none = refl
 map_none f (x ∷ xs) none = absurd (cc (none))
 
 module _ (plan : Plan) (options : Options) (recording : List OnNet) (net : Net) (strict : IsStrict plan options recording)
-  (none : findings plan options recording ≡ []) where
-
+    (none : findings plan options recording ≡ []) where
   abbrev pub rs : List Recorded
   rs = packets_of net recording
 
@@ -182,9 +181,9 @@ module _ (plan : Plan) (options : Options) (recording : List OnNet) (net : Net) 
   every k s = elim (cases_lt k (length plan.links)) [
     | inr past ↦ ([], λ inside index. absurd (omega arith))
     | inl inside ↦ elim (cases_lt s (link_plan_at plan.links k).sub_vls) [
-        | inr past ↦ ([], λ inside index. absurd (omega arith))
-        | inl index ↦ ((sub_sent k s inside index).0, λ inside' index'. (sub_sent k s inside index).1)
-      ]
+      | inr past ↦ ([], λ inside index. absurd (omega arith))
+      | inl index ↦ ((sub_sent k s inside index).0, λ inside' index'. (sub_sent k s inside index).1)
+    ]
   ]
 
   pub is_sent_to : IsSentTo plan net (sent_to net recording)
@@ -194,8 +193,11 @@ module _ (plan : Plan) (options : Options) (recording : List OnNet) (net : Net) 
     legal = record {
       known = all_known rs known;
       carried = λ k inside isnt. stream_is plan k rs ∙ ap (map entry_of) (carried k inside isnt);
-      prefixes = λ k s inside index. ([], append-nil _ ∙ ap (λ es. told (sub_stream s es)) (stream_is plan k rs) ∙ told_are s (own k)
-          ∙ ((every k s).1 inside index).are);
+      prefixes = λ k s inside index. (
+        [],
+        append-nil _ ∙ ap (λ es. told (sub_stream s es)) (stream_is plan k rs) ∙ told_are s (own k)
+            ∙ ((every k s).1 inside index).are,
+      );
       numbered = λ k inside. rw (stream_is plan k rs) (line_heard k inside).numbered;
       spaced = λ k inside. rw (stream_is plan k rs) (line_heard k inside).spaced;
     };

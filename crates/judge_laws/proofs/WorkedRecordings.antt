@@ -58,8 +58,10 @@ pair_run origin first second options net plain a b c d = record {
   after = [];
   whole = refl;
   first = λ early. refl;
-  each = (recorded origin 0 first options net (one_frame net) plain (omega arith) (omega arith),
-    (recorded origin 1000 second options net (second_frame net) plain (omega arith) (omega arith), tt));
+  each = (
+    recorded origin 0 first options net (one_frame net) plain (omega arith) (omega arith),
+    (recorded origin 1000 second options net (second_frame net) plain (omega arith) (omega arith), tt),
+  );
 }
 
 second_run : (net : Net) → IsRunOf 7 late (two_entries net) ((packet net 1000007 (second_frame net)).packet ∷ [])
@@ -100,8 +102,10 @@ near_run net = record {
   after = [];
   whole = refl;
   first = λ early. refl;
-  each = (recorded 0 0 0 strict net (one_frame net) refl (omega arith) (omega arith),
-    (recorded 0 999 999000 strict net (second_frame net) refl (omega arith) (omega arith), tt));
+  each = (
+    recorded 0 0 0 strict net (one_frame net) refl (omega arith) (omega arith),
+    (recorded 0 999 999000 strict net (second_frame net) refl (omega arith) (omega arith), tt),
+  );
 }
 
 loosely : IsRecording 0 loose (two_entries A) (two_entries B) (both_at 2000000 1000000)
