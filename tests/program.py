@@ -67,7 +67,7 @@ ROWS = [
     (STORM, 0, totals(2), ""),
     (["storm", "--turns", "1000000000", "--messages=002", "demo.toml"], 0, totals(2), ""),
     (["run", "--capture=frames.pcapng", "demo.toml", "short.txt"], 0, ONE_FRAME, ""),
-    ([*JUDGE, "--jitter", "1000000", "--skew=07", "--late", "--fcs"], 2, JUDGED, ""),
+    ([*JUDGE, "--jitter", "1000000", "--skew=07", "--late", "--fcs", "--profile=arinc"], 2, JUDGED, ""),
     (["--help"], 0, HELP, ""), (["storm", "--help"], 0, STORM_HELP, ""),
     (["--version"], 0, f"afdx_bench {VERSION}\n", ""),
     (EXPLAIN, 0, "no faults\n", ""),
@@ -158,7 +158,7 @@ NO_COMMANDS = """help,chekc demo.toml,check,check demo.toml short.txt,check --al
 run demo.toml short.txt long.txt,run demo.toml short.txt --capture,run demo.toml short.txt --capture c --capture d,
 check demo.toml --capture c.pcapng,explain,explain demo.toml demo.toml,explain demo.toml --html made.html,report,
 report demo.toml demo.toml,report demo.toml --lateness 1000001,report demo.toml --html,report demo.toml --capture c.pcapng,
-judge demo.toml,judge demo.toml b c d,judge demo.toml b --jitter,judge demo.toml b --jitter 1000001,storm demo.toml,
+judge demo.toml,judge demo.toml b c d,judge demo.toml b --jitter,judge demo.toml b --jitter 1000001,judge demo.toml b --profile none,storm demo.toml,
 storm demo.toml --messages 1,storm demo.toml --messages 65536 --turns 1,storm demo.toml --messages 1 --turns 1000000001"""
 
 # The standard streams that are closed before a run, in each way.

@@ -3,13 +3,14 @@ _afdx_bench() {
     local word=${COMP_WORDS[COMP_CWORD]} before=${COMP_WORDS[COMP_CWORD - 1]} words
     case $before in
     --capture | --html | --traffic | --csv) words= ;;
+    --profile) mapfile -t COMPREPLY < <(compgen -W 'own arinc' -- "$word") && return ;;
     --lateness | --date | --jitter | --skew | --messages | --turns) COMPREPLY=() && return ;;
     *)
         case ${COMP_CWORD}:${COMP_WORDS[1]-} in
         1:*) words='run check explain report judge storm --help --version' ;;
         *:run) words='--capture --help' ;;
         *:report) words='--lateness --html --traffic --csv --date --strict --help' ;;
-        *:judge) words='--jitter --skew --late --fcs --html --help' ;;
+        *:judge) words='--jitter --skew --late --fcs --profile --html --help' ;;
         *:storm) words='--messages --turns --help' ;;
         *) words=--help ;;
         esac

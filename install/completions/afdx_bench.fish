@@ -19,6 +19,7 @@ complete -c afdx_bench -n '__fish_seen_subcommand_from judge' -l jitter -x -d 'H
 complete -c afdx_bench -n '__fish_seen_subcommand_from judge' -l skew -x -d 'How far the networks may be apart'
 complete -c afdx_bench -n '__fish_seen_subcommand_from judge' -l late -d 'The recording began after the end system'
 complete -c afdx_bench -n '__fish_seen_subcommand_from judge' -l fcs -d 'Frames were recorded with their check sequence'
+complete -c afdx_bench -n '__fish_seen_subcommand_from judge' -l profile -x -a 'own arinc' -d 'By what frames are judged'
 complete -c afdx_bench -n '__fish_seen_subcommand_from judge' -l html -r -F -d 'Also writes the summary as a page'
 complete -c afdx_bench -n '__fish_seen_subcommand_from storm' -l messages -x -d 'How many messages each port sends, each about 3 KB of memory'
 complete -c afdx_bench -n '__fish_seen_subcommand_from storm' -l turns -x -d 'How often each thread may try'

@@ -5,7 +5,7 @@ from typing import NamedTuple
 
 from captures import Packet
 from model import NETWORKS, Table, complement
-from recordings import MICRO, Recording, by_time
+from recordings import MICRO, Recording, by_time, half, put, rewritten, summed
 
 # A finding that has to come: its kind and rule, and the packet.
 Wanted = tuple[str, str, Packet]
@@ -23,21 +23,6 @@ class Unfit(Exception):
     """The recording has no place for the fault."""
 
 
-def half(frame: bytes, at: int) -> int:
-    """The 16-bit number at a byte."""
-    return int.from_bytes(frame[at : at + 2], "big")
-
-
-def put(frame: bytes, at: int, data: bytes) -> bytes:
-    """A frame with other bytes at a place."""
-    return frame[:at] + data + frame[at + len(data) :]
-
-
-def summed(frame: bytes) -> bytes:
-    """A frame with its header checksum put right."""
-    return put(frame, 24, complement(frame[14:24] + frame[26:34]).to_bytes(2, "big"))
-
-
 def moved(packet: Packet, data: bytes) -> Packet:
     """A packet with other bytes."""
     return packet._replace(data=data, original=len(data))
@@ -47,22 +32,24 @@ class Frame:
     """The fields of a frame by which places are chosen."""
 
     def __init__(self, data: bytes) -> None:
-        self.vl, self.sub, self.total, self.ident = half(data, 4), half(data, 18) % 4, half(data, 16), half(data, 18)
+        self.vl, self.sub, self.total = half(data, 4), half(data, 18) % 4, half(data, 16)
         self.more, self.start = bool(half(data, 20) & 0x2000), 8 * (half(data, 20) & 0x1FFF)
         self.size = self.total - 20
 
 
 class Ground:
-    """A recording in which a fault is planted. An event is a frame of a link, by its packets on the networks that carry it."""
+    """A recording in which a fault is planted, with `arinc` one of another maker's. An event is a frame of a link, by its
+    packets on the networks that carry it."""
 
-    def __init__(self, rng: random.Random, recording: Recording) -> None:
-        self.rng, self.plan, self.packets = rng, recording.plan, list(recording.packets)
+    def __init__(self, rng: random.Random, recording: Recording, arinc: bool = False) -> None:
+        self.frames = [Frame(it.data) for it in recording.packets]
+        recording = rewritten(rng, recording) if arinc else recording
+        self.rng, self.plan, self.packets, self.arinc = rng, recording.plan, list(recording.packets), arinc
         self.links = {link["id"]: link for link in self.plan["vl"]}
         streams: dict[int, dict[str, list[int]]] = {vl: {} for vl in self.links}
         for place, it in enumerate(self.packets):
             streams[half(it.data, 4)].setdefault(it.network, []).append(place)
         self.events = {vl: [*zip(*nets.values(), strict=True)] for vl, nets in streams.items()}
-        self.frames = [Frame(it.data) for it in self.packets]
 
     def choose(self, fits: Callable[[int, int], bool]) -> tuple[int, int]:
         """A link and the place of an event that fits."""
@@ -105,8 +92,8 @@ class Ground:
 
     def port_of(self, data: bytes) -> Table:
         """The port of a first piece."""
-        key = half(data, 4), half(data, 18) % 4, data[29], half(data, 34), half(data, 36)
-        ports = [it for it in self.plan["port"] if (it["vl"], it["sub"], it["partition"], it["source"], it["destination"]) == key]
+        key = half(data, 4), data[29], half(data, 34), half(data, 36)
+        ports = [it for it in self.plan["port"] if (it["vl"], it["partition"], it["source"], it["destination"]) == key]
         return ports[0]
 
     def message_of(self, vl: int, place: int) -> list[int]:
@@ -127,7 +114,7 @@ BREAKS: dict[str, Callable[[bytes], bytes]] = {
     "SourceMac": lambda it: put(it, 8, b"\1"),
     "Interface": lambda it: put(it, 11, b"\x30"),
     "EtherType": lambda it: put(it, 12, b"\x86\xdd"),
-    "Version": lambda it: put(it, 15, b"\x04"),
+    "Version": lambda it: put(it, 14, b"\x46"),
     "TotalLength": lambda it: put(it, 16, b"\x08\0"),
     "Fragment": lambda it: put(it, 20, b"\x1f\xff"),
     "Protocol": lambda it: put(it, 23, b"\6"),
@@ -136,12 +123,15 @@ BREAKS: dict[str, Callable[[bytes], bytes]] = {
     "DestinationAddress": lambda it: summed(put(it, 30, b"\xe1")),
     "Recorded": lambda it: it + b"\1\2\3\4",
 }
+# What only this project's frames may not have.
+OWN = {"Version": lambda it: put(it, 15, b"\x04"), "Protocol": lambda it: put(it, 22, b"\x40")}
 
 
 def broken(ground: Ground) -> Planted:
     """One more packet, which isn't a frame of the layout."""
     rng = ground.rng
-    rule = rng.choice([*BREAKS, "Snapped", "Padding"])
+    own = [] if ground.arinc else [*OWN, "Padding"]
+    rule = rng.choice([*BREAKS, "Snapped", *own])
     if rule == "Snapped":
         place, it = ground.any_packet()
         return ground.inserted("Frame", rule, place, it._replace(data=it.data[: rng.randrange(len(it.data))]))
@@ -150,7 +140,8 @@ def broken(ground: Ground) -> Planted:
         at = rng.randrange(14 + half(it.data, 16), 59)
         return ground.inserted("Frame", rule, place, moved(it, put(it.data, at, b"\1")))
     place, it = ground.any_packet()
-    return ground.inserted("Frame", rule, place, moved(it, BREAKS[rule](it.data)))
+    change = BREAKS[rule] if rule not in own or rng.random() < 0.5 else OWN[rule]
+    return ground.inserted("Frame", rule, place, moved(it, change(it.data)))
 
 
 def of_another(ground: Ground) -> Planted:
@@ -257,15 +248,29 @@ def misfit(ground: Ground) -> Planted:
     if rule == "Length":
         return cut_short(ground)
     first = ground.rng.random() < 0.5 and rule == "Identification"
+    if first and ground.arinc:
+        return repeated(ground)
     vl, k = ground.choose(lambda vl, k: first or ground.frame(vl, k).start > 0)
-    it, turn = ground.frame(vl, k), ground.rng.choice((1, 2, 16_383))
+    it, turn = ground.frame(vl, k), 0x2000 if ground.arinc else ground.rng.choice((1, 2, 16_383))
+    # (another maker's piece that goes on with no message has to begin one)
+    told = "Offset" if ground.arinc else rule
     if rule == "Identification":
-        ident = ((it.ident + 4 * turn) % 65_536).to_bytes(2, "big")
-        return ground.planted("Fragment", rule, ground.rewrite(vl, k, lambda data: summed(put(data, 18, ident))))
+        ident = ((half(ground.first(vl, k), 18) + 4 * turn) % 65_536).to_bytes(2, "big")
+        return ground.planted("Fragment", told, ground.rewrite(vl, k, lambda data: summed(put(data, 18, ident))))
     if rule == "Offset":
         offset = (it.more << 13 | it.start // 8 - 1).to_bytes(2, "big")
         return ground.planted("Fragment", rule, ground.rewrite(vl, k, lambda data: summed(put(data, 20, offset))))
-    return ground.planted("Fragment", rule, ground.rewrite(vl, k, lambda data: summed(put(data, 29, bytes([data[29] ^ 1])))))
+    return ground.planted("Fragment", told, ground.rewrite(vl, k, lambda data: summed(put(data, 29, bytes([data[29] ^ 1])))))
+
+
+def repeated(ground: Ground) -> Planted:
+    """A message with the identification of the one before it, in a maker's numbering of its own."""
+    def before(vl: int, k: int) -> list[int]:
+        return [j for j in range(k) if ground.frame(vl, j).sub == ground.frame(vl, k).sub]
+
+    vl, k = ground.choose(lambda vl, k: ground.frame(vl, k).start == 0 and before(vl, k))
+    ident = ground.first(vl, before(vl, k)[-1])[18:20]
+    return ground.planted("Fragment", "Repeated", ground.rewrite(vl, k, lambda data: summed(put(data, 18, ident))))
 
 
 def cut_short(ground: Ground) -> Planted:

@@ -4,7 +4,7 @@ from collections.abc import Iterator
 from typing import NamedTuple
 
 from captures import Packet
-from model import EndSystem, Table
+from model import EndSystem, Table, complement
 
 MICRO = 1000
 
@@ -31,6 +31,21 @@ def plan_of(rng: random.Random) -> Table:
             table |= {"dest_ip": f"10.{rng.randrange(256)}.{number}.{rng.randrange(256)}"} if rng.random() < 0.3 else {}
             port.append(table | {"checksum": rng.choice(("none", "udp")), "max": min(table["max"], 8192)})
     return {"version": 2, "end_system": {"id": rng.choice((0, 1, 0x1234, 65535))}, "vl": vl, "port": port}
+
+
+def half(frame: bytes, at: int) -> int:
+    """The 16-bit number at a byte."""
+    return int.from_bytes(frame[at : at + 2], "big")
+
+
+def put(frame: bytes, at: int, data: bytes) -> bytes:
+    """A frame with other bytes at a place."""
+    return frame[:at] + data + frame[at + len(data) :]
+
+
+def summed(frame: bytes) -> bytes:
+    """A frame with its header checksum put right."""
+    return put(frame, 24, complement(frame[14:24] + frame[26:34]).to_bytes(2, "big"))
 
 
 def frames_of(end_system: EndSystem) -> Iterator[Packet]:
@@ -60,3 +75,25 @@ def recorded(rng: random.Random, polls: int = 60) -> Recording:
         now += rng.choice((500, 1000, 1000, 1001, 3999))
     packets = [it._replace(at=it.at + MICRO * behind[it.network]) for it in frames_of(end_system)]
     return Recording(plan, by_time(packets))
+
+
+def rewritten(rng: random.Random, recording: Recording) -> Recording:
+    """The recording as another maker's end system sends it: with any time to live, type of service and padding, and with
+    identifications that count all messages, or those from a partition to an address; a sub-VL has none twice in turn."""
+    seed, step, is_one, idents, counts, last = rng.random(), rng.choice((1, 3, 0xFFFF)), rng.random() < 0.5, {}, {}, {}
+    packets = []
+    for it in recording.packets:
+        data, key = it.data, (half(it.data, 4), half(it.data, 18))
+        ends = 0 if is_one else data[26:34]
+        sub = key[0], key[1] % 4
+        if key not in idents:
+            taken = {None, last.get(sub)}
+            while idents.get(key) in taken:
+                counts[ends] = (counts.get(ends, rng.choice((0, 0xFFFD, rng.randrange(65_536)))) + step) % 65_536
+                idents[key] = counts[ends]
+            last[sub] = idents[key]
+        own = random.Random(f"{seed} {data[:11]} {data[12:]}")
+        data = put(put(put(data, 18, idents[key].to_bytes(2, "big")), 15, own.randbytes(1)), 22, own.randbytes(1))
+        end = 14 + half(data, 16)
+        packets.append(it._replace(data=summed(put(data, end, own.randbytes(len(data) - 1 - end)))))
+    return recording._replace(packets=packets)

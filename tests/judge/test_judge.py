@@ -32,7 +32,7 @@ import trying  # noqa: E402
 import verdict  # noqa: E402
 from captures import PLAIN, Packet, Reader, random_form, written  # noqa: E402
 from planting import text_of  # noqa: E402
-from recordings import MICRO, by_time, recorded  # noqa: E402
+from recordings import MICRO, by_time, recorded, rewritten  # noqa: E402
 from verdict import KINDS, Options  # noqa: E402
 
 
@@ -112,26 +112,28 @@ def clean_run(run: tuple[str, str, bytes]) -> list[str]:
 
 
 def planted(case: tuple[int, int]) -> list[str]:
-    """What is wrong with the verdict on one fault of a kind, in a random recording."""
+    """What is wrong with the verdict on one fault of a kind, in a random recording: every third one is another maker's."""
     kind, seed = case
+    options = Options(arinc=seed % 3 == 0)
     for turn in itertools.count():
         rng = random.Random(f"{kind} {seed} {turn}")
         try:
-            it = breaking.PLANTS[kind](breaking.Ground(rng, recorded(rng)))
+            it = breaking.PLANTS[kind](breaking.Ground(rng, recorded(rng), options.arinc))
         except breaking.Unfit:
             continue
         captures = files_of(it.packets, rng)
         wanted = [(kind, rule, number_of(it.packets, packet, len(captures)), packet.network) for kind, rule, packet in it.wanted]
-        return faults_of(f"{KINDS[kind]} {seed}", text_of(it.plan, rng), captures, Options(), wanted)
+        return faults_of(f"{KINDS[kind]} {seed}", text_of(it.plan, rng), captures, options, wanted)
     return []
 
 
 def late(seed: int) -> list[str]:
     """What is wrong with the verdict on the end of a recording: nothing is found if the command knows that it began late."""
     rng = random.Random(f"late {seed}")
-    recording = recorded(rng)
+    options = Options(late=True, arinc=rng.random() < 0.5)
+    recording = rewritten(rng, recorded(rng)) if options.arinc else recorded(rng)
     packets = recording.packets[rng.randrange(len(recording.packets) + 1) :]
-    return faults_of(f"late {seed}", text_of(recording.plan, rng), files_of(packets, rng), Options(late=True), [])
+    return faults_of(f"late {seed}", text_of(recording.plan, rng), files_of(packets, rng), options, [])
 
 
 def checked(seed: int) -> list[str]:
@@ -151,18 +153,35 @@ def checked(seed: int) -> list[str]:
     return faults + faults_of(f"wrong {seed}", plan, [written(packets, PLAIN, rng)], Options(fcs=True), wanted)
 
 
+def of_another_maker(seed: int) -> list[str]:
+    """What is wrong with the verdicts on a recording of another maker's end system: nothing is found by ARINC 664 alone, and else
+    each frame with another field or padding, and what their loss shows."""
+    rng = random.Random(f"another {seed}")
+    recording = rewritten(rng, recorded(rng))
+    plan, captures = text_of(recording.plan, rng), files_of(recording.packets, rng)
+    faults = faults_of(f"another maker {seed}", plan, captures, Options(arinc=True), [])
+    faults += faults_of(f"as its own {seed}", plan, captures, Options())
+    found = verdict.judged(plan, captures, Options())[2]
+    pads = [it.data[14 + breaking.half(it.data, 16) : -1] for it in recording.packets]
+    others = sum(it.data[15] > 0 or it.data[22] != 1 or any(pad) for it, pad in zip(recording.packets, pads, strict=True))
+    told = sum(it.kind == "Frame" and it.rule in ("Version", "Protocol", "Padding") for it in found)
+    return faults + ([] if told == others else [f"another maker {seed}: {told} for {others}"])
+
+
 def lost(seed: int) -> list[str]:
     """What is wrong with the verdict on a recording that one network lost a frame of: it lacks a number, unless it was the last
     one, and the other's frame has no twin."""
     rng = random.Random(f"lost {seed}")
     recording = recorded(rng)
+    options = Options(arinc=rng.random() < 0.5)
+    recording = rewritten(rng, recording) if options.arinc else recording
     gone = rng.choice(recording.packets)
     packets = [it for it in recording.packets if it is not gone]
     plan, captures = text_of(recording.plan, rng), files_of(packets, rng)
-    found = verdict.judged(plan, captures, Options())[2]
+    found = verdict.judged(plan, captures, options)[2]
     kinds = sorted(it.kind for it in found)
     is_well = kinds in ([], ["Missing"], ["Number"], ["Missing", "Number"])
-    return faults_of(f"lost {seed}", plan, captures, Options()) + ([] if is_well else [f"lost {seed}: {kinds}"])
+    return faults_of(f"lost {seed}", plan, captures, options) + ([] if is_well else [f"lost {seed}: {kinds}"])
 
 
 def changed(packets: list[Packet], rng: random.Random) -> None:
@@ -194,13 +213,14 @@ def mixed(seed: int) -> list[str]:
     """What is wrong with the verdict on a recording with several changes, under random options."""
     rng = random.Random(f"mixed {seed}")
     recording = recorded(rng, rng.choice((3, 20, 60)))
+    recording = rewritten(rng, recording) if rng.random() < 0.4 else recording
     packets = list(recording.packets)
     for _ in range(rng.choice((1, 2, 5, 40))):
         if packets:
             changed(packets, rng)
     packets = by_time(packets) if rng.random() < 0.5 else packets
     jitter, skew = rng.choice((0, 0, 1, 999, 1_000_000)), rng.choice((10_000, 0, 1, 4_999, 1_000_000))
-    options = Options(jitter, skew, rng.random() < 0.3, rng.random() < 0.1)
+    options = Options(jitter, skew, rng.random() < 0.3, rng.random() < 0.1, rng.random() < 0.5)
     captures = files_of(packets, rng)
     is_piped = len(captures) == 1 and rng.random() < 0.2
     return faults_of(f"mixed {seed}", text_of(recording.plan, rng), captures, options, is_piped=is_piped)
@@ -331,7 +351,7 @@ def main() -> int:
         for kind, word in enumerate(KINDS):
             cases = [(kind, seed) for seed in range(counts.planted)]
             tries.attempt(f"{counts.planted} times {word} alone", lambda cases=cases: (tried(planted, cases), ""))
-        for task in (late, checked, lost, unmerged, mixed):
+        for task in (late, checked, of_another_maker, lost, unmerged, mixed):
             tries.attempt(f"{task.__name__}, {counts.mixed} times", lambda task=task: (tried(task, range(counts.mixed)), ""))
         tries.attempt("each prefix of a capture", lambda: (tried(prefix, prefixes(4 if counts is FEW else 60)), ""))
         tries.attempt(f"{counts.damaged} damaged captures", lambda: (tried(damaged, range(counts.damaged)), ""))

@@ -1,32 +1,15 @@
 """What `afdx_bench judge` must print of a plan and of captures, and how it must end: a model from `docs/afdx.md`,
 `docs/frames.md` and `docs/guide/judge.md`, which joins messages from lists of pieces."""
-import struct
 import tomllib
 import zlib
 from typing import NamedTuple
 
 from captures import SECOND, Packet, Reader, merged
+from streams import Options, Piece, Stream, Table, differ, half, words
 
-Table = dict
 KINDS = "Frame Source Link Network Size Number Early Port Fragment Message Turn Twin Missing".split()
 BYTE_11 = {"A": 0x20, "B": 0x40}
 PRINTED = 1_000
-ANY = "any"
-
-
-class Options(NamedTuple):
-    """The options of the command."""
-
-    jitter: int = 0
-    skew: int = 10_000
-    late: bool = False
-    fcs: bool = False
-
-    def words(self) -> list[str]:
-        """The words of the command line."""
-        words = [] if self.jitter == 0 else ["--jitter", str(self.jitter)]
-        words += [] if self.skew == 10_000 else ["--skew", str(self.skew)]
-        return words + ["--late"] * self.late + ["--fcs"] * self.fcs
 
 
 class Finding(NamedTuple):
@@ -56,23 +39,9 @@ class Repeated(Exception):
     """One more frame with its check sequence, which was told once."""
 
 
-def differ(seen: int, wanted: int) -> str:
-    """What is said of two numbers."""
-    return f"seen {seen}, wanted {wanted}"
-
-
-def words(data: bytes) -> int:
-    """The sum of 16-bit words, the last one filled up by a zero."""
-    return sum(struct.unpack(f">{(len(data) + 1) // 2}H", data + bytes(len(data) % 2)))
-
-
-def half(frame: bytes, at: int) -> int:
-    """The 16-bit number at a byte."""
-    return int.from_bytes(frame[at : at + 2], "big")
-
-
-def layout_fault(frame: bytes) -> tuple[str, str] | None:
-    """The first rule of the layout that a frame breaks, and what is said."""
+def layout_fault(frame: bytes, arinc: bool) -> tuple[str, str] | None:
+    """The first rule of the layout that a frame breaks, and what is said. By ARINC 664 alone, three fields may be anything."""
+    free = {8: frame[15:16], 9: frame[22:23]} if arinc else {8: b"\0", 9: b"\1"}
     if not 60 <= len(frame) <= 1514:
         return "Length", differ(len(frame), min(max(len(frame), 60), 1514))
     total, word = half(frame, 16), half(frame, 20)
@@ -85,153 +54,17 @@ def layout_fault(frame: bytes) -> tuple[str, str] | None:
         "SourceMac": (6, frame[6:9] == b"\2\0\0"),
         "Interface": (11, frame[11] in BYTE_11.values()),
         "EtherType": (12, frame[12:14] == b"\x08\0"),
-        "Version": (14, frame[14:16] == b"\x45\0"),
+        "Version": (14, frame[14:16] == b"\x45" + free[8]),
         "TotalLength": (16, is_long),
         "Fragment": (20, word < 0x4000 and offset + total <= 8220),
-        "Protocol": (22, frame[22:24] == b"\1\x11"),
+        "Protocol": (22, frame[22:24] == free[9] + b"\x11"),
         "HeaderSum": (24, words(frame[14:34]) % 65_535 == 0),
         "SourceAddress": (26, is_address),
         "DestinationAddress": (30, is_destination),
     }
     broken = [(rule, f"byte {at}") for rule, (at, is_kept) in rules.items() if not is_kept]
-    padding = [("Padding", f"byte {at}") for at in range(14 + total, len(frame) - 1) if frame[at]]
+    padding = [("Padding", f"byte {at}") for at in range(14 + total, len(frame) - 1) if frame[at] and not arinc]
     return next(iter(broken + padding), None)
-
-
-class Piece:
-    """The fields of a frame that count for its message."""
-
-    def __init__(self, frame: bytes) -> None:
-        total, word = half(frame, 16), half(frame, 20)
-        self.ident, self.number, self.size = half(frame, 18), frame[-1], len(frame)
-        self.sub, self.start, self.more = self.ident % 4, 8 * (word & 0x1FFF), bool(word & 0x2000)
-        self.data, self.partition, self.destination = frame[34 : 14 + total], frame[29], frame[30:34]
-        self.source, self.to, self.frame = half(frame, 34), half(frame, 36), frame
-
-
-class Message:
-    """The pieces of a message so far, from its first on: of a port of the plan, if one is known."""
-
-    def __init__(self, port: Table, piece: Piece) -> None:
-        self.port, self.first, self.data = port, piece, piece.data
-
-    def fault(self) -> tuple[str, str] | None:
-        """What is wrong with it as a whole. A short first piece is followed by its padding."""
-        header = self.first.frame[34:42]
-        length, checksum, count = half(header, 4), half(header, 6), len(self.data)
-        if length != count:
-            return "UdpLength", differ(length, count)
-        size = max(0, count - 8)
-        if not 1 <= size <= self.port["max"]:
-            return "Size", differ(size, self.port["max"])
-        wanted = 0
-        if self.port.get("checksum") == "udp":
-            pseudo = words(self.first.frame[26:34]) + 17 + count
-            wanted = 65_535 - (pseudo + words(self.data) - checksum) % 65_535
-        return None if checksum == wanted else ("UdpChecksum", differ(checksum, wanted))
-
-
-class Joining(NamedTuple):
-    """What is known of the next piece of a sub-VL: its identification and where it begins, or ANY; and the message, if its
-    beginning was seen."""
-
-    ident: int | str
-    start: int | str
-    message: Message | None = None
-
-
-UNKNOWN = Joining(ANY, ANY)
-
-
-class Stream:
-    """A link on a network."""
-
-    def __init__(self, link: Table, ports: list[Table], options: Options) -> None:
-        self.link, self.ports, self.options = link, [port for port in ports if port["vl"] == link["id"]], options
-        self.number, self.at, self.frames, self.bytes, self.messages, self.least = None, None, 0, 0, 0, None
-        self.joining = {sub: UNKNOWN if options.late else Joining(sub, 0) for sub in range(4)}
-        # The sub-VLs whose last frame has a piece after it, and those that came after the last frame of each.
-        self.due: set[int] = set()
-        self.later: dict[int, set[int]] = {sub: set() for sub in range(4)}
-
-    def deviations(self, at: int, piece: Piece) -> list[tuple[str, str, str]]:
-        """What a frame does wrong, kinds 5 to 11, in order."""
-        size = [("Size", "", differ(piece.size + 4, self.link["lmax"]))] if piece.size + 4 > self.link["lmax"] else []
-        found = size + self.counted(piece) + self.spaced(at)
-        turn = self.turned(piece)
-        port = self.port_of(piece) if piece.start == 0 else None
-        if piece.start == 0 and port is None:
-            found.append(("Port", "", f"seen {piece.source}"))
-        found += self.joined(piece, port) + turn
-        self.number, self.at = piece.number, at
-        self.frames, self.bytes, self.messages = self.frames + 1, self.bytes + piece.size, self.messages + (not piece.more)
-        return found
-
-    def counted(self, piece: Piece) -> list[tuple[str, str, str]]:
-        """The sequence number. After another one nothing is known of the messages."""
-        wanted = 0 if self.number is None else self.number % 255 + 1
-        if piece.number == wanted or (self.number is None and self.options.late):
-            return []
-        self.joining = dict.fromkeys(range(4), UNKNOWN)
-        self.due.clear()
-        return [("Number", "", differ(piece.number, wanted))]
-
-    def spaced(self, at: int) -> list[tuple[str, str, str]]:
-        """The gap."""
-        if self.at is None:
-            return []
-        gap, wanted = max(0, at - self.at), 1000 * max(0, 1000 * self.link["bag_ms"] - self.options.jitter)
-        self.least = gap if self.least is None else min(self.least, gap)
-        return [("Early", "", differ(gap, wanted))] if at < self.at or gap < wanted else []
-
-    def turned(self, piece: Piece) -> list[tuple[str, str, str]]:
-        """The turn: no sub-VL comes twice after a frame of one that has a piece left."""
-        late = sorted(sub for sub in self.due if sub != piece.sub and piece.sub in self.later[sub])
-        if late:
-            self.due.clear()
-        for seen in self.later.values():
-            seen.add(piece.sub)
-        self.later[piece.sub] = set()
-        (self.due.add if piece.more else self.due.discard)(piece.sub)
-        return [("Turn", "", f"sub-VL {piece.sub}, between pieces of sub-VL {late[0]}")] if late else []
-
-    def port_of(self, piece: Piece) -> Table | None:
-        """The port of a first piece."""
-        multicast = f"224.224.{self.link['id'] >> 8}.{self.link['id'] & 255}"
-        destination = ".".join(map(str, piece.destination))
-        key = (piece.sub, piece.partition, piece.source, piece.to, destination)
-        keys = [(it["sub"], it["partition"], it["source"], it["destination"], it.get("dest_ip", multicast)) for it in self.ports]
-        return self.ports[keys.index(key)] if key in keys else None
-
-    def joined(self, piece: Piece, port: Table | None) -> list[tuple[str, str, str]]:
-        """The piece after those of its sub-VL."""
-        before, end = self.joining[piece.sub], piece.start + len(piece.data)
-        misfit = self.misfit(piece, before)
-        message = before.message
-        if piece.start == 0:
-            message = Message(port, piece) if port else None
-        elif message:
-            message.data += piece.data
-        fault = message.fault() if message and not piece.more and not misfit else None
-        after = Joining(piece.ident, end, message) if piece.more else Joining((piece.ident + 4) % 65_536, 0)
-        self.joining[piece.sub] = UNKNOWN if misfit else after
-        return [("Fragment", *misfit)] if misfit else [("Message", *fault)] if fault else []
-
-    def misfit(self, piece: Piece, before: Joining) -> tuple[str, str] | None:
-        """How a piece isn't the next one."""
-        room, size = self.link["lmax"] - 39, len(piece.data)
-        step, first = room // 8 * 8, before.message and before.message.first
-        if before.start not in (ANY, piece.start):
-            return "Offset", differ(piece.start, before.start)
-        if before.ident not in (ANY, piece.ident):
-            return "Identification", differ(piece.ident, before.ident)
-        if first and (piece.partition, piece.destination) != (first.partition, first.destination):
-            return "Addresses", ""
-        if piece.more and size <= room and size != step:
-            return "Length", differ(size, step)
-        if not piece.more and piece.start and size <= room - step:
-            return "Length", differ(size, room - step + 1)
-        return None
 
 
 class Waiting(NamedTuple):
@@ -311,7 +144,7 @@ class Judge:
 
     def accept(self, frame: bytes, network: str) -> None:
         """Refuses a frame that isn't of the layout, the end system, a link or the network."""
-        fault = layout_fault(frame)
+        fault = layout_fault(frame, self.options.arinc)
         if fault:
             raise Refused(None, "Frame", *fault)
         if half(frame, 9) != self.end_system:

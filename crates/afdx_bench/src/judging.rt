@@ -47,6 +47,7 @@ fn options_of(case: &Case) -> Options {
         skew: case.skew,
         late: case.late,
         fcs: case.fcs,
+        arinc: case.arinc,
     }
 }
 

@@ -146,7 +146,9 @@ sub_shown (Some port) fields subs = port.sub
 sub_shown None fields subs = unwrap_or (going_on fields subs) 4
 
 abbrev pub sub_of : Measure → Option PortPlan → Fields → Line → ℕ
-sub_of measure port fields line = if measure.arinc then sub_shown port fields line.subs else sub_in fields
+sub_of measure port fields line =
+    let numbered = after_number (number_deviation measure.late fields.number line) line in
+    if measure.arinc then sub_shown port fields numbered.subs else sub_in fields
 
 -- a count stops at 2^64 - 1
 abbrev pub counted : ℕ → ℕ → ℕ

@@ -1,6 +1,6 @@
 //! What a judge finds.
 ghost use Rattle.std.specs.Prelude.{◌≡◌, OnOk};
-ghost use Rattle.judge.specs.Deviations.{kind_number, first_of, finding_of, with_finding};
+ghost use Rattle.judge.specs.Deviations.{kind_number, deviation, first_of, finding_of, with_finding};
 
 use afdx_frame::Net;
 use afdx_plan::VlId;
@@ -154,6 +154,15 @@ pub(crate) struct Deviation {
     pub(crate) wanted: u64,
 }
 
+impl Deviation {
+    /// A deviation of this kind, and its two numbers.
+    pub(crate) fn new(kind: Kind, seen: u64, wanted: u64) -> Deviation
+        ensures { result ≡ deviation kind seen wanted }
+    {
+        Deviation { kind, seen, wanted }
+    }
+}
+
 /// Which packet a finding is of.
 #[derive(Clone, Copy)]
 pub(crate) struct Tag {
@@ -199,10 +208,7 @@ pub(crate) fn add(
     ensures { OnOk result (found.new.items ≡ with_finding tag.now link deviation found.old.items) }
 {
     match deviation {
-        Some(deviation) => {
-            found.push(tag.finding(link, deviation))?;
-            Ok(())
-        }
+        Some(deviation) => Ok(found.push(tag.finding(link, deviation))?),
         None => Ok(()),
     }
 }

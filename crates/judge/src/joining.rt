@@ -41,20 +41,12 @@ pub(crate) struct Head {
     pub(crate) sum: u16,
 }
 
-/// An address as a number of 32 bits.
-fn address_number(address: [u8; 4]) -> u32
-    ensures { result ≡ address_number address }
-{
-    let high = 256 * address[0] as u32 + address[1] as u32;
-    0x1_0000 * high + (256 * address[2] as u32 + address[3] as u32)
-}
-
 /// The destination address of a port: 224.224 and its link's identifier, if it has no unicast address.
 fn address_of(port: &PortPlan) -> u32
     ensures { result ≡ address_number (destination_address port.now) }
 {
     match port.unicast {
-        Some(address) => address_number(address),
+        Some(a) => 0x1_0000 * (256 * a[0] as u32 + a[1] as u32) + (256 * a[2] as u32 + a[3] as u32),
         None => 0xe0e0_0000 + port.vl.0 as u32,
     }
 }
@@ -77,93 +69,36 @@ fn is_of_port(arinc: bool, vl: u16, sub: u8, flow: &Flow, port: &PortPlan) -> bo
         && is_towards(flow, port)
 }
 
-/// The first port that a first piece of a sub-VL is of.
-fn find_port<'a>(
+/// The port of a first piece.
+pub(crate) fn port_of<'a>(
     arinc: bool,
     ports: &'a [PortPlan],
-    vl: u16,
-    sub: u8,
-    flow: &Flow,
-) -> Option<&'a PortPlan>
-    ensures { option_copied result ≡ port_of arinc ports.now vl sub flow.now }
-{
-    ports
-        .iter()
-        .find(|port| is_of_port(arinc, vl, sub, flow, port))
-}
-
-/// The port of a first piece of a sub-VL.
-pub(crate) fn port_of(
-    arinc: bool,
-    ports: &[PortPlan],
     vl: VlId,
     sub: u8,
     flow: &Flow,
-) -> Option<PortPlan>
-    ensures { result ≡ port_of arinc ports.now vl.0 sub flow.now }
+) -> Option<&'a PortPlan>
+    ensures { option_copied result ≡ port_of arinc ports.now vl.0 sub flow.now }
 {
-    match find_port(arinc, ports, vl.0, sub, flow) {
-        Some(port) => Some(*port),
-        None => None,
-    }
-}
-
-/// A sum of words modulo 65,535.
-fn folded(sum: u32) -> u16
-    ensures { result ≡ sum % 65535 }
-{
-    (sum % 0xffff) as u16
-}
-
-/// What a first piece of a port says.
-fn head_of(port: PortPlan, fields: &Fields) -> Head
-    requires { AreSmall fields.now }
-    ensures { result ≡ head_of port fields.now }
-{
-    Head {
-        port,
-        udp_len: fields.udp_len,
-        udp_sum: fields.udp_sum,
-        sum: folded(fields.ends + fields.sum + (0xffff - fields.udp_sum as u32)),
-    }
-}
-
-/// The same with one more piece.
-fn head_with(head: &Head, fields: &Fields) -> Head
-    requires { AreSmall fields.now }
-    ensures { result ≡ head_with head.now fields.now }
-{
-    Head {
-        sum: folded(head.sum as u32 + fields.sum),
-        ..*head
-    }
+    ports
+        .iter()
+        .find(|port| is_of_port(arinc, vl.0, sub, flow, port))
 }
 
 /// A misfit of a piece, and its two numbers.
 fn misfit(how: Misfit, seen: u64, wanted: u64) -> Option<Deviation>
     ensures { result ≡ misfit how seen wanted }
 {
-    Some(Deviation {
-        kind: Kind::Fragment(how),
-        seen,
-        wanted,
-    })
+    Some(Deviation::new(Kind::Fragment(how), seen, wanted))
 }
 
-/// A misfit, unless a number is the one that is wanted, if one is.
-fn misfit_if(how: Misfit, wanted: Option<u32>, seen: u32) -> Option<Deviation>
-    ensures { result ≡ misfit_if how wanted seen }
+/// A misfit, unless a number is the one that is wanted.
+fn misfit_if(how: Misfit, wanted: u32, seen: u32) -> Option<Deviation>
+    ensures { result ≡ misfit_if how (Some wanted) seen }
 {
-    match wanted {
-        None => None,
-        Some(wanted) => {
-            if seen == wanted {
-                None
-            } else {
-                misfit(how, seen as u64, wanted as u64)
-            }
-        }
+    if seen == wanted {
+        return None;
     }
+    misfit(how, seen as u64, wanted as u64)
 }
 
 /// A misfit, if an identification is the one before.
@@ -173,134 +108,6 @@ fn repeated_if(before: Option<u16>, seen: u16) -> Option<Deviation>
     match before {
         Some(before) if seen == before => misfit(Misfit::Repeated, seen as u64, 0),
         _ => None,
-    }
-}
-
-/// How a piece has another length than the cutting gives it (RFC 791, the example procedure of fragmentation). A frame
-/// that is too long is another finding.
-#[tactic(auto, unfolding(crate::specs::Joining::length_deviation))]
-fn length_deviation(room: u16, piece: &PieceIn) -> Option<Deviation>
-    ensures { result ≡ length_deviation room piece.now }
-{
-    let room = room as u32;
-    let step = 8 * (room / 8);
-    if piece.more {
-        if piece.len <= room && piece.len != step {
-            misfit(Misfit::Length, piece.len as u64, step as u64)
-        } else {
-            None
-        }
-    } else if piece.start > 0 && piece.len <= room - step {
-        misfit(Misfit::Length, piece.len as u64, (room - step + 1) as u64)
-    } else {
-        None
-    }
-}
-
-impl Joining {
-    /// Where the next piece begins, if anything is known.
-    fn next(&self) -> Option<u32>
-        ensures { result ≡ next_of self.now }
-    {
-        match self {
-            Joining::Any => None,
-            Joining::Between(_) | Joining::After(_) => Some(0),
-            Joining::Within(open) => Some(open.next),
-        }
-    }
-
-    /// The identification of the next piece, if anything is known.
-    fn ident(&self) -> Option<u32>
-        ensures { result ≡ ident_of self.now }
-    {
-        match self {
-            Joining::Any => None,
-            Joining::Between(ident) => Some(*ident as u32),
-            Joining::After(_) => None,
-            Joining::Within(open) => Some(open.ident as u32),
-        }
-    }
-
-    /// What is known of the message that was begun.
-    fn begun(&self) -> Option<Head>
-        ensures { result ≡ begun self.now }
-    {
-        match self {
-            Joining::Any => None,
-            Joining::Between(_) => None,
-            Joining::After(_) => None,
-            Joining::Within(open) => open.head,
-        }
-    }
-
-    /// The identification that the next message doesn't have.
-    fn ident_before(&self) -> Option<u16>
-        ensures { result ≡ ident_before self.now }
-    {
-        match self {
-            Joining::Any => None,
-            Joining::Between(_) => None,
-            Joining::After(before) => *before,
-            Joining::Within(_) => None,
-        }
-    }
-
-    /// Whether a piece goes on with a message in progress.
-    pub(crate) fn goes_on(&self, fields: &Fields) -> bool
-        ensures { result ≡ goes_on fields.now self.now }
-    {
-        match self {
-            Joining::Any => false,
-            Joining::Between(_) => false,
-            Joining::After(_) => false,
-            Joining::Within(open) => fields.piece.ident == open.ident
-                && has_addresses(open.head, &fields.flow),
-        }
-    }
-
-    /// Whether nothing is known.
-    pub(crate) fn is_unknown(&self) -> bool
-        ensures { result ≡ is_unknown self.now }
-    {
-        match self {
-            Joining::Any => true,
-            Joining::Between(_) => false,
-            Joining::After(_) => false,
-            Joining::Within(_) => false,
-        }
-    }
-
-    /// How a piece isn't the next one.
-    #[tactic(auto, unfolding(crate::specs::Joining::fragment_deviation))]
-    pub(crate) fn fragment_deviation(&self, room: u16, fields: &Fields) -> Option<Deviation>
-        ensures { result ≡ fragment_deviation room fields.now self.now }
-    {
-        let offset = misfit_if(Misfit::Offset, self.next(), fields.piece.start);
-        let ident = misfit_if(
-            Misfit::Identification,
-            self.ident(),
-            fields.piece.ident as u32,
-        );
-        let repeated = repeated_if(self.ident_before(), fields.piece.ident);
-        let addresses = addresses_deviation(self.begun(), &fields.flow);
-        let len = length_deviation(room, &fields.piece);
-        first_of(
-            offset,
-            first_of(ident, first_of(repeated, first_of(addresses, len))),
-        )
-    }
-
-    /// What is known of the message with this piece, the next one, whose port this is if it is a first piece.
-    #[tactic(auto, unfolding(crate::specs::Joining::head_now))]
-    pub(crate) fn head_now(&self, port: Option<PortPlan>, fields: &Fields) -> Option<Head>
-        requires { AreSmall fields.now }
-        ensures { result ≡ head_now port fields.now self.now }
-    {
-        if fields.piece.start == 0 {
-            head_from(port, fields)
-        } else {
-            head_after(self.begun(), fields)
-        }
     }
 }
 
@@ -319,31 +126,103 @@ fn addresses_deviation(head: Option<Head>, flow: &Flow) -> Option<Deviation>
     ensures { result ≡ addresses_deviation head flow.now }
 {
     if has_addresses(head, flow) {
-        None
+        return None;
+    }
+    misfit(Misfit::Addresses, 0, 0)
+}
+
+/// How a piece has another length than the cutting gives it (RFC 791, the example procedure of fragmentation). A frame
+/// that is too long is another finding.
+#[tactic(auto, unfolding(crate::specs::Joining::length_deviation))]
+fn length_deviation(room: u16, piece: &PieceIn) -> Option<Deviation>
+    ensures { result ≡ length_deviation room piece.now }
+{
+    let (room, len) = (room as u32, piece.len);
+    let step = 8 * (room / 8);
+    let wanted = if piece.more { step } else { room - step + 1 };
+    let is_kept = if piece.more {
+        len > room || len == step
     } else {
-        misfit(Misfit::Addresses, 0, 0)
+        piece.start == 0 || len >= wanted
+    };
+    if is_kept {
+        return None;
     }
+    misfit(Misfit::Length, len as u64, wanted as u64)
 }
 
-/// What a first piece says, if it is of a port.
-fn head_from(port: Option<PortPlan>, fields: &Fields) -> Option<Head>
-    requires { AreSmall fields.now }
-    ensures { result ≡ head_from port fields.now }
-{
-    match port {
-        None => None,
-        Some(port) => Some(head_of(port, fields)),
+impl Joining {
+    /// How a piece isn't the next one.
+    #[tactic(auto, unfolding(crate::specs::Joining::fragment_deviation))]
+    pub(crate) fn fragment_deviation(&self, room: u16, fields: &Fields) -> Option<Deviation>
+        ensures { result ≡ fragment_deviation room fields.now self.now }
+    {
+        let (start, ident) = (fields.piece.start, fields.piece.ident);
+        let len = length_deviation(room, &fields.piece);
+        match self {
+            Joining::Any => len,
+            Joining::Between(next) => {
+                let other = misfit_if(Misfit::Identification, *next as u32, ident as u32);
+                first_of(misfit_if(Misfit::Offset, 0, start), first_of(other, len))
+            }
+            Joining::After(before) => {
+                let repeated = repeated_if(*before, ident);
+                first_of(misfit_if(Misfit::Offset, 0, start), first_of(repeated, len))
+            }
+            Joining::Within(open) => {
+                let offset = misfit_if(Misfit::Offset, open.next, start);
+                let other = misfit_if(Misfit::Identification, open.ident as u32, ident as u32);
+                let addresses = addresses_deviation(open.head, &fields.flow);
+                first_of(offset, first_of(other, first_of(addresses, len)))
+            }
+        }
     }
-}
 
-/// What is known of a message with one more piece.
-fn head_after(head: Option<Head>, fields: &Fields) -> Option<Head>
-    requires { AreSmall fields.now }
-    ensures { result ≡ head_after head fields.now }
-{
-    match head {
-        None => None,
-        Some(head) => Some(head_with(&head, fields)),
+    /// Whether a piece goes on with a message in progress.
+    pub(crate) fn goes_on(&self, fields: &Fields) -> bool
+        ensures { result ≡ goes_on fields.now self.now }
+    {
+        match self {
+            Joining::Within(open) => {
+                fields.piece.ident == open.ident && has_addresses(open.head, &fields.flow)
+            }
+            _ => false,
+        }
+    }
+
+    /// Whether nothing is known.
+    pub(crate) fn is_unknown(&self) -> bool
+        ensures { result ≡ is_unknown self.now }
+    {
+        matches!(self, Joining::Any)
+    }
+
+    /// What is known of the message with this piece, the next one, whose port this is if it is a first piece.
+    #[tactic(auto, unfolding(crate::specs::Joining::head_now))]
+    pub(crate) fn head_now(&self, port: Option<PortPlan>, fields: &Fields) -> Option<Head>
+        requires { AreSmall fields.now }
+        ensures { result ≡ head_now port fields.now self.now }
+    {
+        if fields.piece.start == 0 {
+            let sum = fields.ends + fields.sum + (0xffff - fields.udp_sum as u32);
+            return Some(Head {
+                port: port?,
+                udp_len: fields.udp_len,
+                udp_sum: fields.udp_sum,
+                sum: (sum % 0xffff) as u16,
+            });
+        }
+        match self {
+            Joining::Within(open) => {
+                let head = open.head?;
+                let sum = head.sum as u32 + fields.sum;
+                Some(Head {
+                    sum: (sum % 0xffff) as u16,
+                    ..head
+                })
+            }
+            _ => None,
+        }
     }
 }
 
@@ -355,7 +234,7 @@ fn right_sum(head: &Head, len: u32) -> u16
 {
     match head.port.checksum {
         UdpSum::Omitted => 0,
-        UdpSum::Generated => 0xffff - folded(head.sum as u32 + 17 + len),
+        UdpSum::Generated => 0xffff - ((head.sum as u32 + 17 + len) % 0xffff) as u16,
     }
 }
 
@@ -363,11 +242,7 @@ fn right_sum(head: &Head, len: u32) -> u16
 fn ending(how: Ending, seen: u64, wanted: u64) -> Option<Deviation>
     ensures { result ≡ ending how seen wanted }
 {
-    Some(Deviation {
-        kind: Kind::Message(how),
-        seen,
-        wanted,
-    })
+    Some(Deviation::new(Kind::Message(how), seen, wanted))
 }
 
 /// What is wrong with a whole message, of a datagram of this length.
@@ -385,10 +260,9 @@ fn message_deviation(head: &Head, len: u32) -> Option<Deviation>
     }
     let wanted = right_sum(head, len);
     if head.udp_sum == wanted {
-        None
-    } else {
-        ending(Ending::UdpChecksum, head.udp_sum as u64, wanted as u64)
+        return None;
     }
+    ending(Ending::UdpChecksum, head.udp_sum as u64, wanted as u64)
 }
 
 /// What is wrong with the message that a piece ends, if that is known.

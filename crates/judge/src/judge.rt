@@ -84,7 +84,7 @@ fn first_port(arinc: bool, ports: &[PortPlan], vl: VlId, fields: &Fields) -> Opt
     ensures { result ≡ first_port arinc ports.now vl fields.now }
 {
     if fields.piece.start == 0 {
-        port_of(arinc, ports, vl, sub_in(fields), &fields.flow)
+        port_of(arinc, ports, vl, sub_in(fields), &fields.flow).copied()
     } else {
         None
     }

@@ -277,10 +277,13 @@ impl Line {
     pub(crate) fn sub_of(&self, measure: &Measure, port: Option<PortPlan>, fields: &Fields) -> u8
         ensures { result ≡ sub_of measure.now port fields.now self.now }
     {
+        if !measure.arinc {
+            return sub_in(fields);
+        }
+        let numbered = self.after_number(self.number_deviation(measure.late, fields.number));
         match port {
-            _ if !measure.arinc => sub_in(fields),
             Some(port) => port.sub,
-            None => going_on(fields, &self.subs).unwrap_or(4) as u8,
+            None => going_on(fields, &numbered.subs).unwrap_or(4) as u8,
         }
     }
 

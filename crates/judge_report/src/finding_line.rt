@@ -52,6 +52,7 @@ fn write_kind<W: fmt::Write>(f: &mut fmt::Formatter<W>, finding: &Finding) -> fm
         Kind::Early => write!(f, "Early: seen {seen}, wanted {wanted}"),
         Kind::Port => write!(f, "Port: seen {seen}"),
         Kind::Fragment(Misfit::Addresses) => f.write_str("Fragment Addresses"),
+        Kind::Fragment(Misfit::Repeated) => write!(f, "Fragment Repeated: seen {seen}"),
         Kind::Fragment(rule) => write!(f, "Fragment {rule:?}: seen {seen}, wanted {wanted}"),
         Kind::Message(rule) => write!(f, "Message {rule:?}: seen {seen}, wanted {wanted}"),
         Kind::Turn => write!(f, "Turn: sub-VL {seen}, between pieces of sub-VL {wanted}"),

@@ -13,6 +13,9 @@ pub const TOLERANCE_LIMIT: u64 = 1_000_000;
 /// The skew in microseconds, if no word gives it.
 pub const SKEW: u64 = 10_000;
 
+// What frames are judged by.
+const PROFILES: [&str; 2] = ["own", "arinc"];
+
 /// A recording that is to be judged, by the paths of its files.
 #[derive(Debug, Drop)]
 pub struct Case {
@@ -29,6 +32,8 @@ pub struct Case {
     pub late: bool,
     /// Frames were recorded with their check sequence.
     pub fcs: bool,
+    /// Frames are judged by ARINC 664 Part 7 alone.
+    pub arinc: bool,
     /// The file of a page.
     pub html: Option<String>,
 }
@@ -50,6 +55,7 @@ pub(crate) fn case_of(
             skew,
             late: matches.get_flag("late"),
             fcs: matches.get_flag("fcs"),
+            arinc: matches.get_str("profile") == Some("arinc"),
             html: given_path(alloc, matches, "html")?,
         })),
         // clap has checked the ranges, but it accepts a plus sign.
@@ -89,6 +95,10 @@ pub(crate) fn judge_command<'a>(alloc: Global) -> Result<Command<'a>, AllocError
     let judge = judge.arg(flag(alloc, "late", help).action(ArgAction::SetTrue))?;
     let help = "Frames were recorded with their check sequence";
     let judge = judge.arg(flag(alloc, "fcs", help).action(ArgAction::SetTrue))?;
+    let help =
+        "By what frames are judged: by ARINC 664 Part 7 alone, or as this project's own, if left out";
+    let profile = flag(alloc, "profile", help).value_name("profile");
+    let judge = judge.arg(profile.value_parser(PROFILES.as_slice()))?;
     let help = "Also writes the summary as a page to a file";
     judge.arg(flag(alloc, "html", help).value_name("file"))
 }

@@ -1,0 +1,199 @@
+"""What the frames of a link on one network do wrong: the part of the model of `afdx_bench judge` that keeps what came."""
+import struct
+from typing import NamedTuple
+
+Table = dict
+ANY = "any"
+
+
+class Options(NamedTuple):
+    """The options of the command."""
+
+    jitter: int = 0
+    skew: int = 10_000
+    late: bool = False
+    fcs: bool = False
+    arinc: bool = False
+
+    def words(self) -> list[str]:
+        """The words of the command line."""
+        words = [] if self.jitter == 0 else ["--jitter", str(self.jitter)]
+        words += [] if self.skew == 10_000 else ["--skew", str(self.skew)]
+        words += ["--late"] * self.late + ["--fcs"] * self.fcs
+        return words + ["--profile", "arinc"] * self.arinc
+
+
+def differ(seen: int, wanted: int) -> str:
+    """What is said of two numbers."""
+    return f"seen {seen}, wanted {wanted}"
+
+
+def words(data: bytes) -> int:
+    """The sum of 16-bit words, the last one filled up by a zero."""
+    return sum(struct.unpack(f">{(len(data) + 1) // 2}H", data + bytes(len(data) % 2)))
+
+
+def half(frame: bytes, at: int) -> int:
+    """The 16-bit number at a byte."""
+    return int.from_bytes(frame[at : at + 2], "big")
+
+
+class Piece:
+    """The fields of a frame that count for its message."""
+
+    def __init__(self, frame: bytes) -> None:
+        total, word = half(frame, 16), half(frame, 20)
+        self.ident, self.number, self.size = half(frame, 18), frame[-1], len(frame)
+        self.start, self.more = 8 * (word & 0x1FFF), bool(word & 0x2000)
+        self.data, self.partition, self.destination = frame[34 : 14 + total], frame[29], frame[30:34]
+        self.source, self.to, self.frame = half(frame, 34), half(frame, 36), frame
+
+
+class Message:
+    """The pieces of a message so far, from its first on: of a port of the plan, if one is known."""
+
+    def __init__(self, port: Table, piece: Piece) -> None:
+        self.port, self.first, self.data = port, piece, piece.data
+
+    def fault(self) -> tuple[str, str] | None:
+        """What is wrong with it as a whole. A short first piece is followed by its padding."""
+        header = self.first.frame[34:42]
+        length, checksum, count = half(header, 4), half(header, 6), len(self.data)
+        if length != count:
+            return "UdpLength", differ(length, count)
+        size = max(0, count - 8)
+        if not 1 <= size <= self.port["max"]:
+            return "Size", differ(size, self.port["max"])
+        wanted = 0
+        if self.port.get("checksum") == "udp":
+            pseudo = words(self.first.frame[26:34]) + 17 + count
+            wanted = 65_535 - (pseudo + words(self.data) - checksum) % 65_535
+        return None if checksum == wanted else ("UdpChecksum", differ(checksum, wanted))
+
+
+class Joining(NamedTuple):
+    """What is known of the next piece of a sub-VL: its identification and where it begins, or ANY; the message, if its
+    beginning was seen; and an identification that it doesn't have."""
+
+    ident: int | str
+    start: int | str
+    message: Message | None = None
+    not_ident: int | None = None
+
+
+UNKNOWN = Joining(ANY, ANY)
+
+
+class Stream:
+    """A link on a network."""
+
+    def __init__(self, link: Table, ports: list[Table], options: Options) -> None:
+        self.link, self.ports, self.options = link, [port for port in ports if port["vl"] == link["id"]], options
+        self.number, self.at, self.frames, self.bytes, self.messages, self.least = None, None, 0, 0, 0, None
+        self.joining = {sub: UNKNOWN if options.late else Joining(ANY if options.arinc else sub, 0) for sub in range(4)}
+        # The sub-VLs whose last frame has a piece after it, and those that came after the last frame of each.
+        self.due: set[int] = set()
+        self.later: dict[int, set[int]] = {sub: set() for sub in range(4)}
+
+    def deviations(self, at: int, piece: Piece) -> list[tuple[str, str, str]]:
+        """What a frame does wrong, kinds 5 to 11, in order."""
+        size = [("Size", "", differ(piece.size + 4, self.link["lmax"]))] if piece.size + 4 > self.link["lmax"] else []
+        port = self.port_of(piece) if piece.start == 0 else None
+        found = size + self.counted(piece) + self.spaced(at)
+        sub = self.sub_of(piece, port)
+        turn = self.turned(piece, sub)
+        if piece.start == 0 and port is None:
+            found.append(("Port", "", f"seen {piece.source}"))
+        found += self.joined(piece, port, sub) + turn
+        if self.options.arinc and any(kind in ("Port", "Fragment") for kind, *_ in found):
+            self.forget()
+        self.number, self.at = piece.number, at
+        self.frames, self.bytes, self.messages = self.frames + 1, self.bytes + piece.size, self.messages + (not piece.more)
+        return found
+
+    def counted(self, piece: Piece) -> list[tuple[str, str, str]]:
+        """The sequence number. After another one nothing is known of the messages."""
+        wanted = 0 if self.number is None else self.number % 255 + 1
+        if piece.number == wanted or (self.number is None and self.options.late):
+            return []
+        self.forget()
+        return [("Number", "", differ(piece.number, wanted))]
+
+    def forget(self) -> None:
+        """Nothing is known of the messages."""
+        self.joining = dict.fromkeys(range(4), UNKNOWN)
+        self.due.clear()
+
+    def sub_of(self, piece: Piece, port: Table | None) -> int | None:
+        """The sub-VL of a piece: by ARINC 664 alone that of its port, or the one whose message has its identification and
+        addresses (RFC 791)."""
+        if not self.options.arinc:
+            return piece.ident % 4
+        ends = piece.partition, piece.destination
+        open_ = {sub: it for sub, it in self.joining.items() if it.start not in (ANY, 0) and it.ident == piece.ident}
+        same = (sub for sub, it in open_.items() if not it.message or ends == (it.message.first.partition, it.message.first.destination))
+        return port["sub"] if port else next(same, None)
+
+    def spaced(self, at: int) -> list[tuple[str, str, str]]:
+        """The gap."""
+        if self.at is None:
+            return []
+        gap, wanted = max(0, at - self.at), 1000 * max(0, 1000 * self.link["bag_ms"] - self.options.jitter)
+        self.least = gap if self.least is None else min(self.least, gap)
+        return [("Early", "", differ(gap, wanted))] if at < self.at or gap < wanted else []
+
+    def turned(self, piece: Piece, own: int | None) -> list[tuple[str, str, str]]:
+        """The turn: no sub-VL comes twice after a frame of one that has a piece left."""
+        if own is None:
+            return []
+        late = sorted(sub for sub in self.due if sub != own and own in self.later[sub])
+        if late:
+            self.due.clear()
+        for seen in self.later.values():
+            seen.add(own)
+        self.later[own] = set()
+        (self.due.add if piece.more else self.due.discard)(own)
+        return [("Turn", "", f"sub-VL {own}, between pieces of sub-VL {late[0]}")] if late else []
+
+    def port_of(self, piece: Piece) -> Table | None:
+        """The port of a first piece. By ARINC 664 alone, the identification doesn't say which sub-VL it is of."""
+        subs = range(4) if self.options.arinc else [piece.ident % 4]
+        multicast = f"224.224.{self.link['id'] >> 8}.{self.link['id'] & 255}"
+        destination = ".".join(map(str, piece.destination))
+        key = (piece.partition, piece.source, piece.to, destination)
+        keys = [(it["partition"], it["source"], it["destination"], it.get("dest_ip", multicast)) for it in self.ports]
+        return next((port for port, it in zip(self.ports, keys, strict=True) if it == key and port["sub"] in subs), None)
+
+    def joined(self, piece: Piece, port: Table | None, sub: int | None) -> list[tuple[str, str, str]]:
+        """The piece after those of its sub-VL. If that isn't known, the piece begins a message, unless one may be open."""
+        other = UNKNOWN if UNKNOWN in self.joining.values() else Joining(ANY, 0)
+        before, end = self.joining.get(sub, other), piece.start + len(piece.data)
+        misfit = self.misfit(piece, before)
+        message = before.message
+        if piece.start == 0:
+            message = Message(port, piece) if port else None
+        elif message:
+            message.data += piece.data
+        fault = message.fault() if message and not piece.more and not misfit else None
+        last = Joining(ANY, 0, None, piece.ident) if self.options.arinc else Joining((piece.ident + 4) % 65_536, 0)
+        if sub is not None:
+            self.joining[sub] = UNKNOWN if misfit else Joining(piece.ident, end, message) if piece.more else last
+        return [("Fragment", *misfit)] if misfit else [("Message", *fault)] if fault else []
+
+    def misfit(self, piece: Piece, before: Joining) -> tuple[str, str] | None:
+        """How a piece isn't the next one."""
+        room, size = self.link["lmax"] - 39, len(piece.data)
+        step, first = room // 8 * 8, before.message and before.message.first
+        if before.start not in (ANY, piece.start):
+            return "Offset", differ(piece.start, before.start)
+        if before.ident not in (ANY, piece.ident):
+            return "Identification", differ(piece.ident, before.ident)
+        if piece.ident == before.not_ident:
+            return "Repeated", f"seen {piece.ident}"
+        if first and (piece.partition, piece.destination) != (first.partition, first.destination):
+            return "Addresses", ""
+        if piece.more and size <= room and size != step:
+            return "Length", differ(size, step)
+        if not piece.more and piece.start and size <= room - step:
+            return "Length", differ(size, room - step + 1)
+        return None
