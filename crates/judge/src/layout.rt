@@ -1,35 +1,18 @@
 //! Whether a frame is of the layout, rule by rule.
-ghost use Rattle.std.specs.Prelude.{◌≡◌, ◌+◌, ◌≤◌, length, None};
+ghost use Rattle.std.specs.Prelude.{◌≡◌, ◌+◌, ◌≤◌, length, Some, None};
 ghost use Rattle.afdx_frame.specs.Profile.{total_length};
-ghost use Rattle.judge.specs.Layouts.{unless_kept, length_broken, has_destination_mac, has_source_mac, has_interface, has_type, link_broken, framed, has_version, has_total, has_fragment, has_protocol, has_header_sum, internet_broken, has_source_address, has_destination_address, address_broken, first_nonzero, padding_broken, layout_broken, has_four_more, IsReadable};
+ghost use Rattle.judge.specs.Deviations.{deviation};
+ghost use Rattle.judge.specs.Layouts.{length_broken, link_broken, framed, has_total, has_fragment, internet_broken, address_broken, first_nonzero, padding_broken, layout_broken, has_four_more, IsReadable};
 
 use crate::finding::{Deviation, Kind, Layout, first_of};
 use afdx_frame::net::SHORTEST_FRAME;
 use afdx_frame::{GREATEST_FRAME, word_at, word_sum};
 
-/// A rule whose field begins at a byte, unless it is kept.
-fn unless_kept(kept: bool, rule: Layout, byte: u64) -> Option<Deviation>
-    ensures { result ≡ unless_kept kept rule byte }
+/// A rule of the layout that is broken, and its two numbers.
+fn broken(rule: Layout, seen: usize, wanted: usize) -> Option<Deviation>
+    ensures { result ≡ Some (deviation (Kind.Frame rule) seen wanted) }
 {
-    if kept {
-        return None;
-    }
-    Some(Deviation {
-        kind: Kind::Frame(rule),
-        seen: byte,
-        wanted: 0,
-    })
-}
-
-/// A length that is out of bounds.
-fn bad_length(len: usize, bound: usize) -> Option<Deviation>
-    ensures { result ≡ Some (record { kind = Kind.Frame Layout.Length; seen = len; wanted = bound }) }
-{
-    Some(Deviation {
-        kind: Kind::Frame(Layout::Length),
-        seen: len as u64,
-        wanted: bound as u64,
-    })
+    Some(Deviation::new(Kind::Frame(rule), seen as u64, wanted as u64))
 }
 
 /// The rule of lengths.
@@ -40,57 +23,31 @@ fn length_broken(frame: &[u8]) -> Option<Deviation>
 {
     let len = frame.len();
     if len < SHORTEST_FRAME {
-        bad_length(len, SHORTEST_FRAME)
+        broken(Layout::Length, len, SHORTEST_FRAME)
     } else if len > GREATEST_FRAME {
-        bad_length(len, GREATEST_FRAME)
+        broken(Layout::Length, len, GREATEST_FRAME)
     } else {
         None
     }
 }
 
-/// Whether the destination MAC address has its constant field.
-fn has_destination_mac(b: &[u8]) -> bool
-    requires { 60 ≤ length b.now }
-    ensures { result ≡ has_destination_mac b.now }
-{
-    b[0] == 3 && b[1] == 0 && b[2] == 0 && b[3] == 0
-}
-
-/// Whether the source MAC address has its constant field.
-fn has_source_mac(b: &[u8]) -> bool
-    requires { 60 ≤ length b.now }
-    ensures { result ≡ has_source_mac b.now }
-{
-    b[6] == 2 && b[7] == 0 && b[8] == 0
-}
-
-/// Whether the interface identifier is that of a network.
-fn has_interface(b: &[u8]) -> bool
-    requires { 60 ≤ length b.now }
-    ensures { result ≡ has_interface b.now }
-{
-    b[11] == 0x20 || b[11] == 0x40
-}
-
-/// Whether the type is that of the internet protocol.
-fn has_type(b: &[u8]) -> bool
-    requires { 60 ≤ length b.now }
-    ensures { result ≡ has_type b.now }
-{
-    b[12] == 8 && b[13] == 0
-}
-
-/// The rules of the link header.
+/// The rules of the link header: the constant fields of the addresses, the interface identifier and the type.
 #[tactic(auto, unfolding(crate::specs::Layouts::link_broken))]
 fn link_broken(b: &[u8]) -> Option<Deviation>
     requires { 60 ≤ length b.now }
     ensures { result ≡ link_broken b.now }
 {
-    let destination = unless_kept(has_destination_mac(b), Layout::DestinationMac, 0);
-    let source = unless_kept(has_source_mac(b), Layout::SourceMac, 6);
-    let interface = unless_kept(has_interface(b), Layout::Interface, 11);
-    let kind = unless_kept(has_type(b), Layout::EtherType, 12);
-    first_of(destination, first_of(source, first_of(interface, kind)))
+    if b[0] != 3 || b[1] != 0 || b[2] != 0 || b[3] != 0 {
+        broken(Layout::DestinationMac, 0, 0)
+    } else if b[6] != 2 || b[7] != 0 || b[8] != 0 {
+        broken(Layout::SourceMac, 6, 0)
+    } else if b[11] != 0x20 && b[11] != 0x40 {
+        broken(Layout::Interface, 11, 0)
+    } else if b[12] != 8 || b[13] != 0 {
+        broken(Layout::EtherType, 12, 0)
+    } else {
+        None
+    }
 }
 
 /// The length of a frame with this total length.
@@ -99,14 +56,6 @@ fn framed(total: usize) -> usize
     ensures { result ≡ framed total }
 {
     (15 + total).max(SHORTEST_FRAME)
-}
-
-/// Whether the header's version and length, and the type of service, are those of the profile.
-fn has_version(arinc: bool, b: &[u8]) -> bool
-    requires { 60 ≤ length b.now }
-    ensures { result ≡ has_version arinc b.now }
-{
-    b[14] == 0x45 && (arinc || b[15] == 0)
 }
 
 /// Whether the total length is a piece's: that of the frame, and whole units of 8 bytes if more pieces follow.
@@ -128,22 +77,6 @@ fn has_fragment(b: &[u8]) -> bool
     fragment < 0x4000 && end <= 8_220
 }
 
-/// Whether the time to live is 1, and the protocol UDP.
-fn has_protocol(arinc: bool, b: &[u8]) -> bool
-    requires { 60 ≤ length b.now }
-    ensures { result ≡ has_protocol arinc b.now }
-{
-    (arinc || b[22] == 1) && b[23] == 17
-}
-
-/// Whether the header's checksum is right.
-fn has_header_sum(b: &[u8]) -> bool
-    requires { 60 ≤ length b.now }
-    ensures { result ≡ has_header_sum b.now }
-{
-    word_sum(&b[14..34]) % 0xffff == 0
-}
-
 /// The rules of the internet header without its addresses.
 #[tactic(auto, unfolding(crate::specs::Layouts::internet_broken))]
 fn internet_broken(arinc: bool, b: &[u8]) -> Option<Deviation>
@@ -152,49 +85,35 @@ fn internet_broken(arinc: bool, b: &[u8]) -> Option<Deviation>
     ensures some { result ≡ None → 21 ≤ total_length b.now }
     ensures piece { result ≡ None → 15 + total_length b.now ≤ length b.now }
 {
-    let version = unless_kept(has_version(arinc, b), Layout::Version, 14);
-    let total = unless_kept(has_total(b), Layout::TotalLength, 16);
-    let fragment = unless_kept(has_fragment(b), Layout::Fragment, 20);
-    let protocol = unless_kept(has_protocol(arinc, b), Layout::Protocol, 22);
-    let sum = unless_kept(has_header_sum(b), Layout::HeaderSum, 24);
-    first_of(
-        version,
-        first_of(total, first_of(fragment, first_of(protocol, sum))),
-    )
+    if b[14] != 0x45 || !arinc && b[15] != 0 {
+        broken(Layout::Version, 14, 0)
+    } else if !has_total(b) {
+        broken(Layout::TotalLength, 16, 0)
+    } else if !has_fragment(b) {
+        broken(Layout::Fragment, 20, 0)
+    } else if !arinc && b[22] != 1 || b[23] != 17 {
+        broken(Layout::Protocol, 22, 0)
+    } else if word_sum(&b[14..34]) % 0xffff != 0 {
+        broken(Layout::HeaderSum, 24, 0)
+    } else {
+        None
+    }
 }
 
-/// Whether the source address is that of the end system in the source MAC address, and of a partition.
-fn has_source_address(b: &[u8]) -> bool
-    requires { 60 ≤ length b.now }
-    ensures { result ≡ has_source_address b.now }
-{
-    b[26] == 10 && b[27] == b[9] && b[28] == b[10] && b[29] <= 31
-}
-
-/// Whether the destination address is that of the link in the destination MAC address, or in 10.0.0.0/8.
-fn has_destination_address(b: &[u8]) -> bool
-    requires { 60 ≤ length b.now }
-    ensures { result ≡ has_destination_address b.now }
-{
-    b[30] == 224 && b[31] == 224 && b[32] == b[4] && b[33] == b[5] || b[30] == 10
-}
-
-/// The rules of the internet addresses.
+/// The rules of the internet addresses: the source is 10, the end system of the source MAC address and a partition; the
+/// destination the link of the destination MAC address, or in 10.0.0.0/8.
 #[tactic(auto, unfolding(crate::specs::Layouts::address_broken))]
 fn address_broken(b: &[u8]) -> Option<Deviation>
     requires { 60 ≤ length b.now }
     ensures { result ≡ address_broken b.now }
 {
-    let source = unless_kept(has_source_address(b), Layout::SourceAddress, 26);
-    let destination = unless_kept(has_destination_address(b), Layout::DestinationAddress, 30);
-    first_of(source, destination)
-}
-
-/// The place of the first byte that isn't zero.
-fn first_nonzero(bytes: &[u8]) -> Option<usize>
-    ensures { result ≡ first_nonzero bytes.now }
-{
-    bytes.iter().position(|byte| *byte != 0)
+    if b[26] != 10 || b[27] != b[9] || b[28] != b[10] || b[29] > 31 {
+        broken(Layout::SourceAddress, 26, 0)
+    } else if (b[30] != 224 || b[31] != 224 || b[32] != b[4] || b[33] != b[5]) && b[30] != 10 {
+        broken(Layout::DestinationAddress, 30, 0)
+    } else {
+        None
+    }
 }
 
 /// The rule of padding.
@@ -207,10 +126,15 @@ fn padding_broken(arinc: bool, b: &[u8]) -> Option<Deviation>
         return None;
     }
     let start = 14 + word_at(b, 16) as usize;
-    match first_nonzero(&b[start..b.len() - 1]) {
-        Some(place) => unless_kept(false, Layout::Padding, (start + place) as u64),
-        None => None,
-    }
+    let place = first_nonzero(&b[start..b.len() - 1])?;
+    broken(Layout::Padding, start + place, 0)
+}
+
+/// The place of the first byte that isn't zero.
+fn first_nonzero(bytes: &[u8]) -> Option<usize>
+    ensures { result ≡ first_nonzero bytes.now }
+{
+    bytes.iter().position(|byte| *byte != 0)
 }
 
 /// The first rule of the layout that a frame breaks; by ARINC 664 alone, of those that it has.

@@ -1,12 +1,12 @@
 //! A link on a network: its numbers, its gaps and its sub-VLs.
-ghost use Rattle.std.specs.Prelude.{◌≡◌, ◌+◌, ◌≤◌, ◌<◌, ◌%◌, slice_set, None};
+ghost use Rattle.std.specs.Prelude.{◌≡◌, ◌+◌, ◌≤◌, ◌<◌, ◌%◌, if◌then◌else◌, slice_set};
 ghost use Rattle.judge.specs.Fields.{AreSmall};
-ghost use Rattle.judge.specs.Lines.{new_sub, new_line, number_after, next_number, number_unless, number_deviation, gap_since, early_since, early_deviation, unsettled_sub, unsettled, excused_sub, excused, turn_deviation, due_before, sub_at, other_sub, unknown_place, going_on, port_deviation, sub_in, sub_shown, sub_of, traced, least_of, figures_with, joining_after, message_after, line_with, line_after, verdict, after_number, after_turn, fragment_on};
+ghost use Rattle.judge.specs.Lines.{new_sub, new_line, next_number, number_unless, number_deviation, gap_since, early_since, early_deviation, unsettled_sub, unsettled, excused_sub, excused, turn_deviation, due_before, unknown_place, going_on, sub_at, other_sub, port_deviation, sub_in, sub_shown, sub_of, least_of, figures_with, joining_after, message_after, line_with, line_after, verdict, after_number, after_turn, traced};
 
 use crate::fields::Fields;
 use crate::finding::{Deviation, Kind, first_of};
 use crate::joining::{Joining, end_deviation, joined};
-use crate::last::{Last, early_since, gap_since, next_number, number_unless};
+use crate::last::{Last, gap_since, next_number};
 use afdx_plan::PortPlan;
 
 /// The state of a link on a network.
@@ -92,11 +92,7 @@ fn port_deviation(fields: &Fields, port: Option<PortPlan>) -> Option<Deviation>
     if fields.piece.start > 0 || port.is_some() {
         return None;
     }
-    Some(Deviation {
-        kind: Kind::Port,
-        seen: fields.flow.source as u64,
-        wanted: 0,
-    })
+    Some(Deviation::new(Kind::Port, fields.flow.source as u64, 0))
 }
 
 /// The first sub-VL with a piece due whose last frame came before this one.
@@ -127,6 +123,39 @@ fn going_on(fields: &Fields, subs: &[Sub]) -> Option<usize>
     subs.iter().position(|s| s.joining.goes_on(fields))
 }
 
+/// The four sub-VLs with this one, if it is one of them.
+fn with_sub(subs: [Sub; 4], sub: u8, after: Sub) -> [Sub; 4]
+    ensures { result ≡ slice_set subs sub after }
+{
+    let mut subs = subs;
+    if sub < 4 {
+        subs[sub as usize] = after;
+    }
+    subs
+}
+
+/// What is known of a message after a frame that fits so, and what is wrong with the message that it ends.
+fn ended(
+    arinc: bool,
+    fragment: Option<Deviation>,
+    fields: &Fields,
+    port: Option<PortPlan>,
+    joining: &Joining,
+) -> (Joining, Option<Deviation>)
+    requires { AreSmall fields.now }
+    ensures after { result.0 ≡ joining_after arinc fragment fields.now port joining.now }
+    ensures message { result.1 ≡ message_after fragment fields.now port joining.now }
+{
+    if fragment.is_some() {
+        return (Joining::Any, None);
+    }
+    let head = joining.head_now(port, fields);
+    (
+        joined(arinc, &fields.piece, head),
+        end_deviation(&fields.piece, head),
+    )
+}
+
 impl Sub {
     /// A sub-VL of which nothing came.
     fn new(late: bool, arinc: bool, sub: u16) -> Sub
@@ -146,22 +175,15 @@ impl Sub {
         }
     }
 
-    /// The sub-VL after frames may have been lost.
-    fn unsettled(self) -> Sub
-        ensures { result ≡ unsettled_sub self }
+    /// The sub-VL, with no piece due. After a loss nothing is known of its message.
+    fn undue(&self, lost: bool) -> Sub
+        ensures { result ≡ (if lost then unsettled_sub self.now else excused_sub self.now) }
     {
         Sub {
-            joining: Joining::Any,
+            joining: if lost { Joining::Any } else { self.joining },
             due: false,
-            ..self
+            ..*self
         }
-    }
-
-    /// The sub-VL, with no piece due.
-    fn excused(self) -> Sub
-        ensures { result ≡ excused_sub self }
-    {
-        Sub { due: false, ..self }
     }
 }
 
@@ -170,21 +192,16 @@ impl Line {
     pub(crate) fn new(late: bool, arinc: bool) -> Line
         ensures { result ≡ new_line late arinc }
     {
-        let figures = Figures {
-            frames: 0,
-            bytes: 0,
-            messages: 0,
-            least_gap: None,
-        };
+        let [a, b, c, d] = [0, 1, 2, 3].map(|sub| Sub::new(late, arinc, sub));
         Line {
             last: None,
-            figures,
-            subs: [
-                Sub::new(late, arinc, 0),
-                Sub::new(late, arinc, 1),
-                Sub::new(late, arinc, 2),
-                Sub::new(late, arinc, 3),
-            ],
+            figures: Figures {
+                frames: 0,
+                bytes: 0,
+                messages: 0,
+                least_gap: None,
+            },
+            subs: [a, b, c, d],
         }
     }
 
@@ -192,43 +209,61 @@ impl Line {
     fn number_deviation(&self, late: bool, number: u8) -> Option<Deviation>
         ensures { result ≡ number_deviation late number self.now }
     {
-        number_unless(number, next_number(late, self.last))
+        let wanted = next_number(late, self.last)?;
+        if number == wanted {
+            return None;
+        }
+        Some(Deviation::new(Kind::Number, number as u64, wanted as u64))
     }
 
-    /// A finding, if a frame comes less than a gap after the last one.
+    /// A finding, if a frame comes less than a gap after the last one, or before it.
     fn early_deviation(&self, gap: u64, at: u128) -> Option<Deviation>
         ensures { result ≡ early_deviation gap at self.now }
     {
-        early_since(gap, at, self.last)
+        let last = self.last?;
+        let since = at.saturating_sub(last.at);
+        if last.at <= at && gap as u128 <= since {
+            return None;
+        }
+        Some(Deviation::new(Kind::Early, since as u64, gap))
     }
 
-    /// The line after frames may have been lost.
-    fn unsettled(&self) -> Line
-        ensures { result ≡ unsettled self.now }
+    /// The line, with no piece due. After a loss nothing is known of messages.
+    fn undue(&self, lost: bool) -> Line
+        ensures { result ≡ (if lost then unsettled self.now else excused self.now) }
     {
+        let s = &self.subs;
+        let (a, b, c, d) = (
+            s[0].undue(lost),
+            s[1].undue(lost),
+            s[2].undue(lost),
+            s[3].undue(lost),
+        );
         Line {
-            subs: [
-                self.subs[0].unsettled(),
-                self.subs[1].unsettled(),
-                self.subs[2].unsettled(),
-                self.subs[3].unsettled(),
-            ],
+            subs: [a, b, c, d],
             ..*self
         }
     }
 
-    /// The line, with no piece due.
-    fn excused(&self) -> Line
-        ensures { result ≡ excused self.now }
+    /// The line after a finding, if there is one, by which frames may have been lost.
+    fn after_number(&self, number: Option<Deviation>) -> Line
+        ensures { result ≡ after_number number self.now }
     {
-        Line {
-            subs: [
-                self.subs[0].excused(),
-                self.subs[1].excused(),
-                self.subs[2].excused(),
-                self.subs[3].excused(),
-            ],
-            ..*self
+        if number.is_some() {
+            self.undue(true)
+        } else {
+            *self
+        }
+    }
+
+    /// The line after a finding, if there is one, that a piece was due.
+    fn after_turn(&self, turn: Option<Deviation>) -> Line
+        ensures { result ≡ after_turn turn self.now }
+    {
+        if turn.is_some() {
+            self.undue(false)
+        } else {
+            *self
         }
     }
 
@@ -236,40 +271,24 @@ impl Line {
     fn turn_deviation(&self, sub: u8) -> Option<Deviation>
         ensures { result ≡ turn_deviation sub self.now }
     {
-        match passed_by(&self.subs, self.sub(sub).came) {
-            Some(due) => {
-                Some(Deviation {
-                    kind: Kind::Turn,
-                    seen: sub as u64,
-                    wanted: due as u64,
-                })
-            }
-            None => None,
-        }
+        let due = passed_by(&self.subs, self.sub(sub).came)?;
+        Some(Deviation::new(Kind::Turn, sub as u64, due as u64))
     }
 
-    /// What is known of a frame that is of none of the four sub-VLs.
-    fn other(&self) -> Sub
-        ensures { result ≡ other_sub self.now.subs }
-    {
-        let joining = match unknown_place(&self.subs) {
-            Some(_) => Joining::Any,
-            None => Joining::After(None),
-        };
-        Sub {
-            joining,
-            came: 0,
-            due: false,
-        }
-    }
-
-    /// The sub-VL of a frame.
+    /// The sub-VL of a frame; of a frame of none of the four, what is known of it.
     fn sub(&self, sub: u8) -> Sub
         ensures { result ≡ sub_at self.now.subs sub }
     {
-        match self.subs.get(sub as usize) {
-            Some(s) => *s,
-            None => self.other(),
+        if let Some(s) = self.subs.get(sub as usize) {
+            return *s;
+        }
+        Sub {
+            joining: match unknown_place(&self.subs) {
+                Some(_) => Joining::Any,
+                None => Joining::After(None),
+            },
+            came: 0,
+            due: false,
         }
     }
 
@@ -291,135 +310,46 @@ impl Line {
     fn figures_with(&self, arrived: &Arrived) -> Figures
         ensures { result ≡ figures_with arrived.now self.now }
     {
+        let figures = &self.figures;
         let ended = if arrived.fields.piece.more { 0 } else { 1 };
         Figures {
-            frames: self.figures.frames.saturating_add(1),
-            bytes: self.figures.bytes.saturating_add(arrived.len),
-            messages: self.figures.messages.saturating_add(ended),
-            least_gap: least_of(self.figures.least_gap, gap_since(arrived.at, self.last)),
+            frames: figures.frames.saturating_add(1),
+            bytes: figures.bytes.saturating_add(arrived.len),
+            messages: figures.messages.saturating_add(ended),
+            least_gap: least_of(figures.least_gap, gap_since(arrived.at, self.last)),
         }
     }
 
-    /// The line on which a frame is judged, after its number.
-    fn after_number(&self, number: Option<Deviation>) -> Line
-        ensures { result ≡ after_number number self.now }
+    /// The line with a frame, after which this is known of its message.
+    fn with(&self, arrived: &Arrived, joining: Joining) -> Line
+        ensures { result ≡ record {
+          last = Some (record { number = arrived.now.fields.number; at = arrived.now.at });
+          figures = figures_with arrived.now self.now;
+          subs = slice_set self.now.subs arrived.now.sub (record {
+            joining = joining;
+            came = (figures_with arrived.now self.now).frames;
+            due = arrived.now.fields.piece.more;
+          });
+        } }
     {
-        match number {
-            Some(_) => self.unsettled(),
-            None => *self,
-        }
-    }
-
-    /// The line on which a frame is judged, after its turn.
-    fn after_turn(&self, turn: Option<Deviation>) -> Line
-        ensures { result ≡ after_turn turn self.now }
-    {
-        match turn {
-            Some(_) => self.excused(),
-            None => *self,
-        }
-    }
-
-    /// How a frame's piece isn't the next one.
-    fn fragment_on(&self, measure: &Measure, arrived: &Arrived) -> Option<Deviation>
-        ensures { result ≡ fragment_on measure.now arrived.now self.now }
-    {
-        let sub = self.sub(arrived.sub);
-        sub.joining
-            .fragment_deviation(measure.room, &arrived.fields)
-    }
-}
-
-/// What is known of a message after a frame.
-fn joining_after(
-    arinc: bool,
-    fragment: Option<Deviation>,
-    fields: &Fields,
-    port: Option<PortPlan>,
-    joining: &Joining,
-) -> Joining
-    requires { AreSmall fields.now }
-    ensures { result ≡ joining_after arinc fragment fields.now port joining.now }
-{
-    match fragment {
-        Some(_) => Joining::Any,
-        None => joined(arinc, &fields.piece, joining.head_now(port, fields)),
-    }
-}
-
-/// The four sub-VLs with this one, if it is one of them.
-fn with_sub(subs: [Sub; 4], sub: u8, after: Sub) -> [Sub; 4]
-    ensures { result ≡ slice_set subs sub after }
-{
-    let mut subs = subs;
-    if sub < 4 {
-        subs[sub as usize] = after;
-    }
-    subs
-}
-
-/// What is wrong with the message that a frame ends.
-fn message_after(
-    fragment: Option<Deviation>,
-    fields: &Fields,
-    port: Option<PortPlan>,
-    joining: &Joining,
-) -> Option<Deviation>
-    requires { AreSmall fields.now }
-    ensures { result ≡ message_after fragment fields.now port joining.now }
-{
-    match fragment {
-        Some(_) => None,
-        None => end_deviation(&fields.piece, joining.head_now(port, fields)),
-    }
-}
-
-impl Line {
-    /// The line with a frame, once it is settled.
-    #[tactic(auto, unfolding(crate::specs::Lines::line_with))]
-    fn line_with(
-        &self,
-        measure: &Measure,
-        port: Option<PortPlan>,
-        arrived: &Arrived,
-        fragment: Option<Deviation>,
-    ) -> Line
-        requires small { AreSmall arrived.now.fields }
-        requires fragment { fragment ≡ fragment_on measure.now arrived.now self.now }
-        ensures { result ≡ line_with measure.now port arrived.now self.now }
-    {
-        let fields = &arrived.fields;
         let figures = self.figures_with(arrived);
-        let joining = self.sub(arrived.sub).joining;
         let after = Sub {
-            joining: joining_after(measure.arinc, fragment, fields, port, &joining),
+            joining,
             came: figures.frames,
-            due: fields.piece.more,
+            due: arrived.fields.piece.more,
         };
-        let subs = with_sub(self.subs, arrived.sub, after);
         Line {
             last: Some(Last {
-                number: fields.number,
+                number: arrived.fields.number,
                 at: arrived.at,
             }),
             figures,
-            subs,
-        }
-    }
-
-    /// The line after a frame that isn't the next piece of a message, or is of no port, if there is such a finding.
-    fn traced(self, arinc: bool, stray: Option<Deviation>) -> Line
-        ensures { result ≡ traced arinc stray self }
-    {
-        if arinc && stray.is_some() {
-            self.unsettled()
-        } else {
-            self
+            subs: with_sub(self.subs, arrived.sub, after),
         }
     }
 
     /// Takes a frame, of this port if it is a first piece, and returns what is wrong with it.
-    #[tactic(auto, unfolding(crate::specs::Lines::line_after, crate::specs::Lines::verdict))]
+    #[tactic(auto, unfolding(crate::specs::Lines::line_after, crate::specs::Lines::line_with, crate::specs::Lines::verdict))]
     pub(crate) fn take(
         &mut self,
         measure: &Measure,
@@ -436,21 +366,30 @@ impl Line {
         let numbered = self.after_number(number);
         let turn = numbered.turn_deviation(arrived.sub);
         let settled = numbered.after_turn(turn);
-        let fragment = settled.fragment_on(measure, arrived);
         let joining = settled.sub(arrived.sub).joining;
-        let message = message_after(fragment, fields, port, &joining);
-        let port_fault = port_deviation(fields, port);
-        let stray = first_of(port_fault, fragment);
-        *self = settled
-            .line_with(measure, port, arrived, fragment)
-            .traced(measure.arinc, stray);
+        let fragment = joining.fragment_deviation(measure.room, fields);
+        let (after, message) = ended(measure.arinc, fragment, fields, port, &joining);
+        let port = port_deviation(fields, port);
+        let stray = first_of(port, fragment);
+        *self = settled.with(arrived, after).traced(measure.arinc, stray);
         Verdict {
             number,
             early,
-            port: port_fault,
+            port,
             fragment,
             message,
             turn,
+        }
+    }
+
+    /// The line after a piece that is no message's next or is of no port, if there is such a finding.
+    fn traced(&self, arinc: bool, stray: Option<Deviation>) -> Line
+        ensures { result ≡ traced arinc stray self.now }
+    {
+        if arinc {
+            self.after_number(stray)
+        } else {
+            *self
         }
     }
 }
