@@ -1,6 +1,6 @@
 //! The frame check sequence of Ethernet (IEEE 802.3).
 ghost use Rattle.std.specs.Prelude.{◌≡◌};
-ghost use Rattle.judge.specs.CheckSequence.{divided, divided_twice, with_byte, check_sequence};
+ghost use Rattle.judge.specs.CheckSequence.{divided, with_byte, check_sequence};
 
 // The polynomial, with its highest power in the lowest bit.
 const POLYNOMIAL: u32 = 0xedb8_8320;
@@ -16,19 +16,13 @@ fn divided(remainder: u32) -> u32
     }
 }
 
-/// Two division steps.
-fn divided_twice(remainder: u32) -> u32
-    ensures { result ≡ divided_twice remainder }
-{
-    divided(divided(remainder))
-}
-
 /// The remainder with one more byte.
 #[tactic(auto, unfolding(crate::specs::CheckSequence::with_byte))]
 fn with_byte(remainder: u32, byte: u8) -> u32
     ensures { result ≡ with_byte remainder byte }
 {
-    divided_twice(divided_twice(divided_twice(divided_twice(remainder ^ byte as u32))))
+    let half = divided(divided(divided(divided(remainder ^ byte as u32))));
+    divided(divided(divided(divided(half))))
 }
 
 /// The check sequence of these bytes.

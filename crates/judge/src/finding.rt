@@ -192,10 +192,7 @@ impl Tag {
 pub(crate) fn first_of(one: Option<Deviation>, other: Option<Deviation>) -> Option<Deviation>
     ensures { result ≡ first_of one other }
 {
-    match one {
-        Some(deviation) => Some(deviation),
-        None => other,
-    }
+    one.or(other)
 }
 
 /// Appends a packet's finding, if there is one.

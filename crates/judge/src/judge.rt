@@ -127,25 +127,14 @@ impl Judge {
     pub fn figures(&self, link: usize, net: Net) -> Option<Figures>
         ensures { result ≡ figures_on net (slice_get self.now.links link) }
     {
-        match self.links.get(link) {
-            Some(link) => {
-                match net {
-                    Net::A => Some(link.a.figures),
-                    Net::B => Some(link.b.figures),
-                }
-            }
-            None => None,
-        }
+        Some(self.links.get(link)?.line_on(net).figures)
     }
 
     /// The greatest time in nanoseconds between a frame of a link and its twin, by the link's place in the plan.
     pub fn lead(&self, link: usize) -> Option<u128>
         ensures { result ≡ lead_of (slice_get self.now.links link) }
     {
-        match self.links.get(link) {
-            Some(link) => link.twins.lead(),
-            None => None,
-        }
+        self.links.get(link)?.twins.lead
     }
 
     /// Takes a packet that was recorded on a network, and appends what it does wrong, and before that which frames it

@@ -112,7 +112,7 @@ impl Link {
     }
 
     /// The line of a network.
-    fn line_on(&self, net: Net) -> &Line
+    pub(crate) fn line_on(&self, net: Net) -> &Line
         ensures { result.now ≡ line_on net self.now }
     {
         match net {

@@ -3,7 +3,7 @@ ghost use Rattle.std.specs.Prelude.{◌≡◌, ◌<◌, ◌≤◌, length, IfOk,
 ghost use Rattle.afdx_plan.specs.Config.{link_plan_at};
 ghost use Rattle.capture.specs.Recording.{recorded};
 ghost use Rattle.judge.specs.Layouts.{IsReadable};
-ghost use Rattle.judge.specs.Rules.{refused, checked, unchecked, frame_in, interface_on, on_network, place_from, place_of, size_deviation};
+ghost use Rattle.judge.specs.Rules.{refused, checked, unchecked, frame_in, interface_on, place_of, size_deviation};
 ghost use Rattle.redundant_mux.specs.Lines.{names};
 ghost use Rattle.afdx_frame.specs.Frame.{interface_byte};
 
@@ -13,7 +13,7 @@ use crate::layout::{has_four_more, layout_broken};
 use crate::options::Options;
 use afdx_frame::net::SHORTEST_FRAME;
 use afdx_frame::{Net, word_at};
-use afdx_plan::{Config, LinkPlan, Networks, VlId};
+use afdx_plan::{Config, LinkPlan, VlId};
 use byteorder::{ByteOrder, LittleEndian};
 use capture::Packet;
 
@@ -30,7 +30,7 @@ fn refusal(link: Option<VlId>, kind: Kind, seen: u64, wanted: u64) -> Refused
     ensures { result ≡ refused link kind seen wanted }
 {
     Refused {
-        deviation: Deviation { kind, seen, wanted },
+        deviation: Deviation::new(kind, seen, wanted),
         link,
     }
 }
@@ -96,65 +96,14 @@ pub(crate) fn frame_in<'a>(packet: &Packet<'a>, options: &Options) -> Result<&'a
     }
 }
 
-/// The byte of the interface identifier of a network.
-fn interface_byte(net: Net) -> u8
-    ensures { result ≡ interface_byte net }
-{
-    match net {
-        Net::A => 0x20,
-        Net::B => 0x40,
-    }
-}
-
-/// Whether a network is one of these.
-fn carries(networks: Networks, net: Net) -> bool
-    ensures { result ≡ names net networks }
-{
-    match net {
-        Net::A => networks.carries_a(),
-        Net::B => networks.carries_b(),
-    }
-}
-
 /// The interface identifier that a link's frame has on a network, 0 if the network doesn't carry it.
 fn interface_on(link: &LinkPlan, net: Net) -> u8
     ensures { result ≡ interface_on link.now net }
 {
-    if carries(link.networks, net) {
-        interface_byte(net)
-    } else {
-        0
-    }
-}
-
-/// The place of a link that a frame is of, if it is of the network.
-fn on_network(
-    place: usize,
-    vl: VlId,
-    link: &LinkPlan,
-    net: Net,
-    frame: &[u8],
-) -> Result<usize, Refused>
-    requires { 60 ≤ length frame.now }
-    ensures { result ≡ on_network place vl link.now net frame.now }
-{
-    let (seen, wanted) = (frame[11], interface_on(link, net));
-    if seen == wanted {
-        Ok(place)
-    } else {
-        Err(refusal(Some(vl), Kind::Network, seen as u64, wanted as u64))
-    }
-}
-
-/// The place of a link in the plan, if a frame of it is of the network.
-fn place_from(config: &Config, vl: VlId, net: Net, frame: &[u8]) -> Result<usize, Refused>
-    requires { 60 ≤ length frame.now }
-    ensures value { result ≡ place_from config.now vl net frame.now }
-    ensures within { IfOk result (λ place. place < length config.now.links) }
-{
-    match config.link_index(vl) {
-        Some(place) => on_network(place, vl, &config.links()[place], net, frame),
-        None => Err(refusal(Some(vl), Kind::Link, vl.0 as u64, 0)),
+    match net {
+        Net::A if link.networks.carries_a() => 0x20,
+        Net::B if link.networks.carries_b() => 0x40,
+        _ => 0,
     }
 }
 
@@ -165,13 +114,19 @@ pub(crate) fn place_of(config: &Config, net: Net, frame: &[u8]) -> Result<usize,
     ensures value { result ≡ place_of config.now net frame.now }
     ensures within { IfOk result (λ place. place < length config.now.links) }
 {
-    let source = word_at(frame, 9);
-    let wanted = config.end_system();
-    if source == wanted {
-        place_from(config, VlId(word_at(frame, 4)), net, frame)
-    } else {
-        Err(refusal(None, Kind::Source, source as u64, wanted as u64))
+    let (source, wanted) = (word_at(frame, 9), config.end_system());
+    if source != wanted {
+        return Err(refusal(None, Kind::Source, source as u64, wanted as u64));
     }
+    let vl = VlId(word_at(frame, 4));
+    let Some(place) = config.link_index(vl) else {
+        return Err(refusal(Some(vl), Kind::Link, vl.0 as u64, 0));
+    };
+    let (seen, wanted) = (frame[11], interface_on(&config.links()[place], net));
+    if seen != wanted {
+        return Err(refusal(Some(vl), Kind::Network, seen as u64, wanted as u64));
+    }
+    Ok(place)
 }
 
 /// A finding, if a frame is longer than its link's Lmax, with its check sequence.
@@ -183,9 +138,5 @@ pub(crate) fn size_deviation(link: &LinkPlan, len: u64) -> Option<Deviation>
     if seen <= wanted {
         return None;
     }
-    Some(Deviation {
-        kind: Kind::Size,
-        seen,
-        wanted,
-    })
+    Some(Deviation::new(Kind::Size, seen, wanted))
 }

@@ -24,20 +24,9 @@ impl Times {
     pub(crate) fn with(self, at: u128) -> Times
         ensures { result ≡ times_with at self }
     {
-        let latest = if self.latest < at { at } else { self.latest };
-        match self.first {
-            Some(first) => {
-                Times {
-                    first: Some(first),
-                    latest,
-                }
-            }
-            None => {
-                Times {
-                    first: Some(at),
-                    latest,
-                }
-            }
+        Times {
+            first: Some(self.first.unwrap_or(at)),
+            latest: if self.latest < at { at } else { self.latest },
         }
     }
 }

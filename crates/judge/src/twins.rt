@@ -1,7 +1,7 @@
 //! The frames of a link that one network has and the other hasn't yet.
 ghost use Rattle.std.specs.Prelude.{◌≡◌, ◌+◌, ◌^◌, ◌≤◌, ◌<◌, find, position, length, OnOk, IfOk, None, []};
 ghost use Rattle.judge.specs.Waiting.{Wait, Pairing};
-ghost use Rattle.judge.specs.Twins.{apart, is_near, is_excused, same_net, is_passed, stays, kept, is_lost, is_left, is_twin, missing, found_missing, left_waiting, first_other, first_place, twin_other, other_at, twin_if, twin_deviation, greatest_of, pairing_with, found_at_end};
+ghost use Rattle.judge.specs.Twins.{apart, is_near, is_excused, same_net, is_passed, kept, is_lost, is_left, is_twin, missing, found_missing, left_waiting, first_other, twin_other, other_at, twin_if, twin_deviation, greatest_of, pairing_with, found_at_end};
 
 use crate::finding::{Deviation, Finding, Kind, Tag};
 use afdx_frame::Net;
@@ -35,7 +35,7 @@ impl Model for Waiting {
 pub(crate) struct Twins {
     waiting: Vec<Waiting>,
     /// The greatest time in nanoseconds between a frame and its twin.
-    lead: Option<u128>,
+    pub(crate) lead: Option<u128>,
 }
 
 impl Model for Twins {
@@ -66,11 +66,9 @@ fn apart(a: u128, b: u128) -> u128
 fn same_net(a: Net, b: Net) -> bool
     ensures { result ≡ same_net a b }
 {
-    match (a, b) {
-        (Net::A, Net::A) => true,
-        (Net::A, Net::B) => false,
-        (Net::B, Net::A) => false,
-        (Net::B, Net::B) => true,
+    match a {
+        Net::A => b == Net::A,
+        Net::B => b == Net::B,
     }
 }
 
@@ -114,16 +112,6 @@ fn first_other(from: usize, a: &[u8], b: &[u8]) -> Option<usize>
     }
 }
 
-/// The first of two places.
-fn first_place(one: Option<usize>, other: Option<usize>) -> Option<usize>
-    ensures { result ≡ first_place one other }
-{
-    match one {
-        Some(place) => Some(place),
-        None => other,
-    }
-}
-
 /// The first place at which frames of two networks differ, beside the interface identifier.
 #[tactic(auto, unfolding(crate::specs::Twins::twin_other))]
 fn twin_other(a: &[u8], b: &[u8]) -> Option<usize>
@@ -131,9 +119,10 @@ fn twin_other(a: &[u8], b: &[u8]) -> Option<usize>
     requires b { 12 ≤ length b.now }
     ensures { result ≡ twin_other a.now b.now }
 {
-    let front = first_other(0, &a[0..11], &b[0..11]);
-    let rest = first_other(12, &a[12..], &b[12..]);
-    first_place(front, rest)
+    match first_other(0, &a[0..11], &b[0..11]) {
+        Some(place) => Some(place),
+        None => first_other(12, &a[12..], &b[12..]),
+    }
 }
 
 impl Waiting {
@@ -143,13 +132,6 @@ impl Waiting {
     {
         !nearness.is_near(self.tag.at, tag.at)
             || (same_net(self.tag.net, tag.net) && self.number == number)
-    }
-
-    /// Whether a frame of this network, time and number leaves it waiting.
-    fn stays(&self, nearness: &Nearness, tag: &Tag, number: u8) -> bool
-        ensures { result ≡ stays nearness.now tag.now number self.now }
-    {
-        !self.is_passed(nearness, tag, number)
     }
 
     /// Whether that it has no twin is a finding.
@@ -177,11 +159,7 @@ impl Waiting {
     fn missing(&self, vl: VlId) -> Finding
         ensures { result ≡ missing vl self.now }
     {
-        let deviation = Deviation {
-            kind: Kind::Missing,
-            seen: self.number as u64,
-            wanted: 0,
-        };
+        let deviation = Deviation::new(Kind::Missing, self.number as u64, 0);
         self.tag.finding(Some(vl), deviation)
     }
 
@@ -190,16 +168,8 @@ impl Waiting {
         requires { 12 ≤ length frame.now }
         ensures { result ≡ other_at self.now (twin_other self.now.bytes frame.now) }
     {
-        match twin_other(&self.bytes, frame) {
-            Some(place) => {
-                Some(Deviation {
-                    kind: Kind::Twin,
-                    seen: place as u64,
-                    wanted: self.tag.packet,
-                })
-            }
-            None => None,
-        }
+        let place = twin_other(&self.bytes, frame)?;
+        Some(Deviation::new(Kind::Twin, place as u64, self.tag.packet))
     }
 }
 
@@ -207,7 +177,7 @@ impl Waiting {
 fn keep(waiting: &mut Vec<Waiting>, nearness: &Nearness, tag: &Tag, number: u8)
     ensures { waiting.new.items ≡ kept nearness.now tag.now number waiting.old.items }
 {
-    waiting.retain(|w| w.stays(nearness, tag, number));
+    waiting.retain(|w| !w.is_passed(nearness, tag, number));
 }
 
 /// The greater of two times, of which the first may be missing.
@@ -229,13 +199,6 @@ impl Twins {
             waiting: Vec::new(alloc),
             lead: None,
         }
-    }
-
-    /// The greatest time in nanoseconds between a frame and its twin, if there was one.
-    pub(crate) fn lead(&self) -> Option<u128>
-        ensures { result ≡ self.now.lead }
-    {
-        self.lead
     }
 
     /// Appends the frames that a frame shows to have no twin.
