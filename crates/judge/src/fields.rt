@@ -1,7 +1,7 @@
 //! What a frame of the layout says.
 ghost use Rattle.std.specs.Prelude.{◌≡◌, ◌≤◌};
 ghost use Rattle.afdx_frame.specs.Profile.{total_length};
-ghost use Rattle.judge.specs.Fields.{piece_of, flow_of, fields_of, AreSmall};
+ghost use Rattle.judge.specs.Fields.{fields_of, AreSmall};
 ghost use Rattle.judge.specs.Layouts.{IsReadable};
 
 use afdx_frame::{word_at, word_sum};
@@ -41,35 +41,6 @@ pub(crate) struct Flow {
     pub(crate) destination: u16,
 }
 
-/// The piece of a frame of the layout.
-fn piece_of(frame: &[u8]) -> PieceIn
-    requires { IsReadable frame.now }
-    ensures value { result ≡ piece_of frame.now }
-    ensures start { result.start ≤ 65528 }
-    ensures len { result.len ≤ 1500 }
-{
-    let fragment = word_at(frame, 20);
-    PieceIn {
-        ident: word_at(frame, 18),
-        start: 8 * (fragment % 0x2000) as u32,
-        len: word_at(frame, 16) as u32 - 20,
-        more: fragment >= 0x2000,
-    }
-}
-
-/// The flow of a frame of the layout.
-fn flow_of(frame: &[u8]) -> Flow
-    requires { IsReadable frame.now }
-    ensures { result ≡ flow_of frame.now }
-{
-    Flow {
-        partition: frame[29],
-        address: 0x1_0000 * word_at(frame, 30) as u32 + word_at(frame, 32) as u32,
-        source: word_at(frame, 34),
-        destination: word_at(frame, 36),
-    }
-}
-
 /// The fields of a frame of the layout.
 #[tactic(auto, unfolding(crate::specs::Fields::fields_of))]
 pub(crate) fn fields_of(frame: &[u8]) -> Fields
@@ -77,14 +48,24 @@ pub(crate) fn fields_of(frame: &[u8]) -> Fields
     ensures value { result ≡ fields_of frame.now }
     ensures small { AreSmall result }
 {
-    let end = 14 + word_at(frame, 16) as usize;
+    let (total, fragment) = (word_at(frame, 16), word_at(frame, 20));
     Fields {
         number: frame[frame.len() - 1],
-        piece: piece_of(frame),
-        flow: flow_of(frame),
+        piece: PieceIn {
+            ident: word_at(frame, 18),
+            start: 8 * (fragment % 0x2000) as u32,
+            len: total as u32 - 20,
+            more: fragment >= 0x2000,
+        },
+        flow: Flow {
+            partition: frame[29],
+            address: 0x1_0000 * word_at(frame, 30) as u32 + word_at(frame, 32) as u32,
+            source: word_at(frame, 34),
+            destination: word_at(frame, 36),
+        },
         udp_len: word_at(frame, 38),
         udp_sum: word_at(frame, 40),
-        sum: word_sum(&frame[34..end]),
+        sum: word_sum(&frame[34..14 + total as usize]),
         ends: word_sum(&frame[26..34]),
     }
 }

@@ -50,13 +50,6 @@ impl Model for Judge {
     ghost invariant = { λ j. length j.links.items ≡ length j.config.links };
 }
 
-/// A frame of the link at a place.
-#[derive(Clone, Copy)]
-struct Found<'a> {
-    place: usize,
-    frame: &'a [u8],
-}
-
 /// What a link's frames are measured by.
 fn measure_of(options: &Options, link: &LinkPlan) -> Measure
     ensures { result ≡ measure_of options.now link.now }
@@ -140,7 +133,7 @@ impl Judge {
     /// Takes a packet that was recorded on a network, and appends what it does wrong, and before that which frames it
     /// shows to be missing. The packets of each network come in their order. Fails if memory runs out: then nothing more
     /// can be said of the recording.
-    #[tactic(auto, unfolding(crate::specs::Judging::after_packet, crate::specs::Judging::found_with_packet))]
+    #[tactic(auto, unfolding(crate::specs::Judging::after_packet, crate::specs::Judging::found_with_packet, crate::specs::Judging::admitted))]
     pub fn take(
         &mut self,
         net: Net,
@@ -153,71 +146,24 @@ impl Judge {
         ensures found { OnOk result (found.new.items
             ≡ found_with_packet net number (recorded packet.now) self.old found.old.items) }
     {
-        match packet.at {
-            Some(at) => {
-                self.see(at);
-                self.take_at(net, number, at, packet, found)
-            }
-            None => {
-                let tag = Tag {
-                    packet: number,
-                    net,
-                    at: 0,
-                };
-                let deviation = Deviation {
-                    kind: Kind::Frame(Layout::Time),
-                    seen: 0,
-                    wanted: 0,
-                };
-                add(found, &tag, None, Some(deviation))
-            }
-        }
-    }
-
-    /// Sees the time of a packet.
-    fn see(&mut self, at: u128)
-        ensures { self.new ≡ timed at self.old }
-    {
-        self.times = self.times.with(at);
-    }
-
-    /// Takes a packet that was recorded at a time.
-    fn take_at(
-        &mut self,
-        net: Net,
-        number: u64,
-        at: u128,
-        packet: &Packet<'_>,
-        found: &mut Vec<Finding>,
-    ) -> Result<(), AllocError>
-        ensures after { OnOk result (self.new
-            ≡ after_seen net number (recorded packet.now) at self.old) }
-        ensures found { OnOk result (found.new.items
-            ≡ found_seen net number (recorded packet.now) at self.old found.old.items) }
-    {
         let tag = Tag {
             packet: number,
             net,
-            at,
+            at: packet.at.unwrap_or(0),
         };
-        match self.admit(net, packet) {
-            Ok(it) => self.arrive(&tag, it.place, it.frame, found),
+        let Some(at) = packet.at else {
+            let deviation = Deviation::new(Kind::Frame(Layout::Time), 0, 0);
+            return add(found, &tag, None, Some(deviation));
+        };
+        self.times = self.times.with(at);
+        let frame = match frame_in(packet, &self.options) {
+            Ok(frame) => frame,
+            Err(why) => return self.refuse(&tag, &why, found),
+        };
+        match place_of(&self.config, net, frame) {
+            Ok(place) => self.arrive(&tag, place, frame, found),
             Err(why) => self.refuse(&tag, &why, found),
         }
-    }
-
-    /// The frame of a packet, and the place of its link.
-    #[tactic(auto, unfolding(crate::specs::Judging::admitted))]
-    fn admit<'a>(&self, net: Net, packet: &Packet<'a>) -> Result<Found<'a>, Refused>
-        ensures ok { IfOk result (λ it. admitted net (recorded packet.now) self.now
-            ≡ Ok (record { place = it.place; frame = it.frame.now })) }
-        ensures err { IfErr result (λ why. admitted net (recorded packet.now) self.now ≡ Err why) }
-        ensures readable { IfOk result (λ it. IsReadable it.frame.now) }
-        ensures within { IfOk result (λ it. it.place < length self.now.plan.links) }
-    {
-        let frame = frame_in(packet, &self.options)?;
-        let place = place_of(&self.config, net, frame)?;
-        Ok(Found { place, frame })
     }
 
     /// Appends why a packet is judged no further. That frames have their check sequences is appended once.
@@ -240,19 +186,6 @@ impl Judge {
         add(found, tag, why.link, Some(why.deviation))
     }
 
-    /// What the frames of the link at a place are judged by.
-    fn setting(&self, place: usize) -> Setting
-        requires { place < length self.now.plan.links }
-        ensures { result ≡ setting_of self.now place }
-    {
-        let plan = self.config.links()[place];
-        Setting {
-            plan,
-            measure: measure_of(&self.options, &plan),
-            nearness: nearness_of(&self.options, &self.times),
-        }
-    }
-
     /// Takes a frame of the link at a place.
     #[tactic(auto, unfolding(crate::specs::Judging::with_arrival, crate::specs::Judging::found_of_arrival))]
     fn arrive(
@@ -268,7 +201,12 @@ impl Judge {
         ensures found { OnOk result (found.new.items
             ≡ found_of_arrival tag.now place frame.now self.old found.old.items) }
     {
-        let setting = self.setting(place);
+        let plan = self.config.links()[place];
+        let setting = Setting {
+            plan,
+            measure: measure_of(&self.options, &plan),
+            nearness: nearness_of(&self.options, &self.times),
+        };
         let fields = fields_of(frame);
         let port = first_port(
             self.options.arinc,
