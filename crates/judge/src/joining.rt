@@ -1,7 +1,7 @@
 //! The message of a sub-VL on a network, as its pieces come.
 ghost use Rattle.std.specs.Prelude.{◌≡◌, ◌+◌, ◌%◌, ◌≤◌, length, option_copied};
 ghost use Rattle.judge.specs.Fields.{AreSmall};
-ghost use Rattle.judge.specs.Joining.{address_number, is_towards, is_of_port, port_of, head_of, head_with, next_of, ident_of, begun, has_addresses, misfit, misfit_if, addresses_deviation, length_deviation, fragment_deviation, ident_before, goes_on, is_unknown, repeated_if, after_message, head_from, head_after, head_now, right_sum, ending, message_deviation, if_known, end_deviation, joined};
+ghost use Rattle.judge.specs.Joining.{address_number, is_towards, is_of_port, port_of, misfit, misfit_if, addresses_deviation, length_deviation, fragment_deviation, goes_on, head_now, right_sum, ending, message_deviation, end_deviation, joined};
 ghost use Rattle.afdx_plan.specs.Address.{destination_address};
 
 use crate::fields::{Fields, Flow, PieceIn};
@@ -101,34 +101,14 @@ fn misfit_if(how: Misfit, wanted: u32, seen: u32) -> Option<Deviation>
     misfit(how, seen as u64, wanted as u64)
 }
 
-/// A misfit, if an identification is the one before.
-fn repeated_if(before: Option<u16>, seen: u16) -> Option<Deviation>
-    ensures { result ≡ repeated_if before seen }
-{
-    match before {
-        Some(before) if seen == before => misfit(Misfit::Repeated, seen as u64, 0),
-        _ => None,
-    }
-}
-
-/// Whether a piece has the addresses of its message, if they are known.
-fn has_addresses(head: Option<Head>, flow: &Flow) -> bool
-    ensures { result ≡ has_addresses head flow.now }
-{
-    match head {
-        None => true,
-        Some(head) => is_towards(flow, &head.port),
-    }
-}
-
-/// A misfit, unless a piece has the addresses of its message.
+/// A misfit, unless a piece has the addresses of its message, if they are known.
 fn addresses_deviation(head: Option<Head>, flow: &Flow) -> Option<Deviation>
     ensures { result ≡ addresses_deviation head flow.now }
 {
-    if has_addresses(head, flow) {
-        return None;
+    match head {
+        Some(head) if !is_towards(flow, &head.port) => misfit(Misfit::Addresses, 0, 0),
+        _ => None,
     }
-    misfit(Misfit::Addresses, 0, 0)
 }
 
 /// How a piece has another length than the cutting gives it (RFC 791, the example procedure of fragmentation). A frame
@@ -165,10 +145,11 @@ impl Joining {
                 let other = misfit_if(Misfit::Identification, *next as u32, ident as u32);
                 first_of(misfit_if(Misfit::Offset, 0, start), first_of(other, len))
             }
-            Joining::After(before) => {
-                let repeated = repeated_if(*before, ident);
-                first_of(misfit_if(Misfit::Offset, 0, start), first_of(repeated, len))
+            Joining::After(Some(before)) if *before == ident => {
+                let repeated = misfit(Misfit::Repeated, ident as u64, 0);
+                first_of(misfit_if(Misfit::Offset, 0, start), repeated)
             }
+            Joining::After(_) => first_of(misfit_if(Misfit::Offset, 0, start), len),
             Joining::Within(open) => {
                 let offset = misfit_if(Misfit::Offset, open.next, start);
                 let other = misfit_if(Misfit::Identification, open.ident as u32, ident as u32);
@@ -184,17 +165,11 @@ impl Joining {
     {
         match self {
             Joining::Within(open) => {
-                fields.piece.ident == open.ident && has_addresses(open.head, &fields.flow)
+                fields.piece.ident == open.ident
+                    && addresses_deviation(open.head, &fields.flow).is_none()
             }
             _ => false,
         }
-    }
-
-    /// Whether nothing is known.
-    pub(crate) fn is_unknown(&self) -> bool
-        ensures { result ≡ is_unknown self.now }
-    {
-        matches!(self, Joining::Any)
     }
 
     /// What is known of the message with this piece, the next one, whose port this is if it is a first piece.

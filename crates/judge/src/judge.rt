@@ -50,18 +50,6 @@ impl Model for Judge {
     ghost invariant = { λ j. length j.links.items ≡ length j.config.links };
 }
 
-/// What a link's frames are measured by.
-fn measure_of(options: &Options, link: &LinkPlan) -> Measure
-    ensures { result ≡ measure_of options.now link.now }
-{
-    Measure {
-        room: link.lmax.room(),
-        gap: 1_000 * link.bag.micros().saturating_sub(options.jitter),
-        late: options.late,
-        arinc: options.arinc,
-    }
-}
-
 /// How near twins are.
 fn nearness_of(options: &Options, times: &Times) -> Nearness
     ensures { result ≡ nearness_of options.now times.now }
@@ -177,7 +165,7 @@ impl Judge {
         ensures found { OnOk result (found.new.items
             ≡ found_refusal tag.now why.now self.old found.old.items) }
     {
-        if is_with_check(why.deviation.kind) {
+        if matches!(why.deviation.kind, Kind::Frame(Layout::Recorded)) {
             if self.told {
                 return Ok(());
             }
@@ -204,7 +192,12 @@ impl Judge {
         let plan = self.config.links()[place];
         let setting = Setting {
             plan,
-            measure: measure_of(&self.options, &plan),
+            measure: Measure {
+                room: plan.lmax.room(),
+                gap: 1_000 * plan.bag.micros().saturating_sub(self.options.jitter),
+                late: self.options.late,
+                arinc: self.options.arinc,
+            },
             nearness: nearness_of(&self.options, &self.times),
         };
         let fields = fields_of(frame);
@@ -254,11 +247,4 @@ fn add_left(
         link.twins.find_left(nearness, plans[place].id, at, found)?;
     }
     Ok(())
-}
-
-/// Whether a finding is that frames have their check sequences.
-fn is_with_check(kind: Kind) -> bool
-    ensures { result ≡ is_with_check kind }
-{
-    matches!(kind, Kind::Frame(Layout::Recorded))
 }

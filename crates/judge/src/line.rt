@@ -1,5 +1,5 @@
 //! A link on a network: its numbers, its gaps and its sub-VLs.
-ghost use Rattle.std.specs.Prelude.{◌≡◌, ◌+◌, ◌≤◌, ◌<◌, ◌%◌, if◌then◌else◌, slice_set};
+ghost use Rattle.std.specs.Prelude.{◌≡◌, ◌+◌, ◌≤◌, ◌<◌, ◌%◌, if◌then◌else◌, slice_set, true, false};
 ghost use Rattle.judge.specs.Fields.{AreSmall};
 ghost use Rattle.judge.specs.Lines.{new_sub, new_line, next_number, number_unless, number_deviation, gap_since, early_since, early_deviation, unsettled_sub, unsettled, excused_sub, excused, turn_deviation, due_before, unknown_place, going_on, sub_at, other_sub, port_deviation, sub_in, sub_shown, sub_of, least_of, figures_with, joining_after, message_after, line_with, line_after, verdict, after_number, after_turn, traced};
 
@@ -29,7 +29,7 @@ pub(crate) struct Sub {
 }
 
 /// What came of a link on a network: frames of the plan. Counts stop at their greatest value.
-#[derive(Clone, Copy, Debug, PartialEq, Eq)]
+#[derive(Clone, Copy, Debug, Default, PartialEq, Eq)]
 pub struct Figures {
     pub frames: u64,
     /// The bytes of these frames, without their check sequences.
@@ -113,7 +113,7 @@ pub(crate) fn sub_in(fields: &Fields) -> u8
 fn unknown_place(subs: &[Sub]) -> Option<usize>
     ensures { result ≡ unknown_place subs.now }
 {
-    subs.iter().position(|s| s.joining.is_unknown())
+    subs.iter().position(|s| matches!(s.joining, Joining::Any))
 }
 
 /// The first sub-VL with whose message a piece goes on.
@@ -195,12 +195,7 @@ impl Line {
         let [a, b, c, d] = [0, 1, 2, 3].map(|sub| Sub::new(late, arinc, sub));
         Line {
             last: None,
-            figures: Figures {
-                frames: 0,
-                bytes: 0,
-                messages: 0,
-                least_gap: None,
-            },
+            figures: Figures::default(),
             subs: [a, b, c, d],
         }
     }
@@ -228,10 +223,14 @@ impl Line {
         Some(Deviation::new(Kind::Early, since as u64, gap))
     }
 
-    /// The line, with no piece due. After a loss nothing is known of messages.
-    fn undue(&self, lost: bool) -> Line
-        ensures { result ≡ (if lost then unsettled self.now else excused self.now) }
+    /// The line after a finding, if there is one: no piece is due, and after a loss nothing is known of messages.
+    fn after(&self, finding: Option<Deviation>, lost: bool) -> Line
+        ensures number { lost ≡ true → result ≡ after_number finding self.now }
+        ensures turn { lost ≡ false → result ≡ after_turn finding self.now }
     {
+        if finding.is_none() {
+            return *self;
+        }
         let s = &self.subs;
         let (a, b, c, d) = (
             s[0].undue(lost),
@@ -242,28 +241,6 @@ impl Line {
         Line {
             subs: [a, b, c, d],
             ..*self
-        }
-    }
-
-    /// The line after a finding, if there is one, by which frames may have been lost.
-    fn after_number(&self, number: Option<Deviation>) -> Line
-        ensures { result ≡ after_number number self.now }
-    {
-        if number.is_some() {
-            self.undue(true)
-        } else {
-            *self
-        }
-    }
-
-    /// The line after a finding, if there is one, that a piece was due.
-    fn after_turn(&self, turn: Option<Deviation>) -> Line
-        ensures { result ≡ after_turn turn self.now }
-    {
-        if turn.is_some() {
-            self.undue(false)
-        } else {
-            *self
         }
     }
 
@@ -299,7 +276,7 @@ impl Line {
         if !measure.arinc {
             return sub_in(fields);
         }
-        let numbered = self.after_number(self.number_deviation(measure.late, fields.number));
+        let numbered = self.after(self.number_deviation(measure.late, fields.number), true);
         match port {
             Some(port) => port.sub,
             None => going_on(fields, &numbered.subs).unwrap_or(4) as u8,
@@ -363,9 +340,9 @@ impl Line {
         let fields = &arrived.fields;
         let number = self.number_deviation(measure.late, fields.number);
         let early = self.early_deviation(measure.gap, arrived.at);
-        let numbered = self.after_number(number);
+        let numbered = self.after(number, true);
         let turn = numbered.turn_deviation(arrived.sub);
-        let settled = numbered.after_turn(turn);
+        let settled = numbered.after(turn, false);
         let joining = settled.sub(arrived.sub).joining;
         let fragment = joining.fragment_deviation(measure.room, fields);
         let (after, message) = ended(measure.arinc, fragment, fields, port, &joining);
@@ -387,7 +364,7 @@ impl Line {
         ensures { result ≡ traced arinc stray self.now }
     {
         if arinc {
-            self.after_number(stray)
+            self.after(stray, true)
         } else {
             *self
         }

@@ -66,10 +66,7 @@ fn apart(a: u128, b: u128) -> u128
 fn same_net(a: Net, b: Net) -> bool
     ensures { result ≡ same_net a b }
 {
-    match a {
-        Net::A => b == Net::A,
-        Net::B => b == Net::B,
-    }
+    a == b
 }
 
 impl Nearness {
@@ -185,8 +182,8 @@ fn greatest_of(a: Option<u128>, b: u128) -> Option<u128>
     ensures { result ≡ greatest_of a b }
 {
     match a {
-        None => Some(b),
-        Some(a) => Some(if a < b { b } else { a }),
+        Some(a) if b <= a => Some(a),
+        _ => Some(b),
     }
 }
 
