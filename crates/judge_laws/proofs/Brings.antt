@@ -104,10 +104,7 @@ module _ (plan : Plan) (k s : ℕ) (net : Net) (place : ℕ) (joining : Joining)
 
   sum_is : (fields_of frame).sum ≡ word_sum (body_in frame)
   unfolding fields_of
-  sum_is =
-      let total = its_frame.internet.total in
-      let many : 14 + total_length frame - 34 ≡ total_length frame - 20 = omega arith in
-      rw many refl
+  sum_is = grind (arith, nat_tests, its_frame)
 
   fits : Fits (room_at plan k) (fields_of frame) joining
   fits = fits_says (room_at plan k) (fields_of frame) joining quiet.fits

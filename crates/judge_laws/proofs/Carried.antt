@@ -107,7 +107,6 @@ module _ (end_system : ℕ) (port : PortPlan) (message : List ℕ) (place : ℕ)
       let total = total_ok end_system port message place piece net number piece_is.len.1 in
       let body = payload_says end_system port message place piece net number is piece_is.within in
       let at = address_at is in
-      let offset = s.offset_says in
       let many : 14 + total_length frame - 34 ≡ piece.len = omega arith in
       record {
         ident = s.ident_says;

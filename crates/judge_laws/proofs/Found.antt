@@ -38,33 +38,23 @@ find_one p (y ∷ ys) x member passes only = elim (cases_Bool (p y)) [
 -- four bytes
 pub record IsAddress (address : List ℕ) : Type 0 where
   pub four : length address ≡ 4
-  pub bytes : (i : ℕ) → get_or address i 0 < 256
+  pub bytes : (get_or address 0 0 < 256) × (get_or address 1 0 < 256) × (get_or address 2 0 < 256) × (get_or address 3 0 < 256)
 
 -- addresses with one number are one
 pub one_address : (s t : List ℕ) → IsAddress s → IsAddress t → address_number s ≡ address_number t → s ≡ t
 one_address s t is_s is_t same = same_number_lists s t (omega (arith, is_s.four, is_t.four)) (λ k below. each k (omega (arith, is_s.four)))
   where
-    small : (k : ℕ) → (get_or s k 0 < 256) × (get_or t k 0 < 256)
-    small k = (is_s.bytes k, is_t.bytes k)
-
     each : (k : ℕ) → k < 4 → get_or s k 0 ≡ get_or t k 0
-    each zero below = omega (arith, small)
-    each (suc zero) below = omega (arith, small)
-    each (suc (suc zero)) below = omega (arith, small)
-    each (suc (suc (suc zero))) below = omega (arith, small)
+    each zero below = omega (arith, is_s.bytes, is_t.bytes)
+    each (suc zero) below = omega (arith, is_s.bytes, is_t.bytes)
+    each (suc (suc zero)) below = omega (arith, is_s.bytes, is_t.bytes)
+    each (suc (suc (suc zero))) below = omega (arith, is_s.bytes, is_t.bytes)
     each (suc (suc (suc (suc k)))) below = absurd (omega arith)
 
 -- a destination is an address
 pub destination_is : (vl : ℕ) (unicast : Option (List ℕ)) → IfSome unicast IsUnicast → IsAddress (destination_of vl unicast)
-destination_is vl None is = record { four = refl; bytes = each }
-  where
-    each : (i : ℕ) → get_or (destination_of vl None) i 0 < 256
-    each zero = omega arith
-    each (suc zero) = omega arith
-    each (suc (suc zero)) = omega arith
-    each (suc (suc (suc zero))) = omega arith
-    each (suc (suc (suc (suc i)))) = omega arith
-destination_is vl (Some address) is = record { four = is.four; bytes = is.bytes }
+destination_is vl None is = record { four = refl; bytes = (omega arith, omega arith, omega arith, omega arith) }
+destination_is vl (Some address) is = record { four = is.four; bytes = (is.bytes 0, is.bytes 1, is.bytes 2, is.bytes 3) }
 
 pub same_id : (v w : VlId) → v.0 ≡ w.0 → v ≡ w
 same_id v w same = ap (λ (n : ℕ). let id : VlId = record { 0 = n } in id) same
@@ -78,17 +68,7 @@ told port vl sub flow its = grind (arith, nat_tests)
 -- two ports of a first piece are one
 same_flow : (p q : PortPlan) (vl sub : ℕ) (flow : Flow) → is_of_port false vl sub flow p ≡ true → is_of_port false vl sub flow q ≡ true
     → IsPort p → IsPort q → AreSameFlow p q
-same_flow p q vl sub flow of_p of_q is_p is_q =
-    let by_p = told p vl sub flow of_p in
-    let by_q = told q vl sub flow of_q in
-    record {
-      vl = same_id p.vl q.vl (omega arith);
-      partition = omega arith;
-      source = omega arith;
-      destination = omega arith;
-      address = one_address (destination_address p) (destination_address q) (destination_is p.vl.0 p.unicast is_p.unicast)
-          (destination_is q.vl.0 q.unicast is_q.unicast) (omega arith);
-    }
+same_flow p q vl sub flow of_p of_q is_p is_q = grind (arith, nat_tests, told, same_id, one_address, destination_is)
 
 -- A first piece's port is found.
 pub port_found : (plan : Plan) (port : PortPlan) (flow : Flow) → IsPlan plan → Contains plan.ports port

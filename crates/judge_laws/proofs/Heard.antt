@@ -1,5 +1,5 @@
 -- A piece that the judge hears when it is due: nothing is wrong with it, and what is known after it is true.
-use Rattle.std.proofs.Common.{◌≡◌, ℕ, suc, ◌+◌, ◌-◌, ◌%◌, ◌<◌, ◌≤◌, true, false, List, length, Option, Some, None, inl, inr, refl, sym, ap, ◌∙◌, arith}
+use Rattle.std.proofs.Common.{◌≡◌, ℕ, suc, ◌+◌, ◌-◌, ◌%◌, ◌<◌, ◌≤◌, true, false, List, length, Option, Some, None, refl, sym, ap, ◌∙◌, arith}
 use Rattle.std.specs.Prelude.{Contains, IfSome}
 use Rattle.std.proofs.lemmas.Bool.{cases_Bool, cases_eq}
 use Rattle.std.proofs.lemmas.Bool.Decides.{nat_tests}
@@ -19,7 +19,7 @@ use Rattle.judge.specs.declared.finding.Misfit.{Misfit}
 use Rattle.judge.specs.declared.finding.Misfit.TheVariants.{Offset, Identification}
 use Rattle.judge_laws.proofs.Carried.{Carries}
 use Rattle.judge_laws.proofs.Found.{port_found}
-use Rattle.judge_laws.proofs.Message.{IsNext, IsTrue, cut_length, first_head, head_at, later_head, right_field, towards}
+use Rattle.judge_laws.proofs.Message.{IsNext, IsTrue, cut_length, first_head, head_at, later_head, right_field, towards, last_joined, more_joined}
 
 -- the room of a link's frames
 abbrev pub room_at : Plan → ℕ → ℕ
@@ -81,22 +81,11 @@ ends_if_last piece known last = grind (arith, cases_Bool)
 pub first_found : (plan : Plan) (port : PortPlan) (vl : VlId) (fields : Fields) → IsPlan plan → Contains plan.ports port
     → fields.piece.start ≡ 0 → vl.0 ≡ port.vl.0 → sub_in fields ≡ port.sub
     → is_of_port false port.vl.0 port.sub fields.flow port ≡ true → first_port false plan.ports vl fields ≡ Some port
-first_found plan port vl fields valid member first link of_sub its =
-    rw (first, link, of_sub) (port_found plan port fields.flow valid member its)
+first_found plan port vl fields valid member first link of_sub its = grind (arith, nat_tests, port_found)
 
 -- the last piece ends the message
 last_end : (room n start : ℕ) (piece : Piece) → IsNext room n start piece → start < n → piece.more ≡ false → start + piece.len ≡ n
 last_end room n start piece next inside last = grind arith
-
--- what is known between two pieces, and between two messages
-more_known : (piece : PieceIn) (known : Option Head) (ident start : ℕ) (head : Head) → piece.more ≡ true → piece.ident ≡ ident
-    → piece.start + piece.len ≡ start → IfSome known (λ h. h ≡ head) → IsTrue ident start head (joined false piece known)
-more_known piece known ident start head more its next is =
-    rw more (record { next_is = next; ident_is = its; head_is = is; alone = refl })
-
-last_known : (piece : PieceIn) (known : Option Head) (place sub : ℕ) (head : Head) → piece.more ≡ false → piece.ident ≡ identification place sub
-    → IsTrue (identification (suc place) sub) 0 head (joined false piece known)
-last_known piece known place sub head last its = rw last (record { next_is = refl; ident_is = omega arith; head_is = tt; alone = refl })
 
 -- a piece that is due is heard
 pub record IsHeard (plan : Plan) (k sub : ℕ) (sent : Sent) (place start : ℕ) (joining : Joining) (piece : Piece) (fields : Fields)
@@ -116,10 +105,7 @@ module _ {plan : Plan} {k sub : ℕ} {sent : Sent} {place start : ℕ} {joining 
   its_ident = heard.carried.ident ∙ ap (identification place) heard.due.allowed.queued.its
 
   pub port_fits : port_deviation fields port ≡ None
-  port_fits = elim (cases_eq start 0) [
-    | inl first ↦ rw (heard.found first) (grind (arith, nat_tests))
-    | inr later ↦ let e = its_start in grind (arith, nat_tests)
-  ]
+  port_fits = grind (arith, nat_tests, cases_eq, its_start)
 
   pub piece_fits : 25 ≤ room_at plan k → fragment_deviation (room_at plan k) fields joining ≡ None
   unfolding fragment_deviation
@@ -133,13 +119,7 @@ module _ {plan : Plan} {k sub : ℕ} {sent : Sent} {place start : ℕ} {joining 
   ) refl
 
   head_true : IfSome (head_now port fields joining) (λ h. h ≡ head_at plan.end_system sent.port sent.bytes (start + piece.len))
-  head_true = elim (cases_eq start 0) [
-    | inl first ↦ rw (head_first port sent.port fields joining (its_start ∙ first) (heard.found first))
-        (first_head heard.carried (heard.next.start_is ∙ first) ∙ ap (head_at plan.end_system sent.port sent.bytes) (omega arith))
-    | inr later ↦ rw (head_later port fields joining (omega (arith, its_start)))
-        (one_more (begun joining) _ _ fields heard.known.head_is (rw heard.next.start_is at (later_head heard.carried
-        (omega (arith, heard.next.start_is, heard.due.units)) (omega (arith, heard.next.start_is, heard.due.inside)))))
-  ]
+  head_true = grind (arith, nat_tests, cases_eq, head_first, its_start, first_head, head_later, one_more, later_head)
 
   pub message_fits : end_deviation fields.piece (head_now port fields joining) ≡ None
   message_fits = ends_if_last fields.piece (head_now port fields joining) (λ last.
@@ -151,9 +131,8 @@ module _ {plan : Plan} {k sub : ℕ} {sent : Sent} {place start : ℕ} {joining 
 
   pub true_after : piece.more ≡ true
       → IsTrueAt plan sub sent place (start + piece.len) (joined false fields.piece (head_now port fields joining))
-  true_after more = more_known fields.piece (head_now port fields joining) _ (start + piece.len) _ (heard.carried.more ∙ more) its_ident
-      (omega (arith, its_start, heard.carried.len)) head_true
+  true_after more = grind (arith, nat_tests, more_joined, its_start, its_ident, head_true)
 
   pub true_behind : piece.more ≡ false → (head : Head)
       → IsTrue (identification (suc place) sub) 0 head (joined false fields.piece (head_now port fields joining))
-  true_behind last head = last_known fields.piece (head_now port fields joining) place sub head (heard.carried.more ∙ last) its_ident
+  true_behind last head = grind (arith, nat_tests, last_joined, its_ident)

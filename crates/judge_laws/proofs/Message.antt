@@ -1,5 +1,5 @@
 -- What the judge knows of a message after some of its pieces: the sum of its words, and the lengths of pieces.
-use Rattle.std.proofs.Common.{◌≡◌, ℕ, ◌+◌, ◌-◌, ◌/◌, ◌%◌, ◌<◌, ◌≤◌, ◌⊎◌, true, false, List, length, take, drop, None, refl, ap, arith}
+use Rattle.std.proofs.Common.{◌≡◌, ℕ, ◌+◌, ◌-◌, ◌/◌, ◌%◌, ◌<◌, ◌≤◌, ◌⊎◌, true, false, List, length, take, drop, Option, Some, None, refl, arith}
 use Rattle.std.specs.Prelude.{IfSome}
 use Rattle.std.proofs.Math.Seq.{take-add}
 use Rattle.std.proofs.lemmas.List.{length-append, length-take, take_all}
@@ -18,7 +18,7 @@ unfoldable use Rattle.afdx_frame.specs.Frame.{datagram}
 use Rattle.afdx_frame.proofs.Datagram.{length-udp_header}
 use Rattle.afdx_frame.specs.ReadBack.{IsPiece}
 use Rattle.afdx_frame.specs.declared.piece.Piece.{Piece}
-use Rattle.judge.specs.Joining.{is_of_port, begun, head_of, head_with, ident_before, ident_of, is_towards, next_of, right_sum}
+use Rattle.judge.specs.Joining.{is_of_port, begun, head_of, head_with, ident_before, ident_of, joined, is_towards, next_of, right_sum}
 unfoldable use Rattle.judge.specs.Joining.{fragment_deviation, head_now, length_deviation, message_deviation}
 use Rattle.judge.specs.Types.{Fields, Head, Joining, PieceIn}
 use Rattle.judge_laws.proofs.Carried.{Carries, sum_field}
@@ -73,27 +73,14 @@ module _ {end_system : ℕ} {port : PortPlan} {message : List ℕ} {place : ℕ}
   towards = grind (arith, nat_tests)
 
   pub its_port : piece.start ≡ 0 → is_of_port false port.vl.0 port.sub fields.flow port ≡ true
-  its_port first =
-      let header = carries.header first in
-      grind (arith, nat_tests)
+  its_port first = grind (arith, nat_tests)
 
   pub first_head : piece.start ≡ 0 → head_of port fields ≡ head_at end_system port message piece.len
-  first_head first =
-      let header = carries.header first in
-      rw (header.udp_len, header.udp_sum, carries.ends, carries.sum, first) refl
+  first_head first = grind (arith, nat_tests)
 
   pub later_head : piece.start % 2 ≡ 0 → piece.start ≤ 8 + length message
       → head_with (head_at end_system port message piece.start) fields ≡ head_at end_system port message (piece.start + piece.len)
-  later_head even inside =
-      let sum = sum_more (datagram end_system port message) piece.start piece.len even
-      (omega (arith, length-datagram end_system port message)) in
-      let said = carries.sum in
-      ap (λ (total : ℕ). let head : Head = record {
-        port = port;
-        udp_len = 8 + length message;
-        udp_sum = sum_field end_system port message;
-        sum = total;
-      } in head) (omega arith)
+  later_head even inside = grind (arith, nat_tests, sum_more, length-datagram, sum_field)
 
 -- The next piece is a step, or all that is left.
 pub record IsNext (room n start : ℕ) (piece : Piece) : Type 0 where
@@ -114,3 +101,14 @@ pub cut_length : (room n start : ℕ) (given : Piece) (piece : PieceIn) → 8 �
     → length_deviation room piece ≡ None
 unfolding length_deviation
 cut_length room n start given piece least next tight start_is len_is more_is = grind (arith, nat_tests)
+
+-- what is known after a piece
+pub more_joined : (piece : PieceIn) (head : Option Head) → piece.more ≡ true → (next_of (joined false piece head) ≡ Some (piece.start + piece.len))
+    × (ident_of (joined false piece head) ≡ Some piece.ident) × (begun (joined false piece head) ≡ head)
+    × (ident_before (joined false piece head) ≡ None)
+more_joined piece head more = rw more (refl, refl, refl, refl)
+
+pub last_joined : (piece : PieceIn) (head : Option Head) → piece.more ≡ false → (next_of (joined false piece head) ≡ Some 0)
+    × (ident_of (joined false piece head) ≡ Some ((piece.ident + 4) % 65536)) × (begun (joined false piece head) ≡ None)
+    × (ident_before (joined false piece head) ≡ None)
+last_joined piece head last = grind (arith, nat_tests)

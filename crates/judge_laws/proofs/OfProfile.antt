@@ -1,15 +1,13 @@
 -- The judge's rules of the layout are those of the profile.
-use Rattle.std.proofs.Common.{◌≡◌, ℕ, ◌+◌, ◌-◌, ◌%◌, ◌≤◌, ◌<◌, Bool, true, false, List, length, Option, Some, None, max, arith, get_or, not, ◌==◌, refl}
+use Rattle.std.proofs.Common.{◌≡◌, ℕ, ◌+◌, ◌-◌, ◌%◌, ◌≤◌, ◌<◌, ◌↔◌, Bool, true, false, List, length, Option, Some, None, max, arith, get_or, not, ◌==◌, refl}
 use Rattle.std.proofs.lemmas.Bool.Decides.{nat_tests}
 use Rattle.std.proofs.lemmas.List.Sums.{fails_before_first, position_or_len_is}
 use Rattle.afdx_frame.proofs.Datagram.{zeros_part, zeros_there}
 use Rattle.afdx_frame.specs.Frame.{more_fragments}
-use Rattle.afdx_frame.specs.Profile.{IsFrame, HasLinkHeader, HasInternetHeader, HasAddresses, HasZeroPadding, total_length, fragment_field}
+use Rattle.afdx_frame.specs.Profile.{HasLinkHeader, HasInternetHeader, HasAddresses, HasZeroPadding, total_length, fragment_field}
 use Rattle.judge.specs.Deviations.{first_of}
-use Rattle.std.specs.List.{position_or_len}
 use Rattle.judge.specs.declared.finding.Layout.{Layout}
-use Rattle.judge.specs.declared.finding.Layout.TheVariants.{TotalLength}
-use Rattle.judge.specs.Layouts.{unless_kept, has_version, has_protocol, has_header_sum, has_total, has_fragment, first_nonzero, padding_of}
+use Rattle.judge.specs.Layouts.{unless_kept, has_total, first_nonzero, padding_of}
 unfoldable use Rattle.judge.specs.Layouts.{link_broken, internet_broken, address_broken, padding_broken, layout_broken}
 use Rattle.judge.specs.Types.{Deviation}
 use Rattle.judge_laws.specs.Frames.{LayoutIsProfile}
@@ -18,102 +16,66 @@ pub none_both : (a b : Option Deviation) → first_of a b ≡ None → (a ≡ No
 none_both None b e = grind arith
 none_both (Some d) b e = cc
 
-link_from : (f : List ℕ) → link_broken f ≡ None → HasLinkHeader f
+link_rules : (f : List ℕ) → (link_broken f ≡ None) ↔ HasLinkHeader f
 unfolding link_broken
-link_from f e = grind (arith, nat_tests)
+link_rules f = grind (arith, nat_tests)
 
-link_to : (f : List ℕ) → HasLinkHeader f → link_broken f ≡ None
-unfolding link_broken
-link_to f e = grind (arith, nat_tests)
-
-kept_of : (kept : Bool) (rule : Layout) (byte : ℕ) → unless_kept kept rule byte ≡ None → kept ≡ true
-kept_of kept rule byte e = grind arith
+address_rules : (f : List ℕ) → (address_broken f ≡ None) ↔ HasAddresses f
+unfolding address_broken
+address_rules f = grind (arith, nat_tests)
 
 total_from : (f : List ℕ) → has_total f ≡ true → (21 ≤ total_length f) × (length f ≡ max 60 (15 + total_length f))
     × (more_fragments ≤ fragment_field f → (total_length f - 20) % 8 ≡ 0)
 total_from f e = grind (arith, nat_tests)
 
-internet_of : (f : List ℕ) → has_version false f ≡ true → has_total f ≡ true → has_fragment f ≡ true → has_protocol false f ≡ true
-    → has_header_sum f ≡ true → HasInternetHeader f
-internet_of f version total fragment protocol sum =
-    let whole = total_from f total in
-    record {
-      version = grind (arith, nat_tests);
-      total = whole.0;
-      flags = grind (arith, nat_tests);
-      units = whole.2;
-      within = grind (arith, nat_tests);
-      protocol = grind (arith, nat_tests);
-      checksum = grind (arith, nat_tests);
-    }
+kept_of : (kept : Bool) (rule : Layout) (byte : ℕ) → unless_kept kept rule byte ≡ None → kept ≡ true
+kept_of kept rule byte e = grind arith
 
 internet_from : (f : List ℕ) → internet_broken false f ≡ None → HasInternetHeader f × (length f ≡ max 60 (15 + total_length f))
 unfolding internet_broken
-internet_from f e =
-    let rest = (none_both _ _ e).1 in
-    let total = kept_of (has_total f) TotalLength 16 (none_both _ _ rest).0 in
-    let later = (none_both _ _ (none_both _ _ rest).1) in
-    let last = (none_both _ _ later.1) in (
-      internet_of f (kept_of _ _ _ (none_both _ _ e).0) total (kept_of _ _ _ later.0) (kept_of _ _ _ last.0) (kept_of _ _ _ last.1),
-      (total_from f total).1,
-    )
+internet_from f e = grind (arith, nat_tests, none_both, total_from, kept_of)
 
 internet_to : (f : List ℕ) → HasInternetHeader f → length f ≡ max 60 (15 + total_length f) → internet_broken false f ≡ None
 unfolding internet_broken
 internet_to f is fits = grind (arith, nat_tests)
 
-address_from : (f : List ℕ) → address_broken f ≡ None → HasAddresses f
-unfolding address_broken
-address_from f e = grind (arith, nat_tests)
-
-address_to : (f : List ℕ) → HasAddresses f → address_broken f ≡ None
-unfolding address_broken
-address_to f e = grind (arith, nat_tests)
-
 zero_from : (bytes : List ℕ) → first_nonzero bytes ≡ None → (j : ℕ) → j < length bytes → get_or bytes j 0 ≡ 0
 zero_from bytes e j below = grind (arith, nat_tests, fails_before_first)
 
 zero_to : (bytes : List ℕ) → ((j : ℕ) → j < length bytes → get_or bytes j 0 ≡ 0) → first_nonzero bytes ≡ None
-zero_to bytes zeros =
-    let none : position_or_len (λ (byte : ℕ). not (byte == 0)) bytes ≡ length bytes = position_or_len_is
-    (λ (byte : ℕ). not (byte == 0)) bytes (length bytes) 0 (omega arith) (λ k h. grind (arith, zeros k h)) (λ h. absurd (omega arith)) in
-    grind (arith, nat_tests)
+zero_to bytes zeros = rw (position_or_len_is (λ (byte : ℕ). not (byte == 0)) bytes (length bytes) 0 (omega arith)
+    (λ k h. grind (arith, zeros k h)) (λ h. absurd (omega arith))) (grind (arith, nat_tests))
 
-padding_from : (f : List ℕ) → padding_broken false f ≡ None → HasZeroPadding f
+padding_rules : (f : List ℕ) → (padding_broken false f ≡ None) ↔ HasZeroPadding f
 unfolding padding_broken
-padding_from f e k from below =
-    zeros_there f (14 + total_length f) (length f - 1) (omega arith) (zero_from (padding_of f) (grind arith)) k from (omega arith)
-
-padding_to : (f : List ℕ) → HasZeroPadding f → padding_broken false f ≡ None
-unfolding padding_broken
-padding_to f zeros = rw (zero_to (padding_of f) (zeros_part f (14 + total_length f) (length f - 1) (omega arith)
-    (λ k from below. zeros k from (omega arith)))) refl
-
-from_none : (f : List ℕ) → layout_broken false f ≡ None → IsFrame f
-unfolding layout_broken
-from_none f e =
-    let size = none_both _ _ e in
-    let link = none_both _ _ size.1 in
-    let internet = none_both _ _ link.1 in
-    let address = none_both _ _ internet.1 in
-    let header = internet_from f internet.0 in
-    record {
-      size = grind (arith, nat_tests);
-      link = link_from f link.0;
-      internet = header.0;
-      fits = header.1;
-      addresses = address_from f address.0;
-      padding = padding_from f address.1;
-    }
-
-to_none : (f : List ℕ) → IsFrame f → layout_broken false f ≡ None
-unfolding layout_broken
-to_none f is =
-    let link = link_to f is.link in
-    let internet = internet_to f is.internet is.fits in
-    let address = address_to f is.addresses in
-    let padding = padding_to f is.padding in
-    grind (arith, nat_tests)
+padding_rules f = (
+  λ e k from below. zeros_there f (14 + total_length f) (length f - 1) (omega arith) (zero_from (padding_of f) (grind arith)) k from
+      (omega arith),
+  λ zeros. rw (zero_to (padding_of f) (zeros_part f (14 + total_length f) (length f - 1) (omega arith)
+      (λ k from below. zeros k from (omega arith)))) refl,
+)
 
 pub layout_is_profile : LayoutIsProfile
-layout_is_profile f = (from_none f, to_none f)
+unfolding layout_broken
+layout_is_profile f = (
+  λ e.
+      let size = none_both _ _ e in
+      let link = none_both _ _ size.1 in
+      let internet = none_both _ _ link.1 in
+      let address = none_both _ _ internet.1 in
+      let header = internet_from f internet.0 in
+      record {
+        size = grind (arith, nat_tests);
+        link = (link_rules f).0 link.0;
+        internet = header.0;
+        fits = header.1;
+        addresses = (address_rules f).0 address.0;
+        padding = (padding_rules f).0 address.1;
+      },
+  λ is.
+      let link = (link_rules f).1 is.link in
+      let internet = internet_to f is.internet is.fits in
+      let address = (address_rules f).1 is.addresses in
+      let padding = (padding_rules f).1 is.padding in
+      grind (arith, nat_tests),
+)

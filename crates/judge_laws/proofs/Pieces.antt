@@ -14,7 +14,6 @@ use Rattle.afdx_frame.specs.Cutting.{Cutting, piece_at, pieces_left}
 use Rattle.afdx_frame.specs.Fragments.{Sent, blanked, fragments, fragments_from, fragments_left}
 use Rattle.afdx_frame.specs.Frame.{frame_of, unnumbered}
 use Rattle.afdx_frame.specs.Header.{number_in}
-use Rattle.afdx_frame.specs.Profile.{IsFrame}
 use Rattle.afdx_frame.specs.ReadBack.{IsPiece}
 use Rattle.afdx_frame.specs.declared.net.Net.{Net}
 use Rattle.afdx_frame.specs.declared.piece.Piece.{Piece}
@@ -106,8 +105,7 @@ pub comes_first : (plan : Plan) (k sub : ℕ) (net : Net) (sent : Sent) (place s
     → IsDue plan k sub sent start → due_from plan k net sent place start later
     ≡ unnumbered plan.end_system sent.port sent.bytes place (piece_at (room_at plan k) (8 + length sent.bytes) start) net
     ∷ due_from plan k net sent place (start + (piece_at (room_at plan k) (8 + length sent.bytes) start).len) later
-comes_first plan k sub net sent place start later least due =
-    rw (left_first (room_at plan k) (cut_at sent place start) (omega arith) due.inside) refl
+comes_first plan k sub net sent place start later least due = grind (arith, nat_tests, left_first)
 
 -- After it the rest is due.
 goes_on : (plan : Plan) (k sub : ℕ) (net : Net) (sent : Sent) (place start : ℕ) (later : List Sent) (joining : Joining) (piece : Piece)
@@ -184,13 +182,7 @@ module _ (plan : Plan) (k sub : ℕ) (net : Net) (sent : Sent) (place start numb
   admitted : (options : Options) (packet : Recorded) → options.arinc ≡ false → IsRecordedAs options.fcs frame packet.bytes
       → packet.original ≡ length packet.bytes → frame_in options packet ≡ Ok frame
   unfolding frame_in
-  admitted options packet own recorded whole =
-      let profile : IsFrame frame = (says plan.end_system sent.port sent.bytes place piece net number port_is
-      due.allowed.queued.most its_piece).frame in
-      let kept = (layout_is_profile frame).1 profile in
-      let total = total_ok plan.end_system sent.port sent.bytes place piece net number its_piece.len.1 in
-      let short : has_four_more frame ≡ false = grind (arith, nat_tests, size_is) in
-      rw (whole, own, read_ok options.fcs frame packet.bytes recorded short) (grind (arith, nat_tests))
+  admitted options packet own recorded whole = grind (arith, nat_tests, says, port_is, its_piece, layout_is_profile, total_ok, size_is, read_ok)
 
   placed : place_of plan net frame ≡ Ok k
   placed =
@@ -246,7 +238,6 @@ one_frame plan k sub net joining frame left valid inside named index long awaiti
       let link : IsLink (link_plan_at plan.links k) = valid.each_link k _ inside in
       let first = comes_first plan k sub net o.sent o.place o.start o.later (omega (arith, link.lmax)) o.due in
       let here = clean plan k sub net o.sent o.place o.start (number_in frame) joining valid inside named o.due o.known o.later o.later_are in
-      let same = o.left_is ∙ first in
       let front : unnumbered plan.end_system o.sent.port o.sent.bytes o.place (piece_at (room_at plan k) (8 + length o.sent.bytes) o.start) net
       ≡ blanked frame = cc in
       let back : due_from plan k net o.sent o.place (o.start + (piece_at (room_at plan k) (8 + length o.sent.bytes) o.start).len) o.later

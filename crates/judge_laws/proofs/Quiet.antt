@@ -24,7 +24,6 @@ use Rattle.judge.specs.Lines.{port_deviation, sub_in}
 use Rattle.judge.specs.Rules.{interface_on, on_link, size_deviation}
 unfoldable use Rattle.judge.specs.Rules.{place_of}
 use Rattle.judge.specs.declared.finding.Misfit.{Misfit}
-use Rattle.judge.specs.declared.finding.Misfit.TheVariants.{Offset, Identification}
 use Rattle.judge.specs.Types.{Fields, Flow, Head, Joining, PieceIn}
 use Rattle.judge_laws.proofs.Heard.{room_at}
 use Rattle.judge_laws.proofs.OfProfile.{layout_is_profile, none_both}
@@ -118,17 +117,7 @@ pub record Fits (room : ℕ) (fields : Fields) (joining : Joining) : Type 0 wher
 
 pub fits_says : (room : ℕ) (fields : Fields) (joining : Joining) → fragment_deviation room fields joining ≡ None → Fits room fields joining
 unfolding fragment_deviation
-fits_says room fields joining none =
-    let offset = none_both (misfit_if Offset (next_of joining) fields.piece.start) _ none in
-    let ident = none_both (misfit_if Identification (ident_of joining) fields.piece.ident) _ offset.1 in
-    let repeated = none_both _ _ ident.1 in
-    let addresses = none_both (addresses_deviation (begun joining) fields.flow) _ repeated.1 in
-    record {
-      start = λ n is. misfit_says Offset _ n _ offset.0 is;
-      ident = λ n is. misfit_says Identification _ n _ ident.0 is;
-      towards = λ head is. towards_says (begun joining) head fields.flow addresses.0 is;
-      len = addresses.1;
-    }
+fits_says room fields joining none = grind (arith, nat_tests, none_both, misfit_says, towards_says)
 
 -- a frame of a port is read
 pub reads : (plan : Plan) (k s : ℕ) (net : Net) (joining : Joining) (frame : List ℕ) (port : PortPlan) (ident : ℕ)

@@ -10,7 +10,7 @@ use Rattle.afdx_plan.specs.declared.port_plan.PortPlan.{PortPlan}
 use Rattle.afdx_frame.specs.Checksum.{word_sum}
 unfoldable use Rattle.afdx_frame.specs.Checksum.{checksum}
 use Rattle.afdx_frame.specs.Fragments.{blanked}
-use Rattle.afdx_frame.specs.Frame.{fragment_word, interface_byte}
+use Rattle.afdx_frame.specs.Frame.{interface_byte}
 unfoldable use Rattle.afdx_frame.specs.Frame.{addresses, header_front, internet_header, link_header, unnumbered}
 use Rattle.afdx_frame.specs.Header.{link_in}
 use Rattle.afdx_frame.specs.Profile.{IsFrame, fragment_field, total_length, word_at}
@@ -31,8 +31,7 @@ bytes_are (suc n) i f inside = rw (drop-cons f i 0 (omega arith)) (ap (λ (xs : 
 
 -- zeros alone
 zeros_are : (n : ℕ) (xs : List ℕ) → length xs ≡ n → ((j : ℕ) → j < length xs → get_or xs j 0 ≡ 0) → xs ≡ replicate n 0
-zeros_are n xs size zeros = same_number_lists xs (replicate n 0) (omega (arith, length-replicate {A = ℕ} n 0))
-    (λ k below. zeros k below ∙ sym (get_or-replicate n k 0 0 (omega arith)))
+zeros_are n xs size zeros = grind (arith, nat_tests, same_number_lists, length-replicate, get_or-replicate)
 
 -- what the judge reads in a frame of a port
 pub record IsRead (end_system : ℕ) (port : PortPlan) (net : Net) (ident : ℕ) (piece : Piece) (f : List ℕ) : Type 0 where
@@ -67,35 +66,20 @@ module _ (end_system : ℕ) (port : PortPlan) (net : Net) (ident : ℕ) (piece :
   link_part : bytes_at f 0 14 ≡ link_header port.vl.0 end_system net
   unfolding link_header
   link_part =
-      let fixed = read.profile.link in
       let link = word_is (get_or f 4 0) (get_or f 5 0) port.vl.0 read.link_is (read.octets 4) (read.octets 5) in
       let source = word_is (get_or f 9 0) (get_or f 10 0) end_system read.end_system_is (read.octets 9) (read.octets 10) in
       cc
 
   front_part : bytes_at f 14 10 ≡ header_front ident piece
   unfolding header_front
-  front_part =
-      let fixed = read.profile.internet in
-      let total = word_is (get_or f 16 0) (get_or f 17 0) (20 + piece.len) (omega (arith, fixed.total, read.len)) (read.octets 16) (read.octets 17) in
-      let name = word_is (get_or f 18 0) (get_or f 19 0) ident read.ident_is (read.octets 18) (read.octets 19) in
-      let field : fragment_field f ≡ fragment_word piece = grind (arith, nat_tests) in
-      let fragment = word_is (get_or f 20 0) (get_or f 21 0) (fragment_word piece) field (read.octets 20) (read.octets 21) in
-      cc
-
-  each : (i : ℕ) → get_or (bytes_at f 30 4) i 0 < 256
-  each zero = read.octets 30
-  each (suc zero) = read.octets 31
-  each (suc (suc zero)) = read.octets 32
-  each (suc (suc (suc zero))) = read.octets 33
-  each (suc (suc (suc (suc i)))) = omega arith
+  front_part = grind (arith, nat_tests, word_is)
 
   pub address_part : bytes_at f 26 8 ≡ addresses end_system port
   unfolding addresses
   address_part =
-      let source = read.profile.addresses.source in
       let system = word_is (get_or f 9 0) (get_or f 10 0) end_system read.end_system_is (read.octets 9) (read.octets 10) in
       let destination : bytes_at f 30 4 ≡ destination_address port =
-      one_address (bytes_at f 30 4) (destination_address port) (record { four = refl; bytes = each }) (destination_is port.vl.0 port.unicast is_port.unicast)
+      one_address (bytes_at f 30 4) (destination_address port) (record { four = refl; bytes = (read.octets 30, read.octets 31, read.octets 32, read.octets 33) }) (destination_is port.vl.0 port.unicast is_port.unicast)
       (omega (arith, read.address)) in
       cc
 

@@ -1,11 +1,11 @@
 -- The frames of a sub-VL on a network in which the judge finds nothing are the fragments of messages.
-use Rattle.std.proofs.Common.{◌≡◌, ℕ, suc, ◌+◌, ◌-◌, ◌%◌, ◌<◌, ◌≤◌, Bool, true, false, List, [], ◌∷◌, ◌++◌, length, map, take, drop, Option, Some, inl, inr, refl, sym, ap, ◌∙◌, arith, append_assoc}
+use Rattle.std.proofs.Common.{◌≡◌, ℕ, suc, ◌+◌, ◌<◌, ◌≤◌, true, false, List, [], ◌∷◌, ◌++◌, length, map, drop, Some, inl, inr, refl, sym, ap, ◌∙◌, arith, append_assoc}
 use Rattle.std.specs.Prelude.{All}
 use Rattle.std.proofs.lemmas.Bool.{cases_Bool, le-ltb, lt-ltb}
 use Rattle.std.proofs.lemmas.List.{append-nil, drop_at, length-append, length-drop, take_at}
 use Rattle.std.proofs.lemmas.List.Elements.{All-contains, All-cons, All-nil}
 use Rattle.afdx_plan.specs.Config.{Plan, IsPlan, link_plan_at}
-use Rattle.afdx_plan.specs.Plan.{IsLink, IsPort, identification, step_of}
+use Rattle.afdx_plan.specs.Plan.{IsLink, IsPort, step_of}
 use Rattle.afdx_plan.specs.declared.port_plan.PortPlan.{PortPlan}
 use Rattle.afdx_frame.proofs.CuttingLemmas.{left_none}
 use Rattle.afdx_frame.proofs.Twins.{cut_whole}
@@ -17,16 +17,16 @@ use Rattle.afdx_frame.specs.declared.net.Net.{Net}
 use Rattle.afdx_frame.specs.declared.piece.Piece.{Piece}
 use Rattle.afdx_legal.specs.Accepted.{IsAllowed}
 unfoldable use Rattle.judge.specs.Fields.{fields_of}
-use Rattle.judge.specs.Joining.{begun, head_now, ident_of, joined, next_of}
+use Rattle.judge.specs.Joining.{head_now, joined, next_of}
 use Rattle.judge.specs.Judging.{first_port}
 use Rattle.judge.specs.Lines.{new_sub}
-use Rattle.judge.specs.Types.{Head, Joining, PieceIn}
+use Rattle.judge.specs.Types.{Joining}
 use Rattle.judge_laws.proofs.Brings.{Brings, IsBetween, IsWithin, brings_first, brings_later, ends_says, size}
 use Rattle.judge_laws.proofs.Heard.{IsDue, room_at}
-use Rattle.judge_laws.proofs.Message.{IsNext}
+use Rattle.judge_laws.proofs.Message.{IsNext, last_joined, more_joined}
 use Rattle.judge_laws.proofs.Pieces.{comes_first, cut_at, due_from}
 use Rattle.judge_laws.proofs.Quiet.{IsQuiet, body_in, fits_says, length_says, piece_in}
-use Rattle.judge_laws.proofs.Rebuilt.{framed, rebuilt}
+use Rattle.judge_laws.proofs.Rebuilt.{rebuilt}
 use Rattle.judge_laws.proofs.Told.{IsWhole, tells_whole}
 
 -- what is known after a frame
@@ -56,25 +56,9 @@ pub record IsResumed (plan : Plan) (k s : ℕ) (net : Net) (place : ℕ) (frames
   pub allowed : All (IsAllowed plan k s) accepted
   pub frames_are : map blanked frames ≡ fragments_from plan.end_system (room_at plan k) net place accepted
 
--- what is known after a piece
-more_joined : (piece : PieceIn) (head : Option Head) → piece.more ≡ true → (next_of (joined false piece head) ≡ Some (piece.start + piece.len))
-    × (ident_of (joined false piece head) ≡ Some piece.ident) × (begun (joined false piece head) ≡ head)
-more_joined piece head more = rw more (refl, refl, refl)
-
-last_joined : (piece : PieceIn) (head : Option Head) → piece.more ≡ false → (next_of (joined false piece head) ≡ Some 0)
-    × (ident_of (joined false piece head) ≡ Some ((piece.ident + 4) % 65536))
-last_joined piece head last = rw last (refl, refl)
-
 -- there is one next piece
 piece_again : (room n start : ℕ) (piece : Piece) → IsNext room n start piece → piece_at room n start ≡ piece
-piece_again room n start piece next = elim next.len_is [
-  | inl more ↦ rw (lt-ltb room (n - start) more.2) (same_piece start _ true piece next.start_is more.1 more.0)
-  | inr last ↦ rw (le-ltb room (n - start) last.2) (same_piece start _ false piece next.start_is last.1 last.0)
-]
-  where
-    same_piece : (from len : ℕ) (more : Bool) (piece : Piece) → piece.start ≡ from → piece.len ≡ len → piece.more ≡ more
-        → (let made : Piece = record { start = from; len = len; more = more } in made) ≡ piece
-    same_piece from len more piece a b c = rw (← a, ← b, ← c) refl
+piece_again room n start piece next = grind (arith, lt-ltb, le-ltb)
 
 -- a whole message is due no longer
 past_end : (plan : Plan) (k : ℕ) (net : Net) (sent : Sent) (place start : ℕ) (later : List Sent) → 8 + length sent.bytes ≤ start
@@ -91,15 +75,7 @@ module _ (plan : Plan) (k s : ℕ) (net : Net) (place : ℕ) (given : List ℕ) 
   front_is : (bytes rest : List ℕ) → datagram plan.end_system port bytes ≡ given ++ (body_in frame ++ rest)
       → unnumbered plan.end_system port bytes place (piece_in frame) net ≡ blanked frame
   unfolding unnumbered
-  front_is bytes rest whole =
-      let long = size plan k s net place joining frame valid within quiet in
-      let body : take (piece_in frame).len (drop (piece_in frame).start (datagram plan.end_system port bytes)) ≡ body_in frame =
-      rw (whole, drop_at given (body_in frame ++ rest) (piece_in frame).start (sym brings.start)) (take_at (body_in frame) rest (piece_in frame).len long.3) in
-      ap (λ (ident : ℕ). framed plan.end_system port net ident (piece_in frame)
-      (take (piece_in frame).len (drop (piece_in frame).start (datagram plan.end_system port bytes))))
-      (ap (identification place) brings.sender.its)
-      ∙ ap (framed plan.end_system port net (identification place s) (piece_in frame)) body
-      ∙ sym (rebuilt plan.end_system port net (identification place s) (piece_in frame) frame is_port brings.read)
+  front_is bytes rest whole = grind (arith, size, drop_at, take_at, rebuilt, is_port)
 
   -- the length of what came with it
   grown : length (given ++ body_in frame) ≡ length given + (piece_in frame).len
@@ -109,30 +85,23 @@ module _ (plan : Plan) (k s : ℕ) (net : Net) (place : ℕ) (given : List ℕ) 
   cut_len : ((piece_in frame).more ≡ true → (piece_in frame).len ≡ step_of (room_at plan k))
       × ((piece_in frame).more ≡ false → 0 < (piece_in frame).start → room_at plan k < step_of (room_at plan k) + (piece_in frame).len)
   unfolding fields_of
-  cut_len = length_says (room_at plan k) (fields_of frame).piece (fits_says (room_at plan k) (fields_of frame) joining quiet.fits).len
-      (omega (arith, size plan k s net place joining frame valid within quiet))
+  cut_len = grind (arith, length_says, fits_says, size)
 
   after_more : (piece_in frame).more ≡ true → IsWithin plan k s place (given ++ body_in frame) port (joining_after plan k frame joining)
   unfolding fields_of
-  after_more more =
-      let said = more_joined (fields_of frame).piece (head_now (first_port false plan.ports (link_plan_at plan.links k).id (fields_of frame))
-      (fields_of frame) joining) more in
-      record {
-        next = said.0 ∙ ap Some (omega (arith, grown, brings.start));
-        ident = said.1 ∙ ap Some brings.read.ident_is;
-        head = brings.head;
-        begun_is = said.2 ∙ brings.known;
-        tells = brings.tells;
-        sender = brings.sender;
-        units = omega (arith, grown, cut_len.0 more, brings.units);
-      }
+  after_more more = record {
+    next = grind (arith, more_joined, grown);
+    ident = grind (arith, more_joined);
+    head = brings.head;
+    begun_is = grind (arith, more_joined);
+    tells = brings.tells;
+    sender = brings.sender;
+    units = omega (arith, grown, cut_len.0 more, brings.units);
+  }
 
   after_last : (piece_in frame).more ≡ false → IsBetween s (suc place) (joining_after plan k frame joining)
   unfolding fields_of
-  after_last last =
-      let said = last_joined (fields_of frame).piece (head_now (first_port false plan.ports (link_plan_at plan.links k).id (fields_of frame))
-      (fields_of frame) joining) last in
-      record { next = said.0; ident = said.1 ∙ ap Some (omega (arith, brings.read.ident_is)) }
+  after_last last = grind (arith, last_joined)
 
   -- the frames of a message from this one on
   frames_from : (bytes rest : List ℕ) (later : List Sent) (fs : List (List ℕ)) → datagram plan.end_system port bytes ≡ given ++ (body_in frame ++ rest)
@@ -152,7 +121,6 @@ module _ (plan : Plan) (k s : ℕ) (net : Net) (place : ℕ) (given : List ℕ) 
   finish_more : (fs : List (List ℕ)) → (piece_in frame).more ≡ true → IsFinished plan k s net place (given ++ body_in frame) port fs
       → IsFinished plan k s net place given port (frame ∷ fs)
   finish_more fs more fin =
-      let long = size plan k s net place joining frame valid within quiet in
       let step = cut_len.0 more in
       let size = grown in
       let inside = fin.due.inside in

@@ -75,12 +75,7 @@ none_says len head none = grind (arith, nat_tests)
 -- eight bytes as four words
 four_words : (given : List ℕ) (a b c d : ℕ) → ((i : ℕ) → get_or given i 0 < 256) → word_at given 0 ≡ a → word_at given 2 ≡ b
     → word_at given 4 ≡ c → word_at given 6 ≡ d → two_bytes a ++ two_bytes b ++ two_bytes c ++ two_bytes d ≡ bytes_at given 0 8
-four_words given a b c d small is_a is_b is_c is_d =
-    let at_a = word_is (get_or given 0 0) (get_or given 1 0) a is_a (small 0) (small 1) in
-    let at_b = word_is (get_or given 2 0) (get_or given 3 0) b is_b (small 2) (small 3) in
-    let at_c = word_is (get_or given 4 0) (get_or given 5 0) c is_c (small 4) (small 5) in
-    let at_d = word_is (get_or given 6 0) (get_or given 7 0) d is_d (small 6) (small 7) in
-    cc
+four_words given a b c d small is_a is_b is_c is_d = grind (arith, nat_tests, word_is)
 
 parts : (given : List ℕ) → 8 ≤ length given → bytes_at given 0 8 ++ drop 8 given ≡ given
 parts given long = ap (λ (xs : List ℕ). xs ++ drop 8 given) (sym (bytes_are 8 0 given (omega arith))) ∙ take-append-drop 8 given
@@ -100,8 +95,6 @@ header_back end_system port given head is_port tells none =
     + (65535 - word_at given 6)) % 65535 + 17 + length given) =
     sym tells.udp_sum_is ∙ said.3 ∙ ap (λ (p : PortPlan). udp_field p.checksum (head.sum + 17 + length given)) tells.port_is
     ∙ ap (λ (n : ℕ). udp_field port.checksum (n + 17 + length given)) kept in
-    let ports = is_port.source in
-    let other_ports = is_port.destination in
     let field : word_at given 6 ≡ udp_field port.checksum (udp_sum end_system port (drop 8 given)) =
     sym (field_back port.checksum (word_sum (addresses end_system port)) others (word_at given 6) (length given) _
     (omega (arith, tells.octets 6, tells.octets 7)) sent (omega (arith, length-drop 8 given, tells.source, tells.destination, size, tells.long))) in
