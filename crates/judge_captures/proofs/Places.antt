@@ -1,0 +1,82 @@
+-- What is left of the packets of two networks from places on.
+use Rattle.std.proofs.Common.{◌≡◌, ℕ, ◌+◌, ◌-◌, ◌<◌, ◌≤◌, List, [], ◌∷◌, map, length, drop, get_or, Bool, Some, None, arith, refl, length-drop}
+use Rattle.std.proofs.lemmas.List.{drop_more, get_or-map, length-map}
+use Rattle.afdx_frame.specs.declared.net.Net.TheVariants.{A, B}
+use Rattle.capture.specs.Recording.{Recorded, recorded}
+use Rattle.capture.specs.declared.packet.Packet.{Packet}
+use Rattle.judge.specs.Judging.{OnNet, Judging, after_packet, found_with_packet, found_from}
+use Rattle.judge.specs.declared.finding.Finding.{Finding}
+use Rattle.judge_captures.specs.Merging.{on_net, of_net, merged, from_places, next_net, BeginsOn}
+
+-- the packet at a place begins what is left from there on
+pub at_place : (ps : List Packet) (i : ℕ) (d : Packet) → i < length ps
+    → drop i (map recorded ps) ≡ recorded (get_or ps i d) ∷ drop (i + 1) (map recorded ps)
+at_place ps i d within =
+    let within' : i < length (map recorded ps) = rw length-map within in
+    rw (drop_more (map recorded ps) i (recorded d) within', get_or-map recorded ps i d) refl
+
+-- the network of the next packet, where one network has none left
+alone_next : (xs ys : List Recorded) → (length ys ≡ 0 → 0 < length xs → next_net xs ys ≡ Some A)
+    × (length xs ≡ 0 → 0 < length ys → next_net xs ys ≡ Some B) × (length xs ≡ 0 → length ys ≡ 0 → next_net xs ys ≡ None)
+alone_next [] [] = grind arith
+alone_next [] (y ∷ ys) = grind arith
+alone_next (x ∷ xs) [] = grind arith
+alone_next (x ∷ xs) (y ∷ ys) = grind arith
+
+left_len : (ps : List Packet) (i : ℕ) → length (drop i (map recorded ps)) ≡ length ps - i
+left_len ps i = simp (length-drop, length-map) refl
+
+pub ended : (a b : List Packet) (i j : ℕ)
+    → (length b ≤ j → i < length a → next_net (drop i (map recorded a)) (drop j (map recorded b)) ≡ Some A)
+    × (length a ≤ i → j < length b → next_net (drop i (map recorded a)) (drop j (map recorded b)) ≡ Some B)
+    × (length a ≤ i → length b ≤ j → next_net (drop i (map recorded a)) (drop j (map recorded b)) ≡ None)
+ended a b i j = grind (arith, alone_next (drop i (map recorded a)) (drop j (map recorded b)), left_len a i, left_len b j)
+
+-- the packet of A, or of B, that comes next is the first of both networks'
+a_first : (alone : Bool) (n m : ℕ) (x : Recorded) (xs ys : List Recorded) → BeginsOn alone A (x ∷ xs)
+    → BeginsOn alone B ys → next_net (x ∷ xs) ys ≡ Some A
+    → merged (of_net alone A n (x ∷ xs)) (of_net alone B m ys)
+    ≡ on_net A n x ∷ merged (of_net alone A (n + 1) xs) (of_net alone B m ys)
+a_first alone n m x xs [] of_a of_b is = rw of_a refl
+a_first alone n m x xs (y ∷ ys) of_a of_b is = grind arith
+
+b_first : (alone : Bool) (n m : ℕ) (xs : List Recorded) (y : Recorded) (ys : List Recorded) → BeginsOn alone A xs
+    → BeginsOn alone B (y ∷ ys) → next_net xs (y ∷ ys) ≡ Some B
+    → merged (of_net alone A n xs) (of_net alone B m (y ∷ ys))
+    ≡ on_net B m y ∷ merged (of_net alone A n xs) (of_net alone B (m + 1) ys)
+b_first alone n m [] y ys of_a of_b is = rw of_b refl
+b_first alone n m (x ∷ xs) y ys of_a of_b is = grind arith
+
+none_first : (alone : Bool) (n m : ℕ) (xs ys : List Recorded) → next_net xs ys ≡ None
+    → merged (of_net alone A n xs) (of_net alone B m ys) ≡ []
+none_first alone n m [] [] is = refl
+none_first alone n m [] (y ∷ ys) is = cc
+none_first alone n m (x ∷ xs) [] is = cc
+none_first alone n m (x ∷ xs) (y ∷ ys) is = grind arith
+
+-- the packets from these places on, of which A's or B's is next
+pub next_a : (alone : Bool) (a b : List Packet) (i j k : ℕ) (d : Packet) → i < length a
+    → BeginsOn alone A (drop i (map recorded a)) → BeginsOn alone B (drop j (map recorded b))
+    → next_net (drop i (map recorded a)) (drop j (map recorded b)) ≡ Some A
+    → of_net alone A (k + 1) (drop k (map recorded a)) ≡ of_net alone A (i + 1 + 1) (drop (i + 1) (map recorded a))
+    → from_places alone (map recorded a) i (map recorded b) j
+    ≡ on_net A (i + 1) (recorded (get_or a i d)) ∷ from_places alone (map recorded a) k (map recorded b) j
+next_a alone a b i j k d within of_a of_b next on =
+    let is = at_place a i d within in
+    rw (on, is) (a_first alone (i + 1) (j + 1) _ _ _ (rw is at of_a) of_b (rw is at next))
+
+pub next_b : (alone : Bool) (a b : List Packet) (i j k : ℕ) (d : Packet) → j < length b
+    → BeginsOn alone A (drop i (map recorded a)) → BeginsOn alone B (drop j (map recorded b))
+    → next_net (drop i (map recorded a)) (drop j (map recorded b)) ≡ Some B
+    → of_net alone B (k + 1) (drop k (map recorded b)) ≡ of_net alone B (j + 1 + 1) (drop (j + 1) (map recorded b))
+    → from_places alone (map recorded a) i (map recorded b) j
+    ≡ on_net B (j + 1) (recorded (get_or b j d)) ∷ from_places alone (map recorded a) i (map recorded b) k
+next_b alone a b i j k d within of_a of_b next on =
+    let is = at_place b j d within in
+    rw (on, is) (b_first alone (i + 1) (j + 1) _ _ _ of_a (rw is at of_b) (rw is at next))
+
+-- what is found from the first packet on is found from the next one on, by the judge after the first
+pub found_on : (ps rest : List OnNet) (p : OnNet) (before after : Judging) (found found' wanted : List Finding)
+    → ps ≡ p ∷ rest → found_from ps before found ≡ wanted → after ≡ after_packet p.net p.number p.packet before
+    → found' ≡ found_with_packet p.net p.number p.packet before found → found_from rest after found' ≡ wanted
+found_on ps rest p before after found found' wanted is so after_is found_is = rw (after_is, found_is) (rw is at so)

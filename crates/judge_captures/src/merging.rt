@@ -1,0 +1,94 @@
+//! The packets of two networks, judged in the order of their times.
+ghost use Rattle.std.specs.Prelude.{◌≡◌, ◌+◌, ◌<◌, ◌≤◌, Some, map, length, drop, IfOk};
+ghost use Rattle.capture.specs.Recording.{recorded};
+ghost use Rattle.judge.specs.Judging.{findings};
+ghost use Rattle.judge_captures.specs.Merging.{is_of, next_net, of_net, time_of, from_places, BeginsOn};
+
+use afdx_frame::Net;
+use afdx_plan::Config;
+use capture::Packet;
+use judge::{Finding, Judge, Options};
+use std::alloc::{AllocError, Global};
+
+/// Whether a packet is of a network: any in a capture of that network alone, otherwise those of its interface.
+fn is_of(alone: bool, net: Net, packet: &Packet<'_>) -> bool
+    ensures { result ≡ is_of alone net (recorded packet.now) }
+{
+    match packet.network {
+        Some(on) => alone || on == net,
+        None => alone,
+    }
+}
+
+/// The time by which a packet is merged: 0 if none was recorded.
+fn time_of(packet: &Packet<'_>) -> u128
+    ensures { result ≡ time_of (recorded packet.now) }
+{
+    packet.at.unwrap_or(0)
+}
+
+/// The place of the first packet of a network from a place on, or the number of all packets if there is none.
+#[tactic(auto, using(crate::proofs::Places::at_place))]
+fn place_from(packets: &[Packet<'_>], from: usize, alone: bool, net: Net) -> usize
+    requires { from ≤ length packets.now }
+    ensures after { from ≤ result }
+    ensures within { result ≤ length packets.now }
+    ensures same { of_net alone net (result + 1) (drop result (map recorded packets.now))
+        ≡ of_net alone net (from + 1) (drop from (map recorded packets.now)) }
+    ensures first { BeginsOn alone net (drop result (map recorded packets.now)) }
+{
+    let mut place = from;
+    'others: while place < packets.len() && !is_of(alone, net, &packets[place]) {
+        place += 1;
+    }
+    place
+}
+
+/// The network whose packet comes next, of those of A and of B at these places.
+#[tactic(auto, using(crate::proofs::Places::at_place, crate::proofs::Places::ended))]
+fn next_net(a: &[Packet<'_>], on_a: usize, b: &[Packet<'_>], on_b: usize) -> Option<Net>
+    ensures next { result ≡ next_net (drop on_a (map recorded a.now)) (drop on_b (map recorded b.now)) }
+    ensures in_a { result ≡ Some Net.A → on_a < length a.now }
+    ensures in_b { result ≡ Some Net.B → on_b < length b.now }
+{
+    match (on_a < a.len(), on_b < b.len()) {
+        (false, false) => None,
+        (false, true) => Some(Net::B),
+        (true, false) => Some(Net::A),
+        (true, true) if time_of(&b[on_b]) < time_of(&a[on_a]) => Some(Net::B),
+        (true, true) => Some(Net::A),
+    }
+}
+
+/// What is wrong with the packets `a` and `b` of two networks, by the plan of their end system. They are those of two
+/// captures, each of one network alone, or twice those of one capture. Fails only if memory runs out.
+pub(crate) fn judge_packets<'a>(
+    alloc: Global,
+    plan: Config,
+    options: Options,
+    alone: bool,
+    a: &[Packet<'a>],
+    b: &[Packet<'a>],
+) -> Result<Vec<Finding>, AllocError>
+    ensures { IfOk result (λ found. found.items
+        ≡ findings plan options (from_places alone (map recorded a.now) 0 (map recorded b.now) 0)) }
+{
+    let mut judge = Judge::new(alloc, plan, options)?;
+    let mut found = Vec::new(alloc);
+    let mut on_a = place_from(a, 0, alone, Net::A);
+    let mut on_b = place_from(b, 0, alone, Net::B);
+    'packets: while let Some(net) = next_net(a, on_a, b, on_b) {
+        match net {
+            Net::A => {
+                judge.take(Net::A, on_a as u64 + 1, &a[on_a], &mut found)?;
+                on_a = place_from(a, on_a + 1, alone, Net::A);
+            }
+            Net::B => {
+                judge.take(Net::B, on_b as u64 + 1, &b[on_b], &mut found)?;
+                on_b = place_from(b, on_b + 1, alone, Net::B);
+            }
+        }
+    }
+    judge.end(&mut found)?;
+    Ok(found)
+}
