@@ -47,13 +47,6 @@ b_first : (alone : Bool) (n m : ℕ) (xs : List Recorded) (y : Recorded) (ys : L
 b_first alone n m [] y ys of_a of_b is = rw of_b refl
 b_first alone n m (x ∷ xs) y ys of_a of_b is = grind arith
 
-none_first : (alone : Bool) (n m : ℕ) (xs ys : List Recorded) → next_net xs ys ≡ None
-    → merged (of_net alone A n xs) (of_net alone B m ys) ≡ []
-none_first alone n m [] [] is = refl
-none_first alone n m [] (y ∷ ys) is = cc
-none_first alone n m (x ∷ xs) [] is = cc
-none_first alone n m (x ∷ xs) (y ∷ ys) is = grind arith
-
 -- the packets from these places on, of which A's or B's is next
 pub next_a : (alone : Bool) (a b : List Packet) (i j k : ℕ) (d : Packet) → i < length a
     → BeginsOn alone A (drop i (map recorded a)) → BeginsOn alone B (drop j (map recorded b))

@@ -1,7 +1,6 @@
-//! Judges captures that are in memory.
+//! Judges the packets of captures that are in memory.
 #![tactic(auto)]
 
 mod merging;
-mod verdict;
 
-pub use verdict::{Captures, Seen, Verdict, judge_captures};
+pub use merging::judge_packets;

@@ -60,9 +60,10 @@ fn next_net(a: &[Packet<'_>], on_a: usize, b: &[Packet<'_>], on_b: usize) -> Opt
     }
 }
 
-/// What is wrong with the packets `a` and `b` of two networks, by the plan of their end system. They are those of two
-/// captures, each of one network alone, or twice those of one capture. Fails only if memory runs out.
-pub(crate) fn judge_packets<'a>(
+/// What is wrong with the packets of two networks, by the plan of their end system: with `alone` the packets `a` of a
+/// capture of network A alone and `b` of one of B, otherwise twice those of a capture of both. The packets of a network
+/// stay in their order; of two networks' the earlier one comes first, and A's at one time. Fails only if memory runs out.
+pub fn judge_packets<'a>(
     alloc: Global,
     plan: Config,
     options: Options,
