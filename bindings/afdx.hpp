@@ -13,13 +13,14 @@
 #ifndef AFDX_HPP
 #define AFDX_HPP
 
-#include "afdx.h"
+#include "afdx_judge.h"
 
 #include <cstddef>
 #include <cstdint>
 #include <memory>
 #include <stdexcept>
 #include <string>
+#include <utility>
 #include <vector>
 
 namespace afdx {
@@ -97,6 +98,14 @@ struct BothDown : Error { using Error::Error; };
 /* An allocation failed. */
 struct OutOfMemory : Error { using Error::Error; };
 
+/* A capture is cut off or malformed: what was found up to there, and what was read of the captures. */
+struct BadCapture : Error {
+    BadCapture(std::vector<afdx_finding> found, const afdx_judged &read)
+        : Error(AFDX_CALL_OTHER, AFDX_BAD_CAPTURE), findings(std::move(found)), judged(read) {}
+    std::vector<afdx_finding> findings;
+    afdx_judged judged;
+};
+
 namespace detail {
 
 /* Throws the exception of a number that a call returned, if it isn't AFDX_OK. */
@@ -153,6 +162,47 @@ inline std::string explain(const std::string &text) {
     }
     detail::want(answer);
     return told;
+}
+
+namespace detail {
+
+/* Judges by a call that is passed room for findings. */
+template <typename Call> std::vector<afdx_finding> judged(Call call) {
+    std::vector<afdx_finding> findings;
+    afdx_judged judged = afdx_judged();
+    std::uint8_t answer = call(findings.data(), findings.size(), &judged);
+    if (judged.findings > 0) {
+        findings.resize(judged.findings);
+        answer = call(findings.data(), findings.size(), &judged);
+    }
+    if (answer == AFDX_BAD_CAPTURE) throw BadCapture(std::move(findings), judged);
+    want(answer, AFDX_CALL_OPEN);
+    return findings;
+}
+
+inline const std::uint8_t *bytes_of(const std::string &text) {
+    return reinterpret_cast<const std::uint8_t *>(text.data());
+}
+
+} // namespace detail
+
+/* What is wrong with a capture of both networks, by the text of a configuration: nothing, if it keeps it. Throws
+   ConfigError, BadCapture or OutOfMemory. */
+inline std::vector<afdx_finding> judge(const std::string &plan, const std::string &capture,
+                                       const afdx_judge_options &options) {
+    return detail::judged([&](afdx_finding *findings, std::size_t room, afdx_judged *judged) {
+        return afdx_judge(detail::bytes_of(plan), plan.size(), &options, detail::bytes_of(capture), capture.size(),
+                          findings, room, judged);
+    });
+}
+
+/* The same of a capture of network A and one of network B. */
+inline std::vector<afdx_finding> judge(const std::string &plan, const std::string &a, const std::string &b,
+                                       const afdx_judge_options &options) {
+    return detail::judged([&](afdx_finding *findings, std::size_t room, afdx_judged *judged) {
+        return afdx_judge_pair(detail::bytes_of(plan), plan.size(), &options, detail::bytes_of(a), a.size(),
+                               detail::bytes_of(b), b.size(), findings, room, judged);
+    });
 }
 
 /* A port of an end system. Its accepted messages are still transmitted after it is freed, but its end system can't

@@ -50,7 +50,7 @@ trap 'rm -r "$room"' EXIT
 # One archive, which includes the kit's part of the C library. That allocates by malloc.
 cp crates/afdx/out/libafdx.a "$room/libafdx.a"
 (cd "$room" && ${AR:-ar} x "$kit/c/liblibc_c.a" && ${AR:-ar} qs libafdx.a ./*.o)
-# The shared library exports exactly the calls of afdx.h.
+# The shared library exports exactly the calls of the headers.
 echo '{ global: afdx_*; local: *; };' > "$room/exports"
 ${CC:-cc} -shared -Wl,-soname,"$shared",-z,defs,--version-script="$room/exports" -Wl,--whole-archive "$room/libafdx.a" \
     -Wl,--no-whole-archive -o "$room/$shared"
@@ -69,7 +69,7 @@ into() {
 for it in afdx.pc afdxConfig.cmake afdxConfigVersion.cmake afdx_bench.1 afdx_play.1; do
     sed "s/@VERSION@/$version/; s/@SHARED@/$shared/" "install/$it" > "$room/$it"
 done
-into include crates/afdx/afdx.h bindings/afdx.hpp
+into include crates/afdx/{afdx,afdx_judge}.h bindings/afdx.hpp
 into lib "$room/libafdx.a" "$room/$shared"
 ln -sf "$shared" "$prefix/lib/libafdx.so"
 into lib/pkgconfig "$room/afdx.pc"

@@ -25,9 +25,9 @@ WARNINGS = ["-Wall", "-Wextra", "-Werror", "-Wpedantic", "-Wconversion", "-g", "
 SANITIZERS = ["-fsanitize=address,undefined", "-fno-sanitize-recover=all"]
 VERSION = re.search('AFDX_VERSION "(.*)"', text_of("crates/afdx/afdx.h"))[1]
 FILES = f"""\
-bin/afdx_bench bin/afdx_play include/afdx.h include/afdx.hpp
+bin/afdx_bench bin/afdx_play include/afdx.h include/afdx_judge.h include/afdx.hpp
 lib/libafdx.a lib/libafdx.so lib/libafdx.so.1 lib/pkgconfig/afdx.pc lib/cmake/afdx/afdxConfig.cmake lib/cmake/afdx/afdxConfigVersion.cmake
-lib/python/afdx/__init__.py lib/python/afdx/_library.py lib/python/afdx/errors.py
+lib/python/afdx/__init__.py lib/python/afdx/_findings.py lib/python/afdx/_library.py lib/python/afdx/errors.py
 lib/python/afdx/py.typed share/afdx/afdx-{VERSION}-py3-none-linux_x86_64.whl share/afdx/afdx.lua
 share/bash-completion/completions/afdx_bench share/zsh/site-functions/_afdx_bench
 share/fish/vendor_completions.d/afdx_bench.fish share/man/man1/afdx_bench.1 share/man/man1/afdx_play.1 share/doc/afdx/LICENSE-MIT
@@ -93,8 +93,8 @@ def install(tried):
 
 def try_headers(tried):
     """The headers alone, in each version of C and C++, by each compiler that is installed."""
-    ways = [("afdx.h", name, "c", it) for name in ("gcc", "clang") for it in ("c99", "c11", "c17")]
-    ways += [(header, name, "c++", it) for header in ("afdx.h", "afdx.hpp") for name in ("g++", "clang++") for it in ("c++11", "c++17", "c++20")]
+    ways = [("afdx_judge.h", name, "c", it) for name in ("gcc", "clang") for it in ("c99", "c11", "c17")]
+    ways += [(header, name, "c++", it) for header in ("afdx_judge.h", "afdx.hpp") for name in ("g++", "clang++") for it in ("c++11", "c++17", "c++20")]
     for header, name, language, version in ways:
         if shutil.which(name):
             source = f"{tried.room}/empty/header.c"
@@ -106,7 +106,7 @@ def try_headers(tried):
 
 def try_readers(tried):
     """What doxygen and clang-tidy find in the headers and the examples, where these are installed."""
-    settings = f"INPUT={tried.prefix}/include/afdx.h\nGENERATE_LATEX=NO\nQUIET=YES\nHAVE_DOT=NO\nEXTRACT_STATIC=YES\nOPTIMIZE_OUTPUT_FOR_C=YES\n"
+    settings = f"INPUT={tried.prefix}/include/afdx.h {tried.prefix}/include/afdx_judge.h\nGENERATE_LATEX=NO\nQUIET=YES\nHAVE_DOT=NO\nEXTRACT_STATIC=YES\nOPTIMIZE_OUTPUT_FOR_C=YES\n"
     with open(f"{tried.room}/empty/Doxyfile", "w", encoding="utf-8") as file:
         file.write(f"{settings}OUTPUT_DIRECTORY={tried.room}/pages\n")
     os.mkdir(f"{tried.room}/pages")
@@ -227,12 +227,13 @@ def try_cmake(tried):
 
 
 def try_shared(tried):
-    """The shared library exports exactly the calls of the header, and a program linked with it finds it by its version."""
+    """The shared library exports exactly the calls of the headers, and a program linked with it finds it by its version."""
     listed, read = shutil.which("nm"), shutil.which("readelf")
     if tried.lacks("binutils", listed and read):
         return
     exported = {line.split()[-1] for line in tried.ran([listed, "-D", "--defined-only", f"{tried.prefix}/lib/libafdx.so"]).stdout.splitlines()}
-    wanted = set(re.findall(r"^(?!static|typedef)\w+ (afdx_\w+)\(", text_of("crates/afdx/afdx.h"), re.MULTILINE))
+    headers = text_of("crates/afdx/afdx.h") + text_of("crates/afdx/afdx_judge.h")
+    wanted = set(re.findall(r"^(?!static|typedef)\w+ (afdx_\w+)\(", headers, re.MULTILINE))
     tried.tries.show(f"libafdx.so exports {len(wanted)} calls", [] if exported == wanted else [str(sorted(exported ^ wanted))])
     for it, tag in ((f"{tried.prefix}/lib/libafdx.so", "SONAME"), (f"{tried.room}/empty/shared", "NEEDED")):
         if tag == "NEEDED":

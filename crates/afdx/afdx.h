@@ -153,7 +153,8 @@ enum {
     AFDX_SMALL_BUFFER = 41, /**< a frame has more bytes than the buffer, or there is no room for all */
     AFDX_PORT_MISSING = 42, /**< a port of the configuration is out */
     AFDX_GATHERED = 43,     /**< the ports were gathered: none is taken, given back, closed or gathered any more */
-    AFDX_NOT_GATHERED = 44  /**< the ports weren't gathered yet */
+    AFDX_NOT_GATHERED = 44, /**< the ports weren't gathered yet */
+    AFDX_BAD_CAPTURE = 45   /**< of afdx_judge.h: a capture is cut off or malformed */
 };
 
 /** Opens an end system from the text of a configuration, `length` bytes, which are copied. Allocates all memory that
@@ -381,7 +382,8 @@ static inline const char *afdx_answer_name(afdx_call call, uint8_t answer) {
     static const char *const of_line[] = {"AFDX_LINE_WORD", "AFDX_LINE_NUMBER", "AFDX_LINE_HEX", "AFDX_LINE_EXTRA", "AFDX_LINE_LONG"};
     static const char *const of_any[] = {
         "AFDX_NOT_HELD", "AFDX_WRONG_HANDLE", "AFDX_HELD", "AFDX_TIME_BACK", "AFDX_NO_PORT", "AFDX_NO_SUB", "AFDX_NO_LINK",
-        "AFDX_NO_NETWORK", "AFDX_NO_FRAME", "AFDX_SMALL_BUFFER", "AFDX_PORT_MISSING", "AFDX_GATHERED", "AFDX_NOT_GATHERED"};
+        "AFDX_NO_NETWORK", "AFDX_NO_FRAME", "AFDX_SMALL_BUFFER", "AFDX_PORT_MISSING", "AFDX_GATHERED", "AFDX_NOT_GATHERED",
+        "AFDX_BAD_CAPTURE"};
     size_t k = answer;
     if (k == AFDX_OK) return "AFDX_OK";
     if (k == AFDX_MEMORY) return "AFDX_MEMORY";

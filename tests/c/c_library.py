@@ -5,7 +5,7 @@
 
 Of what `rt ci` has left it takes the libraries of the crates and the program `afdx_bench`, and it takes a C compiler:
 `CC`, or `cc`. It builds the C library first, which `rt ci` only proves, as `rt lib` does but without proving all below it
-once more. With --built it takes the library that is there. The tests of the calls (`c_calls.c`, `owners.c`, `lines.c`) and the
+once more. With --built it takes the library that is there. The tests of the calls (`c_calls.c`, `owners.c`, `lines.c`, `judging.c`) and the
 example are compiled with all warnings as errors, as they are and with the sanitizers of addresses, leaks and undefined
 behaviour. What the example prints with `--dump` has to be what `afdx_bench run` prints. The last line is 'N passed, M
 failed', and the exit status 0 exactly if nothing failed.
@@ -21,6 +21,9 @@ from glob import glob
 sys.dont_write_bytecode = True
 sys.path.append(os.path.dirname(os.path.dirname(os.path.abspath(__file__))))
 from trying import ROOT, Tries, compiler, text_of
+
+sys.path.append(f"{ROOT}/tests/judge")
+import calls
 
 CRATE = f"{ROOT}/crates/afdx"
 LIBRARY = f"{CRATE}/out/libafdx.a"
@@ -95,7 +98,7 @@ def try_header(tries, room):
     """The header alone, as strict C99 and as C++."""
     source = f"{room}/header.c"
     with open(source, "w", encoding="utf-8") as file:
-        file.write('#include "afdx.h"\n#include "afdx.h"\nint main(void) { return AFDX_A; }\n')
+        file.write('#include "afdx_judge.h"\n#include "afdx_judge.h"\nint main(void) { return AFDX_A; }\n')
     ways = [(compiler(), ["-std=c99"]), (compiler("CXX", ("c++", "g++", "clang++")), ["-x", "c++", "-std=c++11"])]
     for program, flags in ways:
         if program is None:
@@ -114,6 +117,33 @@ def try_calls(tries, room, name, source, flags):
     counts = re.fullmatch(r"([1-9]\d*) passed, 0 failed", calls.stdout.strip().rpartition("\n")[2])
     is_well = counts is not None and calls.returncode == 0 and not calls.stderr
     tries.show(f"{name}: {counts[0] if counts else 'no counts'}", [] if is_well else [said(calls)])
+
+
+def finding_lines(case, room, program):
+    """What `judging` prints of a recording, and how it ended."""
+    files = {"plan": case.plan.encode(), **{f"capture{k}": data for k, data in enumerate(case.captures)}}
+    for name, data in files.items():
+        with open(f"{room}/{name}", "wb") as file:
+            file.write(data)
+    plan, *captures = files
+    return ran([program, plan, *(str(int(it)) for it in case.options), *captures], room)
+
+
+def is_found(case, room, program):
+    """Whether a recording's findings are the model's."""
+    done = finding_lines(case, room, program)
+    told = [line.split(" ", 4) for line in done.stdout.splitlines()]
+    wanted = [[it.packet, it.network, it.at, -1 if it.link is None else it.link, f"{it.kind} {it.rule}".strip()] for it in case.found]
+    names = [it.rsplit(" ", 2) for *_, it in told]
+    is_same = [[*map(str, it)] for it in wanted] == [[*line[:4], name[0]] for line, name in zip(told, names)]
+    has_numbers = all({*re.findall(r"\d+", it.told)} <= {*name[1:]} for it, name in zip(case.found, names))
+    return is_same and has_numbers and not done.stderr and done.returncode == (45 if case.captured else 0)
+
+
+def try_judging(tries, room, name):
+    """What is found in recordings is what the model of `afdx_bench judge` finds."""
+    faults = [case.name for case in calls.cases(4) if not is_found(case, room, f"{room}/{name}")]
+    tries.show(f"{name}: recordings", faults[:5])
 
 
 def script_of(words, last):
@@ -166,9 +196,10 @@ def main():
         try_header(tries, room)
         if "--built" not in sys.argv and not is_built(tries):
             return tries.end()
-        for name in ("c_calls", "owners", "lines"):
+        for name in ("c_calls", "owners", "lines", "judging"):
             try_calls(tries, room, name, f"tests/c/{name}.c", [])
             try_calls(tries, room, f"{name}-sanitized", f"tests/c/{name}.c", SANITIZER)
+        try_judging(tries, room, "judging")
         for name, flags in (("example", ["-Wconversion"]), ("example-sanitized", SANITIZER)):
             program = compiled(tries, room, name, f"{EXAMPLE}/example.c", flags)
             if program is None:

@@ -72,6 +72,25 @@ static void try_opening(const std::string &demo) {
     CHECK(told.size() > 11 && told.compare(told.size() - 11, 11, "and 2 more\n") == 0);
 }
 
+// An empty capture is cut off; a section of pcapng without interfaces has no packets.
+static void try_judging(const std::string &demo) {
+    const std::string section("\n\r\r\n\x1c\0\0\0\x4d\x3c\x2b\x1a\1\0\0\0\xff\xff\xff\xff\xff\xff\xff\xff\x1c\0\0\0", 28);
+    const std::string packet("\3\0\0\0\x10\0\0\0\0\0\0\0\x10\0\0\0", 16);
+    const std::string interface("\1\0\0\0\x14\0\0\0\1\0\0\0\0\0\0\0\x14\0\0\0", 20);
+    const afdx_judge_options options = {0, 10000, 0, 0};
+    CHECK(afdx::judge(demo, section, options).empty() && afdx::judge(demo, section, section, options).empty());
+    const std::vector<afdx_finding> found = afdx::judge(demo, section + interface + packet + packet, options);
+    CHECK(found.size() == 2 && found[1].packet == 2 && afdx_finding_name(&found[0]) == std::string("Frame Time"));
+    CHECK(throws<afdx::ConfigError>(ConfigFault::Toml, [&] { afdx::judge("[", section, options); }));
+    bool is_thrown = false;
+    try {
+        afdx::judge(demo, section + interface + packet, "", options);
+    } catch (const afdx::BadCapture &error) {
+        is_thrown = error.findings.size() == 1 && error.judged.b.end == AFDX_CAPTURE_CUT_OFF;
+    }
+    CHECK(is_thrown);
+}
+
 static void try_sending(const std::string &demo) {
     afdx::EndSystem it(demo);
     afdx::Port port = it.port(10);
@@ -191,7 +210,7 @@ int main(int argc, char **argv) {
     std::ifstream file(argv[1], std::ios::binary);
     const std::string demo{std::istreambuf_iterator<char>(file), std::istreambuf_iterator<char>()};
     try {
-        for (auto test : {try_opening, try_sending, try_misuse, try_listing, try_moving, try_failing, try_thread}) test(demo);
+        for (auto test : {try_opening, try_judging, try_sending, try_misuse, try_listing, try_moving, try_failing, try_thread}) test(demo);
     } catch (const std::exception &error) {
         check(false, __LINE__, error.what());
     }

@@ -2,6 +2,7 @@
 #![tactic(auto)]
 
 mod content;
+mod judging;
 mod opening;
 mod reading;
 mod script;

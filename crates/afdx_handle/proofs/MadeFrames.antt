@@ -35,9 +35,9 @@ set_front {X} front old k x is within =
     ∙ ap (λ (n : ℕ). front ++ x ∷ [] ++ drop n old) (sym long)
 
 -- The image of one element more.
-pub set_map : {X Y : Type 0} (f : X → Y) (xs : List X) (old ys : List Y) (k : ℕ) (d : X) → k < length xs → length xs ≤ length old
+pub set_map : {X Y : Type 0} (f : X → Y) (xs : List X) (old ys : List Y) (k : ℕ) (d : X) → k < length xs → k < length old
     → ys ≡ with_front (map f (take k xs)) old → set ys k (f (get_or xs k d)) ≡ with_front (map f (take (k + 1) xs)) old
-set_map f xs old ys k d within few is = grind (arith, set, set_front, map, take, length-map, length-take-le, with_front, map_more)
+set_map f xs old ys k d within room is = grind (arith, set, set_front, map, take, length-map, length-take-le, with_front, map_more)
 
 -- One part more.
 pub put_front : (front part old : List ℕ) (at : ℕ) → length front ≡ at

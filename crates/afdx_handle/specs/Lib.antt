@@ -1,8 +1,10 @@
 pub mod EndSystem
 pub mod Held
+pub mod Judged
 pub mod Listing
 pub mod Numbers
 pub mod Polling
 pub mod Release
+pub mod Rows
 pub mod Script
 pub mod Sealed

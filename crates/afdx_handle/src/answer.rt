@@ -55,6 +55,9 @@ pub const GATHERED: u8 = 43;
 /// The ports weren't gathered yet.
 pub const NOT_GATHERED: u8 = 44;
 
+/// A capture is cut off or malformed.
+pub const BAD_CAPTURE: u8 = 45;
+
 /// The network with this number.
 pub fn net_of(number: u8) -> Option<Net>
     ensures { result ≡ net_of number }

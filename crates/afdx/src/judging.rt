@@ -1,0 +1,51 @@
+//! The calls that judge recordings.
+ghost use Rattle.std.specs.Prelude.{◌≡◌, ◌≢◌, true, false, [], length};
+ghost use Rattle.afdx_config.specs.Faults.{IsLeastFault};
+ghost use Rattle.afdx_plan.specs.declared.fault.ConfigFault.{ConfigFault};
+ghost use Rattle.afdx_plan.specs.declared.fault.ConfigFault.TheVariants.{Memory};
+ghost use Rattle.afdx_plan.specs.PlanFaults.{fault_number};
+ghost use Rattle.afdx_handle.specs.Judged.{IsJudged, IsRefused, answer_of};
+
+use afdx_handle::{FindingRow, JudgeOptions, Judged, judge_into};
+use std::alloc::Global;
+
+/// Judges a capture of both networks: writes as many findings as have room, their number, and what was read.
+#[unsafe(no_mangle)]
+pub extern "C" fn afdx_judge(
+    alloc: Global,
+    text: &[u8],
+    options: &JudgeOptions,
+    capture: &[u8],
+    rows: &mut [FindingRow],
+    judged: &mut Judged,
+) -> u8
+    ensures judged { ¬ IsRefused result →
+        IsJudged text.now options.now false capture.now [] rows.old rows.new judged.new }
+    ensures answers { ¬ IsRefused result → result ≡ answer_of judged.new (length rows.old) }
+    ensures fault { IsRefused result → (fault : ConfigFault) × (result ≡ fault_number fault)
+        × (fault ≢ Memory → IsLeastFault text.now fault) }
+    ensures unwritten { IsRefused result → (rows.new ≡ rows.old) × (judged.new ≡ judged.old) }
+{
+    judge_into(alloc, text, options, false, capture, &[], rows, judged)
+}
+
+/// Judges two captures, of network A and of network B, in the same way.
+#[unsafe(no_mangle)]
+pub extern "C" fn afdx_judge_pair(
+    alloc: Global,
+    text: &[u8],
+    options: &JudgeOptions,
+    a: &[u8],
+    b: &[u8],
+    rows: &mut [FindingRow],
+    judged: &mut Judged,
+) -> u8
+    ensures judged { ¬ IsRefused result →
+        IsJudged text.now options.now true a.now b.now rows.old rows.new judged.new }
+    ensures answers { ¬ IsRefused result → result ≡ answer_of judged.new (length rows.old) }
+    ensures fault { IsRefused result → (fault : ConfigFault) × (result ≡ fault_number fault)
+        × (fault ≢ Memory → IsLeastFault text.now fault) }
+    ensures unwritten { IsRefused result → (rows.new ≡ rows.old) × (judged.new ≡ judged.old) }
+{
+    judge_into(alloc, text, options, true, a, b, rows, judged)
+}
