@@ -5,6 +5,7 @@ import os
 import re
 import resource
 import shutil
+import struct
 import subprocess
 import sys
 import tempfile
@@ -12,6 +13,7 @@ import threading
 import time
 from collections.abc import Iterator
 from contextlib import contextmanager
+from pathlib import Path
 
 ROOT = os.path.dirname(os.path.dirname(os.path.abspath(__file__)))
 
@@ -21,7 +23,7 @@ PYTHON = f"{PREFIX.name}/lib/python"
 sys.dont_write_bytecode = True
 os.environ.pop("AFDX_LIBRARY", None)
 subprocess.run(["bash", f"{ROOT}/install/install.sh", "--built", PREFIX.name], check=True)
-sys.path.insert(0, PYTHON)
+sys.path[:0] = [PYTHON, f"{ROOT}/tests/judge"]
 import afdx
 from afdx import A, B, EndSystem
 
@@ -83,7 +85,7 @@ def first_message() -> None:
 def names() -> None:
     """Each answer of the header has an exception with its name and number."""
     header = re.sub(r"/\*.*?\*/", "", text_of("crates/afdx/afdx.h"), flags=re.DOTALL)
-    errors = [afdx.CONFIG_ERRORS, afdx.SEND_ERRORS, afdx.POLL_ERRORS, afdx.MISUSES]
+    errors = [afdx.CONFIG_ERRORS, afdx.SEND_ERRORS, afdx.POLL_ERRORS, afdx.JUDGE_ERRORS, afdx.MISUSES]
     found = {error.__name__: number for table in errors for number, error in table.items()}
     wanted = {}
     for name, number in re.findall(r"\bAFDX_(\w+) = (\d+)", header):
@@ -161,6 +163,42 @@ def answers() -> None:
     raises(afdx.NotHeld, it.poll, 3005)
 
 
+def judging() -> None:
+    """`judge` finds what the model of `afdx_bench judge` finds, and prints it so; it says what can't be judged."""
+    import calls
+    for case in calls.cases(4):
+        found, captured = [], []
+        try:
+            found = afdx.judge(case.plan, *case.captures, **case.options._asdict())
+        except afdx.BadCapture as error:
+            found, captured = error.findings, str(error).splitlines()[1:]
+        assert [f"{it}\n" for it in found] == [it.line() for it in case.found], case.name
+        assert captured == [re.sub(r", \d+ of other interfaces", "", line) for line in case.captured], case.name
+    with EndSystem(DEMO) as it, it.port(10) as port:
+        port.send(b"1")
+        frames = [(0, frame) for frame in it.poll(0).a]
+    header = struct.pack("<IHHIIII", 0xA1B2C3D4, 2, 4, 0, 0, 65535, 1)
+    sent, late = (header + b"".join(struct.pack("<IIII", at, 0, len(it), len(it)) + it for at, it in rows)
+                  for rows in (frames, [*frames, (1, frames[0][1])]))
+    with tempfile.TemporaryDirectory() as room:
+        for name, data in (("plan", DEMO.encode()), ("capture", sent)):
+            Path(room, name).write_bytes(data)
+        assert afdx.judge(Path(room, "plan"), Path(room, "capture")) == afdx.judge(bytearray(DEMO.encode()), memoryview(sent)) == []
+        raises(FileNotFoundError, afdx.judge, DEMO, Path(room, "none"))
+    found = afdx.judge(DEMO, late)
+    assert found == [("Missing", "", 1, A, 0, 1, 0, 0), ("Number", "", 2, A, 10**9, 1, 0, 1)], found
+    assert [f"{it}" for it in found] == ["1 A 0.000000000 vl 1 Missing: seen 0", "2 A 1.000000000 vl 1 Number: seen 0, wanted 1"]
+    told = raises(afdx.Toml, afdx.judge, "[", sent)
+    assert told == f"{afdx.Toml.__doc__}\n{afdx.explain('[')}".rstrip("\n"), told
+    assert raises(afdx.BadCapture, afdx.judge, DEMO, sent, b"").endswith("\ncapture 1: 1 packets\ncapture 2: 0 packets, cut off at byte 0")
+    for wrong in ({"jitter": -1}, {"skew": 1 << 64}):
+        raises(OverflowError, lambda wrong=wrong: afdx.judge(DEMO, sent, **wrong))
+    raises(TypeError, afdx.judge, DEMO, "capture.pcap")
+    many = header + bytes(16) * 4_000_000
+    with no_more_memory():
+        raises(afdx.OutOfMemory, afdx.judge, DEMO, many)
+
+
 def bytes_like() -> None:
     """Texts and messages are any bytes-like objects; what is none is refused and changes nothing."""
     message = bytes(range(100))
@@ -227,7 +265,7 @@ def lists() -> None:
 
 def all_raised() -> None:
     """The tests before have raised each exception but one."""
-    tables = (afdx.CONFIG_ERRORS, afdx.SEND_ERRORS, afdx.POLL_ERRORS, afdx.MISUSES)
+    tables = (afdx.CONFIG_ERRORS, afdx.SEND_ERRORS, afdx.POLL_ERRORS, afdx.JUDGE_ERRORS, afdx.MISUSES)
     unmet = {error.__name__ for table in tables for error in table.values()} - RAISED
     assert unmet == {"Exhausted"}, unmet
 
@@ -285,7 +323,7 @@ def speed() -> None:
 
 def main() -> int:
     passed = failed = 0
-    for test in (first_message, names, configurations, answers, lists, all_raised, bytes_like, tries, version, typed, threads, bench, speed):
+    for test in (first_message, names, configurations, answers, judging, lists, all_raised, bytes_like, tries, version, typed, threads, bench, speed):
         try:
             test()
             passed += 1

@@ -22,20 +22,25 @@ beside it or in the folder above, or on the search path of the system.
 from __future__ import annotations
 
 import ctypes
+import os
 from contextlib import suppress
 from ctypes import byref, c_size_t, c_uint8, c_uint16, c_uint64
 from dataclasses import dataclass
+from pathlib import Path
 from types import TracebackType
-from typing import Callable, Iterator, NamedTuple
+from typing import Callable, Iterator, NamedTuple, Union
 
 from . import errors
-from ._library import BytesLike, FrameRelease, Handle, LinkCounts, bytes_of, fits, lib, want
+from ._findings import Finding, captured_of, finding_of
+from ._library import BytesLike, FindingRow, FrameRelease, Handle, Judged, JudgeOptions, LinkCounts, bytes_of, fits, lib, want
 from .errors import *
-from .errors import CONFIG_ERRORS, POLL_ERRORS, SEND_ERRORS, AfdxError, ConfigError, Full, NotHeld, OutOfMemory, SmallBuffer
+from .errors import (
+    CONFIG_ERRORS, POLL_ERRORS, SEND_ERRORS, AfdxError, BadCapture, ConfigError, Full, NotHeld, OutOfMemory, SmallBuffer,
+)
 
 __all__ = [
     "A", "B", "GREATEST_FRAME", "MOST_FRAMES", "MOST_LINKS", "MOST_PORTS", "NEVER", "BytesLike", "Counts", "EndSystem",
-    "Poll", "Port", "Released", "explain", "library_version",
+    "File", "Finding", "Poll", "Port", "Released", "explain", "judge", "library_version",
 ]
 __all__ += errors.__all__
 __version__ = "1.0.0"
@@ -44,6 +49,7 @@ A, B = 0, 1
 GREATEST_FRAME, MOST_FRAMES = 1514, 64
 MOST_LINKS, MOST_PORTS = 64, 256
 NEVER = 2**64 - 1
+File = Union[BytesLike, os.PathLike[str]]
 
 
 def _encoded(text: str | BytesLike) -> bytes:
@@ -59,6 +65,44 @@ def explain(text: str | BytesLike) -> str:
         answer = lib.afdx_explain(data, len(data), told, len(told), byref(length))
     want(answer)
     return told.raw.decode()
+
+
+def _want_plan(answer: int, data: bytes) -> None:
+    """Raises the exception of a refused configuration, with the lines of `explain`."""
+    faults = ""
+    if issubclass(CONFIG_ERRORS.get(answer, AfdxError), ConfigError):
+        with suppress(OutOfMemory):
+            faults = explain(data).rstrip("\n")
+    want(answer, CONFIG_ERRORS, faults)
+
+
+def judge(
+    plan: str | File, capture: File, capture_b: File | None = None, *,
+    jitter: int = 0, skew: int = 10_000, late: bool = False, fcs: bool = False,
+) -> list[Finding]:
+    """What is wrong with a recording of an end system, by its configuration (docs/guide/judge.md): nothing, if it keeps it. A
+    capture is pcapng or pcap, its bytes or its path; with two, the first is of network A and the second of B. `jitter` and
+    `skew` are in microseconds. A finding prints itself. Raises `ConfigError`, `BadCapture` (with what was found) or
+    `OutOfMemory`."""
+    text, how = plan.encode() if isinstance(plan, str) else _read(plan), JudgeOptions(fits(jitter, 64), fits(skew, 64), late, fcs)
+    captures = [_read(it) for it in (capture, capture_b) if it is not None]
+    words = [word for data in captures for word in (data, len(data))]
+    call = lib.afdx_judge if capture_b is None else lib.afdx_judge_pair
+    answer, rows, judged = 0, (FindingRow * 0)(), Judged(findings=1_000)
+    while len(rows) < judged.findings:
+        rows = (FindingRow * judged.findings)()
+        answer = call(text, len(text), byref(how), *words, rows, len(rows), byref(judged))
+    if answer != BadCapture.number:
+        _want_plan(answer, text)
+    found = [finding_of(row) for row in rows[: judged.findings]]
+    if answer:
+        seen = enumerate((judged.a, judged.b)[: len(captures)], 1)
+        raise BadCapture("\n".join(captured_of(number, row) for number, row in seen), found)
+    return found
+
+
+def _read(data: File) -> bytes:
+    return Path(data).read_bytes() if isinstance(data, os.PathLike) else bytes_of(data)
 
 
 def library_version() -> str:
@@ -165,12 +209,8 @@ class EndSystem:
         return it
 
     def __init__(self, text: str | BytesLike) -> None:
-        data, faults = _encoded(text), ""
-        answer = lib.afdx_open(byref(self._handle), data, len(data))
-        if issubclass(CONFIG_ERRORS.get(answer, AfdxError), ConfigError):
-            with suppress(OutOfMemory):
-                faults = explain(data).rstrip("\n")
-        want(answer, CONFIG_ERRORS, faults)
+        data = _encoded(text)
+        _want_plan(lib.afdx_open(byref(self._handle), data, len(data)), data)
         self._buffer = ctypes.create_string_buffer(MOST_FRAMES * GREATEST_FRAME)
         self._lengths = (c_size_t * MOST_FRAMES)()
 

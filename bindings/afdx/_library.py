@@ -33,6 +33,31 @@ class FrameRelease(ctypes.Structure):
     _fields_ = [("vl", c_uint16), ("sub", c_uint8), ("number", c_uint8)]
 
 
+class JudgeOptions(ctypes.Structure):
+    """`afdx_judge_options`."""
+
+    _fields_ = [("jitter", c_uint64), ("skew", c_uint64), ("late", c_uint8), ("fcs", c_uint8)]
+
+
+class FindingRow(ctypes.Structure):
+    """`afdx_finding`."""
+
+    _fields_ = [("packet", c_uint64), ("at", c_uint64), ("seen", c_uint64), ("wanted", c_uint64), ("vl", c_uint32),
+                ("network", c_uint8), ("kind", c_uint8), ("rule", c_uint8)]
+
+
+class Captured(ctypes.Structure):
+    """`afdx_captured`."""
+
+    _fields_ = [("packets", c_uint64), ("at", c_uint64), ("end", c_uint8)]
+
+
+class Judged(ctypes.Structure):
+    """`afdx_judged`."""
+
+    _fields_ = [("findings", c_size_t), ("a", Captured), ("b", Captured)]
+
+
 def _library() -> ctypes.CDLL:
     package = Path(__file__).resolve().parent
     near = [path for folder in [package, *package.parents[:2]] if (path := folder / LIBRARY).exists()]
@@ -41,9 +66,12 @@ def _library() -> ctypes.CDLL:
 
 def _calls(library: ctypes.CDLL) -> None:
     handle, size = POINTER(Handle), c_size_t
+    data, rows = [ctypes.c_char_p, size], [POINTER(FindingRow), size, POINTER(Judged)]
     calls: dict[str, list[Any]] = {
         "open": [handle, ctypes.c_char_p, size],
         "explain": [ctypes.c_char_p, size, c_void_p, size, POINTER(size)],
+        "judge": [*data, POINTER(JudgeOptions), *data, *rows],
+        "judge_pair": [*data, POINTER(JudgeOptions), *data, *data, *rows],
         "port_of": [handle, c_uint16, handle],
         "send": [handle, ctypes.c_char_p, size],
         "accepted": [handle, POINTER(c_uint64)],

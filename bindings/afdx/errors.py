@@ -1,13 +1,18 @@
 """The answers of the C library other than success, each an exception named as in afdx.h."""
 from __future__ import annotations
 
+from typing import TYPE_CHECKING, Sequence
+
+if TYPE_CHECKING:
+    from ._findings import Finding
+
 __all__ = [
     "AfdxError", "OutOfMemory", "ConfigError", "Toml", "MissingKey", "UnknownKey", "WrongKind", "OutOfRange",
     "BadBag", "DuplicateVl", "DuplicatePort", "NoSuchVl", "NoSuchSub", "SamplingTooLong", "SameFlow",
     "SharedUnicast", "Limit", "SendError", "Empty", "TooLong", "Closed", "Exhausted", "Full", "PollError",
     "BothDown", "Misuse", "NotHeld", "WrongHandle", "Held", "TimeBack", "NoPort", "NoSub", "NoLink",
-    "NoNetwork", "NoFrame", "SmallBuffer", "PortMissing", "Gathered", "NotGathered", "CONFIG_ERRORS",
-    "SEND_ERRORS", "POLL_ERRORS", "MISUSES",
+    "NoNetwork", "NoFrame", "SmallBuffer", "PortMissing", "Gathered", "NotGathered", "JudgeError",
+    "BadCapture", "CONFIG_ERRORS", "SEND_ERRORS", "POLL_ERRORS", "JUDGE_ERRORS", "MISUSES",
 ]
 
 
@@ -242,6 +247,21 @@ class NotGathered(Misuse):
     number = 44
 
 
+class JudgeError(AfdxError):
+    """The recording isn't judged to its end."""
+
+
+class BadCapture(JudgeError):
+    """A capture is cut off or malformed, and was judged up to there."""
+
+    number = 45
+
+    def __init__(self, more: str = "", findings: Sequence[Finding] = ()) -> None:
+        """The text has a line for each capture, and `findings` what was found."""
+        super().__init__(more)
+        self.findings = [*findings]
+
+
 Errors = dict[int, type[AfdxError]]
 
 
@@ -250,4 +270,5 @@ def _errors(kind: type[AfdxError]) -> Errors:
     return {error.number: error for error in errors}
 
 
-CONFIG_ERRORS, SEND_ERRORS, POLL_ERRORS, MISUSES = map(_errors, (ConfigError, SendError, PollError, Misuse))
+CONFIG_ERRORS, SEND_ERRORS, POLL_ERRORS = map(_errors, (ConfigError, SendError, PollError))
+JUDGE_ERRORS, MISUSES = _errors(JudgeError), _errors(Misuse)
