@@ -26,4 +26,5 @@ pub mod Told
 pub mod Turns
 pub mod Waits
 pub mod Whole
+pub mod WorkedLaws
 pub mod WorkedRecordings

@@ -28,7 +28,7 @@ use Rattle.judge.specs.Deviations.{kind_number}
 use Rattle.afdx_laws.proofs.ListLemmas.{fails_by}
 use Rattle.judge_laws.proofs.Begin.{no_false_alarm_holds}
 
-pair_sent : IsSent demo_plan two_accepted (two_entries A) (two_entries B)
+pub pair_sent : IsSent demo_plan two_accepted (two_entries A) (two_entries B)
 unfolding checksum addresses datagram header_front internet_header link_header udp_header unnumbered
 pair_sent = record {
   valid = demo_valid;
@@ -37,14 +37,14 @@ pair_sent = record {
   turns = grind arith;
 }
 
-fit : (late : Bool) → AreFit demo_plan (record strict { late = late })
+pub fit : (late : Bool) → AreFit demo_plan (record strict { late = late })
 fit late = grind arith
 
 with_check_fit : AreFit demo_plan with_check
 with_check_fit = grind arith
 
 -- a packet is a record
-recorded : (origin t at : ℕ) (options : Options) (net : Net) (frame : List ℕ) → options.fcs ≡ false → origin + 1000 * t ≤ at
+pub recorded : (origin t at : ℕ) (options : Options) (net : Net) (frame : List ℕ) → options.fcs ≡ false → origin + 1000 * t ≤ at
     → at ≤ origin + 1000 * (t + options.jitter) → IsRecord origin options (entry t frame) (packet net at frame).packet
 recorded origin t at options net frame plain least most =
     record { at = at; told = refl; least = least; most = most; whole = refl; bytes = rw plain refl }

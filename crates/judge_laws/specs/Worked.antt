@@ -1,5 +1,5 @@
 -- Worked recordings of the demonstration configuration: two messages of one byte, a frame each, sent to both networks.
-use Rattle.std.specs.Prelude.{◌≡◌, ℕ, true, false, List, [], ◌∷◌, All, None, Some, length}
+use Rattle.std.specs.Prelude.{◌≡◌, ◌≤◌, ℕ, true, false, List, [], ◌∷◌, All, None, Some, length}
 use Rattle.afdx_plan.specs.Demo.{demo_plan}
 use Rattle.afdx_frame.specs.declared.net.Net.{Net}
 use Rattle.afdx_frame.specs.declared.net.Net.TheVariants.{A, B}
@@ -9,6 +9,8 @@ use Rattle.afdx_laws.specs.WorkedPlan.{pair_at, second_frame, two_accepted, two_
 use Rattle.judge.specs.Judging.{OnNet, findings}
 use Rattle.judge.specs.declared.options.Options.{Options}
 use Rattle.judge_laws.specs.NoFalseAlarm.{AreFit, IsMissing, IsRecording, IsSent}
+use Rattle.judge_laws.specs.NothingFound.{IsWhole}
+use Rattle.judge_laws.specs.NothingMissed.{IsSentTo, IsStrict, sent_to}
 
 -- nothing is allowed for
 abbrev pub strict : Options
@@ -62,3 +64,39 @@ pub record NeedsItsPremises : Type 0 where
   pub jitter : BothFail (AreFit demo_plan loose) (OnlyMissing loose (both_at 2000000 1000000))
   pub fcs : BothFail (IsRecording 0 with_check (two_entries A) (two_entries B) (both_at 0 1000000)) (OnlyMissing with_check (both_at 0 1000000))
   pub first : BothFail (IsRecording 0 strict (two_entries A) (two_entries B) (seconds_at 1000000)) (OnlyMissing strict (seconds_at 1000000))
+
+-- ---- nothing found
+
+-- both frames of network A, and then those of B
+abbrev pub one_by_one : List OnNet
+one_by_one = packet A 0 (one_frame A) ∷ packet A 1000000 (second_frame A)
+    ∷ packet B 0 (one_frame B) ∷ packet B 1000000 (second_frame B) ∷ []
+
+-- network B alone lags by 100 microseconds
+abbrev pub lagging : List OnNet
+lagging = packet A 0 (one_frame A) ∷ packet B 100000 (one_frame B) ∷ []
+
+abbrev pub delayed : Options
+delayed = record strict { jitter = 100 }
+
+-- The recording of both messages is whole. Out of the order of time, frames are given up before their twins come; so are
+-- they if these may be delayed for longer than the skew.
+pub record FindsNoneOfAll : Type 0 where
+  pub whole : IsWhole demo_plan 7 strict (two_entries A) (two_entries B) (both_at 7 1000007)
+  pub order : BothFail (IsWhole demo_plan 0 strict (two_entries A) (two_entries B) one_by_one) (findings demo_plan strict one_by_one ≡ [])
+  pub skew : BothFail (delayed.jitter ≤ delayed.skew) (findings demo_plan delayed lagging ≡ [])
+
+-- ---- nothing missed
+
+-- what a recording has of network A was sent legally
+abbrev pub SentToA : List OnNet → Type 0
+SentToA recording = IsSentTo demo_plan A (sent_to A recording)
+
+-- A recording meets the premises. A judge that allows a jitter finds nothing in frames that are too near to each other, and
+-- one of a recording that began late nothing in a first number that isn't 0.
+pub record MissesNothing : Type 0 where
+  pub strict_is : IsStrict demo_plan strict (both_at 7 1000007)
+  pub near_nothing : findings demo_plan loose (both_at 0 999000) ≡ []
+  pub near : BothFail (IsStrict demo_plan loose (both_at 0 999000)) (SentToA (both_at 0 999000))
+  pub late_nothing : findings demo_plan late (seconds_at 1000000) ≡ []
+  pub late_missed : BothFail (IsStrict demo_plan late (seconds_at 1000000)) (SentToA (seconds_at 1000000))

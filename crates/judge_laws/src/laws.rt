@@ -3,7 +3,7 @@ ghost use Rattle.judge_laws.specs.Frames.{LayoutIsProfile};
 ghost use Rattle.judge_laws.specs.NoFalseAlarm.{NoFalseAlarm};
 ghost use Rattle.judge_laws.specs.NothingFound.{NothingFound};
 ghost use Rattle.judge_laws.specs.NothingMissed.{NothingMissed};
-ghost use Rattle.judge_laws.specs.Worked.{FindsNothing, NeedsItsPremises};
+ghost use Rattle.judge_laws.specs.Worked.{FindsNothing, NeedsItsPremises, FindsNoneOfAll, MissesNothing};
 
 /// A judge raises no false alarm: in a recording of what was sent legally for a valid plan, each finding is a frame
 /// without a twin, however the packets of the two networks interleave.
@@ -37,7 +37,8 @@ pub fn layout_is_profile()
 /// (`IsWhole`); and the jitter that the judge allows is at most the skew, so that no frame is given up before its twin
 /// comes.
 pub fn nothing_found()
-    ensures { NothingFound }
+    ensures none { NothingFound }
+    ensures worked { FindsNoneOfAll }
 {}
 
 /// If a judge finds nothing in a recording, what was recorded of each network was sent legally, for some accepted
@@ -53,7 +54,7 @@ pub fn nothing_found()
 /// - Packets are bytes, and no header checksum is 65,535, which receivers take for 0, and which no sender computes.
 ///
 /// The law speaks of each network alone. That a frame differs from its twin, or has none, are findings too.
-#[tactic(auto, using(crate::proofs::SentTo::nothing_missed_holds))]
 pub fn nothing_missed()
-    ensures { NothingMissed }
+    ensures sent { NothingMissed }
+    ensures worked { MissesNothing }
 {}
