@@ -275,9 +275,9 @@ own_options options profile = ap (λ (arinc : Bool). let o : Options = record op
 pub no_false_alarm_holds : NoFalseAlarm
 no_false_alarm_holds plan accepted a b options origin recording sent fit recorded =
     subst (λ o. All IsMissing (findings plan o recording)) (sym (own_options options fit.profile)) (goes_on plan origin options no_times false
-    (replicate (length plan.links) (new_link options.late false)) recording rest [] sent.valid fit
+    (replicate (length plan.links) (new_link options.late false)) recording (λ net. (run net).after) rest [] sent.valid fit
     (going_begins plan accepted a b options origin (λ net. (run net).before) rest sent (λ net. (run net).whole) (λ net. (run net).first))
-    (λ net. record { recorded = (run net).recorded; after = (run net).after; whole = refl; each = (run net).each }) (All-nil IsMissing))
+    (λ net. record { recorded = (run net).recorded; whole = refl; each = (run net).each }) (All-nil IsMissing))
   where
     run : (net : Net) → IsRunOf origin options (handed_to a b net) (packets_of net recording)
     run A = recorded.of_a

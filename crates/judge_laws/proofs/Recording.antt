@@ -217,52 +217,52 @@ packet_taken plan origin options times told links net number packet e es rest va
           (same_rest plan j origin options _ _ _ (λ m. other_next plan j e es rest net m next (unlike j inside other)) (is.each j inside))
     ]
 
--- a list of which packets record a beginning
-pub record IsRecorded (origin : ℕ) (options : Options) (es : List Entry) (packets : List Recorded) : Type 0 where
+-- packets record a list up to what comes after
+pub record IsRecorded (origin : ℕ) (options : Options) (after es : List Entry) (packets : List Recorded) : Type 0 where
   pub recorded : List Entry
-  pub after : List Entry
   pub whole : es ≡ recorded ++ after
   pub each : AllZip (IsRecord origin options) recorded packets
 
 -- its first entry is that of the first packet
-record IsNext (origin : ℕ) (options : Options) (packet : Recorded) (packets : List Recorded) (es : List Entry) : Type 0 where
-  first : Entry
-  later : List Entry
-  is : es ≡ first ∷ later
-  recorded : IsRecord origin options first packet
-  going : IsRecorded origin options later packets
+pub record IsNext (origin : ℕ) (options : Options) (packet : Recorded) (packets : List Recorded) (after es : List Entry) : Type 0 where
+  pub first : Entry
+  pub later : List Entry
+  pub is : es ≡ first ∷ later
+  pub recorded : IsRecord origin options first packet
+  pub going : IsRecorded origin options after later packets
 
-next_of : (origin : ℕ) (options : Options) (packet : Recorded) (packets : List Recorded) (es recorded after : List Entry)
-    → es ≡ recorded ++ after → AllZip (IsRecord origin options) recorded (packet ∷ packets) → IsNext origin options packet packets es
-next_of origin options packet packets es [] after whole zip = absurd zip
-next_of origin options packet packets es (d ∷ ds) after whole zip = record {
+next_of : (origin : ℕ) (options : Options) (packet : Recorded) (packets : List Recorded) (after es recorded : List Entry)
+    → es ≡ recorded ++ after → AllZip (IsRecord origin options) recorded (packet ∷ packets) → IsNext origin options packet packets after es
+next_of origin options packet packets after es [] whole zip = absurd zip
+next_of origin options packet packets after es (d ∷ ds) whole zip = record {
   first = d;
   later = ds ++ after;
   is = whole;
   recorded = zip.0;
-  going = record { recorded = ds; after = after; whole = refl; each = zip.1 };
+  going = record { recorded = ds; whole = refl; each = zip.1 };
 }
 
-abbrev pub AreRecorded : (origin : ℕ) (options : Options) (rest : Net → List Entry) (recording : List OnNet) → Type 0
-AreRecorded origin options rest recording = (net : Net) → IsRecorded origin options (rest net) (packets_of net recording)
+abbrev pub AreRecorded : (origin : ℕ) (options : Options) (after rest : Net → List Entry) (recording : List OnNet) → Type 0
+AreRecorded origin options after rest recording = (net : Net) → IsRecorded origin options (after net) (rest net) (packets_of net recording)
 
 abbrev packet_of : Net → ℕ → Recorded → OnNet
 packet_of net number packet = record { net = net; number = number; packet = packet }
 
-recorded_next : (origin number : ℕ) (options : Options) (packet : Recorded) (rest : Net → List Entry) (ps : List OnNet) (n : Net)
-    → AreRecorded origin options rest (packet_of n number packet ∷ ps) → IsNext origin options packet (packets_of n ps) (rest n)
-recorded_next origin number options packet rest ps A are =
-    next_of origin options packet (packets_of A ps) (rest A) (are A).recorded (are A).after (are A).whole (are A).each
-recorded_next origin number options packet rest ps B are =
-    next_of origin options packet (packets_of B ps) (rest B) (are B).recorded (are B).after (are B).whole (are B).each
+pub recorded_next : (origin number : ℕ) (options : Options) (packet : Recorded) (after rest : Net → List Entry) (ps : List OnNet) (n : Net)
+    → AreRecorded origin options after rest (packet_of n number packet ∷ ps)
+    → IsNext origin options packet (packets_of n ps) (after n) (rest n)
+recorded_next origin number options packet after rest ps A are =
+    next_of origin options packet (packets_of A ps) (after A) (rest A) (are A).recorded (are A).whole (are A).each
+recorded_next origin number options packet after rest ps B are =
+    next_of origin options packet (packets_of B ps) (after B) (rest B) (are B).recorded (are B).whole (are B).each
 
-recorded_after : (origin number : ℕ) (options : Options) (packet : Recorded) (es : List Entry) (rest : Net → List Entry) (ps : List OnNet)
-    (n m : Net) → AreRecorded origin options rest (packet_of n number packet ∷ ps) → IsRecorded origin options es (packets_of n ps)
-    → IsRecorded origin options (rest_after n es rest m) (packets_of m ps)
-recorded_after origin number options packet es rest ps A A are later = later
-recorded_after origin number options packet es rest ps A B are later = are B
-recorded_after origin number options packet es rest ps B A are later = are A
-recorded_after origin number options packet es rest ps B B are later = later
+pub recorded_after : (origin number : ℕ) (options : Options) (packet : Recorded) (es : List Entry) (after rest : Net → List Entry)
+    (ps : List OnNet) (n m : Net) → AreRecorded origin options after rest (packet_of n number packet ∷ ps)
+    → IsRecorded origin options (after n) es (packets_of n ps) → IsRecorded origin options (after m) (rest_after n es rest m) (packets_of m ps)
+recorded_after origin number options packet es after rest ps A A are later = later
+recorded_after origin number options packet es after rest ps A B are later = are B
+recorded_after origin number options packet es after rest ps B A are later = are A
+recorded_after origin number options packet es after rest ps B B are later = later
 
 left_missing : (nearness : Nearness) (at : ℕ) (plans : List LinkPlan) (links : List Link) (found : List Finding) → All IsMissing found
     → All IsMissing (found_left nearness at plans links found)
@@ -272,17 +272,17 @@ left_missing nearness at (plan ∷ plans) (link ∷ links) found all =
     left_missing nearness at plans links _ (missing_at_end nearness plan.id at link.twins.waiting found all)
 
 pub goes_on : (plan : Plan) (origin : ℕ) (options : Options) (times : Times) (told : Bool) (links : List Link) (recording : List OnNet)
-    (rest : Net → List Entry) (found : List Finding) → IsPlan plan → AreFit plan options → IsGoing plan origin options links rest
-    → AreRecorded origin options rest recording → All IsMissing found
+    (after rest : Net → List Entry) (found : List Finding) → IsPlan plan → AreFit plan options → IsGoing plan origin options links rest
+    → AreRecorded origin options after rest recording → All IsMissing found
     → All IsMissing (found_from recording (judge_of plan options times told links) found)
 unfolding found_with_end
-goes_on plan origin options times told links [] rest found valid fit is zip all =
+goes_on plan origin options times told links [] after rest found valid fit is zip all =
     left_missing _ _ plan.links links found all
-goes_on plan origin options times told links (p ∷ ps) rest found valid fit is zip all =
-    let next = recorded_next origin p.number options p.packet rest ps p.net zip in
+goes_on plan origin options times told links (p ∷ ps) after rest found valid fit is zip all =
+    let next = recorded_next origin p.number options p.packet after rest ps p.net zip in
     let taken = packet_taken plan origin options times told links p.net p.number p.packet next.first next.later rest valid fit is next.is
     next.recorded in
-    rw taken.after (goes_on plan origin options (times_with taken.at times) told taken.new ps (rest_after p.net next.later rest) _ valid fit
-    taken.going (λ m. recorded_after origin p.number options p.packet next.later rest ps p.net m zip next.going)
+    rw taken.after (goes_on plan origin options (times_with taken.at times) told taken.new ps after (rest_after p.net next.later rest) _ valid fit
+    taken.going (λ m. recorded_after origin p.number options p.packet next.later after rest ps p.net m zip next.going)
     (subst (All IsMissing) (sym (taken.found found)) (all_given_up (setting_at plan taken.k options taken.nearness)
     (tag_of p.net p.number taken.at) (number_in next.first.frame) (link_at links taken.k) found all)))

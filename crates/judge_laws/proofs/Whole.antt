@@ -30,7 +30,7 @@ use Rattle.judge_laws.proofs.LeadTaken.{IsInTime, LeadsOn, leads_on}
 use Rattle.judge_laws.proofs.Leading.{AreOpen, IsLeading, IsWaitFor, other, stay_found, stay_kept}
 use Rattle.judge_laws.proofs.Line.{of_profile}
 use Rattle.judge_laws.proofs.Link.{IsLinkTaken, rest_after, setting_at}
-use Rattle.judge_laws.proofs.Recording.{IsGoing, IsPacketTaken, id_of, judge_of, other_next, own_next, packet_taken, rest_of, stream_next}
+use Rattle.judge_laws.proofs.Recording.{AreRecorded, IsGoing, IsPacketTaken, IsRecorded, recorded_after, recorded_next, id_of, judge_of, other_next, own_next, packet_taken, rest_of, stream_next}
 use Rattle.judge_laws.proofs.Numbers.{IsDelayed}
 
 -- one network of a link on both leads
@@ -200,34 +200,14 @@ nothing_waits stream origin jitter latest rest waiting none is =
 
 -- ---- a recording
 
-record IsZipped (origin : ℕ) (options : Options) (packet : Recorded) (packets : List Recorded) (es : List Entry) : Type 0 where
-  first : Entry
-  later : List Entry
-  is : es ≡ first ∷ later
-  recorded : IsRecord origin options first packet
-  zip : AllZip (IsRecord origin options) later packets
+-- nothing comes after the recording
+abbrev AreAllRecorded : (origin : ℕ) (options : Options) (rest : Net → List Entry) (recording : List OnNet) → Type 0
+AreAllRecorded origin options rest recording = AreRecorded origin options (λ net. []) rest recording
 
-zipped : (origin : ℕ) (options : Options) (packet : Recorded) (packets : List Recorded) (es : List Entry)
-    → AllZip (IsRecord origin options) es (packet ∷ packets) → IsZipped origin options packet packets es
-zipped origin options packet packets [] zip = absurd zip
-zipped origin options packet packets (e ∷ es) zip = record { first = e; later = es; is = refl; recorded = zip.0; zip = zip.1 }
-
-abbrev AreZipped : (origin : ℕ) (options : Options) (rest : Net → List Entry) (recording : List OnNet) → Type 0
-AreZipped origin options rest recording = (net : Net) → AllZip (IsRecord origin options) (rest net) (packets_of net recording)
-
-zipped_next : (origin : ℕ) (options : Options) (rest : Net → List Entry) (ps : List OnNet) (n : Net) (number : ℕ) (packet : Recorded)
-    → AreZipped origin options rest (record { net = n; number = number; packet = packet } ∷ ps)
-    → IsZipped origin options packet (packets_of n ps) (rest n)
-zipped_next origin options rest ps A number packet zip = zipped origin options packet (packets_of A ps) (rest A) (zip A)
-zipped_next origin options rest ps B number packet zip = zipped origin options packet (packets_of B ps) (rest B) (zip B)
-
-zipped_after : (origin : ℕ) (options : Options) (rest : Net → List Entry) (ps : List OnNet) (n m : Net) (number : ℕ) (packet : Recorded)
-    (es : List Entry) → AreZipped origin options rest (record { net = n; number = number; packet = packet } ∷ ps)
-    → AllZip (IsRecord origin options) es (packets_of n ps) → AllZip (IsRecord origin options) (rest_after n es rest m) (packets_of m ps)
-zipped_after origin options rest ps A A number packet es zip later = later
-zipped_after origin options rest ps A B number packet es zip later = zip B
-zipped_after origin options rest ps B A number packet es zip later = zip A
-zipped_after origin options rest ps B B number packet es zip later = later
+zip_of : (origin : ℕ) (options : Options) (es : List Entry) (packets : List Recorded) → IsRecorded origin options [] es packets
+    → AllZip (IsRecord origin options) es packets
+zip_of origin options es packets is =
+    subst (λ xs. AllZip (IsRecord origin options) xs packets) (sym (is.whole ∙ append-nil is.recorded)) is.each
 
 all_came : (origin : ℕ) (options : Options) (es : List Entry) → AllZip (IsRecord origin options) es [] → es ≡ []
 all_came origin options [] zip = refl
@@ -249,18 +229,18 @@ none_waits plan origin options latest links rest is pairs none =
 goes_silent : (plan : Plan) (origin : ℕ) (options : Options) (times : Times) (told : Bool) (links : List Link) (recording : List OnNet)
     (rest : Net → List Entry) (latest : ℕ) (found : List Finding) → IsPlan plan → AreFit plan options → options.jitter ≤ options.skew
     → IsGoing plan origin options links rest → ArePaired plan origin options latest links rest → IsInOrder latest recording
-    → AreZipped origin options rest recording → found_from recording (judge_of plan options times told links) found ≡ found
+    → AreAllRecorded origin options rest recording → found_from recording (judge_of plan options times told links) found ≡ found
 unfolding found_with_end
 goes_silent plan origin options times told links [] rest latest found valid fit wide is pairs order zip =
     none_left _ _ plan.links links found
-    (none_waits plan origin options latest links rest is pairs (λ net. all_came origin options (rest net) (zip net)))
+    (none_waits plan origin options latest links rest is pairs (λ net. all_came origin options (rest net) (zip_of origin options (rest net) [] (zip net))))
 goes_silent plan origin options times told links (p ∷ ps) rest latest found valid fit wide is pairs order zip =
-    let next = zipped_next origin options rest ps p.net p.number p.packet zip in
+    let next = recorded_next origin p.number options p.packet (λ net. []) rest ps p.net zip in
     let t = packet_taken plan origin options times told links p.net p.number p.packet next.first next.later rest valid fit is next.is
     next.recorded in
     let time : time_of p.packet ≡ t.at = time_is p.packet t.at t.timed in
     let up : latest ≤ t.at = rw time at order.0 in
-    let limits = λ (m : Net). open_records origin t.at options m (p ∷ ps) (rest m) (rw time (le_refl t.at), order.1) (zip m) in
+    let limits = λ (m : Net). open_records origin t.at options m (p ∷ ps) (rest m) (rw time (le_refl t.at), order.1) (zip_of origin options (rest m) (packets_of m (p ∷ ps)) (zip m)) in
     let stay = λ (both : is_both (link_plan_at plan.links t.k).networks ≡ true). (own_paired plan origin options times told links p.net p.number p.packet
     next.first next.later rest latest fit wide t next.is up (own_limits plan origin t.at options t.k rest limits) (pairs.both t.k t.inside both) both).stay in
     let given = none_given_up (setting_at plan t.k options t.nearness) (tag_of p.net p.number t.at) (number_in next.first.frame) (link_at links t.k) found
@@ -268,7 +248,7 @@ goes_silent plan origin options times told links (p ∷ ps) rest latest found va
     rw (t.after, t.found found, given) (goes_silent plan origin options (times_with t.at times) told t.new ps (rest_after p.net next.later rest) t.at found
     valid fit wide t.going (pairs_after plan origin options times told links p.net p.number p.packet next.first next.later rest latest valid fit wide t
     next.is up limits pairs) (rw time at order.1)
-    (λ m. zipped_after origin options rest ps p.net m p.number p.packet next.later zip next.zip))
+    (λ m. recorded_after origin p.number options p.packet next.later (λ net. []) rest ps p.net m zip next.going))
 
 map_own : (net : Net) (es : List Entry) → All (IsOwn net) es → map (side net) es ≡ es
 map_own net [] own = refl
@@ -309,6 +289,6 @@ nothing_found_holds plan accepted a b options origin recording sent fit wide who
     (going_begins plan accepted a b options origin (λ net. []) (handed_to a b) sent (λ net. refl) (λ net early. refl))
     (pairs_begin plan accepted a b origin options sent whole.same) whole.in_order zip)
   where
-    zip : AreZipped origin options (handed_to a b) recording
-    zip A = whole.of_a
-    zip B = whole.of_b
+    zip : AreAllRecorded origin options (handed_to a b) recording
+    zip A = record { recorded = a; whole = sym (append-nil a); each = whole.of_a }
+    zip B = record { recorded = b; whole = sym (append-nil b); each = whole.of_b }
