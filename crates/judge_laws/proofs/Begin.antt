@@ -1,9 +1,7 @@
 -- A judge before the first packet of a recording, and the law: of what was sent legally it finds nothing but missing twins.
-use Rattle.std.proofs.Common.{append_assoc, ℕ, ◌≡◌, ◌++◌, Some, suc, zero, ◌+◌, ◌*◌, ◌<◌, ◌≤◌, Bool, true, false, List, [], ◌∷◌, length, map, take, get_or, replicate, Option, None, arith, refl, sym, subst, ap, ◌∙◌, inl, inr}
+use Rattle.std.proofs.Common.{append_assoc, ℕ, ◌≡◌, ◌++◌, Some, suc, zero, ◌+◌, ◌<◌, ◌≤◌, Bool, true, false, List, [], ◌∷◌, length, map, take, replicate, Option, None, arith, refl, sym, subst, ap, ◌∙◌, inl, inr}
 use Rattle.std.specs.Prelude.{All, filter, nat_eq}
-use Rattle.std.specs.List.{AllZip}
-use Rattle.std.proofs.lemmas.Bool.{cases_Bool, cases_lt, eqb-true}
-use Rattle.std.proofs.lemmas.Bool.Decides.{nat_tests}
+use Rattle.std.proofs.lemmas.Bool.{cases_lt, eqb-true}
 use Rattle.std.proofs.lemmas.List.{get_or-replicate, get_or_default, length-replicate, map-append}
 use Rattle.std.proofs.lemmas.List.Elements.{All-filter, All-nil, All-tail, All-weaker}
 use Rattle.afdx_plan.specs.Config.{Plan, IsPlan, link_plan_at}
@@ -18,18 +16,16 @@ use Rattle.afdx_frame.specs.declared.net.Net.TheVariants.{A, B}
 use Rattle.redundant_mux.specs.Lines.{Entry, entry, side}
 use Rattle.afdx_legal.proofs.StreamLemmas.{known_all, on_both_is, with_append}
 use Rattle.afdx_legal.specs.Accepted.{AreAllowed, IsAllowed}
-use Rattle.afdx_legal.specs.Legal.{Accepted, AreKnown, AreTwins, IsKnown, IsLegalOn, is_on_both, on_both}
+use Rattle.afdx_legal.specs.Legal.{Accepted, AreKnown, IsKnown, IsLegalOn, is_on_both, on_both}
 use Rattle.afdx_legal.specs.Streams.{IsNumbered, IsSpaced, TakesTurns, TakeTurnsOn, entry_number, latest, link_stream, stamp_of, sub_stream, told}
 use Rattle.afdx_laws.proofs.LegalLinks.{stream_front}
-use Rattle.judge.specs.Judging.{OnNet, findings, line_on, link_at, new_link, no_times}
+use Rattle.judge.specs.Judging.{findings, line_on, new_link, no_times}
 use Rattle.judge.specs.Lines.{new_line, new_sub, sub_at}
-use Rattle.judge.specs.Types.{Line, Link, Sub}
-use Rattle.judge.specs.declared.finding.Finding.{Finding}
 use Rattle.judge.specs.declared.options.Options.{Options}
-use Rattle.judge_laws.specs.NoFalseAlarm.{AreFit, IsMissing, IsRecording, IsRunOf, IsSent, NoFalseAlarm, packets_of}
+use Rattle.judge_laws.specs.NoFalseAlarm.{IsMissing, IsRunOf, IsSent, NoFalseAlarm, packets_of}
 use Rattle.judge_laws.proofs.Copies.{IsCopy, IsStream, all_copies}
 use Rattle.judge_laws.proofs.Line.{IsAhead, IsLine, of_profile}
-use Rattle.judge_laws.proofs.Link.{AreCopies, IsLinkOf}
+use Rattle.judge_laws.proofs.Link.{AreCopies}
 use Rattle.judge_laws.proofs.Pieces.{IsAwaiting, awaits_all, awaits_late}
 use Rattle.judge_laws.proofs.Recording.{IsGoing, goes_on, id_of, rest_of}
 use Rattle.judge_laws.proofs.Turns.{AreDue, own_sub}

@@ -1,11 +1,11 @@
 -- A link's stream on two networks: frames with one number that are less than 255 gaps apart are copies of one frame.
-use Rattle.std.proofs.Common.{ℕ, ◌≡◌, zero, suc, ◌+◌, ◌*◌, ◌-◌, ◌%◌, ◌<◌, ◌≤◌, Bool, true, false, List, [], ◌∷◌, length, map, take, drop, get_or, set, Option, Some, None, arith, refl, inl, inr, length-set, sym, ◌∙◌}
-use Rattle.std.specs.Prelude.{All, Contains, slice_range}
-use Rattle.std.proofs.lemmas.Bool.{cases_lt, cases_eq}
+use Rattle.std.proofs.Common.{ℕ, ◌≡◌, zero, suc, ◌+◌, ◌*◌, ◌-◌, ◌<◌, ◌≤◌, List, [], ◌∷◌, length, map, take, get_or, Option, Some, None, arith, refl, length-set, sym, ◌∙◌}
+use Rattle.std.specs.Prelude.{All, slice_range}
+use Rattle.std.proofs.lemmas.Bool.{cases_lt}
 use Rattle.std.proofs.lemmas.Bool.Decides.{nat_tests}
 use Rattle.std.proofs.lemmas.List.{take-set-le, drop-set-lt, length-map, length-take, get_or-map, get_or-take}
 use Rattle.afdx_plan.specs.Plan.{sequence_number}
-use Rattle.afdx_frame.proofs.Twins.{twin_number, length-twin}
+use Rattle.afdx_frame.proofs.Twins.{twin_number}
 use Rattle.afdx_frame.specs.declared.net.Net.{Net}
 use Rattle.afdx_frame.specs.Frame.{interface_byte}
 use Rattle.afdx_frame.specs.Header.{number_in, twin_of}

@@ -1,7 +1,7 @@
 -- Findings only grow, so where none is found in the end, no packet has one.
-use Rattle.std.proofs.Common.{ℕ, ◌≡◌, ◌+◌, ◌<◌, ◌≤◌, Bool, true, false, List, [], ◌∷◌, ◌++◌, length, Option, Some, None, Result, Ok, Err, arith, refl, sym, subst, ap, ◌∙◌, inl, inr}
-use Rattle.std.specs.Prelude.{nat_lt, if◌then◌else◌, ◌&&◌}
-use Rattle.std.proofs.lemmas.Bool.{and_right, cases_Bool}
+use Rattle.std.proofs.Common.{ℕ, ◌≡◌, Bool, true, false, List, [], ◌∷◌, ◌++◌, length, Option, Some, None, Result, Ok, Err, refl, subst}
+use Rattle.std.specs.Prelude.{if◌then◌else◌, ◌&&◌}
+use Rattle.std.proofs.lemmas.Bool.{and_right}
 use Rattle.afdx_plan.specs.Plan.{is_both}
 use Rattle.afdx_plan.specs.declared.link_plan.LinkPlan.{LinkPlan}
 use Rattle.afdx_plan.specs.declared.port_plan.PortPlan.{PortPlan}
@@ -10,7 +10,7 @@ use Rattle.afdx_frame.specs.declared.net.Net.{Net}
 use Rattle.capture.specs.Recording.{Recorded}
 use Rattle.judge.specs.Deviations.{with_finding}
 use Rattle.judge.specs.Fields.{fields_of}
-use Rattle.judge.specs.Judging.{Admitted, Judging, OnNet, admitted, after_packet, arrived, found_from, found_given_up, found_judged, found_left, found_of_arrival, found_on_line, found_on_link, found_refusal, found_seen, found_timed, found_twin, found_with_end, found_with_packet, given_up, is_with_check, line_on, tag_of, timed, with_verdict}
+use Rattle.judge.specs.Judging.{Admitted, Judging, OnNet, admitted, after_packet, arrived, found_from, found_given_up, found_judged, found_left, found_of_arrival, found_on_line, found_on_link, found_refusal, found_timed, found_twin, found_with_end, found_with_packet, given_up, is_with_check, line_on, tag_of, timed, with_verdict}
 use Rattle.judge.specs.Lines.{verdict}
 use Rattle.judge.specs.Rules.{size_deviation}
 use Rattle.judge.specs.Twins.{found_at_end, found_missing, twin_deviation}

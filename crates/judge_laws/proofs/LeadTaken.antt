@@ -1,19 +1,19 @@
 -- A frame of a link on both networks, in the order of time: no frame that waits is passed, and the networks lead on.
-use Rattle.std.proofs.Common.{ℕ, ◌≡◌, ◌≢◌, ◌+◌, ◌*◌, ◌<◌, ◌≤◌, Bool, true, false, List, [], ◌∷◌, ◌++◌, length, map, Option, Some, None, arith, refl, sym, subst, ap, ◌∙◌, inl, inr, append_assoc}
-use Rattle.std.specs.Prelude.{◌⊎◌, All, find, nat_eq, not, remove}
+use Rattle.std.proofs.Common.{ℕ, ◌≡◌, ◌+◌, ◌*◌, ◌<◌, ◌≤◌, Bool, true, false, List, [], ◌∷◌, ◌++◌, length, map, Option, Some, arith, refl, sym, subst, ap, ◌∙◌, inl, inr, append_assoc}
+use Rattle.std.specs.Prelude.{◌⊎◌, All, find, remove}
 use Rattle.std.specs.List.{AllZip, position_or_len}
-use Rattle.std.proofs.lemmas.Bool.{cases_Bool, eq-eqb, ne_eqb}
-use Rattle.std.proofs.lemmas.List.Elements.{All-cons, All-head, All-nil, All-push, All-tail, All-weaker}
+use Rattle.std.proofs.lemmas.Bool.{eq-eqb}
+use Rattle.std.proofs.lemmas.List.Elements.{All-cons, All-nil, All-push, All-tail, All-weaker}
 use Rattle.afdx_frame.proofs.Twins.{length-twin, twin_number}
-use Rattle.afdx_frame.specs.Header.{number_in, twin_of}
+use Rattle.afdx_frame.specs.Header.{number_in}
 use Rattle.afdx_frame.specs.declared.net.Net.{Net}
 use Rattle.afdx_frame.specs.declared.net.Net.TheVariants.{A, B}
 use Rattle.redundant_mux.specs.Lines.{Entry, side}
-use Rattle.judge.specs.Twins.{is_passed, is_twin, kept, left_waiting, pairing_with, same_net}
+use Rattle.judge.specs.Twins.{is_passed, is_twin, left_waiting, pairing_with, same_net}
 use Rattle.judge.specs.Types.{Nearness, Tag}
 use Rattle.judge.specs.Waiting.{Pairing, Wait}
 use Rattle.judge_laws.proofs.Copies.{IsStream}
-use Rattle.judge_laws.proofs.Leading.{AreOpen, IsLeading, IsWaitFor, all_stay, later_apart, no_twin, open_own, other, same_other, same_self, stay_kept, zip_push}
+use Rattle.judge_laws.proofs.Leading.{AreOpen, IsLeading, IsWaitFor, all_stay, later_apart, no_twin, open_own, other, same_other, stay_kept, zip_push}
 use Rattle.judge_laws.proofs.Link.{rest_after}
 use Rattle.judge_laws.proofs.Numbers.{IsDelayed}
 

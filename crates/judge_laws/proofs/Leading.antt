@@ -1,20 +1,20 @@
 -- The twins of a link on both networks, where both got all and the recording is in the order of time: the frames that wait
 -- are those by which one network leads, and each finds its twin.
-use Rattle.std.proofs.Common.{ℕ, ◌≡◌, ◌≢◌, zero, suc, ◌+◌, ◌*◌, ◌-◌, ◌<◌, ◌≤◌, Bool, true, false, List, [], ◌∷◌, ◌++◌, length, get_or, map, take, drop, Option, Some, None, arith, refl, sym, subst, ap, ◌∙◌, inl, inr, cond, eqb, length-append}
-use Rattle.std.specs.Prelude.{All, filter, find, remove, nat_eq, not, ◌&&◌}
-use Rattle.std.specs.List.{AllZip, position_or_len}
-use Rattle.std.proofs.lemmas.Bool.{cases_Bool, eq-eqb, ne_eqb}
+use Rattle.std.proofs.Common.{ℕ, ◌≡◌, ◌+◌, ◌*◌, ◌<◌, ◌≤◌, true, false, List, [], ◌∷◌, ◌++◌, length, get_or, map, None, arith, refl, sym, ap, ◌∙◌, inl, inr, length-append}
+use Rattle.std.specs.Prelude.{All, filter, find, nat_eq, ◌&&◌}
+use Rattle.std.specs.List.{AllZip}
+use Rattle.std.proofs.lemmas.Bool.{cases_Bool, ne_eqb}
 use Rattle.std.proofs.lemmas.List.{get_or-append-add, get_or_append_left, get_or_default}
 use Rattle.std.proofs.Math.Seq.{get_or-append_seam}
 use Rattle.std.proofs.lemmas.Bool.Decides.{nat_tests}
-use Rattle.std.proofs.lemmas.List.Elements.{All-cons, All-head, All-nil, All-tail}
-use Rattle.afdx_frame.specs.Header.{number_in, twin_of}
+use Rattle.std.proofs.lemmas.List.Elements.{All-cons, All-nil, All-tail}
+use Rattle.afdx_frame.specs.Header.{number_in}
 use Rattle.afdx_frame.specs.declared.net.Net.{Net}
 use Rattle.afdx_frame.specs.declared.net.Net.TheVariants.{A, B}
 use Rattle.redundant_mux.specs.Lines.{Entry, entry, side}
-use Rattle.judge.specs.Twins.{is_lost, is_near, is_passed, is_twin, kept, left_waiting, pairing_with, same_net, stays, twin_deviation}
+use Rattle.judge.specs.Twins.{is_lost, is_near, is_passed, is_twin, kept, same_net}
 use Rattle.judge.specs.Types.{Nearness, Tag}
-use Rattle.judge.specs.Waiting.{Pairing, Wait}
+use Rattle.judge.specs.Waiting.{Wait}
 use Rattle.judge_laws.proofs.Copies.{IsStream, far, own_at}
 use Rattle.judge_laws.proofs.Numbers.{IsDelayed}
 

@@ -1,14 +1,14 @@
 -- A line of a judge: what it knows of a link on a network while the frames `rest` of a legal stream are to come, and that
 -- nothing is wrong with the next one.
-use Rattle.std.proofs.Common.{ℕ, ◌≡◌, ◌≢◌, ◌+◌, ◌*◌, ◌-◌, ◌^◌, ◌<◌, ◌≤◌, Bool, true, false, List, [], ◌∷◌, ◌++◌, length, Option, Some, None, arith, refl, sym, inl, inr, cond, eqb, ◌∙◌, subst}
-use Rattle.std.specs.Prelude.{min, slice_set, nat_eq, if◌then◌else◌}
-use Rattle.std.proofs.lemmas.Bool.{cases_Bool, cases_eq, eq-eqb, ne_eqb}
+use Rattle.std.proofs.Common.{ℕ, ◌≡◌, ◌≢◌, ◌+◌, ◌<◌, ◌≤◌, true, false, List, [], ◌∷◌, ◌++◌, length, Option, Some, None, arith, refl, sym, inl, inr, ◌∙◌, subst}
+use Rattle.std.specs.Prelude.{slice_set}
+use Rattle.std.proofs.lemmas.Bool.{cases_Bool, cases_eq}
 use Rattle.std.proofs.lemmas.Bool.Decides.{nat_tests}
 use Rattle.afdx_plan.specs.Config.{Plan, IsPlan, link_plan_at}
-use Rattle.afdx_plan.specs.Plan.{bag_micros, room_of}
+use Rattle.afdx_plan.specs.Plan.{bag_micros}
 use Rattle.afdx_plan.specs.declared.port_plan.PortPlan.{PortPlan}
 use Rattle.afdx_frame.specs.Fragments.{blanked}
-use Rattle.afdx_frame.specs.Header.{number_in, sub_in}
+use Rattle.afdx_frame.specs.Header.{sub_in}
 use Rattle.afdx_frame.specs.declared.net.Net.{Net}
 use Rattle.redundant_mux.specs.Lines.{Entry, names}
 use Rattle.vl_shaper.specs.declared.shaper.Stamp.{Stamp}
@@ -16,7 +16,7 @@ use Rattle.afdx_legal.specs.Streams.{IsNumbered, IsPrefixOf, IsSpaced, TakesTurn
 use Rattle.judge.specs.Fields.{fields_of}
 use Rattle.judge.specs.Joining.{end_deviation, fragment_deviation, head_now, joined}
 use Rattle.judge.specs.Judging.{arrived, first_port, measure_of}
-use Rattle.judge.specs.Lines.{early_deviation, figures_with, line_after, line_with, number_deviation, port_deviation, settled, sub_at, turn_deviation, verdict, sub_in as judge_sub}
+use Rattle.judge.specs.Lines.{early_deviation, figures_with, line_after, line_with, number_deviation, port_deviation, settled, sub_at, turn_deviation, verdict}
 use Rattle.judge.specs.Types.{Arrived, Joining, Line, Measure, Sub, Tag, Verdict}
 use Rattle.judge.specs.declared.options.Options.{Options}
 use Rattle.judge_laws.proofs.Numbers.{IsDelayed, IsLast, none_early, number_fits}

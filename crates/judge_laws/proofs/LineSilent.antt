@@ -1,24 +1,23 @@
 -- A line of a judge that finds nothing: the frames are numbered and spaced, and take turns.
-use Rattle.std.proofs.Common.{ℕ, zero, suc, ◌≡◌, ◌≢◌, ◌+◌, ◌*◌, ◌-◌, ◌/◌, ◌^◌, ◌<◌, ◌≤◌, Bool, true, false, List, [], ◌∷◌, ◌++◌, length, map, get_or, Option, Some, None, arith, refl, sym, subst, ap, ◌∙◌, inl, inr, length-set}
-use Rattle.std.specs.Prelude.{Ok, find, min, nat_eq, nat_lt, position, slice_index, slice_set, ◌&&◌}
-use Rattle.std.proofs.lemmas.Bool.{cases_Bool, cases_eq, cases_lt, eqb-true}
+use Rattle.std.proofs.Common.{ℕ, zero, suc, ◌≡◌, ◌+◌, ◌*◌, ◌-◌, ◌/◌, ◌^◌, ◌<◌, ◌≤◌, Bool, true, false, List, [], ◌∷◌, length, map, get_or, Option, Some, None, arith, refl, sym, subst, ap, ◌∙◌, inl, inr, length-set}
+use Rattle.std.specs.Prelude.{Ok, find, slice_set}
+use Rattle.std.proofs.lemmas.Bool.{cases_Bool, cases_eq, cases_lt}
 use Rattle.std.proofs.lemmas.List.{get_or_past}
 use Rattle.judge.proofs.Pairs.{none_is}
 use Rattle.std.proofs.lemmas.Bool.Decides.{nat_tests}
-use Rattle.afdx_plan.specs.Config.{Plan, IsPlan, link_plan_at}
+use Rattle.afdx_plan.specs.Config.{Plan, link_plan_at}
 use Rattle.afdx_plan.specs.Plan.{bag_micros, sequence_number}
 use Rattle.afdx_plan.specs.declared.port_plan.PortPlan.{PortPlan}
 use Rattle.afdx_frame.specs.Header.{number_in, sub_in}
-use Rattle.afdx_frame.specs.Profile.{word_at}
 use Rattle.afdx_frame.specs.declared.net.Net.{Net}
 use Rattle.redundant_mux.specs.Lines.{Entry}
 use Rattle.vl_shaper.specs.declared.shaper.Stamp.{Stamp}
-use Rattle.afdx_legal.specs.Streams.{IsApart, IsNumbered, IsSpaced, TakesTurns, before_next, entry_number, more_in, stamp_of, sub_stream}
+use Rattle.afdx_legal.specs.Streams.{IsApart, IsNumbered, IsSpaced, TakesTurns, entry_number, more_in, stamp_of}
 use Rattle.capture.specs.Recording.{Recorded}
 use Rattle.judge.specs.Fields.{fields_of}
 use Rattle.judge.specs.Judging.{arrived, tag_of}
 use Rattle.judge.specs.Layouts.{layout_broken}
-use Rattle.judge.specs.Lines.{new_sub, due_before, early_deviation, early_since, figures_with, line_after, message_on, next_number, number_deviation, number_unless, numbered, passed_by, settled, sub_at, turn_deviation, turn_if, verdict, sub_in as judge_sub}
+use Rattle.judge.specs.Lines.{new_sub, due_before, early_since, figures_with, line_after, next_number, number_deviation, number_unless, numbered, passed_by, turn_deviation, turn_if, verdict, sub_in as judge_sub}
 use Rattle.judge.specs.Rules.{place_of, size_deviation}
 use Rattle.judge.specs.Types.{Arrived, Last, Line, Measure, Sub, Verdict}
 use Rattle.judge.specs.declared.options.Options.{Options}

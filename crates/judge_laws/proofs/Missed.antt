@@ -1,35 +1,20 @@
 -- A judge that finds nothing in a recording: each packet is a frame of a link of the plan, and nothing is wrong with it on
 -- its line.
-use Rattle.std.proofs.Common.{ℕ, ◌≡◌, ◌≢◌, ◌+◌, ◌<◌, ◌≤◌, Bool, true, false, List, [], ◌∷◌, ◌++◌, length, map, get_or, Option, Some, None, Result, Ok, Err, arith, refl, sym, subst, ap, ◌∙◌, inl, inr, length-set}
-use Rattle.std.specs.Prelude.{◌⊎◌, All, nat_lt, slice_set, if◌then◌else◌}
-use Rattle.std.proofs.lemmas.Bool.{cases_Bool, cases_eq, eq-eqb, ne_eqb}
-use Rattle.std.proofs.lemmas.List.Elements.{All-cons, All-nil, All-tail}
-use Rattle.afdx_plan.specs.Config.{Plan, IsPlan, link_plan_at}
-use Rattle.afdx_plan.specs.declared.port_plan.PortPlan.{PortPlan}
-use Rattle.afdx_plan.specs.declared.port_plan.VlId.{VlId}
-use Rattle.afdx_frame.specs.Header.{link_in}
+use Rattle.std.proofs.Common.{ℕ, ◌≡◌, false, List, [], length, Option, Some, None, Result, Ok, Err, refl, sym, subst, ap, ◌∙◌, inl, inr}
+use Rattle.std.specs.Prelude.{nat_lt}
+use Rattle.std.proofs.lemmas.Bool.{cases_Bool}
+use Rattle.afdx_plan.specs.Config.{Plan, link_plan_at}
 use Rattle.afdx_frame.specs.declared.net.Net.{Net}
-use Rattle.afdx_frame.specs.declared.net.Net.TheVariants.{A, B}
-use Rattle.afdx_legal.specs.Streams.{those_with}
 use Rattle.capture.specs.Recording.{Recorded}
-use Rattle.judge.specs.Fields.{fields_of}
-use Rattle.judge.specs.Judging.{Admitted, Judging, OnNet, admitted, after_packet, arrived, at_place, found_from, found_judged, found_of_arrival, found_on_link, found_timed, found_with_packet, given_up, line_on, link_after, link_at, paired, placed, setting_of, tag_of, timed, times_with, with_frame, with_line}
+use Rattle.judge.specs.Judging.{Admitted, admitted, arrived, at_place, found_judged, found_timed, found_with_packet, line_on, link_at, placed, tag_of, times_with}
 use Rattle.judge.specs.Layouts.{has_four_more, layout_broken}
-use Rattle.judge.specs.Lines.{line_after, verdict}
+use Rattle.judge.specs.Lines.{verdict}
 use Rattle.judge.specs.Rules.{frame_in, if_kept, in_layout, place_of, size_deviation, unchecked}
-use Rattle.judge.specs.Types.{Deviation, Line, Link, Refused, Setting, Tag, Times}
-use Rattle.judge.specs.declared.finding.Finding.{Finding}
+use Rattle.judge.specs.Types.{Deviation, Link, Refused, Tag, Times}
 use Rattle.judge.specs.declared.options.Options.{Options}
-use Rattle.judge_laws.specs.NoFalseAlarm.{packets_of}
-use Rattle.judge_laws.specs.NothingFound.{time_of}
-use Rattle.judge_laws.specs.NothingMissed.{IsOctets}
-use Rattle.judge_laws.proofs.FoundNone.{back_none, front_none, grows, link_none, refusal_found}
+use Rattle.judge_laws.proofs.FoundNone.{link_none, refusal_found}
 use Rattle.judge_laws.proofs.Line.{faultless, measure_at, of_profile, port_at}
-use Rattle.judge_laws.proofs.LineSilent.{AreClear, IsClear, come_of, line_then}
-use Rattle.judge_laws.proofs.Link.{line_given_up, line_paired}
-use Rattle.judge_laws.proofs.OfProfile.{layout_is_profile}
-use Rattle.judge_laws.proofs.Quiet.{placed_says}
-use Rattle.judge_laws.proofs.Recording.{after_is, found_is, id_of, judge_of, new_at, new_links, other_at, vl_of}
+use Rattle.judge_laws.proofs.Recording.{found_is, judge_of}
 
 -- ---- a packet
 

@@ -1,9 +1,9 @@
 -- A judge that finds nothing in a recording: each line is clear.
-use Rattle.std.proofs.Common.{ℕ, ◌≡◌, ◌≢◌, ◌+◌, ◌<◌, ◌≤◌, Bool, true, false, List, [], ◌∷◌, ◌++◌, length, map, get_or, Option, Some, None, Ok, arith, refl, sym, subst, ap, ◌∙◌, inl, inr, length-set}
-use Rattle.std.specs.Prelude.{All, slice_set, nat_eq, if◌then◌else◌}
+use Rattle.std.proofs.Common.{ℕ, ◌≡◌, ◌≢◌, ◌<◌, true, false, List, [], ◌∷◌, length, Option, None, Ok, arith, refl, sym, subst, ap, ◌∙◌, inl, inr, length-set}
+use Rattle.std.specs.Prelude.{All}
 use Rattle.std.proofs.lemmas.Bool.{cases_Bool, cases_eq, eq-eqb, ne_eqb}
 use Rattle.std.proofs.lemmas.List.Elements.{All-cons, All-nil, All-tail}
-use Rattle.afdx_plan.specs.Config.{Plan, IsPlan, link_plan_at}
+use Rattle.afdx_plan.specs.Config.{Plan, IsPlan}
 use Rattle.afdx_plan.specs.declared.port_plan.PortPlan.{PortPlan}
 use Rattle.afdx_frame.specs.Header.{link_in}
 use Rattle.afdx_frame.specs.declared.net.Net.{Net}
@@ -24,7 +24,7 @@ use Rattle.judge_laws.specs.NothingFound.{time_of}
 use Rattle.judge_laws.specs.NothingMissed.{IsOctets}
 use Rattle.judge_laws.proofs.FoundNone.{grows}
 use Rattle.judge_laws.proofs.Line.{faultless, measure_at, port_at}
-use Rattle.judge_laws.proofs.LineSilent.{AreClear, IsClear, come_of, line_then}
+use Rattle.judge_laws.proofs.LineSilent.{AreClear, line_then}
 use Rattle.judge_laws.proofs.Link.{line_given_up, line_paired}
 use Rattle.judge_laws.proofs.Missed.{IsPacketSilent, packet_silent}
 use Rattle.judge_laws.proofs.OfProfile.{layout_is_profile}

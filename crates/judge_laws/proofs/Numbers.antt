@@ -1,5 +1,5 @@
 -- The sequence numbers of a line and its gaps: where those of its frames run on and keep the gap, none is wrong or early.
-use Rattle.std.proofs.Common.{ℕ, ◌≡◌, ◌+◌, ◌*◌, ◌-◌, ◌%◌, ◌<◌, ◌≤◌, Bool, true, false, List, Option, Some, None, arith, refl}
+use Rattle.std.proofs.Common.{ℕ, ◌≡◌, ◌+◌, ◌*◌, ◌-◌, ◌≤◌, Bool, true, false, Option, Some, None, arith, refl}
 use Rattle.std.proofs.lemmas.Bool.Decides.{nat_tests}
 use Rattle.afdx_plan.specs.Plan.{sequence_number}
 use Rattle.vl_shaper.specs.declared.shaper.Stamp.{Stamp}

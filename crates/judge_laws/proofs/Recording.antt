@@ -1,14 +1,14 @@
 -- A judge over a whole recording: it goes on from packet to packet, and all that it finds is missing twins.
-use Rattle.std.proofs.Common.{ℕ, ◌≡◌, ◌≢◌, ◌+◌, ◌*◌, ◌<◌, ◌≤◌, Bool, true, false, List, [], ◌∷◌, ◌++◌, length, get_or, Option, Some, None, Ok, arith, refl, sym, subst, ap, ◌∙◌, inl, inr, length-set}
-use Rattle.std.specs.Prelude.{All, slice_set, nat_eq}
+use Rattle.std.proofs.Common.{ℕ, ◌≡◌, ◌≢◌, ◌*◌, ◌<◌, ◌≤◌, Bool, false, List, [], ◌∷◌, ◌++◌, length, Some, Ok, arith, refl, sym, subst, ap, ◌∙◌, inl, inr, length-set}
+use Rattle.std.specs.Prelude.{All, slice_set}
 use Rattle.std.specs.List.{AllZip}
-use Rattle.std.proofs.lemmas.Bool.{cases_eq, eq-eqb, ne_eqb}
+use Rattle.std.proofs.lemmas.Bool.{cases_eq}
 use Rattle.std.proofs.lemmas.Bool.Decides.{nat_tests}
 use Rattle.std.proofs.lemmas.List.{get_or-set_same, get_or-set_other}
 use Rattle.afdx_plan.specs.Config.{Plan, IsPlan, link_plan_at}
 use Rattle.afdx_plan.specs.declared.link_plan.LinkPlan.{LinkPlan}
 use Rattle.afdx_plan.specs.declared.port_plan.VlId.{VlId}
-use Rattle.afdx_frame.specs.Header.{link_in, number_in, sub_in}
+use Rattle.afdx_frame.specs.Header.{link_in, number_in}
 use Rattle.afdx_frame.specs.declared.net.Net.{Net}
 use Rattle.afdx_frame.specs.declared.net.Net.TheVariants.{A, B}
 use Rattle.redundant_mux.specs.Lines.{Entry}
@@ -21,8 +21,8 @@ use Rattle.judge.specs.Types.{Link, Nearness, Tag, Times}
 use Rattle.judge.specs.declared.finding.Finding.{Finding}
 use Rattle.judge.specs.declared.options.Options.{Options}
 use Rattle.judge_laws.specs.NoFalseAlarm.{AreFit, IsMissing, IsRecord, packets_of}
-use Rattle.judge_laws.proofs.Line.{IsLine, of_profile, port_at}
-use Rattle.judge_laws.proofs.Link.{AreCopies, IsLinkOf, IsLinkTaken, all_given_up, link_taken, link_then, rest_after, setting_at}
+use Rattle.judge_laws.proofs.Line.{of_profile, port_at}
+use Rattle.judge_laws.proofs.Link.{IsLinkOf, IsLinkTaken, all_given_up, link_taken, link_then, rest_after, setting_at}
 use Rattle.judge_laws.proofs.Numbers.{IsDelayed}
 use Rattle.judge_laws.proofs.Waits.{missing_at_end}
 

@@ -1,12 +1,12 @@
 -- Nothing missed: where a judge finds nothing, what was recorded of each network was sent legally.
-use Rattle.std.proofs.Common.{zero, suc, ℕ, ◌≡◌, ◌≢◌, ◌+◌, ◌-◌, ◌^◌, ◌<◌, ◌≤◌, Bool, true, false, List, [], ◌∷◌, ◌++◌, length, map, get_or, replicate, Option, Some, None, Ok, arith, refl, sym, subst, ap, ◌∙◌, inl, inr}
+use Rattle.std.proofs.Common.{zero, suc, ℕ, ◌≡◌, ◌+◌, ◌-◌, ◌^◌, ◌<◌, ◌≤◌, Bool, true, false, List, [], ◌∷◌, length, map, get_or, replicate, None, arith, refl, sym, subst, ap, ◌∙◌, inl, inr}
 use Rattle.std.specs.Prelude.{◌⊎◌, All, filter, nat_eq}
-use Rattle.std.proofs.lemmas.Bool.{cases_Bool, cases_eq, cases_lt, eq-eqb, ne_eqb}
+use Rattle.std.proofs.lemmas.Bool.{cases_Bool, cases_lt, eq-eqb, ne_eqb}
 use Rattle.std.proofs.lemmas.List.{append-nil, get_or-replicate, length-map, length-replicate}
-use Rattle.std.proofs.lemmas.List.Elements.{All-cons, All-head, All-nil, All-tail, All-weaker}
+use Rattle.std.proofs.lemmas.List.Elements.{All-tail}
 use Rattle.std.proofs.lemmas.Simd.{map-map}
-use Rattle.afdx_plan.specs.Config.{Plan, IsPlan, link_plan_at}
-use Rattle.afdx_plan.specs.Plan.{bag_micros, room_of}
+use Rattle.afdx_plan.specs.Config.{Plan, link_plan_at}
+use Rattle.afdx_plan.specs.Plan.{room_of}
 use Rattle.afdx_frame.specs.Fragments.{Sent, blanked, fragments}
 use Rattle.afdx_frame.specs.Header.{link_in, sub_in}
 use Rattle.afdx_frame.specs.Profile.{IsFrame}
@@ -15,24 +15,24 @@ use Rattle.afdx_frame.specs.declared.net.Net.TheVariants.{A, B}
 use Rattle.redundant_mux.specs.Lines.{Entry, names}
 use Rattle.afdx_legal.proofs.StreamLemmas.{with_map}
 use Rattle.afdx_legal.specs.Accepted.{IsAllowed}
-use Rattle.afdx_legal.specs.Legal.{AreKnown, IsKnown, IsLegalOn}
+use Rattle.afdx_legal.specs.Legal.{AreKnown, IsKnown}
 use Rattle.afdx_legal.specs.Streams.{link_stream, sub_stream, those_with, told}
 use Rattle.capture.specs.Recording.{Recorded}
 use Rattle.judge.specs.Judging.{OnNet, findings, line_on, new_link, no_times}
-use Rattle.judge.specs.Lines.{new_line, new_sub, sub_at}
+use Rattle.judge.specs.Lines.{new_line, new_sub}
 use Rattle.judge.specs.Types.{Link}
 use Rattle.judge.specs.declared.options.Options.{Options}
 use Rattle.judge_laws.specs.NoFalseAlarm.{packets_of}
 use Rattle.judge.specs.Twins.{same_net}
-use Rattle.judge_laws.specs.NothingMissed.{EndsWhole, IsOctets, IsSentTo, IsStrict, NothingMissed, entry_of, frames_of, sent_to}
+use Rattle.judge_laws.specs.NothingMissed.{EndsWhole, IsSentTo, IsStrict, NothingMissed, entry_of, frames_of, sent_to}
 use Rattle.judge_laws.proofs.Begin.{new_came, new_joining, own_options}
 use Rattle.judge_laws.proofs.Brings.{first_of_sub}
-use Rattle.judge_laws.proofs.LineSilent.{AreClear, AreHeard, IsAt, heard}
+use Rattle.judge_laws.proofs.LineSilent.{AreClear, AreHeard, heard}
 use Rattle.judge_laws.proofs.MissedLines.{IsPlacedAt, all_placed, lines_clear, own_packets}
 use Rattle.judge_laws.proofs.OfProfile.{layout_is_profile}
 use Rattle.judge_laws.proofs.Quiet.{IsPlaced, placed_says}
-use Rattle.judge_laws.proofs.Recording.{id_of, judge_of, vl_of}
-use Rattle.judge_laws.proofs.Silent.{IsSilent, silent_is_sent}
+use Rattle.judge_laws.proofs.Recording.{id_of, vl_of}
+use Rattle.judge_laws.proofs.Silent.{silent_is_sent}
 use Rattle.judge_laws.proofs.SubSilent.{IsSubSilent, ends_silent, sub_frames, sub_silent}
 
 -- ---- streams of a recording

@@ -1,22 +1,20 @@
 -- The frames of a sub-VL on a clear line: nothing is found in them, and they are those of messages.
-use Rattle.std.proofs.Common.{ℕ, ◌≡◌, ◌≢◌, ◌+◌, ◌<◌, ◌≤◌, Bool, true, false, List, [], ◌∷◌, length, map, Option, Some, None, arith, refl, sym, subst, ap, ◌∙◌, inl, inr, length-set}
-use Rattle.std.specs.Prelude.{slice_set, nat_eq}
+use Rattle.std.proofs.Common.{ℕ, ◌≡◌, ◌≢◌, ◌<◌, false, List, [], ◌∷◌, length, map, Option, Some, refl, sym, subst, ap, ◌∙◌, inl, inr, length-set}
+use Rattle.std.specs.Prelude.{slice_set}
 use Rattle.std.proofs.lemmas.Bool.{cases_eq, eq-eqb, ne_eqb}
-use Rattle.afdx_plan.specs.Config.{Plan, link_plan_at}
-use Rattle.afdx_plan.specs.declared.port_plan.PortPlan.{PortPlan}
+use Rattle.afdx_plan.specs.Config.{Plan}
 use Rattle.afdx_frame.specs.Header.{sub_in}
 use Rattle.afdx_frame.specs.declared.net.Net.{Net}
-use Rattle.afdx_legal.specs.Streams.{more_in, those_with}
+use Rattle.afdx_legal.specs.Streams.{those_with}
 use Rattle.capture.specs.Recording.{Recorded}
 use Rattle.judge.specs.Fields.{fields_of}
-use Rattle.judge.specs.Joining.{end_deviation, fragment_deviation, head_now, joined, next_of}
+use Rattle.judge.specs.Joining.{joined, next_of}
 use Rattle.judge.specs.Lines.{sub_at}
-use Rattle.judge.specs.Types.{Arrived, Head, Joining, Line, PieceIn, Sub}
+use Rattle.judge.specs.Types.{Head, Joining, Line, PieceIn, Sub}
 use Rattle.judge.specs.declared.options.Options.{Options}
 use Rattle.judge_laws.specs.NothingMissed.{EndsWhole}
-use Rattle.judge_laws.proofs.Heard.{room_at}
 use Rattle.judge_laws.proofs.Line.{IsRight, line_of, measure_at, port_at, sub_of}
-use Rattle.judge_laws.proofs.LineSilent.{AreClear, IsClear, after_clear, come_of, line_then, more_of, sub_of_frame, wrong_right}
+use Rattle.judge_laws.proofs.LineSilent.{AreClear, IsClear, after_clear, come_of, more_of, sub_of_frame, wrong_right}
 use Rattle.judge_laws.proofs.Quiet.{IsQuiet}
 use Rattle.judge_laws.proofs.Silent.{IsSilent, joining_after}
 use Rattle.judge_laws.proofs.Turns.{new_at, other_at}

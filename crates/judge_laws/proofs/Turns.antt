@@ -1,6 +1,6 @@
 -- The turns of a line's sub-VLs: where those of its frames take turns, none is passed by.
-use Rattle.std.proofs.Common.{ℕ, ◌≡◌, ◌≢◌, ◌+◌, ◌-◌, ◌^◌, ◌<◌, ◌≤◌, Bool, true, false, List, [], ◌∷◌, length, get_or, set, Option, Some, None, arith, refl, ap, sym, inl, inr, eqb, length-set, ◌∙◌}
-use Rattle.std.specs.Prelude.{position, nat_lt, ◌&&◌, slice_set, min}
+use Rattle.std.proofs.Common.{ℕ, ◌≡◌, ◌≢◌, ◌+◌, ◌-◌, ◌^◌, ◌<◌, ◌≤◌, Bool, true, false, List, ◌∷◌, length, get_or, Option, Some, None, arith, refl, length-set, ◌∙◌}
+use Rattle.std.specs.Prelude.{nat_lt, ◌&&◌, slice_set, min}
 use Rattle.std.proofs.lemmas.Bool.{cases_eq}
 use Rattle.std.proofs.lemmas.Bool.Decides.{nat_tests}
 use Rattle.std.proofs.lemmas.List.{get_or-set_same, get_or-set_other, get_or_default}

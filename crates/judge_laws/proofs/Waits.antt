@@ -1,14 +1,13 @@
 -- The frames that wait for their twins: each is a copy of one of the link's stream, so none that it is put to differs.
-use Rattle.std.proofs.Common.{ℕ, ◌≡◌, suc, ◌+◌, ◌*◌, ◌<◌, ◌≤◌, Bool, true, false, List, [], ◌∷◌, ◌++◌, length, take, drop, Option, Some, None, arith, refl, sym, inl, inr, cond, subst}
-use Rattle.std.specs.Prelude.{All, find, filter, remove}
+use Rattle.std.proofs.Common.{ℕ, ◌≡◌, suc, ◌+◌, ◌*◌, ◌<◌, Bool, true, false, List, [], ◌∷◌, take, drop, Option, Some, None, arith, refl, cond, subst}
+use Rattle.std.specs.Prelude.{All, find, remove}
 use Rattle.std.specs.List.{position_or_len}
-use Rattle.std.proofs.lemmas.Bool.{cases_Bool}
 use Rattle.std.proofs.lemmas.Bool.Decides.{nat_tests}
-use Rattle.std.proofs.lemmas.List.Elements.{All-append, All-cons, All-nil, All-drop, All-filter, All-head, All-map, All-push, All-tail, All-take, filter_passes}
+use Rattle.std.proofs.lemmas.List.Elements.{All-append, All-drop, All-filter, All-map, All-push, All-tail, All-take, filter_passes}
 use Rattle.afdx_plan.specs.declared.port_plan.VlId.{VlId}
 use Rattle.afdx_frame.specs.Header.{number_in}
 use Rattle.redundant_mux.specs.Lines.{Entry}
-use Rattle.judge.specs.Twins.{is_near, is_twin, kept, stays, left_waiting, missing, missing_of, met, pairing_with, twin_deviation, twin_if, twin_other, found_missing, found_at_end}
+use Rattle.judge.specs.Twins.{is_twin, kept, stays, left_waiting, missing, missing_of, pairing_with, twin_deviation, twin_other, found_missing, found_at_end}
 use Rattle.judge.specs.Types.{Nearness, Tag}
 use Rattle.judge.specs.Waiting.{Pairing, Wait}
 use Rattle.judge.specs.declared.finding.Finding.{Finding}

@@ -1,9 +1,9 @@
 -- A judge over a whole recording, in the order of time: nothing is found.
-use Rattle.std.proofs.Common.{ℕ, ◌≡◌, ◌≢◌, ◌+◌, ◌*◌, ◌<◌, ◌≤◌, Bool, true, false, List, [], ◌∷◌, ◌++◌, length, map, get_or, take, replicate, Option, Some, None, arith, refl, sym, subst, ap, ◌∙◌, inl, inr, append-nil, le_refl}
-use Rattle.std.specs.Prelude.{All, filter, if◌then◌else◌, unwrap_or, nat_eq}
+use Rattle.std.proofs.Common.{ℕ, ◌≡◌, ◌+◌, ◌*◌, ◌<◌, ◌≤◌, Bool, true, false, List, [], ◌∷◌, ◌++◌, length, map, replicate, Option, Some, arith, refl, sym, subst, ap, ◌∙◌, inl, inr, append-nil, le_refl}
+use Rattle.std.specs.Prelude.{All, if◌then◌else◌, unwrap_or, nat_eq}
 use Rattle.std.specs.List.{AllZip}
 use Rattle.std.proofs.lemmas.Bool.{cases_Bool, cases_eq}
-use Rattle.std.proofs.lemmas.List.{get_or-replicate, length-map, take_all}
+use Rattle.std.proofs.lemmas.List.{get_or-replicate, take_all}
 use Rattle.std.proofs.lemmas.List.Elements.{All-cons, All-filter, All-from_get_or, All-nil, All-tail, All-weaker}
 use Rattle.afdx_plan.specs.Config.{Plan, IsPlan, link_plan_at}
 use Rattle.afdx_plan.specs.Plan.{bag_micros, is_both}
@@ -16,22 +16,20 @@ use Rattle.afdx_legal.specs.Legal.{Accepted, on_both}
 use Rattle.afdx_legal.specs.Streams.{link_stream}
 use Rattle.afdx_laws.proofs.LegalLinks.{stream_side}
 use Rattle.capture.specs.Recording.{Recorded}
-use Rattle.judge.specs.Judging.{Judging, OnNet, found_from, found_given_up, found_left, found_with_end, findings, link_at, new_link, no_times, tag_of, times_with}
-use Rattle.judge.specs.Twins.{found_at_end, found_missing, is_lost, is_passed, left_waiting, missing_of, pairing_with, same_net}
+use Rattle.judge.specs.Judging.{OnNet, found_from, found_given_up, found_left, found_with_end, findings, link_at, new_link, no_times, tag_of, times_with}
+use Rattle.judge.specs.Twins.{found_at_end, found_missing, is_passed, same_net}
 use Rattle.judge.specs.Types.{Link, Nearness, Setting, Tag, Times}
 use Rattle.judge.specs.Waiting.{Pairing, Wait}
 use Rattle.judge.specs.declared.finding.Finding.{Finding}
 use Rattle.judge.specs.declared.options.Options.{Options}
 use Rattle.judge_laws.specs.NoFalseAlarm.{AreFit, IsRecord, IsSent, packets_of}
-use Rattle.judge_laws.specs.NothingFound.{IsInOrder, IsWhole, NothingFound, time_of}
+use Rattle.judge_laws.specs.NothingFound.{IsInOrder, NothingFound, time_of}
 use Rattle.judge_laws.proofs.Begin.{IsOwn, both_copies, going_begins, handed_to, own_options, owns, stream_on_both}
 use Rattle.judge_laws.proofs.Copies.{IsStream}
-use Rattle.judge_laws.proofs.LeadTaken.{IsInTime, LeadsOn, leads_on}
-use Rattle.judge_laws.proofs.Leading.{AreOpen, IsLeading, IsWaitFor, other, stay_found, stay_kept}
-use Rattle.judge_laws.proofs.Line.{of_profile}
-use Rattle.judge_laws.proofs.Link.{IsLinkTaken, rest_after, setting_at}
+use Rattle.judge_laws.proofs.LeadTaken.{LeadsOn, leads_on}
+use Rattle.judge_laws.proofs.Leading.{AreOpen, IsLeading, IsWaitFor, other, stay_found}
+use Rattle.judge_laws.proofs.Link.{rest_after, setting_at}
 use Rattle.judge_laws.proofs.Recording.{AreRecorded, IsGoing, IsPacketTaken, IsRecorded, recorded_after, recorded_next, id_of, judge_of, other_next, own_next, packet_taken, rest_of, stream_next}
-use Rattle.judge_laws.proofs.Numbers.{IsDelayed}
 
 -- one network of a link on both leads
 pub record IsPaired (plan : Plan) (k origin : ℕ) (options : Options) (latest : ℕ) (waiting : List Wait) (rest : Net → List Entry) : Type 0 where

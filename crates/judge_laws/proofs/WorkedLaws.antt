@@ -1,34 +1,27 @@
 -- The worked recordings of the laws that nothing is found, and nothing missed, by computation.
-use Rattle.std.proofs.Common.{zero, suc, ◌≡◌, ◌≤◌, ◌<◌, ◌+◌, ◌*◌, ℕ, [], ◌∷◌, List, Some, ap, refl, arith}
+use Rattle.std.proofs.Common.{zero, suc, ◌≡◌, ◌<◌, ℕ, [], ◌∷◌, List, refl, arith}
 use Rattle.std.specs.Prelude.{All, false, map, nat_eq, nat_lt, slice_index, true}
 use Rattle.std.specs.List.{AllZip, list_all}
 use Rattle.afdx_frame.specs.Checksum.{checksum}
 use Rattle.afdx_frame.specs.Frame.{addresses, datagram, header_front, internet_header, link_header, udp_header, unnumbered}
 use Rattle.afdx_plan.specs.Demo.{demo_plan}
 use Rattle.afdx_plan.proofs.DemoPlan.{demo_valid}
-use Rattle.afdx_laws.proofs.WorkedDemo.{needs_legal}
-use Rattle.afdx_laws.specs.WorkedPlan.{pair_at, second_frame, two_accepted, two_entries}
+use Rattle.afdx_laws.specs.WorkedPlan.{second_frame, two_entries}
 use Rattle.afdx_frame.specs.declared.net.Net.TheVariants.{A, B}
-use Rattle.judge_laws.specs.NoFalseAlarm.{AreFit, IsMissing, IsRecord, IsRecording, IsRunOf, IsSent}
-use Rattle.std.specs.Prelude.{Bool, true, false}
+use Rattle.judge_laws.specs.NoFalseAlarm.{IsRecord}
+use Rattle.std.specs.Prelude.{true, false}
 use Rattle.judge.specs.CheckSequence.{check_sequence, with_byte}
 use Rattle.judge.specs.Fields.{fields_of}
 use Rattle.judge.specs.Joining.{fragment_deviation, head_now, length_deviation, message_deviation}
-use Rattle.judge.specs.Judging.{admitted, after_packet, findings, found_of_arrival, found_on_link, found_with_end, found_with_packet, link_after, with_arrival, with_verdict}
+use Rattle.judge.specs.Judging.{admitted, after_packet, found_of_arrival, found_on_link, found_with_end, found_with_packet, link_after, with_arrival, with_verdict}
 use Rattle.judge.specs.Layouts.{address_broken, internet_broken, layout_broken, link_broken, padding_broken}
 use Rattle.judge.specs.Lines.{line_after, line_with, verdict}
 use Rattle.judge.specs.Rules.{checked, frame_in, place_of, unchecked}
 use Rattle.judge.specs.Twins.{found_at_end, found_missing, left_waiting, pairing_with, twin_deviation, twin_other}
-use Rattle.judge_laws.specs.Worked.{FindsNothing, NeedsItsPremises, OnlyMissing, both_at, late, loose, packet, seconds_at, strict, with_check}
+use Rattle.judge_laws.specs.Worked.{both_at, packet, strict}
 use Rattle.afdx_legal.specs.Worked.{one_frame}
-use Rattle.redundant_mux.specs.Lines.{Entry, entry}
+use Rattle.redundant_mux.specs.Lines.{Entry}
 use Rattle.afdx_frame.specs.declared.net.Net.{Net}
-use Rattle.judge.specs.declared.options.Options.{Options}
-use Rattle.judge.specs.declared.finding.Finding.{Finding}
-use Rattle.judge.specs.declared.finding.Kind.TheVariants.{Missing}
-use Rattle.judge.specs.Deviations.{kind_number}
-use Rattle.afdx_laws.proofs.ListLemmas.{fails_by}
-use Rattle.judge_laws.proofs.Begin.{no_false_alarm_holds}
 use Rattle.std.proofs.lemmas.Bool.Decides.{nat_tests}
 use Rattle.std.proofs.lemmas.List.Elements.{All-filter, All-from_recursion, All-tail}
 use Rattle.afdx_frame.specs.Profile.{word_at}
@@ -36,11 +29,9 @@ use Rattle.afdx_frame.specs.Header.{link_in, sub_in}
 use Rattle.afdx_legal.specs.Streams.{link_stream, more_in, sub_stream}
 use Rattle.judge.specs.Judging.{OnNet}
 use Rattle.judge_laws.specs.NothingFound.{IsWhole}
-use Rattle.judge_laws.specs.NothingMissed.{EndsWhole, IsOctets, IsSentTo, IsStrict, sent_to}
-use Rattle.judge_laws.specs.Worked.{FindsNoneOfAll, MissesNothing, SentToA, delayed, lagging, one_by_one}
-use Rattle.judge_laws.proofs.Whole.{nothing_found_holds}
-use Rattle.judge_laws.proofs.SentTo.{nothing_missed_holds}
-use Rattle.judge_laws.proofs.WorkedRecordings.{pair_sent, fit, recorded}
+use Rattle.judge_laws.specs.NothingMissed.{EndsWhole, IsOctets, IsStrict, sent_to}
+use Rattle.judge_laws.specs.Worked.{FindsNoneOfAll, MissesNothing}
+use Rattle.judge_laws.proofs.WorkedRecordings.{recorded}
 
 pair_zip : (net : Net) → AllZip (IsRecord 7 strict) (two_entries net)
     ((packet net 7 (one_frame net)).packet ∷ (packet net 1000007 (second_frame net)).packet ∷ [])

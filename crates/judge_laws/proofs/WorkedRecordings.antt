@@ -7,17 +7,17 @@ use Rattle.afdx_plan.proofs.DemoPlan.{demo_valid}
 use Rattle.afdx_laws.proofs.WorkedDemo.{needs_legal}
 use Rattle.afdx_laws.specs.WorkedPlan.{pair_at, second_frame, two_accepted, two_entries}
 use Rattle.afdx_frame.specs.declared.net.Net.TheVariants.{A, B}
-use Rattle.judge_laws.specs.NoFalseAlarm.{AreFit, IsMissing, IsRecord, IsRecording, IsRunOf, IsSent}
+use Rattle.judge_laws.specs.NoFalseAlarm.{AreFit, IsRecord, IsRecording, IsRunOf, IsSent}
 use Rattle.std.specs.Prelude.{Bool, true, false}
 use Rattle.judge.specs.CheckSequence.{check_sequence, with_byte}
 use Rattle.judge.specs.Fields.{fields_of}
 use Rattle.judge.specs.Joining.{fragment_deviation, head_now, length_deviation, message_deviation}
-use Rattle.judge.specs.Judging.{admitted, after_packet, findings, found_of_arrival, found_on_link, found_with_end, found_with_packet, link_after, with_arrival, with_verdict}
+use Rattle.judge.specs.Judging.{admitted, after_packet, found_of_arrival, found_on_link, found_with_end, found_with_packet, link_after, with_arrival, with_verdict}
 use Rattle.judge.specs.Layouts.{address_broken, internet_broken, layout_broken, link_broken, padding_broken}
 use Rattle.judge.specs.Lines.{line_after, line_with, verdict}
 use Rattle.judge.specs.Rules.{checked, frame_in, place_of, unchecked}
 use Rattle.judge.specs.Twins.{found_at_end, found_missing, left_waiting, pairing_with, twin_deviation, twin_other}
-use Rattle.judge_laws.specs.Worked.{FindsNothing, NeedsItsPremises, OnlyMissing, both_at, late, loose, packet, seconds_at, strict, with_check}
+use Rattle.judge_laws.specs.Worked.{FindsNothing, NeedsItsPremises, both_at, late, loose, packet, seconds_at, strict, with_check}
 use Rattle.afdx_legal.specs.Worked.{one_frame}
 use Rattle.redundant_mux.specs.Lines.{entry}
 use Rattle.afdx_frame.specs.declared.net.Net.{Net}
