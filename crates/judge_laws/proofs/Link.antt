@@ -16,6 +16,7 @@ use Rattle.judge.specs.Judging.{arrived, found_given_up, found_on_line, found_on
 use Rattle.judge.specs.Lines.{line_after}
 use Rattle.judge.specs.Twins.{found_missing, left_waiting, pairing_with, twin_deviation}
 use Rattle.judge.specs.Types.{Line, Link, Nearness, Setting, Tag}
+use Rattle.judge.specs.Waiting.{Pairing}
 use Rattle.judge.specs.declared.finding.Finding.{Finding}
 use Rattle.judge.specs.declared.options.Options.{Options}
 use Rattle.judge_laws.specs.NoFalseAlarm.{AreFit, IsMissing}
@@ -53,25 +54,19 @@ setting_at plan k options nearness = record {
 
 -- ---- lines and twins are apart
 
+line_if : (m : Net) (both : Bool) (p : Pairing) (link : Link)
+    → line_on m (if both then record link { twins = p } else link) ≡ line_on m link
+line_if A true p link = refl
+line_if B true p link = refl
+line_if m false p link = refl
+
 pub line_given_up : (setting : Setting) (tag : Tag) (number : ℕ) (link : Link) (net : Net)
     → line_on net (given_up setting tag number link) ≡ line_on net link
-line_given_up setting tag number link net = by net (is_both setting.plan.networks)
-  where
-    by : (m : Net) (both : Bool) → line_on m (if both then record link { twins = left_waiting setting.nearness tag number link.twins } else link)
-        ≡ line_on m link
-    by A true = refl
-    by B true = refl
-    by m false = refl
+line_given_up setting tag number link net = line_if net (is_both setting.plan.networks) _ link
 
 pub line_paired : (setting : Setting) (tag : Tag) (number : ℕ) (frame : List ℕ) (link : Link) (net : Net)
     → line_on net (paired setting tag number frame link) ≡ line_on net link
-line_paired setting tag number frame link net = by net (is_both setting.plan.networks)
-  where
-    by : (m : Net) (both : Bool) → line_on m (if both then record link { twins = pairing_with tag number frame link.twins } else link)
-        ≡ line_on m link
-    by A true = refl
-    by B true = refl
-    by m false = refl
+line_paired setting tag number frame link net = line_if net (is_both setting.plan.networks) _ link
 
 pub twins_with_line : (net : Net) (line : Line) (link : Link) → (with_line net line link).twins ≡ link.twins
 twins_with_line A line link = refl
@@ -85,12 +80,13 @@ lines_after plan k origin options link new rest es A B lines after = lines B
 lines_after plan k origin options link new rest es B A lines after = lines A
 lines_after plan k origin options link new rest es B B lines after = after
 
-copies_after : (stream : List Entry) (rest : Net → List Entry) (es : List Entry) (n m : Net)
-    → ((net : Net) → All (IsCopy stream net) (rest net)) → All (IsCopy stream n) es → All (IsCopy stream m) (rest_after n es rest m)
-copies_after stream rest es A A copies after = after
-copies_after stream rest es A B copies after = copies B
-copies_after stream rest es B A copies after = copies A
-copies_after stream rest es B B copies after = after
+-- what holds of each network's list holds on
+pub rest_holds : (P : Net → List Entry → Type 0) (rest : Net → List Entry) (es : List Entry) (n m : Net)
+    → ((net : Net) → P net (rest net)) → P n es → P m (rest_after n es rest m)
+rest_holds P rest es A A each own = own
+rest_holds P rest es A B each own = each B
+rest_holds P rest es B A each own = each A
+rest_holds P rest es B B each own = own
 
 -- ---- a frame
 
@@ -229,7 +225,7 @@ link_taken plan k origin options nearness link tag e es rest valid inside long i
       twins = λ both. record {
         stream = (is.twins both).stream;
         is_stream = (is.twins both).is_stream;
-        copies = λ net. copies_after (is.twins both).stream rest es tag.net net (is.twins both).copies
+        copies = λ net. rest_holds (λ m xs. All (IsCopy (is.twins both).stream m) xs) rest es tag.net net (is.twins both).copies
             (All-tail (IsCopy (is.twins both).stream tag.net) e es (rw next at ((is.twins both).copies tag.net)));
         waits = rw (twins_after setting tag port number e.frame link both) (met both).waits;
       };

@@ -22,7 +22,7 @@ use Rattle.judge.specs.declared.finding.Finding.{Finding}
 use Rattle.judge.specs.declared.options.Options.{Options}
 use Rattle.judge_laws.specs.NoFalseAlarm.{AreFit, IsMissing, IsRecord, packets_of}
 use Rattle.judge_laws.proofs.Line.{of_profile, port_at}
-use Rattle.judge_laws.proofs.Link.{IsLinkOf, IsLinkTaken, all_given_up, link_taken, link_then, rest_after, setting_at}
+use Rattle.judge_laws.proofs.Link.{IsLinkOf, IsLinkTaken, all_given_up, link_taken, link_then, rest_after, rest_holds, setting_at}
 use Rattle.judge_laws.proofs.Numbers.{IsDelayed}
 use Rattle.judge_laws.proofs.Waits.{missing_at_end}
 
@@ -73,13 +73,6 @@ other_next plan k e es rest A A next other = rw next (stream_same (id_of plan k)
 other_next plan k e es rest A B next other = refl
 other_next plan k e es rest B A next other = refl
 other_next plan k e es rest B B next other = rw next (stream_same (id_of plan k) e es other)
-
-known_after : (links : List LinkPlan) (e : Entry) (es : List Entry) (rest : Net → List Entry) (n m : Net) → rest n ≡ e ∷ es
-    → ((net : Net) → AreKnown links net (rest net)) → AreKnown links m (rest_after n es rest m)
-known_after links e es rest A A next known = (rw next at (known A)).1
-known_after links e es rest A B next known = known B
-known_after links e es rest B A next known = known A
-known_after links e es rest B B next known = (rw next at (known B)).1
 
 abbrev pub vl_of : ℕ → VlId
 vl_of number = record { 0 = number }
@@ -170,7 +163,7 @@ packet_taken plan origin options times told links net number packet e es rest va
   after = after_is plan options times told links net number record_of.at packet e.frame k record_of.told frame taken.line.clean.placed;
   going = record {
     size = length-set links k link ∙ is.size;
-    known = λ m. known_after plan.links e es rest net m next is.known;
+    known = λ m. rest_holds (AreKnown plan.links) rest es net m is.known (rw next at (is.known net)).1;
     each = each;
   };
   found = λ found.

@@ -41,7 +41,7 @@ pair_zip net = (
 )
 
 whole : IsWhole demo_plan 7 strict (two_entries A) (two_entries B) (both_at 7 1000007)
-unfolding admitted after_packet found_of_arrival found_on_link found_with_end found_with_packet link_after with_arrival with_verdict fields_of fragment_deviation head_now length_deviation message_deviation address_broken internet_broken layout_broken link_broken padding_broken line_after line_with verdict frame_in place_of checked unchecked check_sequence with_byte found_at_end found_missing left_waiting pairing_with twin_deviation twin_other checksum addresses datagram header_front internet_header link_header udp_header unnumbered
+unfolding checksum addresses datagram header_front internet_header link_header udp_header unnumbered
 whole = record {
   of_a = pair_zip A;
   of_b = pair_zip B;
@@ -50,7 +50,12 @@ whole = record {
 }
 
 pub finds_none_of_all : FindsNoneOfAll
-unfolding admitted after_packet found_of_arrival found_on_link found_with_end found_with_packet link_after with_arrival with_verdict fields_of fragment_deviation head_now length_deviation message_deviation address_broken internet_broken layout_broken link_broken padding_broken line_after line_with verdict frame_in place_of checked unchecked check_sequence with_byte found_at_end found_missing left_waiting pairing_with twin_deviation twin_other checksum addresses datagram header_front internet_header link_header udp_header unnumbered
+unfolding admitted after_packet found_of_arrival found_on_link found_with_end found_with_packet link_after
+    with_arrival with_verdict fields_of fragment_deviation head_now length_deviation message_deviation
+    address_broken internet_broken layout_broken link_broken padding_broken line_after line_with verdict frame_in
+    place_of checked unchecked check_sequence with_byte found_at_end found_missing left_waiting pairing_with
+    twin_deviation twin_other checksum addresses datagram header_front internet_header link_header udp_header
+    unnumbered
 finds_none_of_all = record {
   whole = whole;
   order = record {
@@ -78,7 +83,7 @@ none_more (e ∷ []) none = none 0 e (omega arith)
 none_more (e ∷ (d ∷ es)) none = none_more (d ∷ es) (All-tail (λ (e : Entry). more_in e.frame ≡ false) e (d ∷ es) none)
 
 ends : (net : Net) → All (λ (e : Entry). more_in e.frame ≡ false) (sent_to net (both_at 7 1000007))
-unfolding admitted after_packet found_of_arrival found_on_link found_with_end found_with_packet link_after with_arrival with_verdict fields_of fragment_deviation head_now length_deviation message_deviation address_broken internet_broken layout_broken link_broken padding_broken line_after line_with verdict frame_in place_of checked unchecked check_sequence with_byte found_at_end found_missing left_waiting pairing_with twin_deviation twin_other checksum addresses datagram header_front internet_header link_header udp_header unnumbered
+unfolding checksum addresses datagram header_front internet_header link_header udp_header unnumbered
 ends A = grind arith
 ends B = grind arith
 
@@ -89,7 +94,7 @@ abbrev IsShort : Entry → Type 0
 IsShort e = more_in e.frame ≡ false
 
 strict_is : IsStrict demo_plan strict (both_at 7 1000007)
-unfolding admitted after_packet found_of_arrival found_on_link found_with_end found_with_packet link_after with_arrival with_verdict fields_of fragment_deviation head_now length_deviation message_deviation address_broken internet_broken layout_broken link_broken padding_broken line_after line_with verdict frame_in place_of checked unchecked check_sequence with_byte found_at_end found_missing left_waiting pairing_with twin_deviation twin_other checksum addresses datagram header_front internet_header link_header udp_header unnumbered
+unfolding checksum addresses datagram header_front internet_header link_header udp_header unnumbered
 strict_is = record {
   valid = demo_valid;
   profile = refl;
@@ -109,7 +114,12 @@ strict_is = record {
 }
 
 pub misses_nothing : MissesNothing
-unfolding admitted after_packet found_of_arrival found_on_link found_with_end found_with_packet link_after with_arrival with_verdict fields_of fragment_deviation head_now length_deviation message_deviation address_broken internet_broken layout_broken link_broken padding_broken line_after line_with verdict frame_in place_of checked unchecked check_sequence with_byte found_at_end found_missing left_waiting pairing_with twin_deviation twin_other checksum addresses datagram header_front internet_header link_header udp_header unnumbered
+unfolding admitted after_packet found_of_arrival found_on_link found_with_end found_with_packet link_after
+    with_arrival with_verdict fields_of fragment_deviation head_now length_deviation message_deviation
+    address_broken internet_broken layout_broken link_broken padding_broken line_after line_with verdict frame_in
+    place_of checked unchecked check_sequence with_byte found_at_end found_missing left_waiting pairing_with
+    twin_deviation twin_other checksum addresses datagram header_front internet_header link_header udp_header
+    unnumbered
 misses_nothing = record {
   strict_is = strict_is;
   near_nothing = refl;

@@ -75,7 +75,12 @@ second_run net = record {
 }
 
 pub finds_nothing : FindsNothing
-unfolding admitted after_packet found_of_arrival found_on_link found_with_end found_with_packet link_after with_arrival with_verdict fields_of fragment_deviation head_now length_deviation message_deviation address_broken internet_broken layout_broken link_broken padding_broken line_after line_with verdict frame_in place_of checked unchecked check_sequence with_byte found_at_end found_missing left_waiting pairing_with twin_deviation twin_other checksum addresses datagram header_front internet_header link_header udp_header unnumbered
+unfolding admitted after_packet found_of_arrival found_on_link found_with_end found_with_packet link_after
+    with_arrival with_verdict fields_of fragment_deviation head_now length_deviation message_deviation
+    address_broken internet_broken layout_broken link_broken padding_broken line_after line_with verdict frame_in
+    place_of checked unchecked check_sequence with_byte found_at_end found_missing left_waiting pairing_with
+    twin_deviation twin_other checksum addresses datagram header_front internet_header link_header udp_header
+    unnumbered
 finds_nothing = record {
   sent = pair_sent;
   fit = fit false;
@@ -115,7 +120,12 @@ loosely = record {
 }
 
 pub needs_its_premises : NeedsItsPremises
-unfolding admitted after_packet found_of_arrival found_on_link found_with_end found_with_packet link_after with_arrival with_verdict fields_of fragment_deviation head_now length_deviation message_deviation address_broken internet_broken layout_broken link_broken padding_broken line_after line_with verdict frame_in place_of checked unchecked check_sequence with_byte found_at_end found_missing left_waiting pairing_with twin_deviation twin_other checksum addresses datagram header_front internet_header link_header udp_header unnumbered
+unfolding admitted after_packet found_of_arrival found_on_link found_with_end found_with_packet link_after
+    with_arrival with_verdict fields_of fragment_deviation head_now length_deviation message_deviation
+    address_broken internet_broken layout_broken link_broken padding_broken line_after line_with verdict frame_in
+    place_of checked unchecked check_sequence with_byte found_at_end found_missing left_waiting pairing_with
+    twin_deviation twin_other checksum addresses datagram header_front internet_header link_header udp_header
+    unnumbered
 needs_its_premises = record {
   sent = fails_by (λ sent. no_false_alarm_holds demo_plan two_accepted _ _ strict 0 (both_at 0 999000) sent (fit false) (record {
     of_a = near_run A;
