@@ -24,8 +24,8 @@ pub record IsSent (plan : Plan) (accepted : Accepted) (a b : List Entry) : Type 
   pub allowed : AreAllowed plan accepted
   pub turns : TakeTurns plan a b
 
--- A packet is an entry's frame, whole, at most the jitter after the entry's time. Time 0 of the entries is `origin` on the
--- recording's clock, in nanoseconds.
+-- A packet is an entry's frame, whole, at most the jitter after the entry's time. Time 0 of the entries is `origin` on
+-- the recording's clock, in nanoseconds.
 pub record IsRecord (origin : ℕ) (options : Options) (e : Entry) (packet : Recorded) : Type 0 where
   pub at : ℕ
   pub told : packet.at ≡ Some at
@@ -38,7 +38,8 @@ pub record IsRecord (origin : ℕ) (options : Options) (e : Entry) (packet : Rec
 abbrev pub packets_of : Net → List OnNet → List Recorded
 packets_of net recording = map (λ (p : OnNet). p.packet) (filter (λ (p : OnNet). same_net p.net net) recording)
 
--- Packets record consecutive entries of what was sent to a network, from the first one on unless the recording began late.
+-- Packets record consecutive entries of what was sent to a network, from the first one on unless the recording began
+-- late.
 pub record IsRunOf (origin : ℕ) (options : Options) (handed : List Entry) (packets : List Recorded) : Type 0 where
   pub before : List Entry
   pub recorded : List Entry
@@ -52,8 +53,8 @@ pub record IsRecording (origin : ℕ) (options : Options) (a b : List Entry) (re
   pub of_a : IsRunOf origin options a (packets_of A recording)
   pub of_b : IsRunOf origin options b (packets_of B recording)
 
--- The judge expects what this project sends. The jitter is at most each gap. No twin can be mistaken: a number comes again
--- after 255 gaps.
+-- The judge expects what this project sends. The jitter is at most each gap. No twin can be mistaken: a number comes
+-- again after 255 gaps.
 pub record AreFit (plan : Plan) (options : Options) : Type 0 where
   pub profile : options.arinc ≡ false
   pub jitter : (k : ℕ) → k < length plan.links → options.jitter ≤ bag_micros (link_plan_at plan.links k).bag

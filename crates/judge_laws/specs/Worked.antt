@@ -54,16 +54,24 @@ loose = record strict { jitter = 2000 }
 abbrev pub with_check : Options
 with_check = record strict { fcs = true }
 
--- Each premise is needed. Frames a microsecond less than a gap apart are not sent legally, and one is early. So is one that
--- is recorded a nanosecond before its time. A frame that is delayed by more than a gap may come after the next one, and a
--- frame without its check sequence isn't one with it. A recording that began late, unless the judge is told, lacks a number.
+-- what was sent, the second frames at this time in microseconds
+abbrev pub PairSent : ℕ → Type 0
+PairSent now = IsSent demo_plan two_accepted (pair_at now A) (pair_at now B)
+
+abbrev pub PairRecorded : Options → List OnNet → Type 0
+PairRecorded options recording = IsRecording 0 options (two_entries A) (two_entries B) recording
+
+-- Each premise is needed. Frames a microsecond less than a gap apart are not sent legally, and one is early. So is one
+-- that is recorded a nanosecond before its time. A frame that is delayed by more than a gap may come after the next one,
+-- and a frame without its check sequence isn't one with it. A recording that began late, unless the judge is told, lacks
+-- a number.
 pub record NeedsItsPremises : Type 0 where
-  pub sent : BothFail (IsSent demo_plan two_accepted (pair_at 999 A) (pair_at 999 B)) (OnlyMissing strict (both_at 0 999000))
-  pub early : BothFail (IsRecording 0 strict (two_entries A) (two_entries B) (both_at 0 999999)) (OnlyMissing strict (both_at 0 999999))
-  pub loose_recorded : IsRecording 0 loose (two_entries A) (two_entries B) (both_at 2000000 1000000)
+  pub sent : BothFail (PairSent 999) (OnlyMissing strict (both_at 0 999000))
+  pub early : BothFail (PairRecorded strict (both_at 0 999999)) (OnlyMissing strict (both_at 0 999999))
+  pub loose_recorded : PairRecorded loose (both_at 2000000 1000000)
   pub jitter : BothFail (AreFit demo_plan loose) (OnlyMissing loose (both_at 2000000 1000000))
-  pub fcs : BothFail (IsRecording 0 with_check (two_entries A) (two_entries B) (both_at 0 1000000)) (OnlyMissing with_check (both_at 0 1000000))
-  pub first : BothFail (IsRecording 0 strict (two_entries A) (two_entries B) (seconds_at 1000000)) (OnlyMissing strict (seconds_at 1000000))
+  pub fcs : BothFail (PairRecorded with_check (both_at 0 1000000)) (OnlyMissing with_check (both_at 0 1000000))
+  pub first : BothFail (PairRecorded strict (seconds_at 1000000)) (OnlyMissing strict (seconds_at 1000000))
 
 -- ---- nothing found
 
@@ -79,11 +87,12 @@ lagging = packet A 0 (one_frame A) ∷ packet B 100000 (one_frame B) ∷ []
 abbrev pub delayed : Options
 delayed = record strict { jitter = 100 }
 
--- The recording of both messages is whole. Out of the order of time, frames are given up before their twins come; so are
--- they if these may be delayed for longer than the skew.
+-- The recording of both messages is whole. Out of the order of time, frames are given up before their twins come; so
+-- are they if these may be delayed for longer than the skew.
 pub record FindsNoneOfAll : Type 0 where
   pub whole : IsWhole demo_plan 7 strict (two_entries A) (two_entries B) (both_at 7 1000007)
-  pub order : BothFail (IsWhole demo_plan 0 strict (two_entries A) (two_entries B) one_by_one) (findings demo_plan strict one_by_one ≡ [])
+  pub order : BothFail (IsWhole demo_plan 0 strict (two_entries A) (two_entries B) one_by_one)
+      (findings demo_plan strict one_by_one ≡ [])
   pub skew : BothFail (delayed.jitter ≤ delayed.skew) (findings demo_plan delayed lagging ≡ [])
 
 -- ---- nothing missed
@@ -92,8 +101,8 @@ pub record FindsNoneOfAll : Type 0 where
 abbrev pub SentToA : List OnNet → Type 0
 SentToA recording = IsSentTo demo_plan A (sent_to A recording)
 
--- A recording meets the premises. A judge that allows a jitter finds nothing in frames that are too near to each other, and
--- one of a recording that began late nothing in a first number that isn't 0.
+-- A recording meets the premises. A judge that allows a jitter finds nothing in frames that are too near to each other,
+-- and one of a recording that began late nothing in a first number that isn't 0.
 pub record MissesNothing : Type 0 where
   pub strict_is : IsStrict demo_plan strict (both_at 7 1000007)
   pub near_nothing : findings demo_plan loose (both_at 0 999000) ≡ []
