@@ -10,8 +10,8 @@ ghost use Rattle.judge_laws.specs.Worked.{FindsNothing, NeedsItsPremises, FindsN
 ///
 /// Premises:
 ///
-/// - What the contracts of an emitter say of the lists of its two networks (`IsSent`): `lawful`, `allowed` and `turns`
-///   of its polls.
+/// - What an emitter guarantees of the lists of its two networks (`IsSent`): they are legal and the sub-VLs take turns
+///   (`lawful` of its polls), and no message is longer than its port may send (`allowed` of `gather` and of the drain).
 /// - The recording has consecutive frames of each network, each whole and delayed by at most the jitter that the judge
 ///   allows (`IsRecording`), from the first one on unless the judge is told that it began late. It may end at any frame,
 ///   and its clock may start at any time.
@@ -48,7 +48,7 @@ pub fn nothing_found()
 /// than the BAG, no message that is cut wrongly, has a wrong UDP length or checksum or is of no port, and no turn.
 /// Premises (`IsStrict`):
 ///
-/// - The judge expects what this project sends (no `--arinc`), allows no jitter, and no frame has its check sequence.
+/// - The judge expects what this project sends (not `--profile arinc`), allows no jitter, and no frame has its check sequence.
 /// - The recording begins with the first frame (no `--late`) and has fewer than 2^64 - 1 packets.
 /// - On each network the last message of each sub-VL is whole: nothing is known yet of one that has begun.
 /// - Packets are bytes, and no header checksum is 65,535, which receivers take for 0, and which no sender computes.
