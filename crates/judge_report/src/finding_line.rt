@@ -38,26 +38,21 @@ pub(crate) fn network_name(net: Net) -> &'static str {
 
 /// Writes the kind, its rule, and the numbers.
 fn write_kind<W: fmt::Write>(f: &mut fmt::Formatter<W>, finding: &Finding) -> fmt::Result {
-    let (seen, wanted) = (finding.seen, finding.wanted);
-    match finding.kind {
+    let (kind, seen, wanted) = (finding.kind, finding.seen, finding.wanted);
+    match kind {
         Kind::Frame(rule) => {
             write!(f, "Frame {rule:?}")?;
             write_layout(f, rule, seen, wanted)
         }
-        Kind::Source => write!(f, "Source: seen {seen}, wanted {wanted}"),
         Kind::Link => f.write_str("Link"),
-        Kind::Network => write!(f, "Network: seen {seen}, wanted {wanted}"),
-        Kind::Size => write!(f, "Size: seen {seen}, wanted {wanted}"),
-        Kind::Number => write!(f, "Number: seen {seen}, wanted {wanted}"),
-        Kind::Early => write!(f, "Early: seen {seen}, wanted {wanted}"),
-        Kind::Port => write!(f, "Port: seen {seen}"),
         Kind::Fragment(Misfit::Addresses) => f.write_str("Fragment Addresses"),
         Kind::Fragment(Misfit::Repeated) => write!(f, "Fragment Repeated: seen {seen}"),
         Kind::Fragment(rule) => write!(f, "Fragment {rule:?}: seen {seen}, wanted {wanted}"),
         Kind::Message(rule) => write!(f, "Message {rule:?}: seen {seen}, wanted {wanted}"),
         Kind::Turn => write!(f, "Turn: sub-VL {seen}, between pieces of sub-VL {wanted}"),
         Kind::Twin => write!(f, "Twin: byte {seen}, packet {wanted}"),
-        Kind::Missing => write!(f, "Missing: seen {seen}"),
+        Kind::Port | Kind::Missing => write!(f, "{kind:?}: seen {seen}"),
+        _ => write!(f, "{kind:?}: seen {seen}, wanted {wanted}"),
     }
 }
 

@@ -2,8 +2,13 @@
 use judge::Kind;
 use std::fmt;
 
-// The kinds by their numbers, from 1.
+// The names of the kinds by their numbers, from 1.
 const KINDS: usize = 14;
+
+const NAMES: [&str; KINDS] = [
+    "", "Frame", "Source", "Link", "Network", "Size", "Number", "Early", "Port", "Fragment",
+    "Message", "Turn", "Twin", "Missing",
+];
 
 /// How many findings of each kind there are. Counts stop at their greatest value. `Display` prints the line of them.
 #[derive(Drop)]
@@ -35,25 +40,6 @@ impl Tally {
     }
 }
 
-/// The name of the kind of a number.
-fn name_of(number: usize) -> &'static str {
-    match number {
-        1 => "Frame",
-        2 => "Source",
-        3 => "Link",
-        4 => "Network",
-        5 => "Size",
-        6 => "Number",
-        7 => "Early",
-        8 => "Port",
-        9 => "Fragment",
-        10 => "Message",
-        11 => "Turn",
-        12 => "Twin",
-        _ => "Missing",
-    }
-}
-
 impl fmt::Display for Tally {
     fn fmt<W: fmt::Write>(&self, f: &mut fmt::Formatter<W>) -> fmt::Result {
         let total = self.total();
@@ -66,7 +52,7 @@ impl fmt::Display for Tally {
         for number in 1..KINDS {
             let count = self.counts[number];
             if count > 0 {
-                let name = name_of(number);
+                let name = NAMES[number];
                 write!(f, "{mark}{name} {count}")?;
                 mark = ", ";
             }
