@@ -78,13 +78,13 @@ def _want_plan(answer: int, data: bytes) -> None:
 
 def judge(
     plan: str | File, capture: File, capture_b: File | None = None, *,
-    jitter: int = 0, skew: int = 10_000, late: bool = False, fcs: bool = False,
+    jitter: int = 0, skew: int = 10_000, late: bool = False, fcs: bool = False, arinc: bool = False,
 ) -> list[Finding]:
     """What is wrong with a recording of an end system, by its configuration (docs/guide/judge.md): nothing, if it keeps it. A
     capture is pcapng or pcap, its bytes or its path; with two, the first is of network A and the second of B. `jitter` and
-    `skew` are in microseconds. A finding prints itself. Raises `ConfigError`, `BadCapture` (with what was found) or
-    `OutOfMemory`."""
-    text, how = plan.encode() if isinstance(plan, str) else _read(plan), JudgeOptions(fits(jitter, 64), fits(skew, 64), late, fcs)
+    `skew` are in microseconds; `arinc` is for the frames of other makers. A finding prints itself. Raises `ConfigError`,
+    `BadCapture` (with what was found) or `OutOfMemory`."""
+    text, how = plan.encode() if isinstance(plan, str) else _read(plan), JudgeOptions(fits(jitter, 64), fits(skew, 64), late, fcs, arinc)
     captures = [_read(it) for it in (capture, capture_b) if it is not None]
     words = [word for data in captures for word in (data, len(data))]
     call = lib.afdx_judge if capture_b is None else lib.afdx_judge_pair

@@ -9,7 +9,7 @@ KINDS = "Frame Source Link Network Size Number Early Port Fragment Message Turn 
 RULES = {
     "Frame": "Time Snapped CheckSequence Recorded Length DestinationMac SourceMac Interface EtherType Version TotalLength "
     "Fragment Protocol HeaderSum SourceAddress DestinationAddress Padding".split(),
-    "Fragment": "Offset Identification Addresses Length".split(),
+    "Fragment": "Offset Identification Addresses Length Repeated".split(),
     "Message": "UdpLength Size UdpChecksum".split(),
 }
 FAULTS = (
@@ -20,6 +20,7 @@ BOTH = ": seen {0}, wanted {1}"
 # What is printed of the numbers of a kind, or of one of its rules, other than both.
 NUMBERS = {
     "Frame": ": byte {0}", "Link": "", "Port": ": seen {0}", "Missing": ": seen {0}", "Frame Time": "", "Fragment Addresses": "",
+    "Fragment Repeated": ": seen {0}",
     "Turn": ": sub-VL {0}, between pieces of sub-VL {1}", "Twin": ": byte {0}, packet {1}", "Frame Snapped": BOTH,
     "Frame CheckSequence": BOTH, "Frame Recorded": BOTH, "Frame Length": BOTH,
 }

@@ -36,7 +36,7 @@ class FrameRelease(ctypes.Structure):
 class JudgeOptions(ctypes.Structure):
     """`afdx_judge_options`."""
 
-    _fields_ = [("jitter", c_uint64), ("skew", c_uint64), ("late", c_uint8), ("fcs", c_uint8)]
+    _fields_ = [("jitter", c_uint64), ("skew", c_uint64), ("late", c_uint8), ("fcs", c_uint8), ("arinc", c_uint8)]
 
 
 class FindingRow(ctypes.Structure):

@@ -17,6 +17,7 @@ typedef struct {
     uint64_t skew;   /**< a frame and its twin are at most this many microseconds apart */
     uint8_t late;    /**< other than 0: the recording began after the end system */
     uint8_t fcs;     /**< other than 0: frames end with their check sequence, which is tested and left out */
+    uint8_t arinc;   /**< other than 0: frames of another maker, by ARINC 664 alone */
 } afdx_judge_options;
 
 /** A finding: what a packet does wrong. */

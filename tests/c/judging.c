@@ -1,7 +1,7 @@
 /* Tests the calls that judge recordings: findings, small arrays, refusals, damaged captures and allocations that fail. With
    words it prints what it finds:
 
-       judging PLAN JITTER SKEW LATE FCS CAPTURE [CAPTURE_B]
+       judging PLAN JITTER SKEW LATE FCS ARINC CAPTURE [CAPTURE_B]
 
    tests/c/c_library.py builds and runs it. */
 #include "afdx_judge.h"
@@ -136,12 +136,18 @@ static uint8_t *read_file(const char *path, size_t *length) {
 
 static int print_findings(int words, char **word) {
     static afdx_finding found[100000];
-    const afdx_judge_options options = {strtoull(word[2], NULL, 10), strtoull(word[3], NULL, 10), word[4][0] == '1', word[5][0] == '1'};
+    const afdx_judge_options options = {
+        .jitter = strtoull(word[2], NULL, 10),
+        .skew = strtoull(word[3], NULL, 10),
+        .late = word[4][0] == '1',
+        .fcs = word[5][0] == '1',
+        .arinc = word[6][0] == '1',
+    };
     size_t plan_length = 0, length = 0, other_length = 0, room = sizeof found / sizeof *found;
-    const uint8_t *plan = read_file(word[1], &plan_length), *capture = read_file(word[6], &length);
-    const uint8_t *other = words > 7 ? read_file(word[7], &other_length) : NULL;
+    const uint8_t *plan = read_file(word[1], &plan_length), *capture = read_file(word[7], &length);
+    const uint8_t *other = words > 8 ? read_file(word[8], &other_length) : NULL;
     afdx_judged judged = {0, {0, 0, 0}, {0, 0, 0}};
-    uint8_t answer = words > 7 ? afdx_judge_pair(plan, plan_length, &options, capture, length, other, other_length, found, room, &judged)
+    uint8_t answer = words > 8 ? afdx_judge_pair(plan, plan_length, &options, capture, length, other, other_length, found, room, &judged)
                                : afdx_judge(plan, plan_length, &options, capture, length, found, room, &judged);
     for (size_t k = 0; k < judged.findings; k++) {
         const afdx_finding *it = &found[k];

@@ -30,6 +30,7 @@ options_of how = record {
   skew = how.skew;
   late = not (nat_eq how.late 0);
   fcs = not (nat_eq how.fcs 0);
+  arinc = not (nat_eq how.arinc 0);
 }
 
 -- the numbers of rules
@@ -57,6 +58,7 @@ misfit_number misfit.Offset = 1
 misfit_number misfit.Identification = 2
 misfit_number misfit.Addresses = 3
 misfit_number misfit.Length = 4
+misfit_number misfit.Repeated = 5
 
 abbrev pub ending_number : Ending → ℕ
 ending_number ending.UdpLength = 1

@@ -19,6 +19,7 @@ pub struct JudgeOptions {
     pub skew: u64,
     pub late: u8,
     pub fcs: u8,
+    pub arinc: u8,
 }
 
 /// A finding: the number of its packet, its time in nanoseconds, or the greatest number if that is less, what was seen
@@ -56,6 +57,7 @@ impl JudgeOptions {
             skew: self.skew,
             late: self.late != 0,
             fcs: self.fcs != 0,
+            arinc: self.arinc != 0,
         }
     }
 }

@@ -55,13 +55,13 @@ pub enum Misfit {
     Offset,
     /// The identification is `seen`, and `wanted` is the message's, or the next message's.
     Identification,
-    /// The identification is `seen`, and so is that of the message before. `wanted` is 0. Only by ARINC 664 alone.
-    Repeated,
     /// The addresses aren't those of the message's first piece. Both numbers are 0.
     Addresses,
     /// The piece has `seen` bytes. With more to follow it is `wanted`, the greatest multiple of 8 that fits into a frame.
     /// A last piece has at least `wanted`, since fewer had fitted into the frame before it.
     Length,
+    /// The identification is `seen`, and so is that of the message before. `wanted` is 0. Only by ARINC 664 alone.
+    Repeated,
 }
 
 /// What is wrong with a message, as its last frame shows.
