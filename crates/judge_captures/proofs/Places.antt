@@ -1,6 +1,7 @@
 -- What is left of the packets of two networks from places on.
-use Rattle.std.proofs.Common.{◌≡◌, ℕ, ◌+◌, ◌-◌, ◌<◌, ◌≤◌, List, [], ◌∷◌, map, length, drop, get_or, Bool, Some, None, arith, refl, length-drop}
-use Rattle.std.proofs.lemmas.List.{drop_more, get_or-map, length-map}
+use Rattle.std.proofs.Common.{◌≡◌, ℕ, ◌+◌, ◌-◌, ◌<◌, List, [], ◌∷◌, map, length, drop, get_or, Bool, Some, arith, refl, length-drop}
+use Rattle.std.proofs.lemmas.List.{drop_more, get_or-map, length-map, take_all, drop-map}
+use Rattle.std.specs.Prelude.{slice_range}
 use Rattle.afdx_frame.specs.declared.net.Net.TheVariants.{A, B}
 use Rattle.capture.specs.Recording.{Recorded, recorded}
 use Rattle.capture.specs.declared.packet.Packet.{Packet}
@@ -15,22 +16,9 @@ at_place ps i d within =
     let within' : i < length (map recorded ps) = rw length-map within in
     rw (drop_more (map recorded ps) i (recorded d) within', get_or-map recorded ps i d) refl
 
--- the network of the next packet, where one network has none left
-alone_next : (xs ys : List Recorded) → (length ys ≡ 0 → 0 < length xs → next_net xs ys ≡ Some A)
-    × (length xs ≡ 0 → 0 < length ys → next_net xs ys ≡ Some B) × (length xs ≡ 0 → length ys ≡ 0 → next_net xs ys ≡ None)
-alone_next [] [] = grind arith
-alone_next [] (y ∷ ys) = grind arith
-alone_next (x ∷ xs) [] = grind arith
-alone_next (x ∷ xs) (y ∷ ys) = grind arith
-
-left_len : (ps : List Packet) (i : ℕ) → length (drop i (map recorded ps)) ≡ length ps - i
-left_len ps i = simp (length-drop, length-map) refl
-
-pub ended : (a b : List Packet) (i j : ℕ)
-    → (length b ≤ j → i < length a → next_net (drop i (map recorded a)) (drop j (map recorded b)) ≡ Some A)
-    × (length a ≤ i → j < length b → next_net (drop i (map recorded a)) (drop j (map recorded b)) ≡ Some B)
-    × (length a ≤ i → length b ≤ j → next_net (drop i (map recorded a)) (drop j (map recorded b)) ≡ None)
-ended a b i j = grind (arith, alone_next (drop i (map recorded a)) (drop j (map recorded b)), left_len a i, left_len b j)
+-- what is left from a place on, as a slice
+pub rest_is : (ps : List Packet) (i : ℕ) → map recorded (slice_range ps i (length ps)) ≡ drop i (map recorded ps)
+rest_is ps i = rw (take_all (length ps - i) (drop i ps) (omega (arith, length-drop i ps)), drop-map) refl
 
 -- the packet of A, or of B, that comes next is the first of both networks'
 a_first : (alone : Bool) (n m : ℕ) (x : Recorded) (xs ys : List Recorded) → BeginsOn alone A (x ∷ xs)

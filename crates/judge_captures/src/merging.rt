@@ -44,25 +44,28 @@ fn place_from(packets: &[Packet<'_>], from: usize, alone: bool, net: Net) -> usi
     place
 }
 
-/// The network whose packet comes next, of those of A and of B at these places.
-#[tactic(auto, using(crate::proofs::Places::at_place, crate::proofs::Places::ended))]
-fn next_net(a: &[Packet<'_>], on_a: usize, b: &[Packet<'_>], on_b: usize) -> Option<Net>
-    ensures next { result ≡ next_net (drop on_a (map recorded a.now)) (drop on_b (map recorded b.now)) }
-    ensures in_a { result ≡ Some Net.A → on_a < length a.now }
-    ensures in_b { result ≡ Some Net.B → on_b < length b.now }
+/// The network whose packet comes next, of what is left of both.
+fn next_net(a: &[Packet<'_>], b: &[Packet<'_>]) -> Option<Net>
+    ensures next { result ≡ next_net (map recorded a.now) (map recorded b.now) }
+    ensures in_a { result ≡ Some Net.A → 0 < length a.now }
+    ensures in_b { result ≡ Some Net.B → 0 < length b.now }
 {
-    match (on_a < a.len(), on_b < b.len()) {
-        (false, false) => None,
-        (false, true) => Some(Net::B),
-        (true, false) => Some(Net::A),
-        (true, true) if time_of(&b[on_b]) < time_of(&a[on_a]) => Some(Net::B),
-        (true, true) => Some(Net::A),
+    match (a, b) {
+        ([], []) => None,
+        ([], [_, ..]) => Some(Net::B),
+        ([_, ..], []) => Some(Net::A),
+        ([a, ..], [b, ..]) => Some(if time_of(b) < time_of(a) {
+            Net::B
+        } else {
+            Net::A
+        }),
     }
 }
 
 /// What is wrong with the packets of two networks, by the plan of their end system: with `alone` the packets `a` of a
 /// capture of network A alone and `b` of one of B, otherwise twice those of a capture of both. The packets of a network
 /// stay in their order; of two networks' the earlier one comes first, and A's at one time. Fails only if memory runs out.
+#[tactic(auto, using(crate::proofs::Places::rest_is))]
 pub fn judge_packets<'a>(
     alloc: Global,
     plan: Config,
@@ -78,7 +81,7 @@ pub fn judge_packets<'a>(
     let mut found = Vec::new(alloc);
     let mut on_a = place_from(a, 0, alone, Net::A);
     let mut on_b = place_from(b, 0, alone, Net::B);
-    'packets: while let Some(net) = next_net(a, on_a, b, on_b) {
+    'packets: while let Some(net) = next_net(&a[on_a..], &b[on_b..]) {
         match net {
             Net::A => {
                 judge.take(Net::A, on_a as u64 + 1, &a[on_a], &mut found)?;

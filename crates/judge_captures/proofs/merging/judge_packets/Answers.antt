@@ -1,4 +1,5 @@
-use Rattle.judge_captures.proofs.Places.{next_a, next_b, found_on}
+use Rattle.std.proofs.Common.{arith}
+use Rattle.judge_captures.proofs.Places.{next_a, next_b, found_on, rest_is}
 use Rattle.judge_captures.proofs.merging.judge_packets.Goals as goal
 
 pub packets-preserved-in-A : goal.packets-preserved-in-A
@@ -9,7 +10,8 @@ packets-preserved-in-A c = record {
   first_b = c.packets.invariant.first_b;
   same = found_on _ _ _ _ _ _ _ _
       (next_a c.args.alone c.args.a.now c.args.b.now c.packets.on_a c.packets.on_b c.place_from-on_a-in-A.result _
-      (c.next_net.ensures.in_a (cc)) c.packets.invariant.first_a c.packets.invariant.first_b (cc)
+      (omega (arith, c.next_net.ensures.in_a (cc))) c.packets.invariant.first_a c.packets.invariant.first_b
+      (rw (← rest_is c.args.a.now c.packets.on_a, ← rest_is c.args.b.now c.packets.on_b) (cc))
       c.place_from-on_a-in-A.ensures.same) c.packets.invariant.same c.in_ok-take-in-A.ensures.after
       c.in_ok-take-in-A.ensures.found;
 }
@@ -22,7 +24,8 @@ packets-preserved c = record {
   first_b = c.place_from-on_b-in-B.ensures.first;
   same = found_on _ _ _ _ _ _ _ _
       (next_b c.args.alone c.args.a.now c.args.b.now c.packets.on_a c.packets.on_b c.place_from-on_b-in-B.result _
-      (c.next_net.ensures.in_b (cc)) c.packets.invariant.first_a c.packets.invariant.first_b (cc)
+      (omega (arith, c.next_net.ensures.in_b (cc))) c.packets.invariant.first_a c.packets.invariant.first_b
+      (rw (← rest_is c.args.a.now c.packets.on_a, ← rest_is c.args.b.now c.packets.on_b) (cc))
       c.place_from-on_b-in-B.ensures.same) c.packets.invariant.same c.in_ok-take-in-B.ensures.after
       c.in_ok-take-in-B.ensures.found;
 }
