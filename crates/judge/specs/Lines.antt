@@ -1,5 +1,5 @@
 -- A link on a network: its sequence numbers, its gaps, the turns of its sub-VLs, and the messages of these.
-use Rattle.std.specs.Prelude.{ℕ, ◌+◌, ◌-◌, ◌%◌, ◌^◌, nat_eq, nat_lt, nat_le, ◌&&◌, ◌||◌, Bool, true, false, if◌then◌else◌, min, List, [], ◌∷◌, slice_set, get_or, position, unwrap_or, Option, Some, None}
+use Rattle.std.specs.Prelude.{ℕ, ◌+◌, ◌-◌, ◌%◌, ◌^◌, nat_eq, nat_lt, nat_le, ◌&&◌, ◌||◌, Bool, false, if◌then◌else◌, min, List, [], ◌∷◌, slice_set, get_or, position, unwrap_or, Option, Some, None}
 use Rattle.std.specs.Option.{is_some}
 use Rattle.afdx_plan.specs.declared.port_plan.PortPlan.{PortPlan}
 use Rattle.judge.specs.Deviations.{deviation, first_of}

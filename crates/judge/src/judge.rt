@@ -190,6 +190,7 @@ impl Judge {
             ≡ found_of_arrival tag.now place frame.now self.old found.old.items) }
     {
         let plan = self.config.links()[place];
+        let vl = plan.id;
         let setting = Setting {
             plan,
             measure: Measure {
@@ -201,12 +202,7 @@ impl Judge {
             nearness: nearness_of(&self.options, &self.times),
         };
         let fields = fields_of(frame);
-        let port = first_port(
-            self.options.arinc,
-            self.config.ports(),
-            setting.plan.id,
-            &fields,
-        );
+        let port = first_port(self.options.arinc, self.config.ports(), vl, &fields);
         let link = &mut self.links[place];
         link.arrive(&setting, tag, port, frame, &fields, found)
     }
@@ -218,14 +214,8 @@ impl Judge {
         ensures { OnOk result (found.new.items ≡ found_with_end self.now found.old.items) }
     {
         let nearness = nearness_of(&self.options, &self.times);
-        let latest = self.times.latest;
-        add_left(
-            &nearness,
-            latest,
-            self.config.links(),
-            self.links.as_slice(),
-            found,
-        )
+        let (at, plans) = (self.times.latest, self.config.links());
+        add_left(&nearness, at, plans, self.links.as_slice(), found)
     }
 }
 

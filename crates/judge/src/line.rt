@@ -1,7 +1,7 @@
 //! A link on a network: its numbers, its gaps and its sub-VLs.
 ghost use Rattle.std.specs.Prelude.{◌≡◌, ◌+◌, ◌≤◌, ◌<◌, ◌%◌, if◌then◌else◌, slice_set, true, false};
 ghost use Rattle.judge.specs.Fields.{AreSmall};
-ghost use Rattle.judge.specs.Lines.{new_sub, new_line, next_number, number_unless, number_deviation, gap_since, early_since, early_deviation, unsettled_sub, unsettled, excused_sub, excused, turn_deviation, due_before, unknown_place, going_on, sub_at, other_sub, port_deviation, sub_in, sub_shown, sub_of, least_of, figures_with, joining_after, message_after, line_with, line_after, verdict, after_number, after_turn, traced};
+ghost use Rattle.judge.specs.Lines.{new_sub, new_line, next_number, number_unless, number_deviation, gap_since, early_since, early_deviation, unsettled_sub, unsettled, excused_sub, excused, turn_deviation, due_before, unknown_place, going_on, sub_at, other_sub, port_deviation, sub_in, sub_shown, sub_of, least_of, figures_with, joining_after, message_after, line_with, line_after, verdict, after_number, after_turn};
 
 use crate::fields::Fields;
 use crate::finding::{Deviation, Kind, first_of};
@@ -348,7 +348,12 @@ impl Line {
         let (after, message) = ended(measure.arinc, fragment, fields, port, &joining);
         let port = port_deviation(fields, port);
         let stray = first_of(port, fragment);
-        *self = settled.with(arrived, after).traced(measure.arinc, stray);
+        let line = settled.with(arrived, after);
+        *self = if measure.arinc {
+            line.after(stray, true)
+        } else {
+            line
+        };
         Verdict {
             number,
             early,
@@ -356,17 +361,6 @@ impl Line {
             fragment,
             message,
             turn,
-        }
-    }
-
-    /// The line after a piece that is no message's next or is of no port, if there is such a finding.
-    fn traced(&self, arinc: bool, stray: Option<Deviation>) -> Line
-        ensures { result ≡ traced arinc stray self.now }
-    {
-        if arinc {
-            self.after(stray, true)
-        } else {
-            *self
         }
     }
 }

@@ -85,15 +85,13 @@ pub(crate) fn frame_in<'a>(packet: &Packet<'a>, options: &Options) -> Result<&'a
     } else {
         unchecked(bytes)?
     };
-    match layout_broken(options.arinc, frame) {
-        Some(deviation) => {
-            Err(Refused {
-                deviation,
-                link: None,
-            })
-        }
-        None => Ok(frame),
-    }
+    let Some(deviation) = layout_broken(options.arinc, frame) else {
+        return Ok(frame);
+    };
+    Err(Refused {
+        deviation,
+        link: None,
+    })
 }
 
 /// The interface identifier that a link's frame has on a network, 0 if the network doesn't carry it.
