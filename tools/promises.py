@@ -170,8 +170,9 @@ def headline_page(source, results):
                 todo += [(it, used.split()[0]) for it, names in [(name[0], words), *uses[name[0]]] for used in names if used.split()[-1] in words]
         new = [it for it in bodies if it in listed - before]
         lines += ["", f"**{clause['says']}** {sum(bodies[it].count(chr(10)) for it in new)} lines, {len(new)} definitions.", ""]
-        for module in (it for it in order if it in dict(new)):
-            lines.append(f"- `{module.replace('.', '/')}`: {', '.join(name for it, name in new if it == module)}")
+        of = {it.replace(".", "/"): [name for module, name in new if module == it] for it in order if it in dict(new)}
+        # (of the clauses after the first the definitions are counted alone)
+        lines += [f"- `{it}`: {', '.join(names)}" for it, names in of.items()] if not before else [", ".join(f"`{it}` {len(names)}" for it, names in of.items())]
     return "\n".join([*lines, ""])
 
 
