@@ -1,27 +1,9 @@
 -- A judge before the first packet of a recording, and the law: of what was sent legally it finds nothing but missing twins.
-use Rattle.std.proofs.Common.{append_assoc, ℕ, ◌≡◌, ◌++◌, Some, suc, zero, ◌+◌, ◌<◌, ◌≤◌, Bool, true, false, List, [], ◌∷◌, length, map, take, replicate, Option, None, arith, refl, sym, subst, ap, ◌∙◌, inl, inr}
-use Rattle.std.specs.Prelude.{All, filter, nat_eq}
-use Rattle.std.proofs.lemmas.Bool.{cases_lt, eqb-true}
-use Rattle.std.proofs.lemmas.List.{get_or-replicate, get_or_default, length-replicate, map-append}
-use Rattle.std.proofs.lemmas.List.Elements.{All-filter, All-nil, All-tail, All-weaker}
-use Rattle.afdx_plan.specs.Config.{Plan, IsPlan, link_plan_at}
-use Rattle.afdx_plan.specs.declared.link_plan.LinkPlan.{LinkPlan}
-use Rattle.vl_shaper.specs.declared.shaper.Stamp.{Stamp}
-use Rattle.afdx_plan.specs.Plan.{bag_micros, is_both, room_of}
-use Rattle.afdx_frame.proofs.Twins.{twin_same}
-use Rattle.afdx_frame.specs.Fragments.{Sent, blanked, fragments}
-use Rattle.afdx_frame.specs.Header.{link_in, sub_in}
-use Rattle.afdx_frame.specs.declared.net.Net.{Net}
-use Rattle.afdx_frame.specs.declared.net.Net.TheVariants.{A, B}
-use Rattle.redundant_mux.specs.Lines.{Entry, entry, side}
-use Rattle.afdx_legal.proofs.StreamLemmas.{known_all, on_both_is, with_append}
-use Rattle.afdx_legal.specs.Accepted.{AreAllowed, IsAllowed}
-use Rattle.afdx_legal.specs.Legal.{Accepted, AreKnown, IsKnown, IsLegalOn, is_on_both, on_both}
-use Rattle.afdx_legal.specs.Streams.{IsNumbered, IsSpaced, TakesTurns, TakeTurnsOn, entry_number, latest, link_stream, stamp_of, sub_stream, told}
-use Rattle.afdx_laws.proofs.LegalLinks.{stream_front}
-use Rattle.judge.specs.Judging.{findings, line_on, new_link, no_times}
-use Rattle.judge.specs.Lines.{new_line, new_sub, sub_at}
-use Rattle.judge.specs.declared.options.Options.{Options}
+use Rattle.judge_laws.proofs.Names.{A, Accepted, All, All-filter, All-nil, All-tail, All-weaker, AreAllowed, AreKnown, B, Bool, Entry, IsAllowed, IsKnown, IsLegalOn, IsNumbered, IsPlan, IsSpaced, LinkPlan, List, Net, None, Option}
+use Rattle.judge_laws.proofs.Names.{Options, Plan, Sent, Some, Stamp, TakeTurnsOn, TakesTurns, ap, append_assoc, arith, bag_micros, blanked, cases_lt, entry, entry_number, eqb-true, false, filter, findings, fragments}
+use Rattle.judge_laws.proofs.Names.{get_or-replicate, get_or_default, inl, inr, is_both, known_all, latest, length, length-replicate, line_on, link_in, link_plan_at, link_stream, map, map-append, nat_eq, new_line, new_link}
+use Rattle.judge_laws.proofs.Names.{new_sub, no_times, on_both, on_both_is, refl, replicate, room_of, side, stamp_of, stream_front, sub_at, sub_in, sub_stream, subst, suc, sym, take, told, true, twin_same, with_append, zero, ℕ}
+use Rattle.judge_laws.proofs.Names.{[], ◌++◌, ◌+◌, ◌<◌, ◌∙◌, ◌∷◌, ◌≡◌, ◌≤◌}
 use Rattle.judge_laws.specs.NoFalseAlarm.{IsMissing, IsRunOf, IsSent, NoFalseAlarm, packets_of}
 use Rattle.judge_laws.proofs.Copies.{IsCopy, IsStream, all_copies}
 use Rattle.judge_laws.proofs.Line.{IsAhead, IsLine, of_profile}
@@ -148,8 +130,7 @@ filter_twice p q (x ∷ xs) both = grind (arith, filter_twice p q xs both, both 
 
 pub stream_on_both : (plan : Plan) (k : ℕ) (es : List Entry) → IsPlan plan → k < length plan.links
     → is_both (link_plan_at plan.links k).networks ≡ true → link_stream (id_of plan k) (on_both plan.links es) ≡ link_stream (id_of plan k) es
-stream_on_both plan k es valid inside both = filter_twice (λ (e : Entry). nat_eq (link_in e.frame) (id_of plan k))
-    (λ (e : Entry). is_on_both plan.links (link_in e.frame)) es (λ e its. rw (eqb-true (link_in e.frame) (id_of plan k) its) (on_both_is plan k valid inside ∙ both))
+stream_on_both plan k es valid inside both = grind (arith, filter_twice, eqb-true, on_both_is)
 
 -- what each entry of a link's stream is
 abbrev pub IsOwn : Net → Entry → Type 0

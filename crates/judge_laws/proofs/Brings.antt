@@ -1,25 +1,9 @@
 -- A frame in which the judge finds nothing brings the next piece of a message.
-use Rattle.std.proofs.Common.{◌≡◌, ℕ, ◌+◌, ◌-◌, ◌%◌, ◌<◌, ◌≤◌, true, false, List, [], ◌++◌, length, max, take, drop, get_or, Option, Some, None, inl, inr, refl, ap, ◌∙◌, arith}
-use Rattle.std.specs.Prelude.{Contains}
-use Rattle.std.proofs.lemmas.Bool.{cases_Bool, cases_lt}
-use Rattle.std.proofs.lemmas.Bool.Decides.{nat_tests}
-use Rattle.std.proofs.lemmas.List.{get_or_past, length-drop, length-take}
-use Rattle.std.proofs.lemmas.List.Elements.{All-contains}
-use Rattle.afdx_plan.specs.Config.{Plan, IsPlan, HasLink, link_plan_at}
-use Rattle.afdx_plan.specs.Plan.{IsLink, IsPort, identification}
-use Rattle.afdx_plan.specs.declared.link_plan.LinkPlan.{LinkPlan}
-use Rattle.afdx_plan.specs.declared.port_plan.PortPlan.{PortPlan}
-use Rattle.afdx_frame.specs.Checksum.{word_sum}
-use Rattle.afdx_frame.specs.Frame.{addresses}
-unfoldable use Rattle.afdx_frame.specs.Frame.{datagram, unnumbered}
-use Rattle.afdx_frame.specs.Profile.{IsFrame, total_length}
-use Rattle.afdx_frame.specs.declared.net.Net.{Net}
-unfoldable use Rattle.judge.specs.Fields.{fields_of}
-use Rattle.judge.specs.Joining.{begun, end_deviation, head_after, head_now, head_of, head_with, ident_of, is_of_port, is_towards, message_deviation, next_of}
-use Rattle.judge.specs.Judging.{first_port}
-use Rattle.judge.specs.Lines.{new_sub, sub_in}
-use Rattle.judge.specs.Rules.{size_deviation}
-use Rattle.judge.specs.Types.{Flow, Head, Joining, PieceIn}
+use Rattle.judge_laws.proofs.Names.{All-contains, Contains, Flow, HasLink, Head, IsFrame, IsLink, IsPlan, IsPort, Joining, LinkPlan, List, Net, None, Option, PieceIn, Plan, PortPlan, Some, addresses, ap, arith, begun, cases_Bool}
+use Rattle.judge_laws.proofs.Names.{cases_lt, datagram, drop, end_deviation, false, fields_of, first_port, get_or, get_or_past, head_after, head_now, head_of, head_with, ident_of, identification, inl, inr, is_of_port, is_towards}
+use Rattle.judge_laws.proofs.Names.{length, length-drop, length-take, link_plan_at, max, message_deviation, nat_tests, new_sub, next_of, refl, size_deviation, take, total_length, true, unnumbered, word_sum, ℕ, [], ◌%◌, ◌++◌, ◌+◌}
+use Rattle.judge_laws.proofs.Names.{◌-◌, ◌<◌, ◌∙◌, ◌≡◌, ◌≤◌}
+use Rattle.judge.specs.Lines.{sub_in}
 use Rattle.judge_laws.proofs.Carried.{part_at}
 use Rattle.judge_laws.proofs.Found.{same_id}
 use Rattle.judge_laws.proofs.Heard.{head_first, head_later, room_at}

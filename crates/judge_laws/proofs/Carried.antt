@@ -1,24 +1,7 @@
 -- What the judge reads of the frame of a piece.
-use Rattle.std.proofs.Common.{◌≡◌, ℕ, ◌+◌, ◌-◌, ◌≤◌, ◌<◌, List, length, take, drop, get_or, slice_index, refl, sym, ap, ◌∙◌, arith, append_assoc}
-use Rattle.std.proofs.lemmas.List.{get_or-drop, get_or-take, get_or_append_left, take_at}
-use Rattle.afdx_plan.specs.Address.{destination_address}
-use Rattle.afdx_plan.specs.Plan.{IsPort, identification}
-use Rattle.afdx_plan.specs.declared.port_plan.PortPlan.{PortPlan}
-use Rattle.afdx_plan.specs.declared.port_plan.UdpSum.{UdpSum}
-use Rattle.afdx_plan.specs.declared.port_plan.UdpSum.TheVariants.{Omitted, Generated}
-use Rattle.afdx_frame.proofs.Datagram.{length-udp_header, take_datagram}
-use Rattle.afdx_frame.proofs.Says.{length-addresses, payload_says, says, total_ok}
-use Rattle.afdx_frame.specs.Checksum.{word_sum}
-unfoldable use Rattle.afdx_frame.specs.Checksum.{udp_checksum}
-use Rattle.afdx_frame.specs.Frame.{frame_of, udp_field}
-unfoldable use Rattle.afdx_frame.specs.Frame.{addresses, datagram, header_front, internet_header, link_header, udp_header, udp_sum, unnumbered}
-use Rattle.afdx_frame.specs.Profile.{word_at, total_length}
-use Rattle.afdx_frame.specs.ReadBack.{IsPiece}
-use Rattle.afdx_frame.specs.declared.net.Net.{Net}
-use Rattle.afdx_frame.specs.declared.piece.Piece.{Piece}
-unfoldable use Rattle.judge.specs.Fields.{fields_of}
-use Rattle.judge.specs.Joining.{address_number}
-use Rattle.judge.specs.Types.{Fields}
+use Rattle.judge_laws.proofs.Names.{Fields, Generated, IsPiece, IsPort, List, Net, Omitted, Piece, PortPlan, UdpSum, address_number, addresses, ap, append_assoc, arith, datagram, destination_address, drop, fields_of, frame_of}
+use Rattle.judge_laws.proofs.Names.{get_or, get_or-drop, get_or-take, get_or_append_left, header_front, identification, internet_header, length, length-addresses, length-udp_header, link_header, payload_says, refl, says}
+use Rattle.judge_laws.proofs.Names.{slice_index, sym, take, take_at, take_datagram, total_length, total_ok, udp_checksum, udp_field, udp_header, udp_sum, unnumbered, word_at, word_sum, ℕ, ◌+◌, ◌-◌, ◌<◌, ◌∙◌, ◌≡◌, ◌≤◌}
 
 -- the checksum field of a message
 abbrev pub sum_field : ℕ → PortPlan → List ℕ → ℕ

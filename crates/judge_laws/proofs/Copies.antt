@@ -1,19 +1,7 @@
 -- A link's stream on two networks: frames with one number that are less than 255 gaps apart are copies of one frame.
-use Rattle.std.proofs.Common.{ℕ, ◌≡◌, zero, suc, ◌+◌, ◌*◌, ◌-◌, ◌<◌, ◌≤◌, List, [], ◌∷◌, length, map, take, get_or, Option, Some, None, arith, refl, length-set, sym, ◌∙◌}
-use Rattle.std.specs.Prelude.{All, slice_range}
-use Rattle.std.proofs.lemmas.Bool.{cases_lt}
-use Rattle.std.proofs.lemmas.Bool.Decides.{nat_tests}
-use Rattle.std.proofs.lemmas.List.{take-set-le, drop-set-lt, length-map, length-take, get_or-map, get_or-take}
-use Rattle.afdx_plan.specs.Plan.{sequence_number}
-use Rattle.afdx_frame.proofs.Twins.{twin_number}
-use Rattle.afdx_frame.specs.declared.net.Net.{Net}
-use Rattle.afdx_frame.specs.Frame.{interface_byte}
-use Rattle.afdx_frame.specs.Header.{number_in, twin_of}
-use Rattle.redundant_mux.specs.Lines.{Entry, entry, side}
-use Rattle.vl_shaper.specs.declared.shaper.Stamp.{Stamp}
-use Rattle.afdx_legal.proofs.StreamLemmas.{numbered_at}
-use Rattle.afdx_legal.specs.Streams.{IsNumbered, IsSpaced, entry_number, stamp_of}
-use Rattle.judge.specs.Twins.{first_other, twin_other}
+use Rattle.judge_laws.proofs.Names.{All, Entry, IsNumbered, IsSpaced, List, Net, None, Option, Some, Stamp, arith, cases_lt, drop-set-lt, entry, entry_number, first_other, get_or, get_or-map, get_or-take, interface_byte, length}
+use Rattle.judge_laws.proofs.Names.{length-map, length-set, length-take, map, nat_tests, number_in, numbered_at, refl, sequence_number, side, slice_range, stamp_of, suc, sym, take, take-set-le, twin_number, twin_of, twin_other}
+use Rattle.judge_laws.proofs.Names.{zero, ℕ, [], ◌*◌, ◌+◌, ◌-◌, ◌<◌, ◌∙◌, ◌∷◌, ◌≡◌, ◌≤◌}
 
 -- a link's own stream: numbered, spaced, and long enough to have its bytes
 pub record IsStream (gap : ℕ) (stream : List Entry) : Type 0 where
@@ -85,8 +73,7 @@ same_place gap stream i j is first second same before after =
 
 copy_number : (gap : ℕ) (stream : List Entry) (net : Net) (e : Entry) → IsStream gap stream → (copy : IsCopy stream net e)
     → number_in e.frame ≡ number_in (own_at stream copy.place).frame
-copy_number gap stream net e is copy =
-    rw copy.is (twin_number net (own_at stream copy.place).frame (is.long copy.place (entry 0 []) copy.inside))
+copy_number gap stream net e is copy = grind (arith, nat_tests, twin_number)
 
 -- copies with one number, less than 255 gaps apart
 pub copies_agree : (gap : ℕ) (stream : List Entry) (m n : Net) (d e : Entry) → IsStream gap stream → IsCopy stream m d

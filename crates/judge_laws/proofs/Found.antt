@@ -1,26 +1,7 @@
 -- The link and the port that the judge finds for a frame of a valid plan.
-use Rattle.std.proofs.Common.{◌≡◌, ℕ, zero, suc, ◌<◌, Bool, true, false, List, [], ◌∷◌, length, get_or, slice_index, ◌==◌, Option, Some, None, inl, inr, refl, ap, ◌∙◌, arith}
-use Rattle.std.specs.Prelude.{Contains, IfSome, Ok, find, position}
-use Rattle.std.specs.List.{position_or_len}
-use Rattle.std.proofs.lemmas.Bool.{both_ways, cases_Bool, ne_eqb}
-use Rattle.std.proofs.lemmas.Bool.Decides.{nat_tests}
-use Rattle.std.proofs.lemmas.Grind.{same_number_lists}
-use Rattle.std.proofs.lemmas.List.Elements.{All-contains}
-use Rattle.std.proofs.lemmas.List.Sums.{position_or_len_is}
-use Rattle.afdx_plan.specs.Address.{destination_address, destination_of}
-use Rattle.afdx_plan.specs.Config.{AreSameFlow, Plan, IsPlan, link_plan_at}
-use Rattle.afdx_plan.specs.Plan.{IsPort, IsUnicast}
-use Rattle.afdx_plan.specs.declared.link_plan.LinkPlan.{LinkPlan}
-use Rattle.afdx_plan.specs.declared.port_plan.PortPlan.{PortPlan}
-use Rattle.afdx_plan.specs.declared.port_plan.VlId.{VlId}
-use Rattle.afdx_frame.specs.Frame.{interface_byte}
-use Rattle.afdx_frame.specs.Header.{link_in}
-use Rattle.afdx_frame.specs.Profile.{word_at}
-use Rattle.afdx_frame.specs.declared.net.Net.{Net}
-use Rattle.redundant_mux.specs.Lines.{names}
-use Rattle.judge.specs.Joining.{address_number, is_of_port, port_of}
-unfoldable use Rattle.judge.specs.Rules.{place_of}
-use Rattle.judge.specs.Types.{Flow}
+use Rattle.judge_laws.proofs.Names.{All-contains, AreSameFlow, Bool, Contains, Flow, IfSome, IsPlan, IsPort, IsUnicast, LinkPlan, List, Net, None, Ok, Option, Plan, PortPlan, Some, VlId, address_number, ap, arith, both_ways}
+use Rattle.judge_laws.proofs.Names.{cases_Bool, destination_address, destination_of, false, find, get_or, inl, inr, interface_byte, is_of_port, length, link_in, link_plan_at, names, nat_tests, ne_eqb, place_of, port_of, position}
+use Rattle.judge_laws.proofs.Names.{position_or_len, position_or_len_is, refl, same_number_lists, slice_index, suc, true, word_at, zero, ℕ, [], ◌<◌, ◌==◌, ◌∙◌, ◌∷◌, ◌≡◌}
 
 -- the one member that passes is found
 find_one : {X : Type 0} (p : X → Bool) (xs : List X) (x : X) → Contains xs x → p x ≡ true

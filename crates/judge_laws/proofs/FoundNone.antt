@@ -1,22 +1,8 @@
 -- Findings only grow, so where none is found in the end, no packet has one.
-use Rattle.std.proofs.Common.{ℕ, ◌≡◌, Bool, true, false, List, [], ◌∷◌, ◌++◌, length, Option, Some, None, Result, Ok, Err, refl, subst}
-use Rattle.std.specs.Prelude.{if◌then◌else◌, ◌&&◌}
-use Rattle.std.proofs.lemmas.Bool.{and_right}
-use Rattle.afdx_plan.specs.Plan.{is_both}
-use Rattle.afdx_plan.specs.declared.link_plan.LinkPlan.{LinkPlan}
-use Rattle.afdx_plan.specs.declared.port_plan.PortPlan.{PortPlan}
-use Rattle.afdx_plan.specs.declared.port_plan.VlId.{VlId}
-use Rattle.afdx_frame.specs.declared.net.Net.{Net}
-use Rattle.capture.specs.Recording.{Recorded}
-use Rattle.judge.specs.Deviations.{with_finding}
-use Rattle.judge.specs.Fields.{fields_of}
-use Rattle.judge.specs.Judging.{Admitted, Judging, OnNet, admitted, after_packet, arrived, found_from, found_given_up, found_judged, found_left, found_of_arrival, found_on_line, found_on_link, found_refusal, found_timed, found_twin, found_with_end, found_with_packet, given_up, is_with_check, line_on, tag_of, timed, with_verdict}
-use Rattle.judge.specs.Lines.{verdict}
-use Rattle.judge.specs.Rules.{size_deviation}
-use Rattle.judge.specs.Twins.{found_at_end, found_missing, twin_deviation}
-use Rattle.judge.specs.Types.{Deviation, Link, Nearness, Refused, Setting, Tag, Verdict}
-use Rattle.judge.specs.Waiting.{Wait}
-use Rattle.judge.specs.declared.finding.Finding.{Finding}
+use Rattle.judge_laws.proofs.Names.{Admitted, Bool, Deviation, Err, Finding, Judging, Link, LinkPlan, List, Nearness, Net, None, Ok, OnNet, Option, PortPlan, Recorded, Refused, Result, Setting, Some, Tag, Verdict, VlId, Wait}
+use Rattle.judge_laws.proofs.Names.{admitted, after_packet, and_right, arrived, false, fields_of, found_at_end, found_from, found_given_up, found_judged, found_left, found_missing, found_of_arrival, found_on_line, found_on_link}
+use Rattle.judge_laws.proofs.Names.{found_refusal, found_timed, found_twin, found_with_end, found_with_packet, given_up, if◌then◌else◌, is_both, is_with_check, length, line_on, refl, size_deviation, subst, tag_of, timed, true}
+use Rattle.judge_laws.proofs.Names.{twin_deviation, verdict, with_finding, with_verdict, ℕ, [], ◌&&◌, ◌++◌, ◌∷◌, ◌≡◌}
 use Rattle.judge_laws.proofs.Line.{faultless}
 use Rattle.judge_laws.proofs.Link.{line_given_up}
 

@@ -1,22 +1,8 @@
 -- A piece that the judge hears when it is due: nothing is wrong with it, and what is known after it is true.
-use Rattle.std.proofs.Common.{◌≡◌, ℕ, suc, ◌+◌, ◌-◌, ◌%◌, ◌<◌, ◌≤◌, true, false, List, length, Option, Some, None, refl, sym, ap, ◌∙◌, arith}
-use Rattle.std.specs.Prelude.{Contains, IfSome}
-use Rattle.std.proofs.lemmas.Bool.{cases_Bool, cases_eq}
-use Rattle.std.proofs.lemmas.Bool.Decides.{nat_tests}
-use Rattle.afdx_plan.specs.Config.{Plan, IsPlan, link_plan_at}
-use Rattle.afdx_plan.specs.Plan.{identification, room_of, step_of}
-use Rattle.afdx_plan.specs.declared.port_plan.PortPlan.{PortPlan}
-use Rattle.afdx_plan.specs.declared.port_plan.VlId.{VlId}
-use Rattle.afdx_frame.specs.Fragments.{Sent}
-use Rattle.afdx_frame.specs.declared.piece.Piece.{Piece}
-use Rattle.afdx_legal.specs.Accepted.{IsAllowed}
-use Rattle.judge.specs.Joining.{addresses_deviation, begun, end_deviation, head_after, head_of, head_with, ident_of, if_known, is_of_port, is_towards, joined, misfit_if, next_of}
-unfoldable use Rattle.judge.specs.Joining.{fragment_deviation, head_now, message_deviation}
-use Rattle.judge.specs.Judging.{first_port}
-use Rattle.judge.specs.Lines.{port_deviation, sub_in}
-use Rattle.judge.specs.Types.{Fields, Flow, Head, Joining, PieceIn}
-use Rattle.judge.specs.declared.finding.Misfit.{Misfit}
-use Rattle.judge.specs.declared.finding.Misfit.TheVariants.{Offset, Identification}
+use Rattle.judge_laws.proofs.Names.{Contains, Fields, Flow, Head, Identification, IfSome, IsAllowed, IsPlan, Joining, List, Misfit, None, Offset, Option, Piece, PieceIn, Plan, PortPlan, Sent, Some, VlId, addresses_deviation, ap}
+use Rattle.judge_laws.proofs.Names.{arith, begun, cases_Bool, cases_eq, end_deviation, false, first_port, fragment_deviation, head_after, head_now, head_of, head_with, ident_of, identification, if_known, is_of_port, is_towards}
+use Rattle.judge_laws.proofs.Names.{joined, length, link_plan_at, message_deviation, misfit_if, nat_tests, next_of, port_deviation, refl, room_of, step_of, suc, sym, true, ℕ, ◌%◌, ◌+◌, ◌-◌, ◌<◌, ◌∙◌, ◌≡◌, ◌≤◌}
+use Rattle.judge.specs.Lines.{sub_in}
 use Rattle.judge_laws.proofs.Carried.{Carries}
 use Rattle.judge_laws.proofs.Found.{port_found}
 use Rattle.judge_laws.proofs.Message.{IsNext, IsTrue, cut_length, first_head, head_at, later_head, right_field, towards, last_joined, more_joined}

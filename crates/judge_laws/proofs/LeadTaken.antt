@@ -1,17 +1,7 @@
 -- A frame of a link on both networks, in the order of time: no frame that waits is passed, and the networks lead on.
-use Rattle.std.proofs.Common.{ℕ, ◌≡◌, ◌+◌, ◌*◌, ◌<◌, ◌≤◌, Bool, true, false, List, [], ◌∷◌, ◌++◌, length, map, Option, Some, arith, refl, sym, subst, ap, ◌∙◌, inl, inr, append_assoc}
-use Rattle.std.specs.Prelude.{◌⊎◌, All, find, remove}
-use Rattle.std.specs.List.{AllZip, position_or_len}
-use Rattle.std.proofs.lemmas.Bool.{eq-eqb}
-use Rattle.std.proofs.lemmas.List.Elements.{All-cons, All-nil, All-push, All-tail, All-weaker}
-use Rattle.afdx_frame.proofs.Twins.{length-twin, twin_number}
-use Rattle.afdx_frame.specs.Header.{number_in}
-use Rattle.afdx_frame.specs.declared.net.Net.{Net}
-use Rattle.afdx_frame.specs.declared.net.Net.TheVariants.{A, B}
-use Rattle.redundant_mux.specs.Lines.{Entry, side}
-use Rattle.judge.specs.Twins.{is_passed, is_twin, left_waiting, pairing_with, same_net}
-use Rattle.judge.specs.Types.{Nearness, Tag}
-use Rattle.judge.specs.Waiting.{Pairing, Wait}
+use Rattle.judge_laws.proofs.Names.{A, All, All-cons, All-nil, All-push, All-tail, All-weaker, AllZip, B, Bool, Entry, List, Nearness, Net, Option, Pairing, Some, Tag, Wait, ap, append_assoc, arith, eq-eqb, false, find, inl, inr}
+use Rattle.judge_laws.proofs.Names.{is_passed, is_twin, left_waiting, length, length-twin, map, number_in, pairing_with, position_or_len, refl, remove, same_net, side, subst, sym, true, twin_number, ℕ, [], ◌*◌, ◌++◌, ◌+◌, ◌<◌}
+use Rattle.judge_laws.proofs.Names.{◌∙◌, ◌∷◌, ◌≡◌, ◌≤◌, ◌⊎◌}
 use Rattle.judge_laws.proofs.Copies.{IsStream}
 use Rattle.judge_laws.proofs.Leading.{AreOpen, IsLeading, IsWaitFor, all_stay, later_apart, no_twin, open_own, other, same_other, stay_kept, zip_push}
 use Rattle.judge_laws.proofs.Link.{rest_after}
@@ -68,10 +58,7 @@ lead_on stream gap origin jitter skew latest nearness tag p rest done ahead c cs
     same = twin_number tag.net c.frame long
 
     unlike : All (λ (o : Entry). same_net tag.net tag.net ≡ true → number_in o.frame ≡ number → ⊥) ahead
-    unlike = λ i spare inside both equal.
-        let apart = later_apart gap stream done ahead cs c time.is_stream whole i spare inside (equal ∙ same) in
-        let limit = late i spare inside in
-        grind (arith, time.delayed, time.sum)
+    unlike = grind (arith, later_apart, same)
 
     stay : All (λ (w : Wait). is_passed nearness tag number w ≡ false) p.waiting
     stay = all_stay origin jitter skew latest nearness tag number tag.net ahead p.waiting time.is_skew time.fit time.later waits past late unlike
@@ -86,8 +73,7 @@ removed_first p x xs is = rw is refl
 first_met : (tag : Tag) (number : ℕ) (frame : List ℕ) (lead : Option ℕ) (w : Wait) (ws : List Wait) → is_twin tag number w ≡ true
     → (pairing_with tag number frame (record { waiting = w ∷ ws; lead = lead })).waiting ≡ ws
 unfolding pairing_with
-first_met tag number frame lead w ws is =
-    rw (found_first (is_twin tag number) w ws is) (removed_first (is_twin tag number) w ws is)
+first_met tag number frame lead w ws is = grind (arith, found_first, removed_first)
 
 -- the frame is of the other network, and its twin waits
 lag_on : (stream : List Entry) (gap origin jitter skew latest : ℕ) (nearness : Nearness) (tag : Tag) (p : Pairing) (rest : Net → List Entry)

@@ -1,22 +1,11 @@
 -- The twins of a link on both networks, where both got all and the recording is in the order of time: the frames that wait
--- are those by which one network leads, and each finds its twin.
-use Rattle.std.proofs.Common.{ℕ, ◌≡◌, ◌+◌, ◌*◌, ◌<◌, ◌≤◌, true, false, List, [], ◌∷◌, ◌++◌, length, get_or, map, None, arith, refl, sym, ap, ◌∙◌, inl, inr, length-append}
-use Rattle.std.specs.Prelude.{All, filter, find, nat_eq, ◌&&◌}
-use Rattle.std.specs.List.{AllZip}
-use Rattle.std.proofs.lemmas.Bool.{cases_Bool, ne_eqb}
-use Rattle.std.proofs.lemmas.List.{get_or-append-add, get_or_append_left, get_or_default}
-use Rattle.std.proofs.Math.Seq.{get_or-append_seam}
-use Rattle.std.proofs.lemmas.Bool.Decides.{nat_tests}
-use Rattle.std.proofs.lemmas.List.Elements.{All-cons, All-nil, All-tail}
-use Rattle.afdx_frame.specs.Header.{number_in}
-use Rattle.afdx_frame.specs.declared.net.Net.{Net}
-use Rattle.afdx_frame.specs.declared.net.Net.TheVariants.{A, B}
-use Rattle.redundant_mux.specs.Lines.{Entry, entry, side}
-use Rattle.judge.specs.Twins.{is_lost, is_near, is_passed, is_twin, kept, same_net}
-use Rattle.judge.specs.Types.{Nearness, Tag}
-use Rattle.judge.specs.Waiting.{Wait}
+use Rattle.judge_laws.proofs.Names.{A, All, All-cons, All-nil, All-tail, AllZip, B, Entry, List, Nearness, Net, None, Tag, Wait, ap, arith, cases_Bool, entry, false, filter, find, get_or, get_or-append-add, get_or-append_seam}
+use Rattle.judge_laws.proofs.Names.{get_or_append_left, get_or_default, is_lost, is_passed, is_twin, kept, length, length-append, map, nat_tests, ne_eqb, number_in, refl, same_net, side, sym, true, ℕ, [], ◌*◌, ◌++◌, ◌+◌, ◌<◌, ◌∙◌}
+use Rattle.judge_laws.proofs.Names.{◌∷◌, ◌≡◌, ◌≤◌}
 use Rattle.judge_laws.proofs.Copies.{IsStream, far, own_at}
 use Rattle.judge_laws.proofs.Numbers.{IsDelayed}
+
+-- are those by which one network leads, and each finds its twin.
 
 abbrev pub other : Net → Net
 other A = B
@@ -81,13 +70,7 @@ stays_one : (origin jitter skew latest : ℕ) (nearness : Nearness) (tag : Tag) 
     → nearness.skew ≡ 1000 * skew → jitter ≤ skew → latest ≤ tag.at → IsWaitFor origin jitter lead own w → w.tag.at ≤ latest
     → tag.at ≤ origin + 1000 * (own.at + jitter) → (same_net lead tag.net ≡ true → number_in own.frame ≡ number → ⊥)
     → is_passed nearness tag number w ≡ false
-stays_one origin jitter skew latest nearness tag number lead own w is_skew fit later wait past late unlike =
-    let near : is_near nearness w.tag.at tag.at ≡ true = grind (arith, nat_tests, wait.delayed) in
-    let unlike_it : (same_net w.tag.net tag.net && nat_eq w.number number) ≡ false = elim (cases_Bool (same_net lead tag.net)) [
-      | inl same ↦ rw (wait.net, same, wait.number) (ne_eqb (number_in own.frame) number (λ e. unlike same e))
-      | inr apart ↦ rw (wait.net, apart) refl
-    ] in
-    rw (near, unlike_it) refl
+stays_one origin jitter skew latest nearness tag number lead own w is_skew fit later wait past late unlike = grind (arith, nat_tests, cases_Bool, ne_eqb)
 
 pub all_stay : (origin jitter skew latest : ℕ) (nearness : Nearness) (tag : Tag) (number : ℕ) (lead : Net) (ahead : List Entry) (ws : List Wait)
     → nearness.skew ≡ 1000 * skew → jitter ≤ skew → latest ≤ tag.at → AllZip (IsWaitFor origin jitter lead) ahead ws

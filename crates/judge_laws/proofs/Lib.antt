@@ -13,6 +13,7 @@ pub mod Link
 pub mod Message
 pub mod Missed
 pub mod MissedLines
+mod Names
 pub mod Numbers
 pub mod OfProfile
 pub mod Pieces

@@ -1,27 +1,13 @@
 -- A line of a judge: what it knows of a link on a network while the frames `rest` of a legal stream are to come, and that
--- nothing is wrong with the next one.
-use Rattle.std.proofs.Common.{ℕ, ◌≡◌, ◌≢◌, ◌+◌, ◌<◌, ◌≤◌, true, false, List, [], ◌∷◌, ◌++◌, length, Option, Some, None, arith, refl, sym, inl, inr, ◌∙◌, subst}
-use Rattle.std.specs.Prelude.{slice_set}
-use Rattle.std.proofs.lemmas.Bool.{cases_Bool, cases_eq}
-use Rattle.std.proofs.lemmas.Bool.Decides.{nat_tests}
-use Rattle.afdx_plan.specs.Config.{Plan, IsPlan, link_plan_at}
-use Rattle.afdx_plan.specs.Plan.{bag_micros}
-use Rattle.afdx_plan.specs.declared.port_plan.PortPlan.{PortPlan}
-use Rattle.afdx_frame.specs.Fragments.{blanked}
-use Rattle.afdx_frame.specs.Header.{sub_in}
-use Rattle.afdx_frame.specs.declared.net.Net.{Net}
-use Rattle.redundant_mux.specs.Lines.{Entry, names}
-use Rattle.vl_shaper.specs.declared.shaper.Stamp.{Stamp}
-use Rattle.afdx_legal.specs.Streams.{IsNumbered, IsPrefixOf, IsSpaced, TakesTurns, entry_number, stamp_of, sub_stream, told}
-use Rattle.judge.specs.Fields.{fields_of}
-use Rattle.judge.specs.Joining.{end_deviation, fragment_deviation, head_now, joined}
-use Rattle.judge.specs.Judging.{arrived, first_port, measure_of}
-use Rattle.judge.specs.Lines.{early_deviation, figures_with, line_after, line_with, number_deviation, port_deviation, settled, sub_at, turn_deviation, verdict}
-use Rattle.judge.specs.Types.{Arrived, Joining, Line, Measure, Sub, Tag, Verdict}
-use Rattle.judge.specs.declared.options.Options.{Options}
+use Rattle.judge_laws.proofs.Names.{Arrived, Entry, IsNumbered, IsPlan, IsPrefixOf, IsSpaced, Joining, Line, List, Measure, Net, None, Option, Options, Plan, PortPlan, Some, Stamp, Sub, Tag, TakesTurns, Verdict, arith, arrived}
+use Rattle.judge_laws.proofs.Names.{bag_micros, blanked, cases_Bool, cases_eq, early_deviation, end_deviation, entry_number, false, fields_of, figures_with, first_port, fragment_deviation, head_now, inl, inr, joined, length}
+use Rattle.judge_laws.proofs.Names.{line_after, line_with, link_plan_at, measure_of, names, nat_tests, number_deviation, port_deviation, refl, settled, slice_set, stamp_of, sub_at, sub_in, sub_stream, subst, sym, told, true}
+use Rattle.judge_laws.proofs.Names.{turn_deviation, verdict, ℕ, [], ◌++◌, ◌+◌, ◌<◌, ◌∙◌, ◌∷◌, ◌≡◌, ◌≢◌, ◌≤◌}
 use Rattle.judge_laws.proofs.Numbers.{IsDelayed, IsLast, none_early, number_fits}
 use Rattle.judge_laws.proofs.Pieces.{IsAwaiting, IsClean, one_frame}
 use Rattle.judge_laws.proofs.Turns.{AreDue, due_after, new_at, none_passed, other_at}
+
+-- nothing is wrong with the next one.
 
 -- the frames of a sub-VL are the first of the fragments that are left of its messages
 pub record IsAhead (plan : Plan) (k s : ℕ) (net : Net) (joining : Joining) (rest : List Entry) : Type 0 where
@@ -93,8 +79,7 @@ right_after measure port come line right = rw (settles measure port come line ri
 right_verdict : (measure : Measure) (port : Option PortPlan) (come : Arrived) (line : Line)
     → IsRight measure port come line come.sub → verdict measure port come line ≡ faultless
 unfolding verdict
-right_verdict measure port come line right =
-    rw (settles measure port come line right, right.number, right.turn, right.early, right.of_port, right.fits, right.ends) refl
+right_verdict measure port come line right = grind (arith, nat_tests, settles)
 
 -- the fragment that an entry is
 told_next : (s : ℕ) (e : Entry) (es : List Entry) → sub_in e.frame ≡ s
@@ -114,10 +99,7 @@ pub record IsTaken (plan : Plan) (k : ℕ) (net : Net) (origin : ℕ) (options :
 
 named : (plan : Plan) (k : ℕ) (net : Net) (origin : ℕ) (options : Options) (line : Line) (e : Entry) (es : List Entry)
     → IsLine plan k net origin options line (e ∷ es) → names net (link_plan_at plan.links k).networks ≡ true
-named plan k net origin options line e es is = elim (cases_Bool (names net (link_plan_at plan.links k).networks)) [
-  | inl is_named ↦ is_named
-  | inr isnt ↦ absurd (cc (is.carried isnt))
-]
+named plan k net origin options line e es is = grind (arith, nat_tests, cases_Bool)
 
 -- one piece of a sub-VL's fragments less
 next_left : (s : ℕ) (e : Entry) (es : List Entry) (left : List (List ℕ)) → sub_in e.frame ≡ s

@@ -1,26 +1,9 @@
 -- A line of a judge that finds nothing: the frames are numbered and spaced, and take turns.
-use Rattle.std.proofs.Common.{ℕ, zero, suc, ◌≡◌, ◌+◌, ◌*◌, ◌-◌, ◌/◌, ◌^◌, ◌<◌, ◌≤◌, Bool, true, false, List, [], ◌∷◌, length, map, get_or, Option, Some, None, arith, refl, sym, subst, ap, ◌∙◌, inl, inr, length-set}
-use Rattle.std.specs.Prelude.{Ok, find, slice_set}
-use Rattle.std.proofs.lemmas.Bool.{cases_Bool, cases_eq, cases_lt}
-use Rattle.std.proofs.lemmas.List.{get_or_past}
-use Rattle.judge.proofs.Pairs.{none_is}
-use Rattle.std.proofs.lemmas.Bool.Decides.{nat_tests}
-use Rattle.afdx_plan.specs.Config.{Plan, link_plan_at}
-use Rattle.afdx_plan.specs.Plan.{bag_micros, sequence_number}
-use Rattle.afdx_plan.specs.declared.port_plan.PortPlan.{PortPlan}
-use Rattle.afdx_frame.specs.Header.{number_in, sub_in}
-use Rattle.afdx_frame.specs.declared.net.Net.{Net}
-use Rattle.redundant_mux.specs.Lines.{Entry}
-use Rattle.vl_shaper.specs.declared.shaper.Stamp.{Stamp}
-use Rattle.afdx_legal.specs.Streams.{IsApart, IsNumbered, IsSpaced, TakesTurns, entry_number, more_in, stamp_of}
-use Rattle.capture.specs.Recording.{Recorded}
-use Rattle.judge.specs.Fields.{fields_of}
-use Rattle.judge.specs.Judging.{arrived, tag_of}
-use Rattle.judge.specs.Layouts.{layout_broken}
-use Rattle.judge.specs.Lines.{new_sub, due_before, early_since, figures_with, line_after, next_number, number_deviation, number_unless, numbered, passed_by, turn_deviation, turn_if, verdict, sub_in as judge_sub}
-use Rattle.judge.specs.Rules.{place_of, size_deviation}
-use Rattle.judge.specs.Types.{Arrived, Last, Line, Measure, Sub, Verdict}
-use Rattle.judge.specs.declared.options.Options.{Options}
+use Rattle.judge_laws.proofs.Names.{Arrived, Bool, Entry, IsApart, IsNumbered, IsSpaced, Last, Line, List, Measure, Net, None, Ok, Option, Options, Plan, PortPlan, Recorded, Some, Stamp, Sub, TakesTurns, Verdict, ap, arith}
+use Rattle.judge_laws.proofs.Names.{arrived, bag_micros, cases_Bool, cases_eq, cases_lt, due_before, early_since, entry_number, false, fields_of, figures_with, find, get_or, get_or_past, inl, inr, layout_broken, length}
+use Rattle.judge_laws.proofs.Names.{length-set, line_after, link_plan_at, map, more_in, nat_tests, new_sub, next_number, none_is, number_deviation, number_in, number_unless, numbered, passed_by, place_of, refl, sequence_number}
+use Rattle.judge_laws.proofs.Names.{size_deviation, slice_set, stamp_of, sub_in, subst, suc, sym, tag_of, true, turn_deviation, turn_if, verdict, zero, ℕ, [], ◌*◌, ◌+◌, ◌-◌, ◌/◌, ◌<◌, ◌^◌, ◌∙◌, ◌∷◌, ◌≡◌, ◌≤◌}
+use Rattle.judge.specs.Lines.{sub_in as judge_sub}
 use Rattle.judge_laws.specs.NothingFound.{time_of}
 use Rattle.judge_laws.specs.NothingMissed.{IsOctets, entry_of}
 use Rattle.judge_laws.proofs.Line.{IsRight, sub_of, faultless, line_of, measure_at, port_at, right_after}
@@ -157,9 +140,7 @@ pub record AreHeard (plan : Plan) (k i : ℕ) (before : Option Stamp) (subs : Li
 pub after_clear : (plan : Plan) (k : ℕ) (options : Options) (net : Net) (line : Line) (r : Recorded) → IsClear plan k options net line r
     → line_then plan k options net line r
     ≡ line_of (port_at plan k r.bytes) (come_of plan k options net line r) line (sub_in r.bytes)
-after_clear plan k options net line r clear =
-    right_after _ _ _ line (wrong_right _ _ _ line refl clear.wrong)
-    ∙ ap (line_of (port_at plan k r.bytes) (come_of plan k options net line r) line) (sub_of_frame r.bytes)
+after_clear plan k options net line r clear = grind (arith, nat_tests, right_after, wrong_right, sub_of_frame)
 
 came_next : (subs : List Sub) (i s : ℕ) (new : Sub) → length subs ≡ 4 → s < 4 → ((p : ℕ) → (own_sub subs p).came ≤ i)
     → new.came ≡ i + 1 → (p : ℕ) → (own_sub (slice_set subs s new) p).came ≤ i + 1

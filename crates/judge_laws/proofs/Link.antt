@@ -1,24 +1,7 @@
 -- A link of a judge: what it knows while the frames `rest` of each network are to come, and what it finds in the next one.
-use Rattle.std.proofs.Common.{ℕ, ◌≡◌, ◌*◌, ◌<◌, ◌≤◌, Bool, true, false, List, ◌∷◌, length, Option, None, refl, sym, subst, ap, ◌∙◌, inl, inr}
-use Rattle.std.specs.Prelude.{All, if◌then◌else◌}
-use Rattle.std.proofs.lemmas.Bool.{cases_Bool}
-use Rattle.std.proofs.lemmas.List.Elements.{All-head, All-tail}
-use Rattle.afdx_plan.specs.Config.{Plan, IsPlan, link_plan_at}
-use Rattle.afdx_plan.specs.Plan.{bag_micros, is_both}
-use Rattle.afdx_plan.specs.declared.port_plan.PortPlan.{PortPlan}
-use Rattle.afdx_plan.specs.declared.port_plan.VlId.{VlId}
-use Rattle.afdx_frame.specs.Header.{number_in, sub_in}
-use Rattle.afdx_frame.specs.declared.net.Net.{Net}
-use Rattle.afdx_frame.specs.declared.net.Net.TheVariants.{A, B}
-use Rattle.redundant_mux.specs.Lines.{Entry}
-use Rattle.judge.specs.Fields.{fields_of}
-use Rattle.judge.specs.Judging.{arrived, found_given_up, found_on_line, found_on_link, found_twin, given_up, line_on, link_after, paired, with_frame, with_line, with_verdict}
-use Rattle.judge.specs.Lines.{line_after}
-use Rattle.judge.specs.Twins.{found_missing, left_waiting, pairing_with, twin_deviation}
-use Rattle.judge.specs.Types.{Line, Link, Nearness, Setting, Tag}
-use Rattle.judge.specs.Waiting.{Pairing}
-use Rattle.judge.specs.declared.finding.Finding.{Finding}
-use Rattle.judge.specs.declared.options.Options.{Options}
+use Rattle.judge_laws.proofs.Names.{A, All, All-head, All-tail, B, Bool, Entry, Finding, IsPlan, Line, Link, List, Nearness, Net, None, Option, Options, Pairing, Plan, PortPlan, Setting, Tag, VlId, ap, arrived, bag_micros}
+use Rattle.judge_laws.proofs.Names.{cases_Bool, false, fields_of, found_given_up, found_missing, found_on_line, found_on_link, found_twin, given_up, if◌then◌else◌, inl, inr, is_both, left_waiting, length, line_after, line_on}
+use Rattle.judge_laws.proofs.Names.{link_after, link_plan_at, number_in, paired, pairing_with, refl, sub_in, subst, sym, true, twin_deviation, with_frame, with_line, with_verdict, ℕ, ◌*◌, ◌<◌, ◌∙◌, ◌∷◌, ◌≡◌, ◌≤◌}
 use Rattle.judge_laws.specs.NoFalseAlarm.{AreFit, IsMissing}
 use Rattle.judge_laws.proofs.Copies.{IsCopy, IsStream}
 use Rattle.judge_laws.proofs.Line.{IsLine, IsTaken, faultless, line_taken, measure_at, port_at}

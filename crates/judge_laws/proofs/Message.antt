@@ -1,26 +1,8 @@
 -- What the judge knows of a message after some of its pieces: the sum of its words, and the lengths of pieces.
-use Rattle.std.proofs.Common.{◌≡◌, ℕ, ◌+◌, ◌-◌, ◌/◌, ◌%◌, ◌<◌, ◌≤◌, ◌⊎◌, true, false, List, length, take, drop, Option, Some, None, refl, arith}
-use Rattle.std.specs.Prelude.{IfSome}
-use Rattle.std.proofs.Math.Seq.{take-add}
-use Rattle.std.proofs.lemmas.List.{length-append, length-take, take_all}
-use Rattle.std.proofs.lemmas.Bool.{cases_lt}
-use Rattle.std.proofs.lemmas.Bool.Decides.{nat_tests}
-use Rattle.afdx_plan.specs.Plan.{step_of}
-use Rattle.afdx_plan.specs.declared.port_plan.PortPlan.{PortPlan}
-use Rattle.afdx_plan.specs.declared.port_plan.UdpSum.{UdpSum}
-use Rattle.afdx_plan.specs.declared.port_plan.UdpSum.TheVariants.{Omitted, Generated}
-use Rattle.afdx_frame.proofs.UdpLemmas.{checksums_pass, word_sum-append}
-use Rattle.afdx_frame.specs.Checksum.{word_sum}
-unfoldable use Rattle.afdx_frame.specs.Checksum.{udp_checksum}
-use Rattle.afdx_frame.specs.Cutting.{piece_at}
-use Rattle.afdx_frame.specs.Frame.{addresses, udp_field, udp_sum}
-unfoldable use Rattle.afdx_frame.specs.Frame.{datagram}
-use Rattle.afdx_frame.proofs.Datagram.{length-udp_header}
-use Rattle.afdx_frame.specs.ReadBack.{IsPiece}
-use Rattle.afdx_frame.specs.declared.piece.Piece.{Piece}
-use Rattle.judge.specs.Joining.{is_of_port, begun, head_of, head_with, ident_before, ident_of, joined, is_towards, next_of, right_sum}
-unfoldable use Rattle.judge.specs.Joining.{fragment_deviation, head_now, length_deviation, message_deviation}
-use Rattle.judge.specs.Types.{Fields, Head, Joining, PieceIn}
+use Rattle.judge_laws.proofs.Names.{Fields, Generated, Head, IfSome, IsPiece, Joining, List, None, Omitted, Option, Piece, PieceIn, PortPlan, Some, UdpSum, addresses, arith, begun, cases_lt, checksums_pass, datagram, drop, false}
+use Rattle.judge_laws.proofs.Names.{fragment_deviation, head_now, head_of, head_with, ident_before, ident_of, is_of_port, is_towards, joined, length, length-append, length-take, length-udp_header, length_deviation}
+use Rattle.judge_laws.proofs.Names.{message_deviation, nat_tests, next_of, piece_at, refl, right_sum, step_of, take, take-add, take_all, true, udp_checksum, udp_field, udp_sum, word_sum, word_sum-append, ℕ, ◌%◌, ◌+◌, ◌-◌, ◌/◌}
+use Rattle.judge_laws.proofs.Names.{◌<◌, ◌≡◌, ◌≤◌, ◌⊎◌}
 use Rattle.judge_laws.proofs.Carried.{Carries, sum_field}
 
 -- what is known of a message of which `start` bytes came

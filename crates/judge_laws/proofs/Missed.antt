@@ -1,20 +1,12 @@
 -- A judge that finds nothing in a recording: each packet is a frame of a link of the plan, and nothing is wrong with it on
--- its line.
-use Rattle.std.proofs.Common.{ℕ, ◌≡◌, false, List, [], length, Option, Some, None, Result, Ok, Err, refl, sym, subst, ap, ◌∙◌, inl, inr}
-use Rattle.std.specs.Prelude.{nat_lt}
-use Rattle.std.proofs.lemmas.Bool.{cases_Bool}
-use Rattle.afdx_plan.specs.Config.{Plan, link_plan_at}
-use Rattle.afdx_frame.specs.declared.net.Net.{Net}
-use Rattle.capture.specs.Recording.{Recorded}
-use Rattle.judge.specs.Judging.{Admitted, admitted, arrived, at_place, found_judged, found_timed, found_with_packet, line_on, link_at, placed, tag_of, times_with}
-use Rattle.judge.specs.Layouts.{has_four_more, layout_broken}
-use Rattle.judge.specs.Lines.{verdict}
-use Rattle.judge.specs.Rules.{frame_in, if_kept, in_layout, place_of, size_deviation, unchecked}
-use Rattle.judge.specs.Types.{Deviation, Link, Refused, Tag, Times}
-use Rattle.judge.specs.declared.options.Options.{Options}
+use Rattle.judge_laws.proofs.Names.{Admitted, Deviation, Err, Link, List, Net, None, Ok, Option, Options, Plan, Recorded, Refused, Result, Some, Tag, Times, admitted, ap, arrived, at_place, cases_Bool, false, found_judged}
+use Rattle.judge_laws.proofs.Names.{found_timed, found_with_packet, frame_in, has_four_more, if_kept, in_layout, inl, inr, layout_broken, length, line_on, link_at, link_plan_at, nat_lt, place_of, placed, refl, size_deviation}
+use Rattle.judge_laws.proofs.Names.{subst, sym, tag_of, times_with, unchecked, verdict, ℕ, [], ◌∙◌, ◌≡◌}
 use Rattle.judge_laws.proofs.FoundNone.{link_none, refusal_found}
 use Rattle.judge_laws.proofs.Line.{faultless, measure_at, of_profile, port_at}
 use Rattle.judge_laws.proofs.Recording.{found_is, judge_of}
+
+-- its line.
 
 -- ---- a packet
 

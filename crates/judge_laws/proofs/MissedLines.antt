@@ -1,24 +1,7 @@
 -- A judge that finds nothing in a recording: each line is clear.
-use Rattle.std.proofs.Common.{ℕ, ◌≡◌, ◌≢◌, ◌<◌, true, false, List, [], ◌∷◌, length, Option, None, Ok, arith, refl, sym, subst, ap, ◌∙◌, inl, inr, length-set}
-use Rattle.std.specs.Prelude.{All}
-use Rattle.std.proofs.lemmas.Bool.{cases_Bool, cases_eq, eq-eqb, ne_eqb}
-use Rattle.std.proofs.lemmas.List.Elements.{All-cons, All-nil, All-tail}
-use Rattle.afdx_plan.specs.Config.{Plan, IsPlan}
-use Rattle.afdx_plan.specs.declared.port_plan.PortPlan.{PortPlan}
-use Rattle.afdx_frame.specs.Header.{link_in}
-use Rattle.afdx_frame.specs.declared.net.Net.{Net}
-use Rattle.afdx_frame.specs.declared.net.Net.TheVariants.{A, B}
-use Rattle.afdx_legal.specs.Streams.{those_with}
-use Rattle.capture.specs.Recording.{Recorded}
-use Rattle.judge.specs.Fields.{fields_of}
-use Rattle.judge.specs.Judging.{Judging, OnNet, after_packet, arrived, found_from, found_with_packet, given_up, line_on, link_after, link_at, setting_of, tag_of, times_with, with_frame, with_line}
-use Rattle.judge.specs.Layouts.{layout_broken}
-use Rattle.judge.specs.Lines.{line_after, verdict}
-use Rattle.judge.specs.Rules.{place_of}
-use Rattle.judge.specs.Twins.{same_net}
-use Rattle.judge.specs.Types.{Line, Link, Setting, Tag, Times}
-use Rattle.judge.specs.declared.finding.Finding.{Finding}
-use Rattle.judge.specs.declared.options.Options.{Options}
+use Rattle.judge_laws.proofs.Names.{A, All, All-cons, All-nil, All-tail, B, Finding, IsPlan, Judging, Line, Link, List, Net, None, Ok, OnNet, Option, Options, Plan, PortPlan, Recorded, Setting, Tag, Times, after_packet, arith}
+use Rattle.judge_laws.proofs.Names.{arrived, cases_Bool, cases_eq, eq-eqb, false, found_from, found_with_packet, inl, inr, layout_broken, length, length-set, line_after, line_on, link_after, link_at, link_in, ne_eqb, place_of}
+use Rattle.judge_laws.proofs.Names.{refl, same_net, setting_of, subst, sym, tag_of, those_with, times_with, true, verdict, with_line, ℕ, [], ◌<◌, ◌∙◌, ◌∷◌, ◌≡◌, ◌≢◌}
 use Rattle.judge_laws.specs.NoFalseAlarm.{packets_of}
 use Rattle.judge_laws.specs.NothingFound.{time_of}
 use Rattle.judge_laws.specs.NothingMissed.{IsOctets}
@@ -29,7 +12,7 @@ use Rattle.judge_laws.proofs.Link.{line_given_up, line_paired}
 use Rattle.judge_laws.proofs.Missed.{IsPacketSilent, packet_silent}
 use Rattle.judge_laws.proofs.OfProfile.{layout_is_profile}
 use Rattle.judge_laws.proofs.Quiet.{placed_says}
-use Rattle.judge_laws.proofs.Recording.{after_is, id_of, judge_of, new_at, new_links, other_at, vl_of}
+use Rattle.judge_laws.proofs.Recording.{after_is, id_of, judge_of, new_at, new_links, other_at}
 use Rattle.judge_laws.proofs.Whole.{packets_next, time_is}
 
 -- ---- the lines of a link after a frame
@@ -54,19 +37,12 @@ line_own : (setting : Setting) (tag : Tag) (port : Option PortPlan) (frame : Lis
     → line_on tag.net (link_after setting tag port frame link)
     ≡ line_after setting.measure port (arrived setting.measure tag port frame (line_on tag.net link)) (line_on tag.net link)
 unfolding link_after
-line_own setting tag port frame link =
-    line_paired setting tag (fields_of frame).number frame (with_frame setting tag port frame (given_up setting tag (fields_of frame).number link)) tag.net
-    ∙ own_line tag.net _ (given_up setting tag (fields_of frame).number link)
-    ∙ ap (λ (l : Line). line_after setting.measure port (arrived setting.measure tag port frame l) l)
-    (line_given_up setting tag (fields_of frame).number link tag.net)
+line_own setting tag port frame link = grind (arith, line_paired, own_line, line_given_up)
 
 line_other : (setting : Setting) (tag : Tag) (port : Option PortPlan) (frame : List ℕ) (link : Link) (net : Net) → same_net tag.net net ≡ false
     → line_on net (link_after setting tag port frame link) ≡ line_on net link
 unfolding link_after
-line_other setting tag port frame link net apart =
-    line_paired setting tag (fields_of frame).number frame (with_frame setting tag port frame (given_up setting tag (fields_of frame).number link)) net
-    ∙ other_line net tag.net _ (given_up setting tag (fields_of frame).number link) apart
-    ∙ line_given_up setting tag (fields_of frame).number link net
+line_other setting tag port frame link net apart = grind (arith, line_paired, other_line, line_given_up)
 
 -- ---- a packet
 
@@ -105,11 +81,7 @@ module _ (plan : Plan) (options : Options) (times : Times) (links : List Link) (
   now_is inside = new_at links p.k link_now (rw size inside)
 
   line_is : p.k < length plan.links → line_on net (link_at links_now p.k) ≡ line_then plan p.k options net line packet
-  line_is inside = ap (line_on net) (now_is inside)
-      ∙ line_own (setting_of (judge_of plan options (times_with p.at times) false links) p.k) tag (port_at plan p.k packet.bytes) packet.bytes
-      (link_at links p.k)
-      ∙ ap (λ (at : ℕ). line_after (measure_at plan p.k options) (port_at plan p.k packet.bytes)
-      (arrived (measure_at plan p.k options) (tag_of net number at) (port_at plan p.k packet.bytes) packet.bytes line) line) (sym time)
+  line_is inside = grind (arith, now_is, line_own)
 
   -- the packet is on its link's line
   clear_own : (rs : List Recorded) → p.k < length plan.links → AreClear plan p.k options net (line_on net (link_at links_now p.k)) rs
@@ -129,13 +101,7 @@ module _ (plan : Plan) (options : Options) (times : Times) (links : List Link) (
   -- or on another
   same_line : (k : ℕ) (m : Net) → k < length plan.links → (k ≡ p.k → same_net net m ≡ false)
       → line_on m (link_at links_now k) ≡ line_on m (link_at links k)
-  same_line k m inside apart = elim (cases_eq k p.k) [
-    | inl same ↦ subst (λ j. line_on m (link_at links_now j) ≡ line_on m (link_at links j)) (sym same)
-        (ap (line_on m) (now_is (subst (λ j. j < length plan.links) same inside))
-        ∙ line_other (setting_of (judge_of plan options (times_with p.at times) false links) p.k) tag (port_at plan p.k packet.bytes) packet.bytes
-        (link_at links p.k) m (apart same))
-    | inr other ↦ ap (line_on m) (other_at links p.k k link_now other)
-  ]
+  same_line k m inside apart = grind (arith, cases_eq, now_is, line_other, other_at)
 
   -- a packet of one link on one network is none of another
   its_link : (p.k < length plan.links) × (link_in packet.bytes ≡ id_of plan p.k)
@@ -145,20 +111,13 @@ module _ (plan : Plan) (options : Options) (times : Times) (links : List Link) (
   clear_next : (ps : List Recorded) (k : ℕ) → k < length plan.links
       → AreClear plan k options net (line_on net (link_at links_now k)) (own_packets plan k ps)
       → AreClear plan k options net (line_on net (link_at links k)) (own_packets plan k (packet ∷ ps))
-  clear_next ps k inside later = elim (cases_eq k p.k) [
-    | inl same ↦ subst (λ j. AreClear plan j options net (line_on net (link_at links j)) (own_packets plan j (packet ∷ ps))) (sym same)
-        (rw (own_next plan p.k packet ps its_link.1) (clear_own (own_packets plan p.k ps) its_link.0
-        (subst (λ j. AreClear plan j options net (line_on net (link_at links_now j)) (own_packets plan j ps)) same later)))
-    | inr other ↦ rw (own_later plan k packet ps (λ its. other (valid.links_apart k p.k inside its_link.0 (ap vl_of (sym its ∙ its_link.1)))))
-        (subst (λ l. AreClear plan k options net l (own_packets plan k ps)) (same_line k net inside (λ same. absurd (other same))) later)
-  ]
+  clear_next ps k inside later = grind (arith, cases_eq, own_next, its_link, clear_own, own_later, same_line)
 
 -- ---- a recording
 
 next_none : (ps : List OnNet) (j next : Judging) (found : List Finding) → j ≡ next → found ≡ [] → found_from ps j found ≡ []
     → found_from ps next [] ≡ []
-next_none ps j next found same first none =
-    subst (λ i. found_from ps i [] ≡ []) same (subst (λ f. found_from ps j f ≡ []) first none)
+next_none ps j next found same first none = grind (arith)
 
 line_next : (plan : Plan) (options : Options) (times : Times) (links : List Link) (p : OnNet) (ps : List OnNet) (valid : IsPlan plan)
     (size : length links ≡ length plan.links) (octets : IsOctets p.packet)
@@ -166,12 +125,7 @@ line_next : (plan : Plan) (options : Options) (times : Times) (links : List Link
     → ((m : Net) → AreClear plan k options m (line_on m (link_at (links_now plan options times links p.net p.number p.packet valid size octets quiet) k))
     (own_packets plan k (packets_of m ps)))
     → AreClear plan k options net (line_on net (link_at links k)) (own_packets plan k (packets_of net (p ∷ ps)))
-line_next plan options times links p ps valid size octets quiet k net inside later = rw (packets_next net p ps) (elim (cases_Bool (same_net p.net net)) [
-  | inl its ↦ rw its (subst (λ m. AreClear plan k options m (line_on m (link_at links k)) (own_packets plan k (p.packet ∷ packets_of m ps)))
-      (same_is p.net net its) (clear_next plan options times links p.net p.number p.packet valid size octets quiet (packets_of p.net ps) k inside (later p.net)))
-  | inr apart ↦ rw apart (subst (λ l. AreClear plan k options net l (own_packets plan k (packets_of net ps)))
-      (same_line plan options times links p.net p.number p.packet valid size octets quiet k net inside (λ same. apart)) (later net))
-])
+line_next plan options times links p ps valid size octets quiet k net inside later = grind (arith, packets_next, cases_Bool, same_is, clear_next, same_line)
 
 pub lines_clear : (plan : Plan) (options : Options) (times : Times) (links : List Link) (ps : List OnNet) → IsPlan plan → options.fcs ≡ false
     → length links ≡ length plan.links → All (λ (p : OnNet). IsOctets p.packet) ps

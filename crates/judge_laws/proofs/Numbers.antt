@@ -1,11 +1,5 @@
 -- The sequence numbers of a line and its gaps: where those of its frames run on and keep the gap, none is wrong or early.
-use Rattle.std.proofs.Common.{ℕ, ◌≡◌, ◌+◌, ◌*◌, ◌-◌, ◌≤◌, Bool, true, false, Option, Some, None, arith, refl}
-use Rattle.std.proofs.lemmas.Bool.Decides.{nat_tests}
-use Rattle.afdx_plan.specs.Plan.{sequence_number}
-use Rattle.vl_shaper.specs.declared.shaper.Stamp.{Stamp}
-use Rattle.afdx_legal.specs.Streams.{IsApart}
-use Rattle.judge.specs.Lines.{number_after, next_number, number_unless, early_since}
-use Rattle.judge.specs.Types.{Last}
+use Rattle.judge_laws.proofs.Names.{Bool, IsApart, Last, None, Option, Some, Stamp, arith, early_since, false, nat_tests, next_number, number_after, number_unless, refl, sequence_number, true, ℕ, ◌*◌, ◌+◌, ◌-◌, ◌≡◌, ◌≤◌}
 
 -- a recorded time: that of an entry, delayed by at most a jitter
 pub record IsDelayed (origin jitter at recorded : ℕ) : Type 0 where

@@ -1,15 +1,7 @@
 -- The judge's rules of the layout are those of the profile.
-use Rattle.std.proofs.Common.{◌≡◌, ℕ, ◌+◌, ◌-◌, ◌%◌, ◌≤◌, ◌<◌, ◌↔◌, Bool, true, false, List, length, Option, Some, None, max, arith, get_or, not, ◌==◌, refl}
-use Rattle.std.proofs.lemmas.Bool.Decides.{nat_tests}
-use Rattle.std.proofs.lemmas.List.Sums.{fails_before_first, position_or_len_is}
-use Rattle.afdx_frame.proofs.Datagram.{zeros_part, zeros_there}
-use Rattle.afdx_frame.specs.Frame.{more_fragments}
-use Rattle.afdx_frame.specs.Profile.{HasLinkHeader, HasInternetHeader, HasAddresses, HasZeroPadding, total_length, fragment_field}
-use Rattle.judge.specs.Deviations.{first_of}
-use Rattle.judge.specs.declared.finding.Layout.{Layout}
-use Rattle.judge.specs.Layouts.{unless_kept, has_total, first_nonzero, padding_of}
-unfoldable use Rattle.judge.specs.Layouts.{link_broken, internet_broken, address_broken, padding_broken, layout_broken}
-use Rattle.judge.specs.Types.{Deviation}
+use Rattle.judge_laws.proofs.Names.{Bool, Deviation, HasAddresses, HasInternetHeader, HasLinkHeader, HasZeroPadding, Layout, List, None, Option, Some, address_broken, arith, fails_before_first, false, first_nonzero, first_of}
+use Rattle.judge_laws.proofs.Names.{fragment_field, get_or, has_total, internet_broken, layout_broken, length, link_broken, max, more_fragments, nat_tests, not, padding_broken, padding_of, position_or_len_is, refl, total_length}
+use Rattle.judge_laws.proofs.Names.{true, unless_kept, zeros_part, zeros_there, ℕ, ◌%◌, ◌+◌, ◌-◌, ◌<◌, ◌==◌, ◌↔◌, ◌≡◌, ◌≤◌}
 use Rattle.judge_laws.specs.Frames.{LayoutIsProfile}
 
 pub none_both : (a b : Option Deviation) → first_of a b ≡ None → (a ≡ None) × (b ≡ None)

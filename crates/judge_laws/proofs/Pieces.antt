@@ -1,35 +1,10 @@
 -- The frames of a sub-VL on a network: the judge finds nothing wrong with the one that is due, and awaits the next one.
-use Rattle.std.proofs.Common.{◌≡◌, ℕ, suc, ◌+◌, ◌-◌, ◌<◌, ◌≤◌, ◌⊎◌, Bool, true, false, List, [], ◌∷◌, ◌++◌, length, max, Option, None, inl, inr, refl, sym, ◌∙◌, arith}
-use Rattle.std.specs.Prelude.{All, Ok, if◌then◌else◌}
-use Rattle.std.proofs.lemmas.Bool.Decides.{nat_tests}
-use Rattle.std.proofs.lemmas.List.{drop_at, length-append, take_all, take_at, take_more}
-use Rattle.std.proofs.lemmas.List.Elements.{All-contains, All-head, All-tail}
-use Rattle.afdx_plan.specs.Config.{Plan, IsPlan, link_plan_at}
-use Rattle.afdx_plan.specs.Plan.{IsLink, IsPort, identification}
-use Rattle.afdx_plan.specs.declared.port_plan.PortPlan.{PortPlan}
-use Rattle.afdx_frame.proofs.CuttingLemmas.{left_first, left_none}
-use Rattle.afdx_frame.proofs.Says.{header_says, length-frame, says, total_ok}
-use Rattle.afdx_frame.proofs.Twins.{cut_whole}
-use Rattle.afdx_frame.specs.Cutting.{Cutting, piece_at, pieces_left}
-use Rattle.afdx_frame.specs.Fragments.{Sent, blanked, fragments, fragments_from, fragments_left}
-use Rattle.afdx_frame.specs.Frame.{frame_of, unnumbered}
-use Rattle.afdx_frame.specs.Header.{number_in}
-use Rattle.afdx_frame.specs.ReadBack.{IsPiece}
-use Rattle.afdx_frame.specs.declared.net.Net.{Net}
-use Rattle.afdx_frame.specs.declared.piece.Piece.{Piece}
-use Rattle.afdx_legal.specs.Accepted.{IsAllowed}
-use Rattle.afdx_legal.specs.Streams.{more_in}
-use Rattle.redundant_mux.specs.Lines.{names}
-use Rattle.capture.specs.Recording.{Recorded}
-unfoldable use Rattle.judge.specs.Fields.{fields_of}
-use Rattle.judge.specs.Joining.{end_deviation, fragment_deviation, head_now, joined}
-use Rattle.judge.specs.Judging.{first_port}
-use Rattle.judge.specs.Layouts.{has_four_more}
-use Rattle.judge.specs.Lines.{new_sub, port_deviation, sub_in}
-use Rattle.judge.specs.Rules.{place_of, size_deviation}
-unfoldable use Rattle.judge.specs.Rules.{checked, frame_in, unchecked}
-use Rattle.judge.specs.Types.{Head, Joining}
-use Rattle.judge.specs.declared.options.Options.{Options}
+use Rattle.judge_laws.proofs.Names.{All, All-contains, All-head, All-tail, Bool, Cutting, Head, IsAllowed, IsLink, IsPiece, IsPlan, IsPort, Joining, List, Net, None, Ok, Option, Options, Piece, Plan, PortPlan, Recorded, Sent}
+use Rattle.judge_laws.proofs.Names.{arith, blanked, checked, cut_whole, drop_at, end_deviation, false, fields_of, first_port, fragment_deviation, fragments, fragments_from, fragments_left, frame_in, frame_of, has_four_more}
+use Rattle.judge_laws.proofs.Names.{head_now, header_says, identification, if◌then◌else◌, inl, inr, joined, left_first, left_none, length, length-append, length-frame, link_plan_at, max, more_in, names, nat_tests, new_sub}
+use Rattle.judge_laws.proofs.Names.{number_in, piece_at, pieces_left, place_of, port_deviation, refl, says, size_deviation, suc, sym, take_all, take_at, take_more, total_ok, true, unchecked, unnumbered, ℕ, [], ◌++◌, ◌+◌, ◌-◌, ◌<◌}
+use Rattle.judge_laws.proofs.Names.{◌∙◌, ◌∷◌, ◌≡◌, ◌≤◌, ◌⊎◌}
+use Rattle.judge.specs.Lines.{sub_in}
 use Rattle.judge_laws.proofs.Carried.{Carries, carries, source_ok}
 use Rattle.judge_laws.proofs.Found.{place_found}
 use Rattle.judge_laws.proofs.Heard.{IsDue, IsHeard, IsTrueAt, first_found, message_fits, piece_fits, port_fits, room_at, true_after, true_behind}

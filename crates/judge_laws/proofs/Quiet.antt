@@ -1,30 +1,9 @@
 -- A frame in which the judge finds nothing: what it says.
-use Rattle.std.proofs.Common.{◌≡◌, ℕ, suc, ◌+◌, ◌-◌, ◌*◌, ◌%◌, ◌<◌, ◌≤◌, ◌⊎◌, Bool, true, false, List, [], ◌∷◌, length, take, drop, slice_index, nat_le, Option, Some, None, inl, inr, refl, sym, ◌∙◌, arith}
-use Rattle.std.specs.Prelude.{◌==◌, Contains, Ok, find, position}
-use Rattle.std.proofs.lemmas.Bool.Decides.{nat_tests}
-use Rattle.std.proofs.lemmas.Bool.{cases_Bool}
-use Rattle.std.proofs.lemmas.List.Quantifiers.{position-Some}
-use Rattle.afdx_plan.specs.Config.{Plan, link_plan_at}
-use Rattle.afdx_plan.specs.Plan.{step_of}
-use Rattle.afdx_plan.specs.declared.link_plan.LinkPlan.{LinkPlan}
-use Rattle.afdx_plan.specs.declared.port_plan.PortPlan.{PortPlan}
-use Rattle.afdx_plan.specs.declared.port_plan.VlId.{VlId}
-use Rattle.afdx_frame.specs.Frame.{interface_byte}
-use Rattle.afdx_frame.specs.Header.{link_in}
-use Rattle.afdx_frame.specs.Profile.{IsFrame, fragment_field, total_length, word_at}
-use Rattle.afdx_frame.specs.declared.net.Net.{Net}
-use Rattle.afdx_frame.specs.declared.piece.Piece.{Piece}
-use Rattle.redundant_mux.specs.Lines.{names}
-unfoldable use Rattle.judge.specs.Fields.{fields_of}
-use Rattle.judge.specs.Joining.{addresses_deviation, begun, end_deviation, head_now, ident_of, is_of_port, is_towards, misfit_if, next_of, port_of}
-unfoldable use Rattle.judge.specs.Joining.{fragment_deviation, length_deviation}
-use Rattle.judge.specs.Judging.{first_port}
-use Rattle.judge.specs.Layouts.{layout_broken}
-use Rattle.judge.specs.Lines.{port_deviation, sub_in}
-use Rattle.judge.specs.Rules.{interface_on, on_link, size_deviation}
-unfoldable use Rattle.judge.specs.Rules.{place_of}
-use Rattle.judge.specs.declared.finding.Misfit.{Misfit}
-use Rattle.judge.specs.Types.{Fields, Flow, Head, Joining, PieceIn}
+use Rattle.judge_laws.proofs.Names.{Bool, Contains, Fields, Flow, Head, IsFrame, Joining, LinkPlan, List, Misfit, Net, None, Ok, Option, Piece, PieceIn, Plan, PortPlan, Some, VlId, addresses_deviation, arith, begun, cases_Bool}
+use Rattle.judge_laws.proofs.Names.{drop, end_deviation, false, fields_of, find, first_port, fragment_deviation, fragment_field, head_now, ident_of, inl, inr, interface_byte, interface_on, is_of_port, is_towards, layout_broken}
+use Rattle.judge_laws.proofs.Names.{length, length_deviation, link_in, link_plan_at, misfit_if, names, nat_le, nat_tests, next_of, on_link, place_of, port_deviation, port_of, position, position-Some, refl, size_deviation}
+use Rattle.judge_laws.proofs.Names.{slice_index, step_of, suc, sym, take, total_length, true, word_at, ℕ, [], ◌%◌, ◌*◌, ◌+◌, ◌-◌, ◌<◌, ◌==◌, ◌∙◌, ◌∷◌, ◌≡◌, ◌≤◌, ◌⊎◌}
+use Rattle.judge.specs.Lines.{sub_in}
 use Rattle.judge_laws.proofs.Heard.{room_at}
 use Rattle.judge_laws.proofs.OfProfile.{layout_is_profile, none_both}
 use Rattle.judge_laws.proofs.Rebuilt.{IsRead}

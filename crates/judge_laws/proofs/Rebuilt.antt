@@ -1,22 +1,7 @@
 -- A frame of the profile is the frame of what the judge reads in it.
-use Rattle.std.proofs.Common.{◌≡◌, ℕ, zero, suc, ◌+◌, ◌-◌, ◌*◌, ◌/◌, ◌%◌, ◌<◌, ◌≤◌, List, [], ◌∷◌, ◌++◌, length, take, drop, get_or, slice_index, nat_le, max, replicate, refl, sym, ap, ◌∙◌, arith, append_assoc}
-use Rattle.std.proofs.Math.Seq.{take-add, drop-cons}
-use Rattle.std.proofs.lemmas.Bool.Decides.{nat_tests}
-use Rattle.std.proofs.lemmas.Grind.{same_number_lists}
-use Rattle.std.proofs.lemmas.List.{get_or-replicate, length-drop, length-replicate, length-take, drop-drop}
-use Rattle.afdx_plan.specs.Address.{destination_address, two_bytes}
-use Rattle.afdx_plan.specs.Plan.{IsPort}
-use Rattle.afdx_plan.specs.declared.port_plan.PortPlan.{PortPlan}
-use Rattle.afdx_frame.specs.Checksum.{word_sum}
-unfoldable use Rattle.afdx_frame.specs.Checksum.{checksum}
-use Rattle.afdx_frame.specs.Fragments.{blanked}
-use Rattle.afdx_frame.specs.Frame.{interface_byte}
-unfoldable use Rattle.afdx_frame.specs.Frame.{addresses, header_front, internet_header, link_header, unnumbered}
-use Rattle.afdx_frame.specs.Header.{link_in}
-use Rattle.afdx_frame.specs.Profile.{IsFrame, fragment_field, total_length, word_at}
-use Rattle.afdx_frame.specs.declared.net.Net.{Net}
-use Rattle.afdx_frame.specs.declared.piece.Piece.{Piece}
-use Rattle.judge.specs.Joining.{address_number}
+use Rattle.judge_laws.proofs.Names.{IsFrame, IsPort, List, Net, Piece, PortPlan, address_number, addresses, ap, append_assoc, arith, blanked, checksum, destination_address, drop, drop-cons, drop-drop, fragment_field, get_or}
+use Rattle.judge_laws.proofs.Names.{get_or-replicate, header_front, interface_byte, internet_header, length, length-drop, length-replicate, length-take, link_header, link_in, max, nat_le, nat_tests, refl, replicate}
+use Rattle.judge_laws.proofs.Names.{same_number_lists, slice_index, suc, sym, take, take-add, total_length, two_bytes, unnumbered, word_at, word_sum, zero, ℕ, [], ◌%◌, ◌*◌, ◌++◌, ◌+◌, ◌-◌, ◌/◌, ◌<◌, ◌∙◌, ◌∷◌, ◌≡◌, ◌≤◌}
 use Rattle.judge_laws.proofs.Carried.{part_at}
 use Rattle.judge_laws.proofs.Found.{destination_is, one_address}
 

@@ -1,25 +1,8 @@
 -- A judge over a whole recording: it goes on from packet to packet, and all that it finds is missing twins.
-use Rattle.std.proofs.Common.{ℕ, ◌≡◌, ◌≢◌, ◌*◌, ◌<◌, ◌≤◌, Bool, false, List, [], ◌∷◌, ◌++◌, length, Some, Ok, arith, refl, sym, subst, ap, ◌∙◌, inl, inr, length-set}
-use Rattle.std.specs.Prelude.{All, slice_set}
-use Rattle.std.specs.List.{AllZip}
-use Rattle.std.proofs.lemmas.Bool.{cases_eq}
-use Rattle.std.proofs.lemmas.Bool.Decides.{nat_tests}
-use Rattle.std.proofs.lemmas.List.{get_or-set_same, get_or-set_other}
-use Rattle.afdx_plan.specs.Config.{Plan, IsPlan, link_plan_at}
-use Rattle.afdx_plan.specs.declared.link_plan.LinkPlan.{LinkPlan}
-use Rattle.afdx_plan.specs.declared.port_plan.VlId.{VlId}
-use Rattle.afdx_frame.specs.Header.{link_in, number_in}
-use Rattle.afdx_frame.specs.declared.net.Net.{Net}
-use Rattle.afdx_frame.specs.declared.net.Net.TheVariants.{A, B}
-use Rattle.redundant_mux.specs.Lines.{Entry}
-use Rattle.afdx_legal.specs.Legal.{IsKnown, AreKnown}
-use Rattle.afdx_legal.specs.Streams.{link_stream}
-use Rattle.capture.specs.Recording.{Recorded}
-use Rattle.judge.specs.Judging.{Judging, OnNet, admitted, after_packet, after_timed, found_from, found_given_up, found_left, found_of_arrival, found_on_link, found_timed, found_with_end, found_with_packet, link_after, link_at, new_link, setting_of, tag_of, times_with, with_arrival}
-use Rattle.judge.specs.Rules.{frame_in, place_of}
-use Rattle.judge.specs.Types.{Link, Nearness, Tag, Times}
-use Rattle.judge.specs.declared.finding.Finding.{Finding}
-use Rattle.judge.specs.declared.options.Options.{Options}
+use Rattle.judge_laws.proofs.Names.{A, All, AllZip, AreKnown, B, Bool, Entry, Finding, IsKnown, IsPlan, Judging, Link, LinkPlan, List, Nearness, Net, Ok, OnNet, Options, Plan, Recorded, Some, Tag, Times, VlId, admitted}
+use Rattle.judge_laws.proofs.Names.{after_packet, after_timed, ap, arith, cases_eq, false, found_from, found_given_up, found_left, found_of_arrival, found_on_link, found_timed, found_with_end, found_with_packet, frame_in}
+use Rattle.judge_laws.proofs.Names.{get_or-set_other, get_or-set_same, inl, inr, length, length-set, link_after, link_at, link_in, link_plan_at, link_stream, nat_tests, new_link, number_in, place_of, refl, setting_of, slice_set}
+use Rattle.judge_laws.proofs.Names.{subst, sym, tag_of, times_with, with_arrival, ℕ, [], ◌*◌, ◌++◌, ◌<◌, ◌∙◌, ◌∷◌, ◌≡◌, ◌≢◌, ◌≤◌}
 use Rattle.judge_laws.specs.NoFalseAlarm.{AreFit, IsMissing, IsRecord, packets_of}
 use Rattle.judge_laws.proofs.Line.{of_profile, port_at}
 use Rattle.judge_laws.proofs.Link.{IsLinkOf, IsLinkTaken, all_given_up, link_taken, link_then, rest_after, rest_holds, setting_at}
@@ -49,9 +32,7 @@ pub record IsGoing (plan : Plan) (origin : ℕ) (options : Options) (links : Lis
 -- equal lists serve alike
 same_rest : (plan : Plan) (k origin : ℕ) (options : Options) (link : Link) (rest other : Net → List Entry)
     → ((net : Net) → rest net ≡ other net) → IsLinkOf plan k origin options link rest → IsLinkOf plan k origin options link other
-same_rest plan k origin options link rest other same is =
-    let all : rest ≡ other = λ i net. same net i in
-    subst (IsLinkOf plan k origin options link) all is
+same_rest plan k origin options link rest other same is = grind (arith, nat_tests)
 
 pub own_next : (plan : Plan) (k : ℕ) (e : Entry) (es : List Entry) (rest : Net → List Entry) (n m : Net) → rest n ≡ e ∷ es
     → link_in e.frame ≡ id_of plan k → rest_after n (link_stream (id_of plan k) es) (rest_of plan k rest) m

@@ -1,29 +1,9 @@
 -- Nothing missed: where a judge finds nothing, what was recorded of each network was sent legally.
-use Rattle.std.proofs.Common.{zero, suc, ℕ, ◌≡◌, ◌+◌, ◌-◌, ◌^◌, ◌<◌, ◌≤◌, Bool, true, false, List, [], ◌∷◌, length, map, get_or, replicate, None, arith, refl, sym, subst, ap, ◌∙◌, inl, inr}
-use Rattle.std.specs.Prelude.{◌⊎◌, All, filter, nat_eq}
-use Rattle.std.proofs.lemmas.Bool.{cases_Bool, cases_lt, eq-eqb, ne_eqb}
-use Rattle.std.proofs.lemmas.List.{append-nil, get_or-replicate, length-map, length-replicate}
-use Rattle.std.proofs.lemmas.List.Elements.{All-tail}
-use Rattle.std.proofs.lemmas.Simd.{map-map}
-use Rattle.afdx_plan.specs.Config.{Plan, link_plan_at}
-use Rattle.afdx_plan.specs.Plan.{room_of}
-use Rattle.afdx_frame.specs.Fragments.{Sent, blanked, fragments}
-use Rattle.afdx_frame.specs.Header.{link_in, sub_in}
-use Rattle.afdx_frame.specs.Profile.{IsFrame}
-use Rattle.afdx_frame.specs.declared.net.Net.{Net}
-use Rattle.afdx_frame.specs.declared.net.Net.TheVariants.{A, B}
-use Rattle.redundant_mux.specs.Lines.{Entry, names}
-use Rattle.afdx_legal.proofs.StreamLemmas.{with_map}
-use Rattle.afdx_legal.specs.Accepted.{IsAllowed}
-use Rattle.afdx_legal.specs.Legal.{AreKnown, IsKnown}
-use Rattle.afdx_legal.specs.Streams.{link_stream, sub_stream, those_with, told}
-use Rattle.capture.specs.Recording.{Recorded}
-use Rattle.judge.specs.Judging.{OnNet, findings, line_on, new_link, no_times}
-use Rattle.judge.specs.Lines.{new_line, new_sub}
-use Rattle.judge.specs.Types.{Link}
-use Rattle.judge.specs.declared.options.Options.{Options}
+use Rattle.judge_laws.proofs.Names.{A, All, All-tail, AreKnown, B, Bool, Entry, IsAllowed, IsFrame, IsKnown, Link, List, Net, None, OnNet, Options, Plan, Recorded, Sent, ap, append-nil, arith, blanked, cases_Bool, cases_lt}
+use Rattle.judge_laws.proofs.Names.{eq-eqb, false, filter, findings, fragments, get_or, get_or-replicate, inl, inr, length, length-map, length-replicate, line_on, link_in, link_plan_at, link_stream, map, map-map, names, nat_eq}
+use Rattle.judge_laws.proofs.Names.{ne_eqb, new_line, new_link, new_sub, no_times, refl, replicate, room_of, sub_in, sub_stream, subst, suc, sym, those_with, told, true, with_map, zero, ℕ, [], ◌+◌, ◌-◌, ◌<◌, ◌^◌, ◌∙◌, ◌∷◌, ◌≡◌}
+use Rattle.judge_laws.proofs.Names.{◌≤◌, ◌⊎◌}
 use Rattle.judge_laws.specs.NoFalseAlarm.{packets_of}
-use Rattle.judge.specs.Twins.{same_net}
 use Rattle.judge_laws.specs.NothingMissed.{EndsWhole, IsSentTo, IsStrict, NothingMissed, entry_of, frames_of, sent_to}
 use Rattle.judge_laws.proofs.Begin.{new_came, new_joining, own_options}
 use Rattle.judge_laws.proofs.Brings.{first_of_sub}
@@ -100,12 +80,7 @@ module _ (plan : Plan) (options : Options) (recording : List OnNet) (net : Net) 
       start = ap (line_on net) (get_or-replicate (length plan.links) k (new_link options.late false) (new_link false false) inside) ∙ by net
 
   few : (k : ℕ) → 0 + length (own k) ≤ 2 ^ 64 - 1
-  few k =
-      let of_link = filter_short (λ (r : Recorded). nat_eq (link_in r.bytes) (id_of plan k)) rs in
-      let of_net = filter_short (λ (p : OnNet). same_net p.net net) recording in
-      let packets = length-map (filter (λ (p : OnNet). same_net p.net net) recording) (λ (p : OnNet). p.packet) in
-      let most = strict.few in
-      omega (arith, of_link, of_net, packets)
+  few k = grind (arith, filter_short, length-map)
 
   line_heard : (k : ℕ) → k < length plan.links → AreHeard plan k 0 None (new_line false false).subs (map entry_of (own k))
   line_heard k inside = heard plan k options net (new_line false false) (own k) 0 None strict.early strict.jitter
@@ -205,4 +180,4 @@ module _ (plan : Plan) (options : Options) (recording : List OnNet) (net : Net) 
   }
 
 pub nothing_missed_holds : NothingMissed
-nothing_missed_holds plan options recording strict none net = is_sent_to plan options recording net strict none
+nothing_missed_holds plan options recording strict none net = grind (arith, is_sent_to)

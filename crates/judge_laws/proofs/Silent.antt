@@ -1,26 +1,7 @@
 -- The frames of a sub-VL on a network in which the judge finds nothing are the fragments of messages.
-use Rattle.std.proofs.Common.{◌≡◌, ℕ, suc, ◌+◌, ◌<◌, ◌≤◌, true, false, List, [], ◌∷◌, ◌++◌, length, map, drop, Some, inl, inr, refl, sym, ap, ◌∙◌, arith, append_assoc}
-use Rattle.std.specs.Prelude.{All}
-use Rattle.std.proofs.lemmas.Bool.{cases_Bool, le-ltb, lt-ltb}
-use Rattle.std.proofs.lemmas.List.{append-nil, drop_at, length-append, length-drop, take_at}
-use Rattle.std.proofs.lemmas.List.Elements.{All-contains, All-cons, All-nil}
-use Rattle.afdx_plan.specs.Config.{Plan, IsPlan, link_plan_at}
-use Rattle.afdx_plan.specs.Plan.{IsLink, IsPort, step_of}
-use Rattle.afdx_plan.specs.declared.port_plan.PortPlan.{PortPlan}
-use Rattle.afdx_frame.proofs.CuttingLemmas.{left_none}
-use Rattle.afdx_frame.proofs.Twins.{cut_whole}
-use Rattle.afdx_frame.specs.Cutting.{piece_at}
-use Rattle.afdx_frame.specs.Fragments.{Sent, blanked, fragments, fragments_from}
-use Rattle.afdx_frame.specs.Frame.{datagram}
-unfoldable use Rattle.afdx_frame.specs.Frame.{unnumbered}
-use Rattle.afdx_frame.specs.declared.net.Net.{Net}
-use Rattle.afdx_frame.specs.declared.piece.Piece.{Piece}
-use Rattle.afdx_legal.specs.Accepted.{IsAllowed}
-unfoldable use Rattle.judge.specs.Fields.{fields_of}
-use Rattle.judge.specs.Joining.{head_now, joined, next_of}
-use Rattle.judge.specs.Judging.{first_port}
-use Rattle.judge.specs.Lines.{new_sub}
-use Rattle.judge.specs.Types.{Joining}
+use Rattle.judge_laws.proofs.Names.{All, All-cons, All-contains, All-nil, IsAllowed, IsLink, IsPlan, IsPort, Joining, List, Net, Piece, Plan, PortPlan, Sent, Some, ap, append-nil, append_assoc, arith, blanked, cases_Bool}
+use Rattle.judge_laws.proofs.Names.{cut_whole, datagram, drop, drop_at, false, fields_of, first_port, fragments, fragments_from, head_now, inl, inr, joined, le-ltb, left_none, length, length-append, length-drop, link_plan_at}
+use Rattle.judge_laws.proofs.Names.{lt-ltb, map, new_sub, next_of, piece_at, refl, step_of, suc, sym, take_at, true, unnumbered, ℕ, [], ◌++◌, ◌+◌, ◌<◌, ◌∙◌, ◌∷◌, ◌≡◌, ◌≤◌}
 use Rattle.judge_laws.proofs.Brings.{Brings, IsBetween, IsWithin, brings_first, brings_later, ends_says, size}
 use Rattle.judge_laws.proofs.Heard.{IsDue, room_at}
 use Rattle.judge_laws.proofs.Message.{IsNext, last_joined, more_joined}

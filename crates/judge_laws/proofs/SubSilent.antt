@@ -1,17 +1,6 @@
 -- The frames of a sub-VL on a clear line: nothing is found in them, and they are those of messages.
-use Rattle.std.proofs.Common.{ℕ, ◌≡◌, ◌≢◌, ◌<◌, false, List, [], ◌∷◌, length, map, Option, Some, refl, sym, subst, ap, ◌∙◌, inl, inr, length-set}
-use Rattle.std.specs.Prelude.{slice_set}
-use Rattle.std.proofs.lemmas.Bool.{cases_eq, eq-eqb, ne_eqb}
-use Rattle.afdx_plan.specs.Config.{Plan}
-use Rattle.afdx_frame.specs.Header.{sub_in}
-use Rattle.afdx_frame.specs.declared.net.Net.{Net}
-use Rattle.afdx_legal.specs.Streams.{those_with}
-use Rattle.capture.specs.Recording.{Recorded}
-use Rattle.judge.specs.Fields.{fields_of}
-use Rattle.judge.specs.Joining.{joined, next_of}
-use Rattle.judge.specs.Lines.{sub_at}
-use Rattle.judge.specs.Types.{Head, Joining, Line, PieceIn, Sub}
-use Rattle.judge.specs.declared.options.Options.{Options}
+use Rattle.judge_laws.proofs.Names.{Head, Joining, Line, List, Net, Option, Options, PieceIn, Plan, Recorded, Some, Sub, ap, cases_eq, eq-eqb, false, fields_of, inl, inr, joined, length, length-set, map, ne_eqb, next_of, refl}
+use Rattle.judge_laws.proofs.Names.{slice_set, sub_at, sub_in, subst, sym, those_with, ℕ, [], ◌<◌, ◌∙◌, ◌∷◌, ◌≡◌, ◌≢◌}
 use Rattle.judge_laws.specs.NothingMissed.{EndsWhole}
 use Rattle.judge_laws.proofs.Line.{IsRight, line_of, measure_at, port_at, sub_of}
 use Rattle.judge_laws.proofs.LineSilent.{AreClear, IsClear, after_clear, come_of, more_of, sub_of_frame, wrong_right}

@@ -1,24 +1,7 @@
 -- What a judge keeps of a message tells its bytes: a whole message without a finding is the datagram of its content.
-use Rattle.std.proofs.Common.{◌≡◌, ℕ, ◌+◌, ◌-◌, ◌/◌, ◌%◌, ◌<◌, ◌≤◌, List, ◌++◌, length, drop, get_or, None, inl, inr, sym, ap, ◌∙◌, arith}
-use Rattle.std.proofs.Math.Seq.{get_or-append_right}
-use Rattle.std.proofs.lemmas.Bool.{cases_lt}
-use Rattle.std.proofs.lemmas.Bool.Decides.{nat_tests}
-use Rattle.std.proofs.lemmas.List.{get_or_append_left, length-append, length-drop, take-append-drop}
-use Rattle.afdx_plan.specs.Address.{two_bytes}
-use Rattle.afdx_plan.specs.Plan.{IsPort}
-use Rattle.afdx_plan.specs.declared.port_plan.PortPlan.{PortPlan}
-use Rattle.afdx_plan.specs.declared.port_plan.UdpSum.{UdpSum}
-use Rattle.afdx_plan.specs.declared.port_plan.UdpSum.TheVariants.{Omitted, Generated}
-use Rattle.afdx_frame.proofs.UdpLemmas.{word_sum-append}
-use Rattle.afdx_frame.specs.Checksum.{word_sum}
-unfoldable use Rattle.afdx_frame.specs.Checksum.{udp_checksum}
-use Rattle.afdx_frame.specs.Frame.{addresses, udp_field}
-unfoldable use Rattle.afdx_frame.specs.Frame.{datagram, udp_header, udp_sum}
-use Rattle.afdx_frame.specs.Profile.{word_at}
-use Rattle.judge.specs.Joining.{head_with, right_sum}
-unfoldable use Rattle.judge.specs.Joining.{message_deviation}
-unfoldable use Rattle.judge.specs.Fields.{fields_of}
-use Rattle.judge.specs.Types.{Fields, Head}
+use Rattle.judge_laws.proofs.Names.{Fields, Generated, Head, IsPort, List, None, Omitted, PortPlan, UdpSum, addresses, ap, arith, cases_lt, datagram, drop, fields_of, get_or, get_or-append_right, get_or_append_left, head_with}
+use Rattle.judge_laws.proofs.Names.{inl, inr, length, length-append, length-drop, message_deviation, nat_tests, right_sum, sym, take-append-drop, two_bytes, udp_checksum, udp_field, udp_header, udp_sum, word_at, word_sum}
+use Rattle.judge_laws.proofs.Names.{word_sum-append, ℕ, ◌%◌, ◌++◌, ◌+◌, ◌-◌, ◌/◌, ◌<◌, ◌∙◌, ◌≡◌, ◌≤◌}
 use Rattle.judge_laws.proofs.Rebuilt.{bytes_at, bytes_are, word_is}
 
 -- the bytes that came of a message, as what is kept of them tells

@@ -1,15 +1,6 @@
 -- The turns of a line's sub-VLs: where those of its frames take turns, none is passed by.
-use Rattle.std.proofs.Common.{ℕ, ◌≡◌, ◌≢◌, ◌+◌, ◌-◌, ◌^◌, ◌<◌, ◌≤◌, Bool, true, false, List, ◌∷◌, length, get_or, Option, Some, None, arith, refl, length-set, ◌∙◌}
-use Rattle.std.specs.Prelude.{nat_lt, ◌&&◌, slice_set, min}
-use Rattle.std.proofs.lemmas.Bool.{cases_eq}
-use Rattle.std.proofs.lemmas.Bool.Decides.{nat_tests}
-use Rattle.std.proofs.lemmas.List.{get_or-set_same, get_or-set_other, get_or_default}
-use Rattle.std.proofs.lemmas.List.Quantifiers.{position-Some}
-use Rattle.afdx_frame.specs.Header.{sub_in}
-use Rattle.redundant_mux.specs.Lines.{Entry}
-use Rattle.afdx_legal.specs.Streams.{sub_stream, before_next, more_in, IsFollowedInTurn}
-use Rattle.judge.specs.Lines.{other_sub, sub_at, new_sub, passed_by, due_before}
-use Rattle.judge.specs.Types.{Sub}
+use Rattle.judge_laws.proofs.Names.{Bool, Entry, IsFollowedInTurn, List, None, Option, Some, Sub, arith, before_next, cases_eq, due_before, false, get_or, get_or-set_other, get_or-set_same, get_or_default, length, length-set, min}
+use Rattle.judge_laws.proofs.Names.{more_in, nat_lt, nat_tests, new_sub, other_sub, passed_by, position-Some, refl, slice_set, sub_at, sub_in, sub_stream, true, ℕ, ◌&&◌, ◌+◌, ◌-◌, ◌<◌, ◌^◌, ◌∷◌, ◌≡◌, ◌≢◌, ◌≤◌}
 
 -- a sub-VL of the four
 abbrev pub own_sub : List Sub → ℕ → Sub
@@ -59,8 +50,7 @@ pub new_at : (subs : List Sub) (s : ℕ) (new : Sub) → s < length subs → sub
 new_at subs s new inside = get_or-set_same subs s new (other_sub (slice_set subs s new)) inside
 
 pub other_at : (subs : List Sub) (s p : ℕ) (new : Sub) → p ≢ s → p < length subs → sub_at (slice_set subs s new) p ≡ sub_at subs p
-other_at subs s p new other inside =
-    get_or-set_other subs s p new (other_sub (slice_set subs s new)) other ∙ get_or_default subs p _ (other_sub subs) inside
+other_at subs s p new other inside = grind (arith, nat_tests, get_or-set_other, get_or_default)
 
 came_after : (subs : List Sub) (frames : ℕ) (s p : ℕ) (new : Sub) (rest : List Entry) → AreDue subs frames rest → s < 4
     → new.came ≡ min (frames + 1) (2 ^ 64 - 1) → (own_sub (slice_set subs s new) p).came ≤ min (frames + 1) (2 ^ 64 - 1)

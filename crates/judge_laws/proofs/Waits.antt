@@ -1,16 +1,7 @@
 -- The frames that wait for their twins: each is a copy of one of the link's stream, so none that it is put to differs.
-use Rattle.std.proofs.Common.{ℕ, ◌≡◌, suc, ◌+◌, ◌*◌, ◌<◌, Bool, true, false, List, [], ◌∷◌, take, drop, Option, Some, None, arith, refl, cond, subst}
-use Rattle.std.specs.Prelude.{All, find, remove}
-use Rattle.std.specs.List.{position_or_len}
-use Rattle.std.proofs.lemmas.Bool.Decides.{nat_tests}
-use Rattle.std.proofs.lemmas.List.Elements.{All-append, All-drop, All-filter, All-map, All-push, All-tail, All-take, filter_passes}
-use Rattle.afdx_plan.specs.declared.port_plan.VlId.{VlId}
-use Rattle.afdx_frame.specs.Header.{number_in}
-use Rattle.redundant_mux.specs.Lines.{Entry}
-use Rattle.judge.specs.Twins.{is_twin, kept, stays, left_waiting, missing, missing_of, pairing_with, twin_deviation, twin_other, found_missing, found_at_end}
-use Rattle.judge.specs.Types.{Nearness, Tag}
-use Rattle.judge.specs.Waiting.{Pairing, Wait}
-use Rattle.judge.specs.declared.finding.Finding.{Finding}
+use Rattle.judge_laws.proofs.Names.{All, All-append, All-drop, All-filter, All-map, All-push, All-tail, All-take, Bool, Entry, Finding, List, Nearness, None, Option, Pairing, Some, Tag, VlId, Wait, arith, cond, drop, false}
+use Rattle.judge_laws.proofs.Names.{filter_passes, find, found_at_end, found_missing, is_twin, kept, left_waiting, missing, missing_of, nat_tests, number_in, pairing_with, position_or_len, refl, remove, stays, subst, suc, take}
+use Rattle.judge_laws.proofs.Names.{true, twin_deviation, twin_other, ℕ, [], ◌*◌, ◌+◌, ◌<◌, ◌∷◌, ◌≡◌}
 use Rattle.judge_laws.specs.NoFalseAlarm.{IsMissing}
 use Rattle.judge_laws.proofs.Copies.{IsStream, IsCopy, copies_agree}
 use Rattle.judge_laws.proofs.Numbers.{IsDelayed}

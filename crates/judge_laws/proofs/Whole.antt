@@ -1,27 +1,8 @@
 -- A judge over a whole recording, in the order of time: nothing is found.
-use Rattle.std.proofs.Common.{ℕ, ◌≡◌, ◌+◌, ◌*◌, ◌<◌, ◌≤◌, Bool, true, false, List, [], ◌∷◌, ◌++◌, length, map, replicate, Option, Some, arith, refl, sym, subst, ap, ◌∙◌, inl, inr, append-nil, le_refl}
-use Rattle.std.specs.Prelude.{All, if◌then◌else◌, unwrap_or, nat_eq}
-use Rattle.std.specs.List.{AllZip}
-use Rattle.std.proofs.lemmas.Bool.{cases_Bool, cases_eq}
-use Rattle.std.proofs.lemmas.List.{get_or-replicate, take_all}
-use Rattle.std.proofs.lemmas.List.Elements.{All-cons, All-filter, All-from_get_or, All-nil, All-tail, All-weaker}
-use Rattle.afdx_plan.specs.Config.{Plan, IsPlan, link_plan_at}
-use Rattle.afdx_plan.specs.Plan.{bag_micros, is_both}
-use Rattle.afdx_plan.specs.declared.link_plan.LinkPlan.{LinkPlan}
-use Rattle.afdx_frame.specs.Header.{link_in, number_in}
-use Rattle.afdx_frame.specs.declared.net.Net.{Net}
-use Rattle.afdx_frame.specs.declared.net.Net.TheVariants.{A, B}
-use Rattle.redundant_mux.specs.Lines.{Entry, side}
-use Rattle.afdx_legal.specs.Legal.{Accepted, on_both}
-use Rattle.afdx_legal.specs.Streams.{link_stream}
-use Rattle.afdx_laws.proofs.LegalLinks.{stream_side}
-use Rattle.capture.specs.Recording.{Recorded}
-use Rattle.judge.specs.Judging.{OnNet, found_from, found_given_up, found_left, found_with_end, findings, link_at, new_link, no_times, tag_of, times_with}
-use Rattle.judge.specs.Twins.{found_at_end, found_missing, is_passed, same_net}
-use Rattle.judge.specs.Types.{Link, Nearness, Setting, Tag, Times}
-use Rattle.judge.specs.Waiting.{Pairing, Wait}
-use Rattle.judge.specs.declared.finding.Finding.{Finding}
-use Rattle.judge.specs.declared.options.Options.{Options}
+use Rattle.judge_laws.proofs.Names.{A, Accepted, All, All-cons, All-filter, All-from_get_or, All-nil, All-tail, All-weaker, AllZip, B, Bool, Entry, Finding, IsPlan, Link, LinkPlan, List, Nearness, Net, OnNet, Option, Options}
+use Rattle.judge_laws.proofs.Names.{Pairing, Plan, Recorded, Setting, Some, Tag, Times, Wait, ap, append-nil, arith, bag_micros, cases_Bool, cases_eq, false, findings, found_at_end, found_from, found_given_up, found_left}
+use Rattle.judge_laws.proofs.Names.{found_missing, found_with_end, get_or-replicate, if◌then◌else◌, inl, inr, is_both, is_passed, le_refl, length, link_at, link_in, link_plan_at, link_stream, map, nat_eq, new_link, no_times}
+use Rattle.judge_laws.proofs.Names.{number_in, on_both, refl, replicate, same_net, side, stream_side, subst, sym, tag_of, take_all, times_with, true, unwrap_or, ℕ, [], ◌*◌, ◌++◌, ◌+◌, ◌<◌, ◌∙◌, ◌∷◌, ◌≡◌, ◌≤◌}
 use Rattle.judge_laws.specs.NoFalseAlarm.{AreFit, IsRecord, IsSent, packets_of}
 use Rattle.judge_laws.specs.NothingFound.{IsInOrder, NothingFound, time_of}
 use Rattle.judge_laws.proofs.Begin.{IsOwn, both_copies, going_begins, handed_to, own_options, owns, stream_on_both}
@@ -68,10 +49,7 @@ open_next origin latest options net p ps true (e ∷ es) up zip later =
 
 pub packets_next : (net : Net) (p : OnNet) (ps : List OnNet)
     → packets_of net (p ∷ ps) ≡ (if same_net p.net net then p.packet ∷ packets_of net ps else packets_of net ps)
-packets_next net p ps = elim (cases_Bool (same_net p.net net)) [
-  | inl its ↦ rw its refl
-  | inr isnt ↦ rw isnt refl
-]
+packets_next net p ps = grind (arith, cases_Bool)
 
 open_records : (origin latest : ℕ) (options : Options) (net : Net) (ps : List OnNet) (es : List Entry) → IsInOrder latest ps
     → AllZip (IsRecord origin options) es (packets_of net ps) → AreOpen origin options.jitter latest es
@@ -88,10 +66,7 @@ none_given_up : (setting : Setting) (tag : Tag) (number : ℕ) (link : Link) (fo
     → (is_both setting.plan.networks ≡ true → All (λ (w : Wait). is_passed setting.nearness tag number w ≡ false) link.twins.waiting)
     → found_given_up setting tag number link found ≡ found
 unfolding found_missing
-none_given_up setting tag number link found stay = elim (cases_Bool (is_both setting.plan.networks)) [
-  | inl both ↦ rw (both, stay_found setting.nearness tag number link.twins.waiting (stay both)) (append-nil found)
-  | inr one ↦ rw one refl
-]
+none_given_up setting tag number link found stay = grind (arith, cases_Bool, stay_found, append-nil)
 
 -- the link of the frame
 own_paired : (plan : Plan) (origin : ℕ) (options : Options) (times : Times) (told : Bool) (links : List Link) (net : Net) (number : ℕ)
@@ -204,8 +179,7 @@ AreAllRecorded origin options rest recording = AreRecorded origin options (λ ne
 
 zip_of : (origin : ℕ) (options : Options) (es : List Entry) (packets : List Recorded) → IsRecorded origin options [] es packets
     → AllZip (IsRecord origin options) es packets
-zip_of origin options es packets is =
-    subst (λ xs. AllZip (IsRecord origin options) xs packets) (sym (is.whole ∙ append-nil is.recorded)) is.each
+zip_of origin options es packets is = grind (arith, append-nil)
 
 all_came : (origin : ℕ) (options : Options) (es : List Entry) → AllZip (IsRecord origin options) es [] → es ≡ []
 all_came origin options [] zip = refl

@@ -1,33 +1,11 @@
 -- The worked recordings of the laws that nothing is found, and nothing missed, by computation.
-use Rattle.std.proofs.Common.{zero, suc, ◌≡◌, ◌<◌, ℕ, [], ◌∷◌, List, refl, arith}
-use Rattle.std.specs.Prelude.{All, false, map, nat_eq, nat_lt, slice_index, true}
-use Rattle.std.specs.List.{AllZip, list_all}
-use Rattle.afdx_frame.specs.Checksum.{checksum}
-use Rattle.afdx_frame.specs.Frame.{addresses, datagram, header_front, internet_header, link_header, udp_header, unnumbered}
-use Rattle.afdx_plan.specs.Demo.{demo_plan}
-use Rattle.afdx_plan.proofs.DemoPlan.{demo_valid}
-use Rattle.afdx_laws.specs.WorkedPlan.{second_frame, two_entries}
-use Rattle.afdx_frame.specs.declared.net.Net.TheVariants.{A, B}
+use Rattle.judge_laws.proofs.Names.{A, All, All-filter, All-from_recursion, All-tail, AllZip, B, Entry, List, Net, OnNet, address_broken, addresses, admitted, after_packet, arith, check_sequence, checked, checksum, datagram}
+use Rattle.judge_laws.proofs.Names.{demo_plan, demo_valid, false, fields_of, found_at_end, found_missing, found_of_arrival, found_on_link, found_with_end, found_with_packet, fragment_deviation, frame_in, head_now, header_front}
+use Rattle.judge_laws.proofs.Names.{internet_broken, internet_header, layout_broken, left_waiting, length_deviation, line_after, line_with, link_after, link_broken, link_header, link_in, link_stream, list_all, map}
+use Rattle.judge_laws.proofs.Names.{message_deviation, more_in, nat_eq, nat_lt, nat_tests, one_frame, padding_broken, pairing_with, place_of, refl, second_frame, slice_index, sub_in, sub_stream, suc, true, twin_deviation}
+use Rattle.judge_laws.proofs.Names.{twin_other, two_entries, udp_header, unchecked, unnumbered, verdict, with_arrival, with_byte, with_verdict, word_at, zero, ℕ, [], ◌<◌, ◌∷◌, ◌≡◌}
 use Rattle.judge_laws.specs.NoFalseAlarm.{IsRecord}
-use Rattle.std.specs.Prelude.{true, false}
-use Rattle.judge.specs.CheckSequence.{check_sequence, with_byte}
-use Rattle.judge.specs.Fields.{fields_of}
-use Rattle.judge.specs.Joining.{fragment_deviation, head_now, length_deviation, message_deviation}
-use Rattle.judge.specs.Judging.{admitted, after_packet, found_of_arrival, found_on_link, found_with_end, found_with_packet, link_after, with_arrival, with_verdict}
-use Rattle.judge.specs.Layouts.{address_broken, internet_broken, layout_broken, link_broken, padding_broken}
-use Rattle.judge.specs.Lines.{line_after, line_with, verdict}
-use Rattle.judge.specs.Rules.{checked, frame_in, place_of, unchecked}
-use Rattle.judge.specs.Twins.{found_at_end, found_missing, left_waiting, pairing_with, twin_deviation, twin_other}
 use Rattle.judge_laws.specs.Worked.{both_at, packet, strict}
-use Rattle.afdx_legal.specs.Worked.{one_frame}
-use Rattle.redundant_mux.specs.Lines.{Entry}
-use Rattle.afdx_frame.specs.declared.net.Net.{Net}
-use Rattle.std.proofs.lemmas.Bool.Decides.{nat_tests}
-use Rattle.std.proofs.lemmas.List.Elements.{All-filter, All-from_recursion, All-tail}
-use Rattle.afdx_frame.specs.Profile.{word_at}
-use Rattle.afdx_frame.specs.Header.{link_in, sub_in}
-use Rattle.afdx_legal.specs.Streams.{link_stream, more_in, sub_stream}
-use Rattle.judge.specs.Judging.{OnNet}
 use Rattle.judge_laws.specs.NothingFound.{IsWhole}
 use Rattle.judge_laws.specs.NothingMissed.{EndsWhole, IsOctets, IsStrict, sent_to}
 use Rattle.judge_laws.specs.Worked.{FindsNoneOfAll, MissesNothing}

@@ -1,31 +1,11 @@
 -- The worked recordings, by computation.
-use Rattle.std.proofs.Common.{◌≡◌, ◌≤◌, ◌+◌, ◌*◌, ◌<◌, ℕ, [], ◌∷◌, List, None, ap, refl, arith}
-use Rattle.afdx_frame.specs.Checksum.{checksum}
-use Rattle.afdx_frame.specs.Frame.{addresses, datagram, header_front, internet_header, link_header, udp_header, unnumbered}
-use Rattle.afdx_plan.specs.Demo.{demo_plan}
-use Rattle.afdx_plan.proofs.DemoPlan.{demo_valid}
-use Rattle.afdx_laws.proofs.WorkedDemo.{needs_legal}
-use Rattle.afdx_laws.specs.WorkedPlan.{pair_at, second_frame, two_accepted, two_entries}
-use Rattle.afdx_frame.specs.declared.net.Net.TheVariants.{A, B}
+use Rattle.judge_laws.proofs.Names.{A, B, Bool, Finding, List, Missing, Net, None, Options, address_broken, addresses, admitted, after_packet, ap, arith, check_sequence, checked, checksum, datagram, demo_plan, demo_valid, entry}
+use Rattle.judge_laws.proofs.Names.{fails_by, false, fields_of, found_at_end, found_missing, found_of_arrival, found_on_link, found_with_end, found_with_packet, fragment_deviation, frame_in, head_now, header_front}
+use Rattle.judge_laws.proofs.Names.{internet_broken, internet_header, kind_number, layout_broken, left_waiting, length_deviation, line_after, line_with, link_after, link_broken, link_header, message_deviation, needs_legal}
+use Rattle.judge_laws.proofs.Names.{one_frame, padding_broken, pair_at, pairing_with, place_of, refl, second_frame, true, twin_deviation, twin_other, two_accepted, two_entries, udp_header, unchecked, unnumbered, verdict}
+use Rattle.judge_laws.proofs.Names.{with_arrival, with_byte, with_verdict, ℕ, [], ◌*◌, ◌+◌, ◌<◌, ◌∷◌, ◌≡◌, ◌≤◌}
 use Rattle.judge_laws.specs.NoFalseAlarm.{AreFit, IsRecord, IsRecording, IsRunOf, IsSent}
-use Rattle.std.specs.Prelude.{Bool, true, false}
-use Rattle.judge.specs.CheckSequence.{check_sequence, with_byte}
-use Rattle.judge.specs.Fields.{fields_of}
-use Rattle.judge.specs.Joining.{fragment_deviation, head_now, length_deviation, message_deviation}
-use Rattle.judge.specs.Judging.{admitted, after_packet, found_of_arrival, found_on_link, found_with_end, found_with_packet, link_after, with_arrival, with_verdict}
-use Rattle.judge.specs.Layouts.{address_broken, internet_broken, layout_broken, link_broken, padding_broken}
-use Rattle.judge.specs.Lines.{line_after, line_with, verdict}
-use Rattle.judge.specs.Rules.{checked, frame_in, place_of, unchecked}
-use Rattle.judge.specs.Twins.{found_at_end, found_missing, left_waiting, pairing_with, twin_deviation, twin_other}
 use Rattle.judge_laws.specs.Worked.{FindsNothing, NeedsItsPremises, both_at, late, loose, packet, seconds_at, strict, with_check}
-use Rattle.afdx_legal.specs.Worked.{one_frame}
-use Rattle.redundant_mux.specs.Lines.{entry}
-use Rattle.afdx_frame.specs.declared.net.Net.{Net}
-use Rattle.judge.specs.declared.options.Options.{Options}
-use Rattle.judge.specs.declared.finding.Finding.{Finding}
-use Rattle.judge.specs.declared.finding.Kind.TheVariants.{Missing}
-use Rattle.judge.specs.Deviations.{kind_number}
-use Rattle.afdx_laws.proofs.ListLemmas.{fails_by}
 use Rattle.judge_laws.proofs.Begin.{no_false_alarm_holds}
 
 pub pair_sent : IsSent demo_plan two_accepted (two_entries A) (two_entries B)
