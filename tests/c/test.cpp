@@ -77,7 +77,7 @@ static void try_judging(const std::string &demo) {
     const std::string section("\n\r\r\n\x1c\0\0\0\x4d\x3c\x2b\x1a\1\0\0\0\xff\xff\xff\xff\xff\xff\xff\xff\x1c\0\0\0", 28);
     const std::string packet("\3\0\0\0\x10\0\0\0\0\0\0\0\x10\0\0\0", 16);
     const std::string interface("\1\0\0\0\x14\0\0\0\1\0\0\0\0\0\0\0\x14\0\0\0", 20);
-    const afdx_judge_options options = {0, 10000, 0, 0};
+    const afdx_judge_options options = {0, 10000, 0, 0, 0};
     CHECK(afdx::judge(demo, section, options).empty() && afdx::judge(demo, section, section, options).empty());
     const std::vector<afdx_finding> found = afdx::judge(demo, section + interface + packet + packet, options);
     CHECK(found.size() == 2 && found[1].packet == 2 && afdx_finding_name(&found[0]) == std::string("Frame Time"));
