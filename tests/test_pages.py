@@ -52,7 +52,7 @@ def shown(program, folder):
     yield "run", ran("run", "plan.toml", "script.txt", "--capture", "run.pcapng"), transcript + others
     verdict = "loads within limits, jitter within limits, deadlines kept"
     yield "report", ran("report", "plan.toml", "--traffic", "traffic.csv").partition("\n")[0], verdict
-    yield "storm", ran("storm", "plan.toml", "--messages", "1000", "--turns", "100000"), storm
+    yield "storm", ran("storm", "plan.toml", "--messages", "1000", "--turns", "1000000000"), storm
     with open(f"{folder}/run.pcapng", "rb") as file:
         write("run.pcapng", without_packet(file.read(), 4))
     wanted = next(it for it in blocks("docs/guide/judge.md") if " findings: " in it)
