@@ -171,8 +171,11 @@ def headline_page(source, results):
         new = [it for it in bodies if it in listed - before]
         lines += ["", f"**{clause['says']}** {sum(bodies[it].count(chr(10)) for it in new)} lines, {len(new)} definitions.", ""]
         of = {it.replace(".", "/"): [name for module, name in new if module == it] for it in order if it in dict(new)}
-        # (of the clauses after the first the definitions are counted alone)
-        lines += [f"- `{it}`: {', '.join(names)}" for it, names in of.items()] if not before else [", ".join(f"`{it}` {len(names)}" for it, names in of.items())]
+        # (after the first clause definitions are counted alone)
+        if before:
+            lines.append(", ".join(f"`{it}` {len(names)}" for it, names in of.items()))
+        else:
+            lines += [f"- `{it}`: {', '.join(names)}" for it, names in of.items()]
     return "\n".join([*lines, ""])
 
 
