@@ -1,7 +1,6 @@
--- How long a sub-VL waits, in choices and by the clock, and rounds in which it waits that long.
-use Rattle.vl_shaper.proofs.Names.{ℕ, Bool, true, zero, suc, ◌≡◌, ◌+◌, ◌-◌, ◌*◌, ◌<◌, ◌≤◌, List, [], ◌∷◌, length, take, arith, refl, ap, subst, inl, inr, mul-suc, lt_of_mul-lt-mul_left, All-cons, All-weaker, Choice, next_turn, AreChosen, turns_of, HasUntil, QueuedMessage, BoundIsMet, Release, IsPaced, IsBy, InTime, busy_choice}
-use Rattle.std.specs.Prelude.{All}
-use Rattle.std.proofs.lemmas.List.{length-map, take-map, take_all}
+-- How many choices a sub-VL waits, and rounds in which it waits that long.
+use Rattle.vl_shaper.proofs.Names.{ℕ, Bool, true, zero, suc, ◌≡◌, ◌+◌, ◌-◌, ◌*◌, ◌<◌, ◌≤◌, List, [], ◌∷◌, length, take, arith, refl, ap, subst, inl, inr, mul-suc, lt_of_mul-lt-mul_left, Choice, next_turn, AreChosen, turns_of, HasUntil, QueuedMessage, BoundIsMet, busy_choice}
+use Rattle.std.proofs.lemmas.List.{take_all}
 use Rattle.vl_shaper.specs.Pace.{AreOfUsers, users_among}
 use Rattle.vl_shaper.proofs.Users.{passed, passed_lt, passed_more, passed_self}
 use Rattle.vl_shaper.proofs.OneEach.{back, back_cases, back_self, turn_cases, turn_lt, chosen_behind, count_cases}
@@ -37,26 +36,6 @@ pub queued_message_holds : QueuedMessage
 queued_message_holds subs x last q f uses choices xl ll user a u h enough =
     subst (λ (cs : List Choice). q + f ≤ turns_of x cs) (take_all (length choices) choices (omega arith))
     (grind (arith, waits))
-
--- n releases lie within n pauses.
-by_then : (n gap late start : ℕ) (releases : List Release) → IsPaced gap late start releases
-    → All (IsBy (start + n * (gap + late))) (take n releases)
-by_then zero gap late start releases p = grind arith
-by_then (suc n) gap late start [] p = grind arith
-by_then (suc n) gap late start (r ∷ releases) p =
-    All-cons (IsBy (start + suc n * (gap + late))) r (take n releases) (omega arith)
-    (All-weaker (IsBy (r.at + n * (gap + late))) (IsBy (start + suc n * (gap + late))) (λ s h. omega arith)
-    (take n releases) (by_then n gap late r.at releases p.1))
-
--- The law, by the first releases.
-pub in_time_holds : InTime
-in_time_holds subs x last q f gap late start uses releases xl ll user chosen u has paced enough =
-    let n : ℕ = users_among subs uses * (q + f) in
-    let long = length-map releases (λ (r : Release). r.choice) in (
-      subst (λ (cs : List Choice). q + f ≤ turns_of x cs) (take-map (λ (r : Release). r.choice) n releases)
-          (grind (arith, waits)),
-      by_then n gap late start releases paced,
-    )
 
 -- n choices at which every sub-VL has something, after this last served sub-VL
 abbrev rounds : ℕ → ℕ → ℕ → List Choice

@@ -1,6 +1,6 @@
 -- The worked choices, waits and polls, by computation.
-use Rattle.vl_shaper.proofs.Names.{ℕ, ◌≡◌, ◌≢◌, ◌<◌, ◌≤◌, true, arith, refl, All-from_recursion, Choice, next_turn, IsChosen, lone_choice, busy_release, ChoosesOneEach, WaitsBehindOne, WaitsForUsers, pair_choice}
-use Rattle.vl_shaper.proofs.Names.{LeavesOneBehind, WaitsFourChoices, ReleasesTooLate, nat_eq, turn_of}
+use Rattle.vl_shaper.proofs.Names.{ℕ, ◌≡◌, ◌≢◌, ◌<◌, ◌≤◌, true, arith, refl, Choice, next_turn, IsChosen, lone_choice, ChoosesOneEach, WaitsBehindOne, WaitsForUsers, pair_choice}
+use Rattle.vl_shaper.proofs.Names.{LeavesOneBehind, nat_eq, turn_of}
 use Rattle.vl_shaper.specs.WorkedPolls.{served_at_0, ServesInTime, ServesUsersInTime, ReleasesAtOnce, PolledTooLate}
 
 -- A sub-VL that has the first turn and has something is chosen.
@@ -28,18 +28,6 @@ waits_for_users = search (arith, first_chosen, third_passed)
 
 pub leaves_one_behind : LeavesOneBehind
 leaves_one_behind = search (arith, first_chosen)
-
-pub waits_four_choices : WaitsFourChoices
-waits_four_choices = search (arith, first_chosen, All-from_recursion)
-
-pub releases_too_late : ReleasesTooLate
-releases_too_late = record {
-  chosen = search (arith, first_chosen);
-  had = search arith;
-  paced = grind arith;
-  rounds = omega arith;
-  by = λ by. let fourth : 4500 ≤ 4400 = by 3 (busy_release 0 0) (omega arith) in absurd (omega arith);
-}
 
 -- Sub-VL 1 had nothing, so sub-VL 0 is chosen.
 second_chosen : IsChosen 2 (turn_of 2 served_at_0) (record { has = λ s. nat_eq s 0; sub = 0 })

@@ -1,7 +1,7 @@
--- Worked choices among a link's sub-VLs, and worked releases of a link of two.
-use Rattle.std.specs.Prelude.{ℕ, ◌≡◌, ◌+◌, ◌*◌, ◌<◌, ◌≤◌, Bool, true, nat_eq, nat_lt, List, [], ◌∷◌, length, take, All}
+-- Worked choices among a link's sub-VLs.
+use Rattle.std.specs.Prelude.{ℕ, ◌≡◌, ◌+◌, ◌*◌, ◌<◌, ◌≤◌, Bool, true, nat_eq, nat_lt, List, [], ◌∷◌, length}
 use Rattle.vl_shaper.specs.Pace.{Choice, AreChosen, IsPassedOver, AreOfUsers, users_among}
-use Rattle.vl_shaper.specs.Latency.{turns_of, HasUntil, Release, choices_of, IsPaced, IsBy}
+use Rattle.vl_shaper.specs.Latency.{turns_of, HasUntil}
 
 -- a choice at which each sub-VL had something
 abbrev pub busy_choice : ℕ → Choice
@@ -87,30 +87,3 @@ pub record LeavesOneBehind : Type 0 where
   pub fewer : length three_choices + 1 ≡ 2 * 2
   pub left : turns_of 0 three_choices < 2
   pub none : (choices : List Choice) → length choices + 1 ≡ 2 * 0 → ⊥
-
--- a release of a link whose sub-VLs all have something
-abbrev pub busy_release : ℕ → ℕ → Release
-busy_release moment chosen = record { at = moment; choice = busy_choice chosen }
-
--- Four releases, the last at `moment`. Sub-VL 0 was served last and has two fragments, the gap is
--- 1,000 microseconds, and polls are up to 100 late.
-abbrev pub four_releases : ℕ → List Release
-four_releases moment = busy_release 1100 1 ∷ busy_release 2100 0 ∷ busy_release 3200 1 ∷ busy_release moment 0 ∷ []
-
--- With the last at 4,300 the premises of the law by the clock hold. The second fragment is released
--- with the fourth choice, and the bound on its time is 4,400.
-pub record WaitsFourChoices : Type 0 where
-  pub chosen : AreChosen 2 0 (choices_of (four_releases 4300))
-  pub had : HasUntil 0 2 (choices_of (four_releases 4300))
-  pub paced : IsPaced 1000 100 0 (four_releases 4300)
-  pub rounds : 2 * 2 ≤ length (four_releases 4300)
-  pub released : 2 ≤ turns_of 0 (choices_of (take (2 * 2) (four_releases 4300)))
-  pub by : All (IsBy (0 + 2 * 2 * (1000 + 100))) (take (2 * 2) (four_releases 4300))
-
--- With the last at 4,500 all premises but the lateness hold, and the second fragment is released after 4,400.
-pub record ReleasesTooLate : Type 0 where
-  pub chosen : AreChosen 2 0 (choices_of (four_releases 4500))
-  pub had : HasUntil 0 2 (choices_of (four_releases 4500))
-  pub paced : IsPaced 1000 100 0 (four_releases 4500) → ⊥
-  pub rounds : 2 * 2 ≤ length (four_releases 4500)
-  pub by : All (IsBy (0 + 2 * 2 * (1000 + 100))) (take (2 * 2) (four_releases 4500)) → ⊥

@@ -1,8 +1,8 @@
 //! Laws of the definitions. These functions do nothing: the contract is the law.
 ghost use Rattle.vl_shaper.specs.Pace.{OneEach};
-ghost use Rattle.vl_shaper.specs.Latency.{BoundIsMet, InTime, QueuedMessage};
+ghost use Rattle.vl_shaper.specs.Latency.{BoundIsMet, QueuedMessage};
 ghost use Rattle.vl_shaper.specs.Polls.{PolledInTime};
-ghost use Rattle.vl_shaper.specs.WorkedChoices.{ChoosesOneEach, LeavesOneBehind, ReleasesTooLate, WaitsBehindOne, WaitsForUsers, WaitsFourChoices};
+ghost use Rattle.vl_shaper.specs.WorkedChoices.{ChoosesOneEach, LeavesOneBehind, WaitsBehindOne, WaitsForUsers};
 ghost use Rattle.vl_shaper.specs.WorkedPolls.{PolledTooLate, ReleasesAtOnce, ServesInTime, ServesUsersInTime};
 
 /// Between two neighbouring choices of a sub-VL that had something at each choice between them,
@@ -38,23 +38,6 @@ pub fn bound_is_met()
 
     // three choices for two fragments and two sub-VLs
     ensures worked { LeavesOneBehind }
-{}
-
-/// By the clock, in the unit of the gap: the message is wholly released by s (q + f) (gap + late)
-/// after the start, if each choice follows the previous one, or the start, within the gap and the
-/// lateness of the poll that makes it.
-///
-/// A premise: polls come, and are at most that late. The law doesn't cover the time that the
-/// networks take, nor a frame that the last network failed to take: it counts as a choice.
-#[tactic(auto, using(crate::proofs::Waits::in_time_holds, crate::proofs::WorkedTurns::waits_four_choices, crate::proofs::WorkedTurns::releases_too_late))]
-pub fn in_time()
-    ensures bound { InTime }
-
-    // four choices, the last of them within the bound
-    ensures worked { WaitsFourChoices }
-
-    // the last choice is too late, and so is the message
-    ensures late { ReleasesTooLate }
 {}
 
 /// By the polls of the link: if each poll follows the previous one, or the acceptance of the
