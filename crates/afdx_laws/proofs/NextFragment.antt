@@ -2,12 +2,10 @@
 use Rattle.afdx_laws.proofs.Names.{◌≡◌, ◌≢◌, ℕ, zero, suc, ◌+◌, ◌*◌, ◌≤◌, ◌<◌, true, false, eqb, List, [], ◌∷◌, ◌++◌, length, map, refl, subst}
 use Rattle.afdx_laws.proofs.Names.{arith, All, AllByRecursion, IsDistinct, list_any, nat_tests, ne_eqb, length-map}
 use Rattle.afdx_laws.proofs.Names.{All-tail, link_plan_at, bag_micros, LinkPlan, sub_in, Entry, sub_stream, link_stream, id_at}
-use Rattle.std.proofs.Common.{Some}
 use Rattle.std.proofs.lemmas.Map.Keys.{IsDistinct-cons, IsDistinct-from_apart}
 use Rattle.std.proofs.lemmas.Map.Steps.{length-le_from_distinct_below}
-use Rattle.vl_shaper.proofs.Polled.{polled_in_time_holds}
 use Rattle.afdx_legal.specs.Streams.{before_next, IsFollowedInTurn, TakesTurns}
-use Rattle.afdx_laws.specs.NextFragment.{AreNeighbours, IsOfOneOf, NextInARound, FollowWithin, NextInTime, NextPolledInTime, link_wait, longest_wait, NextInPlan, LieTwoGapsApart}
+use Rattle.afdx_laws.specs.NextFragment.{AreNeighbours, IsOfOneOf, NextInARound, FollowWithin, NextInTime, link_wait, longest_wait, NextInPlan, LieTwoGapsApart}
 use Rattle.afdx_legal.specs.Worked.{TurnsAreTold}
 use Rattle.afdx_laws.proofs.ListLemmas.{all_front}
 use Rattle.afdx_laws.proofs.LegalSpacing.{stream_within}
@@ -80,12 +78,6 @@ pub next_in_time : NextInTime
 next_in_time subs gap late stream first between next turns of n follow =
     let round = next_in_a_round subs stream first between next turns of n in
     grind (arith, last_within)
-
-pub next_polled_in_time : NextPolledInTime
-next_polled_in_time subs x gap late released uses polls xl user some served users paced has reach =
-    let law = polled_in_time_holds subs x 0 1 gap late released uses (Some (record { at = released; sub = x })) polls xl user some xl
-    (omega arith) served users paced has (grind arith) in
-    grind arith
 
 pub wait_at : (late : ℕ) (links : List LinkPlan) (k : ℕ) → k < length links
     → link_wait late (link_plan_at links k) ≤ longest_wait late links

@@ -14,7 +14,7 @@ ghost use Rattle.afdx_laws.specs.Counted.{CountsRise, CountsTwo};
 ghost use Rattle.afdx_laws.specs.Delivery.{InOrder, DespiteLoss, MessagesArrive, HandedArrive, HandedDespiteLoss};
 ghost use Rattle.afdx_laws.specs.Loss.{FirstComes, LossMasked, LossNotMasked, MaskedFromFirst, NumbersClash};
 ghost use Rattle.afdx_laws.specs.Receiver.{ExactlyOnce};
-ghost use Rattle.afdx_laws.specs.NextFragment.{NextInARound, NextInPlan, NextInTime, NextPolledInTime, LieTwoGapsApart, PollsInTime, NeedsInTime};
+ghost use Rattle.afdx_laws.specs.NextFragment.{NextInARound, NextInPlan, NextInTime, LieTwoGapsApart};
 ghost use Rattle.afdx_laws.specs.Plans.{OneNetworkArrives, LegalArrive, LegalDespiteLoss, OwnListsArrive, AllOnBoth};
 ghost use Rattle.afdx_laws.specs.Skew.{SkewIsFit, SkewIsNear, BearsUnder254, ComesInTime};
 ghost use Rattle.afdx_laws.specs.WorkedDelivery.{OneMessageArrives, NeedsHanding, AcceptsEachOnce, NeedsNumbers, NeedsBeginnings, NeedsALag, NeedsAStream, ClashesPast254};
@@ -216,19 +216,16 @@ pub fn counts_rise()
 /// per sub-VL, however long the messages of the others are.
 ///
 /// The sub-VLs of the emitter take turns (`turns` of both polls, of `gather` and of both `into_networks`). The fragment
-/// is released within one BAG and the lateness of a poll per sub-VL: if the link releases a frame in each such time
-/// while the fragment waits (`time`), or if each poll of the link finds it waiting (`polled`, which counts only the
-/// sub-VLs that use the link). `longest_wait` is that bound for a whole configuration. That polls come, and how late, is
-/// a premise. The law does not cover frames that no network accepted.
+/// is released within one BAG and the lateness of a poll per sub-VL, if the link releases a frame in each such time
+/// while the fragment waits (`time`). `longest_wait` is that bound for a whole configuration. By polls, and for the
+/// sub-VLs that have a port alone, see `next_in_run` of run_laws and `polled_in_time` of vl_shaper. The law does not
+/// cover frames that no network accepted.
 pub fn next_fragment()
     ensures round { NextInARound }
     ensures time { NextInTime }
-    ensures polled { NextPolledInTime }
     ensures plan { NextInPlan }
     ensures told { TurnsAreTold }
     ensures worked { LieTwoGapsApart }
-    ensures in_time { PollsInTime }
-    ensures needed { NeedsInTime }
 {}
 
 /// A receiver that reassembles the messages of a link needs one buffer of 8,200 bytes for each of its sub-VLs: it never

@@ -40,6 +40,6 @@ pub use Rattle.afdx_tx.specs.DrainEnds.{stream_at}
 pub use Rattle.afdx_tx.specs.Emitter.{IsFreshTx, Tx, taken_in}
 pub use Rattle.plan_analysis.specs.Wait.{has_port, message_wait, most_pieces, pieces_of, pieces_on, port_pieces, queued_before, used_sub_vls, worst_wait}
 pub use Rattle.afdx_laws.proofs.ListLemmas.{all_front, below_one, cons_parts, cons_same}
-pub use Rattle.afdx_laws.proofs.NextFragment.{next_polled_in_time, wait_at}
+pub use Rattle.afdx_laws.proofs.NextFragment.{wait_at}
 pub use Rattle.run_laws.specs.MessageInRun.{ApartAreTimely, AreFinding, AreTimely, ComesIn, FindsIt, HasPlace, IsAccepted, MessageInRun, fragments_of, seen_of}
 pub use Rattle.run_laws.specs.Runs.{ArePolls, AreRuns, ComeWithin, ComesBy, DrainPolls, EmitterPolls, IsPlanned, IsReady, IsReadyFor, KeptReady, NextInRun, latest_of, next_wait}
