@@ -66,13 +66,3 @@ link_found links by_id port is = ap (λ f. option_and_then f port.vl) (fun_ext i
 
 pub link_within : (links : List LinkRow) (port : PortRow) (o : Option ℕ) → o ≡ position (is_row_of port) links → IfSome o (λ l. l < length links)
 link_within links port o is = grind (arith, nat_tests, is_row_of, position-Some)
-
--- the test of a port without a link
-pub misfit_vl : (cells : Cells) (port : PortRow) (named : Bool) (link : Option (Bor LinkRow)) → named ≡ all_named cells
-    → option_copied link ≡ find (is_row_of port) cells.links → ((named && is_some port.vl) && is_none link) ≡ is_misfit NoLink cells port
-misfit_vl cells port named link at is = rw (at, any_found (is_row_of port) cells.links, ← is) (grind arith)
-
--- the test of a port with a link
-pub of_link : (test : LinkRow → Bool) (link : Option (Bor LinkRow)) (found : Option LinkRow) → option_copied link ≡ found
-    → option_map_or (λ l. test l.now) link false ≡ option_map_or test found false
-of_link test link found is = grind (arith, nat_tests)

@@ -36,32 +36,18 @@ Sub {A} rest all = (q : A → Bool) → list_any q rest ≡ true → list_any q 
 sub_next : {A : Type 0} (x : A) (rest all : List A) → Sub (x ∷ rest) all → Sub rest all
 sub_next x rest all sub q passes = sub q (rw passes (or-true (q x)))
 
--- the rest begins with row k of all
-abbrev Tail : {A : Type 0} → ℕ → List A → List A → Type 0
-Tail k rest all = (i : ℕ) → slice_get all (k - 1 + i) ≡ slice_get rest i
-
-tail_next : {A : Type 0} (k : ℕ) (x : A) (rest all : List A) → 1 ≤ k → Tail k (x ∷ rest) all → Tail (k + 1) rest all
-tail_next k x rest all some tail i =
-    let index : k + 1 - 1 + i ≡ k - 1 + suc i = omega arith in ap (slice_get all) index ∙ tail (suc i)
-
-tail_first : {A : Type 0} (k : ℕ) (x : A) (rest all : List A) → Tail k (x ∷ rest) all → slice_get all (k - 1) ≡ Some x
-tail_first k x rest all tail = let index : k - 1 ≡ k - 1 + 0 = omega arith in ap (slice_get all) index ∙ tail 0
-
 -- a property of the findings of each row
-rows_have_it : {A : Type 0} (P : Finding → Type 0) (each : ℕ → A → List Finding) (all : List A) (k : ℕ) (rest : List A)
-    → ((j : ℕ) (x : A) → 1 ≤ j → slice_get all (j - 1) ≡ Some x → AllByRecursion P (each j x)) → 1 ≤ k → Tail k rest all
-    → AllByRecursion P (each_row each k rest)
-rows_have_it P each all k [] step some tail = tt
-rows_have_it P each all k (x ∷ xs) step some tail = r_append P (each k x) (each_row each (k + 1) xs)
-    (step k x some (tail_first k x xs all tail))
-    (rows_have_it P each all (k + 1) xs step (omega arith) (tail_next k x xs all some tail))
-
-tail_all : {A : Type 0} (all : List A) → Tail 1 all all
-tail_all all i = let index : 1 - 1 + i ≡ i = omega arith in ap (slice_get all) index
+rows_have_it : {A : Type 0} (P : Finding → Type 0) (each : ℕ → A → List Finding) (k : ℕ) (rows : List A)
+    → ((i : ℕ) (x : A) → slice_get rows i ≡ Some x → AllByRecursion P (each (i + k) x)) → AllByRecursion P (each_row each k rows)
+rows_have_it P each k [] step = tt
+rows_have_it P each k (x ∷ xs) step =
+    let here : 0 + k ≡ k = omega arith in
+    r_append P (each k x) (each_row each (k + 1) xs) (rw here at (step 0 x refl))
+    (rows_have_it P each (k + 1) xs (λ i y is. let next : i + (k + 1) ≡ suc i + k = omega arith in rw next (step (suc i) y is)))
 
 all_rows : {A : Type 0} (P : Finding → Type 0) (each : ℕ → A → List Finding) (all : List A)
-    → ((j : ℕ) (x : A) → 1 ≤ j → slice_get all (j - 1) ≡ Some x → AllByRecursion P (each j x)) → AllByRecursion P (each_row each 1 all)
-all_rows P each all step = rows_have_it P each all 1 all step (lit≤ tt) (tail_all all)
+    → ((k : ℕ) (x : A) → slice_get all (k - 1) ≡ Some x → AllByRecursion P (each k x)) → AllByRecursion P (each_row each 1 all)
+all_rows P each all step = rows_have_it P each 1 all (λ i x is. step (i + 1) x (let back : i + 1 - 1 ≡ i = omega arith in rw back is))
 
 -- a place has this table and this format
 abbrev At : Members → Place → List Field → Members → Type 0
@@ -76,7 +62,7 @@ values_have P doc step =
     let rows : (like : ℕ → Place) (fields : List Field) (all : List Members)
     → ((k : ℕ) (m : Members) → slice_get all (k - 1) ≡ Some m → At doc (like k) fields m)
     → AllByRecursion P (each_row (λ k m. table_findings (like k) fields m) 1 all) = λ like fields all at.
-    all_rows P (λ k m. table_findings (like k) fields m) all (λ k m some is. step (like k) fields m (at k m is)) in
+    all_rows P (λ k m. table_findings (like k) fields m) all (λ k m is. step (like k) fields m (at k m is)) in
     r_append P _ _ (r_append P _ _ (r_append P _ _ (step Top document_fields doc (refl, refl))
     (end (section_at (codes "end_system") doc) refl))
     (rows Link (fields_in (is_version_2 doc) link_fields) (rows_at (codes "vl") doc) (λ k m is. (is, refl))))
@@ -142,7 +128,7 @@ pair_fine : {A : Type 0} (cells : Cells) (r : PlanRule) (at : ℕ → Place) (re
     → AllByRecursion (Broken cells r) (pair_findings r.fault r.key at related all)
 pair_fine {A = A} cells r at related all fine = rw (each_row-map (pair_finding r.fault r.key at) (λ x. position (λ e. related e x) all) 1 all)
     (all_rows (Broken cells r) (λ k x. pair_finding r.fault r.key at k (position (λ e. related e x) all)) all
-    (λ k x some is. here k x is (position (λ e. related e x) all) refl))
+    (λ k x is. here k x is (position (λ e. related e x) all) refl))
   where
     here : (k : ℕ) (x : A) → slice_get all (k - 1) ≡ Some x → (o : Option ℕ) → position (λ e. related e x) all ≡ o
         → AllByRecursion (Broken cells r) (pair_finding r.fault r.key at k o)
@@ -163,17 +149,17 @@ rule_fine : (cells : Cells) (f : ConfigFault) (key : List ℕ) (by : Rule)
 rule_fine cells f key (links_clash clash) = pair_fine cells (rule f key (links_clash clash)) Link clash cells.links (λ k j is. is)
 rule_fine cells f key (ports_clash clash) = pair_fine cells (rule f key (ports_clash clash)) Port clash cells.ports (λ k j is. is)
 rule_fine cells f key (port_misfits misfits) = all_rows (Broken cells (rule f key (port_misfits misfits))) (misfit_finding f key misfits cells) cells.ports
-    (λ k p some is. r_one _ (is_misfit misfits cells p) _ (λ bad.
+    (λ k p is. r_one _ (is_misfit misfits cells p) _ (λ bad.
     broken_at cells (rule f key (port_misfits misfits)) (Port k) (option_map (λ i. i + 1) (position (is_row_of p) cells.links))
     (row_passes (is_misfit misfits cells) cells.ports k p is bad)))
 rule_fine cells f key link_count = r_one _ (breaks (sides cells) link_count) _ (λ bad. broken_at cells (rule f key link_count) Top None bad)
 rule_fine cells f key port_count = r_one _ (breaks (sides cells) port_count) _ (λ bad. broken_at cells (rule f key port_count) Top None bad)
 rule_fine cells f key sub_is_packed = all_rows (Broken cells (rule f key sub_is_packed)) (crowd_finding f key cells.ports) cells.ports
-    (λ k p some is. r_one _ (is_past_limit cells.ports k p) _ (λ bad.
+    (λ k p is. r_one _ (is_past_limit cells.ports k p) _ (λ bad.
     broken_at cells (rule f key sub_is_packed) (Port k) None (row_passes (is_past_limit cells.ports k) cells.ports k p is bad)))
 
 -- the place of a finding of 7 to 14 has its fault
-abbrev Has : Cells → Finding → Type 0
+abbrev pub Has : Cells → Finding → Type 0
 Has cells f = list_any (tells cells f) plan_rules ≡ true
 
 rules_fine : (cells : Cells) (rest : List PlanRule) → Sub rest plan_rules
@@ -183,7 +169,7 @@ rules_fine cells (r ∷ rest) sub = r_append (Has cells) (rule_findings r.fault 
     (r_map (Broken cells r) (Has cells) _ (λ f is. sub (tells cells f) (rw is refl)) (rule_fine cells r.fault r.key r.forbids))
     (rules_fine cells rest (sub_next r rest plan_rules sub))
 
-plan_fine : (cells : Cells) → AllByRecursion (Has cells) (plan_findings cells)
+pub plan_fine : (cells : Cells) → AllByRecursion (Has cells) (plan_findings cells)
 unfolding plan_findings
 plan_fine cells = rules_fine cells plan_rules (λ q passes. passes)
 

@@ -1,6 +1,6 @@
 -- A document whose values have no fault has the faults of its plan.
 use Rattle.std.proofs.Math.Path.{fun_ext}
-use Rattle.afdx_config.proofs.Names.{◌≡◌, List, [], ◌∷◌, ◌||◌, Bool, true, false, map, length-map, find, Some, None, refl, ap, sym, ◌∙◌}
+use Rattle.afdx_config.proofs.Names.{◌≡◌, List, [], ◌∷◌, ◌||◌, Bool, true, false, map, length-map, find, Option, Some, None, refl, ap, sym, ◌∙◌}
 use Rattle.afdx_config.proofs.Names.{AllByRecursion, list_any, has_pair, Members, ConfigFault, LinkPlan, PortPlan, LinkRow, PortRow, Plan, Cells}
 use Rattle.afdx_config.proofs.Names.{cells_of, cells_show, plan_of, option_map, ◌==◌, Rule, PlanRule, links_clash, ports_clash, port_misfits, link_count, port_count, sub_is_packed, breaks, sides, parts_of, NoLink, NoSub, TooLong, link_whole, port_whole}
 use Rattle.afdx_config.proofs.Names.{is_misfit, plan_rules}
@@ -64,6 +64,9 @@ at_link : (g : LinkRow → Bool) (p : PortPlan) (links : List LinkPlan)
     ≡ option_map_or (λ l. g (link_whole l)) (find (λ l. is_row_of (port_whole p) (link_whole l)) links) false
 at_link g p links = grind (arith, nat_tests, find_map, is_row_of, option_maps)
 
+maps_none : {A B : Type 0} (f : A → B) (o : Option A) → is_none (option_map f o) ≡ is_none o
+maps_none f o = grind (arith, nat_tests)
+
 any_whole : (test : PortRow → Bool) (of_plan : PortPlan → Bool) (ports : List PortPlan) → ((p : PortPlan) → test (port_whole p) ≡ of_plan p)
     → list_any test (map port_whole ports) ≡ list_any of_plan ports
 any_whole test of_plan ports same = list_any_map test port_whole ports ∙ ap (λ t. list_any t ports) (fun_ext same)
@@ -73,7 +76,8 @@ breaks_whole : (plan : Plan) (r : Rule) → breaks (sides (whole plan)) r ≡ br
 breaks_whole plan (links_clash clash) = pair_map clash link_whole plan.links
 breaks_whole plan (ports_clash clash) = pair_map clash port_whole plan.ports
 breaks_whole plan (port_misfits NoLink) = any_whole (is_misfit NoLink (whole plan)) _ plan.ports
-    (λ p. rw (list_any_map (λ (link : LinkRow). is_none link.id) link_whole plan.links, any_no plan.links, list_any_map (is_row_of (port_whole p)) link_whole plan.links) refl)
+    (λ p. rw (list_any_map (λ (link : LinkRow). is_none link.id) link_whole plan.links, any_no plan.links, find_map (is_row_of (port_whole p)) link_whole plan.links)
+    (maps_none link_whole (find (λ l. is_row_of (port_whole p) (link_whole l)) plan.links)))
 breaks_whole plan (port_misfits NoSub) = any_whole (is_misfit NoSub (whole plan)) _ plan.ports
     (λ p. at_link (λ link. both nat_le link.sub_vls (Some p.sub)) p plan.links)
 breaks_whole plan (port_misfits TooLong) = any_whole (is_misfit TooLong (whole plan)) _ plan.ports

@@ -3,29 +3,25 @@ use Rattle.std.proofs.lemmas.List.Sums.{sum_by-append, sum_by-cons}
 use Rattle.std.proofs.Math.Seq.{take-append_seam}
 use Rattle.afdx_config.proofs.SectionLemmas.{none_counted, none_on}
 use Rattle.std.proofs.Common.{length-append}
-use Rattle.afdx_config.proofs.Names.{◌≡◌, ℕ, ◌+◌, ◌-◌, ◌<◌, ◌≤◌, List, [], ◌∷◌, ◌++◌, length, take, Bool, true, false, ◌||◌, ◌&&◌, cond, append_assoc, count_by, eqb-true, eq-eqb, or-true, nat_eq, nat_le, lit≤, cases_lt, inl, inr}
+use Rattle.afdx_config.proofs.Names.{◌≡◌, ℕ, ◌+◌, ◌-◌, ◌<◌, ◌≤◌, List, [], ◌∷◌, ◌++◌, length, take, Bool, true, false, ◌||◌, ◌&&◌, cond, append_assoc, count_by, eqb-true, eq-eqb, or-true, nat_eq, nat_le, lit≤}
 use Rattle.afdx_config.proofs.Names.{Option, Some, None, refl, ap, sym, ◌∙◌, arith}
 use Rattle.afdx_config.proofs.Names.{◌==◌, and_parts, nat_tests, or-false, and-true, and-false, and-or_distrib_left, nat_lt, list_any-append, position}
 use Rattle.afdx_config.proofs.Names.{position_from, list_any, then_some, position_from-zero, AllByRecursion, not}
 use Rattle.afdx_config.proofs.Names.{Data, Members, get_member, fault_number, has_pair, ConfigFault, Toml}
 use Rattle.afdx_config.proofs.Names.{UnknownKey, Place, Top, Link, Port, Field, flat_map, PlanRule, Rule, links_clash, ports_clash, port_misfits, link_count, port_count, sub_is_packed, breaks, sides, is_misfit, plan_rules, rules, rule_findings}
-use Rattle.afdx_config.proofs.Names.{shows, values_show, Finding, found, has, one_if, key_finding, member_keys, each_row}
+use Rattle.afdx_config.proofs.Names.{shows, tells, values_show, Finding, found, has, one_if, key_finding, member_keys, each_row}
 use Rattle.afdx_config.proofs.Names.{pair_finding, pair_findings, is_past_limit, misfit_finding, crowd_finding}
 use Rattle.afdx_config.proofs.Names.{Cells, cells_show, both, on_sub_of, is_packed, PortRow}
 use Rattle.afdx_config.proofs.Names.{field_fault, key_fault, is_key_of, fault_in, content_fault, fault_under, Content, IfSome, FaultsAreFound}
 use Rattle.afdx_config.specs.Findings.{plan_findings, table_findings, value_findings}
 use Rattle.afdx_config.proofs.AddLemmas.{each_row-map}
 use Rattle.afdx_config.proofs.OrderLemmas.{any_by_fault, r_append, r_map}
-use Rattle.afdx_config.proofs.PlaceLemmas.{r_each, values_have}
+use Rattle.afdx_config.proofs.PlaceLemmas.{Has, plan_fine, r_each, values_have}
 
 -- no element passes
 pub any_no : {A : Type 0} (xs : List A) → list_any (λ x. false) xs ≡ false
 any_no [] = refl
 any_no (x ∷ xs) = any_no xs
-
--- a common condition
-and_or : (a b c : Bool) → ((a && b) || (a && c)) ≡ (a && (b || c))
-and_or a b c = sym (and-or_distrib_left a b c)
 
 -- a conditional finding
 one : (f : ConfigFault) (b : Bool) (x : Finding) → list_any (has f) (one_if b x) ≡ (has f x && b)
@@ -41,16 +37,14 @@ abbrev any_row : {A : Type 0} → (ℕ → A → Bool) → ℕ → List A → Bo
 any_row test k [] = false
 any_row test k (x ∷ xs) = test k x || any_row test (k + 1) xs
 
--- the findings of each row
-rows_shown : {A : Type 0} (f : ConfigFault) (each : ℕ → A → List Finding) (test : ℕ → A → Bool) (k : ℕ) (xs : List A)
-    → ((j : ℕ) (x : A) → list_any (has f) (each j x) ≡ test j x) → list_any (has f) (each_row each k xs) ≡ any_row test k xs
-rows_shown f each test k [] shown = refl
-rows_shown f each test k (x ∷ xs) shown = grind (arith, nat_tests, list_any-append, (rows_shown f each test (k + 1) xs shown))
-
--- a common condition
-any_if : {A : Type 0} (a : Bool) (test : ℕ → A → Bool) (k : ℕ) (xs : List A) → any_row (λ j x. a && test j x) k xs ≡ (a && any_row test k xs)
-any_if a test k [] = sym (and-false a)
-any_if a test k (x ∷ xs) = rw (any_if a test (k + 1) xs) (and_or a (test k x) (any_row test (k + 1) xs))
+-- the findings of each row, which have the fault g
+rows_shown : {A : Type 0} (f g : ConfigFault) (each : ℕ → A → List Finding) (test : ℕ → A → Bool) (k : ℕ) (xs : List A)
+    → ((j : ℕ) (x : A) → list_any (has f) (each j x) ≡ (same f g && test j x))
+    → list_any (has f) (each_row each k xs) ≡ (same f g && any_row test k xs)
+rows_shown f g each test k [] shown = sym (and-false (same f g))
+rows_shown f g each test k (x ∷ xs) shown =
+    rw (list_any-append (has f) (each k x) (each_row each (k + 1) xs), shown k x, rows_shown f g each test (k + 1) xs shown)
+    (sym (and-or_distrib_left (same f g) (test k x) (any_row test (k + 1) xs)))
 
 any_one : {A : Type 0} (p : A → Bool) (k : ℕ) (xs : List A) → any_row (λ j x. p x) k xs ≡ list_any p xs
 any_one p k [] = refl
@@ -108,9 +102,8 @@ pairs_shown : {A : Type 0} (f g : ConfigFault) (key : List ℕ) (at : ℕ → Pl
     → list_any (has f) (pair_findings g key at related rows) ≡ (same f g && has_pair related rows)
 pairs_shown f g key at related rows =
     ap (list_any (has f)) (each_row-map (pair_finding g key at) (λ x. position (λ e. related e x) rows) 1 rows)
-    ∙ rows_shown f (λ k x. pair_finding g key at k (position (λ e. related e x) rows)) (λ k x. same f g && is_before k (position (λ e. related e x) rows)) 1 rows
+    ∙ rows_shown f g (λ k x. pair_finding g key at k (position (λ e. related e x) rows)) (λ k x. is_before k (position (λ e. related e x) rows)) 1 rows
     (λ k x. pair f g key at k (position (λ e. related e x) rows))
-    ∙ any_if (same f g) (λ k x. is_before k (position (λ e. related e x) rows)) 1 rows
     ∙ ap (λ b. same f g && b) (any_pair related rows [] rows 1 refl refl ∙ ap (λ b. b || has_pair related rows) (any_no rows))
 
 -- two values that are the same and known are equal
@@ -171,14 +164,13 @@ rule_shown : (f g : ConfigFault) (key : List ℕ) (rule : Rule) (cells : Cells)
     → list_any (has f) (rule_findings g key rule cells) ≡ (same f g && breaks (sides cells) rule)
 rule_shown f g key (links_clash clash) cells = pairs_shown f g key Link clash cells.links
 rule_shown f g key (ports_clash clash) cells = pairs_shown f g key Port clash cells.ports
-rule_shown f g key (port_misfits misfit) cells = rows_shown f (misfit_finding g key misfit cells) (λ k p. same f g && is_misfit misfit cells p) 1 cells.ports
-    (λ k p. one f (is_misfit misfit cells p) _) ∙ any_if (same f g) (λ k p. is_misfit misfit cells p) 1 cells.ports
-    ∙ ap (λ b. same f g && b) (any_one (is_misfit misfit cells) 1 cells.ports)
+rule_shown f g key (port_misfits misfit) cells = rows_shown f g (misfit_finding g key misfit cells) (λ k p. is_misfit misfit cells p) 1 cells.ports
+    (λ k p. one f (is_misfit misfit cells p) _) ∙ ap (λ b. same f g && b) (any_one (is_misfit misfit cells) 1 cells.ports)
 rule_shown f g key link_count cells = one f (breaks (sides cells) link_count) (found g Top key None)
 rule_shown f g key port_count cells = one f (breaks (sides cells) port_count) (found g Top key None)
-rule_shown f g key sub_is_packed cells = rows_shown f (crowd_finding g key cells.ports) (λ k p. same f g && is_past_limit cells.ports k p) 1 cells.ports
+rule_shown f g key sub_is_packed cells = rows_shown f g (crowd_finding g key cells.ports) (is_past_limit cells.ports) 1 cells.ports
     (λ k p. one f (is_past_limit cells.ports k p) (found g (Port k) key None))
-    ∙ any_if (same f g) (is_past_limit cells.ports) 1 cells.ports ∙ ap (λ b. same f g && b) (any_past cells.ports [] cells.ports 1 refl refl)
+    ∙ ap (λ b. same f g && b) (any_past cells.ports [] cells.ports 1 refl refl)
 
 rules_shown : (f : ConfigFault) (cells : Cells) (some : List PlanRule)
     → list_any (has f) (flat_map (λ (r : PlanRule). rule_findings r.fault r.key r.forbids cells) some)
@@ -206,11 +198,8 @@ one_in b fault is = grind (arith, nat_tests)
 read_in : {X : Type 0} (fault : ConfigFault) (refuses : X → Bool) (o : Option X) → IsValue fault → IfSome (fault_in fault refuses o) IsValue
 read_in fault refuses o is = grind (arith, nat_tests, one_in)
 
-content_in : (content : Content) (value : Data) → IfSome (content_fault content value) IsValue
-content_in content value = grind (arith, read_in)
-
 under_in : (field : Field) (o : Option Data) → IfSome (fault_under field o) IsValue
-under_in field o = grind (arith, nat_tests, content_in, one_in)
+under_in field o = grind (arith, nat_tests, read_in, one_in)
 
 key_in : (place : Place) (key : List ℕ) (o : Option ConfigFault) → IfSome o IsValue → AllByRecursion (λ x. IsValue x.fault) (key_finding place key o)
 key_in place key o is = grind (arith, nat_tests)
@@ -234,25 +223,11 @@ none_has f (x ∷ xs) all = rw all.0 (none_has f xs all.1)
 pub no_toml : (doc : Members) → shows Toml doc ≡ false
 no_toml doc = grind (arith, nat_tests, none_has, r_map, values_in)
 
--- links and ports have only other faults
-low : (f : ConfigFault) (cells : Cells) (some : List PlanRule) → fault_number f < 7 → AllByRecursion (λ r. 7 ≤ fault_number r.fault) some
-    → list_any (λ (r : PlanRule). same f r.fault && breaks (sides cells) r.forbids) some ≡ false
-low f cells [] small all = refl
-low f cells (r ∷ rest) small all = grind (arith, nat_tests, (low f cells rest small all.1))
-
-above : (xs : List Finding) → ((f : ConfigFault) → fault_number f < 7 → list_any (has f) xs ≡ false) → AllByRecursion (λ x. 6 ≤ fault_number x.fault) xs
-above [] lacks = tt
-above (x ∷ xs) lacks = (first, above xs (λ f small. later (has f x) (list_any (has f) xs) (lacks f small)))
-  where
-    later : (a b : Bool) → (a || b) ≡ false → b ≡ false
-    later false b is = is
-    later true b is = cc
-
-    first : 6 ≤ fault_number x.fault
-    first = elim (cases_lt (fault_number x.fault) 7) [
-      | inl small ↦ let none = lacks x.fault small in let number = eq-eqb (fault_number x.fault) (fault_number x.fault) refl in cc
-      | inr large ↦ omega arith
-    ]
+-- a finding of a rule has the rule's fault
+told_above : (cells : Cells) (x : Finding) (some : List PlanRule) → AllByRecursion (λ r. 7 ≤ fault_number r.fault) some
+    → list_any (tells cells x) some ≡ true → 6 ≤ fault_number x.fault
+told_above cells x [] all told = cc
+told_above cells x (r ∷ rest) all told = grind (arith, nat_tests, eqb-true, (told_above cells x rest all.1))
 
 pub plan_above : (cells : Cells) → AllByRecursion (λ x. 6 ≤ fault_number x.fault) (plan_findings cells)
-plan_above cells = above (plan_findings cells) (λ f small. plan_shown f cells ∙ low f cells plan_rules small (search rules))
+plan_above cells = r_map (Has cells) _ (plan_findings cells) (λ x told. told_above cells x plan_rules (search rules) told) (plan_fine cells)

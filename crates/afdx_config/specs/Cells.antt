@@ -1,5 +1,5 @@
 -- The values of links and ports that have no fault, and the faults of 7 to 14 in them.
-use Rattle.std.specs.Prelude.{codes, ℕ, List, map, Bool, is_none, Option, Some, None, option_and_then, unwrap_or, ◌&&◌, not}
+use Rattle.std.specs.Prelude.{codes, ℕ, List, map, Bool, is_none, Option, Some, None, option_and_then, unwrap_or, ◌&&◌, not, find}
 use Rattle.toml.specs.Data.{Members}
 use Rattle.afdx_plan.specs.declared.fault.ConfigFault.{ConfigFault}
 use Rattle.afdx_plan.specs.declared.port_plan.Kind.TheVariants.{Sampling}
@@ -10,7 +10,7 @@ use Rattle.afdx_plan.specs.declared.rows.PortRow.{PortRow}
 use Rattle.afdx_config.specs.Tables.{text_at, number_in, field_fault, rows_at}
 use Rattle.afdx_config.specs.Values.{kind_of, address_of}
 use Rattle.std.specs.List.{list_any}
-use Rattle.afdx_plan.specs.PlanFaults.{Parts, misfits, parts_show}
+use Rattle.afdx_plan.specs.PlanFaults.{Parts, is_row_of, misfits, parts_show}
 use Rattle.afdx_plan.specs.declared.rows.Misfit.{Misfit}
 
 -- a value, if its key has no fault
@@ -67,7 +67,7 @@ all_named cells = cells.has_links && not (list_any (λ (link : LinkRow). is_none
 
 -- the port does not fit its link in this way
 abbrev pub is_misfit : Misfit → Cells → PortRow → Bool
-is_misfit misfit cells port = misfits (λ (link : LinkRow). link) (all_named cells) cells.links misfit port
+is_misfit misfit cells port = misfits (λ link. link) (all_named cells) (find (is_row_of port) cells.links) misfit port
 
 -- links and ports, which the rules of plans look at
 abbrev pub sides : Cells → Parts LinkRow PortRow

@@ -38,10 +38,7 @@ fn rows<'a>(alloc: Global, document: &'a Table, key: &str) -> Result<Vec<&'a Tab
     ensures { IfOk result (λ rows.
         map (λ r. table_view r.now) rows.items ≡ rows_at key.now (table_view document.now)) }
 {
-    let Some(value) = value_at(document, key) else {
-        return Ok(Vec::new(alloc));
-    };
-    match value.as_array() {
+    match value_at(document, key).and_then(|value| value.as_array()) {
         Some(values) => tables_of(alloc, values.as_slice()),
         None => Ok(Vec::new(alloc)),
     }
@@ -52,10 +49,7 @@ fn section<'a>(document: &'a Table, key: &str) -> Option<&'a Table>
     ensures { option_map (λ t. table_view t.now) result
         ≡ section_at key.now (table_view document.now) }
 {
-    match value_at(document, key) {
-        Some(value) => value.as_table(),
-        None => None,
-    }
+    value_at(document, key)?.as_table()
 }
 
 /// The document is of format version 2.
@@ -66,6 +60,7 @@ fn is_version_2(document: &Document<'_>) -> bool
 }
 
 /// Restricts the keys of version 2 of the format to those of the document's version.
+#[tactic(auto, using(crate::proofs::SectionLemmas::first_fields))]
 pub(crate) fn fields_in<'a>(document: &Document<'_>, fields: &'a [Field]) -> &'a [Field]
     ensures { map field_of result.now
         ≡ fields_in (is_version_2 (data_of document.now)) (map field_of fields.now) }

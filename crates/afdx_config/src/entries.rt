@@ -19,20 +19,14 @@ pub(crate) fn value_at<'a>(table: &'a Table, key: &str) -> Option<&'a Value>
 pub(crate) fn whole_number(table: &Table, key: &str) -> Option<i64>
     ensures { result ≡ whole_at key.now (table_view table.now) }
 {
-    match value_at(table, key) {
-        Some(value) => value.as_integer(),
-        None => None,
-    }
+    value_at(table, key)?.as_integer()
 }
 
 /// The text under a key.
 pub(crate) fn text<'a>(table: &'a Table, key: &str) -> Option<&'a str>
     ensures { option_copied result ≡ text_at key.now (table_view table.now) }
 {
-    match value_at(table, key) {
-        Some(value) => value.as_str(),
-        None => None,
-    }
+    value_at(table, key)?.as_str()
 }
 
 /// The number under a key, or 0 if it is missing or negative.

@@ -11,7 +11,7 @@ use crate::document::Document;
 use crate::findings::{Finding, Found, Place, add};
 use crate::layout::lines_of_findings;
 use crate::plan_findings::add_plan;
-use crate::told::{Origin, text_of, text_of_toml};
+use crate::told::text_of;
 use crate::value_findings::add_values;
 use afdx_plan::ConfigFault;
 use std::alloc::{AllocError, Global};
@@ -42,28 +42,27 @@ fn findings_in(alloc: Global, document: &Document<'_>) -> Result<Found, AllocErr
     Ok(found)
 }
 
-/// The text of a document's findings, whose lines name the file of the text if it has a name.
-fn lines_with(
+/// The explanation of findings. The lines of its text name the file of the text if it has a name.
+fn explanation_of(
     alloc: Global,
-    document: &Document<'_>,
-    found: &Found,
+    document: Option<&Document<'_>>,
+    found: Found,
     text: &[u8],
     name: Option<&str>,
-) -> Result<Vec<u8>, AllocError>
-    ensures { IfOk result (λ lines. HasLines found.now.count lines.items) }
+) -> Result<Explanation, AllocError>
+    ensures findings { IfOk result (λ e. (e.findings ≡ found.first) × (e.count ≡ found.count)) }
+    ensures text { IfOk result (λ e. HasLines e.count e.text.items) }
 {
-    let written = match name {
-        Some(name) => {
-            let lines = lines_of_findings(alloc, text, found.first.as_slice())?;
-            let lines = lines.as_slice();
-            text_of(alloc, document, found, Some(&Origin { name, lines }))
-        }
-        None => text_of(alloc, document, found, None),
+    let lines = match name {
+        Some(_) => lines_of_findings(alloc, text, found.first.as_slice())?,
+        None => Vec::new(alloc),
     };
-    match written {
-        Ok(lines) => Ok(lines),
-        Err(_) => Err(AllocError),
-    }
+    let text = text_of(alloc, document, &found, name, lines.as_slice()).map_err(|_| AllocError)?;
+    Ok(Explanation {
+        findings: found.first,
+        count: found.count,
+        text,
+    })
 }
 
 /// Explains a document, which is that of a text.
@@ -79,18 +78,7 @@ fn explain_document(
 {
     let document = Document::of(alloc, table)?;
     let found = findings_in(alloc, &document)?;
-    let lines = lines_with(alloc, &document, &found, text, name)?;
-    Ok(explanation_of(found, lines))
-}
-
-fn explanation_of(found: Found, text: Vec<u8>) -> Explanation
-    ensures { result ≡ record { findings = found.first; count = found.count; text = text } }
-{
-    Explanation {
-        findings: found.first,
-        count: found.count,
-        text,
-    }
+    explanation_of(alloc, Some(&document), found, text, name)
 }
 
 /// The line after these bytes, counted from 1.
@@ -126,10 +114,7 @@ fn explain_toml(
     ensures findings { IfOk result (λ e. TellsToml text.now (map finding_of e.findings.items) e.count) }
     ensures text { IfOk result (λ e. HasLines e.count e.text.items) }
 {
-    let start = match error.span() {
-        Some(span) => span.start,
-        None => 0,
-    };
+    let start = error.span().map_or(0, |span| span.start);
     let (before, _rest) = text.split_at(start);
     tell_toml(alloc, before, error.message(), name)
 }
@@ -145,16 +130,10 @@ fn tell_toml(
         TellsStop before.now message.now (map finding_of e.findings.items) e.count) }
     ensures text { IfOk result (λ e. HasLines e.count e.text.items) }
 {
-    let line = line_of(before);
-    let column = column_of(before);
     let mut found = Found::new(alloc);
-    let place = Place::Text(line, column);
-    let fault = ConfigFault::Toml;
-    add(&mut found, fault, place, message, None)?;
-    match text_of_toml(alloc, line, column, message, name) {
-        Ok(text) => Ok(explanation_of(found, text)),
-        Err(_) => Err(AllocError),
-    }
+    let place = Place::Text(line_of(before), column_of(before));
+    add(&mut found, ConfigFault::Toml, place, message, None)?;
+    explanation_of(alloc, None, found, before, name)
 }
 
 /// Finds all faults of a configuration, and keeps the first 1,000, each with its place. A text that is not TOML
@@ -182,12 +161,7 @@ fn explain_named(alloc: Global, text: &[u8], name: Option<&str>) -> Result<Expla
 {
     match toml::table_from_slice(alloc, text) {
         Ok(table) => explain_document(alloc, &table, text, name),
-        Err(error) => {
-            if error.is_memory() {
-                Err(AllocError)
-            } else {
-                explain_toml(alloc, text, &error, name)
-            }
-        }
+        Err(error) if error.is_memory() => Err(AllocError),
+        Err(error) => explain_toml(alloc, text, &error, name),
     }
 }

@@ -27,20 +27,14 @@ pub(crate) fn first_rows<K: Ord + Copy>(
 pub(crate) fn row_with<K: Ord + Copy>(rows: &BTreeMap<K, usize>, key: &Option<K>) -> Option<usize>
     ensures { result ≡ option_and_then (get K.cmp rows.now) key.now }
 {
-    match key {
-        Some(key) => rows.get(key).copied(),
-        None => None,
-    }
+    rows.get(key.as_ref()?).copied()
 }
 
 /// The row at an index.
 pub(crate) fn nth_row<R: Copy>(rows: &[R], place: Option<usize>) -> Option<&R>
     ensures { option_copied result ≡ option_and_then (slice_get rows.now) place }
 {
-    match place {
-        Some(i) => rows.get(i),
-        None => None,
-    }
+    rows.get(place?)
 }
 
 /// For each row the index of the first one with its key.

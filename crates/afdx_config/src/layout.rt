@@ -31,10 +31,8 @@ enum Start<'a> {
     Nothing,
     /// `[name]`, or with two brackets one more table of an array.
     Header(&'a str, bool),
-    /// A key, whose value ends on the line.
-    Key(&'a str),
-    /// A key, whose value may end on a later line.
-    Open(&'a str),
+    /// A key, and whether its value ends on the line.
+    Key(&'a str, bool),
     /// Another form.
     Unusual,
 }
@@ -45,15 +43,9 @@ fn is_bare(c: char) -> bool {
 
 /// The bare key that a text begins with, and the rest of the text.
 fn bare_key(text: &str) -> Option<(&str, &str)> {
-    let end = match text.find(|c| !is_bare(c)) {
-        Some(end) => end,
-        None => text.len(),
-    };
+    let end = text.find(|c| !is_bare(c)).unwrap_or(text.len());
     let (key, rest) = text.split_at_checked(end)?;
-    if key.is_empty() {
-        return None;
-    }
-    Some((key, rest))
+    (!key.is_empty()).then_some((key, rest))
 }
 
 /// The key that a text begins with, bare or in quotes, and the rest of the text.
@@ -69,18 +61,10 @@ fn key_of(text: &str) -> Option<(&str, &str)> {
 
 /// Reads a header, whose first bracket is left out.
 fn header_of(text: &str) -> Option<Start<'_>> {
-    match text.strip_prefix("[") {
-        Some(name) => {
-            let (name, rest) = bare_key(name)?;
-            rest.strip_prefix("]]")?;
-            Some(Start::Header(name, true))
-        }
-        None => {
-            let (name, rest) = bare_key(text)?;
-            rest.strip_prefix("]")?;
-            Some(Start::Header(name, false))
-        }
-    }
+    let row = text.strip_prefix("[");
+    let (name, rest) = bare_key(row.unwrap_or(text))?;
+    rest.strip_prefix(if row.is_some() { "]]" } else { "]" })?;
+    Some(Start::Header(name, row.is_some()))
 }
 
 /// Reads a key and what its value begins with.
@@ -91,11 +75,7 @@ fn pair_of(line: &str) -> Option<Start<'_>> {
     let is_open = ["[", "{", "\"\"\"", "'''"]
         .iter()
         .any(|open| value.starts_with(*open));
-    if is_open {
-        Some(Start::Open(key))
-    } else {
-        Some(Start::Key(key))
-    }
+    Some(Start::Key(key, !is_open))
 }
 
 /// What a line begins with.
@@ -108,10 +88,7 @@ fn start_of(line: &str) -> Start<'_> {
         Some(header) => header_of(header),
         None => pair_of(line),
     };
-    match start {
-        Some(start) => start,
-        None => Start::Unusual,
-    }
+    start.unwrap_or(Start::Unusual)
 }
 
 /// Keeps the first line of a spot, if that is looked for.
@@ -150,10 +127,7 @@ fn table_of(begun: &mut Begun, name: &str, is_row: bool) -> TableName {
 fn search<'a>(lines: &mut Lines<'a>, text: &'a str) {
     let mut begun = Begun { links: 0, ports: 0 };
     let mut table = TOP;
-    let text = match text.strip_prefix("\u{feff}") {
-        Some(text) => text,
-        None => text,
-    };
+    let text = text.strip_prefix("\u{feff}").unwrap_or(text);
     for (k, line) in text.split('\n').enumerate() {
         let line_number = k.saturating_add(1);
         match start_of(line) {
@@ -163,10 +137,11 @@ fn search<'a>(lines: &mut Lines<'a>, text: &'a str) {
                 table = table_of(&mut begun, name, is_row);
                 keep(lines, (table, ""), line_number);
             }
-            Start::Key(key) => keep(lines, (table, key), line_number),
-            Start::Open(key) => {
+            Start::Key(key, is_whole) => {
                 keep(lines, (table, key), line_number);
-                return;
+                if !is_whole {
+                    return;
+                }
             }
             Start::Unusual => return,
         }
@@ -183,8 +158,11 @@ fn table_at(place: Place) -> TableName {
     }
 }
 
-/// The line of a finding: that of its key, or else of its table's header.
+/// The line of a finding: that at which a text stops being TOML, of its key, or else of its table's header.
 fn line_of<'a>(lines: &Lines<'a>, finding: &'a Finding) -> Option<usize> {
+    if let Place::Text(line, _) = finding.place {
+        return Some(line);
+    }
     let table = table_at(finding.place);
     let of_key = lines.get(&(table, finding.key.as_str())).copied();
     let of_table = lines.get(&(table, "")).copied();

@@ -1,10 +1,8 @@
 //! Tables that clash with an earlier one.
 ghost use Rattle.std.specs.Prelude.{◌≡◌, ◌+◌, ◌^◌, ◌<◌, map, IfOk, OnOk};
-ghost use Rattle.afdx_plan.specs.PlanFaults.{same_link, same_port, same_flow};
-ghost use Rattle.afdx_config.specs.Findings.{each_row, pair_finding, pair_findings, row_like};
+ghost use Rattle.afdx_config.specs.Findings.{each_row, pair_finding, row_like};
 ghost use Rattle.afdx_config.specs.Sharing.{first_row, flow_of};
 ghost use Rattle.afdx_config.specs.Seen.{Adds};
-ghost use Rattle.afdx_config.specs.declared.findings.Place.TheVariants.{Link, Port};
 
 use crate::findings::{Added, Found, Place, add, row_like};
 use crate::keyed::first_same;
@@ -12,7 +10,7 @@ use afdx_plan::{ConfigFault, LinkRow, PortRow};
 use std::alloc::{AllocError, Global};
 
 /// Link, partition, both UDP ports and destination.
-type Flow = (u16, u16, u16, u16, Option<[u8; 4]>);
+pub(crate) type Flow = (u16, u16, u16, u16, Option<[u8; 4]>);
 
 /// Adds the table at index `i` of an array if the first one that it clashes with is earlier.
 fn add_pair(
@@ -54,7 +52,7 @@ pub(crate) fn add_pairs(
 }
 
 /// Adds the tables of an array that have the key of an earlier one.
-fn add_keyed<K: Ord + Copy>(
+pub(crate) fn add_keyed<K: Ord + Copy>(
     found: &mut Found,
     fault: ConfigFault,
     key: &str,
@@ -75,37 +73,11 @@ pub(crate) fn link_ids(alloc: Global, links: &[LinkRow]) -> Result<Vec<Option<u1
     links.iter().map(|link| link.id).collect(alloc)
 }
 
-/// Adds the links that have the identifier of an earlier one.
-pub(crate) fn add_same_links(
-    found: &mut Found,
-    fault: ConfigFault,
-    key: &str,
-    links: &[LinkRow],
-) -> Added
-    ensures { OnOk result (Adds found.old found.new (pair_findings fault key.now Link same_link links.now)) }
-{
-    let ids = link_ids(found.alloc(), links)?;
-    add_keyed(found, fault, key, Place::Link(0), ids.as_slice())
-}
-
 /// The identifiers of ports.
-fn port_ids(alloc: Global, ports: &[PortRow]) -> Result<Vec<Option<u16>>, AllocError>
+pub(crate) fn port_ids(alloc: Global, ports: &[PortRow]) -> Result<Vec<Option<u16>>, AllocError>
     ensures { IfOk result (λ ids. ids.items ≡ map (λ p. p.id) ports.now) }
 {
     ports.iter().map(|port| port.id).collect(alloc)
-}
-
-/// Adds the ports that have the identifier of an earlier one.
-pub(crate) fn add_same_ports(
-    found: &mut Found,
-    fault: ConfigFault,
-    key: &str,
-    ports: &[PortRow],
-) -> Added
-    ensures { OnOk result (Adds found.old found.new (pair_findings fault key.now Port same_port ports.now)) }
-{
-    let ids = port_ids(found.alloc(), ports)?;
-    add_keyed(found, fault, key, Place::Port(0), ids.as_slice())
 }
 
 /// The flow of a port, if its values have no fault.
@@ -127,21 +99,8 @@ fn flow_of(port: &PortRow) -> Option<Flow>
 }
 
 /// The flows of ports.
-fn flows_of(alloc: Global, ports: &[PortRow]) -> Result<Vec<Option<Flow>>, AllocError>
+pub(crate) fn flows_of(alloc: Global, ports: &[PortRow]) -> Result<Vec<Option<Flow>>, AllocError>
     ensures { IfOk result (λ flows. flows.items ≡ map flow_of ports.now) }
 {
     ports.iter().map(|port| flow_of(port)).collect(alloc)
-}
-
-/// Adds the ports that have the flow of an earlier one.
-pub(crate) fn add_same_flows(
-    found: &mut Found,
-    fault: ConfigFault,
-    key: &str,
-    ports: &[PortRow],
-) -> Added
-    ensures { OnOk result (Adds found.old found.new (pair_findings fault key.now Port same_flow ports.now)) }
-{
-    let flows = flows_of(found.alloc(), ports)?;
-    add_keyed(found, fault, key, Place::Port(0), flows.as_slice())
 }

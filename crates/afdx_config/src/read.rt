@@ -53,12 +53,12 @@ fn read_document(alloc: Global, document: &Document<'_>) -> Result<Config, Confi
     if let Some(fault) = first {
         return Err(fault);
     }
-    match parts_of(alloc, document) {
-        Ok(parts) => match Config::new(parts.end_system, parts.links, parts.ports) {
-            Ok(config) => Ok(config),
-            Err(_) => unreachable!(),
-        },
-        Err(_) => Err(ConfigFault::Memory),
+    let Ok(parts) = parts_of(alloc, document) else {
+        return Err(ConfigFault::Memory);
+    };
+    match Config::new(parts.end_system, parts.links, parts.ports) {
+        Ok(config) => Ok(config),
+        Err(_) => unreachable!(),
     }
 }
 
@@ -74,12 +74,7 @@ pub fn read_config(alloc: Global, text: &[u8]) -> Result<Config, ConfigFault>
             Ok(document) => read_document(alloc, &document),
             Err(_) => Err(ConfigFault::Memory),
         },
-        Err(error) => {
-            if error.is_memory() {
-                Err(ConfigFault::Memory)
-            } else {
-                Err(ConfigFault::Toml)
-            }
-        }
+        Err(error) if error.is_memory() => Err(ConfigFault::Memory),
+        Err(_) => Err(ConfigFault::Toml),
     }
 }

@@ -91,7 +91,7 @@ const NO_PORT: PortRow = PortRow {
     unicast: Some(None),
 };
 
-#[tactic(auto, unfolding(crate::specs::Cells::port_row))]
+#[tactic(auto, unfolding(crate::specs::Cells::port_row), using(crate::proofs::SectionLemmas::lacks_port))]
 fn port_row(table: &Table) -> PortRow
     ensures { result ≡ port_row (table_view table.now) }
 {

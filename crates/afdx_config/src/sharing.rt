@@ -33,10 +33,8 @@ fn address_of(port: &PortRow) -> Option<(Address, u16)>
 fn off_link(vl: u16, first: Option<First>) -> Option<usize>
     ensures { result ≡ off_link vl first }
 {
-    match first {
-        Some((i, other, next)) => { if other == vl { next } else { Some(i) } }
-        None => None,
-    }
+    let (i, other, next) = first?;
+    if other == vl { next } else { Some(i) }
 }
 
 /// The first port with each address.
@@ -57,10 +55,8 @@ fn first_ports(alloc: Global, ports: &[PortRow]) -> Result<BTreeMap<Address, Fir
 fn sharing_place(firsts: &BTreeMap<Address, First>, port: &PortRow) -> Option<usize>
     ensures { result ≡ sharing_place (get address_cmp firsts.now) port.now }
 {
-    match address_of(port) {
-        Some((address, vl)) => off_link(vl, firsts.get(&address).copied()),
-        None => None,
-    }
+    let (address, vl) = address_of(port)?;
+    off_link(vl, firsts.get(&address).copied())
 }
 
 /// These ports for each port.

@@ -65,10 +65,8 @@ pub(crate) fn write_row(out: &mut Text, document: &Document<'_>, place: Place) -
         Place::Port(k) => write!(out, "port {k}")?,
         _ => return Ok(()),
     }
-    let Some(table) = table_at(document, place) else {
-        return Ok(());
-    };
-    match whole_number(table, "id") {
+    let table = table_at(document, place);
+    match table.and_then(|table| whole_number(table, "id")) {
         Some(id) => write!(out, " (id {id})"),
         None => Ok(()),
     }
@@ -91,9 +89,6 @@ pub(crate) fn write_subject(
     }
     write_cut(out, key)?;
     out.write_all(b" is ")?;
-    let value = match table_at(document, place) {
-        Some(table) => value_at(table, key),
-        None => None,
-    };
-    write_value(out, value)
+    let table = table_at(document, place);
+    write_value(out, table.and_then(|table| value_at(table, key)))
 }

@@ -1,4 +1,4 @@
-//! The text of findings. The words of their lines are tested alone, in `examples/explain`.
+//! The text of findings. The words of their lines are tested alone, in `tests/explain`.
 ghost use Rattle.std.specs.Prelude.{◌≡◌, ◌++◌, ◌-◌, IfOk, OnOk};
 ghost use Rattle.afdx_config.specs.Explained.{HasLines, count_line, rest_line};
 ghost use Rattle.afdx_config.specs.Findings.{lines_limit};
@@ -34,8 +34,7 @@ fn fields_at(document: &Document<'_>, place: Place) -> &'static [Field] {
 /// The content of a finding's key.
 fn content_at(document: &Document<'_>, finding: &Finding) -> Option<Content> {
     let fields = fields_at(document, finding.place);
-    let field = field_named(fields, finding.key.as_str())?;
-    Some(field.2)
+    field_named(fields, finding.key.as_str()).map(|field| field.2)
 }
 
 /// Writes the values that a content allows.
@@ -94,13 +93,11 @@ fn write_bound(
     key: &str,
 ) -> Result<()> {
     out.write_all(bound.as_bytes())?;
-    match link {
-        Some(k) => {
-            out.write_all(b"; ")?;
-            write_subject(out, document, Place::Link(k), key)
-        }
-        None => Ok(()),
-    }
+    let Some(k) = link else {
+        return Ok(());
+    };
+    out.write_all(b"; ")?;
+    write_subject(out, document, Place::Link(k), key)
 }
 
 /// Writes what is allowed at the key of a finding.
@@ -135,33 +132,33 @@ fn same_text(fault: ConfigFault) -> Option<&'static str> {
     }
 }
 
-/// Writes the line of a finding.
-fn write_finding(out: &mut Text, document: &Document<'_>, finding: &Finding) -> Result<()> {
-    let number = finding.fault.number();
-    write!(out, "{number} {}: ", finding.fault)?;
-    match same_text(finding.fault) {
-        Some(same) => {
-            write_row(out, document, finding.place)?;
-            if let Some(k) = finding.other {
-                out.write_all(b" and ")?;
-                write_row(out, document, row_like(finding.place, k))?;
-            }
-            writeln!(out, ": {same}")
-        }
-        None => {
-            write_subject(out, document, finding.place, finding.key.as_str())?;
-            out.write_all(b": ")?;
-            write_allowed(out, document, finding)?;
-            out.write_all(b"\n")
-        }
+/// Writes a finding of two tables and the values that they share, or the value of one and what is allowed there.
+fn write_faulty(out: &mut Text, document: &Document<'_>, finding: &Finding) -> Result<()> {
+    let Some(same) = same_text(finding.fault) else {
+        write_subject(out, document, finding.place, finding.key.as_str())?;
+        out.write_all(b": ")?;
+        return write_allowed(out, document, finding);
+    };
+    write_row(out, document, finding.place)?;
+    if let Some(k) = finding.other {
+        out.write_all(b" and ")?;
+        write_row(out, document, row_like(finding.place, k))?;
     }
+    write!(out, ": {same}")
 }
 
-/// The file of a text, and the lines of its findings, of those that are known.
-#[derive(Clone, Copy)]
-pub(crate) struct Origin<'a> {
-    pub name: &'a str,
-    pub lines: &'a [Option<usize>],
+/// Writes the line of a finding of a document, or of a text that stops being TOML.
+fn write_finding(out: &mut Text, document: Option<&Document<'_>>, finding: &Finding) -> Result<()> {
+    let number = finding.fault.number();
+    write!(out, "{number} {}: ", finding.fault)?;
+    match (finding.place, document) {
+        (Place::Text(line, column), _) => {
+            write!(out, "line {line}, column {column}: {}", finding.key)?
+        }
+        (_, Some(document)) => write_faulty(out, document, finding)?,
+        (_, None) => {}
+    }
+    out.write_all(b"\n")
 }
 
 /// Writes the file of a finding, and its line, if that is known.
@@ -175,19 +172,19 @@ fn write_origin(out: &mut Text, name: &str, line: Option<usize>) -> Result<()> {
 /// The lines of findings.
 fn lines_of(
     alloc: Global,
-    document: &Document<'_>,
+    document: Option<&Document<'_>>,
     findings: &[Finding],
-    origin: Option<&Origin<'_>>,
+    name: Option<&str>,
+    lines: &[Option<usize>],
 ) -> Result<Text> {
-    let mut lines = Vec::new(alloc);
+    let mut text = Vec::new(alloc);
     for (k, finding) in findings.iter().enumerate() {
-        if let Some(origin) = origin {
-            let line = origin.lines.get(k).copied().flatten();
-            write_origin(&mut lines, origin.name, line)?;
+        if let Some(name) = name {
+            write_origin(&mut text, name, lines.get(k).copied().flatten())?;
         }
-        write_finding(&mut lines, document, finding)?;
+        write_finding(&mut text, document, finding)?;
     }
-    Ok(lines)
+    Ok(text)
 }
 
 /// Writes the number of findings.
@@ -214,53 +211,21 @@ fn write_rest(out: &mut Text, count: usize) -> Result<()>
     writeln!(out, "and {others} more")
 }
 
-/// The text of a document's findings: their number, a line for each of those kept, and the number of the others.
+/// The text of findings: their number, a line for each of those kept, and the number of the others. Each line begins
+/// with the name of the file of the text, if it has one, and the line of the finding there, if that is known.
 pub(crate) fn text_of(
     alloc: Global,
-    document: &Document<'_>,
+    document: Option<&Document<'_>>,
     found: &Found,
-    origin: Option<&Origin<'_>>,
+    name: Option<&str>,
+    lines: &[Option<usize>],
 ) -> Result<Text>
     ensures { IfOk result (λ text. HasLines found.now.count text.items) }
 {
     let mut text = Vec::new(alloc);
     write_count(&mut text, found.count)?;
-    let lines = lines_of(alloc, document, found.first.as_slice(), origin)?;
+    let lines = lines_of(alloc, document, found.first.as_slice(), name, lines)?;
     text.write_all(lines.as_slice())?;
     write_rest(&mut text, found.count)?;
-    Ok(text)
-}
-
-/// The line of a text that stops being TOML, with the message of the TOML parser.
-fn line_of_toml(
-    alloc: Global,
-    line: usize,
-    column: usize,
-    message: &str,
-    name: Option<&str>,
-) -> Result<Text> {
-    let mut text = Vec::new(alloc);
-    if let Some(name) = name {
-        write_origin(&mut text, name, Some(line))?;
-    }
-    writeln!(text, "1 Toml: line {line}, column {column}: {message}")?;
-    Ok(text)
-}
-
-/// The text for the place at which a text stops being TOML, and the message of the TOML parser.
-#[tactic(auto, unfolding(crate::specs::Explained::rest_line))]
-pub(crate) fn text_of_toml(
-    alloc: Global,
-    line: usize,
-    column: usize,
-    message: &str,
-    name: Option<&str>,
-) -> Result<Text>
-    ensures { IfOk result (λ text. HasLines 1 text.items) }
-{
-    let mut text = Vec::new(alloc);
-    write_count(&mut text, 1)?;
-    let told = line_of_toml(alloc, line, column, message, name)?;
-    text.write_all(told.as_slice())?;
     Ok(text)
 }

@@ -1,12 +1,12 @@
 -- A plan is valid exactly if it has no fault. Flows of a valid plan are distinct.
 use Rattle.std.proofs.Common.{◌≡◌, ℕ, suc, zero, ◌-◌, ◌<◌, ◌≤◌, inl, inr, ◌⊎◌, Bool, true, false, cond, List, [], ◌∷◌, length, get_or, Option, Some, None, refl, ap, sym, ◌∙◌, arith, eq-eqb, subst, ◌/◌, ◌%◌}
-use Rattle.std.specs.Prelude.{◌&&◌, ◌==◌, option_map, nat_lt, nat_eq, find, count_by, All, Contains, IfSome}
+use Rattle.std.specs.Prelude.{◌&&◌, ◌==◌, option_map, nat_lt, nat_eq, find, count_by, is_none, All, Contains, IfSome}
 use Rattle.std.specs.List.{list_any, AllByRecursion}
 use Rattle.std.proofs.Math.Bool.{and-false}
 use Rattle.std.proofs.lemmas.Bool.{or_parts, ltb-false, ne_eqb, false_from_ne_true, cases_Bool, cases_eq, cases_lt, not-false, or_from, le-ltb}
 use Rattle.std.proofs.lemmas.List.{get_or_default}
 use Rattle.std.proofs.lemmas.List.Elements.{All-contains, Contains-get_or}
-use Rattle.std.proofs.lemmas.List.Folds.{list_any_at, list_any_none}
+use Rattle.std.proofs.lemmas.List.Folds.{Any-from_list_any, list_any_at, list_any_none}
 use Rattle.std.proofs.lemmas.List.Sums.{sum_by-cons}
 use Rattle.std.proofs.lemmas.Slice.Eq.{bytes_eq-Decides}
 use Rattle.std.proofs.lemmas.Bool.Decides.{nat_tests}
@@ -18,7 +18,7 @@ use Rattle.afdx_plan.specs.declared.port_plan.PortPlan.{PortPlan}
 use Rattle.afdx_plan.specs.Address.{destination_of}
 use Rattle.afdx_plan.specs.Plan.{IsLink, IsPort, IsUnicast}
 use Rattle.afdx_plan.specs.Config.{Plan, IsPlan, HasLink, AreSameFlow, link_plan_at, port_plan_at, ports_on, FlowsApart}
-use Rattle.afdx_plan.specs.PlanFaults.{fault_number, has_pair, same_link, same_port, is_row_of, misfits, same_flow, share_unicast, are_one_destination, is_no_count, is_packed, plan_shows, least_plan_fault, link_whole, port_whole, PlanRule, plan_rules, breaks, parts_of}
+use Rattle.afdx_plan.specs.PlanFaults.{fault_number, has_pair, same_link, same_port, is_row_of, misfits, same_flow, share_unicast, are_one_destination, is_no_count, is_packed, least_plan_fault, link_whole, port_whole, PlanRule, plan_rules, breaks, parts_of, ValidPlansShowNoFault}
 use Rattle.afdx_plan.specs.declared.rows.Misfit.TheVariants.{NoLink, NoSub, TooLong}
 use Rattle.afdx_plan.specs.declared.fault.ConfigFault.{ConfigFault}
 
@@ -42,13 +42,13 @@ abbrev is_crowded : List PortPlan → PortPlan → Bool
 is_crowded ports port = is_packed port_whole ports port
 
 abbrev names_no_link : List LinkPlan → PortPlan → Bool
-names_no_link links port = misfits link_whole true links NoLink (port_whole port)
+names_no_link links port = misfits link_whole true (find (is_link_of port) links) NoLink (port_whole port)
 
 abbrev names_no_sub : List LinkPlan → PortPlan → Bool
-names_no_sub links port = misfits link_whole true links NoSub (port_whole port)
+names_no_sub links port = misfits link_whole true (find (is_link_of port) links) NoSub (port_whole port)
 
 abbrev is_too_long : List LinkPlan → PortPlan → Bool
-is_too_long links port = misfits link_whole true links TooLong (port_whole port)
+is_too_long links port = misfits link_whole true (find (is_link_of port) links) TooLong (port_whole port)
 
 -- no element passes a test that none passes
 pub none_at : {X : Type 0} (p : X → Bool) (xs : List X) (k : ℕ) (d : X) → list_any p xs ≡ false → k < length xs
@@ -76,14 +76,13 @@ one_place related xs i j d none in_i in_j one other =
     grind (arith, pair_at related xs i j d none, pair_at related xs j i d none)
 
 -- the index of the element that `find` returns
-pub record FoundAt (p : LinkPlan → Bool) (links : List LinkPlan) : Type 0 where
+record FoundAt (p : LinkPlan → Bool) (links : List LinkPlan) : Type 0 where
   pub at : ℕ
   pub within : at < length links
   pub passes : p (link_plan_at links at) ≡ true
   pub found : find p links ≡ Some (link_plan_at links at)
 
--- if some link passes, `find` returns one
-pub found_at : (p : LinkPlan → Bool) (links : List LinkPlan) → list_any p links ≡ true → FoundAt p links
+found_at : (p : LinkPlan → Bool) (links : List LinkPlan) → is_none (find p links) ≡ false → FoundAt p links
 found_at p [] some = cc
 found_at p (x ∷ xs) some = elim (cases_Bool (p x)) [
   | inl is ↦ record { at = 0; within = omega arith; passes = is; found = rw is refl }
@@ -103,7 +102,7 @@ named port link is = grind (arith, nat_tests)
 has_link : (links : List LinkPlan) (port : PortPlan) → names_no_link links port ≡ false
     → names_no_sub links port ≡ false → HasLink links port
 has_link links port linked sub =
-    let found = found_at (is_link_of port) links (not-false _ linked) in
+    let found = found_at (is_link_of port) links linked in
     record { at = found.at; within = found.within; over = grind (arith, nat_tests) }
 
 -- the member of a list at its index
@@ -120,7 +119,7 @@ fits : (links : List LinkPlan) (port : PortPlan) (link : LinkPlan) → has_pair 
     → names_no_link links port ≡ false → is_too_long links port ≡ false
     → Contains links link → port.kind ≡ Sampling → link.id ≡ port.vl → port.max ≤ link.lmax - 47
 fits links port link apart linked short member kind id =
-    let found = found_at (is_link_of port) links (not-false _ linked) in
+    let found = found_at (is_link_of port) links linked in
     let here = link_plan_at links found.at in
     let there = link_plan_at links member.0 in
     let same : there ≡ link = place_of links link _ member in
@@ -170,36 +169,23 @@ unicast ports p q address none in_p in_q of_p of_q partition = elim (cases_eq p.
       (shared q p address of_q of_p (sym partition) (λ same. apart (sym same))))
 ]
 
--- a port that passes a test
-record CountedAt (p : PortPlan → Bool) (ports : List PortPlan) : Type 0 where
-  at : ℕ
-  within : at < length ports
-  passes : p (port_plan_at ports at) ≡ true
-
--- if a count is not 0, some port passes its test
-counted : (p : PortPlan → Bool) (ports : List PortPlan) → 0 < count_by p ports → CountedAt p ports
-counted p [] some = absurd (omega arith)
-counted p (x ∷ xs) some = elim (cases_Bool (p x)) [
-  | inl is ↦ record { at = 0; within = omega arith; passes = is }
-  | inr isnt ↦
-      let step = sum_by-cons (λ y. cond {A = ℕ} (p y) 1 0) x xs in
-      let none : cond {A = ℕ} (p x) 1 0 ≡ 0 = rw isnt refl in
-      let behind = counted p xs (omega arith) in
-      record { at = suc behind.at; within = omega (arith, behind.within); passes = behind.passes }
-]
+-- none is counted if none passes
+none_counted : {X : Type 0} (p : X → Bool) (xs : List X) → list_any p xs ≡ false → count_by p xs ≡ 0
+none_counted p [] none = refl
+none_counted p (x ∷ xs) none = let step = sum_by-cons (λ y. cond {A = ℕ} (p y) 1 0) x xs in grind (arith, nat_tests, none_counted p xs)
 
 -- no sub-VL has too many ports, also none that has no port
 few : (ports : List PortPlan) (vl sub : ℕ) → list_any (is_crowded ports) ports ≡ false → ports_on ports vl sub ≤ 64
-few ports vl sub none = elim (cases_lt 64 (ports_on ports vl sub)) [
-  | inl many ↦
-      let there = counted (λ (port : PortPlan). nat_eq port.vl.0 vl && nat_eq port.sub sub) ports (omega arith) in
-      let port = port_plan_at ports there.at in
-      let same : ports_on ports port.vl.0 port.sub ≡ ports_on ports vl sub = grind (arith, nat_tests) in
-      let most = ltb-false 64 (ports_on ports port.vl.0 port.sub)
-      (none_at (is_crowded ports) ports there.at _ none there.within) in
-      omega arith
-  | inr fine ↦ fine
-]
+few ports vl sub none =
+    let on : PortPlan → Bool = λ port. nat_eq port.vl.0 vl && nat_eq port.sub sub in elim (cases_Bool (list_any on ports)) [
+      | inl some ↦
+          let there = Any-from_list_any on ports some in
+          let port = there.1 in
+          let same : ports_on ports port.vl.0 port.sub ≡ ports_on ports vl sub = grind (arith, nat_tests) in
+          let most = ltb-false 64 (ports_on ports port.vl.0 port.sub) (none_of (is_crowded ports) ports port none (there.0, there.2, there.3)) in
+          omega arith
+      | inr nowhere ↦ let zero = none_counted on ports nowhere in omega arith
+    ]
 
 -- a count within its limits
 counts : (most n : ℕ) → is_no_count most n ≡ false → (1 ≤ n) × (n ≤ most)
@@ -263,9 +249,15 @@ no_pair related (x ∷ xs) d apart = or_from _ _
     subst (λ y. related x y ≡ false) (get_or_default xs k d e below) (apart 0 (suc k) (omega arith) (omega arith))))
     (no_pair related xs d (λ i j before below. apart (suc i) (suc j) (omega arith) (omega arith)))
 
+-- `find` returns something if an element passes
+some_found : {X : Type 0} (p : X → Bool) (xs : List X) (i : ℕ) (d : X) → i < length xs → p (get_or xs i d) ≡ true → is_none (find p xs) ≡ false
+some_found p [] i d within passes = absurd (omega arith)
+some_found p (x ∷ xs) zero d within passes = rw passes refl
+some_found p (x ∷ xs) (suc i) d within passes = grind (arith, nat_tests, some_found p xs i d (omega arith) passes)
+
 -- a port with a link names one
-names_link : (plan : Plan) (port : PortPlan) → HasLink plan.links port → list_any (is_link_of port) plan.links ≡ true
-names_link plan port has = grind (arith, list_any_at, is_link_of, eq-eqb)
+names_link : (plan : Plan) (port : PortPlan) → HasLink plan.links port → names_no_link plan.links port ≡ false
+names_link plan port has = some_found (is_link_of port) plan.links has.at _ has.within (eq-eqb _ _ (ap (λ (v : VlId). v.0) has.over.id))
 
 -- the link of a port, as `find` returns it
 linked : (plan : Plan) (port : PortPlan) → HasLink plan.links port → FoundAt (is_link_of port) plan.links
@@ -310,54 +302,24 @@ no_fault_count most n least below = grind (arith, nat_tests)
 
 -- a valid plan breaks no rule
 unbroken : (plan : Plan) → IsPlan plan → Unbroken plan plan_rules
-unbroken plan is = (
-  no_pair has_same_vl plan.links (link_plan_at [] 0) (λ i j before below.
-      ne_eqb _ _ (λ number.
-      let vl : ℕ → VlId = λ n. record { 0 = n } in
-      let one : i ≡ j = is.links_apart i j (omega arith) below (ap vl number) in omega arith)),
-  (
-    no_pair has_same_port plan.ports (port_plan_at [] 0) (λ i j before below.
-        ne_eqb _ _ (λ number.
-        let port : ℕ → PortId = λ n. record { 0 = n } in
-        let one : i ≡ j = is.ports_apart i j (omega arith) below (ap port number) in omega arith)),
-    (
-      list_any_none (names_no_link plan.links) plan.ports (λ k d below. rw (names_link plan (get_or plan.ports k d) (is.linked k d below)) refl),
-      (
-        list_any_none (names_no_sub plan.links) plan.ports (λ k d below. names_sub plan (get_or plan.ports k d) is (is.linked k d below)),
-        (
-          list_any_none (is_too_long plan.links) plan.ports (λ k d below.
-              let port = get_or plan.ports k d in
-              long_one plan port is (Contains-get_or plan.ports k d below) (is.linked k d below)),
-          (
-            no_pair has_same_flow plan.ports (port_plan_at [] 0) (λ i j before below.
-                false_from_ne_true _ (λ one. apart_ports plan i j is before below
-                (is.flows_apart (port_plan_at plan.ports i) (port_plan_at plan.ports j)
-                (Contains-get_or plan.ports i (port_plan_at [] 0) (omega arith))
-                (Contains-get_or plan.ports j (port_plan_at [] 0) below)
-                (agree (port_plan_at plan.ports i) (port_plan_at plan.ports j) one)))),
-            (
-              no_pair shares_unicast plan.ports (port_plan_at [] 0) (λ i j before below.
-                  false_from_ne_true _ (no_share plan (port_plan_at plan.ports i) (port_plan_at plan.ports j) is
-                  (Contains-get_or plan.ports i (port_plan_at [] 0) (omega arith))
-                  (Contains-get_or plan.ports j (port_plan_at [] 0) below))),
-              (
-                no_fault_count 64 (length plan.links) is.links.0 is.links.1,
-                (
-                  no_fault_count 256 (length plan.ports) is.ports.0 is.ports.1,
-                  (
-                    list_any_none (is_crowded plan.ports) plan.ports (λ k d below.
-                        let port = get_or plan.ports k d in le-ltb 64 (ports_on plan.ports port.vl.0 port.sub) (is.few_ports port.vl.0 port.sub)),
-                    tt,
-                  ),
-                ),
-              ),
-            ),
-          ),
-        ),
-      ),
-    ),
-  ),
-)
+unbroken plan is =
+    let links = no_pair has_same_vl plan.links (link_plan_at [] 0) (λ i j before below. grind (arith, nat_tests, is.links_apart i j)) in
+    let ids = no_pair has_same_port plan.ports (port_plan_at [] 0) (λ i j before below. grind (arith, nat_tests, is.ports_apart i j)) in
+    let no_link = list_any_none (names_no_link plan.links) plan.ports (λ k d below. names_link plan (get_or plan.ports k d) (is.linked k d below)) in
+    let no_sub = list_any_none (names_no_sub plan.links) plan.ports (λ k d below. names_sub plan (get_or plan.ports k d) is (is.linked k d below)) in
+    let long = list_any_none (is_too_long plan.links) plan.ports (λ k d below.
+    long_one plan (get_or plan.ports k d) is (Contains-get_or plan.ports k d below) (is.linked k d below)) in
+    let flows = no_pair has_same_flow plan.ports (port_plan_at [] 0) (λ i j before below. false_from_ne_true _ (λ one.
+    apart_ports plan i j is before below (is.flows_apart (port_plan_at plan.ports i) (port_plan_at plan.ports j)
+    (Contains-get_or plan.ports i _ (omega arith)) (Contains-get_or plan.ports j _ below) (agree _ _ one)))) in
+    let shared = no_pair shares_unicast plan.ports (port_plan_at [] 0) (λ i j before below. false_from_ne_true _
+    (no_share plan (port_plan_at plan.ports i) (port_plan_at plan.ports j) is
+    (Contains-get_or plan.ports i _ (omega arith)) (Contains-get_or plan.ports j _ below))) in
+    let link_count = no_fault_count 64 (length plan.links) is.links.0 is.links.1 in
+    let port_count = no_fault_count 256 (length plan.ports) is.ports.0 is.ports.1 in
+    let crowd = list_any_none (is_crowded plan.ports) plan.ports (λ k d below.
+    let port = get_or plan.ports k d in le-ltb 64 (ports_on plan.ports port.vl.0 port.sub) (is.few_ports port.vl.0 port.sub)) in
+    (links, (ids, (no_link, (no_sub, (long, (flows, (shared, (link_count, (port_count, (crowd, tt))))))))))
 
 -- without a broken rule no fault is shown
 none_shown : (plan : Plan) (fault : ConfigFault) (some : List PlanRule) → Unbroken plan some
@@ -365,8 +327,8 @@ none_shown : (plan : Plan) (fault : ConfigFault) (some : List PlanRule) → Unbr
 none_shown plan fault [] whole = refl
 none_shown plan fault (r ∷ rest) whole = rw (whole.0, and-false (fault_number fault == fault_number r.fault)) (none_shown plan fault rest whole.1)
 
-pub faultless : (plan : Plan) → IsPlan plan → (fault : ConfigFault) → plan_shows fault plan ≡ false
-faultless plan is fault = none_shown plan fault plan_rules (unbroken plan is)
+pub faultless : ValidPlansShowNoFault
+faultless plan fault is = none_shown plan fault plan_rules (unbroken plan is)
 
 -- the law of flows, for a valid plan
 pub apart : (plan : Plan) → IsPlan plan → FlowsApart plan

@@ -1,5 +1,5 @@
 -- The numbers of the faults, and the faults of plans.
-use Rattle.std.specs.Prelude.{◌≡◌, ℕ, ◌-◌, codes, List, [], ◌∷◌, length, count_by, Bool, true, false, ◌||◌, ◌&&◌, ◌==◌, not, is_some, nat_eq, nat_lt, nat_le, bytes_eq, Option, Some, None, find, option_map}
+use Rattle.std.specs.Prelude.{◌≡◌, ℕ, ◌-◌, codes, List, [], ◌∷◌, length, count_by, Bool, true, false, ◌||◌, ◌&&◌, ◌==◌, not, is_none, is_some, nat_eq, nat_lt, nat_le, bytes_eq, Option, Some, None, find, option_map}
 use Rattle.std.specs.List.{list_any}
 use Rattle.std.specs.Option.{option_map_or}
 use Rattle.afdx_plan.specs.declared.link_plan.LinkPlan.{LinkPlan}
@@ -96,13 +96,11 @@ is_sampling Queuing = false
 
 -- a port does not fit its link, if `of` is the row of a link: there is none and all links are named, its sub-VL is
 -- not below the number of its link's, or it is a sampling port and its greatest message does not fit into a frame
-abbrev pub misfits : {L : Type 0} → (L → LinkRow) → Bool → List L → Misfit → PortRow → Bool
-misfits of named links NoLink port = (named && is_some port.vl) && not (list_any (λ l. is_row_of port (of l)) links)
-misfits of named links NoSub port =
-    option_map_or (λ l. both nat_le (of l).sub_vls port.sub) (find (λ l. is_row_of port (of l)) links) false
-misfits of named links TooLong port = option_map_or is_sampling port.kind false
-    && option_map_or (λ l. both (λ lmax most. nat_lt (lmax - 47) most) (of l).lmax port.max)
-    (find (λ l. is_row_of port (of l)) links) false
+abbrev pub misfits : {L : Type 0} → (L → LinkRow) → Bool → Option L → Misfit → PortRow → Bool
+misfits of named link NoLink port = (named && is_some port.vl) && is_none link
+misfits of named link NoSub port = option_map_or (λ l. both nat_le (of l).sub_vls port.sub) link false
+misfits of named link TooLong port = option_map_or is_sampling port.kind false
+    && option_map_or (λ l. both (λ lmax most. nat_lt (lmax - 47) most) (of l).lmax port.max) link false
 
 -- two ports are on the same sub-VL
 abbrev pub on_sub_of : PortRow → PortRow → Bool
@@ -164,7 +162,8 @@ abbrev pub breaks : {L P : Type 0} → Parts L P → Rule → Bool
 breaks parts (links_clash clash) = has_pair (λ a b. clash (parts.of_link a) (parts.of_link b)) parts.links
 breaks parts (ports_clash clash) = has_pair (λ a b. clash (parts.of_port a) (parts.of_port b)) parts.ports
 breaks parts (port_misfits misfit) =
-    list_any (λ p. misfits parts.of_link parts.named parts.links misfit (parts.of_port p)) parts.ports
+    list_any (λ p. misfits parts.of_link parts.named (find (λ l. is_row_of (parts.of_port p) (parts.of_link l)) parts.links)
+    misfit (parts.of_port p)) parts.ports
 breaks parts link_count = parts.has_links && is_no_count 64 (length parts.links)
 breaks parts port_count = parts.has_ports && is_no_count 256 (length parts.ports)
 breaks parts sub_is_packed = list_any (is_packed parts.of_port parts.ports) parts.ports

@@ -13,6 +13,7 @@ pub fn flows_apart(config: &Config)
 }
 
 /// A valid plan has none of the faults of plans. `Config::new` has the converse: it accepts parts without a fault.
+#[tactic(auto, using(crate::proofs::PlanLemmas::faultless))]
 pub fn valid_plans_show_no_fault()
     ensures { ValidPlansShowNoFault }
 {}

@@ -2,13 +2,13 @@
 ghost use Rattle.std.specs.Prelude.{◌≡◌, ◌==◌, ◌&&◌, nat_eq, not, find, option_copied, count_by, true, ℕ, length};
 ghost use Rattle.std.specs.List.{list_any};
 ghost use Rattle.afdx_plan.specs.Config.{ports_on};
-ghost use Rattle.afdx_plan.specs.PlanFaults.{has_pair, same_link, clashes, is_row_of, misfits, is_sampling, are_one_address, are_one_destination, same_flow, share_unicast, is_no_count, is_packed, least_plan_fault, link_whole, port_whole};
-ghost use Rattle.afdx_plan.specs.declared.rows.Misfit.TheVariants.{NoLink, NoSub, TooLong};
+ghost use Rattle.afdx_plan.specs.PlanFaults.{has_pair, same_link, clashes, is_row_of, misfits, are_one_address, are_one_destination, same_flow, share_unicast, is_no_count, is_packed, least_plan_fault, link_whole, port_whole};
 
 use crate::config::{LINKS_LIMIT, PORTS_LIMIT, SUB_PORTS_LIMIT};
 use crate::fault::ConfigFault;
 use crate::link_plan::LinkPlan;
 use crate::port_plan::{Kind, PortPlan};
+use crate::rows::Misfit;
 
 /// Two links have the same identifier.
 fn two_links_are_one(links: &[LinkPlan]) -> bool
@@ -28,18 +28,14 @@ fn is_again_in(link: &LinkPlan, others: &[LinkPlan]) -> bool
     others.iter().any(|other| link.id.0 == other.id.0)
 }
 
-/// Some port names a link that does not exist.
-fn some_port_has_no_link(links: &[LinkPlan], ports: &[PortPlan]) -> bool
-    ensures { result
-        ≡ list_any (λ p. misfits link_whole true links.now NoLink (port_whole p)) ports.now }
+/// Some port does not fit its link in this way.
+fn some_port_misfits(misfit: Misfit, links: &[LinkPlan], ports: &[PortPlan]) -> bool
+    ensures { result ≡ list_any (λ p. misfits link_whole true
+        (find (λ l. is_row_of (port_whole p) (link_whole l)) links.now) misfit (port_whole p)) ports.now }
 {
-    ports.iter().any(|port| !has_link(links, port))
-}
-
-fn has_link(links: &[LinkPlan], port: &PortPlan) -> bool
-    ensures { result ≡ list_any (λ l. is_row_of (port_whole port.now) (link_whole l)) links.now }
-{
-    links.iter().any(|link| link.id.0 == port.vl.0)
+    ports
+        .iter()
+        .any(|port| misfits(misfit, port, link_of(links, port)))
 }
 
 /// The link of a port.
@@ -50,40 +46,16 @@ fn link_of<'a>(links: &'a [LinkPlan], port: &PortPlan) -> Option<&'a LinkPlan>
     links.iter().find(|link| link.id.0 == port.vl.0)
 }
 
-/// Some port names a sub-VL that does not exist.
-fn some_port_has_no_sub(links: &[LinkPlan], ports: &[PortPlan]) -> bool
-    ensures { result
-        ≡ list_any (λ p. misfits link_whole true links.now NoSub (port_whole p)) ports.now }
+fn misfits(misfit: Misfit, port: &PortPlan, link: Option<&LinkPlan>) -> bool
+    ensures { result ≡ misfits link_whole true (option_copied link.entry) misfit (port_whole port.now) }
 {
-    ports.iter().any(|port| has_no_sub(links, port))
-}
-
-fn has_no_sub(links: &[LinkPlan], port: &PortPlan) -> bool
-    ensures { result ≡ misfits link_whole true links.now NoSub (port_whole port.now) }
-{
-    match link_of(links, port) {
-        Some(link) => link.sub_vls <= port.sub,
-        None => false,
-    }
-}
-
-/// The greatest message of some sampling port does not fit into one frame.
-fn some_port_is_too_long(links: &[LinkPlan], ports: &[PortPlan]) -> bool
-    ensures { result
-        ≡ list_any (λ p. misfits link_whole true links.now TooLong (port_whole p)) ports.now }
-{
-    ports.iter().any(|port| is_too_long(links, port))
-}
-
-fn is_too_long(links: &[LinkPlan], port: &PortPlan) -> bool
-    ensures { result ≡ misfits link_whole true links.now TooLong (port_whole port.now) }
-{
-    match port.kind {
-        Kind::Queuing => false,
-        Kind::Sampling => match link_of(links, port) {
-            Some(link) => (link.lmax.bytes() as usize) - 47 < port.max,
-            None => false,
-        },
+    match (misfit, link) {
+        (Misfit::NoLink, _) => link.is_none(),
+        (Misfit::NoSub, Some(link)) => link.sub_vls <= port.sub,
+        (Misfit::TooLong, Some(link)) => {
+            matches!(port.kind, Kind::Sampling) && (link.lmax.bytes() as usize) - 47 < port.max
+        }
+        (_, None) => false,
     }
 }
 
@@ -194,31 +166,25 @@ pub(crate) fn plan_fault(links: &[LinkPlan], ports: &[PortPlan]) -> Option<Confi
     ensures { result ≡ least_plan_fault links.now ports.now }
 {
     if two_links_are_one(links) {
-        return Some(ConfigFault::DuplicateVl);
+        Some(ConfigFault::DuplicateVl)
+    } else if two_ports_clash(Clash::Identifier, ports) {
+        Some(ConfigFault::DuplicatePort)
+    } else if some_port_misfits(Misfit::NoLink, links, ports) {
+        Some(ConfigFault::NoSuchVl)
+    } else if some_port_misfits(Misfit::NoSub, links, ports) {
+        Some(ConfigFault::NoSuchSub)
+    } else if some_port_misfits(Misfit::TooLong, links, ports) {
+        Some(ConfigFault::SamplingTooLong)
+    } else if two_ports_clash(Clash::Flow, ports) {
+        Some(ConfigFault::SameFlow)
+    } else if two_ports_clash(Clash::Address, ports) {
+        Some(ConfigFault::SharedUnicast)
+    } else if is_no_count(LINKS_LIMIT, links.len())
+        || is_no_count(PORTS_LIMIT, ports.len())
+        || some_sub_is_crowded(ports)
+    {
+        Some(ConfigFault::Limit)
+    } else {
+        None
     }
-    if two_ports_clash(Clash::Identifier, ports) {
-        return Some(ConfigFault::DuplicatePort);
-    }
-    if some_port_has_no_link(links, ports) {
-        return Some(ConfigFault::NoSuchVl);
-    }
-    if some_port_has_no_sub(links, ports) {
-        return Some(ConfigFault::NoSuchSub);
-    }
-    if some_port_is_too_long(links, ports) {
-        return Some(ConfigFault::SamplingTooLong);
-    }
-    if two_ports_clash(Clash::Flow, ports) {
-        return Some(ConfigFault::SameFlow);
-    }
-    if two_ports_clash(Clash::Address, ports) {
-        return Some(ConfigFault::SharedUnicast);
-    }
-    if is_no_count(LINKS_LIMIT, links.len()) {
-        return Some(ConfigFault::Limit);
-    }
-    if is_no_count(PORTS_LIMIT, ports.len()) || some_sub_is_crowded(ports) {
-        return Some(ConfigFault::Limit);
-    }
-    None
 }

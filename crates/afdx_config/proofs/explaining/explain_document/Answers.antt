@@ -1,8 +1,15 @@
-use Rattle.afdx_config.proofs.Names.{sym, ◌∙◌}
+use Rattle.std.proofs.lemmas.Result.{IfOk-weaker}
+use Rattle.afdx_config.proofs.Names.{◌≡◌, map, finding_of, table_view, sym, ◌∙◌}
 use Rattle.afdx_config.proofs.OrderLemmas.{length_by_fault}
+use Rattle.afdx_config.specs.Explained.{TellsDocument}
+use Rattle.afdx_config.specs.declared.explaining.Explanation.{Explanation}
 use Rattle.afdx_config.proofs.explaining.explain_document.Goals as goal
 
 pub returns-clause-findings : goal.returns-clause-findings
 returns-clause-findings c =
     let held = rw c.in_ok-document.ensures.same at c.in_ok-found.ensures in
-    rw c.explanation_of.ensures (record { findings_are = held.first_are; count_is = held.count_is ∙ sym (length_by_fault _) })
+    IfOk-weaker c.explanation_of.result
+    (λ (e : Explanation). (e.findings ≡ c.in_ok-found.found.first) × (e.count ≡ c.in_ok-found.found.count))
+    (λ (e : Explanation). TellsDocument (table_view c.args.table.now) (map finding_of e.findings.items) e.count)
+    (λ e same. rw (same.0, same.1) (record { findings_are = held.first_are; count_is = held.count_is ∙ sym (length_by_fault _) }))
+    c.explanation_of.ensures.findings

@@ -7,4 +7,4 @@ pub unreachable-requires : goal.unreachable-requires
 unreachable-requires c =
     let none = fine (data_of c.args.document.now) (plan_in c.in-Ok-parts_of.parts)
     (no_first _ (sym c.in-Ok.ensures ∙ c.in_default-first.is)) c.in-Ok-parts_of.ensures.value in
-    let some = c.in-Err-new.ensures.fault in cc
+    let some = c.in-Err.ensures.fault in cc
