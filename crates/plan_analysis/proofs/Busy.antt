@@ -1,5 +1,5 @@
 -- What ports with periods hand over, the longest busy time of their sub-VL, and the times at which waits are greatest.
-use Rattle.std.proofs.Common.{ℕ, zero, suc, ◌≡◌, ◌+◌, ◌-◌, ◌*◌, ◌/◌, ◌<◌, ◌≤◌, List, [], ◌∷◌, length, get_or, arith, refl, ap, ◌∙◌, sym, inl, inr, max, below_more, ◌++◌, map}
+use Rattle.std.proofs.Common.{ℕ, zero, suc, ◌≡◌, ◌+◌, ◌-◌, ◌*◌, ◌/◌, ◌<◌, ◌≤◌, List, [], ◌∷◌, length, get_or, arith, refl, ap, ◌∙◌, sym, inl, inr, ◌⊎◌, max, below_more, ◌++◌, map}
 use Rattle.std.proofs.lemmas.List.{get_or_append_left, get_or_default, get_or_push}
 use Rattle.std.specs.Prelude.{All}
 use Rattle.std.specs.Int.{div_ceil}
@@ -136,37 +136,25 @@ module _ (round : ℕ) (flows : List Flow) (turns : 1 ≤ round) (good : All IsF
       let one = mul-suc round busy_limit in
       omega arith
 
+-- a flow for the place past the last one
+lone : Flow
+lone = record { fragments = 1; period = 1 }
+
 -- the latest multiple of a period by a time
 abbrev pub multiple : ℕ → Flow → ℕ
 multiple t f = t / f.period * f.period
 
-record IsLatest (t : ℕ) (flows : List Flow) (d : Flow) : Type 0 where
-  pub at : ℕ
-  pub within : at < length flows
-  pub most : All (λ (f : Flow). multiple t f ≤ multiple t (get_or flows at d)) flows
-
-latest : (t : ℕ) (f : Flow) (flows : List Flow) (d : Flow) → IsLatest t (f ∷ flows) d
-latest t f [] d = record {
-  at = 0;
-  within = omega arith;
-  most = All-cons (λ (g : Flow). multiple t g ≤ multiple t f) f [] (omega arith) (All-nil _);
-}
-latest t f (g ∷ flows) d =
-    let rest = latest t g flows d in
-    let q : Flow = get_or (g ∷ flows) rest.at d in
-    elim (cases_lt (multiple t q) (multiple t f)) [
-      | inl less ↦ record {
-        at = 0;
-        within = omega arith;
-        most = All-cons (λ (e : Flow). multiple t e ≤ multiple t f) f (g ∷ flows) (omega arith)
-            (All-weaker (λ (e : Flow). multiple t e ≤ multiple t q) (λ (e : Flow). multiple t e ≤ multiple t f) (λ e h. omega arith) (g ∷ flows) rest.most);
-      }
-      | inr more ↦ record {
-        at = suc rest.at;
-        within = omega (arith, rest.within);
-        most = All-cons (λ (e : Flow). multiple t e ≤ multiple t q) f (g ∷ flows) more rest.most;
-      }
-    ]
+-- a time is a multiple of some period, or none has one after the time before
+at_multiple : (t : ℕ) (flows : List Flow) (d : Flow)
+    → ((i : ℕ) × (i < length flows) × (t < multiple (suc t) (get_or flows i d))) ⊎ All (λ f. multiple (suc t) f ≤ t) flows
+at_multiple t [] d = inr (All-nil _)
+at_multiple t (f ∷ flows) d = elim (cases_lt t (multiple (suc t) f)) [
+  | inl here ↦ inl (0, omega arith, here)
+  | inr before ↦ elim (at_multiple t flows d) [
+    | inl later ↦ inl (suc later.0, omega (arith, later.1), later.2)
+    | inr none ↦ inr (All-cons (λ g. multiple (suc t) g ≤ t) f flows before none)
+  ]
+]
 
 -- nothing comes between a time and the multiples by it
 same_arrived : (flows : List Flow) (s t : ℕ) → All IsFlow flows → All (λ (f : Flow). multiple t f ≤ s) flows → s ≤ t
@@ -191,17 +179,20 @@ AreCovered round flows busy longest many = (i : ℕ) (d : Flow) → i < many →
 pub by_multiples : (round : ℕ) (flows : List Flow) (busy longest : ℕ) → All IsFlow flows → 1 ≤ length flows
     → AreCovered round flows busy longest (length flows)
     → (t : ℕ) → t ≤ busy → wait_at round flows t ≤ longest
-by_multiples round [] busy longest good some covered t le = absurd (omega arith)
-by_multiples round (f ∷ flows) busy longest good some covered t le =
-    let all : List Flow = f ∷ flows in
-    let at = latest t f flows f in
-    let q : Flow = get_or all at.at f in
-    let s : ℕ = t / q.period * q.period in
-    let before : s ≤ t = div-mul-le_self t q.period in
-    let same = same_arrived all s t good at.most before in
-    let whole = mul-le round (arrived all t) round (arrived all s) (omega arith) same in
-    let own : wait_at round all s ≤ longest = covered at.at f at.within (t / q.period) (omega arith) in
-    omega arith
+by_multiples round flows busy longest good some covered zero le =
+    let start : 0 * (get_or flows 0 lone).period ≡ 0 = omega arith in rw start at (covered 0 lone (omega arith) 0 (omega arith))
+by_multiples round flows busy longest good some covered (suc t) le = elim (at_multiple t flows lone) [
+  | inl here ↦
+      let p : ℕ = (get_or flows here.0 lone).period in
+      let below = div-mul-le_self (suc t) p in
+      let is : suc t / p * p ≡ suc t = omega (arith, here.2) in
+      rw is at (covered here.0 lone here.1 (suc t / p) (omega arith))
+  | inr none ↦
+      let before = by_multiples round flows busy longest good some covered t (omega arith) in
+      let same = same_arrived flows t (suc t) good none (omega arith) in
+      let whole = mul-le round (arrived flows (suc t)) round (arrived flows t) (omega arith) same in
+      omega arith
+]
 
 -- the greater of two such waits
 pub max_within : (round : ℕ) (flows : List Flow) (end a b c : ℕ) → c ≡ max a b → IsWaitWithin round flows end a → IsWaitWithin round flows end b

@@ -1,6 +1,6 @@
-use Rattle.std.proofs.Common.{ℕ, ◌+◌, ◌-◌, ◌*◌, arith}
+use Rattle.std.proofs.Common.{ℕ, ◌+◌, ◌-◌, ◌*◌, ◌≤◌, arith}
 use Rattle.std.proofs.lemmas.Nat.{mul-le}
-use Rattle.plan_analysis.proofs.Bounds.{bag_most}
+use Rattle.afdx_plan.specs.Plan.{bag_micros}
 use Rattle.plan_analysis.proofs.fragments.message_wait.Goals as goal
 
 pub overflow_mul-result-2 : goal.overflow_mul-result-2
@@ -9,6 +9,6 @@ overflow_mul-result-2 c =
     let queued = mul-le (link.capacity - 1) c.args.most 255 342 (omega arith) (omega arith) in
     let before : ℕ = (link.capacity - 1) * c.args.most + c.saturating_sub.result + c.args.own in
     let rounds = mul-le c.args.used before 4 (255 * 342 + 684) (omega arith) (omega arith) in
-    let gap = bag_most link.bag in
+    let gap : bag_micros link.bag ≤ 128000 = grind arith in
     let wait = mul-le (c.args.used * before) (c.micros.result + c.args.late) (4 * (255 * 342 + 684)) 1128000 (omega arith) (omega arith) in
     omega arith

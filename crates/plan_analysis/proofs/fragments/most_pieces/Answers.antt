@@ -1,7 +1,10 @@
-use Rattle.std.proofs.Common.{arith}
-use Rattle.plan_analysis.proofs.Bounds.{most_push}
+use Rattle.std.proofs.Common.{arith, refl}
 use Rattle.std.proofs.lemmas.Grind.{common_steps}
+use Rattle.std.proofs.lemmas.List.Recursion.{max_push}
+use Rattle.plan_analysis.specs.Wait.{pieces_on, most_pieces}
 use Rattle.plan_analysis.proofs.fragments.most_pieces.Goals as goal
 
 pub loop-port-preserved : goal.loop-port-preserved
-loop-port-preserved c = grind (arith, common_steps, most_push c.args.link.now c.args.sub)
+loop-port-preserved c =
+    let link = c.args.link.now in
+    grind (arith, common_steps, max_push (most_pieces link c.args.sub) (pieces_on link c.args.sub) refl (λ x xs. refl))
