@@ -93,10 +93,7 @@ any_pair related all before (x ∷ xs) k is at =
     let rest = any_pair related all (before ++ x ∷ []) xs (k + 1) (is ∙ sym (append_assoc before (x ∷ []) xs))
     (rw (length-append before (x ∷ [])) (omega arith)) in
     rw (this, rest, more_before related before x xs)
-    (shuffle (list_any (λ e. related e x) before) (list_any (λ y. list_any (λ e. related e y) before) xs) (list_any (related x) xs) (has_pair related xs))
-  where
-    shuffle : (a b c d : Bool) → (a || ((b || c) || d)) ≡ ((a || b) || (c || d))
-    shuffle a b c d = grind arith
+    (grind arith)
 
 pairs_shown : {A : Type 0} (f g : ConfigFault) (key : List ℕ) (at : ℕ → Place) (related : A → A → Bool) (rows : List A)
     → list_any (has f) (pair_findings g key at related rows) ≡ (same f g && has_pair related rows)

@@ -84,18 +84,13 @@ pub(crate) fn port_ids(alloc: Global, ports: &[PortRow]) -> Result<Vec<Option<u1
 fn flow_of(port: &PortRow) -> Option<Flow>
     ensures { result ≡ flow_of port.now }
 {
-    match (
-        port.vl,
-        port.partition,
-        port.source,
-        port.destination,
-        port.unicast,
-    ) {
-        (Some(vl), Some(partition), Some(source), Some(destination), Some(unicast)) => {
-            Some((vl, partition, source, destination, unicast))
-        }
-        _ => None,
-    }
+    Some((
+        port.vl?,
+        port.partition?,
+        port.source?,
+        port.destination?,
+        port.unicast?,
+    ))
 }
 
 /// The flows of ports.

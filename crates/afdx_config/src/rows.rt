@@ -58,13 +58,11 @@ fn link_row(table: &Table) -> LinkRow
 fn sound_kind(table: &Table) -> Option<Kind>
     ensures { result ≡ (port_row (table_view table.now)).kind }
 {
-    match field_fault(table, &Field("kind", true, Content::PortKind)) {
-        None => {
-            let kind = text(table, "kind").and_then(kind_named);
-            Some(kind.unwrap_or(Kind::Sampling))
-        }
-        Some(_) => None,
+    if !is_sound(table, &Field("kind", true, Content::PortKind)) {
+        return None;
     }
+    let kind = text(table, "kind").and_then(kind_named);
+    Some(kind.unwrap_or(Kind::Sampling))
 }
 
 /// The unicast address of a port, if its key has no fault.
@@ -72,10 +70,9 @@ fn sound_kind(table: &Table) -> Option<Kind>
 fn sound_unicast(table: &Table) -> Option<Option<[u8; 4]>>
     ensures { result ≡ (port_row (table_view table.now)).unicast }
 {
-    match field_fault(table, &Field("dest_ip", false, Content::Address)) {
-        None => Some(text(table, "dest_ip").and_then(unicast_address)),
-        Some(_) => None,
-    }
+    is_sound(table, &Field("dest_ip", false, Content::Address)).then(|| text(
+        table, "dest_ip",
+    ).and_then(unicast_address))
 }
 
 /// The port of a table that has none of the keys of a port.

@@ -23,10 +23,8 @@ type First = (usize, u16, Option<usize>);
 fn address_of(port: &PortRow) -> Option<(Address, u16)>
     ensures { result ≡ address_of port.now }
 {
-    match (port.vl, port.partition, port.unicast) {
-        (Some(vl), Some(partition), Some(Some(address))) => Some(((partition, address), vl)),
-        _ => None,
-    }
+    let vl = port.vl?;
+    Some(((port.partition?, port.unicast??), vl))
 }
 
 /// The first of the ports with an address that is on another link than this one.
