@@ -6,7 +6,7 @@
    Both send the same messages and make the same frames, which is checked first. Then each work is measured in turn, the
    library and the other, ROUNDS times each (11 by default), and one line is printed: the least nanoseconds of each, the
    ratio of these, and the least, median and greatest ratio of a repetition. PARTS is a program in Rattle that times what a
-   call of the library hides ("alone"), and sends and polls without that call ("in Rattle"): crates/timing.
+   call of the library hides ("alone"), and sends and polls without that call ("in Rattle"): crates/probes.
    The rows of lwIP compare the library's frames for two networks with lwIP's for one that only touches them. Below are the
    time of a call that only looks into its handle, and that of one poll of 64 virtual links that are all due, as a
    distribution. The exit status is 0 if the frames were equal.
@@ -93,6 +93,9 @@ static double none_due(struct side *side, const struct work *work) {
     return (now_ns() - begun) / work->units;
 }
 
+/* The sum of what two networks have read of the frames that were cut alone by hand. */
+static uint64_t touched;
+
 /* By hand alone: the cutting of messages that are made before, of less than 128 KB, as by the program of parts, whose
    allocator gives more than that back to the system when it is freed. */
 static double frames_alone(struct side *side, const struct work *work) {
@@ -106,7 +109,7 @@ static double frames_alone(struct side *side, const struct work *work) {
             memcpy(messages[j], message, work->length);
         }
         double begun = now_ns();
-        want(hand_cut(side->hand, messages, batch, work->length) > 0, "no frames");
+        touched = hand_cut(side->hand, messages, batch, work->length);
         sum += now_ns() - begun;
     }
     return sum / work->units;
@@ -208,6 +211,19 @@ static const struct work WORKS[] = {
     {"lwIP: 8,192 bytes", {1, 1518, 2, 1, GREATEST}, 8192, 0, by_lwip, 20480, NULL},
 #endif
 };
+
+/* That the program of parts makes the same frames: that networks read the same of them, at each place in turn. */
+static void check_parts(void) {
+    static struct side sides[2];
+    for (size_t k = 0; k < sizeof WORKS / sizeof *WORKS; k++) {
+        const struct work *work = &WORKS[k];
+        if (work->measured != frames_alone) continue;
+        open_both(sides, work->plan);
+        work->measured(&sides[1], work);
+        want(printed(started("touched", work->length, work->units)) == (double)touched, "other frames alone");
+        close_both(sides);
+    }
+}
 
 static int by_size(const void *a, const void *b) {
     double x = *(const double *)a, y = *(const double *)b;

@@ -48,8 +48,15 @@ struct out {
     struct kept kept[HAND_LINKS];
 };
 
+/* A network that reads a byte of each frame, at each place in turn, and keeps no frame. */
+struct touch {
+    uint64_t sum;
+    size_t place;
+};
+
 struct hand {
     unsigned links, ports;
+    struct touch touched[2];
     struct link link[HAND_LINKS];
     struct port port[HAND_PORTS];
     struct out out[2];
@@ -252,12 +259,6 @@ const uint8_t *hand_frame(const struct hand *it, unsigned network, size_t k, siz
     return kept->frame;
 }
 
-/* A network that reads a byte of each frame, at each place in turn, and keeps no frame. */
-struct touch {
-    uint64_t sum;
-    size_t place;
-};
-
 static void touch(struct touch *network, const uint8_t *frame, size_t length) {
     if (network->place < length) {
         network->sum += frame[network->place++];
@@ -267,7 +268,7 @@ static void touch(struct touch *network, const uint8_t *frame, size_t length) {
 }
 
 uint64_t hand_cut(struct hand *it, uint8_t *const *messages, unsigned count, size_t length) {
-    struct touch a = {0, 0}, b = {0, 0};
+    struct touch a = it->touched[0], b = it->touched[1];
     struct link *link = &it->link[0];
     uint8_t frame[HAND_FRAME];
     link->total = 8 + length;
@@ -283,6 +284,8 @@ uint64_t hand_cut(struct hand *it, uint8_t *const *messages, unsigned count, siz
         free(messages[k]);
     }
     link->cut.bytes = NULL;
+    it->touched[0] = a;
+    it->touched[1] = b;
     return a.sum + b.sum;
 }
 

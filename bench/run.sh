@@ -5,7 +5,7 @@
 #     bash bench/run.sh --duties [ROUNDS]
 #     bash bench/run.sh --against OLD.a [ROUNDS]
 #
-# It proves and builds the library and the program of crates/timing where they are missing, as in a fresh clone. With
+# It proves and builds the library and the program of crates/probes where they are missing, as in a fresh clone. With
 # --few, as in the test command, it measures each work once, with and without --duties, which shows that the bench works
 # and that all make the same frames; its last line counts. With --duties the transmitter in C has the library's duties
 # too (hand.h): what is left is the cost of how the library does them. With --against it compares the library with an
@@ -25,9 +25,9 @@ kit=$(dirname "$(rt doc)")
 room=$(mktemp -d)
 trap 'rm -r "$room"' EXIT
 library=../crates/afdx/out/libafdx.a
-parts=../crates/timing/out/timing
+parts=../crates/probes/out/probes
 [ -f "$library" ] || (cd ../crates/afdx && rt lib)
-[ -x "$parts" ] || [ -n "$old" ] || (cd ../crates/timing && rt run -- bytes 1 1 <stdin >"$room/out")
+[ -x "$parts" ] || [ -n "$old" ] || (cd ../crates/probes && rt run >"$room/out")
 lwip=()
 if [ -z "$old" ] && echo '#include <lwip/udp.h>' | ${CC:-cc} -I/usr/include/lwip -E - >"$room/out" 2>&1; then
     lwip=(-DWITH_LWIP -isystem /usr/include/lwip lwip.c -llwip)

@@ -105,34 +105,3 @@ double printed(FILE *program) {
     want(program && fscanf(program, "%lf", &number) == 1 && pclose(program) == 0, "a program doesn't answer");
     return number;
 }
-
-/* Whether a line is the one of a frame at 0. */
-static bool is_line(const char *line, const uint8_t *frame, size_t length) {
-    if (strlen(line) != 5 + 2 * length) return false;
-    for (size_t i = 0; i < length; i++) {
-        unsigned byte;
-        if (sscanf(line + 4 + 2 * i, "%2x", &byte) != 1 || byte != frame[i]) return false;
-    }
-    return true;
-}
-
-void check_parts(void) {
-    static const size_t lengths[] = {1, 17, 100, 1471, 1472, 8192};
-    static struct side sides[2];
-    static char line[2 * HAND_FRAME + 8];
-    for (size_t m = 0; m < sizeof lengths / sizeof *lengths; m++) {
-        FILE *program = NULL;
-        for (unsigned net = 0; net < 2; net++) {
-            open_both(sides, (struct plan){1, 1518, 2, 1, GREATEST});
-            if (net == 0) program = started("bytes", lengths[m], 1);
-            send_bytes(&sides[1], 0, message, lengths[m]);
-            for (poll_due(&sides[1]); hand_frames(sides[1].hand, net) > 0; poll_due(&sides[1])) {
-                size_t length;
-                const uint8_t *frame = hand_frame(sides[1].hand, net, 0, &length);
-                want(program && fgets(line, sizeof line, program) && is_line(line, frame, length), "other frames alone");
-            }
-            close_both(sides);
-        }
-        want(!fgets(line, sizeof line, program) && pclose(program) == 0, "more frames alone");
-    }
-}

@@ -67,7 +67,4 @@ FILE *started(const char *part, size_t size, unsigned units);
 /* The number that a program prints. */
 double printed(FILE *program);
 
-/* That the program of parts makes the same frames of a message, those for network A first. */
-void check_parts(void);
-
 #endif

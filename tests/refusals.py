@@ -3,7 +3,7 @@
 
     python3 tests/refusals.py
 
-It runs what `rt ci` has built, the programs `refusals`, which has a case for each call that may want memory, and
+It runs what `rt ci` has built, the programs `probes`, which has a case for each call that may want memory, and
 `afdx_bench` as each compiler makes them, with `tests/refuse.c` preloaded: a run for each request for memory or for a
 thread, which is refused, until a run makes fewer requests. Each run has to end as is promised, with no signal. Likewise
 each write of the program fails once, and the program may try no other after it. The last line is 'N passed, M failed',
@@ -126,7 +126,7 @@ def main():
     tries = Tries()
     with tempfile.TemporaryDirectory(prefix="refusals-") as room:
         bench = Bench(room)
-        for name, cases in (("refusals", CASES), ("afdx_bench", COMMANDS)):
+        for name, cases in (("probes", CASES), ("afdx_bench", COMMANDS)):
             for build, program in built(name).items():
                 for case in cases:
                     tries.attempt(f"{case.name} by {build}", lambda: tried_case(bench, program, case))

@@ -1,4 +1,5 @@
 """What runs of the built programs may come to when requests for memory are refused: each way to end, by its name."""
+import re
 import sys
 
 from trying import DEMO, HELP, ONE_FRAME, REPORT, ROOT, SCRIPT, WRONG, text_of, totals
@@ -40,13 +41,12 @@ class Case:
         return None
 
 
-# What each case of the program `refusals` prints when memory is ample: its stored run.
-PARTS = [part.partition("\n") for part in text_of("crates/refusals/stdout").split("== ")[1:]]
+# What each case of the program `probes` prints when memory is ample: its stored run.
+PARTS = [part.partition("\n") for part in text_of("crates/probes/stdout").split("== ")[1:]]
 STORED = {name: text for name, _, text in PARTS}
 # Memory was refused to what a case makes before its call.
-BEFORE = ("before the call", lambda ran: ran.ended(4, "", "no memory before the call\n"))
-# And to the opening of an emitter.
-NOT_OPENED = ("refused by open_tx", lambda ran: ran.ended(4, "", "refused OpenFault\n"))
+UNPREPARED = "no memory before the call\n"
+BEFORE = ("before the call", lambda ran: ran.ended(1, "", UNPREPARED))
 
 
 def call(name):
@@ -63,75 +63,60 @@ def shown(case):
     return case
 
 
-def opening():
-    note = f"refused OpenFault\n{REPORT}A takes 1, has 0, failures 0\nB takes 4, has 0, failures 0\n"
-    outputs = {"answered": [STORED["open_tx"]], "refused": [note + STORED["open_tx"]]}
-    return Case("open_tx", ["open_tx"], outputs, ["refused"], [BEFORE])
-
-
 def handed(a, b):
-    """What is printed of two polls in which these hands of A and B fail, counted from 1."""
-    text = "send: Ok(())\n" * 2
+    """What is printed of two polls in which these hands of A and B fail, counted from 1, and then of the refusal."""
+    text = "Ok(())\n" * 2
     for hand in (1, 2):
         up = [str(hand < first).lower() for first in (a, b)]
         ends = f"released {int('true' in up)}, Standing {{ a: {up[0]}, b: {up[1]} }}"
         text += f"poll {1000 * (hand - 1)}: {'BothDown' if a < hand and b < hand else ends}\n"
-    return text + "".join(f"{net}: handed {min(k - 1, 2)}, failures {int(k <= 2)}\n" for net, k in (("A", a), ("B", b)))
+    return f"{text}frames {(a - 1, b - 1)}, failures {(int(a < 3), int(b < 3))}\nrefused\n"
 
 
-def hands(many):
-    """Networks in memory of two emitters; the second is used if a network of the first failed."""
-    text, never = STORED["hand"], 3
-    a_down, b_down = [handed(k, never) for k in (1, 2)], [handed(never, k) for k in (1, 2)]
-    outputs = {
-        "answered": [text],
-        "A went down": [first + text for first in a_down],
-        "B went down": [first + text for first in b_down],
-    }
+def opening(many):
+    """An emitter over networks in memory, of which A fails at its second hand, and B never, unless memory is refused. It is
+    opened with what `open_tx` returned if that was refused, and all is done again if a network failed for memory."""
+    text, (config,) = STORED["open_tx"], re.findall(r"^Ok\((.*)\)$", STORED["demo_config"], re.MULTILINE)
+    note, b_down = f"refused OpenFault, {config}\n", [handed(2, k) for k in (1, 2)]
+    outputs = {"answered": [text], "refused by open_tx": [note + text]}
     if many == 1:
-        return Case("hand", ["hand"], outputs, ["A went down", "B went down"], [BEFORE, NOT_OPENED])
-    both_down = [handed(a, b) + text for a in (1, 2) for b in (1, 2)]
-    each = [first + second for first in a_down + b_down for second in a_down + b_down]
-    outputs.update({"both went down": both_down, "one of each emitter went down": each})
-    return Case("hand", ["hand"], outputs, ["both went down"], [BEFORE, NOT_OPENED], many=many)
+        outputs |= {"A went down": [handed(1, 3) + text], "B went down": [down + text for down in b_down]}
+        return Case("open_tx", ["open_tx"], outputs, [*outputs][1:], [BEFORE])
+    outputs |= {"both went down": [handed(1, k) + text for k in (1, 2)]}
+    twice = ("refused by open_tx twice", lambda ran: ran.ended(1, note, "refused OpenFault\n"))
+    again = ("before the second call", lambda ran: any(ran.ended(1, down, UNPREPARED) for down in b_down))
+    return Case("open_tx", ["open_tx"], outputs, [*outputs][1:] + [twice[0], again[0]], [BEFORE, twice, again], many=many)
 
 
 def storm(many):
     """A storm, and another one if the first was refused or had a network that failed."""
     text, note = STORED["storm"], "refused\n"
     if many == 0:
-        again = ("refused", lambda ran: ran.ended(4, note, "no memory before the call\n"))
+        again = ("refused", lambda ran: ran.ended(1, note, UNPREPARED))
         return Case("storm", ["storm"], {"answered": [text]}, ["refused"], [BEFORE, again], many=0)
-    differs = text.replace("networks equal", "networks differ")
+    differs = text.replace("equal true", "equal false")
     outputs = {"answered": [text], "refused": [note + text], "a network went down": [differs + note + text]}
     return Case("storm", ["storm"], outputs, ["refused", "a network went down"], [BEFORE])
 
 
-def quiet(name, early):
+def quiet():
     """A case in which nothing may be refused once it has begun to print."""
-    ends = [BEFORE, *early]
-    case = Case(name, [name], {"answered": [STORED[name]]}, [way for way, _ in ends], ends)
+    ends = [BEFORE, ("refused by open_tx", lambda ran: ran.ended(1, "", "refused OpenFault\n"))]
+    case = Case("quiet", ["quiet"], {"answered": [STORED["quiet"]]}, [way for way, _ in ends], ends)
     plain = case.way
     case.way = lambda ran: None if ran.is_refused and ran.out else plain(ran)
     return case
 
 
 CASES = [
-    call("read_config"),
-    call("demo_config"),
-    shown(call("make")),
-    opening(),
-    shown(call("open_board")),
-    call("read_line"),
-    call("run_script"),
-    hands(1),
-    hands(2),
+    *(call(name) for name in ("read_config", "demo_config", "read_line", "run_script")),
     storm(1),
     storm(0),
-    quiet("quiet", [NOT_OPENED]),
-    quiet("give_up", [NOT_OPENED]),
-    quiet("queue", []),
-    quiet("parts", []),
+    shown(call("open_board")),
+    shown(call("make")),
+    opening(1),
+    opening(2),
+    quiet(),
 ]
 
 
