@@ -5,7 +5,7 @@
 
 Of what `rt ci` has left it takes the libraries of the crates and the program `afdx_bench`, and it takes a C compiler:
 `CC`, or `cc`. It builds the C library first, which `rt ci` only proves, as `rt lib` does but without proving all below it
-once more. With --built it takes the library that is there. The tests of the calls (`c_calls.c`, `owners.c`, `lines.c`, `judging.c`) and the
+once more. With --built it takes the library that is there. The tests of the calls (`c_calls.c`, `owners.c`, `threads.c`, `lines.c`, `judging.c`) and the
 example are compiled with all warnings as errors, as they are and with the sanitizers of addresses, leaks and undefined
 behaviour. What the example prints with `--dump` has to be what `afdx_bench run` prints. The last line is 'N passed, M
 failed', and the exit status 0 exactly if nothing failed.
@@ -196,7 +196,7 @@ def main():
         try_header(tries, room)
         if "--built" not in sys.argv and not is_built(tries):
             return tries.end()
-        for name in ("c_calls", "owners", "lines", "judging"):
+        for name in ("c_calls", "owners", "threads", "lines", "judging"):
             try_calls(tries, room, name, f"tests/c/{name}.c", [])
             try_calls(tries, room, f"{name}-sanitized", f"tests/c/{name}.c", SANITIZER)
         try_judging(tries, room, "judging")

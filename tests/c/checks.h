@@ -1,4 +1,4 @@
-/* What the tests of the C library share: checks, and an allocator that counts. A failed check prints its line; the last
+/* What the tests of the C library share: checks, an allocator that counts, and plans. A failed check prints its line; the last
    line is 'N passed, M failed'. */
 #ifndef CHECKS_H
 #define CHECKS_H
@@ -24,8 +24,8 @@ static int end_of_checks(void) {
 
 /* Memory: how many requests were made, the blocks and bytes in use, the most bytes that were, and how many requests more
    until one fails (none if negative). Allocations call `__wrap_malloc` and its kin by the linker's --wrap. */
-static size_t requests, blocks, bytes, most;
-static long refused_in = -1;
+static _Atomic size_t requests, blocks, bytes, most;
+static _Atomic long refused_in = -1;
 
 enum { HEAD = 16 };
 
@@ -57,6 +57,25 @@ void __wrap_free(void *block) {
     bytes -= before;
     blocks--;
     __real_free((unsigned char *)block - HEAD);
+}
+
+/* The text of a plan of `links` links of `sub_vls` sub-VLs each, with queues of this capacity and `each` ports to a
+   sub-VL. */
+static inline const char *plan(int links, int sub_vls, int capacity, int each) {
+    static char text[64000];
+    int end = snprintf(text, sizeof text, "version = 2\n[end_system]\nid = 7\n");
+    for (int k = 0; k < links; k++)
+        end += snprintf(text + end, sizeof text - (size_t)end, "[[vl]]\nid = %d\nbag_ms = 1\nlmax = 1518\nsub_vls = %d\ncapacity = %d\n",
+            900 - k, sub_vls, capacity);
+    for (int k = 0; k < links * sub_vls * each; k++)
+        end += snprintf(text + end, sizeof text - (size_t)end,
+            "[[port]]\nid = %d\nvl = %d\nsub = %d\npartition = 1\nkind = \"queuing\"\nsource = %d\ndestination = 2\nmax = 8192\n", k,
+            900 - k / each / sub_vls, k / each % sub_vls, 1000 + k);
+    return text;
+}
+
+static inline void open_plan(afdx_end_system *it, const char *text) {
+    CHECK(afdx_open(it, (const uint8_t *)text, strlen(text)) == AFDX_OK && it->held && it->mark != 0);
 }
 
 #endif

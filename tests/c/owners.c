@@ -10,25 +10,6 @@
 
 #include <sys/mman.h>
 
-/* The text of a plan of `links` links of `sub_vls` sub-VLs each, with queues of this capacity and `each` ports to a
-   sub-VL. */
-static const char *plan(int links, int sub_vls, int capacity, int each) {
-    static char text[64000];
-    int end = snprintf(text, sizeof text, "version = 2\n[end_system]\nid = 7\n");
-    for (int k = 0; k < links; k++)
-        end += snprintf(text + end, sizeof text - (size_t)end, "[[vl]]\nid = %d\nbag_ms = 1\nlmax = 1518\nsub_vls = %d\ncapacity = %d\n",
-            900 - k, sub_vls, capacity);
-    for (int k = 0; k < links * sub_vls * each; k++)
-        end += snprintf(text + end, sizeof text - (size_t)end,
-            "[[port]]\nid = %d\nvl = %d\nsub = %d\npartition = 1\nkind = \"queuing\"\nsource = %d\ndestination = 2\nmax = 8192\n", k,
-            900 - k / each / sub_vls, k / each % sub_vls, 1000 + k);
-    return text;
-}
-
-static void open_plan(afdx_end_system *it, const char *text) {
-    CHECK(afdx_open(it, (const uint8_t *)text, strlen(text)) == AFDX_OK && it->held && it->mark != 0);
-}
-
 static uint64_t accepted(const afdx_port *port) {
     uint64_t count = 77;
     CHECK(afdx_accepted(port, &count) == AFDX_OK);

@@ -67,7 +67,7 @@ def one_byte(net: str, message: OneByte, before: int, vl: int = 1) -> str:
     at, ident, byte = message
     # (0 for the first one, and 1 to 255 in turn for the others)
     number = min(before, 1) + max(before - 1, 0) % 255
-    header = f"03000000{vl:04x}0200000001{BYTE_11[net]}08004500001d{ident:04x}00000111{0xCDEF - vl - ident:04x}0a000101e0e0{vl:04x}"
+    header = f"03000000{vl:04x}0200000001{BYTE_11[net]}08004500001d{ident:04x}00000111{(0xCDEF - vl - ident) % 65535:04x}0a000101e0e0{vl:04x}"
     return f"{net} {at} {header}{1000 + ident % 4:04x}07d000090000{byte:02x}{0:032x}{number:02x}\n"
 
 
@@ -110,6 +110,13 @@ def basics() -> Iterator[Row]:
     yield case("a link that is polled late does not catch up", script, "", sent, 3, "bag_ms = 4", "capacity = 3")
     script, sent = "".join(f"send 10 01|at {1000 * k}|" for k in range(257)), [(1000 * k, 4 * k, 1) for k in range(257)]
     yield case("numbers go on with 1 after 255", script, "", sent, 257)
+
+
+def identifications() -> Iterator[Row]:
+    """As many messages of sub-VL 3 as there are identifications for, and two more: they begin anew with 3."""
+    sent = [(1000 * k, (4 * k + 3) % 65_536, k % 256) for k in range(16_386)]
+    script = "".join(f"send 13 {byte:02x}|at {at}|" for at, _, byte in sent)
+    yield row("16,386 messages", plan_of([(1, 1518, 4, 2)], [(13, 1, 3)]), script, frames(sent), len(sent))
 
 
 def refusals() -> Iterator[Row]:
@@ -167,6 +174,21 @@ def long_messages() -> Iterator[Row]:
     for checksum, plan in (("0000", DEMO), ("5219", "version = 2\n" + demo("max = 8192|checksum = 'udp'"))):
         first = f"450005d4000020000111a8370a000101e0e0000103e807d005c8{checksum}{'aa' * 1464}"
         yield row(f"1,472 bytes, {checksum}", plan, f"send 10 {'aa' * 1472}|at 0|at 1000|", packet_frames(first, second), 1)
+
+
+# Sizes of messages over frames of 64 bytes, and their packets: a datagram of 25 bytes is sent whole, one of 26 is cut at 24,
+# and a last piece may be longer than that.
+CUTS = [
+    (17, "4500002d000000000111cdde0a000101e0e0000103e807d000190000" + "aa" * 17),
+    (18, "4500002c000020000111addf0a000101e0e0000103e807d0001a0000" + "aa" * 16, "45000016000000030111cdf20a000101e0e00001aaaa"),
+    (41, "4500002c000020000111addf0a000101e0e0000103e807d000310000" + "aa" * 16, "4500002d000000030111cddb0a000101e0e00001" + "aa" * 25),
+]
+
+
+def cuts() -> Iterator[Row]:
+    """Messages over frames of 64 bytes."""
+    for size, *packets in CUTS:
+        yield row(f"{size} bytes", demo("lmax = 64"), f"send 10 {'aa' * size}|at 0|at 1000|at 2000|", packet_frames(*packets), 1)
 
 
 def networks() -> Iterator[Row]:

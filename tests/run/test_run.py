@@ -139,9 +139,24 @@ def random_runs(count: int) -> Iterator[tuple[str, str, bytes]]:
         yield f"run {seed}", text, end.join([*lines, ""]).encode()
 
 
-def many_messages() -> Iterator[tuple[str, str, bytes]]:
-    """As many messages of a sub-VL as there are identifications for, and two more."""
-    yield "16,386 messages", rows.IN_TURN, "".join(f"send 21 {k % 256:02x}\nat {1000 * k}\n" for k in range(16_386)).encode()
+def checksums() -> Iterator[tuple[str, str, bytes]]:
+    """Messages of each length up to 1,474 bytes, over frames of 64 bytes and of 1,518 bytes, and each message of two bytes."""
+    text, rng = rows.plan_of([(1, 64, 1, 2), (2, 1518, 1, 2)], [(10, 1, 0), (20, 2, 0)]), random.Random("checksums")
+    for kind in ("udp", "none"):
+        plan = "version = 2\n" + text.replace("max = 8192", f"max = 8192\nchecksum = '{kind}'")
+        for first in range(1, 1475, 67):
+            now, lines = 0, []
+            for size in range(first, first + 67):
+                lines += [f"send {port} {rng.randbytes(size).hex()}" for port in (10, 20)]
+                # (a frame of 64 bytes carries 24 bytes of a datagram, and the last one up to 25)
+                polls = max(1, -(-(size + 8 - 25) // 24) + 1)
+                lines += [f"at {now + 1000 * k}" for k in range(polls)]
+                now += 1000 * polls
+            yield f"{first} to {first + 66} bytes, {kind}", plan, "\n".join(lines).encode()
+    plan = "version = 2\n" + text.replace("max = 8192", "max = 8192\nchecksum = 'udp'")
+    for first in range(0, 65_536, 4096):
+        lines = (f"send 20 {first + k:04x}\nat {1000 * k}\n" for k in range(4096))
+        yield f"two bytes from {first:04x} on", plan, "".join(lines).encode()
 
 
 def main() -> int:
@@ -153,6 +168,8 @@ def main() -> int:
         "closes": rows.closing(),
         "addresses and checksums": rows.datagrams(),
         "messages of one frame and of two": rows.long_messages(),
+        "messages over frames of 64 bytes": rows.cuts(),
+        "as many messages as identifications": rows.identifications(),
         "links on both networks and on one": rows.networks(),
         "sub-VLs in turn": rows.turns(),
         "the guide": rows.guide(),
@@ -168,7 +185,7 @@ def main() -> int:
             tries.attempt(name, lambda some=some: (all_faults(row_faults, some), ""))
         tries.attempt("each script of one to five lines", lambda: (all_faults(model_faults, every_script()), ""))
         tries.attempt(f"{count} random scripts over random plans", lambda: (all_faults(model_faults, random_runs(count)), ""))
-        tries.attempt("as many messages as identifications", lambda: (all_faults(model_faults, many_messages()), ""))
+        tries.attempt("messages of each length, and of each two bytes", lambda: (all_faults(model_faults, checksums()), ""))
     return tries.end()
 
 

@@ -1,6 +1,0 @@
-use Rattle.std.proofs.Common.{◌<◌}
-use Rattle.status_board.specs.Views.{links_of}
-use Rattle.parts_tests.proofs.board.watch.Given as goal
-
-abbrev pub invariant-loop : goal.invariant-loop
-invariant-loop g l = 0 < links_of l.monitor
