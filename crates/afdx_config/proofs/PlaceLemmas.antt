@@ -1,7 +1,7 @@
 -- The place of each finding has its fault.
-use Rattle.afdx_config.proofs.Names.{◌≡◌, ℕ, suc, ◌+◌, ◌-◌, ◌≤◌, List, [], ◌∷◌, get_or, Bool, nat_lt}
+use Rattle.afdx_config.proofs.Names.{◌≡◌, ℕ, suc, ◌+◌, ◌-◌, List, [], ◌∷◌, get_or, Bool, nat_lt}
 use Rattle.afdx_config.proofs.Names.{true, ◌||◌, Option, Some, None, refl, ap, ◌∙◌, codes}
-use Rattle.afdx_config.proofs.Names.{arith, lit≤, bytes_eq, slice_get, position, list_any, flat_map}
+use Rattle.afdx_config.proofs.Names.{arith, bytes_eq, slice_get, position, list_any, flat_map}
 use Rattle.afdx_config.proofs.Names.{AllByRecursion, option_map_or, or-true, All-from_recursion}
 use Rattle.afdx_config.proofs.Names.{position-Some, slice_get-get_or, bytes_eq-Decides, eq-eqb, Members}
 use Rattle.afdx_config.proofs.Names.{ConfigFault, Place, Top, option_map, is_row_of, PlanRule, Rule, links_clash, ports_clash, port_misfits, link_count, port_count, sub_is_packed, breaks, sides, is_misfit, breaks_at, tells, plan_rules, rule, rule_findings, is_past_limit}

@@ -12,7 +12,7 @@ use Rattle.afdx_config.proofs.Names.{UnknownKey, Place, Top, Link, Port, Field, 
 use Rattle.afdx_config.proofs.Names.{shows, tells, values_show, Finding, found, has, one_if, key_finding, member_keys, each_row}
 use Rattle.afdx_config.proofs.Names.{pair_finding, pair_findings, is_past_limit, misfit_finding, crowd_finding}
 use Rattle.afdx_config.proofs.Names.{Cells, cells_show, both, on_sub_of, is_packed, PortRow}
-use Rattle.afdx_config.proofs.Names.{field_fault, key_fault, is_key_of, fault_in, content_fault, fault_under, Content, IfSome, FaultsAreFound}
+use Rattle.afdx_config.proofs.Names.{field_fault, key_fault, is_key_of, fault_in, fault_under, IfSome, FaultsAreFound}
 use Rattle.afdx_config.specs.Findings.{plan_findings, table_findings, value_findings}
 use Rattle.afdx_config.proofs.AddLemmas.{each_row-map}
 use Rattle.afdx_config.proofs.OrderLemmas.{any_by_fault, r_append, r_map}
