@@ -1,5 +1,7 @@
 -- Lists, numbers that differ, and worked cases in which premises fail.
 use Rattle.afdx_laws.proofs.Names.{◌≡◌, ℕ, ◌<◌, false, nat_eq, List, [], ◌∷◌, ◌++◌, length, map, refl, subst, arith, All, take-append_seam, All-take, zero, suc, ◌+◌, ◌-◌, ◌≤◌, true, Option, Some, None, sequence_number, next_number, ahead, is_valid}
+use Rattle.std.proofs.Math.Seq.{drop-append_seam}
+use Rattle.std.proofs.lemmas.List.Elements.{All-drop}
 use Rattle.afdx_laws.specs.Rows.{BothFail, NeedsEach}
 
 pub cons_parts : {X : Type 0} {x y : X} {xs ys : List X} → x ∷ xs ≡ y ∷ ys → (x ≡ y) × (xs ≡ ys)
@@ -22,6 +24,10 @@ pub all_front : {X : Type 0} (P : X → Type 0) (xs rest ys : List X) → xs ++ 
 all_front {X = X} P xs rest ys is all =
     subst (λ (zs : List X). All P zs) (take-append_seam xs rest)
     (All-take P (length xs) (xs ++ rest) (grind arith))
+
+pub all_back : {X : Type 0} (P : X → Type 0) (front ys : List X) → All P (front ++ ys) → All P ys
+all_back {X = X} P front ys all =
+    subst (λ (zs : List X). All P zs) (drop-append_seam front ys) (All-drop P (length front) (front ++ ys) all)
 
 pub map_same : {X Y : Type 0} (f g : X → Y) (xs : List X) → ((x : X) → f x ≡ g x) → map f xs ≡ map g xs
 map_same f g xs same = grind arith

@@ -1,13 +1,13 @@
 -- The next fragment of a message comes within a round of the sub-VLs.
 use Rattle.afdx_laws.proofs.Names.{◌≡◌, ◌≢◌, ℕ, zero, suc, ◌+◌, ◌*◌, ◌≤◌, ◌<◌, true, false, eqb, List, [], ◌∷◌, ◌++◌, length, map, refl, subst}
 use Rattle.afdx_laws.proofs.Names.{arith, All, AllByRecursion, IsDistinct, list_any, nat_tests, ne_eqb, length-map}
-use Rattle.afdx_laws.proofs.Names.{All-tail, link_plan_at, bag_micros, LinkPlan, sub_in, Entry, sub_stream, link_stream, id_at}
+use Rattle.afdx_laws.proofs.Names.{link_plan_at, bag_micros, LinkPlan, sub_in, Entry, sub_stream, link_stream, id_at}
 use Rattle.std.proofs.lemmas.Map.Keys.{IsDistinct-cons, IsDistinct-from_apart}
 use Rattle.std.proofs.lemmas.Map.Steps.{length-le_from_distinct_below}
 use Rattle.afdx_legal.specs.Streams.{before_next, IsFollowedInTurn, TakesTurns}
 use Rattle.afdx_laws.specs.NextFragment.{AreNeighbours, IsOfOneOf, NextInARound, FollowWithin, NextInTime, link_wait, longest_wait, NextInPlan, LieTwoGapsApart}
 use Rattle.afdx_legal.specs.Worked.{TurnsAreTold}
-use Rattle.afdx_laws.proofs.ListLemmas.{all_front}
+use Rattle.afdx_laws.proofs.ListLemmas.{all_back, all_front}
 use Rattle.afdx_laws.proofs.LegalSpacing.{stream_within}
 
 abbrev subs_of : List Entry → List ℕ
@@ -47,15 +47,11 @@ turn_at : (before : List Entry) (first : Entry) (rest : List Entry) → TakesTur
 turn_at [] first rest h = h.0
 turn_at (e ∷ es) first rest h = turn_at es first rest h.1
 
-tail_at : (subs : ℕ) (before rest : List Entry) → All (IsOfOneOf subs) (before ++ rest) → All (IsOfOneOf subs) rest
-tail_at subs [] rest of = of
-tail_at subs (e ∷ es) rest of = tail_at subs es rest (All-tail (IsOfOneOf subs) e (es ++ rest) of)
-
 between_of : (subs : ℕ) (stream : List Entry) (first : Entry) (between : List Entry) (next : Entry)
     → All (IsOfOneOf subs) stream → (n : AreNeighbours stream first between next)
     → All (IsOfOneOf subs) (first ∷ (between ++ next ∷ n.after))
 between_of subs stream first between next of n =
-    tail_at subs n.before (first ∷ (between ++ next ∷ n.after)) (grind arith)
+    all_back (IsOfOneOf subs) n.before (first ∷ (between ++ next ∷ n.after)) (grind arith)
 
 pub next_in_a_round : NextInARound
 next_in_a_round subs stream first between next turns of n =

@@ -53,6 +53,7 @@ pub fn loss_masked()
 /// The network that carries every frame begins with the first; that the other does is the premise. So the transmitter's
 /// user sends nothing before the receivers run and both networks carry frames, and neither network may lose a link's
 /// first frame and then lead.
+#[tactic(auto, using(crate::proofs::Losing::first_comes_holds, crate::proofs::Losing::masked_from_first_holds, crate::proofs::WorkedMessage::begins_on_both))]
 pub fn both_begin()
     ensures close { FirstComes }
     ensures masked { MaskedFromFirst }
@@ -72,6 +73,7 @@ pub fn loss_not_masked()
 ///
 /// The law starts from a state of the receiver: network A carried `lag` frames more than B, and B's next one arrives.
 /// That a run ends in this state is not proved.
+#[tactic(auto, using(crate::proofs::Losing::numbers_clash_holds))]
 pub fn numbers_clash()
     ensures clash { NumbersClash }
     ensures worked { ClashesPast254 }
@@ -136,6 +138,7 @@ pub fn handed_arrive()
 {}
 
 /// The same as `despite_loss`, by what was sent to the two networks over a link on both networks.
+#[tactic(auto, using(crate::proofs::HandedOver::handed_despite_loss_holds, crate::proofs::WorkedMessage::comes_despite_loss, crate::proofs::WorkedMessage::needs_one_whole))]
 pub fn handed_despite_loss()
     ensures arrive { HandedDespiteLoss }
     ensures worked { HandedDespiteOneLoss }
@@ -161,6 +164,7 @@ pub fn legal_arrive()
 /// For a link on one network, that network carries all, and the law adds nothing to `one_network_arrives`: no other
 /// network replaces what it loses. The stream's first frame arrives before all others (`first` in `AreClose`, see
 /// `both_begin`). The limits of `loss_masked` apply.
+#[tactic(auto, using(crate::proofs::LegalLinks::legal_despite_loss_holds, crate::proofs::WorkedDemo::legal_despite_one_loss, crate::proofs::WorkedDemo::needs_close))]
 pub fn legal_despite_loss()
     ensures arrive { LegalDespiteLoss }
     ensures worked { LegalDespiteOneLoss }
@@ -188,6 +192,7 @@ pub fn own_lists_arrive()
 /// Premise: the network carries a beginning of the link's frames, in order. The other network may lag or lead: it
 /// carries no frame of the link. The law does not cover a network that loses a frame and goes on, as no other replaces
 /// the frame.
+#[tactic(auto, using(crate::proofs::OneNetwork::one_network_arrives_holds, crate::proofs::WorkedDemo::comes_from_one))]
 pub fn one_network_arrives()
     ensures arrive { OneNetworkArrives }
     ensures worked { ComesFromOne }

@@ -9,6 +9,7 @@ ghost use Rattle.afdx_laws.specs.WorkedPlan.{PassesAGapApart};
 
 /// A switch that polices a link by its gap, its greatest frame and a jitter, by bytes or by frames, drops no frame of a
 /// link that keeps its gap, if each frame is delayed by at most the jitter.
+#[tactic(auto, using(crate::proofs::Credit::none_dropped_holds))]
 pub fn none_dropped()
     ensures passed { NoneDropped }
     ensures worked { PolicesThree }
@@ -18,6 +19,7 @@ pub fn none_dropped()
 /// bytes for each gap between them, and Lmax (1 + jitter / gap) more.
 ///
 /// Premise: times don't go back. The initial credit is arbitrary.
+#[tactic(auto, using(crate::proofs::Credit::no_more_passes_holds))]
 pub fn no_more_passes()
     ensures paid { NoMorePasses }
     ensures worked { SpendsAll }
