@@ -1,12 +1,13 @@
 -- The law of a message in a run of polls.
 use Rattle.run_laws.specs.MessageInRun.{AreReleasedBy}
-use Rattle.run_laws.proofs.Names.{Poll, released_by, lt-ltb, subst, IsAccepted, AreQueued, IsQueued, All-weaker, has_port, true, used_sub_vls, ℕ, ◌≡◌, ◌⊎◌, ◌+◌, ◌-◌, ◌*◌, ◌<◌, ◌≤◌, List, [], ◌∷◌, ◌++◌, Bool, nat_lt, length, map, take, drop, arith, refl, ap, ◌∙◌, sym, None, inl, inr, ⊎_elim, All, suc-mul, mul-le, cases_lt, le-ltb, append_assoc, length-append, take-append-drop, length-drop, All-head, All-drop, Plan, IsPlan, link_plan_at, bag_micros, link_place, room_of, LinkPlan, A, Sent, fragments_at, fragments_from, Entry, Lines, latest, IsPrefixOf, Accepted, IsAllowed, IsDrained, stream_at, cons_parts, all_front, pieces_of, port_pieces, most_pieces, queued_before, message_wait, worst_wait, AreTimely, fragments_of, seen_of, HasPlace, FindsIt, MessageInRun}
+use Rattle.run_laws.proofs.Names.{all_back, Poll, released_by, lt-ltb, subst, IsAccepted, AreQueued, IsQueued, All-weaker, has_port, true, used_sub_vls, ℕ, ◌≡◌, ◌⊎◌, ◌+◌, ◌-◌, ◌*◌, ◌<◌, ◌≤◌, List, [], ◌∷◌, ◌++◌, Bool, nat_lt, length, map, take, drop, arith, refl, ap, ◌∙◌, sym, None, inl, inr, ⊎_elim, All, suc-mul, mul-le, cases_lt, le-ltb, append_assoc, length-append, take-append-drop, length-drop, All-head, All-drop, Plan, IsPlan, link_plan_at, bag_micros, link_place, room_of, LinkPlan, A, Sent, fragments_from, Entry, Lines, latest, IsPrefixOf, Accepted, IsAllowed, IsDrained, stream_at, cons_parts, all_front, pieces_of, port_pieces, most_pieces, queued_before, message_wait, worst_wait, AreTimely, fragments_of, seen_of, HasPlace, FindsIt, MessageInRun}
 use Rattle.afdx_tx.proofs.OwnLengths.{own_link}
 use Rattle.run_laws.proofs.PollStep.{StandsAt, StepsAt, emitter_step, drain_step, emitter_endures, drain_endures}
-use Rattle.run_laws.proofs.Ran.{HasOwed, Rise, Show, has_at, some_gap, at_of, seen_both, seen_append, adds_seen, timely_rise, splits, AreSteps, have_run, all_back}
+use Rattle.run_laws.proofs.Ran.{HasOwed, Rise, Show, has_at, some_gap, at_of, seen_both, seen_append, adds_seen, timely_rise, splits, AreSteps, have_run}
 use Rattle.run_laws.proofs.Used.{queued_port}
 use Rattle.run_laws.proofs.Timely.{timely_released}
-use Rattle.run_laws.proofs.Pieces.{message_pieces, own_pieces, list_most, fragments_both, port_most}
+use Rattle.std.proofs.lemmas.List.Sums.{sum_by-le, sum_by-take-drop, sum_by_push}
+use Rattle.run_laws.proofs.Pieces.{own_pieces, fragments_count, fragments_both, port_most}
 
 -- fewer than `many` fragments of a sub-VL were sent
 abbrev waiting : ℕ → ℕ → List Entry → Bool
@@ -69,23 +70,19 @@ module _ (plan : Plan) (k s : ℕ) (valid : IsPlan plan) (inside : k < length pl
       let room : ℕ = room_of link.lmax in
       let wide = wide_room plan k valid inside in
       let own = own_pieces plan k s sent wide of in
-      let whole = ap length (fragments_both plan.end_system room A 0 earlier (sent ∷ [])) in
-      let parts = length-append (fragments_of plan k earlier) (fragments_from plan.end_system room A (0 + length earlier) (sent ∷ [])) in
-      let last = length-append (fragments_at plan.end_system room A (0 + length earlier) sent) [] in
-      let mine = message_pieces plan.end_system room A (0 + length earlier) sent wide in
+      let pieces : Sent → ℕ = λ m. pieces_of room (length m.bytes) in
+      let whole = fragments_count plan.end_system room A 0 (earlier ++ sent ∷ []) wide in
+      let parts = sum_by_push pieces earlier sent in
       elim (cases_lt (length earlier) link.capacity) [
-        | inl less ↦
-            grind (arith, list_most plan.end_system room A 0 most_of earlier wide few, mul-le)
+        | inl less ↦ grind (arith, sum_by-le pieces most_of earlier few, mul-le)
         | inr more ↦
             let n : ℕ = length earlier - link.capacity in
-            let front : List Sent = take n earlier in
-            let back : List Sent = drop n earlier in
-            let both : front ++ back ≡ earlier = take-append-drop n earlier in
             let size = length-drop n earlier in
-            let split = ap length (ap (fragments_of plan k) (sym both) ∙ fragments_both plan.end_system room A 0 front back) in
-            let halves = length-append (fragments_of plan k front) (fragments_from plan.end_system room A (0 + length front) back) in
-            let held = list_most plan.end_system room A (0 + length front) most_of back wide (All-drop Few n earlier few) in
-            grind (arith, suc-mul (link.capacity - 1) most_of, mul-le, back)
+            let both = sum_by-take-drop pieces earlier n in
+            let front = fragments_count plan.end_system room A 0 (take n earlier) wide in
+            let begun = place (take n earlier) (drop n earlier) (sym (take-append-drop n earlier)) (omega arith) in
+            let held = sum_by-le pieces most_of (drop n earlier) (All-drop Few n earlier few) in
+            grind (arith, suc-mul (link.capacity - 1) most_of)
       ]
 
 own_wait : (plan : Plan) (k s late : ℕ) (sent : Sent) → link_place plan sent.port ≡ k → sent.port.sub ≡ s

@@ -1,25 +1,17 @@
 -- The law of the next fragment in a run of polls.
 use Rattle.vl_link.proofs.MessageEnds.{not_begun}
-use Rattle.run_laws.proofs.Names.{cond, is_of, HasAtPolls, ◌-◌, ℕ, ◌≡◌, ◌≢◌, ◌⊎◌, ◌+◌, ◌<◌, ◌≤◌, List, [], ◌∷◌, ◌++◌, Bool, true, map, length, arith, refl, Option, Some, None, inl, inr, ⊎_elim, All, nat_tests, cases_eq, eq-eqb, append_assoc, All-nil, All-head, Plan, IsPlan, link_plan_at, sub_in, Entry, Poll, ArePolled, latest_poll, none_begun, begun_after, begun_by, stamp_of, latest, latest_push, stream_at, next_wait, used_sub_vls, LinkPlan, mul-le, seen_of, ComeWithin, latest_of, NextInRun, EmitterPolls, DrainPolls, ComesBy, next_polled_in_time, wait_at}
+use Rattle.run_laws.proofs.Names.{all_back, cond, is_of, HasAtPolls, ◌-◌, ℕ, ◌≡◌, ◌≢◌, ◌⊎◌, ◌+◌, ◌<◌, ◌≤◌, List, [], ◌∷◌, ◌++◌, Bool, true, map, length, arith, refl, Option, Some, None, inl, inr, ⊎_elim, All, nat_tests, cases_eq, eq-eqb, append_assoc, All-nil, All-head, Plan, IsPlan, link_plan_at, sub_in, Entry, Poll, AreTimely, none_begun, begun_after, begun_by, stamp_of, latest, latest_push, stream_at, next_wait, used_sub_vls, LinkPlan, mul-le, seen_of, ComeWithin, NextInRun, EmitterPolls, DrainPolls, ComesBy, wait_at}
 use Rattle.afdx_legal.specs.Streams.{more_in}
 use Rattle.afdx_laws.specs.NextFragment.{longest_wait}
 use Rattle.vl_shaper.proofs.Users.{users_most}
 use Rattle.run_laws.proofs.Used.{has_port_below}
 use Rattle.run_laws.proofs.PollStep.{Adds, gap_at, subs_at, uses_at, emitter_step, emitter_lacks, drain_step, emitter_endures, drain_endures}
-use Rattle.run_laws.proofs.Ran.{at_of, Rise, splits, AreSteps, have_run, some_gap, all_back}
+use Rattle.run_laws.proofs.Timely.{apart_timely, timely_released}
+use Rattle.run_laws.proofs.Ran.{at_of, splits, timely_rise, AreSteps, have_run, some_gap}
 
--- polls that come within the lateness, as a law of the shaper says it
-polled_of : (late before : ℕ) (polls : List Poll) → ComeWithin late before (map at_of polls) → ArePolled late before polls
-polled_of late before [] come = tt
-polled_of late before (p ∷ polls) come = (come.1, polled_of late p.at polls come.2)
-
-within_rise : (late before : ℕ) (polls : List Poll) → ComeWithin late before (map at_of polls) → Rise before polls
-within_rise late before [] come = tt
-within_rise late before (p ∷ polls) come = (come.0, within_rise late p.at polls come.2)
-
-latest_is : (before : ℕ) (polls : List Poll) → latest_poll before polls ≡ latest_of before (map at_of polls)
-latest_is before [] = refl
-latest_is before (p ∷ polls) = latest_is p.at polls
+come_later : (late before : ℕ) (moments : List ℕ) → ComeWithin late before moments → ComeWithin (late + 1) before moments
+come_later late before [] come = tt
+come_later late before (now ∷ moments) come = (come.0, omega arith, come_later late now moments come.2)
 
 -- the first entry of a sub-VL among these
 record IsFound (x : ℕ) (added : List Entry) : Type 0 where
@@ -110,9 +102,10 @@ next_in_run_holds plan moments lines after k late earlier first valid inside end
     let begun : begun_by none_begun (stream_at plan k lines) (sub_in first.frame) ≡ true = grind (arith, begun_push, eq-eqb) in
     let run = have_run moments plan k x _ (HasOne x) _ lines after (polls_step plan k x valid inside) runs stands in
     let last : latest None (stream_at plan k lines) ≡ Some (stamp_of first) = grind (arith, latest_push) in
-    let within : ComeWithin late first.at (map at_of run.polls) = rw run.at come in
-    let latest_moment : latest_poll first.at run.polls ≡ latest_of first.at moments = grind (arith, latest_is) in
-    let one = next_polled_in_time (subs_at plan k) x (gap_at plan k) late first.at (uses_at plan k) run.polls below has (some_gap (link_plan_at plan.links k).bag)
-    (rw last at run.served) run.users (polled_of late first.at run.polls within) (run.had 1 (omega arith, λ some. begun))
-    (rw latest_moment reach) in
-    grind (arith, splits run.polls run.added x bound first.at (within_rise late first.at run.polls within) run.show, within_rise late first.at run.polls within, next_less late plan k inside, next_by, finds)
+    let when : AreTimely (gap_at plan k) late bound first.at (map at_of run.polls) = rw run.at (apart_timely (gap_at plan k) late bound first.at
+    moments (some_gap (link_plan_at plan.links k).bag) (come_later late first.at moments come) reach) in
+    let one = timely_released run.polls (subs_at plan k) (uses_at plan k) x 1 (gap_at plan k) late first.at bound (latest None (stream_at plan k lines))
+    below has (some_gap (link_plan_at plan.links k).bag) (rw last (omega arith)) run.served run.users (run.had 1 (omega arith, λ some. begun)) when
+    (grind arith) in
+    let rise = timely_rise (gap_at plan k) late bound first.at run.polls when in
+    grind (arith, splits run.polls run.added x bound first.at rise run.show, next_less, next_by, finds)

@@ -1,6 +1,8 @@
 -- How many fragments messages have.
-use Rattle.run_laws.proofs.Names.{ℕ, suc, zero, ◌≡◌, ◌+◌, ◌-◌, ◌*◌, ◌≤◌, List, [], ◌∷◌, ◌++◌, length, arith, refl, ap, inl, inr, All, Contains, cases_lt, length-append, length-map, append_assoc, All-head, All-tail, suc-mul, step_of, cutting, cut_by, pieces_from, Plan, IsAllowed, link_plan_at, room_of, Sent, fragments_at, fragments_from, LinkPlan, PortPlan, pieces_of, port_pieces, pieces_on, most_pieces}
+use Rattle.run_laws.proofs.Names.{ℕ, suc, zero, ◌≡◌, ◌+◌, ◌-◌, ◌≤◌, List, [], ◌∷◌, ◌++◌, length, arith, refl, ap, inl, inr, All, Contains, cases_lt, length-append, length-map, append_assoc, step_of, cutting, cut_by, pieces_from, Plan, IsAllowed, link_plan_at, room_of, Sent, fragments_at, fragments_from, LinkPlan, PortPlan, pieces_of, port_pieces, pieces_on, most_pieces}
 use Rattle.std.specs.Int.{div_ceil}
+use Rattle.std.specs.Prelude.{sum_by}
+use Rattle.std.proofs.lemmas.List.Sums.{sum_by-cons}
 use Rattle.std.proofs.lemmas.List.Recursion.{max_bounds}
 use Rattle.afdx_frame.specs.declared.net.Net.{Net}
 
@@ -37,15 +39,19 @@ pieces_mono room a b wide le =
     let more = ceil_mono (8 + a - room) (8 + b - room) (step_of room) (omega arith) (omega arith) in
     omega arith
 
--- messages of at most `most` fragments each
-pub list_most : (end_system room : ℕ) (net : Net) (place most : ℕ) (messages : List Sent) → 8 ≤ room
-    → All (λ (m : Sent). pieces_of room (length m.bytes) ≤ most) messages
-    → length (fragments_from end_system room net place messages) ≤ length messages * most
-list_most end_system room net place most [] wide few = omega arith
-list_most end_system room net place most (sent ∷ later) wide few =
-    let Few : Sent → Type 0 = λ m. pieces_of room (length m.bytes) ≤ most in
-    let first : pieces_of room (length sent.bytes) ≤ most = All-head Few sent later few in
-    grind (arith, message_pieces, length-append, suc-mul, list_most end_system room net (suc place) most later wide (All-tail Few sent later few))
+-- the number of fragments of messages
+abbrev pub pieces_in : ℕ → List Sent → ℕ
+pieces_in room messages = sum_by (λ (m : Sent). pieces_of room (length m.bytes)) messages
+
+pub fragments_count : (end_system room : ℕ) (net : Net) (place : ℕ) (messages : List Sent) → 8 ≤ room
+    → length (fragments_from end_system room net place messages) ≡ pieces_in room messages
+fragments_count end_system room net place [] wide = refl
+fragments_count end_system room net place (m ∷ later) wide =
+    let own = message_pieces end_system room net place m wide in
+    let parts = length-append (fragments_at end_system room net place m) (fragments_from end_system room net (suc place) later) in
+    let whole = sum_by-cons (λ (sent : Sent). pieces_of room (length sent.bytes)) m later in
+    let rest = fragments_count end_system room net (suc place) later wide in
+    omega arith
 
 pub fragments_both : (end_system room : ℕ) (net : Net) (place : ℕ) (xs ys : List Sent) → fragments_from end_system room net place (xs ++ ys)
     ≡ fragments_from end_system room net place xs ++ fragments_from end_system room net (place + length xs) ys

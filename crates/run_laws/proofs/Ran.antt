@@ -1,8 +1,7 @@
 -- A run of polls, as the polls of one link, and what it adds to the stream of the link.
-use Rattle.run_laws.proofs.Names.{ℕ, ◌≡◌, ◌+◌, ◌<◌, ◌≤◌, List, [], ◌∷◌, ◌++◌, Bool, true, ◌&&◌, cond, nat_eq, nat_le, arith, refl, Option, Some, None, inl, inr, ◌-◌, ◌*◌, length, map, subst, All, nat_tests, cases_lt, All-drop, filter-append, append_assoc, append-nil, length-append, map-append, Plan, bag_ms, sub_in, Entry, entry, Lines, BothEndure, stood_before, Poll, is_of, released_by, IsOfUser, IsServed, AreServed, ServeUsers, HasAtPolls, latest, latest_push, stream_at, ArePolls, AreTimely, seen_of}
-use Rattle.std.proofs.lemmas.List.Sums.{sum_by-cons}
-use Rattle.std.proofs.Math.Seq.{drop-append_seam}
+use Rattle.run_laws.proofs.Names.{ℕ, ◌≡◌, ◌+◌, ◌<◌, ◌≤◌, List, [], ◌∷◌, ◌++◌, Bool, true, ◌&&◌, cond, nat_eq, nat_le, arith, refl, Option, Some, None, inl, inr, ◌-◌, ◌*◌, length, map, All, nat_tests, cases_lt, filter-append, append_assoc, append-nil, length-append, map-append, Plan, bag_ms, sub_in, Entry, entry, Lines, BothEndure, stood_before, Poll, is_of, released_by, IsOfUser, IsServed, AreServed, ServeUsers, HasAtPolls, latest, latest_push, stream_at, ArePolls, AreTimely, seen_of}
 use Rattle.afdx_plan.specs.declared.link_plan.Bag.{Bag}
+use Rattle.vl_shaper.proofs.Polled.{counted}
 use Rattle.run_laws.proofs.PollStep.{Adds, IsStep, StandsAt, gap_at, subs_at, uses_at, StepsAt}
 
 -- the entry that a poll released, if any, and those after it
@@ -17,11 +16,6 @@ Show (p ∷ polls) added = (rest : List Entry) × ShowsOne p.at p.released added
 
 abbrev pub at_of : Poll → ℕ
 at_of p = p.at
-
--- what a poll adds to the count of a sub-VL's frames
-pub counted : (x bound : ℕ) (p : Poll) (polls : List Poll) → released_by x bound (p ∷ polls)
-    ≡ cond (nat_le p.at bound && is_of x p.released) 1 0 + released_by x bound polls
-counted x bound p polls = sum_by-cons (λ (q : Poll). cond (nat_le q.at bound && is_of x q.released) 1 0) p polls
 
 -- the fragments in two parts of a stream
 pub seen_append : (x : ℕ) (S U : List Entry) → seen_of x (S ++ U) ≡ seen_of x S ++ seen_of x U
@@ -88,11 +82,6 @@ splits (p ∷ polls) added x bound before rise show = elim (cases_lt bound p.at)
           by = grind arith;
           seen = omega arith;
         }
-
--- what holds of a list holds of its end
-pub all_back : {X : Type 0} (P : X → Type 0) (front ys : List X) → All P (front ++ ys) → All P ys
-all_back {X = X} P front ys all =
-    subst (λ (zs : List X). All P zs) (drop-append_seam front ys) (All-drop P (length front) (front ++ ys) all)
 
 -- the sub-VL has something at each of these polls before which fewer of its fragments were sent than are owed at its time
 abbrev pub HasOwed : ℕ → (ℕ → ℕ) → ℕ → List Poll → Type 0

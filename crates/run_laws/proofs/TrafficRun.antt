@@ -1,18 +1,20 @@
 -- The law of a message in a run of polls if the ports of its sub-VL keep periods.
-use Rattle.run_laws.proofs.Names.{ℕ, suc, zero, ◌≡◌, ◌+◌, ◌-◌, ◌<◌, ◌≤◌, List, [], ◌∷◌, ◌++◌, true, false, cond, nat_lt, nat_tests, arith, sym, ap, subst, None, Some, Entry, inl, inr, map, length, append_assoc, map-append, length-append, lt-ltb, All, All-cons, All-head, All-nil, All-tail, All-weaker, Contains, Plan, IsPlan, link_plan_at, link_place, LinkPlan, PortPlan, bag_micros, room_of, A, Sent, fragments_from, IsAllowed, has_port, latest, AreTimely, stream_at, fragments_of, seen_of}
-use Rattle.std.specs.Prelude.{◌/◌, filter}
+use Rattle.run_laws.proofs.Names.{all_back, ℕ, suc, zero, ◌≡◌, ◌+◌, ◌-◌, ◌<◌, ◌≤◌, List, [], ◌∷◌, ◌++◌, true, Bool, nat_tests, append-nil, pieces_of, arith, sym, ap, subst, None, Some, Entry, inl, inr, map, length, append_assoc, map-append, lt-ltb, refl, All, All-cons, All-head, All-nil, All-tail, All-weaker, Contains, Plan, IsPlan, link_plan_at, link_place, LinkPlan, PortPlan, bag_micros, room_of, A, Sent, IsAllowed, has_port, latest, AreTimely, stream_at, fragments_of, seen_of}
+use Rattle.std.specs.Prelude.{◌/◌, filter, not, sum_by}
 use Rattle.std.specs.Int.{div_ceil}
-use Rattle.std.proofs.lemmas.List.Elements.{All-contains_itself, All-push}
+use Rattle.std.proofs.lemmas.List.Elements.{All-contains_itself, All-filter, All-push, filter_passes}
+use Rattle.std.proofs.lemmas.List.Filters.{sum_by-filter_both}
+use Rattle.std.proofs.lemmas.List.Sums.{sum_by-append, sum_by-cons}
 use Rattle.afdx_tx.proofs.OwnLengths.{own_link}
 use Rattle.plan_analysis.specs.declared.traffic.Sender.{Sender}
-use Rattle.plan_analysis.specs.Traffic.{AreSendersOf, IsSubWait, IsWaitOf, arrived_before, flows_of, have_periods, round_of}
+use Rattle.plan_analysis.specs.Traffic.{AreSendersOf, IsSubWait, IsWaitOf, arrived, arrived_before, flow_of, flows_of, have_periods, round_of}
 use Rattle.plan_analysis.proofs.Busy.{all_of_map}
 use Rattle.run_laws.specs.TrafficInRun.{Arrival, AreApart, KeepPeriods, TrafficInRun, accepted_by, is_before, messages_in, times_in}
-use Rattle.run_laws.proofs.KeptPeriods.{IsAmong, IsKept, arrived_before_is, arrived_is, by_senders, is_within, most_of, weigh, weigh_all, weigh_between, weigh_fragments, weigh_none, weight_of}
+use Rattle.run_laws.proofs.KeptPeriods.{IsAmong, IsKept, IsTimed, by_senders, filter_all, has_none, is_within, most_is, most_of, still_kept, sum_between, weight_of}
 use Rattle.run_laws.proofs.MessageRun.{are_known, by_polls, finding_steps, wide_room}
-use Rattle.run_laws.proofs.Pieces.{fragments_both}
+use Rattle.run_laws.proofs.Pieces.{fragments_count, pieces_in}
 use Rattle.run_laws.proofs.Quiet.{AreOwed, traffic_released}
-use Rattle.run_laws.proofs.Ran.{all_back, at_of, have_run, some_gap, timely_rise}
+use Rattle.run_laws.proofs.Ran.{at_of, have_run, some_gap, timely_rise}
 
 -- what holds of all times holds of the last one
 last_of : (P : ℕ → Type 0) (earlier : List Arrival) (own : Arrival) → All P (times_in (earlier ++ own ∷ [])) → P own.at
@@ -27,14 +29,6 @@ by_last (a ∷ earlier) own apart =
     let after : a.at + 0 ≤ own.at = last_of (λ (n : ℕ). a.at + 0 ≤ n) earlier own apart.0 in
     All-cons (λ (b : Arrival). b.at ≤ own.at) a (earlier ++ own ∷ []) (omega arith) (by_last earlier own apart.1)
 
--- later more were accepted
-weigh_less : (weight : Arrival → ℕ) (q t : ℕ) (arrivals : List Arrival) → weigh (is_before q) weight arrivals ≤ weigh (is_before (q + t)) weight arrivals
-weigh_less weight q t [] = omega arith
-weigh_less weight q t (a ∷ arrivals) =
-    let rest = weigh_less weight q t arrivals in
-    let one : cond (nat_lt a.at q) (weight a) 0 ≤ cond (nat_lt a.at (q + t)) (weight a) 0 = grind (arith, nat_tests) in
-    omega arith
-
 among_of : (port : PortPlan) (senders : List Sender) → Contains (map (λ (s : Sender). s.port) senders) port → IsAmong port senders
 among_of port [] (k, lt, is) = absurd (omega arith)
 among_of port (sender ∷ senders) (zero, lt, is) = inl (sym is)
@@ -42,6 +36,14 @@ among_of port (sender ∷ senders) (suc k, lt, is) = inr (among_of port senders 
 
 ceil_most : (u p : ℕ) → 1 ≤ p → 1 + u / p ≤ div_ceil (suc u) p
 ceil_most u p step = grind arith
+
+pieces_are : (room : ℕ) (arrivals : List Arrival) → pieces_in room (messages_in arrivals) ≡ sum_by (weight_of room) arrivals
+pieces_are room [] = refl
+pieces_are room (a ∷ arrivals) =
+    let first = sum_by-cons (λ (m : Sent). pieces_of room (length m.bytes)) a.sent (messages_in arrivals) in
+    let own = sum_by-cons (weight_of room) a arrivals in
+    let rest = pieces_are room arrivals in
+    omega arith
 
 module _ (plan : Plan) (k s : ℕ) (valid : IsPlan plan) (wide : 8 ≤ room_of (link_plan_at plan.links k).lmax) (before : List Sent)
     (arrivals : List Arrival) where
@@ -51,53 +53,48 @@ module _ (plan : Plan) (k s : ℕ) (valid : IsPlan plan) (wide : 8 ≤ room_of (
   abbrev weight : Arrival → ℕ
   weight = weight_of (room_of link.lmax)
 
-  -- what was accepted before a time, in fragments
-  owed_is : (now : ℕ) → accepted_by plan k before arrivals now ≡ length (fragments_of plan k before) + weigh (is_before now) weight arrivals
-  owed_is now =
+  abbrev owed : ℕ → ℕ
+  owed = accepted_by plan k before arrivals
+
+  abbrev total : ℕ
+  total = length (fragments_of plan k (before ++ messages_in arrivals))
+
+  -- what was accepted with these arrivals, in fragments
+  count_is : (came : List Arrival) → length (fragments_of plan k (before ++ messages_in came))
+      ≡ pieces_in (room_of link.lmax) before + sum_by weight came
+  count_is came =
       let room : ℕ = room_of link.lmax in
-      let later : List Sent = messages_in (filter (is_before now) arrivals) in
-      let both = ap length (fragments_both plan.end_system room A 0 before later) in
-      let parts = length-append (fragments_of plan k before) (fragments_from plan.end_system room A (0 + length before) later) in
-      let count = weigh_fragments plan.end_system room (0 + length before) A (is_before now) arrivals wide in
+      let whole = fragments_count plan.end_system room A 0 (before ++ messages_in came) wide in
+      let parts = sum_by-append (λ (m : Sent). pieces_of room (length m.bytes)) before (messages_in came) in
+      let same = pieces_are room came in
       omega arith
 
-  -- and in all
-  total_is : (now : ℕ) → All (λ (a : Arrival). is_before now a ≡ true) arrivals
-      → length (fragments_of plan k (before ++ messages_in arrivals)) ≡ accepted_by plan k before arrivals now
-  total_is now all =
-      let room : ℕ = room_of link.lmax in
-      let both = ap length (fragments_both plan.end_system room A 0 before (messages_in arrivals)) in
-      let parts = length-append (fragments_of plan k before) (fragments_from plan.end_system room A (0 + length before) (messages_in arrivals)) in
-      let count = weigh_all plan.end_system room (0 + length before) A (is_before now) arrivals wide all in
-      let owed = owed_is now in
-      omega arith
+  all_owed : (at t : ℕ) → All (λ (a : Arrival). a.at ≤ at) arrivals → at < t → owed t ≡ total
+  all_owed at t by past = ap (λ (came : List Arrival). length (fragments_of plan k (before ++ messages_in came)))
+      (filter_all (is_before t) arrivals
+      (All-weaker (λ (a : Arrival). a.at ≤ at) (λ (a : Arrival). is_before t a ≡ true) (λ a le. lt-ltb a.at t (omega arith)) arrivals by))
 
   pub owed_most : (senders : List Sender) (at : ℕ) → AreSendersOf plan senders → have_periods link s senders ≡ true
       → All (λ (a : Arrival). IsAllowed plan k s a.sent) arrivals → All (λ (a : Arrival). a.at ≤ at) arrivals
-      → All (IsKept plan.ports arrivals) senders
-      → AreOwed (accepted_by plan k before arrivals) link s senders at (length (fragments_of plan k (before ++ messages_in arrivals)))
+      → All (IsKept plan.ports arrivals) senders → AreOwed owed link s senders at total
   owed_most senders at of periods allowed by kept = record {
     most = λ t. (
-        let whole = all (t + suc at) (omega arith) in
-        let less = weigh_less weight t (suc at) arrivals in
-        let here = owed_is t in
-        let there = owed_is (t + suc at) in
+        let whole = count_is arrivals in
+        let here = count_is (filter (is_before t) arrivals) in
+        let parts = sum_by-filter_both (is_before t) (λ (a : Arrival). not (is_before t a)) (λ a. refl) weight arrivals in
         omega arith
         );
-    all = all;
+    all = λ t past. all_owed at t by past;
     kept_before = kept_before;
     kept = λ q le. (
-        let whole = all (q + suc (at - q)) (omega arith) in
+        let whole = all_owed at (q + suc (at - q)) by (omega arith) in
         let few = window q (at - q) (λ p. 1 + (at - q) / p) (λ p step. omega arith) in
-        let same = arrived_is link s (at - q) senders in
+        let same : arrived (flows_of link s senders) (at - q) ≡ most_of link s (λ p. 1 + (at - q) / p) senders =
+        most_is link s (λ p. 1 + (at - q) / p) (flow_of link) _ (λ d. refl) senders in
         omega arith
         );
   }
     where
-      all : (t : ℕ) → at < t → accepted_by plan k before arrivals t ≡ length (fragments_of plan k (before ++ messages_in arrivals))
-      all t past = sym (total_is t (All-weaker (λ (a : Arrival). a.at ≤ at) (λ (a : Arrival). is_before t a ≡ true)
-          (λ a le. lt-ltb a.at t (omega arith)) arrivals by))
-
       -- each message is of a sender
       among : All (λ (a : Arrival). IsAmong a.sent.port senders) arrivals
       among = All-weaker (λ (a : Arrival). IsAllowed plan k s a.sent) (λ (a : Arrival). IsAmong a.sent.port senders)
@@ -105,33 +102,42 @@ module _ (plan : Plan) (k s : ℕ) (valid : IsPlan plan) (wide : 8 ≤ room_of (
           (subst (λ (ports : List PortPlan). Contains ports a.sent.port) (sym of.ports) is.queued.port)) arrivals allowed
 
       window : (q u : ℕ) (bound : ℕ → ℕ) → ((p : ℕ) → 1 ≤ p → 1 + u / p ≤ bound p)
-          → accepted_by plan k before arrivals (q + suc u) - accepted_by plan k before arrivals q
-          ≤ most_of link s bound senders
+          → owed (q + suc u) - owed q ≤ most_of link s bound senders
       window q u bound most =
-          let more = weigh_between weight q (suc u) arrivals in
-          let few = by_senders plan k s valid wide arrivals allowed q u bound most senders (λ a. is_within q (suc u) a.at) kept periods (λ a is. is)
-          (All-weaker (λ (a : Arrival). IsAmong a.sent.port senders) (λ (a : Arrival). is_within q (suc u) a.at ≡ true → IsAmong a.sent.port senders)
-          (λ a one is. one) arrivals among) in
-          let here = owed_is q in
-          let there = owed_is (q + suc u) in
+          let within : Arrival → Bool = is_within q (suc u) in
+          let timed : All (IsTimed plan k s valid wide q u bound most) (filter within arrivals) = λ i a lt.
+          let test = filter_passes within arrivals i a lt in
+          record {
+            allowed = All-filter within (λ (d : Arrival). IsAllowed plan k s d.sent) arrivals allowed i a lt;
+            from = grind (arith, nat_tests);
+            by = grind (arith, nat_tests);
+          } in
+          let few = by_senders plan k s valid wide q u bound most senders (filter within arrivals)
+          (All-weaker (IsKept plan.ports arrivals) (IsKept plan.ports (filter within arrivals)) (still_kept plan.ports within arrivals) senders kept)
+          periods timed (All-filter within (λ (a : Arrival). IsAmong a.sent.port senders) arrivals among) in
+          let more = sum_between weight q (suc u) arrivals in
+          let here = count_is (filter (is_before q) arrivals) in
+          let there = count_is (filter (is_before (q + suc u)) arrivals) in
           omega arith
 
-      kept_before : (q t : ℕ) → 1 ≤ t → accepted_by plan k before arrivals (q + t) - accepted_by plan k before arrivals q
-          ≤ arrived_before (flows_of link s senders) t
+      kept_before : (q t : ℕ) → 1 ≤ t → owed (q + t) - owed q ≤ arrived_before (flows_of link s senders) t
       kept_before q zero some = absurd (omega arith)
       kept_before q (suc u) some =
           let few = window q u (λ p. div_ceil (suc u) p) (λ p step. ceil_most u p step) in
-          let same = arrived_before_is link s (suc u) senders in
+          let same : arrived_before (flows_of link s senders) (suc u) ≡ most_of link s (λ p. div_ceil (suc u) p) senders =
+          most_is link s (λ p. div_ceil (suc u) p) (flow_of link) _ (λ d. refl) senders in
           omega arith
 
   -- nothing was accepted since, before the start
-  pub none_owed : (start : ℕ) → All (λ (n : ℕ). start + 0 ≤ n) (times_in arrivals)
-      → accepted_by plan k before arrivals start ≡ length (fragments_of plan k before)
+  pub none_owed : (start : ℕ) → All (λ (n : ℕ). start + 0 ≤ n) (times_in arrivals) → owed start ≡ length (fragments_of plan k before)
   none_owed start from =
-      let none = weigh_none (is_before start) weight arrivals (All-weaker (λ (a : Arrival). start + 0 ≤ a.at) (λ (a : Arrival). is_before start a ≡ false)
-      (λ a le. grind (arith, nat_tests)) arrivals (all_of_map (λ (n : ℕ). start + 0 ≤ n) (λ (a : Arrival). a.at) arrivals from)) in
-      let is = owed_is start in
-      omega arith
+      let later = all_of_map (λ (n : ℕ). start + 0 ≤ n) (λ (a : Arrival). a.at) arrivals from in
+      let none = has_none (filter (is_before start) arrivals) (λ i a lt. (
+      let soon = filter_passes (is_before start) arrivals i a lt in
+      let late = All-filter (is_before start) (λ (d : Arrival). start + 0 ≤ d.at) arrivals later i a lt in
+      grind (arith, nat_tests)
+      )) in
+      rw none (rw append-nil refl)
 
 -- the senders of a plan keep their periods
 are_kept : (plan : Plan) (senders : List Sender) (start : ℕ) (arrivals : List Arrival) → AreSendersOf plan senders → KeepPeriods senders start arrivals
@@ -184,8 +190,9 @@ traffic_in_run_holds plan senders accepted moments lines after k s late start wa
     (finding_steps plan accepted k s owed valid is.link (λ now. (let few = all.most now in let most = known.most in omega arith)) known.queued) finding stands in
     let when : AreTimely (bag_micros link.bag) late (own.at + wait) start (map at_of run.polls) = rw run.at timely in
     let from : start + 0 ≤ own.at = last_of (λ (n : ℕ). start + 0 ≤ n) earlier own keeps.ordered.0 in
-    let enough = traffic_released run.polls link.sub_vls (has_port link plan.ports) s (bag_micros link.bag) late start own.at wait total
-    (length (seen_of s S)) owed link s senders (latest None S) is.sub known.user (some_gap link.bag) last run.served run.users when run.had
-    (omega arith) (omega arith) all traffic.1 in
+    let enough = traffic_released (bag_micros link.bag) link.sub_vls (has_port link plan.ports) s owed late own.at wait total link s senders
+    is.sub known.user (some_gap link.bag) all traffic.1 start (length (seen_of s S)) (latest None S) run.polls
+    (record { later = last; served = run.served; users = run.users; timely = when; has = run.had })
+    (omega arith) (own.at - start) own.at (omega arith) (omega arith) (λ t past le. absurd (omega arith)) in
     by_polls plan accepted k s (own.at + wait) start (before ++ messages_in earlier) own.sent later run.polls run.added lines after is
     (timely_rise (bag_micros link.bag) late (own.at + wait) start run.polls when) run.show run.grown begins enough
