@@ -12,8 +12,7 @@ use Rattle.afdx_legal.specs.Streams.{link_stream, sub_stream, latest, IsPrefixOf
 use Rattle.vl_link.specs.Links.{AreSameSubs, Serves, GivesFrame, IsSameSub, sent_by, message_fragments}
 use Rattle.vl_link.specs.Seen.{Finds, taken_of}
 use Rattle.vl_link.proofs.SubInStep.{moves_of, gave_same, same_sub_here, same_sub_on}
-use Rattle.run_laws.specs.WorkedRun.{short_port, short_sent, short_frame, front_entry}
-use Rattle.run_laws.specs.EmitterRun.{three_link, three_plan, three_accepted, end_frame, line_after, long_sub, short_sub, subs_of, tx_of, ComesInTurn, ThirdReleased, WaitsItsTurn}
+use Rattle.run_laws.specs.WorkedRun.{short_port, short_sent, short_frame, front_entry, three_link, three_plan, three_accepted, end_frame, line_after, long_sub, short_sub, subs_of, tx_of, ComesInTurn, ThirdReleased, WaitsItsTurn}
 use Rattle.run_laws.proofs.WorkedRuns.{has_room, not_released}
 use Rattle.run_laws.proofs.NextRun.{next_in_run_holds}
 use Rattle.run_laws.proofs.MessageRun.{message_in_run_holds}

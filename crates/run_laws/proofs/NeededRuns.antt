@@ -1,19 +1,17 @@
 -- The cases in which a premise of the law of a message in a run fails, by computation.
-use Rattle.run_laws.proofs.Names.{blanked, cons_parts, true, Served, sym, append-nil, drop, IsQueued, All, ◌≡◌, ℕ, zero, suc, ◌<◌, [], ◌∷◌, ◌++◌, length, refl, arith, inr, ⊎_elim, below_one, false≢true, A, cutting, fragments_at, addresses, header_front, internet_header, link_header, udp_header, datagram, unnumbered, entry, Lines, log, Nothing, Released, Drains, Held, Passes, held_at, stream_at, EmitterPolls, AreTimely, AreFinding, IsAccepted, fragments_of, seen_of}
+use Rattle.run_laws.proofs.Names.{nil_isnt_cons, blanked, cons_parts, true, Served, sym, append-nil, drop, IsQueued, All, ◌≡◌, ℕ, zero, suc, ◌<◌, [], ◌∷◌, ◌++◌, length, refl, arith, inr, ⊎_elim, below_one, false≢true, A, cutting, fragments_at, addresses, header_front, internet_header, link_header, udp_header, datagram, unnumbered, entry, Lines, log, Nothing, Released, Drains, Held, Passes, held_at, stream_at, EmitterPolls, AreTimely, AreFinding, HasPlace, IsAccepted, fragments_of, seen_of}
 use Rattle.std.specs.Prelude.{replicate}
 use Rattle.afdx_frame.specs.Checksum.{checksum}
 use Rattle.subvl_queue.specs.Views.{after_take, ReceiverView, looked}
 use Rattle.vl_link.specs.Kept.{IsTied}
 use Rattle.vl_link.specs.Turn.{may_release}
 use Rattle.afdx_tx.specs.Run.{pace_in}
-use Rattle.afdx_legal.specs.Streams.{sub_stream}
+use Rattle.afdx_legal.specs.Streams.{sub_stream, IsPrefixOf}
 use Rattle.run_laws.proofs.EmitterRuns.{polls_by}
 use Rattle.vl_link.specs.Links.{taken_by, IsSameSub}
 use Rattle.vl_link.proofs.SubInStep.{moves_of, same_sub_here}
-use Rattle.afdx_laws.proofs.ListLemmas.{nil_isnt_cons}
 use Rattle.run_laws.specs.MessageInRun.{AreReleasedBy}
-use Rattle.run_laws.specs.EmitterRun.{fresh, sub_of}
-use Rattle.run_laws.specs.WorkedRun.{other_frame, other_line, tight_link, short_port, byte_plan, short_sent, bytes_accepted, short_frame, no_line, byte_line, failed_line, NeedsItsPremises}
+use Rattle.run_laws.specs.WorkedRun.{other_frame, other_line, tight_link, short_port, byte_plan, short_sent, bytes_accepted, short_frame, no_line, byte_line, failed_line, NeedsItsPremises, fresh, sub_of}
 use Rattle.run_laws.proofs.WorkedRuns.{releases, has_room, not_released}
 use Rattle.run_laws.proofs.Ran.{seen_append}
 
@@ -23,16 +21,17 @@ one_is = grind arith
 two_are : IsAccepted byte_plan (bytes_accepted 2) 0 0 (short_sent 0 ∷ []) (short_sent 0) []
 two_are = grind arith
 
--- a poll that transmits the first of one or two messages
-pub sends : (now more : ℕ) → Drains now 1 tight_link (bytes_accepted (suc more) 0) no_line (byte_line now) (Released 0 0)
-unfolding log checksum addresses header_front internet_header link_header udp_header datagram unnumbered cutting fragments_at
-sends now more = releases now 0 tight_link (bytes_accepted (suc more) 0) no_line (byte_line now) (short_frame 0 0 0 A) refl refl (omega arith) refl
-    (grind arith)
-    refl refl refl refl refl refl refl (grind arith)
-
 pub finds : (many before now : ℕ) (lines after : Lines) (did : Served) → Drains now 1 tight_link (bytes_accepted many 0) lines after did
     → AreFinding byte_plan (bytes_accepted many) 0 0 before (now ∷ []) lines after
 finds many before now lines after did turn = (after, inr (after, did, turn, refl), refl)
+
+-- a poll that transmits the first of one or two messages
+pub sends : (now more : ℕ) → AreFinding byte_plan (bytes_accepted (suc more)) 0 0 (suc more) (now ∷ []) no_line (byte_line now)
+unfolding log checksum addresses header_front internet_header link_header udp_header datagram unnumbered cutting fragments_at
+sends now more = finds (suc more) (suc more) now no_line (byte_line now) (Released 0 0)
+    (releases now 0 tight_link (bytes_accepted (suc more) 0) no_line (byte_line now) (short_frame 0 0 0 A) refl refl (omega arith) refl
+    (grind arith)
+    refl refl refl refl refl refl refl (grind arith))
 
 pub in_time : AreTimely 1000 0 1000 0 (1000 ∷ [])
 in_time = grind arith
@@ -56,12 +55,34 @@ finds_none queue lines queued due tied = polls_by 1000 byte_plan tight_link (hel
     same zero = grind (arith, moves_of)
     same (suc s) = same_sub_here _ _ refl
 
+none_before : (lines : Lines) → HasPlace byte_plan 0 0 [] (stream_at byte_plan 0 lines)
+none_before lines = has_room byte_plan 0 0 [] (stream_at byte_plan 0 lines) (omega arith) (λ full. absurd (omega arith))
+
 -- nothing is transmitted after these lines, and too little before
 misses : (earlier : ℕ) (lines : Lines)
     → length (seen_of 0 (stream_at byte_plan 0 lines ++ [])) < length (fragments_of byte_plan 0 (replicate earlier (short_sent 0) ++ short_sent 0 ∷ []))
     → AreReleasedBy byte_plan 0 0 (replicate earlier (short_sent 0) ++ short_sent 0 ∷ []) (stream_at byte_plan 0 lines) (stream_at byte_plan 0 lines) 1000 → ⊥
 misses earlier lines few = not_released byte_plan 0 0 1000 (replicate earlier (short_sent 0) ++ short_sent 0 ∷ []) (stream_at byte_plan 0 lines) [] []
     (stream_at byte_plan 0 lines) (sym (append-nil _)) (grind arith) few
+
+-- the frame of the first message begins the fragments of one or two
+pub begins : (now more : ℕ) → IsPrefixOf (seen_of 0 (stream_at byte_plan 0 (byte_line now))) (fragments_of byte_plan 0 (bytes_accepted (suc more) 0 0))
+unfolding log checksum addresses header_front internet_header link_header udp_header datagram unnumbered cutting fragments_at
+begins now more = (drop 1 (fragments_of byte_plan 0 (bytes_accepted (suc more) 0 0)), refl)
+
+-- the second message is not sent
+pub misses_second : (now bound : ℕ) → AreReleasedBy byte_plan 0 0 (short_sent 0 ∷ short_sent 0 ∷ []) (stream_at byte_plan 0 no_line)
+    (stream_at byte_plan 0 (byte_line now)) bound → ⊥
+unfolding log checksum addresses header_front internet_header link_header udp_header datagram unnumbered cutting fragments_at
+misses_second now bound = not_released byte_plan 0 0 bound (short_sent 0 ∷ short_sent 0 ∷ []) [] (entry now (short_frame 0 0 0 A) ∷ []) []
+    (stream_at byte_plan 0 (byte_line now)) refl (grind arith) (omega arith)
+
+-- the one message is sent after the bound
+pub misses_late : (now bound : ℕ) → bound < now → AreReleasedBy byte_plan 0 0 (short_sent 0 ∷ []) (stream_at byte_plan 0 no_line)
+    (stream_at byte_plan 0 (byte_line now)) bound → ⊥
+unfolding log checksum addresses header_front internet_header link_header udp_header datagram unnumbered cutting fragments_at
+misses_late now bound past = not_released byte_plan 0 0 bound (short_sent 0 ∷ []) [] [] (entry now (short_frame 0 0 0 A) ∷ [])
+    (stream_at byte_plan 0 (byte_line now)) refl (grind arith) (omega arith)
 
 -- the other message was taken and sent
 finds_other : EmitterPolls byte_plan 1000 other_line other_line
@@ -78,22 +99,13 @@ unfolding log checksum addresses header_front internet_header link_header udp_he
 needs_its_premises = record {
   valid = grind arith;
   wait = refl;
-  unaccepted = record {
-    accepted = λ is. nil_isnt_cons is.are;
-    start = tt;
-    place = has_room byte_plan 0 0 [] [] (omega arith) (λ full. absurd (omega arith));
-    finding = grind (arith, finds, below_one);
-    prefix = ([], refl);
-    is_up = refl;
-    comes = in_time;
-    missed = misses 0 no_line (omega arith);
-  };
+  unaccepted = grind (arith, nil_isnt_cons, none_before no_line, finds, below_one, in_time, misses 0 no_line (omega arith));
   early = record {
     accepted = two_are;
     start = λ starts. absurd (omega arith);
     place = has_room byte_plan 0 0 (short_sent 0 ∷ []) (stream_at byte_plan 0 (byte_line 5000)) (omega arith) (λ full. omega arith);
     finding = grind (arith, finds);
-    prefix = (drop 1 (fragments_of byte_plan 0 (bytes_accepted 2 0 0)), refl);
+    prefix = begins 5000 1;
     is_up = refl;
     comes = in_time;
     missed = misses 1 (byte_line 5000) (omega arith);
@@ -102,53 +114,24 @@ needs_its_premises = record {
     accepted = two_are;
     start = tt;
     place = λ place. let none = place [] (short_sent 0 ∷ []) refl (omega arith) in absurd (omega arith);
-    finding = finds 2 2 1000 no_line (byte_line 1000) (Released 0 0) (sends 1000 1);
-    prefix = (drop 1 (fragments_of byte_plan 0 (bytes_accepted 2 0 0)), refl);
+    finding = sends 1000 1;
+    prefix = begins 1000 1;
     is_up = refl;
     comes = in_time;
-    missed = not_released byte_plan 0 0 1000 (short_sent 0 ∷ short_sent 0 ∷ []) [] (entry 1000 (short_frame 0 0 0 A) ∷ []) []
-        (stream_at byte_plan 0 (byte_line 1000)) refl (grind arith) (omega arith);
+    missed = misses_second 1000 1000;
   };
   poll = finds_none fresh no_line (grind arith) refl refl;
-  unfound = record {
-    accepted = one_is;
-    start = tt;
-    place = has_room byte_plan 0 0 [] [] (omega arith) (λ full. absurd (omega arith));
-    finding = grind arith;
-    prefix = grind arith;
-    is_up = refl;
-    comes = in_time;
-    missed = misses 0 no_line (omega arith);
-  };
+  unfound = grind (arith, one_is, none_before no_line, in_time, misses 0 no_line (omega arith));
   unlike = record {
     accepted = one_is;
     start = omega arith;
-    place = has_room byte_plan 0 0 [] (stream_at byte_plan 0 other_line) (omega arith) (λ full. absurd (omega arith));
+    place = none_before other_line;
     finding = grind (arith, finds_other, finds);
     prefix = λ is. other_bytes (cons_parts is.1).0;
     is_up = refl;
     comes = in_time;
     missed = grind (arith, other_bytes, cons_parts, seen_append);
   };
-  down = record {
-    accepted = one_is;
-    start = tt;
-    place = has_room byte_plan 0 0 [] [] (omega arith) (λ full. absurd (omega arith));
-    finding = grind (arith, finds);
-    prefix = grind arith;
-    is_up = λ up. false≢true up;
-    comes = in_time;
-    missed = misses 0 failed_line (omega arith);
-  };
-  late = record {
-    accepted = one_is;
-    start = tt;
-    place = has_room byte_plan 0 0 [] [] (omega arith) (λ full. absurd (omega arith));
-    finding = finds 1 1 1001 no_line (byte_line 1001) (Released 0 0) (sends 1001 0);
-    prefix = ([], refl);
-    is_up = refl;
-    comes = grind (arith, ⊎_elim);
-    missed = not_released byte_plan 0 0 1000 (short_sent 0 ∷ []) [] [] (entry 1001 (short_frame 0 0 0 A) ∷ []) (stream_at byte_plan 0 (byte_line 1001)) refl
-        (grind arith) (omega arith);
-  };
+  down = grind (arith, one_is, none_before failed_line, finds, in_time, false≢true, misses 0 failed_line (omega arith));
+  late = grind (arith, one_is, none_before no_line, sends 1001 0, begins 1001 0, ⊎_elim, misses_late 1001 1000 (omega arith));
 }

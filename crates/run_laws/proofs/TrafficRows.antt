@@ -1,20 +1,18 @@
 -- The worked runs of the law of a message whose sub-VL's ports keep periods, by computation.
-use Rattle.run_laws.proofs.Names.{ℕ, zero, suc, ◌≡◌, ◌≢◌, ◌∙◌, sym, List, [], ◌∷◌, ◌++◌, length, drop, refl, ap, arith, inl, inr, A, blanked, cutting, fragments_at, addresses, header_front, internet_header, link_header, udp_header, datagram, unnumbered, log, entry, IsPrefixOf, PortPlan, Passes, Released, below_one, cons_parts, held_at, stream_at, FindsIt, fragments_of, seen_of}
+use Rattle.run_laws.proofs.Names.{ℕ, zero, suc, ◌≡◌, ◌≢◌, ◌∙◌, sym, Some, List, [], ◌∷◌, ◌++◌, length, refl, ap, arith, inl, inr, A, blanked, cutting, fragments_at, addresses, header_front, internet_header, link_header, udp_header, datagram, unnumbered, log, IsPrefixOf, PortPlan, Passes, Released, below_one, cons_parts, held_at, stream_at, FindsIt, fragments_of, seen_of}
 use Rattle.afdx_frame.specs.Checksum.{checksum}
 use Rattle.afdx_plan.specs.Config.{port_plan_at}
-use Rattle.plan_analysis.specs.Traffic.{AreSendersOf, IsWaitByTraffic}
+use Rattle.plan_analysis.specs.Traffic.{AreSendersOf, IsWaitByTraffic, IsWaitOf}
 use Rattle.subvl_queue.specs.Views.{ReceiverView, after_take}
 use Rattle.vl_link.specs.Links.{GivesFrame, IsSameSub}
 use Rattle.vl_link.proofs.SubInStep.{gave_same, moves_of, same_sub_here, same_sub_on}
-use Rattle.run_laws.specs.EmitterRun.{fresh, three_plan, line_after}
 use Rattle.run_laws.specs.MessageInRun.{AreReleasedBy}
 use Rattle.run_laws.specs.TrafficInRun.{AreApart, KeepPeriods}
 use Rattle.run_laws.specs.TrafficRow.{NeedsTraffic, TakesItsWait, byte_arrivals, byte_sender, byte_senders, other_sent, other_senders}
-use Rattle.run_laws.specs.WorkedRun.{byte_line, byte_plan, bytes_accepted, no_line, other_frame, short_frame, short_sent, tight_link}
+use Rattle.run_laws.specs.WorkedRun.{byte_line, byte_plan, bytes_accepted, no_line, other_frame, short_sent, tight_link, fresh, three_plan, line_after}
 use Rattle.run_laws.proofs.EmitterRuns.{finding, polls_by, waits_its_turn}
-use Rattle.run_laws.proofs.NeededRuns.{finds, held, in_time, needs_its_premises, one_is, other_bytes, sends}
+use Rattle.run_laws.proofs.NeededRuns.{begins, held, in_time, misses_late, misses_second, needs_its_premises, one_is, other_bytes, sends}
 use Rattle.run_laws.proofs.Ran.{seen_append}
-use Rattle.run_laws.proofs.WorkedRuns.{not_released}
 
 -- one fragment each 9,000 microseconds, with a round of 9,000
 three_wait : IsWaitByTraffic 9000 (record { fragments = 1; period = 9000 } ∷ []) 9000
@@ -49,6 +47,9 @@ byte_wait = record {
   most = λ t le. grind arith;
 }
 
+wait_is : IsWaitOf 0 byte_plan byte_senders byte_sender (Some 1000)
+wait_is = (refl, byte_wait)
+
 longer : IsWaitByTraffic 1000 (record { fragments = 1; period = 1000 } ∷ []) 999 → ⊥
 longer of = let least = of.most 0 (omega arith) in absurd (omega arith)
 
@@ -61,30 +62,24 @@ foreign_is of =
     let same : ◌≡◌ {A = ℕ} 11 10 = ap id_of of.ports in
     absurd (omega arith)
 
+foreign_wait : IsWaitOf 0 byte_plan other_senders byte_sender (Some 1000)
+foreign_wait = (refl, byte_wait)
+
+foreign_keep : KeepPeriods other_senders 0 (byte_arrivals (0 ∷ 0 ∷ []))
+foreign_keep = grind arith
+
+at_once : KeepPeriods byte_senders 0 (byte_arrivals (0 ∷ 0 ∷ [])) → ⊥
+at_once keeps =
+    let apart : AreApart 1000 (0 ∷ 0 ∷ []) = keeps.apart 0 byte_sender (omega arith) in
+    let far = apart.0 0 0 (omega arith) in
+    absurd (omega arith)
+
+before_start : KeepPeriods byte_senders 1000 (byte_arrivals (0 ∷ 1000 ∷ [])) → ⊥
+before_start keeps = let far = keeps.ordered.0 0 0 (omega arith) in absurd (omega arith)
+
 -- a message at the start
 alone : KeepPeriods byte_senders 0 (byte_arrivals (0 ∷ []))
 alone = grind arith
-
--- a poll at 2,000 that transmits the first of two messages
-misses_second : AreReleasedBy byte_plan 0 0 (short_sent 0 ∷ short_sent 0 ∷ []) (stream_at byte_plan 0 no_line)
-    (stream_at byte_plan 0 (byte_line 2000)) 2000 → ⊥
-unfolding log checksum addresses header_front internet_header link_header udp_header datagram unnumbered cutting fragments_at
-misses_second = not_released byte_plan 0 0 2000 (short_sent 0 ∷ short_sent 0 ∷ []) [] (entry 2000 (short_frame 0 0 0 A) ∷ []) []
-    (stream_at byte_plan 0 (byte_line 2000)) refl (grind arith) (omega arith)
-
-misses_by_one : AreReleasedBy byte_plan 0 0 (short_sent 0 ∷ []) (stream_at byte_plan 0 no_line)
-    (stream_at byte_plan 0 (byte_line 1000)) 999 → ⊥
-unfolding log checksum addresses header_front internet_header link_header udp_header datagram unnumbered cutting fragments_at
-misses_by_one = not_released byte_plan 0 0 999 (short_sent 0 ∷ []) [] [] (entry 1000 (short_frame 0 0 0 A) ∷ [])
-    (stream_at byte_plan 0 (byte_line 1000)) refl (grind arith) (omega arith)
-
-begins_2000 : IsPrefixOf (seen_of 0 (stream_at byte_plan 0 (byte_line 2000))) (fragments_of byte_plan 0 (bytes_accepted 2 0 0))
-unfolding log checksum addresses header_front internet_header link_header udp_header datagram unnumbered cutting fragments_at
-begins_2000 = (drop 1 (fragments_of byte_plan 0 (bytes_accepted 2 0 0)), refl)
-
-begins_1000 : IsPrefixOf (seen_of 0 (stream_at byte_plan 0 (byte_line 1000))) (fragments_of byte_plan 0 (bytes_accepted 1 0 0))
-unfolding log checksum addresses header_front internet_header link_header udp_header datagram unnumbered cutting fragments_at
-begins_1000 = ([], refl)
 
 -- what was sent when the next message was accepted
 sent_one : seen_of 0 (stream_at byte_plan 0 (byte_line 5000)) ≡ fragments_of byte_plan 0 (short_sent 0 ∷ [])
@@ -160,154 +155,16 @@ unfolding log fragments_at cutting
 needs_traffic =
     let rows = needs_its_premises in
     record {
-      foreign = record {
-        senders_are = foreign_is;
-        wait_is = (refl, byte_wait);
-        accepted = rows.crowded.accepted;
-        starts = tt;
-        quiet = refl;
-        keep = grind arith;
-        finding = rows.crowded.finding;
-        begins = rows.crowded.prefix;
-        is_up = refl;
-        timely = in_time;
-        missed = rows.crowded.missed;
-      };
-      short = record {
-        senders_are = ours;
-        wait_is = λ of. longer of.1;
-        accepted = one_is;
-        starts = tt;
-        quiet = refl;
-        keep = alone;
-        finding = finds 1 1 1000 no_line (byte_line 1000) (Released 0 0) (sends 1000 0);
-        begins = begins_1000;
-        is_up = refl;
-        timely = grind arith;
-        missed = misses_by_one;
-      };
-      unaccepted = record {
-        senders_are = ours;
-        wait_is = (refl, byte_wait);
-        accepted = rows.unaccepted.accepted;
-        starts = tt;
-        quiet = refl;
-        keep = alone;
-        finding = rows.unaccepted.finding;
-        begins = rows.unaccepted.prefix;
-        is_up = refl;
-        timely = in_time;
-        missed = rows.unaccepted.missed;
-      };
-      early = record {
-        senders_are = ours;
-        wait_is = (refl, byte_wait);
-        accepted = rows.early.accepted;
-        starts = rows.early.start;
-        quiet = sent_one;
-        keep = alone;
-        finding = rows.early.finding;
-        begins = rows.early.prefix;
-        is_up = refl;
-        timely = in_time;
-        missed = rows.early.missed;
-      };
-      owing = record {
-        senders_are = ours;
-        wait_is = (refl, byte_wait);
-        accepted = rows.crowded.accepted;
-        starts = tt;
-        quiet = owes_one;
-        keep = alone;
-        finding = rows.crowded.finding;
-        begins = rows.crowded.prefix;
-        is_up = refl;
-        timely = in_time;
-        missed = rows.crowded.missed;
-      };
-      unkept = record {
-        senders_are = ours;
-        wait_is = (refl, byte_wait);
-        accepted = rows.crowded.accepted;
-        starts = tt;
-        quiet = refl;
-        keep = λ keeps. at_once (keeps.apart 0 byte_sender (omega arith));
-        finding = rows.crowded.finding;
-        begins = rows.crowded.prefix;
-        is_up = refl;
-        timely = in_time;
-        missed = rows.crowded.missed;
-      };
-      sooner = record {
-        senders_are = ours;
-        wait_is = (refl, byte_wait);
-        accepted = rows.crowded.accepted;
-        starts = tt;
-        quiet = refl;
-        keep = λ keeps. before_start keeps.ordered;
-        finding = finds 2 2 2000 no_line (byte_line 2000) (Released 0 0) (sends 2000 1);
-        begins = begins_2000;
-        is_up = refl;
-        timely = grind arith;
-        missed = misses_second;
-      };
+      foreign = grind (arith, foreign_is, foreign_wait, foreign_keep, in_time, rows.crowded);
+      short = grind (arith, ours, longer, one_is, alone, sends 1000 0, begins 1000 0, misses_late 1000 999 (omega arith));
+      unaccepted = grind (arith, ours, wait_is, alone, in_time, rows.unaccepted);
+      early = grind (arith, ours, wait_is, sent_one, alone, in_time, rows.early);
+      owing = grind (arith, ours, wait_is, owes_one, alone, in_time, rows.crowded);
+      unkept = grind (arith, ours, wait_is, at_once, in_time, rows.crowded);
+      sooner = grind (arith, ours, wait_is, before_start, sends 2000 1, begins 2000 1, misses_second 2000 2000, rows.crowded);
       poll = rows.poll;
-      unfound = record {
-        senders_are = ours;
-        wait_is = (refl, byte_wait);
-        accepted = one_is;
-        starts = tt;
-        quiet = refl;
-        keep = alone;
-        finding = rows.unfound.finding;
-        begins = rows.unfound.prefix;
-        is_up = refl;
-        timely = in_time;
-        missed = rows.unfound.missed;
-      };
-      unlike = record {
-        senders_are = ours;
-        wait_is = (refl, byte_wait);
-        accepted = one_is;
-        starts = tt;
-        quiet = refl;
-        keep = alone;
-        finding = (other_sent, inl sends_other, refl);
-        begins = begins_other;
-        is_up = refl;
-        timely = in_time;
-        missed = misses_other;
-      };
-      down = record {
-        senders_are = ours;
-        wait_is = (refl, byte_wait);
-        accepted = one_is;
-        starts = tt;
-        quiet = refl;
-        keep = alone;
-        finding = rows.down.finding;
-        begins = rows.down.prefix;
-        is_up = rows.down.is_up;
-        timely = in_time;
-        missed = rows.down.missed;
-      };
-      late = record {
-        senders_are = ours;
-        wait_is = (refl, byte_wait);
-        accepted = one_is;
-        starts = tt;
-        quiet = refl;
-        keep = alone;
-        finding = rows.late.finding;
-        begins = rows.late.prefix;
-        is_up = refl;
-        timely = rows.late.comes;
-        missed = rows.late.missed;
-      };
+      unfound = grind (arith, ours, wait_is, alone, in_time, rows.unfound);
+      unlike = grind (arith, ours, wait_is, one_is, alone, in_time, sends_other, begins_other, misses_other);
+      down = grind (arith, ours, wait_is, alone, in_time, rows.down);
+      late = grind (arith, ours, wait_is, alone, rows.late);
     }
-  where
-    at_once : AreApart 1000 (0 ∷ 0 ∷ []) → ⊥
-    at_once apart = let far = apart.0 0 0 (omega arith) in absurd (omega arith)
-
-    before_start : AreApart 0 (1000 ∷ 0 ∷ 1000 ∷ []) → ⊥
-    before_start apart = let far = apart.0 0 0 (omega arith) in absurd (omega arith)

@@ -12,8 +12,7 @@ use Rattle.plan_analysis.specs.Traffic.{AreSendersOf, IsWaitOf}
 use Rattle.afdx_laws.specs.Rows.{Holds}
 use Rattle.run_laws.specs.Runs.{ArePolls, EmitterPolls}
 use Rattle.run_laws.specs.MessageInRun.{AreTimely, AreReleasedBy, FindsIt, IsAccepted, fragments_of, seen_of}
-use Rattle.run_laws.specs.WorkedRun.{short_port, short_sent, byte_plan, bytes_accepted, no_line, byte_line, failed_line, lines_by, other_frame}
-use Rattle.run_laws.specs.EmitterRun.{three_plan, line_after, WaitsItsTurn}
+use Rattle.run_laws.specs.WorkedRun.{short_port, short_sent, byte_plan, bytes_accepted, no_line, byte_line, failed_line, lines_by, other_frame, three_plan, line_after, WaitsItsTurn}
 use Rattle.run_laws.specs.TrafficInRun.{Arrival, KeepPeriods, AreFindingAll, accepted_by, messages_in}
 
 abbrev pub accepted_at : ℕ → Sent → Arrival

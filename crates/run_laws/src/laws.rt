@@ -1,10 +1,9 @@
 //! Laws over runs of polls. The functions are empty: each contract is a law.
-ghost use Rattle.run_laws.specs.EmitterRun.{ComesInTurn, WaitsItsTurn};
 ghost use Rattle.run_laws.specs.MessageInRun.{MessageInRun, ApartAreTimely};
 ghost use Rattle.run_laws.specs.Runs.{NextInRun, KeptReady};
 ghost use Rattle.run_laws.specs.TrafficInRun.{TrafficInRun};
 ghost use Rattle.run_laws.specs.TrafficRow.{TakesItsWait, NeedsTraffic};
-ghost use Rattle.run_laws.specs.WorkedRun.{ComesInRun, NeedsARun, MeetsTheWait, NeedsItsPremises};
+ghost use Rattle.run_laws.specs.WorkedRun.{ComesInRun, NeedsARun, MeetsTheWait, NeedsItsPremises, ComesInTurn, WaitsItsTurn};
 
 /// An emitter, or its drain, releases the next fragment of a message within the bound of its link: one BAG and one
 /// lateness per sub-VL of the link that has a port, counted from the fragment before it, which is of one of these.
