@@ -59,20 +59,10 @@ module _ {T : Type 0} where
   is_free : (t m F : ℕ) (log : List (ℕ × T)) (homes : Homes T) (i q : ℕ) → length log ≡ t → F ≤ t → t < F + m → q < F + m → t % m ≡ q % m
       → (ph : Phase) → InPhase F log homes i q ph
       → (ph ≡ free) × (get_elem? homes i ≡ some (some None)) × (t ≡ q)
-  is_free t m F log homes i q long a b c lies free k = grind (arith, one_turn)
   is_free t m F log homes i q long a b c lies ph k = grind (arith, one_turn)
 
   pub few_drawn : (s : St T) (r : Queue s) → length r.log + r.late + total waiting s.views ≤ 64 * 2 ^ 40
   few_drawn s r = grind (arith, total_le)
-
-  whole_open : (log log' : List (ℕ × T)) (views : List (View T)) (port : ℕ) → (Gone views (suc port) → ⊥) → (o : Option (List (ℕ × T)))
-      → Whole log views o → Whole log' views o
-  whole_open log log' views port here o k = grind arith
-
-  -- An open queue whose sender isn't back has no total, and no joined list of that sender.
-  grows : (closed : Bool) (log : List (ℕ × T)) (views : List (View T)) (x : ℕ × T) (port : ℕ) → closed ≡ false → x.0 ≡ port
-      → (Gone views (suc port) → ⊥) → (u : View T) → Collects closed log views u → Collects closed (log ++ x ∷ []) views u
-  grows closed log views x port e said here u g = grind (arith, owned_other, whole_open)
 
   -- Drawing a place: for the message, or a late one if the queue is closed.
   pub claims_ok : (said : Option (ℕ × T)) (x : ℕ × T) (n id : ℕ) (me : Seated T) → said ≡ Some x → x.0 ≡ me.0.port → me.0.role ≡ Sender

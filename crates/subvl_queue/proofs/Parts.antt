@@ -60,16 +60,6 @@ record StandFrom (n : ℕ) (list : List (ℕ × List ℕ)) (port : ℕ) (own : L
   rise : (i j : ℕ) → i < j → j < length own → get_or places i 0 < get_or places j 0
   at : (i : ℕ) → i < length own → get_or list (get_or places i 0 - n) (0, []) ≡ (port, get_or own i [])
 
--- A message of another sender in front.
-other : (n port : ℕ) (item : ℕ × List ℕ) (list : List (ℕ × List ℕ)) (own : List (List ℕ)) (places : List ℕ)
-    → StandFrom (suc n) list port own places → StandFrom n (item ∷ list) port own places
-other n port item list own places h = grind arith
-
--- A message of the same sender in front.
-mine : (n port : ℕ) (item : ℕ × List ℕ) (list : List (ℕ × List ℕ)) (own : List (List ℕ)) (places : List ℕ) → item.0 ≡ port
-    → StandFrom (suc n) list port own places → StandFrom n (item ∷ list) port (item.1 ∷ own) (n ∷ places)
-mine n port item list own places same h = grind arith
-
 stand_from : (n port : ℕ) (list : List (ℕ × List ℕ)) → StandFrom n list port (part_of port list) (places_from n port list)
 stand_from n port [] = grind arith
 stand_from n port (item ∷ items) = either (item.0 == port) (eqb-true item.0 port) (stand_from (suc n) port items)

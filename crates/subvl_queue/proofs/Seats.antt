@@ -23,9 +23,6 @@ module _ {T : Type 0} where
   blank (suc n) zero near = refl
   blank (suc n) (suc i) near = blank n i (omega arith)
 
-  only : (v d : View T) (j : ℕ) → get_elem? (v ∷ []) j ≡ some d → (j ≡ 0) × (v ≡ d)
-  only v d j e = grind arith
-
   pub starts_ok : (ws : List ℕ) (c : ℕ) → 0 < c → c ≤ 256 → length ws ≡ c + 2 → get_or ws 0 0 ≡ 2 ^ 32 + c → get_or ws 1 0 ≡ 0
       → ((i : ℕ) → i < c → get_or ws (i + 2) 0 ≡ 0) → Queue (opening ws (replicate {A = Option (ℕ × T)} c None) first_view)
   starts_ok ws c pos few wide room tail ready = let homes = map some (replicate {A = Option (ℕ × T)} c None) in

@@ -57,6 +57,7 @@ pub fn open_queue(alloc: Global, capacity: usize) -> Result<Receiver, AllocError
 }
 
 // The table of an empty queue.
+#[tactic(auto, using(crate::proofs::Seats::starts_ok))]
 fn empty_ring(alloc: Global, capacity: usize) -> Result<(Arc<Ring>, Knowing), AllocError>
     requires some { 1 ≤ capacity }
     requires capacity { capacity ≤ 256 }

@@ -16,6 +16,7 @@ use std::marker::Model;
 use std::sync::Arc;
 
 /// The steps of one take.
+#[tactic(auto, using(std::proofs::Common::arith))]
 pub fn fetch(ring: &Ring, seat: &mut Knowing, taken: &mut u64, slot: &mut usize) -> Option<Parcel>
     requires seat { RestsAs ring.now.table.shared.table_id AsReceiver seat.old }
     requires taken { (taken.old ≡ length seat.old.me.0.taken) × (taken.old ≤ 2 ^ 46) }

@@ -51,6 +51,7 @@ pub struct Ring {
 impl Ring {
     /// Reserves a slot, and returns whether there was room: fewer held messages and slot requests under
     /// way than the capacity.
+    #[tactic(auto, using(crate::proofs::Moves::reserves_ok))]
     pub fn reserve(&self, seat: &mut Knowing) -> bool
         requires seat { RestsAs self.now.table.shared.table_id Sender seat.old }
         requires asks { seat.old.me.0.asks < 2 ^ 40 }
@@ -144,6 +145,7 @@ impl Ring {
     }
 
     /// Whether the place after those taken is published. If so, its slot is then the seat's.
+    #[tactic(auto, using(crate::proofs::Moves::finds_ready_ok))]
     pub fn is_ready(&self, seat: &mut Knowing, place: u64, slot: usize) -> bool
         requires seat { RestsAs self.now.table.shared.table_id Receiver seat.old }
         requires slot { (slot ≡ place % self.now.capacity) × (slot < self.now.capacity) }
@@ -192,6 +194,7 @@ impl Ring {
 
     /// All accepted messages, once each sender has joined. If the queue is open, returns their
     /// number.
+    #[tactic(auto, using(crate::proofs::Moves::gathers_ok))]
     pub fn gather(&self, seat: &mut Knowing) -> u64
         requires seat { RestsAs self.now.table.shared.table_id Receiver seat.old }
         requires every { (k : ℕ) → k < seat.old.me.0.made →

@@ -7,14 +7,5 @@ take-parcel-requires-clause-slot c =
     let found = c.is_ready.ensures.found c.if-not-is_ready.false in
     (found.0, grind arith, ap (λ m. m.0.item) found.1.1)
 
-pub take-parcel-requires-clause-place : goal.take-parcel-requires-clause-place
-take-parcel-requires-clause-place c = grind arith
-
-pub returns-clause-next : goal.returns-clause-next
-returns-clause-next c = grind arith
-
-pub returns-clause-some : goal.returns-clause-some
-returns-clause-some c = grind arith
-
 pub returns-clause-slot : goal.returns-clause-slot
 returns-clause-slot c = grind (arith, mod-add-mod)

@@ -1,5 +1,5 @@
 use Rattle.subvl_queue.proofs.Names.{arith, rules, ℕ, Message}
-use Rattle.subvl_queue.proofs.Senders.{next_listed, goes_on, leaves}
+use Rattle.subvl_queue.proofs.Senders.{next_listed, goes_on}
 use Rattle.subvl_queue.proofs.gathered.Gathered.take.Goals as goal
 
 pub invariant_of-self-2 : goal.invariant_of-self-2
@@ -10,6 +10,3 @@ invariant_of-self-2 c =
     let got = c.in_ok-port.ensures in
     let at = next_listed _ v x kept.1.all got.next.listed in
     (grind arith, goes_on _ _ _ v _ x kept.1 got.some at got.counted, (search rules, search rules))
-
-pub returns-clause-some : goal.returns-clause-some
-returns-clause-some c = grind (arith, leaves)

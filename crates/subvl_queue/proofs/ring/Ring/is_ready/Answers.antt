@@ -1,9 +1,5 @@
 use Rattle.subvl_queue.proofs.Names.{suc, ◌≡◌, arith, length, eqb-true}
-use Rattle.subvl_queue.proofs.Moves.{finds_ready_ok}
 use Rattle.subvl_queue.proofs.ring.Ring.is_ready.Goals as goal
-
-pub load-requires : goal.load-requires
-load-requires c = grind (arith, finds_ready_ok)
 
 pub returns-clause-found : goal.returns-clause-found
 returns-clause-found c = λ hit.
@@ -11,6 +7,3 @@ returns-clause-found c = λ hit.
     let ready : c.load.result ≡ suc (length c.args.seat.now.me.0.taken) = omega arith in
     let found = c.load.ensures.2.0 ready in
     (found.0, grind arith)
-
-pub returns-clause-none : goal.returns-clause-none
-returns-clause-none c = grind arith
