@@ -186,6 +186,7 @@ impl<A: Network + Drop, B: Network + Drop> Mux<A, B> {
     /// Sends each named network that is up its twin of `frame`, a frame for A, once, at `at` in
     /// microseconds. A network that fails stays down. Returns which networks are up afterwards, or
     /// `BothDown` if neither was up before. If no named network was up, nothing changes.
+    #[tactic(auto, using(std::proofs::Common::arith))]
     pub fn hand(&mut self, at: u64, frame: &Frame, networks: Networks) -> Result<Standing, BothDown>
         requires { twin_of ForA frame.now.items ≡ frame.now.items }
         ensures down { IsErr result ↔ ((self.old.a_stands ≡ false) × (self.old.b_stands ≡ false)) }
@@ -227,6 +228,7 @@ impl<A: Network + Drop, B: Network + Drop> Mux<A, B> {
 
     /// As `hand`, with the frame in its buffer, which a network may exchange for another. What the
     /// buffer has afterwards is open. B's twin is made in place.
+    #[tactic(auto, using(std::proofs::Common::arith))]
     #[inline(always)]
     pub fn hand_with(
         &mut self,

@@ -25,6 +25,3 @@ invariant_of-self g c = record {
 
 pub returns-clause-mirrored : goal.returns-clause-mirrored
 returns-clause-mirrored g c = left g c
-
-pub returns-clause-stays_down : goal.returns-clause-stays_down
-returns-clause-stays_down g c = grind arith
