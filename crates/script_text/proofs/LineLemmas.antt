@@ -52,12 +52,6 @@ pub read_byte : (old mid new : Option (List ℕ)) (line : List ℕ) (b : ℕ) �
     → Consumes mid new (b ∷ []) → b ≢ 10 → HasRead old new (line ++ b ∷ [])
 read_byte old mid new line b h t other = grind (arith, Consumes-trans, plain_more, ne_eqb)
 
--- a text that is known is what was read, what was taken then, and what is left
-record IsWhole (items bytes : List ℕ) (new : Option (List ℕ)) (text : List ℕ) : Type 0 where
-  left : List ℕ
-  left_is : new ≡ Some left
-  is : text ≡ items ++ (bytes ++ left)
-
 -- the last line was taken
 pub eof_taken : (old mid new : Option (List ℕ)) (items : List ℕ) → HasRead old mid items
     → Consumes mid new [] → IsAtEnd new → 0 < length items → length items ≤ 20000

@@ -1,11 +1,11 @@
 -- What a log of frames holds after one more, and without its first.
-use Rattle.std.proofs.Common.{◌≡◌, ℕ, ◌+◌, ◌<◌, ◌≤◌, List, [], ◌∷◌, ◌++◌, length, take, drop, refl, ap, arith, length-drop, suc}
+use Rattle.std.proofs.Common.{◌≡◌, ℕ, ◌+◌, ◌<◌, ◌≤◌, List, [], ◌∷◌, ◌++◌, length, take, drop, refl, ap, arith, length-drop, suc, ◌⊎◌}
 use Rattle.std.specs.List.{sum_by}
 use Rattle.std.proofs.lemmas.List.{take_all, take-append-le, drop-append-le, length-take-le}
 use Rattle.std.proofs.lemmas.List.Sums.{sum_by-cons}
 use Rattle.std.proofs.lemmas.Bool.{cases_lt}
 use Rattle.redundant_mux.specs.Lines.{Entry, entry}
-use Rattle.script_text.specs.FrameLog.{spelled, AreInLog, bytes_in, LacksRoom}
+use Rattle.script_text.specs.FrameLog.{spelled, AreInLog, bytes_in}
 use Rattle.script_text.specs.declared.frame_log.Mark.{Mark}
 
 -- the frames that are spelled with one more at their end
@@ -50,13 +50,7 @@ spelled_bytes (m ∷ ms) bytes all =
     omega (arith, length-take-le m.len bytes within, length-drop m.len bytes, spelled_bytes ms (drop m.len bytes) rest)
 
 -- if one of the lists has no room, the log has none
-pub lacks_room : (marks : List Mark) (bytes : List ℕ) (frames_capacity bytes_capacity failures size : ℕ) → AreInLog marks bytes
+pub lacks_room : (marks : List Mark) (bytes : List ℕ) (frames_capacity bytes_capacity size : ℕ) → AreInLog marks bytes
     → (length marks < frames_capacity → bytes_capacity < length bytes + size)
-    → LacksRoom (record {
-      handed = spelled marks bytes;
-      frames_capacity = frames_capacity;
-      bytes_capacity = bytes_capacity;
-      failures = failures;
-    }) size
-lacks_room marks bytes frames_capacity bytes_capacity failures size kept full =
-    grind (arith, cases_lt, spelled_bytes, spelled_count)
+    → (frames_capacity ≤ length (spelled marks bytes)) ⊎ (bytes_capacity < bytes_in (spelled marks bytes) + size)
+lacks_room marks bytes frames_capacity bytes_capacity size kept full = grind (arith, cases_lt, spelled_bytes, spelled_count)

@@ -82,4 +82,4 @@ pub read_on_end : (n : ℕ) (w : List ℕ) (i : ℕ) → length w ≤ i → read
 read_on_end n w i h = rw (drop_all i w h)
 
 -- what `number` needs of them
-pub ruleset number_rules = (number_none, number_some, too_great)
+pub ruleset number_rules = (number_none, number_some, too_great, read_on_end)

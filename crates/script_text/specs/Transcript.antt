@@ -24,18 +24,10 @@ refusal_name NoPort = codes "NoPort"
 refusal_name NoSub = codes "NoSub"
 refusal_name TimeBack = codes "TimeBack"
 
--- the note on a line that was refused
-abbrev pub refused_note : ℕ → List ℕ → List ℕ
-refused_note line name = codes "line " ++ decimal line ++ codes ": refused " ++ name ++ 10 ∷ []
-
--- the note on a line that closed a sub-VL, which accepted `total` messages
-abbrev pub closed_note : ℕ → ℕ → List ℕ
-closed_note line total = codes "line " ++ decimal line ++ codes ": closed " ++ decimal total ++ 10 ∷ []
-
--- what a line that was run adds to the transcript
+-- what a line that was run adds to the transcript, if it was refused or closed a sub-VL, which accepted `total` messages
 unfoldable pub note_of : ℕ → Outcome → List ℕ
-note_of line (Became.Refused refusal) = refused_note line (refusal_name refusal)
-note_of line (Became.Closed total) = closed_note line total
+note_of line (Became.Refused refusal) = codes "line " ++ decimal line ++ codes ": refused " ++ refusal_name refusal ++ 10 ∷ []
+note_of line (Became.Closed total) = codes "line " ++ decimal line ++ codes ": closed " ++ decimal total ++ 10 ∷ []
 note_of line _ = []
 
 -- a network's name

@@ -69,6 +69,7 @@ impl<R: Read + Drop> Bytes<R> {
     }
 
     /// Appends to a line the buffered bytes before a line feed, and takes them.
+    #[tactic(auto, using(crate::proofs::FeedLemmas::before_within, crate::proofs::FeedLemmas::before_takes))]
     pub fn take_plain(&mut self, line: &mut Vec<u8>) -> Result<(), AllocError>
         ensures { OnOk result (TakesPlain self.old self.new line.old.items line.new.items) }
     {
@@ -80,6 +81,7 @@ impl<R: Read + Drop> Bytes<R> {
 }
 
 // The bytes of a text before its first line feed.
+#[tactic(auto, using(crate::proofs::FeedLemmas::before_at))]
 fn until_feed(text: &[u8]) -> &[u8]
     ensures { result.now ≡ before_feed text.now }
 {

@@ -101,12 +101,6 @@ impl RunFault {
     pub fn ends_writing(self) -> bool
         ensures { result ≡ ends_writing self }
     {
-        match self {
-            RunFault::Line { .. } => false,
-            RunFault::Lines => false,
-            RunFault::Read => false,
-            RunFault::Write => true,
-            RunFault::Memory => true,
-        }
+        matches!(self, RunFault::Write | RunFault::Memory)
     }
 }

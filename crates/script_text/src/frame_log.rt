@@ -96,6 +96,7 @@ impl Network for FrameLog {
 }
 
 // Appends a frame. Returns whether memory sufficed.
+#[tactic(auto, using(crate::proofs::LogLemmas::spelled_more))]
 fn keep(marks: &mut Vec<Mark>, bytes: &mut Vec<u8>, at: u64, frame: &[u8]) -> bool
     requires short { length frame.now ≤ GREATEST_FRAME }
     requires before { AreInLog marks.old.items bytes.old.items }

@@ -19,18 +19,12 @@ pub fn write_streams<W: Write>(writer: &mut W, a: &FrameLog, b: &FrameLog) -> Re
         (streams a.now.handed b.now.handed)) }
     ensures err { IfErr result (λ fault. fault ≡ RunFault.Write) }
 {
-    write_both(writer, a, b).map_err(|_| RunFault::Write)
-}
-
-fn write_both<W: Write>(writer: &mut W, a: &FrameLog, b: &FrameLog) -> io::Result<()>
-    ensures { OnOk result (Appends (W.contents writer.old) (W.contents writer.new)
-        (streams a.now.handed b.now.handed)) }
-{
-    write_lines(writer, Net::A, a)?;
-    write_lines(writer, Net::B, b)
+    write_lines(writer, Net::A, a).map_err(|_| RunFault::Write)?;
+    write_lines(writer, Net::B, b).map_err(|_| RunFault::Write)
 }
 
 // Writes a line for each frame of a network, under its name.
+#[tactic(auto, using(crate::proofs::Written::written_none, crate::proofs::Written::written_all), unfolding(crate::specs::Transcript::frame_lines))]
 fn write_lines<W: Write>(writer: &mut W, net: Net, log: &FrameLog) -> io::Result<()>
     ensures { OnOk result (Appends (W.contents writer.old) (W.contents writer.new)
         (frame_lines net log.now.handed)) }

@@ -1,7 +1,7 @@
 //! The outcome of a line, its note in a transcript, and the counts of a run.
 ghost use Rattle.std.specs.Prelude.{◌≡◌, IfErr, OnOk, ◌+◌, ◌^◌, ◌<◌};
 ghost use Rattle.std.specs.Io.KnownBytes.{Appends};
-ghost use Rattle.script_text.specs.Transcript.{refusal_name, note_of, refused_note, closed_note};
+ghost use Rattle.script_text.specs.Transcript.{note_of};
 ghost use Rattle.script_text.specs.Meaning.{counted, HasFew};
 
 use crate::faults::{Refusal, RunFault};
@@ -10,35 +10,28 @@ use std::io::Write;
 
 /// Writes the note on a line, counted from 1: a line of text if it was refused or closed a sub-VL, and
 /// nothing otherwise.
-#[tactic(auto, unfolding(crate::specs::Transcript::note_of))]
 #[inline(always)]
 pub fn write_note<W: Write>(writer: &mut W, line: u64, outcome: Outcome) -> Result<(), RunFault>
     ensures ok { OnOk result (Appends (W.contents writer.old) (W.contents writer.new)
         (note_of line outcome)) }
     ensures err { IfErr result (λ fault. fault ≡ RunFault.Write) }
 {
+    write_text(writer, line, outcome).map_err(|_| RunFault::Write)
+}
+
+#[tactic(auto, unfolding(crate::specs::Transcript::note_of))]
+fn write_text<W: Write>(writer: &mut W, line: u64, outcome: Outcome) -> io::Result<()>
+    ensures { OnOk result (Appends (W.contents writer.old) (W.contents writer.new)
+        (note_of line outcome)) }
+{
     match outcome {
         Outcome::Refused(refusal) => {
-            write_refused(writer, line, refusal).map_err(|_| RunFault::Write)
+            let name = refusal.name();
+            writeln!(writer, "line {line}: refused {name}")
         }
-        Outcome::Closed(total) => write_closed(writer, line, total).map_err(|_| RunFault::Write),
+        Outcome::Closed(total) => writeln!(writer, "line {line}: closed {total}"),
         _ => Ok(()),
     }
-}
-
-fn write_refused<W: Write>(writer: &mut W, line: u64, refusal: Refusal) -> io::Result<()>
-    ensures { OnOk result (Appends (W.contents writer.old) (W.contents writer.new)
-        (refused_note line (refusal_name refusal))) }
-{
-    let name = refusal.name();
-    writeln!(writer, "line {line}: refused {name}")
-}
-
-fn write_closed<W: Write>(writer: &mut W, line: u64, total: u64) -> io::Result<()>
-    ensures { OnOk result (Appends (W.contents writer.old) (W.contents writer.new)
-        (closed_note line total)) }
-{
-    writeln!(writer, "line {line}: closed {total}")
 }
 
 /// The outcome of a line: nothing for a line that says nothing, an accepted message, a refusal, a poll

@@ -1,5 +1,5 @@
 //! The words of a line, numbers in decimal digits, and the message of a `send` line.
-ghost use Rattle.std.specs.Prelude.{◌≡◌, ◌<◌, ◌≤◌, ℕ, [], ◌∷◌, true, false, length, slice_index, MatchOption, ◌+◌, ◌-◌, ◌*◌, ◌^◌, IfSome};
+ghost use Rattle.std.specs.Prelude.{◌≡◌, ◌<◌, ◌≤◌, ℕ, [], ◌∷◌, not, length, slice_index, MatchOption, ◌+◌, ◌-◌, ◌*◌, ◌^◌, IfSome};
 ghost use Rattle.script_text.specs.Command.{is_blank as is_blank_byte, words_of, number_of, is_numeral as is_numeral_text};
 ghost use Rattle.std.specs.Char.{is_ascii_digit};
 ghost use Rattle.std.specs.List.{list_all};
@@ -12,44 +12,31 @@ fn is_blank(byte: u8) -> bool
     byte == b' ' || byte == b'\t'
 }
 
-// The index of the first byte that is no blank, or the length.
-fn text_at(line: &[u8]) -> usize
+// The index of the first byte that is a blank or, if `blank` is false, that is none; or the length.
+fn first_at(line: &[u8], blank: bool) -> usize
     ensures within { result ≤ length line.now }
-    ensures before { (k : ℕ) → k < result → is_blank_byte (slice_index line.now k) ≡ true }
-    ensures found { result < length line.now → is_blank_byte (slice_index line.now result) ≡ false }
+    ensures before { (k : ℕ) → k < result → is_blank_byte (slice_index line.now k) ≡ not blank }
+    ensures found { result < length line.now → is_blank_byte (slice_index line.now result) ≡ blank }
 {
     for (place, byte) in line.iter().enumerate() {
-        if !is_blank(*byte) {
+        if is_blank(*byte) == blank {
             return place;
         }
     }
     line.len()
 }
 
-// The index of the first blank, or the length.
-fn blank_at(text: &[u8]) -> usize
-    ensures within { result ≤ length text.now }
-    ensures before { (k : ℕ) → k < result → is_blank_byte (slice_index text.now k) ≡ false }
-    ensures found { result < length text.now → is_blank_byte (slice_index text.now result) ≡ true }
-{
-    for (place, byte) in text.iter().enumerate() {
-        if is_blank(*byte) {
-            return place;
-        }
-    }
-    text.len()
-}
-
 /// The first word of a line and what follows it, if there is a word.
+#[tactic(auto, using(crate::proofs::WordLemmas::next_none))]
 pub fn next_word(line: &[u8]) -> Option<(&[u8], &[u8])>
     ensures { MatchOption result (words_of line.now ≡ [])
         (λ p. words_of line.now ≡ p.0.now ∷ words_of p.1.now) }
 {
-    let (_blanks, text) = line.split_at(text_at(line));
+    let (_blanks, text) = line.split_at(first_at(line, false));
     if text.is_empty() {
         return None;
     }
-    Some(text.split_at(blank_at(text)))
+    Some(text.split_at(first_at(text, true)))
 }
 
 /// Parses a word of decimal digits alone; `None` if it is another word, or its number is over `most`.

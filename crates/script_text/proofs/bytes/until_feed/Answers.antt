@@ -3,9 +3,6 @@ use Rattle.std.proofs.lemmas.List.{take_all}
 use Rattle.script_text.proofs.FeedLemmas.{before_at}
 use Rattle.script_text.proofs.bytes.until_feed.Goals as goal
 
-pub returns-in-Some : goal.returns-in-Some
-returns-in-Some c = grind (arith, before_at)
-
 pub returns-in-None : goal.returns-in-None
 returns-in-None c =
     let none = c.in-None.ensures in

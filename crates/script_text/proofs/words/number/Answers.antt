@@ -1,5 +1,5 @@
 use Rattle.std.proofs.Common.{◌<◌, ◌+◌, ◌*◌, ◌-◌, arith, get_or}
-use Rattle.script_text.proofs.WordLemmas.{number_none, number_some, too_great, read_on_end}
+use Rattle.script_text.proofs.WordLemmas.{number_none, too_great}
 use Rattle.script_text.proofs.words.number.Goals as goal
 
 pub returns-in-None-clause-value : goal.returns-in-None-clause-value
@@ -8,6 +8,3 @@ returns-in-None-clause-value c =
     grind arith in
     let great = too_great c.loop-digit.value c.args.most c.args.word.now c.loop-digit.digit-index c.loop-digit-test.true over in
     grind (arith, number_none)
-
-pub returns-then-value-most-clause-value : goal.returns-then-value-most-clause-value
-returns-then-value-most-clause-value c = grind (arith, number_some, read_on_end)
