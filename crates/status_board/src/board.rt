@@ -79,6 +79,7 @@ fn tell(cell: &Cell, teller: &mut Knowing, hearer: &mut Knowing)
 
 impl Writer {
     /// Adds an entry to the history.
+    #[tactic(auto, using(crate::proofs::Steps::publishes))]
     #[inline(always)]
     pub fn publish<R: Wait>(&mut self, rt: &R, counts: Counts)
         requires rising { NoFieldFalls (value_of self.old.history) counts }
@@ -101,6 +102,7 @@ impl Writer {
     }
 
     /// Gives a reader of the cell the whole history, and loads once, which returns the last entry.
+    #[tactic(auto, using(crate::proofs::Steps::reads))]
     pub fn read_last<R: Wait>(&mut self, rt: &R, reader: &mut Reader) -> Counts
         requires same { self.old.cell ≡ reader.old.cell }
         ensures writer { self.new ≡ self.old }

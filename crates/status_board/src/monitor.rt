@@ -68,6 +68,7 @@ impl Model for Reader {
 
 impl Reader {
     /// Loads once.
+    #[tactic(auto, using(crate::proofs::Steps::reads))]
     #[inline(always)]
     pub fn read<R: Wait>(&mut self, rt: &R) -> Counts
         ensures { IsReading self.old result self.new }

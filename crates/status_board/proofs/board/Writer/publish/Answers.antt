@@ -3,11 +3,8 @@ use Rattle.crossbeam_utils.specs.Seq.{cell_view}
 use Rattle.status_board.specs.Views.{value_of, zeros}
 use Rattle.status_board.specs.Rule.{counts_of}
 use Rattle.status_board.proofs.Histories.{last_or-push}
-use Rattle.status_board.proofs.Steps.{publishes, adds_entry}
+use Rattle.status_board.proofs.Steps.{adds_entry}
 use Rattle.status_board.proofs.board.Writer.publish.Goals as goal
-
-pub swap_as-requires : goal.swap_as-requires
-swap_as-requires g c = grind (arith, publishes)
 
 pub returns-clause-adds : goal.returns-clause-adds
 returns-clause-adds g c =

@@ -4,11 +4,8 @@ use Rattle.status_board.specs.declared.rule.View.{View}
 use Rattle.status_board.specs.Views.{StartsWith, Watched, IsReading}
 use Rattle.status_board.specs.Rule.{FindsEntry}
 use Rattle.status_board.proofs.Histories.{starts_both, counts_start}
-use Rattle.status_board.proofs.Steps.{reads, reading}
+use Rattle.status_board.proofs.Steps.{reading}
 use Rattle.status_board.proofs.board.Writer.read_last.Goals as goal
-
-pub load_as-found-requires : goal.load_as-found-requires
-load_as-found-requires g c = grind (arith, reads)
 
 pub returns-clause-reading : goal.returns-clause-reading
 returns-clause-reading g c =
