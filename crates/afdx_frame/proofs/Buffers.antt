@@ -8,28 +8,19 @@ record Agrees (d : List ℕ) (f : Fragment) : Type 0 where
   pub same : (i : ℕ) → covers f i ≡ true → slice_index f.bytes (i - 8 * f.offset) ≡ slice_index d i
   pub total : f.more ≡ false → 8 * f.offset + length f.bytes ≡ length d
 
--- A test with the same value in both branches has that value.
-either : {A : Type 0} (b : Bool) (x : A) → (if b then x else x) ≡ x
-either true x = refl
-either false x = refl
-
 -- After fragments of the datagram, the buffer holds the datagram's byte at each covered position.
 byte_after : (d : List ℕ) (i : ℕ) (fs : List Fragment) (b : Buffer) → All (Agrees d) fs
     → (put_all b fs).byte_at i ≡ (if list_any (λ f. covers f i) fs then Some (slice_index d i) else b.byte_at i)
 byte_after d i [] b all = refl
-byte_after d i (f ∷ fs) b all = byte_after d i fs (put b f) (All-tail (Agrees d) f fs all) ∙ elim (cases_Bool (covers f i)) [
-  | inl in_it ↦ rw (in_it, (All-head (Agrees d) f fs all).same i in_it) (either (list_any (λ g. covers g i) fs) _)
-  | inr isnt ↦ rw isnt refl
-]
+byte_after d i (f ∷ fs) b all =
+    grind (arith, byte_after d i fs (put b f), All-tail (Agrees d) f fs all, All-head (Agrees d) f fs all, cases_Bool (covers f i))
 
 -- After fragments of the datagram, the length is the datagram's if the last one came.
 total_after : (d : List ℕ) (fs : List Fragment) (b : Buffer) → All (Agrees d) fs
     → (put_all b fs).total ≡ (if list_any (λ f. not f.more) fs then Some (length d) else b.total)
 total_after d [] b all = refl
-total_after d (f ∷ fs) b all = total_after d fs (put b f) (All-tail (Agrees d) f fs all) ∙ elim (cases_Bool f.more) [
-  | inl goes_on ↦ rw goes_on refl
-  | inr ends ↦ rw (ends, (All-head (Agrees d) f fs all).total ends) (either (list_any (λ g. not g.more) fs) _)
-]
+total_after d (f ∷ fs) b all =
+    grind (arith, total_after d fs (put b f), All-tail (Agrees d) f fs all, All-head (Agrees d) f fs all, cases_Bool f.more)
 
 -- If all positions are known, the bytes are given.
 all_bytes : (xs : List ℕ) (byte_at : ℕ → Option ℕ) (start : ℕ)

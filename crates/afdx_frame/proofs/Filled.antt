@@ -30,15 +30,11 @@ module _ (vl end_system : ℕ) (net : Net) (port : PortPlan) (ident : ℕ) (piec
       → take 38 xs ≡ link_header vl end_system net ++ internet_header end_system port ident piece ++ ports
       → take 34 xs ≡ headers
   unfolding link_header
-  headers_there xs ports all =
-      sym (take-take 34 38 xs (omega arith))
-      ∙ ap (take 34) (all ∙ sym (append_assoc (link_header vl end_system net) (internet_header end_system port ident piece) ports))
-      ∙ front_of 34 headers ports headers length-headers refl
+  headers_there xs ports all = grind (arith, take-take 34 38 xs, append_assoc, front_of 34 headers ports headers, length-headers)
 
   -- The UDP ports follow them.
   pub ports_follow : (xs ports : List ℕ)
       → take 38 xs ≡ link_header vl end_system net ++ internet_header end_system port ident piece ++ ports
       → take 38 xs ≡ take 34 xs ++ ports
   unfolding link_header
-  ports_follow xs ports all = rw (headers_there xs ports all)
-      (grind arith)
+  ports_follow xs ports all = grind (arith, headers_there xs ports all, append_assoc)

@@ -109,11 +109,7 @@ module _ (end_system : ℕ) (port : PortPlan) (message : List ℕ) (place : ℕ)
   payload_says is within = grind (arith, behind_header, take_at, length-payload)
 
   pub length-frame : IsPort port → piece.start + piece.len ≤ 8 + length message → length frame ≡ max 60 (35 + piece.len)
-  length-frame is within =
-      let part = length-payload within in
-      let zeros = length-append (replicate (25 - piece.len) 0) (number ∷ []) in
-      let many = length-replicate {A = ℕ} (25 - piece.len) 0 in
-      omega (arith, length-drop 34 frame, ap length (behind_header is), length-append payload tail)
+  length-frame is within = grind (arith, length-payload, length-append, length-replicate, length-drop 34 frame, behind_header)
 
   padding_ok : IsPort port → piece.start + piece.len ≤ 8 + length message → piece.len ≤ 1479 → HasZeroPadding frame
   padding_ok is within most k from below =
@@ -122,12 +118,10 @@ module _ (end_system : ℕ) (port : PortPlan) (message : List ℕ) (place : ℕ)
       let part = length-payload within in
       let zeros : List ℕ = replicate (25 - piece.len) 0 in
       let many = length-replicate {A = ℕ} (25 - piece.len) 0 in
-      let back : 34 + (k - 34) ≡ k = omega arith in
-      ap (λ (i : ℕ). get_or frame i 0) (sym back) ∙ sym (get_or-drop 34 frame (k - 34) 0)
-      ∙ ap (λ (bytes : List ℕ). get_or bytes (k - 34) 0) (behind_header is)
-      ∙ get_or-append_right payload tail (k - 34) 0 (omega arith)
-      ∙ get_or_append_left zeros (number ∷ []) 0 (k - 34 - length payload) (omega arith)
-      ∙ get_or-replicate (25 - piece.len) (k - 34 - length payload) 0 0 (omega arith)
+      let last : get_or tail (k - 34 - length payload) 0 ≡ 0 =
+      get_or_append_left zeros (number ∷ []) 0 (k - 34 - length payload) (omega arith)
+      ∙ get_or-replicate (25 - piece.len) (k - 34 - length payload) 0 0 (omega arith) in
+      grind (arith, get_or-drop 34 frame (k - 34) 0, behind_header is, get_or-append_right payload tail (k - 34) 0, last)
 
   number_ok : slice_index frame (length frame - 1) ≡ number
   number_ok = grind (arith, get_or_push, length-append)

@@ -62,8 +62,7 @@ pub fragments_more : (messages : List Sent) (end_system room : ℕ) (net : Net) 
     ++ fragments_at end_system room net (place + length messages) sent
 fragments_more [] end_system room net place sent = grind (arith, append-nil)
 fragments_more (first ∷ later) end_system room net place sent =
-    let there : suc place + length later ≡ place + suc (length later) = omega arith in
-    rw (fragments_more later end_system room net (suc place) sent, there, append_assoc) refl
+    grind (arith, fragments_more later end_system room net (suc place) sent, append_assoc)
 
 -- All pieces are left of a cut that has given none.
 pub pieces_whole : (room : ℕ) (port : PortPlan) (place : ℕ) (bytes : List ℕ) (capacity : ℕ)

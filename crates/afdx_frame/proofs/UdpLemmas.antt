@@ -30,9 +30,7 @@ datagram_sum : (end_system : ℕ) (port : PortPlan) (message : List ℕ) → por
     ≡ word_sum (udp_front port message) + udp_checksum (udp_sum end_system port message) + word_sum message
 unfolding datagram
 datagram_sum end_system port message generated =
-    let header = header_sum end_system port message generated in
-    let both = word_sum-append 4 (udp_header end_system port message) message (length-udp_header end_system port message) in
-    omega arith
+    grind (arith, header_sum, word_sum-append 4 (udp_header end_system port message) message, length-udp_header)
 
 -- The length of the datagram.
 length-datagram : (end_system : ℕ) (port : PortPlan) (message : List ℕ)

@@ -208,6 +208,7 @@ impl Rest {
 impl Cut {
     /// Begins to cut a message of 1 to 8,192 bytes. `place` counts the accepted messages of the
     /// sub-VL from 0.
+    #[tactic(auto, using(crate::proofs::Twins::pieces_whole))]
     pub fn new(bytes: Vec<u8>, place: u64, port: &PortPlan) -> Cut
         requires port { IsPort port.now }
         requires some { 1 ≤ vec_len bytes }

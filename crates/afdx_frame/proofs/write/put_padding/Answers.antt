@@ -6,13 +6,7 @@ use Rattle.afdx_frame.proofs.write.put_padding.Goals as goal
 fewer : (bytes front : List ℕ) (end padding : ℕ) → length front ≡ end → padding ≤ 25
     → take (end + 25) bytes ≡ front ++ replicate 25 0
     → take (end + padding) bytes ≡ front ++ replicate padding 0
-fewer bytes front end padding is few all =
-    let at : end + padding ≡ length front + padding = omega arith in
-    sym (grind (arith, take-take))
-    ∙ ap (take (end + padding)) all
-    ∙ ap (λ (n : ℕ). take n (front ++ replicate 25 0)) at
-    ∙ take-append-add front (replicate 25 0) padding
-    ∙ ap (λ (zeros : List ℕ). front ++ zeros) (take-replicate padding 25 0 few)
+fewer bytes front end padding is few all = grind (arith, take-take, take-append-add front (replicate 25 0) padding, take-replicate {X = ℕ} padding 25 0)
 
 pub returns-then-padding-gt0 : goal.returns-then-padding-gt0
 returns-then-padding-gt0 c = grind (arith, fewer, length-take-le)
