@@ -1,6 +1,6 @@
 -- The worked cases of the laws, by computation.
-use Rattle.afdx_frame.proofs.Names.{[], ◌∷◌, refl, arith, List, inr, checksum, udp_checksum, IsCutting, cutting, piece_at, pieces_left, A, addresses, header_front, internet_header, link_header, udp_header, datagram, unnumbered, udp_sum, fragments_at, IsPiece, Contains, AllByRecursion, All-contains, All-from_recursion, Fragment, IsWordChanged}
-use Rattle.afdx_frame.specs.Worked.{ChecksOneHeader, CutsInTwo, KeepsTwoPieces, long_sent, TurnsOneFrame, SaysItsFields, GrowsByOne, CutsBoth, TurnsThreeFragments, first_bytes, middle_bytes, last_bytes, ThreePieces, MissesTheMiddle, ChecksThreeDatagrams, first_datagram, damaged_datagram}
+use Rattle.afdx_frame.proofs.Names.{[], ◌∷◌, refl, arith, inr, checksum, udp_checksum, cutting, piece_at, pieces_left, A, addresses, header_front, internet_header, link_header, udp_header, datagram, unnumbered, udp_sum, fragments_at, IsPiece, IsWordChanged}
+use Rattle.afdx_frame.specs.Worked.{ChecksOneHeader, CutsInTwo, KeepsTwoPieces, long_sent, TurnsOneFrame, SaysItsFields, GrowsByOne, CutsBoth, TurnsThreeFragments, ThreePieces, MissesTheMiddle, ChecksThreeDatagrams, first_datagram, damaged_datagram}
 use Rattle.afdx_plan.specs.Demo.{demo_port}
 use Rattle.afdx_plan.proofs.DemoPlan.{demo_port_is}
 use Rattle.afdx_frame.proofs.Says.{says}
@@ -9,15 +9,11 @@ pub checks_one_header : ChecksOneHeader
 unfolding checksum
 checks_one_header = search arith
 
--- The two pieces are a cutting.
-two_are : IsCutting 25 49 (24 ∷ 25 ∷ [])
-two_are = grind arith
-
 pub cuts_in_two : CutsInTwo
 unfolding cutting
 cuts_in_two = record {
   cut = refl;
-  is = two_are;
+  is = grind arith;
   loose = λ is. let t = is.tight 1 refl in absurd (omega arith);
   narrow = grind arith;
 }
@@ -50,14 +46,6 @@ cuts_both = grind arith
 pub turns_three_fragments : TurnsThreeFragments
 unfolding checksum addresses header_front internet_header link_header udp_header datagram unnumbered cutting fragments_at
 turns_three_fragments = search arith
-
--- A property of each element of a list, for one that it contains.
-each : (P : Fragment → Type 0) (fs : List Fragment) (f : Fragment) → AllByRecursion P fs → Contains fs f → P f
-each P fs f all among = All-contains P fs f (All-from_recursion P fs all) among
-
--- the three fragments of the twenty bytes
-abbrev three : List Fragment
-three = first_bytes ∷ middle_bytes ∷ last_bytes ∷ []
 
 pub three_pieces : ThreePieces
 unfolding cutting
