@@ -1,73 +1,43 @@
 -- A judge before the first packet of a recording, and the law: of what was sent legally it finds nothing but missing twins.
-use Rattle.judge_laws.proofs.Names.{A, Accepted, All, All-filter, All-nil, All-tail, All-weaker, AreAllowed, AreKnown, B, Bool, Entry, IsAllowed, IsKnown, IsLegalOn, IsNumbered, IsPlan, IsSpaced, LinkPlan, List, Net, None, Option}
-use Rattle.judge_laws.proofs.Names.{Options, Plan, Sent, Some, Stamp, TakeTurnsOn, TakesTurns, ap, append_assoc, arith, bag_micros, blanked, cases_lt, entry, entry_number, eqb-true, false, filter, findings, fragments}
-use Rattle.judge_laws.proofs.Names.{get_or-replicate, get_or_default, inl, inr, is_both, known_all, latest, length, length-replicate, line_on, link_in, link_plan_at, link_stream, map, map-append, nat_eq, new_line, new_link}
-use Rattle.judge_laws.proofs.Names.{new_sub, no_times, on_both, on_both_is, refl, replicate, room_of, side, stamp_of, stream_front, sub_at, sub_in, sub_stream, subst, suc, sym, take, told, true, twin_same, with_append, zero, ℕ}
-use Rattle.judge_laws.proofs.Names.{[], ◌++◌, ◌+◌, ◌<◌, ◌∙◌, ◌∷◌, ◌≡◌, ◌≤◌}
-use Rattle.judge_laws.specs.NoFalseAlarm.{IsMissing, IsRunOf, IsSent, NoFalseAlarm, packets_of}
-use Rattle.judge_laws.proofs.Copies.{IsCopy, IsStream, all_copies}
-use Rattle.judge_laws.proofs.Line.{IsAhead, IsLine, of_profile}
-use Rattle.judge_laws.proofs.Link.{AreCopies}
-use Rattle.judge_laws.proofs.Pieces.{IsAwaiting, awaits_all, awaits_late}
-use Rattle.judge_laws.proofs.Recording.{IsGoing, goes_on, id_of, rest_of}
-use Rattle.judge_laws.proofs.Turns.{AreDue, own_sub}
-use Rattle.judge_laws.proofs.Waits.{IsWait}
+use Rattle.judge_laws.proofs.Names.{A, Accepted, All, All-drop, All-filter, All-nil, All-weaker, AreAllowed, AreKnown, B, Bool, Entry, Finding, IsKnown, IsLegalOn, IsNumbered, IsPlan, IsSpaced, Link, LinkPlan, List, Nearness, Net}
+use Rattle.judge_laws.proofs.Names.{None, OnNet, Option, Options, Plan, Setting, Some, Stamp, Tag, TakeTurnsOn, TakesTurns, Times, ap, append_assoc, arith, bag_micros, blanked, cases_Bool, cases_lt, drop_at, entry, entry_number}
+use Rattle.judge_laws.proofs.Names.{eqb-true, false, filter, findings, found_at_end, found_from, found_given_up, found_left, found_missing, found_with_end, get_or-replicate, get_or_default, inl, inr, is_both, known_all, latest}
+use Rattle.judge_laws.proofs.Names.{length, length-replicate, line_on, link_at, link_in, link_plan_at, link_stream, map, map-append, nat_eq, new_line, new_link, new_sub, no_times, number_in, on_both, on_both_is, refl, replicate}
+use Rattle.judge_laws.proofs.Names.{side, stamp_of, stream_front, sub_at, sub_in, sub_stream, subst, suc, sym, tag_of, take, times_with, told, true, twin_same, with_append, zero, ℕ, [], ◌++◌, ◌+◌, ◌<◌, ◌∙◌, ◌∷◌, ◌≡◌, ◌≤◌}
+use Rattle.judge_laws.specs.NoFalseAlarm.{AreFit, IsMissing, IsRunOf, IsSent, NoFalseAlarm, packets_of}
+use Rattle.judge_laws.proofs.Copies.{AreCopied, IsCopy, IsStream, IsWait, all_copies, all_missing, copies_go_on}
+use Rattle.judge_laws.proofs.Line.{AreDue, IsAhead, IsLine, of_profile, own_sub}
+use Rattle.judge_laws.proofs.Pieces.{awaits}
+use Rattle.judge_laws.proofs.Reading.{back_none}
+use Rattle.judge_laws.proofs.Recording.{AreRecorded, AreTwins, IsGoing, id_of, judge_of, packet_taken, recorded_after, recorded_next, rest_after, rest_of, setting_at}
 
 -- ---- a new line
 
-new_due : (late : Bool) (p : ℕ) → (own_sub (new_line late false).subs p).due ≡ false
-new_due late zero = refl
-new_due late (suc zero) = refl
-new_due late (suc (suc zero)) = refl
-new_due late (suc (suc (suc zero))) = refl
-new_due late (suc (suc (suc (suc p)))) = refl
-
-pub new_came : (late : Bool) (p : ℕ) → (own_sub (new_line late false).subs p).came ≡ 0
-new_came late zero = refl
-new_came late (suc zero) = refl
-new_came late (suc (suc zero)) = refl
-new_came late (suc (suc (suc zero))) = refl
-new_came late (suc (suc (suc (suc p)))) = refl
-
-pub new_joining : (late : Bool) (s : ℕ) → s < 4 → (sub_at (new_line late false).subs s).joining ≡ (new_sub late false s).joining
-new_joining late zero few = refl
-new_joining late (suc zero) few = refl
-new_joining late (suc (suc zero)) few = refl
-new_joining late (suc (suc (suc zero))) few = refl
-new_joining late (suc (suc (suc (suc s)))) few = absurd (omega arith)
+-- nothing is due of its sub-VLs
+pub new_is : (late : Bool) (p : ℕ) → ((own_sub (new_line late false).subs p).due ≡ false) × ((own_sub (new_line late false).subs p).came ≡ 0)
+    × (p < 4 → (sub_at (new_line late false).subs p).joining ≡ (new_sub late false p).joining)
+new_is late zero = (refl, refl, λ few. refl)
+new_is late (suc zero) = (refl, refl, λ few. refl)
+new_is late (suc (suc zero)) = (refl, refl, λ few. refl)
+new_is late (suc (suc (suc zero))) = (refl, refl, λ few. refl)
+new_is late (suc (suc (suc (suc p)))) = (refl, refl, λ few. absurd (omega arith))
 
 none_due : (late : Bool) (rest : List Entry) → AreDue (new_line late false).subs (new_line late false).figures.frames rest
 none_due late rest = record {
   size = refl;
   most = omega arith;
-  came = λ p. omega (arith, new_came late p);
-  once = λ p q is. absurd (cc (is, new_due late p));
-  passed = λ p q is. absurd (cc (is, new_due late p));
+  came = λ p. omega (arith, (new_is late p).1);
+  once = λ p q is. absurd (cc (is, (new_is late p).0));
+  passed = λ p q is. absurd (cc (is, (new_is late p).0));
 }
 
--- what is known of a sub-VL whose fragments `left` are to come
-awaits : (plan : Plan) (k s : ℕ) (net : Net) (late : Bool) (accepted : List Sent) (before left : List (List ℕ)) → IsPlan plan
-    → k < length plan.links → s < (link_plan_at plan.links k).sub_vls → All (IsAllowed plan k s) accepted
-    → fragments plan.end_system (room_of (link_plan_at plan.links k).lmax) net accepted ≡ before ++ left
-    → (late ≡ false → before ≡ []) → IsAwaiting plan k s net (new_sub late false s).joining left
-awaits plan k s net true accepted before left valid inside index allowed are first =
-    awaits_late plan k s net accepted before left valid inside index allowed are
-awaits plan k s net false accepted before left valid inside index allowed are first =
-    subst (IsAwaiting plan k s net (new_sub false false s).joining) (are ∙ rw (first refl) refl)
-    (awaits_all plan k s net false accepted valid inside index allowed)
-
 -- a list is numbered, spaced and in turn from a place on
-numbered_on : (i : ℕ) (xs ys : List Entry) → IsNumbered entry_number i (xs ++ ys) → IsNumbered entry_number (i + length xs) ys
-numbered_on i [] ys numbered = subst (λ n. IsNumbered entry_number n ys) (omega arith) numbered
-numbered_on i (x ∷ xs) ys numbered = subst (λ n. IsNumbered entry_number n ys) (omega arith) (numbered_on (i + 1) xs ys numbered.1)
-
-spaced_on : (gap : ℕ) (before : Option Stamp) (xs ys : List Entry) → IsSpaced gap before (xs ++ ys) → IsSpaced gap (latest before xs) ys
-spaced_on gap before [] ys spaced = spaced
-spaced_on gap before (x ∷ xs) ys spaced = spaced_on gap (Some (stamp_of x)) xs ys spaced.1
-
-turns_on : (xs ys : List Entry) → TakesTurns (xs ++ ys) → TakesTurns ys
-turns_on [] ys turns = turns
-turns_on (x ∷ xs) ys turns = turns_on xs ys turns.1
+goes_on_from : (gap i : ℕ) (before : Option Stamp) (xs ys : List Entry) → IsNumbered entry_number i (xs ++ ys) → IsSpaced gap before (xs ++ ys)
+    → TakesTurns (xs ++ ys) → IsNumbered entry_number (i + length xs) ys × IsSpaced gap (latest before xs) ys × TakesTurns ys
+goes_on_from gap i before [] ys numbered spaced turns = (subst (λ n. IsNumbered entry_number n ys) (omega arith) numbered, spaced, turns)
+goes_on_from gap i before (x ∷ xs) ys numbered spaced turns =
+    let later = goes_on_from gap (i + 1) (Some (stamp_of x)) xs ys numbered.1 spaced.1 turns.1 in
+    (subst (λ n. IsNumbered entry_number n ys) (omega arith) later.0, later.1, later.2)
 
 known_on : (links : List LinkPlan) (net : Net) (xs ys : List Entry) → AreKnown links net (xs ++ ys) → AreKnown links net ys
 known_on links net [] ys known = known
@@ -77,12 +47,7 @@ told_both : (s : ℕ) (xs ys : List Entry) → told (sub_stream s (xs ++ ys)) �
 told_both s xs ys = rw (with_append (λ (e : Entry). sub_in e.frame) s xs ys) (map-append (λ (e : Entry). blanked e.frame) _ _)
 
 all_on : {X : Type 0} (P : X → Type 0) (xs ys : List X) → All P (xs ++ ys) → All P ys
-all_on P [] ys all = all
-all_on P (x ∷ xs) ys all = all_on P xs ys (All-tail P x (xs ++ ys) all)
-
-none_left : (xs ys : List Entry) → xs ++ ys ≡ [] → ys ≡ []
-none_left [] ys none = none
-none_left (x ∷ xs) ys none = absurd (cc)
+all_on P xs ys all = rw (drop_at xs ys (length xs) refl) at (All-drop P (length xs) (xs ++ ys) all)
 
 line_begins : (plan : Plan) (accepted : Accepted) (k origin : ℕ) (options : Options) (net : Net) (before rest : List Entry) → IsPlan plan
     → k < length plan.links → IsLegalOn plan accepted net (before ++ rest) → AreAllowed plan accepted
@@ -91,13 +56,13 @@ line_begins : (plan : Plan) (accepted : Accepted) (k origin : ℕ) (options : Op
 line_begins plan accepted k origin options net before rest valid inside legal allowed turns first = record {
   place = 0 + length sent;
   before = latest None sent;
-  last = λ early. rw (first early) refl;
-  numbered = numbered_on 0 sent own (rw split at (legal.numbered k inside));
-  spaced = spaced_on (bag_micros (link_plan_at plan.links k).bag) None sent own (rw split at (legal.spaced k inside));
-  turns = turns_on sent own (rw split at turns);
+  last = λ early. rw (first early) (refl, refl);
+  numbered = going.0;
+  spaced = going.1;
+  turns = going.2;
   due = none_due options.late own;
-  carried = λ isnt. none_left sent own (rw split at (legal.carried k inside isnt));
-  pieces = λ s index. rw (new_joining options.late s (grind (arith, valid.each_link k (link_plan_at [] 0) inside))) (pieces s index);
+  carried = λ isnt. back_none sent own (rw split at (legal.carried k inside isnt));
+  pieces = λ s index. rw ((new_is options.late s).2 (grind (arith, valid.each_link k (link_plan_at [] 0) inside))) (pieces s index);
 }
   where
     vl : ℕ
@@ -112,14 +77,17 @@ line_begins plan accepted k origin options net before rest valid inside legal al
     split : link_stream vl (before ++ rest) ≡ sent ++ own
     split = with_append (λ (e : Entry). link_in e.frame) vl before rest
 
+    going : IsNumbered entry_number (0 + length sent) own × IsSpaced (bag_micros (link_plan_at plan.links k).bag) (latest None sent) own × TakesTurns own
+    going = goes_on_from (bag_micros (link_plan_at plan.links k).bag) 0 None sent own (rw split at (legal.numbered k inside))
+        (rw split at (legal.spaced k inside)) (rw split at turns)
+
     pieces : (s : ℕ) → s < (link_plan_at plan.links k).sub_vls → IsAhead plan k s net (new_sub options.late false s).joining own
     pieces s index =
         let all = legal.prefixes k s inside index in
         record {
-          left = told (sub_stream s own) ++ all.0;
+          more = all.0;
           awaiting = awaits plan k s net options.late (accepted k s) (told (sub_stream s sent)) (told (sub_stream s own) ++ all.0)
               valid inside index (allowed k s inside index) (sym all.1 ∙ rw (split, told_both s sent own, append_assoc) refl) (λ early. rw (first early) refl);
-          first = (all.0, refl);
         }
 
 -- ---- the streams of a link on both networks
@@ -175,15 +143,10 @@ abbrev pub handed_to : (a b : List Entry) → Net → List Entry
 handed_to a b A = a
 handed_to a b B = b
 
-legal_on : (plan : Plan) (accepted : Accepted) (a b : List Entry) → IsSent plan accepted a b → (net : Net)
-    → IsLegalOn plan accepted net (handed_to a b net)
-legal_on plan accepted a b sent A = sent.legal.on_a
-legal_on plan accepted a b sent B = sent.legal.on_b
-
-turns_of : (plan : Plan) (accepted : Accepted) (a b : List Entry) → IsSent plan accepted a b → (net : Net)
-    → TakeTurnsOn plan (handed_to a b net)
-turns_of plan accepted a b sent A = sent.turns.on_a
-turns_of plan accepted a b sent B = sent.turns.on_b
+sent_on : (plan : Plan) (accepted : Accepted) (a b : List Entry) → IsSent plan accepted a b → (net : Net)
+    → IsLegalOn plan accepted net (handed_to a b net) × TakeTurnsOn plan (handed_to a b net)
+sent_on plan accepted a b sent A = (sent.legal.on_a, sent.turns.on_a)
+sent_on plan accepted a b sent B = (sent.legal.on_b, sent.turns.on_b)
 
 -- the stream of a link on both networks, of which what each was sent are copies
 record IsOwnStream (plan : Plan) (k : ℕ) (a b : List Entry) : Type 0 where
@@ -208,43 +171,82 @@ own_stream plan accepted a b k sent inside both =
     each stream on_a on_b A = on_a
     each stream on_a on_b B = on_b
 
--- a judge of which each network's frames `rest` are to come
-pub going_begins : (plan : Plan) (accepted : Accepted) (a b : List Entry) (options : Options) (origin : ℕ) (before rest : Net → List Entry)
-    → IsSent plan accepted a b → ((net : Net) → handed_to a b net ≡ before net ++ rest net)
-    → ((net : Net) → options.late ≡ false → before net ≡ [])
-    → IsGoing plan origin options (replicate (length plan.links) (new_link options.late false)) rest
-going_begins plan accepted a b options origin before rest sent whole first = record {
-  size = length-replicate (length plan.links) (new_link options.late false);
-  known = λ net. known_on plan.links net (before net) (rest net) (legal net).known;
-  each = λ k inside. rw (get_or-replicate (length plan.links) k (new_link options.late false) (new_link false false) inside)
-      (record { lines = link_lines k inside; twins = twins k inside });
-}
+-- the links of a new judge
+abbrev pub links_at_start : Plan → Options → List Link
+links_at_start plan options = replicate (length plan.links) (new_link options.late false)
+
+pub link_is_new : (plan : Plan) (options : Options) (k : ℕ) → k < length plan.links → link_at (links_at_start plan options) k ≡ new_link options.late false
+link_is_new plan options k inside = get_or-replicate (length plan.links) k (new_link options.late false) (new_link false false) inside
+
+pub line_is_new : (plan : Plan) (options : Options) (k : ℕ) (net : Net) → k < length plan.links
+    → line_on net (link_at (links_at_start plan options) k) ≡ new_line options.late false
+line_is_new plan options k net inside = rw (link_is_new plan options k inside) (by net)
   where
-    legal : (net : Net) → IsLegalOn plan accepted net (before net ++ rest net)
-    legal net = subst (IsLegalOn plan accepted net) (whole net) (legal_on plan accepted a b sent net)
+    by : (net : Net) → line_on net (new_link options.late false) ≡ new_line options.late false
+    by A = refl
+    by B = refl
 
-    lines : (k : ℕ) → k < length plan.links → (net : Net)
-        → IsLine plan k net origin options (new_line options.late false) (rest_of plan k rest net)
-    lines k inside net = line_begins plan accepted k origin options net (before net) (rest net) sent.valid inside (legal net) sent.allowed
-        (subst (TakeTurnsOn plan) (whole net) (turns_of plan accepted a b sent net) k inside) (first net)
+-- a judge of which each network's frames `rest` are to come
+module _ (plan : Plan) (accepted : Accepted) (a b : List Entry) (options : Options) (origin : ℕ) (before rest : Net → List Entry)
+    (sent : IsSent plan accepted a b) (whole : (net : Net) → handed_to a b net ≡ before net ++ rest net)
+    (first : (net : Net) → options.late ≡ false → before net ≡ []) where
+  legal : (net : Net) → IsLegalOn plan accepted net (before net ++ rest net)
+  legal net = subst (IsLegalOn plan accepted net) (whole net) (sent_on plan accepted a b sent net).0
 
-    link_lines : (k : ℕ) → k < length plan.links → (net : Net)
-        → IsLine plan k net origin options (line_on net (new_link options.late false)) (rest_of plan k rest net)
-    link_lines k inside A = lines k inside A
-    link_lines k inside B = lines k inside B
+  pub going_begins : IsGoing plan origin options (links_at_start plan options) rest
+  going_begins = record {
+    size = length-replicate (length plan.links) (new_link options.late false);
+    known = λ net. known_on plan.links net (before net) (rest net) (legal net).known;
+    lines = λ k inside net. rw (line_is_new plan options k net inside) (line_begins plan accepted k origin options net (before net) (rest net)
+        sent.valid inside (legal net) sent.allowed (subst (TakeTurnsOn plan) (whole net) (sent_on plan accepted a b sent net).1 k inside) (first net));
+  }
 
-    twins : (k : ℕ) → k < length plan.links → is_both (link_plan_at plan.links k).networks ≡ true
-        → AreCopies (bag_micros (link_plan_at plan.links k).bag) origin options.jitter (new_link options.late false) (rest_of plan k rest)
-    twins k inside both =
-        let owns = own_stream plan accepted a b k sent inside both in
-        record {
-          stream = owns.stream;
-          is_stream = owns.is;
-          copies = λ net. all_on (IsCopy owns.stream net) (link_stream (id_of plan k) (before net)) (rest_of plan k rest net)
-              (subst (All (IsCopy owns.stream net)) (ap (link_stream (id_of plan k)) (whole net)
-              ∙ with_append (λ (e : Entry). link_in e.frame) (id_of plan k) (before net) (rest net)) (owns.copies net));
-          waits = All-nil (IsWait origin options.jitter owns.stream);
-        }
+  pub copies_begin : AreTwins plan (AreCopied plan origin options) (links_at_start plan options) rest
+  copies_begin k inside both =
+      let owns = own_stream plan accepted a b k sent inside both in
+      rw (link_is_new plan options k inside) (record {
+        stream = owns.stream;
+        is_stream = owns.is;
+        copies = λ net. all_on (IsCopy owns.stream net) (link_stream (id_of plan k) (before net)) (rest_of plan k rest net)
+            (subst (All (IsCopy owns.stream net)) (ap (link_stream (id_of plan k)) (whole net)
+            ∙ with_append (λ (e : Entry). link_in e.frame) (id_of plan k) (before net) (rest net)) (owns.copies net));
+        waits = All-nil (IsWait origin options.jitter owns.stream);
+      })
+
+-- ---- the law
+
+left_missing : (nearness : Nearness) (at : ℕ) (plans : List LinkPlan) (links : List Link) (found : List Finding) → All IsMissing found
+    → All IsMissing (found_left nearness at plans links found)
+unfolding found_at_end
+left_missing nearness at [] links found all = all
+left_missing nearness at (plan ∷ plans) [] found all = all
+left_missing nearness at (plan ∷ plans) (link ∷ links) found all =
+    left_missing nearness at plans links _ (all_missing plan.id _ found all)
+
+all_given_up : (setting : Setting) (tag : Tag) (number : ℕ) (link : Link) (found : List Finding) → All IsMissing found
+    → All IsMissing (found_given_up setting tag number link found)
+unfolding found_missing
+all_given_up setting tag number link found all = elim (cases_Bool (is_both setting.plan.networks)) [
+  | inl both ↦ rw both (all_missing setting.plan.id _ found all)
+  | inr one ↦ rw one all
+]
+
+goes_on : (plan : Plan) (origin : ℕ) (options : Options) (times : Times) (told : Bool) (links : List Link) (recording : List OnNet)
+    (after rest : Net → List Entry) (found : List Finding) → IsPlan plan → AreFit plan options → IsGoing plan origin options links rest
+    → AreTwins plan (AreCopied plan origin options) links rest → AreRecorded origin options after rest recording → All IsMissing found
+    → All IsMissing (found_from recording (judge_of plan options times told links) found)
+unfolding found_with_end
+goes_on plan origin options times told links [] after rest found valid fit is twins zip all =
+    left_missing _ _ plan.links links found all
+goes_on plan origin options times told links (p ∷ ps) after rest found valid fit is twins zip all =
+    let next = recorded_next origin options after rest p ps zip in
+    let t = packet_taken plan origin options times told links p.net p.number p.packet next.first next.later rest valid fit is next.is
+    next.recorded in
+    let met = copies_go_on plan origin options times told links p.net p.number p.packet next.first next.later rest fit next.is t twins in
+    rw (t.after, t.found found met.0) (goes_on plan origin options (times_with t.at times) told t.new ps after (rest_after p.net next.later rest) _ valid fit
+    t.going met.1 (recorded_after origin options next.later after rest p ps zip next.going)
+    (all_given_up (setting_at plan options t.at times t.known.k) (tag_of p.net p.number t.at) (number_in next.first.frame)
+    (link_at links t.known.k) found all))
 
 pub own_options : (options : Options) → options.arinc ≡ false → options ≡ of_profile options
 own_options options profile = ap (λ (arinc : Bool). let o : Options = record options { arinc = arinc } in o) profile
@@ -252,8 +254,9 @@ own_options options profile = ap (λ (arinc : Bool). let o : Options = record op
 pub no_false_alarm_holds : NoFalseAlarm
 no_false_alarm_holds plan accepted a b options origin recording sent fit recorded =
     subst (λ o. All IsMissing (findings plan o recording)) (sym (own_options options fit.profile)) (goes_on plan origin options no_times false
-    (replicate (length plan.links) (new_link options.late false)) recording (λ net. (run net).after) rest [] sent.valid fit
+    (links_at_start plan options) recording (λ net. (run net).after) rest [] sent.valid fit
     (going_begins plan accepted a b options origin (λ net. (run net).before) rest sent (λ net. (run net).whole) (λ net. (run net).first))
+    (copies_begin plan accepted a b options origin (λ net. (run net).before) rest sent (λ net. (run net).whole) (λ net. (run net).first))
     (λ net. record { recorded = (run net).recorded; whole = refl; each = (run net).each }) (All-nil IsMissing))
   where
     run : (net : Net) → IsRunOf origin options (handed_to a b net) (packets_of net recording)

@@ -1,16 +1,11 @@
 -- A frame in which the judge finds nothing brings the next piece of a message.
-use Rattle.judge_laws.proofs.Names.{All-contains, Contains, Flow, HasLink, Head, IsFrame, IsLink, IsPlan, IsPort, Joining, LinkPlan, List, Net, None, Option, PieceIn, Plan, PortPlan, Some, addresses, ap, arith, begun, cases_Bool}
-use Rattle.judge_laws.proofs.Names.{cases_lt, datagram, drop, end_deviation, false, fields_of, first_port, get_or, get_or_past, head_after, head_now, head_of, head_with, ident_of, identification, inl, inr, is_of_port, is_towards}
-use Rattle.judge_laws.proofs.Names.{length, length-drop, length-take, link_plan_at, max, message_deviation, nat_tests, new_sub, next_of, refl, size_deviation, take, total_length, true, unnumbered, word_sum, ℕ, [], ◌%◌, ◌++◌, ◌+◌}
-use Rattle.judge_laws.proofs.Names.{◌-◌, ◌<◌, ◌∙◌, ◌≡◌, ◌≤◌}
-use Rattle.judge.specs.Lines.{sub_in}
-use Rattle.judge_laws.proofs.Carried.{part_at}
-use Rattle.judge_laws.proofs.Found.{same_id}
-use Rattle.judge_laws.proofs.Heard.{head_first, head_later, room_at}
+use Rattle.judge_laws.proofs.Names.{All-contains, Contains, HasLink, Head, IsFrame, IsLink, IsPlan, IsPort, Joining, LinkPlan, List, Net, None, Option, PieceIn, Plan, PortPlan, Some, addresses, ap, arith, begun, cases_Bool}
+use Rattle.judge_laws.proofs.Names.{cases_lt, drop, end_deviation, false, fields_of, get_or, get_or_past, head_after, head_now, head_of, head_with, ident_of, identification, inl, inr, is_towards, judge_sub, length, length-drop}
+use Rattle.judge_laws.proofs.Names.{length-take, link_plan_at, max, message_deviation, nat_tests, new_sub, next_of, refl, size_deviation, take, total_length, true, word_sum, ℕ, [], ◌%◌, ◌++◌, ◌+◌, ◌-◌, ◌<◌, ◌∙◌, ◌≡◌, ◌≤◌}
+use Rattle.judge_laws.proofs.Message.{head_first, head_later, port_at, room_at}
 use Rattle.judge_laws.proofs.OfProfile.{layout_is_profile}
-use Rattle.judge_laws.proofs.Quiet.{Fits, IsQuiet, body_in, fits_says, found_says, length_says, piece_in, reads, placed_says}
-use Rattle.judge_laws.proofs.Rebuilt.{IsRead, address_part, bytes_are}
-use Rattle.judge_laws.proofs.Told.{Tells, none_says, tells_more}
+use Rattle.judge_laws.proofs.Quiet.{Fits, IsQuiet, Tells, body_in, fits_says, found_says, length_says, none_says, piece_in, placed_says, reads, tells_more}
+use Rattle.judge_laws.proofs.Reading.{IsRead, address_part, bytes_are, part_at, port_says, same_id}
 
 -- between two messages
 pub record IsBetween (s place : ℕ) (joining : Joining) : Type 0 where
@@ -39,7 +34,7 @@ pub record Brings (plan : Plan) (k s : ℕ) (net : Net) (place : ℕ) (given : L
   pub read : IsRead plan.end_system port net (identification place s) (piece_in frame) frame
   pub start : (piece_in frame).start ≡ length given
   pub head : Head
-  pub known : head_now (first_port false plan.ports (link_plan_at plan.links k).id (fields_of frame)) (fields_of frame) joining ≡ Some head
+  pub known : head_now (port_at plan k frame) (fields_of frame) joining ≡ Some head
   pub tells : Tells plan.end_system port (given ++ body_in frame) head
   pub sender : IsSender plan k s port
   pub units : length given % 8 ≡ 0
@@ -54,19 +49,14 @@ part_octets f n m octets i = elim (cases_lt i n) [
 fits_in : (link : LinkPlan) (len : ℕ) → size_deviation link len ≡ None → len + 4 ≤ link.lmax
 fits_in link len none = grind (arith, nat_tests)
 
--- what a first piece says of its port
-port_says : (vl sub : ℕ) (flow : Flow) (port : PortPlan) → is_of_port false vl sub flow port ≡ true → (port.vl.0 ≡ vl)
-    × (port.sub ≡ sub) × (flow.source ≡ port.source) × (flow.destination ≡ port.destination) × (is_towards flow port ≡ true)
-port_says vl sub flow port its = grind (arith, nat_tests)
-
 -- a last piece ends a message without a finding
 pub ends_says : (piece : PieceIn) (known : Option Head) (head : Head) → end_deviation piece known ≡ None → piece.more ≡ false
     → known ≡ Some head → message_deviation (piece.start + piece.len) head ≡ None
 ends_says piece None head none last is = cc
 ends_says piece (Some h) head none last is = grind arith
 
-module _ (plan : Plan) (k s : ℕ) (net : Net) (place : ℕ) (joining : Joining) (frame : List ℕ) (valid : IsPlan plan)
-    (within : k < length plan.links) (quiet : IsQuiet plan k s net joining frame) where
+module _ {plan : Plan} {k s : ℕ} {net : Net} {joining : Joining} {frame : List ℕ} (valid : IsPlan plan) (within : k < length plan.links)
+    (quiet : IsQuiet plan k s net joining frame) where
   its_frame : IsFrame frame
   its_frame = (layout_is_profile frame).0 quiet.layout
 
@@ -91,7 +81,7 @@ module _ (plan : Plan) (k s : ℕ) (net : Net) (place : ℕ) (joining : Joining)
   sum_is = grind (arith, nat_tests, its_frame)
 
   fits : Fits (room_at plan k) (fields_of frame) joining
-  fits = fits_says (room_at plan k) (fields_of frame) joining quiet.fits
+  fits = fits_says (room_at plan k) (fields_of frame) joining quiet.good.fits
 
   -- what a first piece tells of its message
   tells_first : (port : PortPlan) (ident : ℕ) → IsPort port → IsRead plan.end_system port net ident (piece_in frame) frame
@@ -114,24 +104,24 @@ module _ (plan : Plan) (k s : ℕ) (net : Net) (place : ℕ) (joining : Joining)
       }
 
   -- a first piece has the UDP header
-  long_first : (port : PortPlan) → first_port false plan.ports (link_plan_at plan.links k).id (fields_of frame) ≡ Some port
+  long_first : (port : PortPlan) → port_at plan k frame ≡ Some port
       → (fields_of frame).piece.start ≡ 0 → 8 ≤ length (body_in frame)
   unfolding fields_of
   long_first port found first = elim (cases_Bool (fields_of frame).piece.more) [
     | inl more ↦ let step = (length_says (room_at plan k) (fields_of frame).piece fits.len (omega (arith, size))).0 more in
         omega (arith, size, link_is.lmax)
     | inr last ↦
-        let ends = ends_says (fields_of frame).piece _ _ quiet.ends last (head_first _ port (fields_of frame) joining first found) in
+        let ends = ends_says (fields_of frame).piece _ _ quiet.good.ends last (head_first _ port (fields_of frame) joining first found) in
         omega (arith, size, first, none_says _ _ ends)
   ]
 
   -- a first piece
-  pub brings_first : IsBetween s place joining → (port : PortPlan) × Brings plan k s net place [] port joining frame
+  pub brings_first : {place : ℕ} → IsBetween s place joining → (port : PortPlan) × Brings plan k s net place [] port joining frame
   unfolding fields_of
   brings_first between =
       let first : (fields_of frame).piece.start ≡ 0 = fits.start 0 between.next in
-      let found = found_says plan.ports (link_plan_at plan.links k).id (fields_of frame) quiet.port first in
-      let says = port_says (link_plan_at plan.links k).id.0 (sub_in (fields_of frame)) (fields_of frame).flow found.port found.its in
+      let found = found_says plan.ports (link_plan_at plan.links k).id (fields_of frame) quiet.good.of_port first in
+      let says = port_says (link_plan_at plan.links k).id.0 (judge_sub (fields_of frame)) (fields_of frame).flow found.port found.its in
       let is_port = All-contains IsPort plan.ports found.port valid.each_port found.member in
       let read = reads plan k s net joining frame found.port _ quiet (fits.ident _ between.ident) says.0 says.4 in (
         found.port,
@@ -147,9 +137,10 @@ module _ (plan : Plan) (k s : ℕ) (net : Net) (place : ℕ) (joining : Joining)
       )
 
   -- a later piece
-  pub brings_later : (given : List ℕ) (port : PortPlan) → IsWithin plan k s place given port joining → Brings plan k s net place given port joining frame
+  pub brings_later : {place : ℕ} {given : List ℕ} {port : PortPlan} → IsWithin plan k s place given port joining
+      → Brings plan k s net place given port joining frame
   unfolding fields_of
-  brings_later given port is =
+  brings_later {given = given} {port = port} is =
       let start : (fields_of frame).piece.start ≡ length given = fits.start _ is.next in
       let towards : is_towards (fields_of frame).flow port ≡ true = rw is.tells.port_is at (fits.towards is.head is.begun_is) in
       let behind : head_after (begun joining) (fields_of frame) ≡ Some (head_with is.head (fields_of frame)) = rw is.begun_is refl in
@@ -169,8 +160,8 @@ pub first_of_sub : (plan : Plan) (k s : ℕ) (net : Net) (frame : List ℕ) → 
     → IsQuiet plan k s net (new_sub false false s).joining frame → s < (link_plan_at plan.links k).sub_vls
 first_of_sub plan k s net frame valid quiet =
     let placed = placed_says plan net frame k quiet.placed ((layout_is_profile frame).0 quiet.layout) in
-    let brings = brings_first plan k s net 0 (new_sub false false s).joining frame valid placed.within quiet
-    (record { next = refl; ident = ap Some (omega (arith, quiet.of_sub)) }) in
+    let between : IsBetween s 0 (new_sub false false s).joining = record { next = refl; ident = ap Some (omega (arith, quiet.of_sub)) } in
+    let brings = brings_first valid placed.within quiet between in
     let sender = brings.1.sender in
     let link = All-contains (HasLink plan.links) plan.ports brings.0 valid.linked sender.member in
     let same = valid.links_apart link.at k link.within placed.within (link.over.id ∙ same_id _ _ sender.over) in

@@ -1,7 +1,14 @@
--- A link's stream on two networks: frames with one number that are less than 255 gaps apart are copies of one frame.
-use Rattle.judge_laws.proofs.Names.{All, Entry, IsNumbered, IsSpaced, List, Net, None, Option, Some, Stamp, arith, cases_lt, drop-set-lt, entry, entry_number, first_other, get_or, get_or-map, get_or-take, interface_byte, length}
-use Rattle.judge_laws.proofs.Names.{length-map, length-set, length-take, map, nat_tests, number_in, numbered_at, refl, sequence_number, side, slice_range, stamp_of, suc, sym, take, take-set-le, twin_number, twin_of, twin_other}
-use Rattle.judge_laws.proofs.Names.{zero, ℕ, [], ◌*◌, ◌+◌, ◌-◌, ◌<◌, ◌∙◌, ◌∷◌, ◌≡◌, ◌≤◌}
+-- A link's stream on two networks: frames with one number that are less than 255 gaps apart are copies of one frame, so
+-- no frame differs from one that waits for it.
+use Rattle.judge_laws.proofs.Names.{All, All-append, All-contains, All-filter, All-head, All-map, All-push, All-tail, Bool, Entry, Finding, IsNumbered, IsSpaced, Link, List, Nearness, Net, None, Option, Options, Pairing, Plan}
+use Rattle.judge_laws.proofs.Names.{Recorded, Some, Stamp, Tag, Times, VlId, Wait, arith, bag_micros, cases_lt, drop-set-lt, entry, entry_number, filter_passes, find, first_other, get_or, get_or-map, get_or-take, interface_byte}
+use Rattle.judge_laws.proofs.Names.{is_both, is_twin, kept, left_waiting, length, length-map, length-set, length-take, link_at, link_plan_at, link_stream, map, missing, missing_of, nat_tests, number_in, numbered_at, pairing_with}
+use Rattle.judge_laws.proofs.Names.{refl, sequence_number, side, slice_range, stamp_of, stays, suc, sym, tag_of, take, take-set-le, true, twin_deviation, twin_number, twin_of, twin_other, zero, ℕ, [], ◌*◌, ◌++◌, ◌+◌, ◌-◌, ◌<◌, ◌∙◌}
+use Rattle.judge_laws.proofs.Names.{◌∷◌, ◌≡◌, ◌≤◌}
+use Rattle.judge_laws.specs.NoFalseAlarm.{AreFit, IsMissing}
+use Rattle.judge_laws.proofs.Line.{IsDelayed}
+use Rattle.judge_laws.proofs.Reading.{all_removed, find_says}
+use Rattle.judge_laws.proofs.Recording.{AreTwins, IsPacketTaken, IsSame, id_of, left_at, nearness_at, rest_after, rest_holds, rest_of, stream_next, twins_go_on}
 
 -- a link's own stream: numbered, spaced, and long enough to have its bytes
 pub record IsStream (gap : ℕ) (stream : List Entry) : Type 0 where
@@ -92,3 +99,108 @@ all_copies stream net n = λ k spare inside. record {
   inside = grind (arith, length-map, length-take);
   is = grind (arith, get_or-map, get_or-take, length-map, length-take);
 }
+
+-- ---- frames that wait
+
+-- a frame that waits is the record of a copy
+pub record IsWait (origin jitter : ℕ) (stream : List Entry) (w : Wait) : Type 0 where
+  pub e : Entry
+  pub copy : IsCopy stream w.tag.net e
+  pub number : w.number ≡ number_in e.frame
+  pub bytes : w.bytes ≡ e.frame
+  pub delayed : IsDelayed origin jitter e.at w.tag.at
+
+module _ (origin jitter skew : ℕ) (nearness : Nearness) (gap : ℕ) (stream : List Entry) (tag : Tag) (e : Entry) (is : IsStream gap stream)
+    (is_skew : nearness.skew ≡ 1000 * skew) (fit : skew + jitter < 255 * gap) (copy : IsCopy stream tag.net e)
+    (delayed : IsDelayed origin jitter e.at tag.at) where
+  abbrev number : ℕ
+  number = number_in e.frame
+
+  near_copies : (w : Wait) → IsWait origin jitter stream w → stays nearness tag number w ≡ true → is_twin tag number w ≡ true
+      → twin_other w.bytes e.frame ≡ None
+  near_copies w wait near twin = rw wait.bytes (copies_agree gap stream w.tag.net tag.net wait.e e is wait.copy copy
+      (grind (arith, nat_tests, wait.number)) (grind (arith, nat_tests, wait.delayed)) (grind (arith, nat_tests, wait.delayed)))
+
+  met_by : (ws : List Wait) (p : Pairing) (found : Option Wait) → p.waiting ≡ kept nearness tag number ws → All (IsWait origin jitter stream) ws
+      → find (is_twin tag number) p.waiting ≡ found → (twin_deviation tag number e.frame p ≡ None)
+      × All (IsWait origin jitter stream) (pairing_with tag number e.frame p).waiting
+  unfolding twin_deviation pairing_with
+  met_by ws p None left waits none =
+      let wait = All-filter (stays nearness tag number) (IsWait origin jitter stream) ws waits in (
+        rw none refl,
+        rw none (All-push (IsWait origin jitter stream) p.waiting _ (rw left wait)
+            (record { e = e; copy = copy; number = refl; bytes = refl; delayed = delayed })),
+      )
+  met_by ws p (Some w) left waits some =
+      let wait = All-filter (stays nearness tag number) (IsWait origin jitter stream) ws waits in
+      let at = find_says (is_twin tag number) (kept nearness tag number ws) w (rw left at some) in
+      let near = All-contains (λ x. stays nearness tag number x ≡ true) _ w (filter_passes (stays nearness tag number) ws) at.0 in (
+        rw (some, near_copies w (All-contains (IsWait origin jitter stream) _ w wait at.0) near at.1) refl,
+        rw (some, left) (all_removed (IsWait origin jitter stream) (kept nearness tag number ws) _ wait),
+      )
+
+  -- A frame differs from no twin, and what waits after it are records of copies.
+  pub wait_met : (p : Pairing) → All (IsWait origin jitter stream) p.waiting
+      → (twin_deviation tag number e.frame (left_waiting nearness tag number p) ≡ None)
+      × All (IsWait origin jitter stream) (pairing_with tag number e.frame (left_waiting nearness tag number p)).waiting
+  unfolding left_waiting
+  wait_met p waits = met_by p.waiting (left_waiting nearness tag number p) _ refl waits refl
+
+-- frames without a twin
+pub all_missing : (vl : VlId) (ws : List Wait) (found : List Finding) → All IsMissing found → All IsMissing (found ++ missing_of vl ws)
+all_missing vl ws found all = All-append IsMissing found _ all (All-map IsMissing (missing vl) ws (λ k spare inside. refl))
+
+-- ---- of all links
+
+-- the twins of a link on both networks: the frames that are to come, and those that wait, are copies of one stream
+pub record AreCopies (gap origin jitter : ℕ) (rest : Net → List Entry) (p : Pairing) : Type 0 where
+  pub stream : List Entry
+  pub is_stream : IsStream gap stream
+  pub copies : (net : Net) → All (IsCopy stream net) (rest net)
+  pub waits : All (IsWait origin jitter stream) p.waiting
+
+abbrev pub AreCopied : Plan → ℕ → Options → ℕ → (Net → List Entry) → Pairing → Type 0
+AreCopied plan origin options k rest p = is_both (link_plan_at plan.links k).networks ≡ true
+    → AreCopies (bag_micros (link_plan_at plan.links k).bag) origin options.jitter rest p
+
+-- They are after a packet, and its frame differs from no twin.
+pub copies_go_on : (plan : Plan) (origin : ℕ) (options : Options) (times : Times) (told : Bool) (links : List Link) (net : Net)
+    (number : ℕ) (packet : Recorded) (e : Entry) (es : List Entry) (rest : Net → List Entry) → AreFit plan options → rest net ≡ e ∷ es
+    → (t : IsPacketTaken plan origin options times told links net number packet e es rest) → AreTwins plan (AreCopied plan origin options) links rest
+    → IsSame plan options times t.known.k (tag_of net number t.at) e.frame (link_at links t.known.k)
+    × AreTwins plan (AreCopied plan origin options) t.new (rest_after net es rest)
+copies_go_on plan origin options times told links net number packet e es rest fit next t twins = (
+  λ both. (met both).0,
+  twins_go_on plan origin options times told links net number packet e es rest (AreCopied plan origin options) (AreCopied plan origin options)
+      next t twins after (λ j is. is),
+)
+  where
+    k : ℕ
+    k = t.known.k
+
+    tag : Tag
+    tag = tag_of net number t.at
+
+    first : link_stream (id_of plan k) (rest net) ≡ e ∷ link_stream (id_of plan k) es
+    first = stream_next (id_of plan k) (rest net) e es next t.known.link
+
+    pair : is_both (link_plan_at plan.links k).networks ≡ true
+        → AreCopies (bag_micros (link_plan_at plan.links k).bag) origin options.jitter (rest_of plan k rest) (link_at links k).twins
+    pair both = twins k t.known.within both
+
+    met : (both : is_both (link_plan_at plan.links k).networks ≡ true)
+        → (twin_deviation tag (number_in e.frame) e.frame (left_at options times tag e.frame (link_at links k)) ≡ None)
+        × All (IsWait origin options.jitter (pair both).stream)
+        (pairing_with tag (number_in e.frame) e.frame (left_at options times tag e.frame (link_at links k))).waiting
+    met both = wait_met origin options.jitter options.skew (nearness_at options t.at times) (bag_micros (link_plan_at plan.links k).bag)
+        (pair both).stream tag e (pair both).is_stream refl (fit.skew k t.known.within both)
+        (All-head (IsCopy (pair both).stream net) e _ (rw first at ((pair both).copies net))) t.delayed (link_at links k).twins (pair both).waits
+
+    after : AreCopied plan origin options k (rest_of plan k (rest_after net es rest)) (link_at t.new k).twins
+    after both = record {
+      stream = (pair both).stream;
+      is_stream = (pair both).is_stream;
+      copies = λ m. rest_holds (λ m xs. All (IsCopy (pair both).stream m) (link_stream (id_of plan k) xs)) rest es net m
+          (λ apart. (pair both).copies m) (All-tail (IsCopy (pair both).stream net) e _ (rw first at ((pair both).copies net)));
+      waits = rw (t.both both) (met both).1;
+    }

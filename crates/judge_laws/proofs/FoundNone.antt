@@ -1,18 +1,14 @@
--- Findings only grow, so where none is found in the end, no packet has one.
-use Rattle.judge_laws.proofs.Names.{Admitted, Bool, Deviation, Err, Finding, Judging, Link, LinkPlan, List, Nearness, Net, None, Ok, OnNet, Option, PortPlan, Recorded, Refused, Result, Setting, Some, Tag, Verdict, VlId, Wait}
-use Rattle.judge_laws.proofs.Names.{admitted, after_packet, and_right, arrived, false, fields_of, found_at_end, found_from, found_given_up, found_judged, found_left, found_missing, found_of_arrival, found_on_line, found_on_link}
-use Rattle.judge_laws.proofs.Names.{found_refusal, found_timed, found_twin, found_with_end, found_with_packet, given_up, if◌then◌else◌, is_both, is_with_check, length, line_on, refl, size_deviation, subst, tag_of, timed, true}
-use Rattle.judge_laws.proofs.Names.{twin_deviation, verdict, with_finding, with_verdict, ℕ, [], ◌&&◌, ◌++◌, ◌∷◌, ◌≡◌}
-use Rattle.judge_laws.proofs.Line.{faultless}
-use Rattle.judge_laws.proofs.Link.{line_given_up}
-
-pub front_none : {X : Type 0} (xs ys : List X) → xs ++ ys ≡ [] → xs ≡ []
-front_none [] ys none = refl
-front_none (x ∷ xs) ys none = absurd (cc (none))
-
-pub back_none : {X : Type 0} (xs ys : List X) → xs ++ ys ≡ [] → ys ≡ []
-back_none [] ys none = none
-back_none (x ∷ xs) ys none = absurd (cc (none))
+-- Findings only grow, so where none is found in the end, no packet has one: each is a frame of a link of the plan, and
+-- nothing is wrong with it on its line.
+use Rattle.judge_laws.proofs.Names.{Admitted, Deviation, Err, Finding, Judging, Link, LinkPlan, List, Nearness, Net, None, Ok, OnNet, Option, Options, Plan, PortPlan, Recorded, Refused, Result, Setting, Some, Tag, Times, Verdict}
+use Rattle.judge_laws.proofs.Names.{VlId, admitted, after_packet, and_right, ap, arith, arrived, at_place, cases_Bool, false, fields_of, found_at_end, found_from, found_given_up, found_judged, found_left, found_missing}
+use Rattle.judge_laws.proofs.Names.{found_of_arrival, found_on_line, found_on_link, found_refusal, found_timed, found_twin, found_with_end, found_with_packet, frame_in, given_up, inl, inr, is_with_check, layout_broken, length}
+use Rattle.judge_laws.proofs.Names.{line_on, link_at, link_plan_at, nat_tests, nil_begins, place_of, placed, refl, size_deviation, subst, sym, tag_of, timed, times_with, unchecked, verdict, with_finding, with_verdict, ℕ, [], ◌&&◌}
+use Rattle.judge_laws.proofs.Names.{◌∙◌, ◌∷◌, ◌≡◌}
+use Rattle.judge_laws.proofs.Line.{IsFaultless, faultless, of_profile}
+use Rattle.judge_laws.proofs.Message.{port_at}
+use Rattle.judge_laws.proofs.Reading.{back_none}
+use Rattle.judge_laws.proofs.Recording.{found_is, judge_of, line_given_up, setting_at}
 
 pub finding_none : (tag : Tag) (link : Option VlId) (d : Option Deviation) (found : List Finding) → with_finding tag link d found ≡ []
     → (d ≡ None) × (found ≡ [])
@@ -40,25 +36,12 @@ verdict_none tag vl v found none =
 
 twin_none : (setting : Setting) (tag : Tag) (number : ℕ) (frame : List ℕ) (link : Link) (found : List Finding)
     → found_twin setting tag number frame link found ≡ [] → found ≡ []
-twin_none setting tag number frame link found = by (is_both setting.plan.networks)
-  where
-    by : (both : Bool) → (if both then with_finding tag (Some setting.plan.id) (twin_deviation tag number frame link.twins) found else found) ≡ []
-        → found ≡ []
-    by true none = (finding_none tag (Some setting.plan.id) (twin_deviation tag number frame link.twins) found none).1
-    by false none = none
-
-missing_none : (nearness : Nearness) (vl : VlId) (tag : Tag) (number : ℕ) (ws : List Wait) (found : List Finding)
-    → found_missing nearness vl tag number ws found ≡ [] → found ≡ []
-unfolding found_missing
-missing_none nearness vl tag number ws found none = front_none found _ none
+twin_none setting tag number frame link found none = grind (arith, cases_Bool, finding_none)
 
 given_up_none : (setting : Setting) (tag : Tag) (number : ℕ) (link : Link) (found : List Finding)
     → found_given_up setting tag number link found ≡ [] → found ≡ []
-given_up_none setting tag number link found = by (is_both setting.plan.networks)
-  where
-    by : (both : Bool) → (if both then found_missing setting.nearness setting.plan.id tag number link.twins.waiting found else found) ≡ [] → found ≡ []
-    by true none = missing_none setting.nearness setting.plan.id tag number link.twins.waiting found none
-    by false none = none
+unfolding found_missing
+given_up_none setting tag number link found none = grind (arith, cases_Bool, nil_begins)
 
 -- nothing is wrong with a frame on its link
 pub record IsLinkSilent (setting : Setting) (tag : Tag) (port : Option PortPlan) (frame : List ℕ) (link : Link) (found : List Finding) : Type 0 where
@@ -78,18 +61,17 @@ link_none setting tag port frame link found none =
     record {
       sized = size.0;
       wrong = subst (λ l. verdict setting.measure port (arrived setting.measure tag port frame l) l ≡ faultless)
-          (line_given_up setting tag number link tag.net) line.0;
+          (line_given_up setting tag port frame link number tag.net) line.0;
       none = given_up_none setting tag number link found size.1;
     }
 
 -- ---- packets
 
 refusal_none : (tag : Tag) (why : Refused) (j : Judging) (found : List Finding) → found_refusal tag why j found ≡ [] → found ≡ []
-refusal_none tag why j found none = by (is_with_check why.deviation.kind && j.told) none
-  where
-    by : (told : Bool) → (if told then found else with_finding tag why.link (Some why.deviation) found) ≡ [] → found ≡ []
-    by true none = none
-    by false none = front_none found _ none
+refusal_none tag why j found none = elim (cases_Bool (is_with_check why.deviation.kind && j.told)) [
+  | inl told ↦ rw told at none
+  | inr other ↦ nil_begins found _ (rw other at none)
+]
 
 -- a packet that is refused is a finding, if none was refused for its check sequence before
 pub refusal_found : (tag : Tag) (why : Refused) (j : Judging) → j.told ≡ false → found_refusal tag why j [] ≡ [] → ⊥
@@ -102,7 +84,7 @@ judged_none tag (Err why) j found none = refusal_none tag why j found none
 
 timed_none : (net : Net) (number : ℕ) (packet : Recorded) (j : Judging) (found : List Finding) (at : Option ℕ)
     → found_timed net number packet j found at ≡ [] → found ≡ []
-timed_none net number packet j found None none = front_none found _ none
+timed_none net number packet j found None none = nil_begins found _ none
 timed_none net number packet j found (Some at) none = judged_none (tag_of net number at) (admitted net packet (timed at j)) (timed at j) found none
 
 end_none : (nearness : Nearness) (at : ℕ) (plans : List LinkPlan) (links : List Link) (found : List Finding)
@@ -110,10 +92,82 @@ end_none : (nearness : Nearness) (at : ℕ) (plans : List LinkPlan) (links : Lis
 unfolding found_at_end
 end_none nearness at [] links found none = none
 end_none nearness at (plan ∷ plans) [] found none = none
-end_none nearness at (plan ∷ plans) (link ∷ links) found none = front_none found _ (end_none nearness at plans links _ none)
+end_none nearness at (plan ∷ plans) (link ∷ links) found none = nil_begins found _ (end_none nearness at plans links _ none)
 
 pub grows : (ps : List OnNet) (j : Judging) (found : List Finding) → found_from ps j found ≡ [] → found ≡ []
 unfolding found_with_end found_with_packet
 grows [] j found none = end_none _ _ j.plan.links j.links found none
 grows (p ∷ ps) j found none = timed_none p.net p.number p.packet j found p.packet.at
     (grows ps (after_packet p.net p.number p.packet j) (found_with_packet p.net p.number p.packet j found) none)
+
+-- ---- a packet
+
+-- its frame is the packet whole, and of the layout
+frame_says : (options : Options) (packet : Recorded) (frame : List ℕ) → options.fcs ≡ false → frame_in (of_profile options) packet ≡ Ok frame
+    → (frame ≡ packet.bytes) × (layout_broken false packet.bytes ≡ None)
+unfolding frame_in unchecked
+frame_says options packet frame plain is = grind (arith, nat_tests, cases_Bool)
+
+-- a packet in which nothing is found
+pub record IsPacketSilent (plan : Plan) (options : Options) (times : Times) (links : List Link) (net : Net) (number : ℕ) (packet : Recorded) : Type 0 where
+  pub at : ℕ
+  pub timed : packet.at ≡ Some at
+  pub k : ℕ
+  pub whole : frame_in (of_profile options) packet ≡ Ok packet.bytes
+  pub placed : place_of plan net packet.bytes ≡ Ok k
+  pub layout : layout_broken false packet.bytes ≡ None
+  pub sized : size_deviation (link_plan_at plan.links k) (length packet.bytes) ≡ None
+  pub wrong : IsFaultless plan k options (tag_of net number at) packet.bytes (line_on net (link_at links k))
+
+timed_some : (net : Net) (number : ℕ) (packet : Recorded) (j : Judging) (time : Option ℕ) → found_timed net number packet j [] time ≡ []
+    → (at : ℕ) × (time ≡ Some at)
+timed_some net number packet j None none = absurd (cc (none))
+timed_some net number packet j (Some at) none = (at, refl)
+
+is_admitted : (tag : Tag) (it : Result Admitted Refused) (j : Judging) → j.told ≡ false → found_judged tag it j [] ≡ []
+    → (a : Admitted) × (it ≡ Ok a)
+is_admitted tag (Ok it) j told none = (it, refl)
+is_admitted tag (Err why) j told none = absurd (refusal_found tag why j told none)
+
+place_says : (frame : List ℕ) (k : Result ℕ Refused) (it : Admitted) → at_place frame k ≡ Ok it → (frame ≡ it.frame) × (k ≡ Ok it.place)
+place_says frame (Ok k) it is =
+    let same : (let a : Admitted = record { place = k; frame = frame } in a) ≡ it = cc (is) in
+    (ap (λ (a : Admitted). a.frame) same, ap (λ (a : Admitted). let r : Result ℕ Refused = Ok a.place in r) same)
+place_says frame (Err why) it is = absurd (cc (is))
+
+admitted_says : (plan : Plan) (net : Net) (frame : Result (List ℕ) Refused) (it : Admitted) → placed plan net frame ≡ Ok it
+    → (frame ≡ Ok it.frame) × (place_of plan net it.frame ≡ Ok it.place)
+admitted_says plan net (Ok frame) it is = let says = place_says frame (place_of plan net frame) it is in rw (← says.0) (refl, says.1)
+admitted_says plan net (Err why) it is = absurd (cc (is))
+
+silent_as : (plan : Plan) (options : Options) (times : Times) (links : List Link) (net : Net) (number : ℕ) (packet : Recorded) (at k : ℕ)
+    (frame : List ℕ) → options.fcs ≡ false → packet.at ≡ Some at → frame_in (of_profile options) packet ≡ Ok frame → place_of plan net frame ≡ Ok k
+    → found_with_packet net number packet (judge_of plan options times false links) [] ≡ []
+    → IsPacketSilent plan options times links net number packet
+silent_as plan options times links net number packet at k frame plain timed is on none =
+    let says = frame_says options packet frame plain is in
+    let whole : frame_in (of_profile options) packet ≡ Ok packet.bytes = rw says.0 at is in
+    let placed : place_of plan net packet.bytes ≡ Ok k = rw says.0 at on in
+    let silent = link_none (setting_at plan options at times k) (tag_of net number at) (port_at plan k packet.bytes) packet.bytes (link_at links k) []
+    (sym (found_is plan options times false links net number at packet packet.bytes k timed whole placed []) ∙ none) in
+    record {
+      at = at;
+      timed = timed;
+      k = k;
+      whole = whole;
+      placed = placed;
+      layout = says.1;
+      sized = silent.sized;
+      wrong = silent.wrong;
+    }
+
+pub packet_silent : (plan : Plan) (options : Options) (times : Times) (links : List Link) (net : Net) (number : ℕ) (packet : Recorded)
+    → options.fcs ≡ false → found_with_packet net number packet (judge_of plan options times false links) [] ≡ []
+    → IsPacketSilent plan options times links net number packet
+unfolding found_with_packet admitted frame_in
+packet_silent plan options times links net number packet plain none =
+    let time = timed_some net number packet (judge_of plan options times false links) packet.at none in
+    let j : Judging = judge_of plan options (times_with time.0 times) false links in
+    let it = is_admitted (tag_of net number time.0) (placed plan net (frame_in (of_profile options) packet)) j refl (rw time.1 at none) in
+    let says = admitted_says plan net (frame_in (of_profile options) packet) it.0 it.1 in
+    silent_as plan options times links net number packet time.0 it.0.place it.0.frame plain time.1 says.0 says.1 none

@@ -1,15 +1,35 @@
 -- The twins of a link on both networks, where both got all and the recording is in the order of time: the frames that wait
-use Rattle.judge_laws.proofs.Names.{A, All, All-cons, All-nil, All-tail, AllZip, B, Entry, List, Nearness, Net, None, Tag, Wait, ap, arith, cases_Bool, entry, false, filter, find, get_or, get_or-append-add, get_or-append_seam}
-use Rattle.judge_laws.proofs.Names.{get_or_append_left, get_or_default, is_lost, is_passed, is_twin, kept, length, length-append, map, nat_tests, ne_eqb, number_in, refl, same_net, side, sym, true, ℕ, [], ◌*◌, ◌++◌, ◌+◌, ◌<◌, ◌∙◌}
-use Rattle.judge_laws.proofs.Names.{◌∷◌, ◌≡◌, ◌≤◌}
-use Rattle.judge_laws.proofs.Copies.{IsStream, far, own_at}
-use Rattle.judge_laws.proofs.Numbers.{IsDelayed}
-
 -- are those by which one network leads, and each finds its twin.
+use Rattle.judge_laws.proofs.Names.{A, All, All-cons, All-nil, All-push, All-tail, All-weaker, AllZip, B, Bool, Entry, List, Nearness, Net, None, Option, Pairing, Some, Tag, Wait, ap, append_assoc, arith, cases_Bool, entry, eq-eqb}
+use Rattle.judge_laws.proofs.Names.{false, filter, find, get_or, get_or-append-add, get_or-append_seam, get_or-map, get_or_append_left, get_or_default, inl, inr, is_lost, is_passed, is_twin, kept, left_waiting, length}
+use Rattle.judge_laws.proofs.Names.{length-append, length-map, length-twin, map, nat_tests, ne_eqb, number_in, pairing_with, position_or_len, refl, remove, same_net, side, subst, sym, true, twin_number, ℕ, [], ◌*◌, ◌++◌, ◌+◌, ◌<◌}
+use Rattle.judge_laws.proofs.Names.{◌∙◌, ◌∷◌, ◌≡◌, ◌≤◌, ◌⊎◌}
+use Rattle.judge_laws.proofs.Copies.{IsStream, far, own_at}
+use Rattle.judge_laws.proofs.Line.{IsDelayed}
+use Rattle.judge_laws.proofs.Recording.{rest_after, same_self}
 
 abbrev pub other : Net → Net
 other A = B
 other B = A
+
+same_other : (net : Net) → same_net (other net) net ≡ false
+same_other A = refl
+same_other B = refl
+
+other_other : (net : Net) → other (other net) ≡ net
+other_other A = refl
+other_other B = refl
+
+pub rest_both : (net : Net) (es : List Entry) (rest : Net → List Entry)
+    → (rest_after net es rest net ≡ es) × (rest_after net es rest (other net) ≡ rest (other net))
+rest_both A es rest = (refl, refl)
+rest_both B es rest = (refl, refl)
+
+which : (lead net : Net) → (lead ≡ net) ⊎ (lead ≡ other net)
+which A A = inl refl
+which A B = inr refl
+which B A = inr refl
+which B B = inl refl
 
 -- a frame that waits is the leading network's copy of an entry
 pub record IsWaitFor (origin jitter : ℕ) (lead : Net) (own : Entry) (w : Wait) : Type 0 where
@@ -17,9 +37,8 @@ pub record IsWaitFor (origin jitter : ℕ) (lead : Net) (own : Entry) (w : Wait)
   pub number : w.number ≡ number_in own.frame
   pub delayed : IsDelayed origin jitter own.at w.tag.at
 
--- One network leads by the entries `ahead` of a stream, which wait; `coming` are to come on both.
-pub record IsLeading (stream : List Entry) (origin jitter latest : ℕ) (rest : Net → List Entry) (waiting : List Wait) : Type 0 where
-  pub lead : Net
+-- A network leads by the entries `ahead` of a stream, which wait; `coming` are to come on both.
+pub record IsLedBy (stream : List Entry) (origin jitter latest : ℕ) (rest : Net → List Entry) (waiting : List Wait) (lead : Net) : Type 0 where
   pub done : List Entry
   pub ahead : List Entry
   pub coming : List Entry
@@ -33,27 +52,35 @@ pub record IsLeading (stream : List Entry) (origin jitter latest : ℕ) (rest : 
 abbrev pub AreOpen : (origin jitter now : ℕ) → List Entry → Type 0
 AreOpen origin jitter now es = All (λ (e : Entry). now ≤ origin + 1000 * (e.at + jitter)) es
 
+-- the times of those that wait
+abbrev pub ArePast : ℕ → List Wait → Type 0
+ArePast latest ws = All (λ (w : Wait). w.tag.at ≤ latest) ws
+
+pub past_later : (latest later : ℕ) (ws : List Wait) → latest ≤ later → ArePast latest ws → ArePast later ws
+past_later latest later ws up past =
+    All-weaker (λ (w : Wait). w.tag.at ≤ latest) (λ (w : Wait). w.tag.at ≤ later) (λ w before. omega arith) ws past
+
 -- none that waits is passed
-pub stay_kept : (nearness : Nearness) (tag : Tag) (number : ℕ) (ws : List Wait) → All (λ (w : Wait). is_passed nearness tag number w ≡ false) ws
-    → kept nearness tag number ws ≡ ws
-stay_kept nearness tag number [] all = refl
+abbrev pub AllStay : Nearness → Tag → ℕ → List Wait → Type 0
+AllStay nearness tag number ws = All (λ (w : Wait). is_passed nearness tag number w ≡ false) ws
+
+pub stay_kept : (nearness : Nearness) (tag : Tag) (number : ℕ) (ws : List Wait) → AllStay nearness tag number ws
+    → (filter (is_lost nearness tag number) ws ≡ []) × (kept nearness tag number ws ≡ ws)
+stay_kept nearness tag number [] all = (refl, refl)
 stay_kept nearness tag number (w ∷ ws) all =
-    rw (all 0 w (omega arith), stay_kept nearness tag number ws (All-tail (λ (w : Wait). is_passed nearness tag number w ≡ false) w ws all)) refl
+    let later = stay_kept nearness tag number ws (All-tail (λ (w : Wait). is_passed nearness tag number w ≡ false) w ws all) in
+    rw (all 0 w (omega arith)) (later.0, rw later.1 refl)
 
-pub stay_found : (nearness : Nearness) (tag : Tag) (number : ℕ) (ws : List Wait) → All (λ (w : Wait). is_passed nearness tag number w ≡ false) ws
-    → filter (is_lost nearness tag number) ws ≡ []
-stay_found nearness tag number [] all = refl
-stay_found nearness tag number (w ∷ ws) all =
-    rw (all 0 w (omega arith)) (stay_found nearness tag number ws (All-tail (λ (w : Wait). is_passed nearness tag number w ≡ false) w ws all))
-
-pub open_own : (origin jitter now : ℕ) (net : Net) (es : List Entry) → AreOpen origin jitter now (map (side net) es)
-    → AreOpen origin jitter now es
-open_own origin jitter now net [] all = All-nil (λ (e : Entry). now ≤ origin + 1000 * (e.at + jitter))
-open_own origin jitter now net (e ∷ es) all = All-cons (λ (d : Entry). now ≤ origin + 1000 * (d.at + jitter)) e es (all 0 e (omega arith))
-    (open_own origin jitter now net es (All-tail (λ (d : Entry). now ≤ origin + 1000 * (d.at + jitter)) (side net e) (map (side net) es) all))
+open_ahead : (origin jitter now : ℕ) (net : Net) (rest ahead coming : List Entry) → rest ≡ map (side net) (ahead ++ coming)
+    → AreOpen origin jitter now rest → AreOpen origin jitter now ahead
+open_ahead origin jitter now net rest ahead coming is all i spare inside =
+    let both : i < length (ahead ++ coming) = omega (arith, length-append ahead coming) in
+    let here : get_or rest i (side net spare) ≡ side net (get_or ahead i spare) = ap (λ (es : List Entry). get_or es i (side net spare)) is
+    ∙ get_or-map (side net) (ahead ++ coming) i spare (side net spare) both ∙ ap (side net) (get_or_append_left ahead coming spare i inside) in
+    rw here at (all i (side net spare) (omega (arith, ap length is, length-map (ahead ++ coming) (side net))))
 
 -- an entry of the stream with the number of one before it comes 255 gaps later
-pub later_apart : (gap : ℕ) (stream done ahead coming : List Entry) (c : Entry) → IsStream gap stream → stream ≡ done ++ (ahead ++ c ∷ coming)
+later_apart : (gap : ℕ) (stream done ahead coming : List Entry) (c : Entry) → IsStream gap stream → stream ≡ done ++ (ahead ++ c ∷ coming)
     → All (λ (o : Entry). number_in o.frame ≡ number_in c.frame → o.at + 255 * gap ≤ c.at) ahead
 later_apart gap stream done ahead coming c is whole = λ i spare inside same.
     let first : own_at stream (length done + i) ≡ get_or ahead i spare = rw whole (get_or-append-add done (ahead ++ c ∷ coming) i (entry 0 [])
@@ -72,15 +99,13 @@ stays_one : (origin jitter skew latest : ℕ) (nearness : Nearness) (tag : Tag) 
     → is_passed nearness tag number w ≡ false
 stays_one origin jitter skew latest nearness tag number lead own w is_skew fit later wait past late unlike = grind (arith, nat_tests, cases_Bool, ne_eqb)
 
-pub all_stay : (origin jitter skew latest : ℕ) (nearness : Nearness) (tag : Tag) (number : ℕ) (lead : Net) (ahead : List Entry) (ws : List Wait)
+all_stay : (origin jitter skew latest : ℕ) (nearness : Nearness) (tag : Tag) (number : ℕ) (lead : Net) (ahead : List Entry) (ws : List Wait)
     → nearness.skew ≡ 1000 * skew → jitter ≤ skew → latest ≤ tag.at → AllZip (IsWaitFor origin jitter lead) ahead ws
     → All (λ (w : Wait). w.tag.at ≤ latest) ws → AreOpen origin jitter tag.at ahead
     → All (λ (o : Entry). same_net lead tag.net ≡ true → number_in o.frame ≡ number → ⊥) ahead
     → All (λ (w : Wait). is_passed nearness tag number w ≡ false) ws
 all_stay origin jitter skew latest nearness tag number lead [] [] is_skew fit later zip past late unlike =
     All-nil (λ (w : Wait). is_passed nearness tag number w ≡ false)
-all_stay origin jitter skew latest nearness tag number lead [] (w ∷ ws) is_skew fit later zip past late unlike = absurd zip
-all_stay origin jitter skew latest nearness tag number lead (o ∷ os) [] is_skew fit later zip past late unlike = absurd zip
 all_stay origin jitter skew latest nearness tag number lead (o ∷ os) (w ∷ ws) is_skew fit later zip past late unlike =
     All-cons (λ (w : Wait). is_passed nearness tag number w ≡ false) w ws
     (stays_one origin jitter skew latest nearness tag number lead o w is_skew fit later zip.0 (past 0 w (omega arith)) (late 0 o (omega arith))
@@ -88,27 +113,141 @@ all_stay origin jitter skew latest nearness tag number lead (o ∷ os) (w ∷ ws
     (all_stay origin jitter skew latest nearness tag number lead os ws is_skew fit later zip.1
     (All-tail (λ (w : Wait). w.tag.at ≤ latest) w ws past) (All-tail (λ (e : Entry). tag.at ≤ origin + 1000 * (e.at + jitter)) o os late)
     (All-tail (λ (o : Entry). same_net lead tag.net ≡ true → number_in o.frame ≡ number → ⊥) o os unlike))
+all_stay origin jitter skew latest nearness tag number lead ahead ws is_skew fit later zip past late unlike = absurd zip
 
-pub same_self : (net : Net) → same_net net net ≡ true
-same_self A = refl
-same_self B = refl
-
-pub same_other : (net : Net) → same_net net (other net) ≡ false
-same_other A = refl
-same_other B = refl
-
-pub no_twin : (origin jitter : ℕ) (tag : Tag) (number : ℕ) (ahead : List Entry) (ws : List Wait)
+no_twin : (origin jitter : ℕ) (tag : Tag) (number : ℕ) (ahead : List Entry) (ws : List Wait)
     → AllZip (IsWaitFor origin jitter tag.net) ahead ws → find (is_twin tag number) ws ≡ None
 no_twin origin jitter tag number [] [] zip = refl
-no_twin origin jitter tag number [] (w ∷ ws) zip = absurd zip
-no_twin origin jitter tag number (o ∷ os) [] zip = absurd zip
 no_twin origin jitter tag number (o ∷ os) (w ∷ ws) zip =
     rw (zip.0.net, same_self tag.net) (no_twin origin jitter tag number os ws zip.1)
+no_twin origin jitter tag number ahead ws zip = absurd zip
 
-pub zip_push : (origin jitter : ℕ) (lead : Net) (es : List Entry) (ws : List Wait) (e : Entry) (w : Wait)
+zip_push : (origin jitter : ℕ) (lead : Net) (es : List Entry) (ws : List Wait) (e : Entry) (w : Wait)
     → AllZip (IsWaitFor origin jitter lead) es ws → IsWaitFor origin jitter lead e w
     → AllZip (IsWaitFor origin jitter lead) (es ++ e ∷ []) (ws ++ w ∷ [])
 zip_push origin jitter lead [] [] e w zip is = (is, tt)
-zip_push origin jitter lead [] (v ∷ ws) e w zip is = absurd zip
-zip_push origin jitter lead (d ∷ es) [] e w zip is = absurd zip
 zip_push origin jitter lead (d ∷ es) (v ∷ ws) e w zip is = (zip.0, zip_push origin jitter lead es ws e w zip.1 is)
+zip_push origin jitter lead es ws e w zip is = absurd zip
+
+-- the first that waits is the twin, and waits no longer
+found_first : {X : Type 0} (p : X → Bool) (x : X) (xs : List X) → p x ≡ true
+    → (find p (x ∷ xs) ≡ Some x) × (remove (x ∷ xs) (position_or_len p (x ∷ xs)) ≡ xs)
+found_first p x xs is = rw is (refl, refl)
+
+first_met : (tag : Tag) (number : ℕ) (frame : List ℕ) (lead : Option ℕ) (w : Wait) (ws : List Wait) → is_twin tag number w ≡ true
+    → (pairing_with tag number frame (record { waiting = w ∷ ws; lead = lead })).waiting ≡ ws
+unfolding pairing_with
+first_met tag number frame lead w ws is = grind (arith, found_first)
+
+-- none that waits is passed, and a network leads on
+pub record LeadsOn (stream : List Entry) (origin jitter : ℕ) (nearness : Nearness) (tag : Tag) (e : Entry) (next : Net → List Entry)
+    (p : Pairing) : Type 0 where
+  pub stay : AllStay nearness tag (number_in e.frame) p.waiting
+  pub lead : Net
+  pub after : IsLedBy stream origin jitter tag.at next (pairing_with tag (number_in e.frame) e.frame (left_waiting nearness tag (number_in e.frame) p)).waiting lead
+
+-- the next frame
+module _ (stream : List Entry) (gap origin jitter skew latest : ℕ) (nearness : Nearness) (tag : Tag) (p : Pairing) (e : Entry)
+    (es : List Entry) (rest next : Net → List Entry) (is_stream : IsStream gap stream) (is_skew : nearness.skew ≡ 1000 * skew)
+    (fit : jitter ≤ skew) (sum : skew + jitter < 255 * gap) (later : latest ≤ tag.at) (delayed : IsDelayed origin jitter e.at tag.at)
+    (limits : (net : Net) → AreOpen origin jitter tag.at (rest net)) (long : 60 ≤ length e.frame) (first : rest tag.net ≡ e ∷ es)
+    (own : next tag.net ≡ es) (others : next (other tag.net) ≡ rest (other tag.net)) where
+  abbrev number : ℕ
+  number = number_in e.frame
+
+  abbrev Leads : Type 0
+  Leads = LeadsOn stream origin jitter nearness tag e next p
+
+  -- the number of the entry of which it is a copy
+  same : (o : Entry) → e ≡ side tag.net o → number ≡ number_in o.frame
+  same o is = ap (λ (d : Entry). number_in d.frame) is ∙ twin_number tag.net o.frame (rw (length-twin tag.net o.frame) at (rw is at long))
+
+  -- its network leads
+  own_leads : (done ahead coming : List Entry) → stream ≡ done ++ (ahead ++ coming) → e ∷ es ≡ map (side tag.net) coming
+      → rest (other tag.net) ≡ map (side (other tag.net)) (ahead ++ coming) → AllZip (IsWaitFor origin jitter tag.net) ahead p.waiting
+      → ArePast latest p.waiting → Leads
+  unfolding left_waiting pairing_with
+  own_leads done ahead [] whole leads lags waits past = absurd (cc (leads))
+  own_leads done ahead (c ∷ cs) whole leads lags waits past = record {
+    stay = stay;
+    lead = tag.net;
+    after = record {
+      done = done;
+      ahead = ahead ++ c ∷ [];
+      coming = cs;
+      whole = rw append_assoc whole;
+      leads = own ∙ cc (leads);
+      lags = rw append_assoc (others ∙ lags);
+      waits = rw (left, none) (zip_push origin jitter tag.net ahead p.waiting c new waits
+          (record { net = refl; number = same c is; delayed = rw is at delayed }));
+      past = rw (left, none) (All-push (λ (w : Wait). w.tag.at ≤ tag.at) p.waiting new (past_later latest tag.at p.waiting later past) (omega arith));
+    };
+  }
+    where
+      is : e ≡ side tag.net c
+      is = cc (leads)
+
+      new : Wait
+      new = record { tag = tag; number = number; bytes = e.frame }
+
+      still : AreOpen origin jitter tag.at ahead
+      still = open_ahead origin jitter tag.at (other tag.net) (rest (other tag.net)) ahead (c ∷ cs) lags (limits (other tag.net))
+
+      unlike : All (λ (o : Entry). same_net tag.net tag.net ≡ true → number_in o.frame ≡ number → ⊥) ahead
+      unlike = let number_is = same c is in let time : IsDelayed origin jitter c.at tag.at = rw is at delayed in grind (arith, later_apart, still)
+
+      stay : AllStay nearness tag number p.waiting
+      stay = all_stay origin jitter skew latest nearness tag number tag.net ahead p.waiting is_skew fit later waits past still unlike
+
+      left : kept nearness tag number p.waiting ≡ p.waiting
+      left = (stay_kept nearness tag number p.waiting stay).1
+
+      none : find (is_twin tag number) p.waiting ≡ None
+      none = no_twin origin jitter tag number ahead p.waiting waits
+
+  -- the other network leads
+  other_leads : (done ahead coming : List Entry) (ws : List Wait) → p.waiting ≡ ws → stream ≡ done ++ (ahead ++ coming)
+      → rest (other tag.net) ≡ map (side (other tag.net)) coming → e ∷ es ≡ map (side tag.net) (ahead ++ coming)
+      → AllZip (IsWaitFor origin jitter (other tag.net)) ahead ws → ArePast latest ws → Leads
+  unfolding left_waiting
+  other_leads done [] coming [] is whole leads lags waits past = own_leads done [] coming whole lags leads (rw is tt) (rw is past)
+  other_leads done (o ∷ os) coming (w ∷ ws) is whole leads lags waits past = record {
+    stay = rw is stay;
+    lead = other tag.net;
+    after = record {
+      done = done ++ o ∷ [];
+      ahead = os;
+      coming = coming;
+      whole = rw append_assoc whole;
+      leads = others ∙ leads;
+      lags = rw (other_other tag.net) (own ∙ cc (lags));
+      waits = rw left waits.1;
+      past = rw left (past_later latest tag.at ws later (All-tail (λ (w : Wait). w.tag.at ≤ latest) w ws past));
+    };
+  }
+    where
+      number_is : number ≡ number_in o.frame
+      number_is = same o (cc (lags))
+
+      twin : is_twin tag number w ≡ true
+      twin = rw (waits.0.net, same_other tag.net) (eq-eqb w.number number (waits.0.number ∙ sym number_is))
+
+      stay : AllStay nearness tag number (w ∷ ws)
+      stay = all_stay origin jitter skew latest nearness tag number (other tag.net) (o ∷ os) (w ∷ ws) is_skew fit later waits past
+          (open_ahead origin jitter tag.at tag.net (rest tag.net) (o ∷ os) coming (first ∙ lags) (limits tag.net))
+          (λ i spare inside both. absurd (cc (both, same_other tag.net)))
+
+      left : (pairing_with tag number e.frame (left_waiting nearness tag number p)).waiting ≡ ws
+      left = rw (is, (stay_kept nearness tag number (w ∷ ws) stay).1) (first_met tag number e.frame p.lead w ws twin)
+  other_leads done ahead coming ws is whole leads lags waits past = absurd waits
+
+  pub leads_on : (lead : Net) → IsLedBy stream origin jitter latest rest p.waiting lead → Leads
+  leads_on lead is = elim (which lead tag.net) [
+    | inl same ↦
+        let by = subst (IsLedBy stream origin jitter latest rest p.waiting) same is in
+        own_leads by.done by.ahead by.coming by.whole (sym first ∙ by.leads) by.lags by.waits by.past
+    | inr apart ↦
+        let by = subst (IsLedBy stream origin jitter latest rest p.waiting) apart is in
+        other_leads by.done by.ahead by.coming p.waiting refl by.whole by.leads
+        (sym first ∙ subst (λ m. rest m ≡ map (side m) (by.ahead ++ by.coming)) (other_other tag.net) by.lags) by.waits by.past
+  ]

@@ -1,23 +1,17 @@
 -- A line of a judge that finds nothing: the frames are numbered and spaced, and take turns.
-use Rattle.judge_laws.proofs.Names.{Arrived, Bool, Entry, IsApart, IsNumbered, IsSpaced, Last, Line, List, Measure, Net, None, Ok, Option, Options, Plan, PortPlan, Recorded, Some, Stamp, Sub, TakesTurns, Verdict, ap, arith}
-use Rattle.judge_laws.proofs.Names.{arrived, bag_micros, cases_Bool, cases_eq, cases_lt, due_before, early_since, entry_number, false, fields_of, figures_with, find, get_or, get_or_past, inl, inr, layout_broken, length}
-use Rattle.judge_laws.proofs.Names.{length-set, line_after, link_plan_at, map, more_in, nat_tests, new_sub, next_number, none_is, number_deviation, number_in, number_unless, numbered, passed_by, place_of, refl, sequence_number}
-use Rattle.judge_laws.proofs.Names.{size_deviation, slice_set, stamp_of, sub_in, subst, suc, sym, tag_of, true, turn_deviation, turn_if, verdict, zero, ℕ, [], ◌*◌, ◌+◌, ◌-◌, ◌/◌, ◌<◌, ◌^◌, ◌∙◌, ◌∷◌, ◌≡◌, ◌≤◌}
-use Rattle.judge.specs.Lines.{sub_in as judge_sub}
+use Rattle.judge_laws.proofs.Names.{Arrived, Bool, Entry, IsApart, IsNumbered, IsSpaced, Last, Line, List, Measure, Net, None, Ok, Option, Options, Plan, PortPlan, Recorded, Some, Stamp, Sub, Tag, TakesTurns, Verdict, ap, arith}
+use Rattle.judge_laws.proofs.Names.{bag_micros, cases_Bool, cases_eq, cases_lt, due_before, early_since, entry_number, false, fields_of, figures_with, find, get_or, get_or_past, inl, inr, layout_broken, length, length-set}
+use Rattle.judge_laws.proofs.Names.{link_plan_at, map, nat_tests, new_sub, next_number, none_is, number_deviation, number_in, number_unless, numbered, passed_by, place_of, refl, sequence_number, size_deviation, slice_set, stamp_of}
+use Rattle.judge_laws.proofs.Names.{sub_in, subst, suc, sym, tag_of, true, turn_deviation, turn_if, verdict, zero, ℕ, [], ◌*◌, ◌+◌, ◌-◌, ◌/◌, ◌<◌, ◌^◌, ◌∙◌, ◌∷◌, ◌≡◌, ◌≤◌}
 use Rattle.judge_laws.specs.NothingFound.{time_of}
 use Rattle.judge_laws.specs.NothingMissed.{IsOctets, entry_of}
-use Rattle.judge_laws.proofs.Line.{IsRight, sub_of, faultless, line_of, measure_at, port_at, right_after}
-use Rattle.judge_laws.proofs.Numbers.{number_goes_on}
-use Rattle.judge_laws.proofs.Turns.{AreDue, is_passed, own_is, own_sub, sub_other, sub_same}
+use Rattle.judge_laws.proofs.Line.{AreDue, IsFaultless, IsLast, IsRight, come_of, faultless, is_passed, line_of, line_then, measure_at, number_goes_on, own_is, own_sub, right_after, sub_of, sub_other, sub_same}
+use Rattle.judge_laws.proofs.Message.{port_at}
+use Rattle.judge_laws.proofs.Reading.{more_of, number_of, sub_of_frame}
 
--- a packet on its line
-abbrev pub come_of : Plan → ℕ → Options → Net → Line → Recorded → Arrived
-come_of plan k options net line r =
-    arrived (measure_at plan k options) (tag_of net 0 (time_of r)) (port_at plan k r.bytes) r.bytes line
-
-abbrev pub line_then : Plan → ℕ → Options → Net → Line → Recorded → Line
-line_then plan k options net line r =
-    line_after (measure_at plan k options) (port_at plan k r.bytes) (come_of plan k options net line r) line
+-- a packet as it comes to a line
+abbrev pub tag_for : Net → Recorded → Tag
+tag_for net r = tag_of net 0 (time_of r)
 
 -- nothing is wrong with it
 pub record IsClear (plan : Plan) (k : ℕ) (options : Options) (net : Net) (line : Line) (r : Recorded) : Type 0 where
@@ -25,18 +19,14 @@ pub record IsClear (plan : Plan) (k : ℕ) (options : Options) (net : Net) (line
   pub layout : layout_broken false r.bytes ≡ None
   pub placed : place_of plan net r.bytes ≡ Ok k
   pub sized : size_deviation (link_plan_at plan.links k) (length r.bytes) ≡ None
-  pub wrong : verdict (measure_at plan k options) (port_at plan k r.bytes) (come_of plan k options net line r) line ≡ faultless
+  pub wrong : IsFaultless plan k options (tag_for net r) r.bytes line
 
 abbrev pub AreClear : Plan → ℕ → Options → Net → Line → List Recorded → Type 0
 AreClear plan k options net line [] = Unit {0}
 AreClear plan k options net line (r ∷ rs) = IsClear plan k options net line r
-    × AreClear plan k options net (line_then plan k options net line r) rs
+    × AreClear plan k options net (line_then plan k options (tag_for net r) r.bytes line) rs
 
 -- a line on which nothing is wrong with a frame
-numbered_same : (measure : Measure) (come : Arrived) (line : Line) → number_deviation measure.late come.fields.number line ≡ None
-    → numbered measure come line ≡ line
-numbered_same measure come line none = rw none refl
-
 pub wrong_right : (measure : Measure) (port : Option PortPlan) (come : Arrived) (line : Line) → measure.arinc ≡ false
     → verdict measure port come line ≡ faultless → IsRight measure port come line come.sub
 unfolding verdict
@@ -48,54 +38,40 @@ wrong_right measure port come line own wrong =
       profile = own;
       number = number;
       early = ap (λ (v : Verdict). v.early) wrong;
-      of_port = ap (λ (v : Verdict). v.port) wrong;
-      fits = fits;
-      ends = rw (number, turn, fits) at (ap (λ (v : Verdict). v.message) wrong);
+      good = record {
+        of_port = ap (λ (v : Verdict). v.port) wrong;
+        fits = fits;
+        ends = rw (number, turn, fits) at (ap (λ (v : Verdict). v.message) wrong);
+      };
       turn = turn;
     }
 
--- ---- what a frame says
-
-number_of : (frame : List ℕ) → (fields_of frame).number ≡ number_in frame
-unfolding fields_of
-number_of frame = refl
-
-pub sub_of_frame : (frame : List ℕ) → judge_sub (fields_of frame) ≡ sub_in frame
-unfolding fields_of
-sub_of_frame frame = refl
-
-pub more_of : (frame : List ℕ) → (fields_of frame).piece.more ≡ more_in frame
-unfolding fields_of
-more_of frame = refl
-
--- the last frame of a line after `i` frames
+-- the last frame of a line after `i` frames, its time in microseconds
 abbrev pub IsLastAt : ℕ → Option Stamp → Option Last → Type 0
-IsLastAt i before None = (i ≡ 0) × (before ≡ None)
-IsLastAt i before (Some last) = (n : ℕ) × (i ≡ n + 1) × (last.number ≡ sequence_number n) × (stamp : Stamp) × (before ≡ Some stamp)
-    × (stamp.at ≡ last.at / 1000)
+IsLastAt i before last = IsLast 0 1 false i before last
 
 number_from : (i number : ℕ) (before : Option Stamp) (last : Option Last) → IsLastAt i before last
     → number_unless number (next_number false last) ≡ None → number ≡ sequence_number i
-number_from i number before None is none = grind (arith, nat_tests)
-number_from i number before (Some last) is none = grind (arith, nat_tests, number_goes_on is.0, is.1, is.2)
+number_from i number before None is none = grind (arith, nat_tests, (is refl).0)
+number_from i number before (Some last) is none = grind (arith, nat_tests, number_goes_on is.n, is.count, is.number)
 
 apart_from : (gap i at : ℕ) (before : Option Stamp) (last : Option Last) → IsLastAt i before last
     → early_since (1000 * gap) at last ≡ None → IsApart gap before (at / 1000)
-apart_from gap i at before None is none = rw is.1 tt
+apart_from gap i at before None is none = rw (is refl).1 tt
 apart_from gap i at None (Some last) is none = tt
-apart_from gap i at (Some stamp) (Some last) is none = grind (arith, nat_tests, is.4, is.5)
+apart_from gap i at (Some stamp) (Some last) is none = grind (arith, nat_tests, is.known, is.delayed)
 
 -- ---- turns
 
-not_found : {X : Type 0} (p : X → Bool) (xs : List X) (i : ℕ) (d : X) → find p xs ≡ None → i < length xs → p (get_or xs i d) ≡ false
-not_found p [] i d none inside = absurd (omega arith)
-not_found p (x ∷ xs) zero d none inside = elim (cases_Bool (p x)) [
+none_passes : {X : Type 0} (p : X → Bool) (xs : List X) (i : ℕ) (d : X) → find p xs ≡ None → i < length xs → p (get_or xs i d) ≡ false
+none_passes p [] i d none inside = absurd (omega arith)
+none_passes p (x ∷ xs) zero d none inside = elim (cases_Bool (p x)) [
   | inl is ↦ absurd (cc (rw is at none))
   | inr isnt ↦ isnt
 ]
-not_found p (x ∷ xs) (suc i) d none inside = elim (cases_Bool (p x)) [
+none_passes p (x ∷ xs) (suc i) d none inside = elim (cases_Bool (p x)) [
   | inl is ↦ absurd (cc (rw is at none))
-  | inr isnt ↦ not_found p xs i d (rw isnt at none) (omega arith)
+  | inr isnt ↦ none_passes p xs i d (rw isnt at none) (omega arith)
 ]
 
 no_turn : (subs : List Sub) (s p : ℕ) → length subs ≡ 4 → s < 4 → passed_by s subs ≡ None → (own_sub subs p).due ≡ true
@@ -103,7 +79,7 @@ no_turn : (subs : List Sub) (s p : ℕ) → length subs ≡ 4 → s < 4 → pass
 no_turn subs s p size few none due before = elim (cases_lt p 4) [
   | inl inside ↦
       let came : due_before (own_sub subs s).came subs ≡ None = rw (own_is subs s (rw size few)) at none in
-      let fails = not_found (is_passed (own_sub subs s).came) subs p (new_sub true false 0) (none_is (is_passed (own_sub subs s).came) subs came)
+      let fails = none_passes (is_passed (own_sub subs s).came) subs p (new_sub true false 0) (none_is (is_passed (own_sub subs s).came) subs came)
       (rw size inside) in
       grind (arith, nat_tests, fails)
   | inr past ↦ absurd (cc (due, ap (λ (s : Sub). s.due) (get_or_past subs p (new_sub true false 0) (rw size past))))
@@ -138,77 +114,67 @@ pub record AreHeard (plan : Plan) (k i : ℕ) (before : Option Stamp) (subs : Li
   pub turns : TakesTurns es
 
 pub after_clear : (plan : Plan) (k : ℕ) (options : Options) (net : Net) (line : Line) (r : Recorded) → IsClear plan k options net line r
-    → line_then plan k options net line r
-    ≡ line_of (port_at plan k r.bytes) (come_of plan k options net line r) line (sub_in r.bytes)
+    → line_then plan k options (tag_for net r) r.bytes line
+    ≡ line_of (port_at plan k r.bytes) (come_of plan k options (tag_for net r) r.bytes line) line (sub_in r.bytes)
 after_clear plan k options net line r clear = grind (arith, nat_tests, right_after, wrong_right, sub_of_frame)
-
-came_next : (subs : List Sub) (i s : ℕ) (new : Sub) → length subs ≡ 4 → s < 4 → ((p : ℕ) → (own_sub subs p).came ≤ i)
-    → new.came ≡ i + 1 → (p : ℕ) → (own_sub (slice_set subs s new) p).came ≤ i + 1
-came_next subs i s new size few came counts p = grind (arith, cases_eq p s, sub_same, sub_other, came p)
-
-at_next : (plan : Plan) (k : ℕ) (options : Options) (net : Net) (line : Line) (r : Recorded) (i : ℕ) (before : Option Stamp)
-    → options.late ≡ false → IsAt line i before → i + 1 ≤ 2 ^ 64 - 1 → IsClear plan k options net line r
-    → IsAt (line_of (port_at plan k r.bytes) (come_of plan k options net line r) line (sub_in r.bytes)) (i + 1) (Some (stamp_of (entry_of r)))
-at_next plan k options net line r i before early is few clear =
-    let right = wrong_right _ _ _ line refl clear.wrong in
-    let number : number_in r.bytes ≡ sequence_number i = sym (number_of r.bytes)
-    ∙ number_from i (fields_of r.bytes).number before line.last is.last (rw early at right.number) in
-    let counts : (figures_with (come_of plan k options net line r) line).frames ≡ i + 1 = rw is.frames (omega arith) in
-    record {
-      last = (i, refl, number_of r.bytes ∙ number, stamp_of (entry_of r), refl, refl);
-      frames = counts;
-      size = length-set line.subs (sub_in r.bytes) _ ∙ is.size;
-      came = came_next line.subs i (sub_in r.bytes) _ is.size (omega arith) is.came counts;
-    }
 
 turn_none : (sub : ℕ) (due : Option ℕ) → turn_if sub due ≡ None → due ≡ None
 turn_none sub None none = refl
 turn_none sub (Some due) none = absurd (cc (none))
 
-heard_next : (plan : Plan) (k : ℕ) (options : Options) (net : Net) (line : Line) (r : Recorded) (rs : List Recorded) (i : ℕ)
-    (before : Option Stamp) → options.late ≡ false → options.jitter ≡ 0 → IsAt line i before → i + 1 ≤ 2 ^ 64 - 1
-    → IsClear plan k options net line r → AreHeard plan k (i + 1) (Some (stamp_of (entry_of r)))
-    (slice_set line.subs (sub_in r.bytes) (sub_of (port_at plan k r.bytes) (come_of plan k options net line r) line (sub_in r.bytes))) (map entry_of rs)
-    → AreHeard plan k i before line.subs (entry_of r ∷ map entry_of rs)
-heard_next plan k options net line r rs i before early jitter is few clear later = record {
-  numbered = (number, later.numbered);
-  spaced = (apart, later.spaced);
-  due = due_back line.subs i (entry_of r) (map entry_of rs) s new later.due is.size is.came four refl counts turn;
-  turns = (λ more q. later.due.once s q (ap (λ (x : Sub). x.due) (sub_same line.subs s new (rw is.size four)) ∙ more_of r.bytes ∙ more), later.turns);
-}
-  where
-    s : ℕ
-    s = sub_in r.bytes
+-- a packet on its line
+module _ (plan : Plan) (k : ℕ) (options : Options) (net : Net) (line : Line) (r : Recorded) (i : ℕ) (before : Option Stamp)
+    (early : options.late ≡ false) (jitter : options.jitter ≡ 0) (is : IsAt line i before) (few : i + 1 ≤ 2 ^ 64 - 1)
+    (clear : IsClear plan k options net line r) where
+  abbrev s : ℕ
+  s = sub_in r.bytes
 
-    four : s < 4
-    four = omega arith
+  abbrev come : Arrived
+  come = come_of plan k options (tag_for net r) r.bytes line
 
-    come : Arrived
-    come = come_of plan k options net line r
+  abbrev new : Sub
+  new = sub_of (port_at plan k r.bytes) come line s
 
-    new : Sub
-    new = sub_of (port_at plan k r.bytes) come line s
+  right : IsRight (measure_at plan k options) (port_at plan k r.bytes) come line come.sub
+  right = wrong_right _ _ _ line refl clear.wrong
 
-    line' : Line
-    line' = line_of (port_at plan k r.bytes) come line s
+  counts : (figures_with come line).frames ≡ i + 1
+  counts = rw is.frames (omega arith)
 
-    right : IsRight (measure_at plan k options) (port_at plan k r.bytes) come line come.sub
-    right = wrong_right _ _ _ line refl clear.wrong
+  number : number_in r.bytes ≡ sequence_number i
+  number = sym (number_of r.bytes) ∙ number_from i (fields_of r.bytes).number before line.last is.last (rw early at right.number)
 
-    counts : (figures_with come line).frames ≡ i + 1
-    counts = rw is.frames (omega arith)
+  at_next : IsAt (line_of (port_at plan k r.bytes) come line s) (i + 1) (Some (stamp_of (entry_of r)))
+  at_next = record {
+    last = record {
+      n = i;
+      count = refl;
+      number = number_of r.bytes ∙ number;
+      stamp = stamp_of (entry_of r);
+      known = refl;
+      delayed = record { least = omega arith; most = omega arith };
+    };
+    frames = counts;
+    size = length-set line.subs s _ ∙ is.size;
+    came = λ p. grind (arith, cases_eq p s, sub_same, sub_other, is.size, is.came p, counts);
+  }
 
-    number : number_in r.bytes ≡ sequence_number i
-    number = sym (number_of r.bytes) ∙ number_from i (fields_of r.bytes).number before line.last is.last (rw early at right.number)
-
-    gap : 1000 * (bag_micros (link_plan_at plan.links k).bag - options.jitter) ≡ 1000 * bag_micros (link_plan_at plan.links k).bag
-    gap = rw jitter (omega arith)
-
-    apart : IsApart (bag_micros (link_plan_at plan.links k).bag) before (time_of r / 1000)
-    apart = apart_from (bag_micros (link_plan_at plan.links k).bag) i (time_of r) before line.last is.last (rw gap at right.early)
-
-    turn : passed_by s line.subs ≡ None
-    turn = subst (λ q. passed_by q line.subs ≡ None) (sub_of_frame r.bytes) (turn_none come.sub (passed_by come.sub line.subs) right.turn)
+  heard_next : (rs : List Recorded) → AreHeard plan k (i + 1) (Some (stamp_of (entry_of r))) (slice_set line.subs s new) (map entry_of rs)
+      → AreHeard plan k i before line.subs (entry_of r ∷ map entry_of rs)
+  heard_next rs later =
+      let four : s < 4 = omega arith in
+      let gap : 1000 * (bag_micros (link_plan_at plan.links k).bag - options.jitter) ≡ 1000 * bag_micros (link_plan_at plan.links k).bag =
+      rw jitter (omega arith) in
+      let turn = subst (λ q. passed_by q line.subs ≡ None) (sub_of_frame r.bytes) (turn_none come.sub (passed_by come.sub line.subs) right.turn) in
+      record {
+        numbered = (number, later.numbered);
+        spaced = (apart_from (bag_micros (link_plan_at plan.links k).bag) i (time_of r) before line.last is.last (rw gap at right.early), later.spaced);
+        due = due_back line.subs i (entry_of r) (map entry_of rs) s new later.due is.size is.came four refl counts turn;
+        turns = (
+          λ more q. later.due.once s q (ap (λ (x : Sub). x.due) (sub_same line.subs s new (rw is.size four)) ∙ more_of r.bytes ∙ more),
+          later.turns,
+        );
+      }
 
 pub heard : (plan : Plan) (k : ℕ) (options : Options) (net : Net) (line : Line) (rs : List Recorded) (i : ℕ) (before : Option Stamp)
     → options.late ≡ false → options.jitter ≡ 0 → IsAt line i before → i + length rs ≤ 2 ^ 64 - 1 → AreClear plan k options net line rs
@@ -225,7 +191,8 @@ heard plan k options net line [] i before early jitter is few clear = record {
   };
   turns = tt;
 }
-heard plan k options net line (r ∷ rs) i before early jitter is few clear = heard_next plan k options net line r rs i before early jitter is
-    (omega arith) clear.0 (heard plan k options net (line_of (port_at plan k r.bytes) (come_of plan k options net line r) line (sub_in r.bytes)) rs (i + 1)
-    (Some (stamp_of (entry_of r))) early jitter (at_next plan k options net line r i before early is (omega arith) clear.0) (omega arith)
+heard plan k options net line (r ∷ rs) i before early jitter is few clear =
+    heard_next plan k options net line r i before early jitter is (omega arith) clear.0 rs
+    (heard plan k options net (line_of (port_at plan k r.bytes) (come_of plan k options (tag_for net r) r.bytes line) line (sub_in r.bytes)) rs (i + 1)
+    (Some (stamp_of (entry_of r))) early jitter (at_next plan k options net line r i before early jitter is (omega arith) clear.0) (omega arith)
     (subst (λ l. AreClear plan k options net l rs) (after_clear plan k options net line r clear.0) clear.1))

@@ -1,16 +1,15 @@
 -- Names of other crates for the proofs here.
-pub use Rattle.std.proofs.Common.{Bool, Err, List, None, Ok, Option, Result, Some, ap, append-nil, append_assoc, arith, cond, drop, false, get_or, inl, inr, le_refl, length, length-append, length-set}
-pub use Rattle.std.proofs.Common.{map, max, nat_le, not, refl, replicate, slice_index, subst, suc, sym, take, true, zero, ℕ, [], ◌%◌, ◌*◌, ◌++◌, ◌+◌, ◌-◌, ◌/◌, ◌<◌, ◌==◌, ◌^◌, ◌↔◌, ◌∙◌, ◌∷◌, ◌≡◌, ◌≢◌}
-pub use Rattle.std.proofs.Common.{◌≤◌, ◌⊎◌}
+pub use Rattle.std.proofs.Common.{Bool, Err, List, None, Ok, Option, Result, Some, ap, append-nil, append_assoc, arith, drop, false, get_or, inl, inr, le_refl, length, length-append, length-set, map, max, nat_le, not, refl}
+pub use Rattle.std.proofs.Common.{replicate, slice_index, subst, suc, sym, take, true, zero, ℕ, [], ◌%◌, ◌*◌, ◌++◌, ◌+◌, ◌-◌, ◌/◌, ◌<◌, ◌==◌, ◌^◌, ◌↔◌, ◌∙◌, ◌∷◌, ◌≡◌, ◌≢◌, ◌≤◌, ◌⊎◌}
 pub use Rattle.std.proofs.Math.Seq.{drop-cons, get_or-append_right, get_or-append_seam, take-add}
 pub use Rattle.std.proofs.lemmas.Bool.{and_right, both_ways, cases_Bool, cases_eq, cases_lt, eq-eqb, eqb-true, le-ltb, lt-ltb, ne_eqb}
 pub use Rattle.std.proofs.lemmas.Bool.Decides.{nat_tests}
 pub use Rattle.std.proofs.lemmas.Grind.{same_number_lists}
-pub use Rattle.std.proofs.lemmas.List.{drop-drop, drop-set-lt, drop_at, get_or-append-add, get_or-drop, get_or-map, get_or-replicate, get_or-set_other, get_or-set_same, get_or-take}
-pub use Rattle.std.proofs.lemmas.List.{get_or_append_left, get_or_default, get_or_past, length-drop, length-map, length-replicate, length-take, map-append, take-append-drop, take-set-le, take_all}
-pub use Rattle.std.proofs.lemmas.List.{take_at, take_more}
-pub use Rattle.std.proofs.lemmas.List.Elements.{All-append, All-cons, All-contains, All-drop, All-filter, All-from_get_or, All-from_recursion, All-head, All-map, All-nil, All-push, All-tail, All-take}
-pub use Rattle.std.proofs.lemmas.List.Elements.{All-weaker, filter_passes}
+pub use Rattle.std.proofs.lemmas.List.{drop-drop, drop-set-lt, drop_at, get_or-append-add, get_or-drop, get_or-map, get_or-replicate, get_or-set_other, get_or-set_same, get_or-take, get_or_append_left, get_or_default, get_or_past}
+pub use Rattle.std.proofs.lemmas.List.{length-drop, length-map, length-replicate, length-take, map-append, take-append-drop, take-set-le, take_all, take_at, take_more}
+pub use Rattle.std.proofs.lemmas.List.Elements.{All-append, All-cons, All-contains, All-drop, All-filter, All-from_get_or, All-from_recursion, All-head, All-map, All-nil, All-push, All-tail, All-take, All-weaker, filter_passes}
+pub use Rattle.std.proofs.lemmas.List.Filters.{length-filter_both}
+pub use Rattle.std.proofs.Math.Path.{fun_ext}
 pub use Rattle.std.proofs.lemmas.List.Quantifiers.{position-Some}
 pub use Rattle.std.proofs.lemmas.List.Sums.{fails_before_first, position_or_len_is}
 pub use Rattle.std.proofs.lemmas.Simd.{map-map}
@@ -46,32 +45,29 @@ pub use Rattle.afdx_frame.specs.declared.piece.Piece.{Piece}
 pub use Rattle.afdx_legal.proofs.StreamLemmas.{known_all, numbered_at, on_both_is, with_append, with_map}
 pub use Rattle.afdx_legal.specs.Accepted.{AreAllowed, IsAllowed}
 pub use Rattle.afdx_legal.specs.Legal.{Accepted, AreKnown, IsKnown, IsLegalOn, on_both}
-pub use Rattle.afdx_legal.specs.Streams.{IsApart, IsFollowedInTurn, IsNumbered, IsPrefixOf, IsSpaced, TakeTurnsOn, TakesTurns, before_next, entry_number, latest, link_stream, more_in, stamp_of}
-pub use Rattle.afdx_legal.specs.Streams.{sub_stream, those_with, told}
+pub use Rattle.afdx_legal.specs.Streams.{IsApart, IsFollowedInTurn, IsNumbered, IsSpaced, TakeTurnsOn, TakesTurns, before_next, entry_number, latest, link_stream, more_in, stamp_of, sub_stream, those_with, told}
 pub use Rattle.afdx_legal.specs.Worked.{one_frame}
 pub use Rattle.redundant_mux.specs.Lines.{Entry, entry, names, side}
 pub use Rattle.capture.specs.Recording.{Recorded}
 pub use Rattle.afdx_laws.proofs.LegalLinks.{stream_front, stream_side}
-pub use Rattle.afdx_laws.proofs.ListLemmas.{fails_by}
+pub use Rattle.afdx_laws.proofs.ListLemmas.{fails_by, nil_begins}
 pub use Rattle.afdx_laws.proofs.WorkedDemo.{needs_legal}
 pub use Rattle.afdx_laws.specs.WorkedPlan.{pair_at, second_frame, two_accepted, two_entries}
 pub use Rattle.judge.proofs.Pairs.{none_is}
 unfoldable pub use Rattle.judge.specs.CheckSequence.{check_sequence, with_byte}
-pub use Rattle.judge.specs.Deviations.{first_of, kind_number, with_finding}
+pub use Rattle.judge.specs.Deviations.{first_of, with_finding}
 unfoldable pub use Rattle.judge.specs.Fields.{fields_of}
-pub use Rattle.judge.specs.Joining.{address_number, addresses_deviation, begun, end_deviation, head_after, head_of, head_with, ident_before, ident_of, if_known, is_of_port, is_towards, joined}
-pub use Rattle.judge.specs.Joining.{misfit_if, next_of, port_of, right_sum}
+pub use Rattle.judge.specs.Joining.{address_number, addresses_deviation, begun, end_deviation, head_after, head_of, head_with, ident_before, ident_of, if_known, is_of_port, is_towards, joined, misfit_if, next_of, port_of, right_sum}
 unfoldable pub use Rattle.judge.specs.Joining.{fragment_deviation, head_now, length_deviation, message_deviation}
-pub use Rattle.judge.specs.Judging.{Admitted, Judging, OnNet, after_timed, arrived, at_place, findings, first_port, found_from, found_given_up, found_judged, found_left, found_on_line, found_refusal}
-pub use Rattle.judge.specs.Judging.{found_timed, found_twin, given_up, is_with_check, line_on, link_at, measure_of, new_link, no_times, paired, placed, setting_of, tag_of, timed, times_with}
-pub use Rattle.judge.specs.Judging.{with_frame, with_line}
+pub use Rattle.judge.specs.Judging.{Admitted, Judging, OnNet, after_timed, arrived, at_place, findings, first_port, found_from, found_given_up, found_judged, found_left, found_on_line, found_refusal, found_timed, found_twin}
+pub use Rattle.judge.specs.Judging.{given_up, is_with_check, line_on, link_at, measure_of, nearness_of, new_link, no_times, placed, tag_of, timed, times_with}
 unfoldable pub use Rattle.judge.specs.Judging.{admitted, after_packet, found_of_arrival, found_on_link, found_with_end, found_with_packet, link_after, with_arrival, with_verdict}
 pub use Rattle.judge.specs.Layouts.{first_nonzero, has_four_more, has_total, padding_of, unless_kept}
 unfoldable pub use Rattle.judge.specs.Layouts.{address_broken, internet_broken, layout_broken, link_broken, padding_broken}
-pub use Rattle.judge.specs.Lines.{due_before, early_deviation, early_since, figures_with, new_line, new_sub, next_number, number_after, number_deviation, number_unless, numbered, other_sub, passed_by}
-pub use Rattle.judge.specs.Lines.{port_deviation, settled, sub_at, turn_deviation, turn_if}
+pub use Rattle.judge.specs.Lines.{due_before, early_deviation, early_since, figures_with, new_line, new_sub, next_number, number_after, number_deviation, number_unless, numbered, other_sub, passed_by, port_deviation, settled}
+pub use Rattle.judge.specs.Lines.{sub_at, sub_in as judge_sub, turn_deviation, turn_if}
 unfoldable pub use Rattle.judge.specs.Lines.{line_after, line_with, verdict}
-pub use Rattle.judge.specs.Rules.{if_kept, in_layout, interface_on, on_link, size_deviation}
+pub use Rattle.judge.specs.Rules.{interface_on, on_link, size_deviation}
 unfoldable pub use Rattle.judge.specs.Rules.{checked, frame_in, place_of, unchecked}
 pub use Rattle.judge.specs.Twins.{first_other, is_lost, is_passed, is_twin, kept, missing, missing_of, same_net, stays}
 unfoldable pub use Rattle.judge.specs.Twins.{found_at_end, found_missing, left_waiting, pairing_with, twin_deviation, twin_other}

@@ -1,16 +1,12 @@
 -- The frames of a sub-VL on a network: the judge finds nothing wrong with the one that is due, and awaits the next one.
-use Rattle.judge_laws.proofs.Names.{All, All-contains, All-head, All-tail, Bool, Cutting, Head, IsAllowed, IsLink, IsPiece, IsPlan, IsPort, Joining, List, Net, None, Ok, Option, Options, Piece, Plan, PortPlan, Recorded, Sent}
-use Rattle.judge_laws.proofs.Names.{arith, blanked, checked, cut_whole, drop_at, end_deviation, false, fields_of, first_port, fragment_deviation, fragments, fragments_from, fragments_left, frame_in, frame_of, has_four_more}
-use Rattle.judge_laws.proofs.Names.{head_now, header_says, identification, if◌then◌else◌, inl, inr, joined, left_first, left_none, length, length-append, length-frame, link_plan_at, max, more_in, names, nat_tests, new_sub}
-use Rattle.judge_laws.proofs.Names.{number_in, piece_at, pieces_left, place_of, port_deviation, refl, says, size_deviation, suc, sym, take_all, take_at, take_more, total_ok, true, unchecked, unnumbered, ℕ, [], ◌++◌, ◌+◌, ◌-◌, ◌<◌}
-use Rattle.judge_laws.proofs.Names.{◌∙◌, ◌∷◌, ◌≡◌, ◌≤◌, ◌⊎◌}
-use Rattle.judge.specs.Lines.{sub_in}
-use Rattle.judge_laws.proofs.Carried.{Carries, carries, source_ok}
-use Rattle.judge_laws.proofs.Found.{place_found}
-use Rattle.judge_laws.proofs.Heard.{IsDue, IsHeard, IsTrueAt, first_found, message_fits, piece_fits, port_fits, room_at, true_after, true_behind}
-use Rattle.judge_laws.proofs.Message.{IsNext, IsTrue, its_port, next_piece, piece_is}
-use Rattle.judge_laws.proofs.OfProfile.{layout_is_profile}
+use Rattle.judge_laws.proofs.Names.{All, All-contains, All-head, All-tail, Bool, Cutting, Head, IsAllowed, IsLink, IsPiece, IsPlan, IsPort, Joining, List, Net, None, Ok, Option, Options, Piece, Plan, PortPlan, Recorded, Sent, arith}
+use Rattle.judge_laws.proofs.Names.{blanked, checked, cut_whole, drop_at, false, fields_of, fragments, fragments_from, fragments_left, frame_in, frame_of, has_four_more, header_says, identification, if◌then◌else◌, inl, inr}
+use Rattle.judge_laws.proofs.Names.{judge_sub, left_first, left_none, length, length-append, length-frame, link_plan_at, max, names, nat_tests, new_sub, number_in, piece_at, pieces_left, place_of, refl, says, size_deviation, suc}
+use Rattle.judge_laws.proofs.Names.{sym, take_all, take_at, take_more, total_ok, true, unchecked, unnumbered, ℕ, [], ◌++◌, ◌+◌, ◌-◌, ◌<◌, ◌∙◌, ◌∷◌, ◌≡◌, ◌≤◌, ◌⊎◌}
 use Rattle.judge_laws.specs.Frames.{IsRecordedAs}
+use Rattle.judge_laws.proofs.Message.{IsDue, IsGood, IsHeard, IsNext, IsTrue, IsTrueAt, first_found, good, its_port, joining_after, next_piece, piece_is, port_at, room_at, true_after, true_behind}
+use Rattle.judge_laws.proofs.OfProfile.{layout_is_profile}
+use Rattle.judge_laws.proofs.Reading.{Carries, carries, place_found, source_ok}
 
 -- a message of which `start` bytes came
 abbrev pub cut_at : Sent → ℕ → ℕ → Cutting
@@ -42,15 +38,8 @@ pub record IsClean (plan : Plan) (k sub : ℕ) (net : Net) (joining : Joining) (
       → packet.original ≡ length packet.bytes → frame_in options packet ≡ Ok frame
   pub placed : place_of plan net frame ≡ Ok k
   pub sized : size_deviation (link_plan_at plan.links k) (length frame) ≡ None
-  pub port : port_deviation (fields_of frame) (first_port false plan.ports (link_plan_at plan.links k).id (fields_of frame)) ≡ None
-  pub fits : fragment_deviation (room_at plan k) (fields_of frame) joining ≡ None
-  pub ends : end_deviation (fields_of frame).piece
-      (head_now (first_port false plan.ports (link_plan_at plan.links k).id (fields_of frame)) (fields_of frame) joining) ≡ None
-  pub next : IsAwaiting plan k sub net (joined false (fields_of frame).piece
-      (head_now (first_port false plan.ports (link_plan_at plan.links k).id (fields_of frame)) (fields_of frame) joining)) left
-  pub number : (fields_of frame).number ≡ number_in frame
-  pub of_sub : sub_in (fields_of frame) ≡ sub
-  pub more : (fields_of frame).piece.more ≡ more_in frame
+  pub good : IsGood (room_at plan k) (port_at plan k frame) (fields_of frame) joining
+  pub next : IsAwaiting plan k sub net (joining_after plan k frame joining) left
 
 -- Between messages the fragments of the next ones are due.
 between : (plan : Plan) (k sub : ℕ) (net : Net) (joining : Joining) (place : ℕ) (messages : List Sent)
@@ -134,7 +123,7 @@ module _ (plan : Plan) (k sub : ℕ) (net : Net) (sent : Sent) (place start numb
   frame = frame_of plan.end_system sent.port sent.bytes place piece net number
 
   abbrev port : Option PortPlan
-  port = first_port false plan.ports (link_plan_at plan.links k).id (fields_of frame)
+  port = port_at plan k frame
 
   link_is : IsLink (link_plan_at plan.links k)
   link_is = valid.each_link k _ within
@@ -168,7 +157,7 @@ module _ (plan : Plan) (k sub : ℕ) (net : Net) (sent : Sent) (place start numb
   carried : Carries plan.end_system sent.port sent.bytes place piece (fields_of frame)
   carried = carries plan.end_system sent.port sent.bytes place piece net number port_is due.allowed.queued.most its_piece
 
-  of_sub : sub_in (fields_of frame) ≡ sub
+  of_sub : judge_sub (fields_of frame) ≡ sub
   of_sub = omega (arith, carried.ident, due.allowed.queued.its, port_is.sub)
 
   heard : IsHeard plan k sub sent place start joining piece (fields_of frame) port
@@ -184,18 +173,12 @@ module _ (plan : Plan) (k sub : ℕ) (net : Net) (sent : Sent) (place start numb
 
   clean : (later : List Sent) → All (IsAllowed plan k sub) later
       → IsClean plan k sub net joining frame (due_from plan k net sent place (start + piece.len) later)
-  unfolding fields_of
   clean later are = record {
     admitted = admitted;
     placed = placed;
     sized = sized;
-    port = port_fits heard;
-    fits = piece_fits heard (omega (arith, link_is.lmax));
-    ends = message_fits heard;
+    good = good heard (omega (arith, link_is.lmax));
     next = goes_on plan k sub net sent place start later _ piece next due are (true_after heard) (true_behind heard);
-    number = refl;
-    of_sub = of_sub;
-    more = refl;
   }
 
 -- a frame before and after its sequence number
@@ -223,15 +206,6 @@ one_frame plan k sub net joining frame left valid inside named index long awaiti
 nothing_known : (ident start sub : ℕ) (head : Head) → IsTrue ident start head (new_sub true false sub).joining
 nothing_known ident start sub head = record { next_is = tt; ident_is = tt; head_is = tt; alone = refl }
 
--- All fragments of the accepted messages are due of a new judge.
-pub awaits_all : (plan : Plan) (k sub : ℕ) (net : Net) (late : Bool) (accepted : List Sent) → IsPlan plan → k < length plan.links
-    → sub < (link_plan_at plan.links k).sub_vls → All (IsAllowed plan k sub) accepted
-    → IsAwaiting plan k sub net (new_sub late false sub).joining (fragments plan.end_system (room_at plan k) net accepted)
-awaits_all plan k sub net true accepted valid inside index allowed = between plan k sub net _ 0 accepted allowed (nothing_known _ 0 sub)
-awaits_all plan k sub net false accepted valid inside index allowed =
-    let link : IsLink (link_plan_at plan.links k) = valid.each_link k _ inside in
-    between plan k sub net _ 0 accepted allowed (λ head. record { next_is = refl; ident_is = omega arith; head_is = tt; alone = refl })
-
 -- what isn't heard is due no longer
 skips : (plan : Plan) (k sub : ℕ) (net : Net) (before left : List (List ℕ)) → 25 ≤ room_at plan k
     → IsAwaiting plan k sub net (new_sub true false sub).joining (before ++ left) → IsAwaiting plan k sub net (new_sub true false sub).joining left
@@ -246,11 +220,15 @@ skips plan k sub net (u ∷ before) left least awaiting = skips plan k sub net b
       (λ more. nothing_known _ _ sub _) (λ last. nothing_known _ 0 sub))
 ])
 
--- Those that are left are due of one that began late.
-pub awaits_late : (plan : Plan) (k sub : ℕ) (net : Net) (accepted : List Sent) (before left : List (List ℕ)) → IsPlan plan → k < length plan.links
-    → sub < (link_plan_at plan.links k).sub_vls → All (IsAllowed plan k sub) accepted
-    → fragments plan.end_system (room_at plan k) net accepted ≡ before ++ left
-    → IsAwaiting plan k sub net (new_sub true false sub).joining left
-awaits_late plan k sub net accepted before left valid inside index allowed is =
+-- All fragments of the accepted messages are due of a new judge, or those that are left if it began late.
+pub awaits : (plan : Plan) (k sub : ℕ) (net : Net) (late : Bool) (accepted : List Sent) (before left : List (List ℕ)) → IsPlan plan
+    → k < length plan.links → sub < (link_plan_at plan.links k).sub_vls → All (IsAllowed plan k sub) accepted
+    → fragments plan.end_system (room_at plan k) net accepted ≡ before ++ left → (late ≡ false → before ≡ [])
+    → IsAwaiting plan k sub net (new_sub late false sub).joining left
+awaits plan k sub net true accepted before left valid inside index allowed is first =
     let link : IsLink (link_plan_at plan.links k) = valid.each_link k _ inside in
-    skips plan k sub net before left (omega (arith, link.lmax)) (rw is at (awaits_all plan k sub net true accepted valid inside index allowed))
+    skips plan k sub net before left (omega (arith, link.lmax)) (rw is at (between plan k sub net _ 0 accepted allowed (nothing_known _ 0 sub)))
+awaits plan k sub net false accepted before left valid inside index allowed is first =
+    let link : IsLink (link_plan_at plan.links k) = valid.each_link k _ inside in
+    rw (is, first refl) at (between plan k sub net (new_sub false false sub).joining 0 accepted allowed
+    (λ head. record { next_is = refl; ident_is = omega arith; head_is = tt; alone = refl }))

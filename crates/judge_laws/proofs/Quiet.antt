@@ -1,12 +1,104 @@
--- A frame in which the judge finds nothing: what it says.
-use Rattle.judge_laws.proofs.Names.{Bool, Contains, Fields, Flow, Head, IsFrame, Joining, LinkPlan, List, Misfit, Net, None, Ok, Option, Piece, PieceIn, Plan, PortPlan, Some, VlId, addresses_deviation, arith, begun, cases_Bool}
-use Rattle.judge_laws.proofs.Names.{drop, end_deviation, false, fields_of, find, first_port, fragment_deviation, fragment_field, head_now, ident_of, inl, inr, interface_byte, interface_on, is_of_port, is_towards, layout_broken}
-use Rattle.judge_laws.proofs.Names.{length, length_deviation, link_in, link_plan_at, misfit_if, names, nat_le, nat_tests, next_of, on_link, place_of, port_deviation, port_of, position, position-Some, refl, size_deviation}
-use Rattle.judge_laws.proofs.Names.{slice_index, step_of, suc, sym, take, total_length, true, word_at, ℕ, [], ◌%◌, ◌*◌, ◌+◌, ◌-◌, ◌<◌, ◌==◌, ◌∙◌, ◌∷◌, ◌≡◌, ◌≤◌, ◌⊎◌}
-use Rattle.judge.specs.Lines.{sub_in}
-use Rattle.judge_laws.proofs.Heard.{room_at}
+-- A frame in which the judge finds nothing: what it says. What the judge keeps of a message tells its bytes: a whole message
+-- without a finding is the datagram of its content.
+use Rattle.judge_laws.proofs.Names.{Contains, Fields, Flow, Generated, Head, IsFrame, IsPort, Joining, LinkPlan, List, Misfit, Net, None, Ok, Omitted, Option, Piece, PieceIn, Plan, PortPlan, Some, UdpSum, VlId, addresses}
+use Rattle.judge_laws.proofs.Names.{addresses_deviation, ap, arith, begun, cases_Bool, cases_lt, datagram, drop, false, fields_of, first_port, fragment_deviation, fragment_field, get_or, get_or-append_right, get_or_append_left}
+use Rattle.judge_laws.proofs.Names.{head_with, ident_of, inl, inr, interface_byte, interface_on, is_of_port, is_towards, judge_sub, layout_broken, length, length-append, length-drop, length_deviation, link_in, link_plan_at}
+use Rattle.judge_laws.proofs.Names.{message_deviation, misfit_if, names, nat_le, nat_tests, next_of, on_link, place_of, port_deviation, port_of, position, position-Some, refl, right_sum, size_deviation, slice_index, step_of, sym}
+use Rattle.judge_laws.proofs.Names.{take, take-append-drop, total_length, true, two_bytes, udp_checksum, udp_field, udp_header, udp_sum, word_at, word_sum, word_sum-append, ℕ, [], ◌%◌, ◌*◌, ◌++◌, ◌+◌, ◌-◌, ◌/◌, ◌<◌, ◌==◌, ◌∙◌, ◌≡◌}
+use Rattle.judge_laws.proofs.Names.{◌≤◌, ◌⊎◌}
+use Rattle.judge_laws.proofs.Message.{IsGood, port_at, room_at}
 use Rattle.judge_laws.proofs.OfProfile.{layout_is_profile, none_both}
-use Rattle.judge_laws.proofs.Rebuilt.{IsRead}
+use Rattle.judge_laws.proofs.Reading.{IsRead, bytes_are, bytes_at, find_says, word_is}
+
+-- the bytes that came of a message, as what is kept of them tells
+pub record Tells (end_system : ℕ) (port : PortPlan) (given : List ℕ) (head : Head) : Type 0 where
+  pub port_is : head.port ≡ port
+  pub long : 8 ≤ length given
+  pub octets : (i : ℕ) → get_or given i 0 < 256
+  pub source : word_at given 0 ≡ port.source
+  pub destination : word_at given 2 ≡ port.destination
+  pub udp_len : head.udp_len ≡ word_at given 4
+  pub udp_sum_is : head.udp_sum ≡ word_at given 6
+  pub sum : head.sum ≡ (word_sum (addresses end_system port) + word_sum given + (65535 - word_at given 6)) % 65535
+
+-- with one more piece
+pub tells_more : (end_system : ℕ) (port : PortPlan) (given body : List ℕ) (head : Head) (fields : Fields)
+    → Tells end_system port given head → length given % 2 ≡ 0 → ((i : ℕ) → get_or body i 0 < 256) → fields.sum ≡ word_sum body
+    → Tells end_system port (given ++ body) (head_with head fields)
+tells_more end_system port given body head fields tells even octets sum =
+    let here = λ (i : ℕ) (below : i < 8). get_or_append_left given body 0 i (omega (arith, tells.long)) in
+    let both = word_sum-append (length given / 2) given body (omega arith) in
+    record {
+      port_is = tells.port_is;
+      long = omega (arith, length-append given body, tells.long);
+      octets = λ i. elim (cases_lt i (length given)) [
+        | inl inside ↦ rw (get_or_append_left given body 0 i inside) (tells.octets i)
+        | inr past ↦ rw (get_or-append_right given body i 0 past) (octets (i - length given))
+      ];
+      source = rw (here 0 (omega arith), here 1 (omega arith)) tells.source;
+      destination = rw (here 2 (omega arith), here 3 (omega arith)) tells.destination;
+      udp_len = rw (here 4 (omega arith), here 5 (omega arith)) tells.udp_len;
+      udp_sum_is = rw (here 6 (omega arith), here 7 (omega arith)) tells.udp_sum_is;
+      sum = omega (arith, tells.sum, here 6 (omega arith), here 7 (omega arith));
+    }
+
+-- the checksum that is right is the datagram's
+field_back : (how : UdpSum) (ends words field len sum : ℕ) → field < 65536
+    → field ≡ udp_field how ((ends + (words + field) + (65535 - field)) % 65535 + 17 + len) → sum ≡ ends + (17 + len) + words
+    → udp_field how sum ≡ field
+unfolding udp_checksum
+field_back Omitted ends words field len sum small is all = sym is
+field_back Generated ends words field len sum small is all = omega arith
+
+-- a message without a finding
+pub record IsWhole (end_system : ℕ) (port : PortPlan) (given : List ℕ) : Type 0 where
+  pub datagram_is : datagram end_system port (drop 8 given) ≡ given
+  pub some : 1 ≤ length (drop 8 given)
+  pub most : length (drop 8 given) ≤ port.max
+
+pub none_says : (len : ℕ) (head : Head) → message_deviation len head ≡ None
+    → (head.udp_len ≡ len) × (1 ≤ len - 8) × (len - 8 ≤ head.port.max) × (head.udp_sum ≡ right_sum head len)
+unfolding message_deviation
+none_says len head none = grind (arith, nat_tests)
+
+-- eight bytes as four words
+four_words : (given : List ℕ) (a b c d : ℕ) → ((i : ℕ) → get_or given i 0 < 256) → word_at given 0 ≡ a → word_at given 2 ≡ b
+    → word_at given 4 ≡ c → word_at given 6 ≡ d → two_bytes a ++ two_bytes b ++ two_bytes c ++ two_bytes d ≡ bytes_at given 0 8
+four_words given a b c d small is_a is_b is_c is_d = grind (arith, nat_tests, word_is)
+
+parts : (given : List ℕ) → 8 ≤ length given → bytes_at given 0 8 ++ drop 8 given ≡ given
+parts given long = ap (λ (xs : List ℕ). xs ++ drop 8 given) (sym (bytes_are 8 0 given (omega arith))) ∙ take-append-drop 8 given
+
+header_back : (end_system : ℕ) (port : PortPlan) (given : List ℕ) (head : Head) → IsPort port → Tells end_system port given head
+    → message_deviation (length given) head ≡ None → udp_header end_system port (drop 8 given) ≡ bytes_at given 0 8
+unfolding udp_header udp_sum
+header_back end_system port given head is_port tells none =
+    let said = none_says (length given) head none in
+    let size : word_at given 4 ≡ 8 + length (drop 8 given) = omega (arith, length-drop 8 given, tells.udp_len, tells.long, said.0) in
+    let words = ap word_sum (parts given tells.long) in
+    let others : ℕ = word_at given 0 + word_at given 2 + word_at given 4 + word_sum (drop 8 given) in
+    let whole : word_sum given ≡ others + word_at given 6 = omega (arith, words) in
+    let kept : head.sum ≡ (word_sum (addresses end_system port) + (others + word_at given 6) + (65535 - word_at given 6)) % 65535 =
+    rw whole at tells.sum in
+    let sent : word_at given 6 ≡ udp_field port.checksum ((word_sum (addresses end_system port) + (others + word_at given 6)
+    + (65535 - word_at given 6)) % 65535 + 17 + length given) =
+    sym tells.udp_sum_is ∙ said.3 ∙ ap (λ (p : PortPlan). udp_field p.checksum (head.sum + 17 + length given)) tells.port_is
+    ∙ ap (λ (n : ℕ). udp_field port.checksum (n + 17 + length given)) kept in
+    let field : word_at given 6 ≡ udp_field port.checksum (udp_sum end_system port (drop 8 given)) =
+    sym (field_back port.checksum (word_sum (addresses end_system port)) others (word_at given 6) (length given) _
+    (omega (arith, tells.octets 6, tells.octets 7)) sent (omega (arith, length-drop 8 given, tells.source, tells.destination, size, tells.long))) in
+    four_words given _ _ _ _ tells.octets tells.source tells.destination size field
+
+pub tells_whole : (end_system : ℕ) (port : PortPlan) (given : List ℕ) (head : Head) → IsPort port → Tells end_system port given head
+    → message_deviation (length given) head ≡ None → IsWhole end_system port given
+unfolding datagram
+tells_whole end_system port given head is_port tells none =
+    let said = none_says (length given) head none in
+    record {
+      datagram_is = rw (header_back end_system port given head is_port tells none) (parts given tells.long);
+      some = omega (arith, length-drop 8 given);
+      most = omega (arith, length-drop 8 given, ap (λ (p : PortPlan). p.max) tells.port_is);
+    }
 
 -- The judge finds nothing in a frame of bytes. Its header checksum isn't 65,535, which no sender computes: a receiver, and
 -- the judge, take it for 0.
@@ -16,11 +108,8 @@ pub record IsQuiet (plan : Plan) (k s : ℕ) (net : Net) (joining : Joining) (fr
   pub layout : layout_broken false frame ≡ None
   pub placed : place_of plan net frame ≡ Ok k
   pub sized : size_deviation (link_plan_at plan.links k) (length frame) ≡ None
-  pub of_sub : sub_in (fields_of frame) ≡ s
-  pub port : port_deviation (fields_of frame) (first_port false plan.ports (link_plan_at plan.links k).id (fields_of frame)) ≡ None
-  pub fits : fragment_deviation (room_at plan k) (fields_of frame) joining ≡ None
-  pub ends : end_deviation (fields_of frame).piece
-      (head_now (first_port false plan.ports (link_plan_at plan.links k).id (fields_of frame)) (fields_of frame) joining) ≡ None
+  pub of_sub : judge_sub (fields_of frame) ≡ s
+  pub good : IsGood (room_at plan k) (port_at plan k frame) (fields_of frame) joining
 
 -- ---- its link
 
@@ -123,13 +212,6 @@ reads plan k s net joining frame port ident quiet ident_is link towards =
 
 -- ---- its port
 
-find_says : {X : Type 0} (p : X → Bool) (xs : List X) (x : X) → find p xs ≡ Some x → Contains xs x × (p x ≡ true)
-find_says p [] x is = cc
-find_says p (y ∷ ys) x is = elim (cases_Bool (p y)) [
-  | inl passes ↦ let same : y ≡ x = cc (rw passes at is) in ((0, omega arith, same), rw (← same) passes)
-  | inr fails ↦ let behind = find_says p ys x (rw fails at is) in ((suc behind.0.0, omega (arith, behind.0.1), behind.0.2), behind.1)
-]
-
 port_there : (fields : Fields) (found : Option PortPlan) → port_deviation fields found ≡ None → fields.piece.start ≡ 0
     → (port : PortPlan) × (found ≡ Some port)
 port_there fields None none first = absurd (grind (arith, nat_tests))
@@ -140,12 +222,12 @@ pub record IsFound (ports : List PortPlan) (vl : VlId) (fields : Fields) : Type 
   pub port : PortPlan
   pub found : first_port false ports vl fields ≡ Some port
   pub member : Contains ports port
-  pub its : is_of_port false vl.0 (sub_in fields) fields.flow port ≡ true
+  pub its : is_of_port false vl.0 (judge_sub fields) fields.flow port ≡ true
 
 pub found_says : (ports : List PortPlan) (vl : VlId) (fields : Fields) → port_deviation fields (first_port false ports vl fields) ≡ None
     → fields.piece.start ≡ 0 → IsFound ports vl fields
 found_says ports vl fields none first =
     let there = port_there fields _ none first in
-    let same : first_port false ports vl fields ≡ port_of false ports vl.0 (sub_in fields) fields.flow = rw first refl in
-    let says = find_says (is_of_port false vl.0 (sub_in fields) fields.flow) ports there.0 (sym same ∙ there.1) in
+    let same : first_port false ports vl fields ≡ port_of false ports vl.0 (judge_sub fields) fields.flow = rw first refl in
+    let says = find_says (is_of_port false vl.0 (judge_sub fields) fields.flow) ports there.0 (sym same ∙ there.1) in
     record { port = there.0; found = there.1; member = says.0; its = says.1 }

@@ -1,19 +1,121 @@
--- Nothing missed: where a judge finds nothing, what was recorded of each network was sent legally.
-use Rattle.judge_laws.proofs.Names.{A, All, All-tail, AreKnown, B, Bool, Entry, IsAllowed, IsFrame, IsKnown, Link, List, Net, None, OnNet, Options, Plan, Recorded, Sent, ap, append-nil, arith, blanked, cases_Bool, cases_lt}
-use Rattle.judge_laws.proofs.Names.{eq-eqb, false, filter, findings, fragments, get_or, get_or-replicate, inl, inr, length, length-map, length-replicate, line_on, link_in, link_plan_at, link_stream, map, map-map, names, nat_eq}
-use Rattle.judge_laws.proofs.Names.{ne_eqb, new_line, new_link, new_sub, no_times, refl, replicate, room_of, sub_in, sub_stream, subst, suc, sym, those_with, told, true, with_map, zero, ℕ, [], ◌+◌, ◌-◌, ◌<◌, ◌^◌, ◌∙◌, ◌∷◌, ◌≡◌}
-use Rattle.judge_laws.proofs.Names.{◌≤◌, ◌⊎◌}
+-- Nothing missed: where a judge finds nothing, each line is clear, and what was recorded of each network was sent legally.
+use Rattle.judge_laws.proofs.Names.{A, All, All-cons, All-nil, All-tail, AreKnown, B, Bool, Entry, Finding, IsAllowed, IsFrame, IsKnown, IsPlan, Judging, Link, List, Net, None, Ok, OnNet, Options, Plan, Recorded, Sent, Times}
+use Rattle.judge_laws.proofs.Names.{after_packet, ap, append-nil, arith, blanked, cases_Bool, cases_eq, cases_lt, eq-eqb, false, filter, findings, found_from, found_with_packet, fragments, get_or, inl, inr, layout_broken, length}
+use Rattle.judge_laws.proofs.Names.{length-filter_both, length-map, length-replicate, length-set, line_on, link_at, link_in, link_plan_at, link_stream, map, map-map, names, ne_eqb, new_line, new_link, new_sub, no_times, not}
+use Rattle.judge_laws.proofs.Names.{place_of, refl, room_of, same_net, sub_in, sub_stream, subst, suc, sym, tag_of, those_with, times_with, told, true, with_map, zero, ℕ, [], ◌+◌, ◌-◌, ◌<◌, ◌^◌, ◌∙◌, ◌∷◌, ◌≡◌, ◌≢◌, ◌≤◌}
 use Rattle.judge_laws.specs.NoFalseAlarm.{packets_of}
-use Rattle.judge_laws.specs.NothingMissed.{EndsWhole, IsSentTo, IsStrict, NothingMissed, entry_of, frames_of, sent_to}
-use Rattle.judge_laws.proofs.Begin.{new_came, new_joining, own_options}
+use Rattle.judge_laws.specs.NothingFound.{time_of}
+use Rattle.judge_laws.specs.NothingMissed.{EndsWhole, IsOctets, IsSentTo, IsStrict, NothingMissed, entry_of, frames_of, sent_to}
+use Rattle.judge_laws.proofs.Begin.{line_is_new, links_at_start, new_is, own_options}
 use Rattle.judge_laws.proofs.Brings.{first_of_sub}
-use Rattle.judge_laws.proofs.LineSilent.{AreClear, AreHeard, heard}
-use Rattle.judge_laws.proofs.MissedLines.{IsPlacedAt, all_placed, lines_clear, own_packets}
+use Rattle.judge_laws.proofs.FoundNone.{IsPacketSilent, grows, packet_silent}
+use Rattle.judge_laws.proofs.Line.{line_then}
+use Rattle.judge_laws.proofs.LineSilent.{AreClear, AreHeard, heard, tag_for}
 use Rattle.judge_laws.proofs.OfProfile.{layout_is_profile}
 use Rattle.judge_laws.proofs.Quiet.{IsPlaced, placed_says}
-use Rattle.judge_laws.proofs.Recording.{id_of, vl_of}
-use Rattle.judge_laws.proofs.Silent.{silent_is_sent}
-use Rattle.judge_laws.proofs.SubSilent.{IsSubSilent, ends_silent, sub_frames, sub_silent}
+use Rattle.judge_laws.proofs.Recording.{after_is, id_of, judge_of, new_links, own_line, packets_next, same_line, vl_of}
+use Rattle.judge_laws.proofs.Silent.{IsSubSilent, ends_silent, silent_is_sent, sub_frames, sub_silent}
+use Rattle.judge_laws.proofs.Whole.{time_is}
+
+same_is : (m n : Net) → same_net m n ≡ true → m ≡ n
+same_is A A is = refl
+same_is A B is = absurd (cc (is))
+same_is B A is = absurd (cc (is))
+same_is B B is = refl
+
+-- ---- a packet
+
+-- a link's packets
+abbrev pub own_packets : Plan → ℕ → List Recorded → List Recorded
+own_packets plan k rs = those_with (λ (r : Recorded). link_in r.bytes) (id_of plan k) rs
+
+own_next : (plan : Plan) (k : ℕ) (r : Recorded) (rs : List Recorded) → link_in r.bytes ≡ id_of plan k
+    → own_packets plan k (r ∷ rs) ≡ r ∷ own_packets plan k rs
+own_next plan k r rs its = rw (eq-eqb (link_in r.bytes) (id_of plan k) its) refl
+
+own_later : (plan : Plan) (k : ℕ) (r : Recorded) (rs : List Recorded) → link_in r.bytes ≢ id_of plan k
+    → own_packets plan k (r ∷ rs) ≡ own_packets plan k rs
+own_later plan k r rs other = rw (ne_eqb (link_in r.bytes) (id_of plan k) other) refl
+
+module _ (plan : Plan) (options : Options) (times : Times) (links : List Link) (net : Net) (number : ℕ) (packet : Recorded)
+    (valid : IsPlan plan) (size : length links ≡ length plan.links) (octets : IsOctets packet)
+    (p : IsPacketSilent plan options times links net number packet) where
+  abbrev pub links_now : List Link
+  links_now = new_links plan options times links p.k (tag_of net number p.at) packet.bytes
+
+  time : time_of packet ≡ p.at
+  time = time_is packet p.at p.timed
+
+  its_place : IsPlaced plan p.k net packet.bytes
+  its_place = placed_says plan net packet.bytes p.k p.placed ((layout_is_profile packet.bytes).0 p.layout)
+
+  inside : p.k < length links
+  inside = rw size its_place.within
+
+  line_is : line_on net (link_at links_now p.k) ≡ line_then plan p.k options (tag_for net packet) packet.bytes (line_on net (link_at links p.k))
+  line_is = rw time (own_line plan options times links p.k (tag_of net number p.at) packet.bytes inside)
+
+  -- the packet is on its link's line
+  clear_own : (rs : List Recorded) → AreClear plan p.k options net (line_on net (link_at links_now p.k)) rs
+      → AreClear plan p.k options net (line_on net (link_at links p.k)) (packet ∷ rs)
+  clear_own rs later = (
+    record { octets = octets; layout = p.layout; placed = p.placed; sized = p.sized; wrong = rw time p.wrong },
+    subst (λ l. AreClear plan p.k options net l rs) line_is later,
+  )
+
+  -- or on another
+  line_same : (k : ℕ) (m : Net) → (k ≡ p.k → same_net net m ≡ false) → line_on m (link_at links_now k) ≡ line_on m (link_at links k)
+  line_same k m apart = same_line plan options times links p.k (tag_of net number p.at) packet.bytes k m inside apart
+
+  clear_net : (ps : List Recorded) (k : ℕ) → k < length plan.links → AreClear plan k options net (line_on net (link_at links_now k)) (own_packets plan k ps)
+      → AreClear plan k options net (line_on net (link_at links k)) (own_packets plan k (packet ∷ ps))
+  clear_net ps k within later = grind (arith, cases_eq, own_next, its_place, clear_own, own_later, line_same)
+
+  pub clear_next : (ps : List OnNet) (k : ℕ) (m : Net) → k < length plan.links
+      → ((n : Net) → AreClear plan k options n (line_on n (link_at links_now k)) (own_packets plan k (packets_of n ps)))
+      → AreClear plan k options m (line_on m (link_at links k)) (own_packets plan k (packets_of m (record { net = net; number = number; packet = packet } ∷ ps)))
+  clear_next ps k m within later = grind (arith, packets_next, cases_Bool, same_is, clear_net, line_same)
+
+-- ---- a recording
+
+next_none : (ps : List OnNet) (j next : Judging) (found : List Finding) → j ≡ next → found ≡ [] → found_from ps j found ≡ []
+    → found_from ps next [] ≡ []
+next_none ps j next found same first none = grind (arith)
+
+-- each packet of a network is a frame of a link
+pub record IsPlacedAt (plan : Plan) (net : Net) (r : Recorded) : Type 0 where
+  pub k : ℕ
+  pub placed : place_of plan net r.bytes ≡ Ok k
+  pub layout : layout_broken false r.bytes ≡ None
+
+pub record AreSilent (plan : Plan) (options : Options) (links : List Link) (ps : List OnNet) : Type 0 where
+  pub clear : (k : ℕ) (net : Net) → k < length plan.links → AreClear plan k options net (line_on net (link_at links k)) (own_packets plan k (packets_of net ps))
+  pub placed : (net : Net) → All (IsPlacedAt plan net) (packets_of net ps)
+
+pub are_silent : (plan : Plan) (options : Options) (times : Times) (links : List Link) (ps : List OnNet) → IsPlan plan → options.fcs ≡ false
+    → length links ≡ length plan.links → All (λ (p : OnNet). IsOctets p.packet) ps
+    → found_from ps (judge_of plan options times false links) [] ≡ [] → AreSilent plan options links ps
+are_silent plan options times links [] valid plain size octets none = record { clear = λ k net inside. tt; placed = λ net. All-nil (IsPlacedAt plan net) }
+are_silent plan options times links (p ∷ ps) valid plain size octets none =
+    let j : Judging = judge_of plan options times false links in
+    let first = grows ps (after_packet p.net p.number p.packet j) (found_with_packet p.net p.number p.packet j []) none in
+    let q = packet_silent plan options times links p.net p.number p.packet plain first in
+    let its : IsOctets p.packet = octets 0 p (omega arith) in
+    let now : List Link = links_now plan options times links p.net p.number p.packet valid size its q in
+    let after = after_is plan options times false links p.net p.number q.at p.packet p.packet.bytes q.k q.timed q.whole q.placed in
+    let later = are_silent plan options (times_with q.at times) now ps valid plain (length-set links q.k _ ∙ size)
+    (All-tail (λ (p : OnNet). IsOctets p.packet) p ps octets) (next_none ps _ _ _ after first none) in
+    record {
+      clear = λ k net inside. clear_next plan options times links p.net p.number p.packet valid size its q ps k net inside (λ m. later.clear k m inside);
+      placed = λ net. rw (packets_next net p ps) (elim (cases_Bool (same_net p.net net)) [
+        | inl its ↦ rw its (All-cons (IsPlacedAt plan net) p.packet (packets_of net ps) (record {
+          k = q.k;
+          placed = subst (λ m. place_of plan m p.packet.bytes ≡ Ok q.k) (same_is p.net net its) q.placed;
+          layout = q.layout;
+        }) (later.placed net))
+        | inr apart ↦ rw apart (later.placed net)
+      ]);
+    }
 
 -- ---- streams of a recording
 
@@ -29,27 +131,24 @@ told_are : (s : ℕ) (rs : List Recorded) → told (sub_stream s (map entry_of r
 told_are s rs = sym (map-map blanked (λ (e : Entry). e.frame) (sub_stream s (map entry_of rs))) ∙ ap (map blanked) (frames_are s rs)
 
 -- an element that passes both tests shows that some do
+later_none : {X : Type 0} (f g : X → ℕ) (m n : ℕ) (x : X) (xs : List X) → those_with f m (those_with g n (x ∷ xs)) ≡ []
+    → those_with f m (those_with g n xs) ≡ []
+later_none f g m n x xs none = grind (arith, cases_Bool)
+
 some_pass : {X : Type 0} (f g : X → ℕ) (m n : ℕ) (xs : List X) (i : ℕ) (d : X) → i < length xs → f (get_or xs i d) ≡ m → g (get_or xs i d) ≡ n
     → those_with f m (those_with g n xs) ≡ [] → ⊥
 some_pass f g m n [] i d inside first second none = absurd (omega arith)
 some_pass f g m n (x ∷ xs) zero d inside first second none =
     absurd (cc (rw (eq-eqb (f x) m first) at (rw (eq-eqb (g x) n second) at none)))
 some_pass f g m n (x ∷ xs) (suc i) d inside first second none =
-    some_pass f g m n xs i d (omega arith) first second (rest_none (cases_Bool (nat_eq (g x) n)) (cases_Bool (nat_eq (f x) m)))
-  where
-    rest_none : (nat_eq (g x) n ≡ true) ⊎ (nat_eq (g x) n ≡ false) → (nat_eq (f x) m ≡ true) ⊎ (nat_eq (f x) m ≡ false)
-        → those_with f m (those_with g n xs) ≡ []
-    rest_none (inr other) of_f = rw other at none
-    rest_none (inl own) (inr other) = rw other at (rw own at none)
-    rest_none (inl own) (inl its) = absurd (cc (rw its at (rw own at none)))
+    some_pass f g m n xs i d (omega arith) first second (later_none f g m n x xs none)
 
 none_pass : {X : Type 0} (f : X → ℕ) (n : ℕ) (xs : List X) → ((i : ℕ) (d : X) → i < length xs → f (get_or xs i d) ≡ n → ⊥) → those_with f n xs ≡ []
 none_pass f n [] none = refl
 none_pass f n (x ∷ xs) none = rw (ne_eqb (f x) n (none 0 x (omega arith))) (none_pass f n xs (λ i d inside. none (suc i) d (omega arith)))
 
 filter_short : {X : Type 0} (p : X → Bool) (xs : List X) → length (filter p xs) ≤ length xs
-filter_short p [] = omega arith
-filter_short p (x ∷ xs) = grind (arith, filter_short p xs)
+filter_short p xs = omega (arith, length-filter_both p (λ x. not (p x)) (λ x. refl) xs)
 
 map_none : {X Y : Type 0} (f : X → Y) (xs : List X) → map f xs ≡ [] → xs ≡ []
 map_none f [] none = refl
@@ -63,55 +162,43 @@ module _ (plan : Plan) (options : Options) (recording : List OnNet) (net : Net) 
   abbrev pub own : ℕ → List Recorded
   own k = own_packets plan k rs
 
-  links : List Link
-  links = replicate (length plan.links) (new_link options.late false)
+  silent : AreSilent plan options (links_at_start plan options) recording
+  silent = are_silent plan options no_times (links_at_start plan options) recording strict.valid strict.fcs
+      (length-replicate (length plan.links) (new_link options.late false)) strict.octets
+      (subst (λ o. findings plan o recording ≡ []) (own_options options strict.profile) none)
 
   clear : (k : ℕ) → k < length plan.links → AreClear plan k options net (new_line false false) (own k)
-  unfolding links
-  clear k inside = subst (λ l. AreClear plan k options net l (own k)) start
-      (lines_clear plan options no_times links recording strict.valid strict.fcs (length-replicate (length plan.links) (new_link options.late false))
-      strict.octets (subst (λ o. findings plan o recording ≡ []) (own_options options strict.profile) none) k net inside)
-    where
-      by : (m : Net) → line_on m (new_link options.late false) ≡ new_line false false
-      by A = ap (λ (late : Bool). new_line late false) strict.early
-      by B = ap (λ (late : Bool). new_line late false) strict.early
-
-      start : line_on net (get_or links k (new_link false false)) ≡ new_line false false
-      start = ap (line_on net) (get_or-replicate (length plan.links) k (new_link options.late false) (new_link false false) inside) ∙ by net
+  clear k inside = subst (λ l. AreClear plan k options net l (own k))
+      (line_is_new plan options k net inside ∙ ap (λ (late : Bool). new_line late false) strict.early) (silent.clear k net inside)
 
   few : (k : ℕ) → 0 + length (own k) ≤ 2 ^ 64 - 1
   few k = grind (arith, filter_short, length-map)
 
   line_heard : (k : ℕ) → k < length plan.links → AreHeard plan k 0 None (new_line false false).subs (map entry_of (own k))
   line_heard k inside = heard plan k options net (new_line false false) (own k) 0 None strict.early strict.jitter
-      (record { last = (refl, refl); frames = refl; size = refl; came = λ p. omega (arith, new_came false p) }) (few k) (clear k inside)
+      (record { last = λ early. (refl, refl); frames = refl; size = refl; came = λ p. omega (arith, (new_is false p).1) }) (few k) (clear k inside)
 
   sub_heard : (k s : ℕ) → k < length plan.links → s < 4 → IsSubSilent plan k s net (new_sub false false s).joining (sub_frames s (own k))
-  sub_heard k s inside four = subst (λ j. IsSubSilent plan k s net j (sub_frames s (own k))) (new_joining false s four)
+  sub_heard k s inside four = subst (λ j. IsSubSilent plan k s net j (sub_frames s (own k))) ((new_is false s).2 four)
       (sub_silent plan k s options net (new_line false false) (own k) four refl (clear k inside))
 
   sent_frames : (k s : ℕ) → frames_of (id_of plan k) s (sent_to net recording) ≡ sub_frames s (own k)
   sent_frames k s = ap (λ (es : List Entry). map (λ (e : Entry). e.frame) (sub_stream s es)) (stream_is plan k rs) ∙ frames_are s (own k)
 
-  record IsOf (k s : ℕ) (accepted : List Sent) : Type 0 where
-    allowed : All (IsAllowed plan k s) accepted
-    are : map blanked (sub_frames s (own k)) ≡ fragments plan.end_system (room_of (link_plan_at plan.links k).lmax) net accepted
+  -- these accepted messages give what is recorded of a sub-VL
+  abbrev IsOf : ℕ → ℕ → List Sent → Type 0
+  IsOf k s accepted = All (IsAllowed plan k s) accepted
+      × (map blanked (sub_frames s (own k)) ≡ fragments plan.end_system (room_of (link_plan_at plan.links k).lmax) net accepted)
 
   sub_sent : (k s : ℕ) → k < length plan.links → s < (link_plan_at plan.links k).sub_vls → (accepted : List Sent) × IsOf k s accepted
   sub_sent k s inside index =
-      let four : s < 4 = grind (arith, strict.valid.each_link k (link_plan_at [] 0) inside) in
-      let silent = sub_heard k s inside four in
+      let silent = sub_heard k s inside (grind (arith, strict.valid.each_link k (link_plan_at [] 0) inside)) in
       let sent = silent_is_sent plan k s net (sub_frames s (own k)) silent.last strict.valid inside index silent.silent
-      (ends_silent plan k s net (new_sub false false s).joining (sub_frames s (own k)) silent.last silent.silent refl
+      (ends_silent plan k s net (new_sub false false s).joining (sub_frames s (own k)) silent.last silent.silent (λ none. refl)
       (subst EndsWhole (sent_frames k s) (strict.whole net (id_of plan k) s))) in
-      (sent.0, record { allowed = sent.1; are = sent.2 })
+      (sent.0, (sent.1, sent.2))
 
   -- ---- legal transmission
-
-  places : All (IsPlacedAt plan net) rs
-  unfolding links
-  places = all_placed plan options no_times links recording strict.fcs
-      (subst (λ o. findings plan o recording ≡ []) (own_options options strict.profile) none) net
 
   says : (r : Recorded) (p : IsPlacedAt plan net r) → IsPlaced plan p.k net r.bytes
   says r p = placed_says plan net r.bytes p.k p.placed ((layout_is_profile r.bytes).0 p.layout)
@@ -125,7 +212,7 @@ module _ (plan : Plan) (options : Options) (recording : List OnNet) (net : Net) 
   known : (i : ℕ) (spare : Recorded) → i < length rs → IsKnown plan.links net (get_or rs i spare).bytes
   known i spare within =
       let r : Recorded = get_or rs i spare in
-      let p = places i spare within in
+      let p = silent.placed net i spare within in
       let placed = says r p in
       let frame : IsFrame r.bytes = (layout_is_profile r.bytes).0 p.layout in
       record {
@@ -145,7 +232,7 @@ module _ (plan : Plan) (options : Options) (recording : List OnNet) (net : Net) 
 
   carried : (k : ℕ) → k < length plan.links → names net (link_plan_at plan.links k).networks ≡ false → own k ≡ []
   carried k inside isnt = none_pass (λ (r : Recorded). link_in r.bytes) (id_of plan k) rs (λ i spare within its.
-      let p = places i spare within in
+      let p = silent.placed net i spare within in
       let placed = says (get_or rs i spare) p in
       let same : p.k ≡ k = strict.valid.links_apart p.k k placed.within inside (ap vl_of (sym placed.link ∙ its)) in
       absurd (cc (isnt, subst (λ j. names net (link_plan_at plan.links j).networks ≡ true) same placed.on)))
@@ -164,14 +251,14 @@ module _ (plan : Plan) (options : Options) (recording : List OnNet) (net : Net) 
   pub is_sent_to : IsSentTo plan net (sent_to net recording)
   is_sent_to = record {
     accepted = λ k s. (every k s).0;
-    allowed = λ k s inside index. ((every k s).1 inside index).allowed;
+    allowed = λ k s inside index. ((every k s).1 inside index).0;
     legal = record {
       known = all_known rs known;
       carried = λ k inside isnt. stream_is plan k rs ∙ ap (map entry_of) (carried k inside isnt);
       prefixes = λ k s inside index. (
         [],
         append-nil _ ∙ ap (λ es. told (sub_stream s es)) (stream_is plan k rs) ∙ told_are s (own k)
-            ∙ ((every k s).1 inside index).are,
+            ∙ ((every k s).1 inside index).1,
       );
       numbered = λ k inside. rw (stream_is plan k rs) (line_heard k inside).numbered;
       spaced = λ k inside. rw (stream_is plan k rs) (line_heard k inside).spaced;

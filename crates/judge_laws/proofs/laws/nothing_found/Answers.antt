@@ -1,6 +1,6 @@
 use Rattle.judge_laws.proofs.Whole.{nothing_found_holds}
-use Rattle.judge_laws.proofs.WorkedLaws.{finds_none_of_all}
+use Rattle.judge_laws.proofs.Worked.{worked}
 use Rattle.judge_laws.proofs.laws.nothing_found.Goals as goal
 
 pub returns : goal.returns
-returns c = record { none = nothing_found_holds; worked = finds_none_of_all }
+returns c = record { none = nothing_found_holds; worked = worked.2 }
