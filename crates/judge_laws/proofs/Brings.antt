@@ -52,8 +52,7 @@ fits_in link len none = grind (arith, nat_tests)
 -- a last piece ends a message without a finding
 pub ends_says : (piece : PieceIn) (known : Option Head) (head : Head) → end_deviation piece known ≡ None → piece.more ≡ false
     → known ≡ Some head → message_deviation (piece.start + piece.len) head ≡ None
-ends_says piece None head none last is = cc
-ends_says piece (Some h) head none last is = grind arith
+ends_says piece known head none last is = grind (arith, nat_tests)
 
 module _ {plan : Plan} {k s : ℕ} {net : Net} {joining : Joining} {frame : List ℕ} (valid : IsPlan plan) (within : k < length plan.links)
     (quiet : IsQuiet plan k s net joining frame) where

@@ -12,8 +12,7 @@ use Rattle.judge_laws.proofs.Recording.{found_is, judge_of, line_given_up, setti
 
 pub finding_none : (tag : Tag) (link : Option VlId) (d : Option Deviation) (found : List Finding) → with_finding tag link d found ≡ []
     → (d ≡ None) × (found ≡ [])
-finding_none tag link None found none = (refl, none)
-finding_none tag link (Some d) found none = absurd (cc (back_none found _ none))
+finding_none tag link d found none = grind (arith, nat_tests, back_none)
 
 -- ---- a link
 
@@ -25,14 +24,7 @@ verdict_is number early port fragment message turn a b c d e f = rw (a, b, c, d,
 verdict_none : (tag : Tag) (vl : VlId) (v : Verdict) (found : List Finding) → with_verdict tag vl v found ≡ []
     → (v ≡ faultless) × (found ≡ [])
 unfolding with_verdict
-verdict_none tag vl v found none =
-    let turn = finding_none tag (Some vl) v.turn _ none in
-    let message = finding_none tag (Some vl) v.message _ turn.1 in
-    let fragment = finding_none tag (Some vl) v.fragment _ message.1 in
-    let port = finding_none tag (Some vl) v.port _ fragment.1 in
-    let early = finding_none tag (Some vl) v.early _ port.1 in
-    let number = finding_none tag (Some vl) v.number found early.1 in
-    (verdict_is _ _ _ _ _ _ number.0 early.0 port.0 fragment.0 message.0 turn.0, number.1)
+verdict_none tag vl v found none = grind (arith, nat_tests, finding_none, verdict_is)
 
 twin_none : (setting : Setting) (tag : Tag) (number : ℕ) (frame : List ℕ) (link : Link) (found : List Finding)
     → found_twin setting tag number frame link found ≡ [] → found ≡ []
@@ -52,26 +44,12 @@ pub record IsLinkSilent (setting : Setting) (tag : Tag) (port : Option PortPlan)
 pub link_none : (setting : Setting) (tag : Tag) (port : Option PortPlan) (frame : List ℕ) (link : Link) (found : List Finding)
     → found_on_link setting tag port frame link found ≡ [] → IsLinkSilent setting tag port frame link found
 unfolding found_on_link
-link_none setting tag port frame link found none =
-    let number : ℕ = (fields_of frame).number in
-    let before : Link = given_up setting tag number link in
-    let line = verdict_none tag setting.plan.id _ _ (twin_none setting tag number frame before
-    (found_on_line setting tag port frame before (found_given_up setting tag number link found)) none) in
-    let size = finding_none tag (Some setting.plan.id) (size_deviation setting.plan (length frame)) (found_given_up setting tag number link found) line.1 in
-    record {
-      sized = size.0;
-      wrong = subst (λ l. verdict setting.measure port (arrived setting.measure tag port frame l) l ≡ faultless)
-          (line_given_up setting tag port frame link number tag.net) line.0;
-      none = given_up_none setting tag number link found size.1;
-    }
+link_none setting tag port frame link found none = grind (arith, nat_tests, verdict_none, twin_none, finding_none, line_given_up, given_up_none)
 
 -- ---- packets
 
 refusal_none : (tag : Tag) (why : Refused) (j : Judging) (found : List Finding) → found_refusal tag why j found ≡ [] → found ≡ []
-refusal_none tag why j found none = elim (cases_Bool (is_with_check why.deviation.kind && j.told)) [
-  | inl told ↦ rw told at none
-  | inr other ↦ nil_begins found _ (rw other at none)
-]
+refusal_none tag why j found none = grind (arith, nat_tests, cases_Bool, nil_begins)
 
 -- a packet that is refused is a finding, if none was refused for its check sequence before
 pub refusal_found : (tag : Tag) (why : Refused) (j : Judging) → j.told ≡ false → found_refusal tag why j [] ≡ [] → ⊥
@@ -79,13 +57,11 @@ refusal_found tag why j told none = absurd (cc (rw (told, and_right (is_with_che
 
 judged_none : (tag : Tag) (it : Result Admitted Refused) (j : Judging) (found : List Finding) → found_judged tag it j found ≡ [] → found ≡ []
 unfolding found_of_arrival
-judged_none tag (Ok it) j found none = (link_none _ tag _ it.frame _ found none).none
-judged_none tag (Err why) j found none = refusal_none tag why j found none
+judged_none tag it j found none = grind (arith, nat_tests, link_none, refusal_none)
 
 timed_none : (net : Net) (number : ℕ) (packet : Recorded) (j : Judging) (found : List Finding) (at : Option ℕ)
     → found_timed net number packet j found at ≡ [] → found ≡ []
-timed_none net number packet j found None none = nil_begins found _ none
-timed_none net number packet j found (Some at) none = judged_none (tag_of net number at) (admitted net packet (timed at j)) (timed at j) found none
+timed_none net number packet j found at none = grind (arith, nat_tests, nil_begins, judged_none, admitted)
 
 end_none : (nearness : Nearness) (at : ℕ) (plans : List LinkPlan) (links : List Link) (found : List Finding)
     → found_left nearness at plans links found ≡ [] → found ≡ []
@@ -121,24 +97,18 @@ pub record IsPacketSilent (plan : Plan) (options : Options) (times : Times) (lin
 
 timed_some : (net : Net) (number : ℕ) (packet : Recorded) (j : Judging) (time : Option ℕ) → found_timed net number packet j [] time ≡ []
     → (at : ℕ) × (time ≡ Some at)
-timed_some net number packet j None none = absurd (cc (none))
-timed_some net number packet j (Some at) none = (at, refl)
+timed_some net number packet j time none = grind (arith, nat_tests)
 
 is_admitted : (tag : Tag) (it : Result Admitted Refused) (j : Judging) → j.told ≡ false → found_judged tag it j [] ≡ []
     → (a : Admitted) × (it ≡ Ok a)
-is_admitted tag (Ok it) j told none = (it, refl)
-is_admitted tag (Err why) j told none = absurd (refusal_found tag why j told none)
+is_admitted tag it j told none = grind (arith, nat_tests, refusal_found)
 
 place_says : (frame : List ℕ) (k : Result ℕ Refused) (it : Admitted) → at_place frame k ≡ Ok it → (frame ≡ it.frame) × (k ≡ Ok it.place)
-place_says frame (Ok k) it is =
-    let same : (let a : Admitted = record { place = k; frame = frame } in a) ≡ it = cc (is) in
-    (ap (λ (a : Admitted). a.frame) same, ap (λ (a : Admitted). let r : Result ℕ Refused = Ok a.place in r) same)
-place_says frame (Err why) it is = absurd (cc (is))
+place_says frame k it is = grind (arith, nat_tests)
 
 admitted_says : (plan : Plan) (net : Net) (frame : Result (List ℕ) Refused) (it : Admitted) → placed plan net frame ≡ Ok it
     → (frame ≡ Ok it.frame) × (place_of plan net it.frame ≡ Ok it.place)
-admitted_says plan net (Ok frame) it is = let says = place_says frame (place_of plan net frame) it is in rw (← says.0) (refl, says.1)
-admitted_says plan net (Err why) it is = absurd (cc (is))
+admitted_says plan net frame it is = grind (arith, nat_tests, place_says)
 
 silent_as : (plan : Plan) (options : Options) (times : Times) (links : List Link) (net : Net) (number : ℕ) (packet : Recorded) (at k : ℕ)
     (frame : List ℕ) → options.fcs ≡ false → packet.at ≡ Some at → frame_in (of_profile options) packet ≡ Ok frame → place_of plan net frame ≡ Ok k

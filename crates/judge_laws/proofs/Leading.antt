@@ -13,23 +13,17 @@ other A = B
 other B = A
 
 same_other : (net : Net) → same_net (other net) net ≡ false
-same_other A = refl
-same_other B = refl
+same_other net = grind (arith, nat_tests)
 
 other_other : (net : Net) → other (other net) ≡ net
-other_other A = refl
-other_other B = refl
+other_other net = grind (arith, nat_tests)
 
 pub rest_both : (net : Net) (es : List Entry) (rest : Net → List Entry)
     → (rest_after net es rest net ≡ es) × (rest_after net es rest (other net) ≡ rest (other net))
-rest_both A es rest = (refl, refl)
-rest_both B es rest = (refl, refl)
+rest_both net es rest = grind (arith, nat_tests)
 
 which : (lead net : Net) → (lead ≡ net) ⊎ (lead ≡ other net)
-which A A = inl refl
-which A B = inr refl
-which B A = inr refl
-which B B = inl refl
+which lead net = grind (arith, nat_tests)
 
 -- a frame that waits is the leading network's copy of an entry
 pub record IsWaitFor (origin jitter : ℕ) (lead : Net) (own : Entry) (w : Wait) : Type 0 where
@@ -57,8 +51,7 @@ abbrev pub ArePast : ℕ → List Wait → Type 0
 ArePast latest ws = All (λ (w : Wait). w.tag.at ≤ latest) ws
 
 pub past_later : (latest later : ℕ) (ws : List Wait) → latest ≤ later → ArePast latest ws → ArePast later ws
-past_later latest later ws up past =
-    All-weaker (λ (w : Wait). w.tag.at ≤ latest) (λ (w : Wait). w.tag.at ≤ later) (λ w before. omega arith) ws past
+past_later latest later ws up past = grind (arith, nat_tests, All-weaker)
 
 -- none that waits is passed
 abbrev pub AllStay : Nearness → Tag → ℕ → List Wait → Type 0

@@ -33,16 +33,12 @@ number_goes_on n = grind (arith, nat_tests)
 
 pub number_fits : (origin jitter i number : ℕ) (before : Option Stamp) (late : Bool) (last : Option Last)
     → IsLast origin jitter late i before last → number ≡ sequence_number i → number_unless number (next_number late last) ≡ None
-number_fits origin jitter i number before true None is next = refl
-number_fits origin jitter i number before false None is next = grind (arith, nat_tests, (is refl).0)
-number_fits origin jitter i number before late (Some last) is next = grind (arith, nat_tests, number_goes_on is.n)
+number_fits origin jitter i number before late last is next = grind (arith, nat_tests, number_goes_on)
 
 pub none_early : (origin jitter gap i at recorded : ℕ) (late : Bool) (before : Option Stamp) (last : Option Last) → jitter ≤ gap
     → IsLast origin jitter late i before last → IsApart gap before at → IsDelayed origin jitter at recorded
     → early_since (1000 * (gap - jitter)) recorded last ≡ None
-none_early origin jitter gap i at recorded late before None fit is apart delayed = refl
-none_early origin jitter gap i at recorded late None (Some last) fit is apart delayed = absurd (cc (is.known))
-none_early origin jitter gap i at recorded late (Some stamp) (Some last) fit is apart delayed = grind (arith, nat_tests, is.known, is.delayed)
+none_early origin jitter gap i at recorded late before last fit is apart delayed = grind (arith, nat_tests)
 
 -- a sub-VL of the four
 abbrev pub own_sub : List Sub → ℕ → Sub

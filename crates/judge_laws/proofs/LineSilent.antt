@@ -52,14 +52,11 @@ IsLastAt i before last = IsLast 0 1 false i before last
 
 number_from : (i number : ℕ) (before : Option Stamp) (last : Option Last) → IsLastAt i before last
     → number_unless number (next_number false last) ≡ None → number ≡ sequence_number i
-number_from i number before None is none = grind (arith, nat_tests, (is refl).0)
-number_from i number before (Some last) is none = grind (arith, nat_tests, number_goes_on is.n, is.count, is.number)
+number_from i number before last is none = grind (arith, nat_tests, number_goes_on)
 
 apart_from : (gap i at : ℕ) (before : Option Stamp) (last : Option Last) → IsLastAt i before last
     → early_since (1000 * gap) at last ≡ None → IsApart gap before (at / 1000)
-apart_from gap i at before None is none = rw (is refl).1 tt
-apart_from gap i at None (Some last) is none = tt
-apart_from gap i at (Some stamp) (Some last) is none = grind (arith, nat_tests, is.known, is.delayed)
+apart_from gap i at before last is none = grind (arith, nat_tests)
 
 -- ---- turns
 
@@ -119,8 +116,7 @@ pub after_clear : (plan : Plan) (k : ℕ) (options : Options) (net : Net) (line 
 after_clear plan k options net line r clear = grind (arith, nat_tests, right_after, wrong_right, sub_of_frame)
 
 turn_none : (sub : ℕ) (due : Option ℕ) → turn_if sub due ≡ None → due ≡ None
-turn_none sub None none = refl
-turn_none sub (Some due) none = absurd (cc (none))
+turn_none sub due none = grind (arith, nat_tests)
 
 -- a packet on its line
 module _ (plan : Plan) (k : ℕ) (options : Options) (net : Net) (line : Line) (r : Recorded) (i : ℕ) (before : Option Stamp)
@@ -145,19 +141,7 @@ module _ (plan : Plan) (k : ℕ) (options : Options) (net : Net) (line : Line) (
   number = sym (number_of r.bytes) ∙ number_from i (fields_of r.bytes).number before line.last is.last (rw early at right.number)
 
   at_next : IsAt (line_of (port_at plan k r.bytes) come line s) (i + 1) (Some (stamp_of (entry_of r)))
-  at_next = record {
-    last = record {
-      n = i;
-      count = refl;
-      number = number_of r.bytes ∙ number;
-      stamp = stamp_of (entry_of r);
-      known = refl;
-      delayed = record { least = omega arith; most = omega arith };
-    };
-    frames = counts;
-    size = length-set line.subs s _ ∙ is.size;
-    came = λ p. grind (arith, cases_eq p s, sub_same, sub_other, is.size, is.came p, counts);
-  }
+  at_next = grind (arith, nat_tests, number, number_of, counts, length-set, cases_eq, sub_same, sub_other)
 
   heard_next : (rs : List Recorded) → AreHeard plan k (i + 1) (Some (stamp_of (entry_of r))) (slice_set line.subs s new) (map entry_of rs)
       → AreHeard plan k i before line.subs (entry_of r ∷ map entry_of rs)

@@ -37,8 +37,7 @@ length-datagram end_system port message = grind (arith, length-append, length-ud
 field_again : (how : UdpSum) (sum rest len : ℕ) → (how ≡ Generated → (rest + (17 + len)) % 65535 ≡ 0)
     → udp_field how ((rest + (65535 - udp_field how sum)) % 65535 + 17 + len) ≡ udp_field how sum
 unfolding udp_checksum
-field_again Omitted sum rest len closes = refl
-field_again Generated sum rest len closes = omega (arith, closes refl)
+field_again how sum rest len closes = grind (arith, nat_tests)
 
 -- The sum of a whole message gives its checksum.
 pub right_field : (end_system : ℕ) (port : PortPlan) (message : List ℕ)
@@ -128,23 +127,19 @@ IsTrueAt plan sub sent place start joining =
 
 -- what is not false is no deviation
 no_misfit : (how : Misfit) (wanted : Option ℕ) (n seen : ℕ) → IfSome wanted (λ m. m ≡ n) → seen ≡ n → misfit_if how wanted seen ≡ None
-no_misfit how None n seen is same = refl
-no_misfit how (Some m) n seen is same = grind (arith, nat_tests)
+no_misfit how wanted n seen is same = grind (arith, nat_tests)
 
 no_stranger : (known : Option Head) (head : Head) (flow : Flow) → IfSome known (λ h. h ≡ head) → is_towards flow head.port ≡ true
     → addresses_deviation known flow ≡ None
-no_stranger None head flow is of_port = refl
-no_stranger (Some h) head flow is of_port = rw (is, of_port) refl
+no_stranger known head flow is of_port = grind (arith, nat_tests)
 
 one_more : (known : Option Head) (head then : Head) (fields : Fields) → IfSome known (λ h. h ≡ head) → head_with head fields ≡ then
     → IfSome (head_after known fields) (λ h. h ≡ then)
-one_more None head then fields is more = tt
-one_more (Some h) head then fields is more = rw is more
+one_more known head then fields is more = grind (arith, nat_tests)
 
 ends_well : (known : Option Head) (head : Head) (len : ℕ) → IfSome known (λ h. h ≡ head) → message_deviation len head ≡ None
     → if_known len known ≡ None
-ends_well None head len is well = refl
-ends_well (Some h) head len is well = rw is well
+ends_well known head len is well = grind (arith, nat_tests)
 
 -- a whole message
 message_ok : (end_system : ℕ) (port : PortPlan) (message : List ℕ) → 1 ≤ length message → length message ≤ port.max

@@ -5,8 +5,7 @@ use Rattle.judge_laws.proofs.Names.{true, unless_kept, zeros_part, zeros_there, 
 use Rattle.judge_laws.specs.Frames.{LayoutIsProfile}
 
 pub none_both : (a b : Option Deviation) → first_of a b ≡ None → (a ≡ None) × (b ≡ None)
-none_both None b e = grind arith
-none_both (Some d) b e = cc
+none_both a b e = grind (arith, nat_tests)
 
 link_rules : (f : List ℕ) → (link_broken f ≡ None) ↔ HasLinkHeader f
 unfolding link_broken

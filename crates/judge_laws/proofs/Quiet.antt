@@ -47,8 +47,7 @@ field_back : (how : UdpSum) (ends words field len sum : ℕ) → field < 65536
     → field ≡ udp_field how ((ends + (words + field) + (65535 - field)) % 65535 + 17 + len) → sum ≡ ends + (17 + len) + words
     → udp_field how sum ≡ field
 unfolding udp_checksum
-field_back Omitted ends words field len sum small is all = sym is
-field_back Generated ends words field len sum small is all = omega arith
+field_back how ends words field len sum small is all = grind (arith, nat_tests)
 
 -- a message without a finding
 pub record IsWhole (end_system : ℕ) (port : PortPlan) (given : List ℕ) : Type 0 where
@@ -123,8 +122,7 @@ pub record IsPlaced (plan : Plan) (k : ℕ) (net : Net) (frame : List ℕ) : Typ
 
 on_says : (plan : Plan) (vl : VlId) (net : Net) (frame : List ℕ) (k : ℕ) (found : Option ℕ) → on_link plan vl net frame found ≡ Ok k
     → (found ≡ Some k) × (slice_index frame 11 ≡ interface_on (link_plan_at plan.links k) net)
-on_says plan vl net frame k None is = cc
-on_says plan vl net frame k (Some place) is = grind (arith, nat_tests)
+on_says plan vl net frame k found is = grind (arith, nat_tests)
 
 place_says : (plan : Plan) (net : Net) (frame : List ℕ) (k : ℕ) → place_of plan net frame ≡ Ok k → (word_at frame 9 ≡ plan.end_system)
     × (on_link plan (record { 0 = link_in frame }) net frame (position (λ (link : LinkPlan). link.id.0 == link_in frame) plan.links) ≡ Ok k)
@@ -169,13 +167,11 @@ unfolding length_deviation
 length_says room piece none fits = grind (arith, nat_tests)
 
 misfit_says : (how : Misfit) (wanted : Option ℕ) (n seen : ℕ) → misfit_if how wanted seen ≡ None → wanted ≡ Some n → seen ≡ n
-misfit_says how None n seen none is = cc
-misfit_says how (Some m) n seen none is = grind (arith, nat_tests)
+misfit_says how wanted n seen none is = grind (arith, nat_tests)
 
 towards_says : (known : Option Head) (head : Head) (flow : Flow) → addresses_deviation known flow ≡ None → known ≡ Some head
     → is_towards flow head.port ≡ true
-towards_says None head flow none is = cc
-towards_says (Some h) head flow none is = grind (arith, cases_Bool)
+towards_says known head flow none is = grind (arith, nat_tests, cases_Bool)
 
 pub record Fits (room : ℕ) (fields : Fields) (joining : Joining) : Type 0 where
   pub start : (n : ℕ) → next_of joining ≡ Some n → fields.piece.start ≡ n
@@ -214,8 +210,7 @@ reads plan k s net joining frame port ident quiet ident_is link towards =
 
 port_there : (fields : Fields) (found : Option PortPlan) → port_deviation fields found ≡ None → fields.piece.start ≡ 0
     → (port : PortPlan) × (found ≡ Some port)
-port_there fields None none first = absurd (grind (arith, nat_tests))
-port_there fields (Some port) none first = (port, refl)
+port_there fields found none first = grind (arith, nat_tests)
 
 -- the port of a first piece
 pub record IsFound (ports : List PortPlan) (vl : VlId) (fields : Fields) : Type 0 where
@@ -226,8 +221,4 @@ pub record IsFound (ports : List PortPlan) (vl : VlId) (fields : Fields) : Type 
 
 pub found_says : (ports : List PortPlan) (vl : VlId) (fields : Fields) → port_deviation fields (first_port false ports vl fields) ≡ None
     → fields.piece.start ≡ 0 → IsFound ports vl fields
-found_says ports vl fields none first =
-    let there = port_there fields _ none first in
-    let same : first_port false ports vl fields ≡ port_of false ports vl.0 (judge_sub fields) fields.flow = rw first refl in
-    let says = find_says (is_of_port false vl.0 (judge_sub fields) fields.flow) ports there.0 (sym same ∙ there.1) in
-    record { port = there.0; found = there.1; member = says.0; its = says.1 }
+found_says ports vl fields none first = grind (arith, nat_tests, port_there, find_says)

@@ -50,19 +50,11 @@ pub record IsAddress (address : List ℕ) : Type 0 where
 
 -- addresses with one number are one
 pub one_address : (s t : List ℕ) → IsAddress s → IsAddress t → address_number s ≡ address_number t → s ≡ t
-one_address s t is_s is_t same = same_number_lists s t (omega (arith, is_s.four, is_t.four)) (λ k below. each k (omega (arith, is_s.four)))
-  where
-    each : (k : ℕ) → k < 4 → get_or s k 0 ≡ get_or t k 0
-    each zero below = omega (arith, is_s.bytes, is_t.bytes)
-    each (suc zero) below = omega (arith, is_s.bytes, is_t.bytes)
-    each (suc (suc zero)) below = omega (arith, is_s.bytes, is_t.bytes)
-    each (suc (suc (suc zero))) below = omega (arith, is_s.bytes, is_t.bytes)
-    each (suc (suc (suc (suc k)))) below = absurd (omega arith)
+one_address s t is_s is_t same = grind (arith, nat_tests, same_number_lists)
 
 -- a destination is an address
 pub destination_is : (vl : ℕ) (unicast : Option (List ℕ)) → IfSome unicast IsUnicast → IsAddress (destination_of vl unicast)
-destination_is vl None is = record { four = refl; bytes = (omega arith, omega arith, omega arith, omega arith) }
-destination_is vl (Some address) is = record { four = is.four; bytes = (is.bytes 0, is.bytes 1, is.bytes 2, is.bytes 3) }
+destination_is vl unicast is = grind (arith, nat_tests)
 
 pub same_id : (v w : VlId) → v.0 ≡ w.0 → v ≡ w
 same_id v w same = ap (λ (n : ℕ). let id : VlId = record { 0 = n } in id) same
@@ -135,8 +127,7 @@ pub record Carries (end_system : ℕ) (port : PortPlan) (message : List ℕ) (pl
 -- a checksum field has 16 bits
 udp_field_range : (how : UdpSum) (sum : ℕ) → udp_field how sum < 65536
 unfolding udp_checksum
-udp_field_range Omitted sum = omega arith
-udp_field_range Generated sum = omega arith
+udp_field_range how sum = grind (arith, nat_tests)
 
 -- an element of a part
 pub part_at : (xs ys : List ℕ) (n m j : ℕ) → take n (drop m xs) ≡ ys → j < n → get_or xs (m + j) 0 ≡ get_or ys j 0

@@ -34,10 +34,7 @@ pair_zip : (origin now first second : ℕ) (options : Options) (net : Net) → o
     → (origin ≤ first) × (first ≤ origin + 1000 * options.jitter) × (origin + 1000 * now ≤ second) × (second ≤ origin + 1000 * (now + options.jitter))
     → AllZip (IsRecord origin options) (pair_at now net)
     ((packet net first (one_frame net)).packet ∷ (packet net second (second_frame net)).packet ∷ [])
-pair_zip origin now first second options net plain times = (
-  recorded origin 0 first options net (one_frame net) plain (omega arith) (omega arith),
-  (recorded origin now second options net (second_frame net) plain (omega arith) (omega arith), tt),
-)
+pair_zip origin now first second options net plain times = grind (arith, nat_tests, recorded, one_frame)
 
 whole_run : (origin : ℕ) (options : Options) (es : List Entry) (packets : List Recorded) → AllZip (IsRecord origin options) es packets
     → IsRunOf origin options es packets
@@ -61,18 +58,10 @@ second_run net = record {
 
 whole : IsWhole demo_plan 7 strict (two_entries A) (two_entries B) (both_at 7 1000007)
 unfolding checksum addresses datagram header_front internet_header link_header udp_header unnumbered
-whole = record {
-  of_a = pair_zip 7 1000 7 1000007 strict A refl (grind arith);
-  of_b = pair_zip 7 1000 7 1000007 strict B refl (grind arith);
-  same = refl;
-  in_order = (omega arith, (omega arith, (omega arith, (omega arith, tt))));
-}
+whole = grind (arith, nat_tests, pair_zip)
 
 loosely : IsRecording 0 loose (two_entries A) (two_entries B) (both_at 2000000 1000000)
-loosely = record {
-  of_a = pair_run 0 1000 2000000 1000000 loose A refl (grind arith);
-  of_b = pair_run 0 1000 2000000 1000000 loose B refl (grind arith);
-}
+loosely = grind (arith, nat_tests, pair_run)
 
 all_bytes : (bytes : List ℕ) → list_all (λ byte. nat_lt byte 256) bytes ≡ true → (i : ℕ) → slice_index bytes i < 256
 all_bytes [] all i = omega arith
@@ -90,8 +79,7 @@ none_more (e ∷ (d ∷ es)) none = none_more (d ∷ es) (All-tail (λ (e : Entr
 
 ends : (net : Net) → All (λ (e : Entry). more_in e.frame ≡ false) (sent_to net (both_at 7 1000007))
 unfolding checksum addresses datagram header_front internet_header link_header udp_header unnumbered
-ends A = grind arith
-ends B = grind arith
+ends net = grind (arith, nat_tests)
 
 abbrev IsOf : OnNet → Type 0
 IsOf p = IsOctets p.packet
