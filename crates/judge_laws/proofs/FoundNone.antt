@@ -1,10 +1,9 @@
 -- Findings only grow, so where none is found in the end, no packet has one: each is a frame of a link of the plan, and
 -- nothing is wrong with it on its line.
-use Rattle.judge_laws.proofs.Names.{Admitted, Deviation, Err, Finding, Judging, Link, LinkPlan, List, Nearness, Net, None, Ok, OnNet, Option, Options, Plan, PortPlan, Recorded, Refused, Result, Setting, Some, Tag, Times, Verdict}
-use Rattle.judge_laws.proofs.Names.{VlId, admitted, after_packet, and_right, ap, arith, arrived, at_place, cases_Bool, false, fields_of, found_at_end, found_from, found_given_up, found_judged, found_left, found_missing}
-use Rattle.judge_laws.proofs.Names.{found_of_arrival, found_on_line, found_on_link, found_refusal, found_timed, found_twin, found_with_end, found_with_packet, frame_in, given_up, inl, inr, is_with_check, layout_broken, length}
-use Rattle.judge_laws.proofs.Names.{line_on, link_at, link_plan_at, nat_tests, nil_begins, place_of, placed, refl, size_deviation, subst, sym, tag_of, timed, times_with, unchecked, verdict, with_finding, with_verdict, ℕ, [], ◌&&◌}
-use Rattle.judge_laws.proofs.Names.{◌∙◌, ◌∷◌, ◌≡◌}
+use Rattle.judge_laws.proofs.Names.{Admitted, Deviation, Finding, Judging, Link, LinkPlan, List, Nearness, Net, None, Ok, OnNet, Option, Options, Plan, PortPlan, Recorded, Refused, Result, Setting, Some, Tag, Times, Verdict, VlId}
+use Rattle.judge_laws.proofs.Names.{admitted, after_packet, arith, arrived, at_place, cases_Bool, false, found_at_end, found_from, found_given_up, found_judged, found_left, found_missing, found_of_arrival, found_on_link}
+use Rattle.judge_laws.proofs.Names.{found_timed, found_with_end, found_with_packet, frame_in, layout_broken, length, line_on, link_at, link_plan_at, nat_tests, nil_begins, place_of, placed, refl, size_deviation, sym, tag_of, timed}
+use Rattle.judge_laws.proofs.Names.{times_with, unchecked, verdict, with_finding, with_verdict, ℕ, [], ◌∙◌, ◌∷◌, ◌≡◌}
 use Rattle.judge_laws.proofs.Line.{IsFaultless, faultless, of_profile}
 use Rattle.judge_laws.proofs.Message.{port_at}
 use Rattle.judge_laws.proofs.Reading.{back_none}
@@ -16,19 +15,10 @@ finding_none tag link d found none = grind (arith, nat_tests, back_none)
 
 -- ---- a link
 
-verdict_is : (number early port fragment message turn : Option Deviation) → number ≡ None → early ≡ None → port ≡ None → fragment ≡ None
-    → message ≡ None → turn ≡ None
-    → (let v : Verdict = record { number = number; early = early; port = port; fragment = fragment; message = message; turn = turn } in v) ≡ faultless
-verdict_is number early port fragment message turn a b c d e f = rw (a, b, c, d, e, f) refl
-
 verdict_none : (tag : Tag) (vl : VlId) (v : Verdict) (found : List Finding) → with_verdict tag vl v found ≡ []
     → (v ≡ faultless) × (found ≡ [])
 unfolding with_verdict
-verdict_none tag vl v found none = grind (arith, nat_tests, finding_none, verdict_is)
-
-twin_none : (setting : Setting) (tag : Tag) (number : ℕ) (frame : List ℕ) (link : Link) (found : List Finding)
-    → found_twin setting tag number frame link found ≡ [] → found ≡ []
-twin_none setting tag number frame link found none = grind (arith, cases_Bool, finding_none)
+verdict_none tag vl v found none = grind (arith, nat_tests, finding_none)
 
 given_up_none : (setting : Setting) (tag : Tag) (number : ℕ) (link : Link) (found : List Finding)
     → found_given_up setting tag number link found ≡ [] → found ≡ []
@@ -44,20 +34,13 @@ pub record IsLinkSilent (setting : Setting) (tag : Tag) (port : Option PortPlan)
 pub link_none : (setting : Setting) (tag : Tag) (port : Option PortPlan) (frame : List ℕ) (link : Link) (found : List Finding)
     → found_on_link setting tag port frame link found ≡ [] → IsLinkSilent setting tag port frame link found
 unfolding found_on_link
-link_none setting tag port frame link found none = grind (arith, nat_tests, verdict_none, twin_none, finding_none, line_given_up, given_up_none)
+link_none setting tag port frame link found none = grind (arith, nat_tests, verdict_none, finding_none, line_given_up, given_up_none, cases_Bool)
 
 -- ---- packets
 
-refusal_none : (tag : Tag) (why : Refused) (j : Judging) (found : List Finding) → found_refusal tag why j found ≡ [] → found ≡ []
-refusal_none tag why j found none = grind (arith, nat_tests, cases_Bool, nil_begins)
-
--- a packet that is refused is a finding, if none was refused for its check sequence before
-pub refusal_found : (tag : Tag) (why : Refused) (j : Judging) → j.told ≡ false → found_refusal tag why j [] ≡ [] → ⊥
-refusal_found tag why j told none = absurd (cc (rw (told, and_right (is_with_check why.deviation.kind) false refl) at none))
-
 judged_none : (tag : Tag) (it : Result Admitted Refused) (j : Judging) (found : List Finding) → found_judged tag it j found ≡ [] → found ≡ []
 unfolding found_of_arrival
-judged_none tag it j found none = grind (arith, nat_tests, link_none, refusal_none)
+judged_none tag it j found none = grind (arith, nat_tests, link_none, cases_Bool, nil_begins)
 
 timed_none : (net : Net) (number : ℕ) (packet : Recorded) (j : Judging) (found : List Finding) (at : Option ℕ)
     → found_timed net number packet j found at ≡ [] → found ≡ []
@@ -101,7 +84,7 @@ timed_some net number packet j time none = grind (arith, nat_tests)
 
 is_admitted : (tag : Tag) (it : Result Admitted Refused) (j : Judging) → j.told ≡ false → found_judged tag it j [] ≡ []
     → (a : Admitted) × (it ≡ Ok a)
-is_admitted tag it j told none = grind (arith, nat_tests, refusal_found)
+is_admitted tag it j told none = grind (arith, nat_tests)
 
 place_says : (frame : List ℕ) (k : Result ℕ Refused) (it : Admitted) → at_place frame k ≡ Ok it → (frame ≡ it.frame) × (k ≡ Ok it.place)
 place_says frame k it is = grind (arith, nat_tests)

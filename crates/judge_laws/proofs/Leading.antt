@@ -1,9 +1,8 @@
 -- The twins of a link on both networks, where both got all and the recording is in the order of time: the frames that wait
 -- are those by which one network leads, and each finds its twin.
-use Rattle.judge_laws.proofs.Names.{A, All, All-cons, All-nil, All-push, All-tail, All-weaker, AllZip, B, Bool, Entry, List, Nearness, Net, None, Option, Pairing, Some, Tag, Wait, ap, append_assoc, arith, cases_Bool, entry, eq-eqb}
-use Rattle.judge_laws.proofs.Names.{false, filter, find, get_or, get_or-append-add, get_or-append_seam, get_or-map, get_or_append_left, get_or_default, inl, inr, is_lost, is_passed, is_twin, kept, left_waiting, length}
-use Rattle.judge_laws.proofs.Names.{length-append, length-map, length-twin, map, nat_tests, ne_eqb, number_in, pairing_with, position_or_len, refl, remove, same_net, side, subst, sym, true, twin_number, ℕ, [], ◌*◌, ◌++◌, ◌+◌, ◌<◌}
-use Rattle.judge_laws.proofs.Names.{◌∙◌, ◌∷◌, ◌≡◌, ◌≤◌, ◌⊎◌}
+use Rattle.judge_laws.proofs.Names.{A, All, All-cons, All-nil, All-push, All-tail, All-weaker, AllZip, B, Entry, List, Nearness, Net, None, Option, Pairing, Tag, Wait, ap, append_assoc, arith, cases_Bool, entry, eq-eqb, false}
+use Rattle.judge_laws.proofs.Names.{filter, find, get_or, get_or-append-add, get_or-append_seam, get_or-map, get_or_append_left, get_or_default, inl, inr, is_lost, is_passed, is_twin, kept, left_waiting, length, length-append}
+use Rattle.judge_laws.proofs.Names.{length-map, length-twin, map, nat_tests, ne_eqb, number_in, pairing_with, refl, same_net, side, subst, sym, true, twin_number, ℕ, [], ◌*◌, ◌++◌, ◌+◌, ◌<◌, ◌∙◌, ◌∷◌, ◌≡◌, ◌≤◌, ◌⊎◌}
 use Rattle.judge_laws.proofs.Copies.{IsStream, far, own_at}
 use Rattle.judge_laws.proofs.Line.{IsDelayed}
 use Rattle.judge_laws.proofs.Recording.{rest_after, same_self}
@@ -122,15 +121,10 @@ zip_push origin jitter lead [] [] e w zip is = (is, tt)
 zip_push origin jitter lead (d ∷ es) (v ∷ ws) e w zip is = (zip.0, zip_push origin jitter lead es ws e w zip.1 is)
 zip_push origin jitter lead es ws e w zip is = absurd zip
 
--- the first that waits is the twin, and waits no longer
-found_first : {X : Type 0} (p : X → Bool) (x : X) (xs : List X) → p x ≡ true
-    → (find p (x ∷ xs) ≡ Some x) × (remove (x ∷ xs) (position_or_len p (x ∷ xs)) ≡ xs)
-found_first p x xs is = rw is (refl, refl)
-
 first_met : (tag : Tag) (number : ℕ) (frame : List ℕ) (lead : Option ℕ) (w : Wait) (ws : List Wait) → is_twin tag number w ≡ true
     → (pairing_with tag number frame (record { waiting = w ∷ ws; lead = lead })).waiting ≡ ws
 unfolding pairing_with
-first_met tag number frame lead w ws is = grind (arith, found_first)
+first_met tag number frame lead w ws is = grind arith
 
 -- none that waits is passed, and a network leads on
 pub record LeadsOn (stream : List Entry) (origin jitter : ℕ) (nearness : Nearness) (tag : Tag) (e : Entry) (next : Net → List Entry)

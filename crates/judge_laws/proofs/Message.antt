@@ -1,9 +1,9 @@
 -- A piece of a message that the judge hears when it is due: nothing is wrong with it, and what is known after it is true.
-use Rattle.judge_laws.proofs.Names.{Contains, Fields, Flow, Generated, Head, Identification, IfSome, IsAllowed, IsPiece, IsPlan, Joining, List, Misfit, None, Offset, Omitted, Option, Piece, PieceIn, Plan, PortPlan, Sent, Some}
-use Rattle.judge_laws.proofs.Names.{UdpSum, VlId, addresses, addresses_deviation, ap, arith, begun, cases_Bool, cases_eq, cases_lt, checksums_pass, datagram, drop, end_deviation, false, fields_of, first_port, fragment_deviation}
-use Rattle.judge_laws.proofs.Names.{head_after, head_now, head_of, head_with, ident_before, ident_of, identification, if_known, is_of_port, is_towards, joined, judge_sub, length, length-append, length-take, length-udp_header}
-use Rattle.judge_laws.proofs.Names.{length_deviation, link_plan_at, message_deviation, misfit_if, nat_tests, next_of, piece_at, port_deviation, refl, right_sum, room_of, step_of, suc, sym, take, take-add, take_all, true}
-use Rattle.judge_laws.proofs.Names.{udp_checksum, udp_field, udp_sum, word_sum, word_sum-append, ℕ, ◌%◌, ◌+◌, ◌-◌, ◌/◌, ◌<◌, ◌∙◌, ◌≡◌, ◌≤◌, ◌⊎◌}
+use Rattle.judge_laws.proofs.Names.{Contains, Fields, Flow, Generated, Head, Identification, IfSome, IsAllowed, IsPiece, IsPlan, Joining, List, Misfit, None, Offset, Option, Piece, PieceIn, Plan, PortPlan, Sent, Some, UdpSum, VlId}
+use Rattle.judge_laws.proofs.Names.{addresses, addresses_deviation, ap, arith, begun, cases_Bool, cases_eq, cases_lt, checksums_pass, datagram, drop, end_deviation, false, fields_of, first_port, fragment_deviation, head_after}
+use Rattle.judge_laws.proofs.Names.{head_now, head_of, head_with, ident_before, ident_of, identification, if_known, is_of_port, is_towards, joined, judge_sub, length, length-append, length-take, length-udp_header, length_deviation}
+use Rattle.judge_laws.proofs.Names.{link_plan_at, message_deviation, misfit_if, nat_tests, next_of, piece_at, port_deviation, refl, right_sum, room_of, step_of, suc, sym, take, take-add, take_all, true, udp_checksum, udp_field}
+use Rattle.judge_laws.proofs.Names.{udp_sum, word_sum, word_sum-append, ℕ, ◌%◌, ◌+◌, ◌-◌, ◌/◌, ◌<◌, ◌∙◌, ◌≡◌, ◌≤◌, ◌⊎◌}
 use Rattle.judge_laws.proofs.Reading.{Carries, port_found, sum_field}
 
 -- what is known of a message of which `start` bytes came
@@ -56,9 +56,6 @@ module _ {end_system : ℕ} {port : PortPlan} {message : List ℕ} {place : ℕ}
 
   pub its_port : piece.start ≡ 0 → is_of_port false port.vl.0 port.sub fields.flow port ≡ true
   its_port first = grind (arith, nat_tests)
-
-  pub first_head : piece.start ≡ 0 → head_of port fields ≡ head_at end_system port message piece.len
-  first_head first = grind (arith, nat_tests)
 
   pub later_head : piece.start % 2 ≡ 0 → piece.start ≤ 8 + length message
       → head_with (head_at end_system port message piece.start) fields ≡ head_at end_system port message (piece.start + piece.len)
@@ -203,7 +200,7 @@ module _ {plan : Plan} {k sub : ℕ} {sent : Sent} {place start : ℕ} {joining 
   ) refl
 
   head_true : IfSome (head_now port fields joining) (λ h. h ≡ head_at plan.end_system sent.port sent.bytes (start + piece.len))
-  head_true = grind (arith, nat_tests, cases_eq, head_first, its_start, first_head, head_later, one_more, later_head)
+  head_true = grind (arith, nat_tests, cases_eq, head_first, its_start, head_later, one_more, later_head)
 
   message_fits : end_deviation fields.piece (head_now port fields joining) ≡ None
   message_fits = ends_if_last fields.piece (head_now port fields joining) (λ last.

@@ -1,11 +1,10 @@
 -- A frame in which the judge finds nothing: what it says. What the judge keeps of a message tells its bytes: a whole message
 -- without a finding is the datagram of its content.
-use Rattle.judge_laws.proofs.Names.{Contains, Fields, Flow, Generated, Head, IsFrame, IsPort, Joining, LinkPlan, List, Misfit, Net, None, Ok, Omitted, Option, Piece, PieceIn, Plan, PortPlan, Some, UdpSum, VlId, addresses}
-use Rattle.judge_laws.proofs.Names.{addresses_deviation, ap, arith, begun, cases_Bool, cases_lt, datagram, drop, false, fields_of, first_port, fragment_deviation, fragment_field, get_or, get_or-append_right, get_or_append_left}
-use Rattle.judge_laws.proofs.Names.{head_with, ident_of, inl, inr, interface_byte, interface_on, is_of_port, is_towards, judge_sub, layout_broken, length, length-append, length-drop, length_deviation, link_in, link_plan_at}
-use Rattle.judge_laws.proofs.Names.{message_deviation, misfit_if, names, nat_le, nat_tests, next_of, on_link, place_of, port_deviation, port_of, position, position-Some, refl, right_sum, size_deviation, slice_index, step_of, sym}
-use Rattle.judge_laws.proofs.Names.{take, take-append-drop, total_length, true, two_bytes, udp_checksum, udp_field, udp_header, udp_sum, word_at, word_sum, word_sum-append, ℕ, [], ◌%◌, ◌*◌, ◌++◌, ◌+◌, ◌-◌, ◌/◌, ◌<◌, ◌==◌, ◌∙◌, ◌≡◌}
-use Rattle.judge_laws.proofs.Names.{◌≤◌, ◌⊎◌}
+use Rattle.judge_laws.proofs.Names.{Contains, Fields, Flow, Head, IsFrame, IsPort, Joining, LinkPlan, List, Net, None, Ok, Option, Piece, PieceIn, Plan, PortPlan, Some, UdpSum, VlId, addresses, addresses_deviation, ap, arith, begun}
+use Rattle.judge_laws.proofs.Names.{cases_Bool, cases_lt, datagram, drop, false, fields_of, first_port, fragment_deviation, fragment_field, get_or, get_or-append_right, get_or_append_left, head_with, ident_of, inl, inr}
+use Rattle.judge_laws.proofs.Names.{interface_byte, interface_on, is_of_port, is_towards, judge_sub, layout_broken, length, length-append, length-drop, length_deviation, link_in, link_plan_at, message_deviation, names, nat_le}
+use Rattle.judge_laws.proofs.Names.{nat_tests, next_of, on_link, place_of, port_deviation, position, position-Some, refl, right_sum, size_deviation, slice_index, step_of, sym, take, take-append-drop, total_length, true, two_bytes}
+use Rattle.judge_laws.proofs.Names.{udp_checksum, udp_field, udp_header, udp_sum, word_at, word_sum, word_sum-append, ℕ, [], ◌%◌, ◌*◌, ◌++◌, ◌+◌, ◌-◌, ◌/◌, ◌<◌, ◌==◌, ◌∙◌, ◌≡◌, ◌≤◌, ◌⊎◌}
 use Rattle.judge_laws.proofs.Message.{IsGood, port_at, room_at}
 use Rattle.judge_laws.proofs.OfProfile.{layout_is_profile, none_both}
 use Rattle.judge_laws.proofs.Reading.{IsRead, bytes_are, bytes_at, find_says, word_is}
@@ -166,9 +165,6 @@ pub length_says : (room : ℕ) (piece : PieceIn) → length_deviation room piece
 unfolding length_deviation
 length_says room piece none fits = grind (arith, nat_tests)
 
-misfit_says : (how : Misfit) (wanted : Option ℕ) (n seen : ℕ) → misfit_if how wanted seen ≡ None → wanted ≡ Some n → seen ≡ n
-misfit_says how wanted n seen none is = grind (arith, nat_tests)
-
 towards_says : (known : Option Head) (head : Head) (flow : Flow) → addresses_deviation known flow ≡ None → known ≡ Some head
     → is_towards flow head.port ≡ true
 towards_says known head flow none is = grind (arith, nat_tests, cases_Bool)
@@ -181,7 +177,7 @@ pub record Fits (room : ℕ) (fields : Fields) (joining : Joining) : Type 0 wher
 
 pub fits_says : (room : ℕ) (fields : Fields) (joining : Joining) → fragment_deviation room fields joining ≡ None → Fits room fields joining
 unfolding fragment_deviation
-fits_says room fields joining none = grind (arith, nat_tests, none_both, misfit_says, towards_says)
+fits_says room fields joining none = grind (arith, nat_tests, none_both, towards_says)
 
 -- a frame of a port is read
 pub reads : (plan : Plan) (k s : ℕ) (net : Net) (joining : Joining) (frame : List ℕ) (port : PortPlan) (ident : ℕ)
@@ -208,10 +204,6 @@ reads plan k s net joining frame port ident quiet ident_is link towards =
 
 -- ---- its port
 
-port_there : (fields : Fields) (found : Option PortPlan) → port_deviation fields found ≡ None → fields.piece.start ≡ 0
-    → (port : PortPlan) × (found ≡ Some port)
-port_there fields found none first = grind (arith, nat_tests)
-
 -- the port of a first piece
 pub record IsFound (ports : List PortPlan) (vl : VlId) (fields : Fields) : Type 0 where
   pub port : PortPlan
@@ -221,4 +213,4 @@ pub record IsFound (ports : List PortPlan) (vl : VlId) (fields : Fields) : Type 
 
 pub found_says : (ports : List PortPlan) (vl : VlId) (fields : Fields) → port_deviation fields (first_port false ports vl fields) ≡ None
     → fields.piece.start ≡ 0 → IsFound ports vl fields
-found_says ports vl fields none first = grind (arith, nat_tests, port_there, find_says)
+found_says ports vl fields none first = grind (arith, nat_tests, find_says)

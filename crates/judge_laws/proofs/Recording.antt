@@ -1,9 +1,9 @@
 -- A judge over a recording of what was sent legally: each packet is taken by its link's line, and the links after it.
 use Rattle.judge_laws.proofs.Names.{A, AllZip, AreKnown, B, Bool, Entry, Finding, IsKnown, IsPlan, Judging, Link, List, Nearness, Net, None, Ok, OnNet, Option, Options, Pairing, Plan, PortPlan, Recorded, Setting, Some, Tag, Times}
 use Rattle.judge_laws.proofs.Names.{VlId, admitted, after_packet, after_timed, ap, arith, arrived, cases_Bool, cases_eq, false, fields_of, found_given_up, found_of_arrival, found_on_link, found_timed, found_with_packet, frame_in}
-use Rattle.judge_laws.proofs.Names.{fun_ext, get_or-set_other, get_or-set_same, given_up, if◌then◌else◌, inl, inr, is_both, left_waiting, length, length-set, line_after, line_on, link_after, link_at, link_in, link_plan_at}
-use Rattle.judge_laws.proofs.Names.{link_stream, nearness_of, new_link, number_in, pairing_with, place_of, refl, same_net, size_deviation, slice_set, subst, sym, tag_of, times_with, true, twin_deviation, verdict, with_arrival}
-use Rattle.judge_laws.proofs.Names.{with_verdict, ℕ, [], ◌++◌, ◌<◌, ◌∙◌, ◌∷◌, ◌≡◌, ◌≢◌}
+use Rattle.judge_laws.proofs.Names.{fun_ext, get_or-set_other, get_or-set_same, given_up, if◌then◌else◌, inl, inr, is_both, left_waiting, length, length-set, line_on, link_after, link_at, link_in, link_plan_at, link_stream}
+use Rattle.judge_laws.proofs.Names.{nearness_of, new_link, number_in, pairing_with, place_of, refl, same_net, size_deviation, slice_set, subst, sym, tag_of, times_with, true, twin_deviation, verdict, with_arrival, with_verdict, ℕ}
+use Rattle.judge_laws.proofs.Names.{[], ◌++◌, ◌<◌, ◌∙◌, ◌∷◌, ◌≡◌, ◌≢◌}
 use Rattle.judge_laws.specs.NoFalseAlarm.{AreFit, IsRecord, packets_of}
 use Rattle.judge_laws.proofs.Line.{IsDelayed, IsLine, IsTaken, faultless, line_taken, line_then, measure_at, of_profile}
 use Rattle.judge_laws.proofs.Message.{port_at}
@@ -31,15 +31,6 @@ rest_holds P rest es B B other own = own
 module _ (setting : Setting) (tag : Tag) (port : Option PortPlan) (frame : List ℕ) (link : Link) where
   pub line_given_up : (number : ℕ) (net : Net) → line_on net (given_up setting tag number link) ≡ line_on net link
   line_given_up number net = grind (arith, cases_Bool)
-
-  line_own : line_on tag.net (link_after setting tag port frame link)
-      ≡ line_after setting.measure port (arrived setting.measure tag port frame (line_on tag.net link)) (line_on tag.net link)
-  unfolding link_after
-  line_own = grind (arith, cases_Bool)
-
-  line_other : (net : Net) → same_net tag.net net ≡ false → line_on net (link_after setting tag port frame link) ≡ line_on net link
-  unfolding link_after
-  line_other net apart = grind (arith, cases_Bool)
 
   -- the twins of a link on both networks
   twins_after : is_both setting.plan.networks ≡ true → (link_after setting tag port frame link).twins
@@ -107,11 +98,13 @@ module _ (plan : Plan) (options : Options) (times : Times) (links : List Link) (
   other_at j other = get_or-set_other links k j new_link_at (new_link false false) other
 
   pub own_line : k < length links → line_on tag.net (link_at new_links k) ≡ line_then plan k options tag frame (line_on tag.net (link_at links k))
-  own_line inside = grind (arith, new_at, line_own)
+  unfolding link_after
+  own_line inside = grind (arith, new_at, cases_Bool)
 
   pub same_line : (j : ℕ) (net : Net) → k < length links → (j ≡ k → same_net tag.net net ≡ false)
       → line_on net (link_at new_links j) ≡ line_on net (link_at links j)
-  same_line j net inside apart = grind (arith, cases_eq j k, new_at, line_other, other_at)
+  unfolding link_after
+  same_line j net inside apart = grind (arith, cases_eq j k, new_at, other_at, cases_Bool)
 
 -- a packet that has a frame
 module _ (plan : Plan) (options : Options) (times : Times) (told : Bool) (links : List Link) (net : Net) (number at : ℕ) (packet : Recorded)

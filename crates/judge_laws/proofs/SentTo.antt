@@ -29,10 +29,6 @@ same_is B B is = refl
 abbrev pub own_packets : Plan → ℕ → List Recorded → List Recorded
 own_packets plan k rs = those_with (λ (r : Recorded). link_in r.bytes) (id_of plan k) rs
 
-own_next : (plan : Plan) (k : ℕ) (r : Recorded) (rs : List Recorded) → link_in r.bytes ≡ id_of plan k
-    → own_packets plan k (r ∷ rs) ≡ r ∷ own_packets plan k rs
-own_next plan k r rs its = rw (eq-eqb (link_in r.bytes) (id_of plan k) its) refl
-
 own_later : (plan : Plan) (k : ℕ) (r : Recorded) (rs : List Recorded) → link_in r.bytes ≢ id_of plan k
     → own_packets plan k (r ∷ rs) ≡ own_packets plan k rs
 own_later plan k r rs other = rw (ne_eqb (link_in r.bytes) (id_of plan k) other) refl
@@ -69,7 +65,7 @@ module _ (plan : Plan) (options : Options) (times : Times) (links : List Link) (
 
   clear_net : (ps : List Recorded) (k : ℕ) → k < length plan.links → AreClear plan k options net (line_on net (link_at links_now k)) (own_packets plan k ps)
       → AreClear plan k options net (line_on net (link_at links k)) (own_packets plan k (packet ∷ ps))
-  clear_net ps k within later = grind (arith, cases_eq, own_next, its_place, clear_own, own_later, line_same)
+  clear_net ps k within later = grind (arith, cases_eq, its_place, clear_own, own_later, line_same)
 
   pub clear_next : (ps : List OnNet) (k : ℕ) (m : Net) → k < length plan.links
       → ((n : Net) → AreClear plan k options n (line_on n (link_at links_now k)) (own_packets plan k (packets_of n ps)))
