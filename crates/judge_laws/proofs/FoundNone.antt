@@ -1,9 +1,9 @@
 -- Findings only grow, so where none is found in the end, no packet has one: each is a frame of a link of the plan, and
 -- nothing is wrong with it on its line.
-use Rattle.judge_laws.proofs.Names.{Admitted, Deviation, Finding, Judging, Link, LinkPlan, List, Nearness, Net, None, Ok, OnNet, Option, Options, Plan, PortPlan, Recorded, Refused, Result, Setting, Some, Tag, Times, Verdict, VlId}
-use Rattle.judge_laws.proofs.Names.{admitted, after_packet, arith, arrived, at_place, cases_Bool, false, found_at_end, found_from, found_given_up, found_judged, found_left, found_missing, found_of_arrival, found_on_link}
-use Rattle.judge_laws.proofs.Names.{found_timed, found_with_end, found_with_packet, frame_in, layout_broken, length, line_on, link_at, link_plan_at, nat_tests, nil_begins, place_of, placed, refl, size_deviation, sym, tag_of, timed}
-use Rattle.judge_laws.proofs.Names.{times_with, unchecked, verdict, with_finding, with_verdict, ℕ, [], ◌∙◌, ◌∷◌, ◌≡◌}
+use Rattle.judge_laws.proofs.Names.{Admitted, Deviation, Finding, Judging, Link, LinkPlan, List, Nearness, Net, None, Ok, OnNet, Option, Options, Plan, PortPlan, Recorded, Refused, Result, Setting, Some, Tag, Times, VlId, admitted}
+use Rattle.judge_laws.proofs.Names.{after_packet, arith, arrived, at_place, cases_Bool, false, found_at_end, found_from, found_given_up, found_judged, found_left, found_missing, found_of_arrival, found_on_link, found_timed}
+use Rattle.judge_laws.proofs.Names.{found_with_end, found_with_packet, frame_in, layout_broken, length, line_on, link_at, link_plan_at, nat_tests, nil_begins, place_of, placed, refl, size_deviation, sym, tag_of, timed, times_with}
+use Rattle.judge_laws.proofs.Names.{unchecked, verdict, with_finding, with_verdict, ℕ, [], ◌∙◌, ◌∷◌, ◌≡◌}
 use Rattle.judge_laws.proofs.Line.{IsFaultless, faultless, of_profile}
 use Rattle.judge_laws.proofs.Message.{port_at}
 use Rattle.judge_laws.proofs.Reading.{back_none}
@@ -14,11 +14,6 @@ pub finding_none : (tag : Tag) (link : Option VlId) (d : Option Deviation) (foun
 finding_none tag link d found none = grind (arith, nat_tests, back_none)
 
 -- ---- a link
-
-verdict_none : (tag : Tag) (vl : VlId) (v : Verdict) (found : List Finding) → with_verdict tag vl v found ≡ []
-    → (v ≡ faultless) × (found ≡ [])
-unfolding with_verdict
-verdict_none tag vl v found none = grind (arith, nat_tests, finding_none)
 
 given_up_none : (setting : Setting) (tag : Tag) (number : ℕ) (link : Link) (found : List Finding)
     → found_given_up setting tag number link found ≡ [] → found ≡ []
@@ -33,18 +28,15 @@ pub record IsLinkSilent (setting : Setting) (tag : Tag) (port : Option PortPlan)
 
 pub link_none : (setting : Setting) (tag : Tag) (port : Option PortPlan) (frame : List ℕ) (link : Link) (found : List Finding)
     → found_on_link setting tag port frame link found ≡ [] → IsLinkSilent setting tag port frame link found
-unfolding found_on_link
-link_none setting tag port frame link found none = grind (arith, nat_tests, verdict_none, finding_none, line_given_up, given_up_none, cases_Bool)
+unfolding found_on_link with_verdict
+link_none setting tag port frame link found none = grind (arith, nat_tests, finding_none, line_given_up, given_up_none, cases_Bool)
 
 -- ---- packets
 
-judged_none : (tag : Tag) (it : Result Admitted Refused) (j : Judging) (found : List Finding) → found_judged tag it j found ≡ [] → found ≡ []
-unfolding found_of_arrival
-judged_none tag it j found none = grind (arith, nat_tests, link_none, cases_Bool, nil_begins)
-
 timed_none : (net : Net) (number : ℕ) (packet : Recorded) (j : Judging) (found : List Finding) (at : Option ℕ)
     → found_timed net number packet j found at ≡ [] → found ≡ []
-timed_none net number packet j found at none = grind (arith, nat_tests, nil_begins, judged_none, admitted)
+unfolding found_of_arrival
+timed_none net number packet j found at none = grind (arith, nat_tests, nil_begins, admitted, link_none, cases_Bool)
 
 end_none : (nearness : Nearness) (at : ℕ) (plans : List LinkPlan) (links : List Link) (found : List Finding)
     → found_left nearness at plans links found ≡ [] → found ≡ []

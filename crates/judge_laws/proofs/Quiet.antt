@@ -1,10 +1,10 @@
 -- A frame in which the judge finds nothing: what it says. What the judge keeps of a message tells its bytes: a whole message
 -- without a finding is the datagram of its content.
-use Rattle.judge_laws.proofs.Names.{Contains, Fields, Flow, Head, IsFrame, IsPort, Joining, LinkPlan, List, Net, None, Ok, Option, Piece, PieceIn, Plan, PortPlan, Some, UdpSum, VlId, addresses, addresses_deviation, ap, arith, begun}
-use Rattle.judge_laws.proofs.Names.{cases_Bool, cases_lt, datagram, drop, false, fields_of, first_port, fragment_deviation, fragment_field, get_or, get_or-append_right, get_or_append_left, head_with, ident_of, inl, inr}
-use Rattle.judge_laws.proofs.Names.{interface_byte, interface_on, is_of_port, is_towards, judge_sub, layout_broken, length, length-append, length-drop, length_deviation, link_in, link_plan_at, message_deviation, names, nat_le}
-use Rattle.judge_laws.proofs.Names.{nat_tests, next_of, on_link, place_of, port_deviation, position, position-Some, refl, right_sum, size_deviation, slice_index, step_of, sym, take, take-append-drop, total_length, true, two_bytes}
-use Rattle.judge_laws.proofs.Names.{udp_checksum, udp_field, udp_header, udp_sum, word_at, word_sum, word_sum-append, ℕ, [], ◌%◌, ◌*◌, ◌++◌, ◌+◌, ◌-◌, ◌/◌, ◌<◌, ◌==◌, ◌∙◌, ◌≡◌, ◌≤◌, ◌⊎◌}
+use Rattle.judge_laws.proofs.Names.{Contains, Fields, Head, IsFrame, IsPort, Joining, LinkPlan, List, Net, None, Ok, Option, Piece, PieceIn, Plan, PortPlan, Some, UdpSum, VlId, addresses, ap, arith, begun, cases_Bool, cases_lt}
+use Rattle.judge_laws.proofs.Names.{datagram, drop, false, fields_of, first_port, fragment_deviation, fragment_field, get_or, get_or-append_right, get_or_append_left, head_with, ident_of, inl, inr, interface_byte, interface_on}
+use Rattle.judge_laws.proofs.Names.{is_of_port, is_towards, judge_sub, layout_broken, length, length-append, length-drop, length_deviation, link_in, link_plan_at, message_deviation, names, nat_le, nat_tests, next_of, on_link}
+use Rattle.judge_laws.proofs.Names.{place_of, port_deviation, position, position-Some, refl, right_sum, size_deviation, slice_index, step_of, sym, take, take-append-drop, total_length, true, two_bytes, udp_checksum, udp_field}
+use Rattle.judge_laws.proofs.Names.{udp_header, udp_sum, word_at, word_sum, word_sum-append, ℕ, [], ◌%◌, ◌*◌, ◌++◌, ◌+◌, ◌-◌, ◌/◌, ◌<◌, ◌==◌, ◌∙◌, ◌≡◌, ◌≤◌, ◌⊎◌}
 use Rattle.judge_laws.proofs.Message.{IsGood, port_at, room_at}
 use Rattle.judge_laws.proofs.OfProfile.{layout_is_profile, none_both}
 use Rattle.judge_laws.proofs.Reading.{IsRead, bytes_are, bytes_at, find_says, word_is}
@@ -165,10 +165,6 @@ pub length_says : (room : ℕ) (piece : PieceIn) → length_deviation room piece
 unfolding length_deviation
 length_says room piece none fits = grind (arith, nat_tests)
 
-towards_says : (known : Option Head) (head : Head) (flow : Flow) → addresses_deviation known flow ≡ None → known ≡ Some head
-    → is_towards flow head.port ≡ true
-towards_says known head flow none is = grind (arith, nat_tests, cases_Bool)
-
 pub record Fits (room : ℕ) (fields : Fields) (joining : Joining) : Type 0 where
   pub start : (n : ℕ) → next_of joining ≡ Some n → fields.piece.start ≡ n
   pub ident : (n : ℕ) → ident_of joining ≡ Some n → fields.piece.ident ≡ n
@@ -177,7 +173,7 @@ pub record Fits (room : ℕ) (fields : Fields) (joining : Joining) : Type 0 wher
 
 pub fits_says : (room : ℕ) (fields : Fields) (joining : Joining) → fragment_deviation room fields joining ≡ None → Fits room fields joining
 unfolding fragment_deviation
-fits_says room fields joining none = grind (arith, nat_tests, none_both, towards_says)
+fits_says room fields joining none = grind (arith, nat_tests, none_both, cases_Bool)
 
 -- a frame of a port is read
 pub reads : (plan : Plan) (k s : ℕ) (net : Net) (joining : Joining) (frame : List ℕ) (port : PortPlan) (ident : ℕ)

@@ -2,7 +2,7 @@
 use Rattle.judge_laws.proofs.Names.{A, All, All-cons, All-nil, All-tail, AreKnown, B, Bool, Entry, Finding, IsAllowed, IsFrame, IsKnown, IsPlan, Judging, Link, List, Net, None, Ok, OnNet, Options, Plan, Recorded, Sent, Times}
 use Rattle.judge_laws.proofs.Names.{after_packet, ap, append-nil, arith, blanked, cases_Bool, cases_eq, cases_lt, eq-eqb, false, filter, findings, found_from, found_with_packet, fragments, get_or, inl, inr, layout_broken, length}
 use Rattle.judge_laws.proofs.Names.{length-filter_both, length-map, length-replicate, length-set, line_on, link_at, link_in, link_plan_at, link_stream, map, map-map, names, ne_eqb, new_line, new_link, new_sub, no_times, not}
-use Rattle.judge_laws.proofs.Names.{place_of, refl, room_of, same_net, sub_in, sub_stream, subst, suc, sym, tag_of, those_with, times_with, told, true, with_map, zero, ℕ, [], ◌+◌, ◌-◌, ◌<◌, ◌^◌, ◌∙◌, ◌∷◌, ◌≡◌, ◌≢◌, ◌≤◌}
+use Rattle.judge_laws.proofs.Names.{place_of, refl, room_of, same_net, sub_in, sub_stream, subst, suc, sym, tag_of, those_with, times_with, told, true, with_map, zero, ℕ, [], ◌+◌, ◌-◌, ◌<◌, ◌^◌, ◌∙◌, ◌∷◌, ◌≡◌, ◌≤◌}
 use Rattle.judge_laws.specs.NoFalseAlarm.{packets_of}
 use Rattle.judge_laws.specs.NothingFound.{time_of}
 use Rattle.judge_laws.specs.NothingMissed.{EndsWhole, IsOctets, IsSentTo, IsStrict, NothingMissed, entry_of, frames_of, sent_to}
@@ -28,10 +28,6 @@ same_is B B is = refl
 -- a link's packets
 abbrev pub own_packets : Plan → ℕ → List Recorded → List Recorded
 own_packets plan k rs = those_with (λ (r : Recorded). link_in r.bytes) (id_of plan k) rs
-
-own_later : (plan : Plan) (k : ℕ) (r : Recorded) (rs : List Recorded) → link_in r.bytes ≢ id_of plan k
-    → own_packets plan k (r ∷ rs) ≡ own_packets plan k rs
-own_later plan k r rs other = rw (ne_eqb (link_in r.bytes) (id_of plan k) other) refl
 
 module _ (plan : Plan) (options : Options) (times : Times) (links : List Link) (net : Net) (number : ℕ) (packet : Recorded)
     (valid : IsPlan plan) (size : length links ≡ length plan.links) (octets : IsOctets packet)
@@ -65,7 +61,7 @@ module _ (plan : Plan) (options : Options) (times : Times) (links : List Link) (
 
   clear_net : (ps : List Recorded) (k : ℕ) → k < length plan.links → AreClear plan k options net (line_on net (link_at links_now k)) (own_packets plan k ps)
       → AreClear plan k options net (line_on net (link_at links k)) (own_packets plan k (packet ∷ ps))
-  clear_net ps k within later = grind (arith, cases_eq, its_place, clear_own, own_later, line_same)
+  clear_net ps k within later = grind (arith, cases_eq, its_place, clear_own, line_same)
 
   pub clear_next : (ps : List OnNet) (k : ℕ) (m : Net) → k < length plan.links
       → ((n : Net) → AreClear plan k options n (line_on n (link_at links_now k)) (own_packets plan k (packets_of n ps)))
