@@ -2,8 +2,8 @@
 use Rattle.judge_laws.proofs.Names.{A, Accepted, All, All-drop, All-filter, All-nil, All-weaker, AreAllowed, AreKnown, B, Bool, Entry, Finding, IsKnown, IsLegalOn, IsNumbered, IsPlan, IsSpaced, Link, LinkPlan, List, Nearness, Net}
 use Rattle.judge_laws.proofs.Names.{None, OnNet, Option, Options, Plan, Setting, Some, Stamp, Tag, TakeTurnsOn, TakesTurns, Times, ap, append_assoc, arith, bag_micros, blanked, cases_Bool, cases_lt, drop_at, entry, entry_number}
 use Rattle.judge_laws.proofs.Names.{eqb-true, false, filter, findings, found_at_end, found_from, found_given_up, found_left, found_missing, found_with_end, get_or-replicate, get_or_default, inl, inr, is_both, known_all, latest}
-use Rattle.judge_laws.proofs.Names.{length, length-replicate, line_on, link_at, link_in, link_plan_at, link_stream, map, map-append, nat_eq, new_line, new_link, new_sub, no_times, number_in, on_both, on_both_is, refl, replicate}
-use Rattle.judge_laws.proofs.Names.{side, stamp_of, stream_front, sub_at, sub_in, sub_stream, subst, suc, sym, tag_of, take, times_with, told, true, twin_same, with_append, zero, ℕ, [], ◌++◌, ◌+◌, ◌<◌, ◌∙◌, ◌∷◌, ◌≡◌, ◌≤◌}
+use Rattle.judge_laws.proofs.Names.{length, length-replicate, line_on, link_at, link_in, link_plan_at, link_stream, map, map-append, nat_eq, nat_tests, new_line, new_link, new_sub, no_times, number_in, on_both, on_both_is, refl}
+use Rattle.judge_laws.proofs.Names.{replicate, side, stamp_of, stream_front, sub_at, sub_in, sub_stream, subst, suc, sym, tag_of, take, times_with, told, true, twin_same, with_append, zero, ℕ, [], ◌++◌, ◌+◌, ◌<◌, ◌∙◌, ◌∷◌, ◌≡◌, ◌≤◌}
 use Rattle.judge_laws.specs.NoFalseAlarm.{AreFit, IsMissing, IsRunOf, IsSent, NoFalseAlarm, packets_of}
 use Rattle.judge_laws.proofs.Copies.{AreCopied, IsCopy, IsStream, IsWait, all_copies, all_missing, copies_go_on}
 use Rattle.judge_laws.proofs.Line.{AreDue, IsAhead, IsLine, of_profile, own_sub}
@@ -23,13 +23,7 @@ new_is late (suc (suc (suc zero))) = (refl, refl, λ few. refl)
 new_is late (suc (suc (suc (suc p)))) = (refl, refl, λ few. absurd (omega arith))
 
 none_due : (late : Bool) (rest : List Entry) → AreDue (new_line late false).subs (new_line late false).figures.frames rest
-none_due late rest = record {
-  size = refl;
-  most = omega arith;
-  came = λ p. omega (arith, (new_is late p).1);
-  once = λ p q is. absurd (cc (is, (new_is late p).0));
-  passed = λ p q is. absurd (cc (is, (new_is late p).0));
-}
+none_due late rest = grind (arith, nat_tests, new_is)
 
 -- a list is numbered, spaced and in turn from a place on
 goes_on_from : (gap i : ℕ) (before : Option Stamp) (xs ys : List Entry) → IsNumbered entry_number i (xs ++ ys) → IsSpaced gap before (xs ++ ys)

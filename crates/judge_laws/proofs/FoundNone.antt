@@ -1,9 +1,9 @@
 -- Findings only grow, so where none is found in the end, no packet has one: each is a frame of a link of the plan, and
 -- nothing is wrong with it on its line.
 use Rattle.judge_laws.proofs.Names.{Admitted, Deviation, Finding, Judging, Link, LinkPlan, List, Nearness, Net, None, Ok, OnNet, Option, Options, Plan, PortPlan, Recorded, Refused, Result, Setting, Some, Tag, Times, VlId, admitted}
-use Rattle.judge_laws.proofs.Names.{after_packet, arith, arrived, at_place, cases_Bool, false, found_at_end, found_from, found_given_up, found_judged, found_left, found_missing, found_of_arrival, found_on_link, found_timed}
-use Rattle.judge_laws.proofs.Names.{found_with_end, found_with_packet, frame_in, layout_broken, length, line_on, link_at, link_plan_at, nat_tests, nil_begins, place_of, placed, refl, size_deviation, sym, tag_of, timed, times_with}
-use Rattle.judge_laws.proofs.Names.{unchecked, verdict, with_finding, with_verdict, ℕ, [], ◌∙◌, ◌∷◌, ◌≡◌}
+use Rattle.judge_laws.proofs.Names.{after_packet, arith, arrived, cases_Bool, false, found_at_end, found_from, found_left, found_missing, found_of_arrival, found_on_link, found_timed, found_with_end, found_with_packet, frame_in}
+use Rattle.judge_laws.proofs.Names.{layout_broken, length, line_on, link_at, link_plan_at, nat_tests, nil_begins, place_of, placed, size_deviation, sym, tag_of, timed, times_with, unchecked, verdict, with_finding, with_verdict, ℕ}
+use Rattle.judge_laws.proofs.Names.{[], ◌∙◌, ◌∷◌, ◌≡◌}
 use Rattle.judge_laws.proofs.Line.{IsFaultless, faultless, of_profile}
 use Rattle.judge_laws.proofs.Message.{port_at}
 use Rattle.judge_laws.proofs.Reading.{back_none}
@@ -15,11 +15,6 @@ finding_none tag link d found none = grind (arith, nat_tests, back_none)
 
 -- ---- a link
 
-given_up_none : (setting : Setting) (tag : Tag) (number : ℕ) (link : Link) (found : List Finding)
-    → found_given_up setting tag number link found ≡ [] → found ≡ []
-unfolding found_missing
-given_up_none setting tag number link found none = grind (arith, cases_Bool, nil_begins)
-
 -- nothing is wrong with a frame on its link
 pub record IsLinkSilent (setting : Setting) (tag : Tag) (port : Option PortPlan) (frame : List ℕ) (link : Link) (found : List Finding) : Type 0 where
   pub sized : size_deviation setting.plan (length frame) ≡ None
@@ -28,8 +23,8 @@ pub record IsLinkSilent (setting : Setting) (tag : Tag) (port : Option PortPlan)
 
 pub link_none : (setting : Setting) (tag : Tag) (port : Option PortPlan) (frame : List ℕ) (link : Link) (found : List Finding)
     → found_on_link setting tag port frame link found ≡ [] → IsLinkSilent setting tag port frame link found
-unfolding found_on_link with_verdict
-link_none setting tag port frame link found none = grind (arith, nat_tests, finding_none, line_given_up, given_up_none, cases_Bool)
+unfolding found_on_link with_verdict found_missing
+link_none setting tag port frame link found none = grind (arith, nat_tests, finding_none, line_given_up, nil_begins, cases_Bool)
 
 -- ---- packets
 
@@ -70,20 +65,15 @@ pub record IsPacketSilent (plan : Plan) (options : Options) (times : Times) (lin
   pub sized : size_deviation (link_plan_at plan.links k) (length packet.bytes) ≡ None
   pub wrong : IsFaultless plan k options (tag_of net number at) packet.bytes (line_on net (link_at links k))
 
-timed_some : (net : Net) (number : ℕ) (packet : Recorded) (j : Judging) (time : Option ℕ) → found_timed net number packet j [] time ≡ []
-    → (at : ℕ) × (time ≡ Some at)
-timed_some net number packet j time none = grind (arith, nat_tests)
-
-is_admitted : (tag : Tag) (it : Result Admitted Refused) (j : Judging) → j.told ≡ false → found_judged tag it j [] ≡ []
-    → (a : Admitted) × (it ≡ Ok a)
-is_admitted tag it j told none = grind (arith, nat_tests)
-
-place_says : (frame : List ℕ) (k : Result ℕ Refused) (it : Admitted) → at_place frame k ≡ Ok it → (frame ≡ it.frame) × (k ≡ Ok it.place)
-place_says frame k it is = grind (arith, nat_tests)
+-- a packet without a finding has a time, and is admitted
+seen : (plan : Plan) (options : Options) (times : Times) (links : List Link) (net : Net) (number : ℕ) (packet : Recorded) (time : Option ℕ)
+    → found_timed net number packet (judge_of plan options times false links) [] time ≡ [] → (at : ℕ) × (time ≡ Some at) × (it : Admitted)
+    × (admitted net packet (judge_of plan options (times_with at times) false links) ≡ Ok it)
+seen plan options times links net number packet time none = grind (arith, nat_tests)
 
 admitted_says : (plan : Plan) (net : Net) (frame : Result (List ℕ) Refused) (it : Admitted) → placed plan net frame ≡ Ok it
     → (frame ≡ Ok it.frame) × (place_of plan net it.frame ≡ Ok it.place)
-admitted_says plan net frame it is = grind (arith, nat_tests, place_says)
+admitted_says plan net frame it is = grind (arith, nat_tests)
 
 silent_as : (plan : Plan) (options : Options) (times : Times) (links : List Link) (net : Net) (number : ℕ) (packet : Recorded) (at k : ℕ)
     (frame : List ℕ) → options.fcs ≡ false → packet.at ≡ Some at → frame_in (of_profile options) packet ≡ Ok frame → place_of plan net frame ≡ Ok k
@@ -109,10 +99,8 @@ silent_as plan options times links net number packet at k frame plain timed is o
 pub packet_silent : (plan : Plan) (options : Options) (times : Times) (links : List Link) (net : Net) (number : ℕ) (packet : Recorded)
     → options.fcs ≡ false → found_with_packet net number packet (judge_of plan options times false links) [] ≡ []
     → IsPacketSilent plan options times links net number packet
-unfolding found_with_packet admitted frame_in
+unfolding found_with_packet admitted
 packet_silent plan options times links net number packet plain none =
-    let time = timed_some net number packet (judge_of plan options times false links) packet.at none in
-    let j : Judging = judge_of plan options (times_with time.0 times) false links in
-    let it = is_admitted (tag_of net number time.0) (placed plan net (frame_in (of_profile options) packet)) j refl (rw time.1 at none) in
-    let says = admitted_says plan net (frame_in (of_profile options) packet) it.0 it.1 in
-    silent_as plan options times links net number packet time.0 it.0.place it.0.frame plain time.1 says.0 says.1 none
+    let it = seen plan options times links net number packet packet.at none in
+    let says = admitted_says plan net (frame_in (of_profile options) packet) it.2 it.3 in
+    silent_as plan options times links net number packet it.0 it.2.place it.2.frame plain it.1 says.0 says.1 none

@@ -2,7 +2,7 @@
 -- are those by which one network leads, and each finds its twin.
 use Rattle.judge_laws.proofs.Names.{A, All, All-cons, All-nil, All-push, All-tail, All-weaker, AllZip, B, Entry, List, Nearness, Net, None, Option, Pairing, Tag, Wait, ap, append_assoc, arith, cases_Bool, entry, eq-eqb, false}
 use Rattle.judge_laws.proofs.Names.{filter, find, get_or, get_or-append-add, get_or-append_seam, get_or-map, get_or_append_left, get_or_default, inl, inr, is_lost, is_passed, is_twin, kept, left_waiting, length, length-append}
-use Rattle.judge_laws.proofs.Names.{length-map, length-twin, map, nat_tests, ne_eqb, number_in, pairing_with, refl, same_net, side, subst, sym, true, twin_number, ℕ, [], ◌*◌, ◌++◌, ◌+◌, ◌<◌, ◌∙◌, ◌∷◌, ◌≡◌, ◌≤◌, ◌⊎◌}
+use Rattle.judge_laws.proofs.Names.{length-map, length-twin, map, nat_tests, number_in, pairing_with, refl, same_net, side, subst, sym, true, twin_number, ℕ, [], ◌*◌, ◌++◌, ◌+◌, ◌<◌, ◌∙◌, ◌∷◌, ◌≡◌, ◌≤◌, ◌⊎◌}
 use Rattle.judge_laws.proofs.Copies.{IsStream, far, own_at}
 use Rattle.judge_laws.proofs.Line.{IsDelayed}
 use Rattle.judge_laws.proofs.Recording.{rest_after, same_self}
@@ -89,7 +89,7 @@ stays_one : (origin jitter skew latest : ℕ) (nearness : Nearness) (tag : Tag) 
     → nearness.skew ≡ 1000 * skew → jitter ≤ skew → latest ≤ tag.at → IsWaitFor origin jitter lead own w → w.tag.at ≤ latest
     → tag.at ≤ origin + 1000 * (own.at + jitter) → (same_net lead tag.net ≡ true → number_in own.frame ≡ number → ⊥)
     → is_passed nearness tag number w ≡ false
-stays_one origin jitter skew latest nearness tag number lead own w is_skew fit later wait past late unlike = grind (arith, nat_tests, cases_Bool, ne_eqb)
+stays_one origin jitter skew latest nearness tag number lead own w is_skew fit later wait past late unlike = grind (arith, nat_tests, cases_Bool)
 
 all_stay : (origin jitter skew latest : ℕ) (nearness : Nearness) (tag : Tag) (number : ℕ) (lead : Net) (ahead : List Entry) (ws : List Wait)
     → nearness.skew ≡ 1000 * skew → jitter ≤ skew → latest ≤ tag.at → AllZip (IsWaitFor origin jitter lead) ahead ws

@@ -130,10 +130,6 @@ no_stranger : (known : Option Head) (head : Head) (flow : Flow) → IfSome known
     → addresses_deviation known flow ≡ None
 no_stranger known head flow is of_port = grind (arith, nat_tests)
 
-one_more : (known : Option Head) (head then : Head) (fields : Fields) → IfSome known (λ h. h ≡ head) → head_with head fields ≡ then
-    → IfSome (head_after known fields) (λ h. h ≡ then)
-one_more known head then fields is more = grind (arith, nat_tests)
-
 ends_well : (known : Option Head) (head : Head) (len : ℕ) → IfSome known (λ h. h ≡ head) → message_deviation len head ≡ None
     → if_known len known ≡ None
 ends_well known head len is well = grind (arith, nat_tests)
@@ -200,7 +196,7 @@ module _ {plan : Plan} {k sub : ℕ} {sent : Sent} {place start : ℕ} {joining 
   ) refl
 
   head_true : IfSome (head_now port fields joining) (λ h. h ≡ head_at plan.end_system sent.port sent.bytes (start + piece.len))
-  head_true = grind (arith, nat_tests, cases_eq, head_first, its_start, head_later, one_more, later_head)
+  head_true = grind (arith, nat_tests, cases_eq, head_first, its_start, head_later, later_head)
 
   message_fits : end_deviation fields.piece (head_now port fields joining) ≡ None
   message_fits = ends_if_last fields.piece (head_now port fields joining) (λ last.
@@ -215,7 +211,7 @@ module _ {plan : Plan} {k sub : ℕ} {sent : Sent} {place start : ℕ} {joining 
 
   pub true_after : piece.more ≡ true
       → IsTrueAt plan sub sent place (start + piece.len) (joined false fields.piece (head_now port fields joining))
-  true_after more = grind (arith, nat_tests, more_joined, its_start, its_ident, head_true)
+  true_after more = grind (arith, nat_tests, its_start, its_ident, head_true)
 
   pub true_behind : piece.more ≡ false → (head : Head)
       → IsTrue (identification (suc place) sub) 0 head (joined false fields.piece (head_now port fields joining))

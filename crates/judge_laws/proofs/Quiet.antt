@@ -1,10 +1,10 @@
 -- A frame in which the judge finds nothing: what it says. What the judge keeps of a message tells its bytes: a whole message
 -- without a finding is the datagram of its content.
-use Rattle.judge_laws.proofs.Names.{Contains, Fields, Head, IsFrame, IsPort, Joining, LinkPlan, List, Net, None, Ok, Option, Piece, PieceIn, Plan, PortPlan, Some, UdpSum, VlId, addresses, ap, arith, begun, cases_Bool, cases_lt}
-use Rattle.judge_laws.proofs.Names.{datagram, drop, false, fields_of, first_port, fragment_deviation, fragment_field, get_or, get_or-append_right, get_or_append_left, head_with, ident_of, inl, inr, interface_byte, interface_on}
-use Rattle.judge_laws.proofs.Names.{is_of_port, is_towards, judge_sub, layout_broken, length, length-append, length-drop, length_deviation, link_in, link_plan_at, message_deviation, names, nat_le, nat_tests, next_of, on_link}
-use Rattle.judge_laws.proofs.Names.{place_of, port_deviation, position, position-Some, refl, right_sum, size_deviation, slice_index, step_of, sym, take, take-append-drop, total_length, true, two_bytes, udp_checksum, udp_field}
-use Rattle.judge_laws.proofs.Names.{udp_header, udp_sum, word_at, word_sum, word_sum-append, ℕ, [], ◌%◌, ◌*◌, ◌++◌, ◌+◌, ◌-◌, ◌/◌, ◌<◌, ◌==◌, ◌∙◌, ◌≡◌, ◌≤◌, ◌⊎◌}
+use Rattle.judge_laws.proofs.Names.{Contains, Fields, Head, IsFrame, IsPort, Joining, LinkPlan, List, Net, None, Ok, Option, Piece, PieceIn, Plan, PortPlan, Some, UdpSum, VlId, address_number, addresses, ap, arith, begun}
+use Rattle.judge_laws.proofs.Names.{cases_Bool, cases_lt, datagram, destination_address, drop, false, fields_of, first_port, fragment_deviation, fragment_field, get_or, get_or-append_right, get_or_append_left, head_with, ident_of}
+use Rattle.judge_laws.proofs.Names.{inl, inr, interface_byte, interface_on, is_of_port, is_towards, judge_sub, layout_broken, length, length-append, length-drop, length_deviation, link_in, link_plan_at, message_deviation, names}
+use Rattle.judge_laws.proofs.Names.{nat_le, nat_tests, next_of, on_link, place_of, port_deviation, position, position-Some, right_sum, size_deviation, slice_index, step_of, sym, take, take-append-drop, total_length, true, two_bytes}
+use Rattle.judge_laws.proofs.Names.{udp_checksum, udp_field, udp_header, udp_sum, word_at, word_sum, word_sum-append, ℕ, [], ◌%◌, ◌*◌, ◌++◌, ◌+◌, ◌-◌, ◌/◌, ◌<◌, ◌==◌, ◌∙◌, ◌≡◌, ◌≤◌, ◌⊎◌}
 use Rattle.judge_laws.proofs.Message.{IsGood, port_at, room_at}
 use Rattle.judge_laws.proofs.OfProfile.{layout_is_profile, none_both}
 use Rattle.judge_laws.proofs.Reading.{IsRead, bytes_are, bytes_at, find_says, word_is}
@@ -183,20 +183,10 @@ unfolding fields_of
 reads plan k s net joining frame port ident quiet ident_is link towards =
     let profile : IsFrame frame = (layout_is_profile frame).0 quiet.layout in
     let placed = placed_says plan net frame k quiet.placed profile in
-    record {
-      octets = quiet.octets;
-      profile = profile;
-      sum = quiet.sum;
-      end_system_is = placed.end_system;
-      link_is = placed.link ∙ sym link;
-      interface = placed.interface;
-      ident_is = ident_is;
-      offset = refl;
-      len = refl;
-      more = refl;
-      partition = grind (arith, nat_tests);
-      address = grind (arith, nat_tests);
-    }
+    let link_is = placed.link ∙ sym link in
+    let partition : slice_index frame 29 ≡ port.partition = grind (arith, nat_tests) in
+    let address : 65536 * word_at frame 30 + word_at frame 32 ≡ address_number (destination_address port) = grind (arith, nat_tests) in
+    assumption
 
 -- ---- its port
 

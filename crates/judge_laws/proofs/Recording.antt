@@ -36,11 +36,11 @@ module _ (setting : Setting) (tag : Tag) (port : Option PortPlan) (frame : List 
   twins_after : is_both setting.plan.networks ≡ true → (link_after setting tag port frame link).twins
       ≡ pairing_with tag (fields_of frame).number frame (left_waiting setting.nearness tag (fields_of frame).number link.twins)
   unfolding link_after
-  twins_after both = grind (arith, cases_Bool)
+  twins_after both = grind arith
 
   twins_alone : is_both setting.plan.networks ≡ false → (link_after setting tag port frame link).twins ≡ link.twins
   unfolding link_after
-  twins_alone one = grind (arith, cases_Bool)
+  twins_alone one = grind arith
 
   -- a frame with which nothing is wrong is no finding
   found_none : (number : ℕ) (found : List Finding) → (fields_of frame).number ≡ number

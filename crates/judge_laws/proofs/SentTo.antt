@@ -120,7 +120,7 @@ frames_are s rs = ap (map (λ (e : Entry). e.frame))
     ∙ map-map (λ (e : Entry). e.frame) entry_of (those_with (λ (r : Recorded). sub_in r.bytes) s rs)
 
 told_are : (s : ℕ) (rs : List Recorded) → told (sub_stream s (map entry_of rs)) ≡ map blanked (sub_frames s rs)
-told_are s rs = sym (map-map blanked (λ (e : Entry). e.frame) (sub_stream s (map entry_of rs))) ∙ ap (map blanked) (frames_are s rs)
+told_are s rs = grind (arith, map-map blanked (λ (e : Entry). e.frame) (sub_stream s (map entry_of rs)), frames_are)
 
 -- an element that passes both tests shows that some do
 later_none : {X : Type 0} (f g : X → ℕ) (m n : ℕ) (x : X) (xs : List X) → those_with f m (those_with g n (x ∷ xs)) ≡ []

@@ -209,15 +209,8 @@ quiet : (plan : Plan) (k s : ℕ) (options : Options) (net : Net) (line : Line) 
 quiet plan k s options net line r clear its =
     let right = subst (λ q. IsRight (measure_at plan k options) (port_at plan k r.bytes) (come_of plan k options (tag_for net r) r.bytes line) line q)
     (sub_of_frame r.bytes ∙ its) (wrong_right _ _ _ line refl clear.wrong) in
-    record {
-      octets = clear.octets.octets;
-      sum = clear.octets.sum;
-      layout = clear.layout;
-      placed = clear.placed;
-      sized = clear.sized;
-      of_sub = sub_of_frame r.bytes ∙ its;
-      good = right.good;
-    }
+    let of_sub = sub_of_frame r.bytes ∙ its in
+    assumption (right, of_sub)
 
 pub record IsSubSilent (plan : Plan) (k s : ℕ) (net : Net) (joining : Joining) (frames : List (List ℕ)) : Type 0 where
   pub last : Joining
