@@ -1,8 +1,8 @@
 -- The twins of a link on both networks, where both got all and the recording is in the order of time: the frames that wait
 -- are those by which one network leads, and each finds its twin.
 use Rattle.judge_laws.proofs.Names.{A, All, All-cons, All-nil, All-push, All-tail, All-weaker, AllZip, B, Entry, List, Nearness, Net, None, Option, Pairing, Tag, Wait, ap, append_assoc, arith, cases_Bool, entry, eq-eqb, false}
-use Rattle.judge_laws.proofs.Names.{filter, find, get_or, get_or-append-add, get_or-append_seam, get_or-map, get_or_append_left, get_or_default, inl, inr, is_lost, is_passed, is_twin, kept, left_waiting, length, length-append}
-use Rattle.judge_laws.proofs.Names.{length-map, length-twin, map, nat_tests, number_in, pairing_with, refl, same_net, side, subst, sym, true, twin_number, ℕ, [], ◌*◌, ◌++◌, ◌+◌, ◌<◌, ◌∙◌, ◌∷◌, ◌≡◌, ◌≤◌, ◌⊎◌}
+use Rattle.judge_laws.proofs.Names.{filter, find, get_or, get_or-append-add, get_or-append_seam, get_or-map, get_or_append_left, get_or_default, is_lost, is_passed, is_twin, kept, left_waiting, length, length-append, length-map}
+use Rattle.judge_laws.proofs.Names.{length-twin, map, nat_tests, number_in, pairing_with, refl, same_net, side, sym, true, twin_number, ℕ, [], ◌*◌, ◌++◌, ◌+◌, ◌<◌, ◌∙◌, ◌∷◌, ◌≡◌, ◌≤◌, ◌⊎◌}
 use Rattle.judge_laws.proofs.Copies.{IsStream, far, own_at}
 use Rattle.judge_laws.proofs.Line.{IsDelayed}
 use Rattle.judge_laws.proofs.Recording.{rest_after, same_self}
@@ -229,12 +229,4 @@ module _ (stream : List Entry) (gap origin jitter skew latest : ℕ) (nearness :
   other_leads done ahead coming ws is whole leads lags waits past = absurd waits
 
   pub leads_on : (lead : Net) → IsLedBy stream origin jitter latest rest p.waiting lead → Leads
-  leads_on lead is = elim (which lead tag.net) [
-    | inl same ↦
-        let by = subst (IsLedBy stream origin jitter latest rest p.waiting) same is in
-        own_leads by.done by.ahead by.coming by.whole (sym first ∙ by.leads) by.lags by.waits by.past
-    | inr apart ↦
-        let by = subst (IsLedBy stream origin jitter latest rest p.waiting) apart is in
-        other_leads by.done by.ahead by.coming p.waiting refl by.whole by.leads
-        (sym first ∙ subst (λ m. rest m ≡ map (side m) (by.ahead ++ by.coming)) (other_other tag.net) by.lags) by.waits by.past
-  ]
+  leads_on lead is = grind (arith, nat_tests, which, own_leads, other_leads, other_other)

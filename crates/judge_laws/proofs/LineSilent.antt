@@ -86,13 +86,7 @@ no_turn subs s p size few none due before = elim (cases_lt p 4) [
 due_back : (subs : List Sub) (i : ℕ) (e : Entry) (es : List Entry) (s : ℕ) (new : Sub) → AreDue (slice_set subs s new) (i + 1) es
     → length subs ≡ 4 → ((p : ℕ) → (own_sub subs p).came ≤ i) → s < 4 → sub_in e.frame ≡ s → new.came ≡ i + 1 → passed_by s subs ≡ None
     → AreDue subs i (e ∷ es)
-due_back subs i e es s new later size came few its counts none = record {
-  size = size;
-  most = (let most = later.most in omega arith);
-  came = came;
-  once = λ p q is. grind (arith, nat_tests, cases_eq p s, cases_eq q s, sub_same, sub_other, later.once p q, later.passed p q, came p);
-  passed = λ p q is before. grind (arith, nat_tests, cases_eq p s, cases_eq q s, sub_same, sub_other, later.passed p q, no_turn subs s p size few none is);
-}
+due_back subs i e es s new later size came few its counts none = grind (arith, nat_tests, cases_eq, sub_same, sub_other, no_turn)
 
 -- ---- a line
 

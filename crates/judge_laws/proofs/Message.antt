@@ -2,8 +2,8 @@
 use Rattle.judge_laws.proofs.Names.{Contains, Fields, Flow, Generated, Head, Identification, IfSome, IsAllowed, IsPiece, IsPlan, Joining, List, Misfit, None, Offset, Option, Piece, PieceIn, Plan, PortPlan, Sent, Some, UdpSum, VlId}
 use Rattle.judge_laws.proofs.Names.{addresses, addresses_deviation, ap, arith, begun, cases_Bool, cases_eq, cases_lt, checksums_pass, datagram, drop, end_deviation, false, fields_of, first_port, fragment_deviation, head_after}
 use Rattle.judge_laws.proofs.Names.{head_now, head_of, head_with, ident_before, ident_of, identification, if_known, is_of_port, is_towards, joined, judge_sub, length, length-append, length-take, length-udp_header, length_deviation}
-use Rattle.judge_laws.proofs.Names.{link_plan_at, message_deviation, misfit_if, nat_tests, next_of, piece_at, port_deviation, refl, right_sum, room_of, step_of, suc, sym, take, take-add, take_all, true, udp_checksum, udp_field}
-use Rattle.judge_laws.proofs.Names.{udp_sum, word_sum, word_sum-append, ℕ, ◌%◌, ◌+◌, ◌-◌, ◌/◌, ◌<◌, ◌∙◌, ◌≡◌, ◌≤◌, ◌⊎◌}
+use Rattle.judge_laws.proofs.Names.{link_plan_at, message_deviation, misfit_if, nat_tests, next_of, piece_at, port_deviation, refl, right_sum, room_of, step_of, suc, take, take-add, take_all, true, udp_checksum, udp_field, udp_sum}
+use Rattle.judge_laws.proofs.Names.{word_sum, word_sum-append, ℕ, ◌%◌, ◌+◌, ◌-◌, ◌/◌, ◌<◌, ◌∙◌, ◌≡◌, ◌≤◌, ◌⊎◌}
 use Rattle.judge_laws.proofs.Reading.{Carries, port_found, sum_field}
 
 -- what is known of a message of which `start` bytes came
@@ -158,11 +158,7 @@ ends_if_last piece known last = grind (arith, cases_Bool)
 pub first_found : (plan : Plan) (port : PortPlan) (vl : VlId) (fields : Fields) → IsPlan plan → Contains plan.ports port
     → fields.piece.start ≡ 0 → vl.0 ≡ port.vl.0 → judge_sub fields ≡ port.sub
     → is_of_port false port.vl.0 port.sub fields.flow port ≡ true → first_port false plan.ports vl fields ≡ Some port
-first_found plan port vl fields valid member first link of_sub its = grind (arith, nat_tests, port_found)
-
--- the last piece ends the message
-last_end : (room n start : ℕ) (piece : Piece) → IsNext room n start piece → start < n → piece.more ≡ false → start + piece.len ≡ n
-last_end room n start piece next inside last = grind arith
+first_found plan port vl fields valid member first link of_sub its = grind (arith, port_found)
 
 -- a piece that is due is heard
 pub record IsHeard (plan : Plan) (k sub : ℕ) (sent : Sent) (place start : ℕ) (joining : Joining) (piece : Piece) (fields : Fields)
@@ -200,8 +196,7 @@ module _ {plan : Plan} {k sub : ℕ} {sent : Sent} {place start : ℕ} {joining 
 
   message_fits : end_deviation fields.piece (head_now port fields joining) ≡ None
   message_fits = ends_if_last fields.piece (head_now port fields joining) (λ last.
-      let all : start + piece.len ≡ 8 + length sent.bytes =
-      last_end (room_at plan k) (8 + length sent.bytes) start piece heard.next heard.due.inside (sym heard.carried.more ∙ last) in
+      let all : start + piece.len ≡ 8 + length sent.bytes = grind (arith, heard.next, heard.due, heard.carried) in
       let whole : fields.piece.start + fields.piece.len ≡ 8 + length sent.bytes = omega (arith, its_start, heard.carried.len) in
       rw whole (ends_well (head_now port fields joining) _ _ (rw all at head_true)
       (message_ok plan.end_system sent.port sent.bytes heard.due.allowed.queued.some heard.due.allowed.most)))

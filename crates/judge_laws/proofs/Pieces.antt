@@ -1,8 +1,8 @@
 -- The frames of a sub-VL on a network: the judge finds nothing wrong with the one that is due, and awaits the next one.
 use Rattle.judge_laws.proofs.Names.{All, All-contains, All-head, All-tail, Bool, Cutting, Head, IsAllowed, IsLink, IsPiece, IsPlan, IsPort, Joining, List, Net, None, Ok, Option, Options, Piece, Plan, PortPlan, Recorded, Sent, arith}
 use Rattle.judge_laws.proofs.Names.{blanked, checked, cut_whole, drop_at, false, fields_of, fragments, fragments_from, fragments_left, frame_in, frame_of, has_four_more, header_says, identification, if◌then◌else◌, inl, inr}
-use Rattle.judge_laws.proofs.Names.{judge_sub, left_first, left_none, length, length-append, length-frame, link_plan_at, max, names, nat_tests, new_sub, number_in, piece_at, pieces_left, place_of, refl, says, size_deviation, suc}
-use Rattle.judge_laws.proofs.Names.{sym, take_all, take_at, take_more, total_ok, true, unchecked, unnumbered, ℕ, [], ◌++◌, ◌+◌, ◌-◌, ◌<◌, ◌∙◌, ◌∷◌, ◌≡◌, ◌≤◌, ◌⊎◌}
+use Rattle.judge_laws.proofs.Names.{judge_sub, left_first, left_none, length, length-append, length-frame, link_plan_at, max, names, nat_tests, new_sub, number_in, piece_at, place_of, refl, says, size_deviation, suc, sym, take_all}
+use Rattle.judge_laws.proofs.Names.{take_at, take_more, total_ok, true, unchecked, unnumbered, ℕ, [], ◌++◌, ◌+◌, ◌<◌, ◌∙◌, ◌∷◌, ◌≡◌, ◌≤◌, ◌⊎◌}
 use Rattle.judge_laws.specs.Frames.{IsRecordedAs}
 use Rattle.judge_laws.proofs.Message.{IsDue, IsGood, IsHeard, IsNext, IsTrue, IsTrueAt, first_found, good, its_port, joining_after, next_piece, piece_is, port_at, room_at, true_after, true_behind}
 use Rattle.judge_laws.proofs.OfProfile.{layout_is_profile}
@@ -77,38 +77,13 @@ goes_on : (plan : Plan) (k sub : ℕ) (net : Net) (sent : Sent) (place start : �
     → (piece.more ≡ true → IsTrueAt plan sub sent place (start + piece.len) joining)
     → (piece.more ≡ false → (head : Head) → IsTrue (identification (suc place) sub) 0 head joining)
     → IsAwaiting plan k sub net joining (due_from plan k net sent place (start + piece.len) later)
-goes_on plan k sub net sent place start later joining piece next due are known behind = elim next.len_is [
-  | inl more ↦ record {
-    how = inr (record {
-      sent = sent;
-      place = place;
-      start = start + piece.len;
-      later = later;
-      due = record {
-        allowed = due.allowed;
-        inside = omega (arith, more.1, more.2);
-        units = omega (arith, more.1, due.units);
-        tight = λ some. omega (arith, more.1, more.2);
-      };
-      known = known more.0;
-      later_are = are;
-      left_is = refl;
-    });
-  }
-  | inr last ↦
-      let none : pieces_left (room_at plan k) (cut_at sent place (start + piece.len)) ≡ [] =
-      left_none (room_at plan k) (cut_at sent place (start + piece.len)) (omega (arith, last.1, due.inside)) in
-      rw none (between plan k sub net joining (suc place) later are (behind last.0))
-]
+goes_on plan k sub net sent place start later joining piece next due are known behind = grind (arith, nat_tests, left_none, between)
 
 -- a frame is read, with its check sequence or without
 read_ok : (fcs : Bool) (frame bytes : List ℕ) → IsRecordedAs fcs frame bytes → has_four_more frame ≡ false
     → (if fcs then checked bytes else unchecked bytes) ≡ Ok frame
 unfolding checked unchecked
-read_ok false frame bytes is short = rw (is, short) refl
-read_ok true frame bytes (sequence, ends, is) short =
-    let size : length (frame ++ sequence) - 4 ≡ length frame = omega (arith, length-append frame sequence, ends.four) in
-    rw (is, size, drop_at frame sequence (length frame) refl, take_at frame sequence (length frame) refl, ends.number) (grind (arith, nat_tests, length-append))
+read_ok fcs frame bytes is short = grind (arith, nat_tests, length-append, drop_at, take_at)
 
 module _ (plan : Plan) (k sub : ℕ) (net : Net) (sent : Sent) (place start number : ℕ) (joining : Joining) (valid : IsPlan plan)
     (within : k < length plan.links) (on : names net (link_plan_at plan.links k).networks ≡ true)
@@ -173,13 +148,10 @@ module _ (plan : Plan) (k sub : ℕ) (net : Net) (sent : Sent) (place start numb
 
   clean : (later : List Sent) → All (IsAllowed plan k sub) later
       → IsClean plan k sub net joining frame (due_from plan k net sent place (start + piece.len) later)
-  clean later are = record {
-    admitted = admitted;
-    placed = placed;
-    sized = sized;
-    good = good heard (omega (arith, link_is.lmax));
-    next = goes_on plan k sub net sent place start later _ piece next due are (true_after heard) (true_behind heard);
-  }
+  clean later are =
+      let well = good heard (omega (arith, link_is.lmax)) in
+      let next = goes_on plan k sub net sent place start later _ piece next due are (true_after heard) (true_behind heard) in
+      assumption (admitted, placed, sized, well, next)
 
 -- a frame before and after its sequence number
 numbered : (frame : List ℕ) → 60 ≤ length frame → blanked frame ++ number_in frame ∷ [] ≡ frame

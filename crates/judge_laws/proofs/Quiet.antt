@@ -138,13 +138,7 @@ placed_says plan net frame k is profile =
     let on = on_says plan (record { 0 = link_in frame }) net frame k _ place.1 in
     let at = position-Some (λ (link : LinkPlan). link.id.0 == link_in frame) plan.links k (link_plan_at [] 0) on.0 in
     let at_on = named (link_plan_at plan.links k) net (slice_index frame 11) on.1 profile.link.interface in
-    record {
-      end_system = place.0;
-      within = at.0;
-      link = grind (arith, nat_tests);
-      on = at_on.0;
-      interface = at_on.1;
-    }
+    grind (arith, nat_tests, place, at, at_on)
 
 -- ---- its piece
 

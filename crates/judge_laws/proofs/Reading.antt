@@ -4,9 +4,9 @@ use Rattle.judge_laws.proofs.Names.{All, All-append, All-contains, All-drop, All
 use Rattle.judge_laws.proofs.Names.{PortPlan, Some, UdpSum, VlId, address_number, addresses, ap, append_assoc, arith, blanked, both_ways, cases_Bool, checksum, datagram, destination_address, destination_of, drop, drop-cons}
 use Rattle.judge_laws.proofs.Names.{drop-drop, eq-eqb, false, fields_of, find, fragment_field, frame_of, get_or, get_or-drop, get_or-replicate, get_or-take, get_or_append_left, header_front, identification, inl, inr, interface_byte}
 use Rattle.judge_laws.proofs.Names.{internet_header, is_of_port, is_towards, judge_sub, length, length-addresses, length-drop, length-replicate, length-take, length-udp_header, link_header, link_in, link_plan_at, max, more_in}
-use Rattle.judge_laws.proofs.Names.{names, nat_le, nat_tests, ne_eqb, number_in, payload_says, place_of, port_of, position, position_or_len, position_or_len_is, refl, remove, replicate, same_number_lists, says, slice_index, sub_in}
-use Rattle.judge_laws.proofs.Names.{suc, sym, take, take-add, take_at, take_datagram, those_with, total_length, total_ok, true, two_bytes, udp_checksum, udp_field, udp_header, udp_sum, unnumbered, word_at, word_sum, zero, ℕ, []}
-use Rattle.judge_laws.proofs.Names.{◌%◌, ◌*◌, ◌++◌, ◌+◌, ◌-◌, ◌/◌, ◌<◌, ◌==◌, ◌∙◌, ◌∷◌, ◌≡◌, ◌≢◌, ◌≤◌}
+use Rattle.judge_laws.proofs.Names.{names, nat_le, nat_tests, ne_eqb, number_in, payload_says, place_of, port_of, position, position_or_len_is, refl, remove, replicate, same_number_lists, says, slice_index, sub_in, suc, sym, take}
+use Rattle.judge_laws.proofs.Names.{take-add, take_at, take_datagram, those_with, total_length, total_ok, true, two_bytes, udp_checksum, udp_field, udp_header, udp_sum, unnumbered, word_at, word_sum, zero, ℕ, [], ◌%◌, ◌*◌, ◌++◌}
+use Rattle.judge_laws.proofs.Names.{◌+◌, ◌-◌, ◌/◌, ◌<◌, ◌==◌, ◌∙◌, ◌∷◌, ◌≡◌, ◌≢◌, ◌≤◌}
 
 pub back_none : {X : Type 0} (xs ys : List X) → xs ++ ys ≡ [] → ys ≡ []
 back_none [] ys none = none
@@ -81,16 +81,7 @@ port_found plan port flow valid member its = find_one (is_of_port false port.vl.
 -- A link's place is found.
 link_found : (plan : Plan) (k : ℕ) → IsPlan plan → k < length plan.links
     → position (λ (link : LinkPlan). link.id.0 == (link_plan_at plan.links k).id.0) plan.links ≡ Some k
-link_found plan k valid within =
-    let at : position_or_len its plan.links ≡ k =
-    position_or_len_is its plan.links k (link_plan_at [] 0) (omega arith) before (λ inside. grind (arith, nat_tests)) in
-    grind (arith, nat_tests)
-  where
-    its : LinkPlan → Bool
-    its link = link.id.0 == (link_plan_at plan.links k).id.0
-
-    before : (j : ℕ) → j < k → its (link_plan_at plan.links j) ≡ false
-    before j below = ne_eqb _ _ (λ same. absurd (omega (arith, valid.links_apart j k (omega arith) within (same_id _ _ same))))
+link_found plan k valid within = grind (arith, nat_tests, position_or_len_is, ne_eqb, same_id)
 
 -- A frame's link is found.
 pub place_found : (plan : Plan) (k : ℕ) (net : Net) (frame : List ℕ) → IsPlan plan → k < length plan.links
