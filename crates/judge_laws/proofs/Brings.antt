@@ -91,16 +91,8 @@ module _ {plan : Plan} {k s : ℕ} {net : Net} {joining : Joining} {frame : List
       let here = λ (j : ℕ) (below : j < 8). part_at frame (body_in frame) (total_length frame - 20) 34 j refl (omega (arith, size)) in
       let ends : word_sum (take 8 (drop 26 frame)) ≡ word_sum (addresses plan.end_system port) =
       ap word_sum (bytes_are 8 26 frame (omega (arith, size)) ∙ address_part plan.end_system port net ident (piece_in frame) frame is_port read) in
-      record {
-        port_is = refl;
-        long = long;
-        octets = part_octets frame (total_length frame - 20) 34 quiet.octets;
-        source = rw (← here 0 (omega arith), ← here 1 (omega arith)) source;
-        destination = rw (← here 2 (omega arith), ← here 3 (omega arith)) destination;
-        udp_len = rw (← here 4 (omega arith), ← here 5 (omega arith)) refl;
-        udp_sum_is = rw (← here 6 (omega arith), ← here 7 (omega arith)) refl;
-        sum = rw (← here 6 (omega arith), ← here 7 (omega arith), ← ends, ← sum_is) refl;
-      }
+      let octets = part_octets frame (total_length frame - 20) 34 quiet.octets in
+      grind (arith, nat_tests, here 0, here 1, here 2, here 3, here 4, here 5, here 6, here 7, ends, sum_is, octets)
 
   -- a first piece has the UDP header
   long_first : (port : PortPlan) → port_at plan k frame ≡ Some port

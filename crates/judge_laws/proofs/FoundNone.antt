@@ -1,17 +1,12 @@
 -- Findings only grow, so where none is found in the end, no packet has one: each is a frame of a link of the plan, and
 -- nothing is wrong with it on its line.
-use Rattle.judge_laws.proofs.Names.{Admitted, Deviation, Finding, Judging, Link, LinkPlan, List, Nearness, Net, None, Ok, OnNet, Option, Options, Plan, PortPlan, Recorded, Refused, Result, Setting, Some, Tag, Times, VlId, admitted}
-use Rattle.judge_laws.proofs.Names.{after_packet, arith, arrived, cases_Bool, false, found_at_end, found_from, found_left, found_missing, found_of_arrival, found_on_link, found_timed, found_with_end, found_with_packet, frame_in}
-use Rattle.judge_laws.proofs.Names.{layout_broken, length, line_on, link_at, link_plan_at, nat_tests, nil_begins, place_of, placed, size_deviation, sym, tag_of, timed, times_with, unchecked, verdict, with_finding, with_verdict, ℕ}
-use Rattle.judge_laws.proofs.Names.{[], ◌∙◌, ◌∷◌, ◌≡◌}
+use Rattle.judge_laws.proofs.Names.{Admitted, Finding, Judging, Link, LinkPlan, List, Nearness, Net, None, Ok, OnNet, Option, Options, Plan, PortPlan, Recorded, Refused, Result, Setting, Some, Tag, Times, admitted, after_packet}
+use Rattle.judge_laws.proofs.Names.{arith, arrived, cases_Bool, false, found_at_end, found_from, found_left, found_missing, found_of_arrival, found_on_link, found_timed, found_with_end, found_with_packet, frame_in, layout_broken}
+use Rattle.judge_laws.proofs.Names.{length, line_on, link_at, link_plan_at, nat_tests, nil_begins, place_of, placed, size_deviation, sym, tag_of, timed, times_with, unchecked, verdict, with_verdict, ℕ, [], ◌∙◌, ◌∷◌, ◌≡◌}
 use Rattle.judge_laws.proofs.Line.{IsFaultless, faultless, of_profile}
 use Rattle.judge_laws.proofs.Message.{port_at}
 use Rattle.judge_laws.proofs.Reading.{back_none}
 use Rattle.judge_laws.proofs.Recording.{found_is, judge_of, line_given_up, setting_at}
-
-pub finding_none : (tag : Tag) (link : Option VlId) (d : Option Deviation) (found : List Finding) → with_finding tag link d found ≡ []
-    → (d ≡ None) × (found ≡ [])
-finding_none tag link d found none = grind (arith, nat_tests, back_none)
 
 -- ---- a link
 
@@ -24,7 +19,7 @@ pub record IsLinkSilent (setting : Setting) (tag : Tag) (port : Option PortPlan)
 pub link_none : (setting : Setting) (tag : Tag) (port : Option PortPlan) (frame : List ℕ) (link : Link) (found : List Finding)
     → found_on_link setting tag port frame link found ≡ [] → IsLinkSilent setting tag port frame link found
 unfolding found_on_link with_verdict found_missing
-link_none setting tag port frame link found none = grind (arith, nat_tests, finding_none, line_given_up, nil_begins, cases_Bool)
+link_none setting tag port frame link found none = grind (arith, nat_tests, back_none, line_given_up, nil_begins, cases_Bool)
 
 -- ---- packets
 

@@ -31,7 +31,7 @@ pub record IsWaitFor (origin jitter : ℕ) (lead : Net) (own : Entry) (w : Wait)
   pub delayed : IsDelayed origin jitter own.at w.tag.at
 
 -- A network leads by the entries `ahead` of a stream, which wait; `coming` are to come on both.
-pub record IsLedBy (stream : List Entry) (origin jitter latest : ℕ) (rest : Net → List Entry) (waiting : List Wait) (lead : Net) : Type 0 where
+pub record IsLedBy (stream : List Entry) (origin jitter : ℕ) (rest : Net → List Entry) (waiting : List Wait) (lead : Net) : Type 0 where
   pub done : List Entry
   pub ahead : List Entry
   pub coming : List Entry
@@ -39,7 +39,6 @@ pub record IsLedBy (stream : List Entry) (origin jitter latest : ℕ) (rest : Ne
   pub leads : rest lead ≡ map (side lead) coming
   pub lags : rest (other lead) ≡ map (side (other lead)) (ahead ++ coming)
   pub waits : AllZip (IsWaitFor origin jitter lead) ahead waiting
-  pub past : All (λ (w : Wait). w.tag.at ≤ latest) waiting
 
 -- none of the entries is past at a time
 abbrev pub AreOpen : (origin jitter now : ℕ) → List Entry → Type 0
@@ -131,7 +130,8 @@ pub record LeadsOn (stream : List Entry) (origin jitter : ℕ) (nearness : Nearn
     (p : Pairing) : Type 0 where
   pub stay : AllStay nearness tag (number_in e.frame) p.waiting
   pub lead : Net
-  pub after : IsLedBy stream origin jitter tag.at next (pairing_with tag (number_in e.frame) e.frame (left_waiting nearness tag (number_in e.frame) p)).waiting lead
+  pub after : IsLedBy stream origin jitter next (pairing_with tag (number_in e.frame) e.frame (left_waiting nearness tag (number_in e.frame) p)).waiting lead
+  pub past : ArePast tag.at (pairing_with tag (number_in e.frame) e.frame (left_waiting nearness tag (number_in e.frame) p)).waiting
 
 -- the next frame
 module _ (stream : List Entry) (gap origin jitter skew latest : ℕ) (nearness : Nearness) (tag : Tag) (p : Pairing) (e : Entry)
@@ -167,8 +167,8 @@ module _ (stream : List Entry) (gap origin jitter skew latest : ℕ) (nearness :
       lags = rw append_assoc (others ∙ lags);
       waits = rw (left, none) (zip_push origin jitter tag.net ahead p.waiting c new waits
           (record { net = refl; number = same c is; delayed = rw is at delayed }));
-      past = rw (left, none) (All-push (λ (w : Wait). w.tag.at ≤ tag.at) p.waiting new (past_later latest tag.at p.waiting later past) (omega arith));
     };
+    past = rw (left, none) (All-push (λ (w : Wait). w.tag.at ≤ tag.at) p.waiting new (past_later latest tag.at p.waiting later past) (omega arith));
   }
     where
       is : e ≡ side tag.net c
@@ -209,8 +209,8 @@ module _ (stream : List Entry) (gap origin jitter skew latest : ℕ) (nearness :
       leads = others ∙ leads;
       lags = rw (other_other tag.net) (own ∙ cc (lags));
       waits = rw left waits.1;
-      past = rw left (past_later latest tag.at ws later (All-tail (λ (w : Wait). w.tag.at ≤ latest) w ws past));
     };
+    past = rw left (past_later latest tag.at ws later (All-tail (λ (w : Wait). w.tag.at ≤ latest) w ws past));
   }
     where
       number_is : number ≡ number_in o.frame
@@ -228,5 +228,5 @@ module _ (stream : List Entry) (gap origin jitter skew latest : ℕ) (nearness :
       left = rw (is, (stay_kept nearness tag number (w ∷ ws) stay).1) (first_met tag number e.frame p.lead w ws twin)
   other_leads done ahead coming ws is whole leads lags waits past = absurd waits
 
-  pub leads_on : (lead : Net) → IsLedBy stream origin jitter latest rest p.waiting lead → Leads
-  leads_on lead is = grind (arith, nat_tests, which, own_leads, other_leads, other_other)
+  pub leads_on : (lead : Net) → IsLedBy stream origin jitter rest p.waiting lead → ArePast latest p.waiting → Leads
+  leads_on lead is past = grind (arith, nat_tests, which, own_leads, other_leads, other_other)

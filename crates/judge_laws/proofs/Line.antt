@@ -257,14 +257,7 @@ line_taken plan k net origin options line tag e es valid inside long index fit i
     after = record {
       place = is.place + 1;
       before = Some (stamp_of e);
-      last = record {
-        n = is.place;
-        count = refl;
-        number = is.numbered.0;
-        stamp = stamp_of e;
-        known = refl;
-        delayed = delayed;
-      };
+      last = grind (arith, nat_tests, is.numbered, delayed);
       numbered = is.numbered.1;
       spaced = is.spaced.1;
       turns = is.turns.1;

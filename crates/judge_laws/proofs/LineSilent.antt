@@ -1,8 +1,8 @@
 -- A line of a judge that finds nothing: the frames are numbered and spaced, and take turns.
 use Rattle.judge_laws.proofs.Names.{Arrived, Bool, Entry, IsApart, IsNumbered, IsSpaced, Last, Line, List, Measure, Net, None, Ok, Option, Options, Plan, PortPlan, Recorded, Some, Stamp, Sub, Tag, TakesTurns, Verdict, ap, arith}
-use Rattle.judge_laws.proofs.Names.{bag_micros, cases_Bool, cases_eq, cases_lt, due_before, early_since, entry_number, false, fields_of, figures_with, find, get_or, get_or_past, inl, inr, layout_broken, length, length-set}
-use Rattle.judge_laws.proofs.Names.{link_plan_at, map, nat_tests, new_sub, next_number, none_is, number_deviation, number_in, number_unless, numbered, passed_by, place_of, refl, sequence_number, size_deviation, slice_set, stamp_of}
-use Rattle.judge_laws.proofs.Names.{sub_in, subst, suc, sym, tag_of, true, turn_deviation, turn_if, verdict, zero, ℕ, [], ◌*◌, ◌+◌, ◌-◌, ◌/◌, ◌<◌, ◌^◌, ◌∙◌, ◌∷◌, ◌≡◌, ◌≤◌}
+use Rattle.judge_laws.proofs.Names.{bag_micros, cases_eq, cases_lt, due_before, early_since, entry_number, fails_before_first, false, fields_of, figures_with, get_or, get_or_past, inl, inr, layout_broken, length, length-set}
+use Rattle.judge_laws.proofs.Names.{link_plan_at, map, nat_tests, new_sub, next_number, number_deviation, number_in, number_unless, numbered, passed_by, place_of, position, refl, sequence_number, size_deviation, slice_set, stamp_of}
+use Rattle.judge_laws.proofs.Names.{sub_in, subst, sym, tag_of, true, turn_deviation, turn_if, verdict, ℕ, [], ◌*◌, ◌+◌, ◌-◌, ◌/◌, ◌<◌, ◌^◌, ◌∙◌, ◌∷◌, ◌≡◌, ◌≤◌}
 use Rattle.judge_laws.specs.NothingFound.{time_of}
 use Rattle.judge_laws.specs.NothingMissed.{IsOctets, entry_of}
 use Rattle.judge_laws.proofs.Line.{AreDue, IsFaultless, IsLast, IsRight, come_of, faultless, is_passed, line_of, line_then, measure_at, number_goes_on, own_is, own_sub, right_after, sub_of, sub_other, sub_same}
@@ -34,17 +34,10 @@ wrong_right measure port come line own wrong =
     let number : number_deviation measure.late come.fields.number line ≡ None = ap (λ (v : Verdict). v.number) wrong in
     let turn : turn_deviation come.sub line ≡ None = rw number at (ap (λ (v : Verdict). v.turn) wrong) in
     let fits = rw (number, turn) at (ap (λ (v : Verdict). v.fragment) wrong) in
-    record {
-      profile = own;
-      number = number;
-      early = ap (λ (v : Verdict). v.early) wrong;
-      good = record {
-        of_port = ap (λ (v : Verdict). v.port) wrong;
-        fits = fits;
-        ends = rw (number, turn, fits) at (ap (λ (v : Verdict). v.message) wrong);
-      };
-      turn = turn;
-    }
+    let ends = rw (number, turn, fits) at (ap (λ (v : Verdict). v.message) wrong) in
+    let early = ap (λ (v : Verdict). v.early) wrong in
+    let of_port = ap (λ (v : Verdict). v.port) wrong in
+    assumption
 
 -- the last frame of a line after `i` frames, its time in microseconds
 abbrev pub IsLastAt : ℕ → Option Stamp → Option Last → Type 0
@@ -60,24 +53,15 @@ apart_from gap i at before last is none = grind (arith, nat_tests)
 
 -- ---- turns
 
-none_passes : {X : Type 0} (p : X → Bool) (xs : List X) (i : ℕ) (d : X) → find p xs ≡ None → i < length xs → p (get_or xs i d) ≡ false
-none_passes p [] i d none inside = absurd (omega arith)
-none_passes p (x ∷ xs) zero d none inside = elim (cases_Bool (p x)) [
-  | inl is ↦ absurd (cc (rw is at none))
-  | inr isnt ↦ isnt
-]
-none_passes p (x ∷ xs) (suc i) d none inside = elim (cases_Bool (p x)) [
-  | inl is ↦ absurd (cc (rw is at none))
-  | inr isnt ↦ none_passes p xs i d (rw isnt at none) (omega arith)
-]
+none_passes : {X : Type 0} (p : X → Bool) (xs : List X) (i : ℕ) (d : X) → position p xs ≡ None → i < length xs → p (get_or xs i d) ≡ false
+none_passes p xs i d none inside = grind (arith, nat_tests, fails_before_first)
 
 no_turn : (subs : List Sub) (s p : ℕ) → length subs ≡ 4 → s < 4 → passed_by s subs ≡ None → (own_sub subs p).due ≡ true
     → (own_sub subs p).came < (own_sub subs s).came → ⊥
 no_turn subs s p size few none due before = elim (cases_lt p 4) [
   | inl inside ↦
       let came : due_before (own_sub subs s).came subs ≡ None = rw (own_is subs s (rw size few)) at none in
-      let fails = none_passes (is_passed (own_sub subs s).came) subs p (new_sub true false 0) (none_is (is_passed (own_sub subs s).came) subs came)
-      (rw size inside) in
+      let fails = none_passes (is_passed (own_sub subs s).came) subs p (new_sub true false 0) came (rw size inside) in
       grind (arith, nat_tests, fails)
   | inr past ↦ absurd (cc (due, ap (λ (s : Sub). s.due) (get_or_past subs p (new_sub true false 0) (rw size past))))
 ]
@@ -157,18 +141,7 @@ module _ (plan : Plan) (k : ℕ) (options : Options) (net : Net) (line : Line) (
 pub heard : (plan : Plan) (k : ℕ) (options : Options) (net : Net) (line : Line) (rs : List Recorded) (i : ℕ) (before : Option Stamp)
     → options.late ≡ false → options.jitter ≡ 0 → IsAt line i before → i + length rs ≤ 2 ^ 64 - 1 → AreClear plan k options net line rs
     → AreHeard plan k i before line.subs (map entry_of rs)
-heard plan k options net line [] i before early jitter is few clear = record {
-  numbered = tt;
-  spaced = tt;
-  due = record {
-    size = is.size;
-    most = omega arith;
-    came = is.came;
-    once = λ p q due. omega arith;
-    passed = λ p q due up. omega arith;
-  };
-  turns = tt;
-}
+heard plan k options net line [] i before early jitter is few clear = grind (arith, nat_tests)
 heard plan k options net line (r ∷ rs) i before early jitter is few clear =
     heard_next plan k options net line r i before early jitter is (omega arith) clear.0 rs
     (heard plan k options net (line_of (port_at plan k r.bytes) (come_of plan k options (tag_for net r) r.bytes line) line (sub_in r.bytes)) rs (i + 1)

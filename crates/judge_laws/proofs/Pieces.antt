@@ -136,15 +136,11 @@ module _ (plan : Plan) (k sub : ℕ) (net : Net) (sent : Sent) (place start numb
   of_sub = omega (arith, carried.ident, due.allowed.queued.its, port_is.sub)
 
   heard : IsHeard plan k sub sent place start joining piece (fields_of frame) port
-  heard = record {
-    due = due;
-    known = known;
-    next = next;
-    carried = carried;
-    found = λ first. first_found plan sent.port (link_plan_at plan.links k).id (fields_of frame) valid due.allowed.queued.port
-        (carried.start ∙ next.start_is ∙ first) (sym due.allowed.queued.over) (of_sub ∙ sym due.allowed.queued.its)
-        (its_port carried (next.start_is ∙ first));
-  }
+  heard =
+      let found = λ (first : start ≡ 0). first_found plan sent.port (link_plan_at plan.links k).id (fields_of frame) valid due.allowed.queued.port
+      (carried.start ∙ next.start_is ∙ first) (sym due.allowed.queued.over) (of_sub ∙ sym due.allowed.queued.its)
+      (its_port carried (next.start_is ∙ first)) in
+      assumption (next, carried, found)
 
   clean : (later : List Sent) → All (IsAllowed plan k sub) later
       → IsClean plan k sub net joining frame (due_from plan k net sent place (start + piece.len) later)

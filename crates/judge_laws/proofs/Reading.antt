@@ -163,12 +163,7 @@ module _ (end_system : ℕ) (port : PortPlan) (message : List ℕ) (place : ℕ)
   header_is is most piece_is first =
       let at = header_at is piece_is first in
       let range = udp_field_range port.checksum (udp_sum end_system port message) in
-      record {
-        source = omega (arith, at 0 (omega arith), at 1 (omega arith));
-        destination = omega (arith, at 2 (omega arith), at 3 (omega arith));
-        udp_len = omega (arith, at 4 (omega arith), at 5 (omega arith));
-        udp_sum = omega (arith, at 6 (omega arith), at 7 (omega arith));
-      }
+      grind (arith, at 0, at 1, at 2, at 3, at 4, at 5, at 6, at 7, range)
 
   pub carries : IsPort port → length message ≤ 8192 → IsPiece (length message) piece
       → Carries end_system port message place piece (fields_of frame)

@@ -13,6 +13,7 @@ use Rattle.judge_laws.proofs.Line.{line_then}
 use Rattle.judge_laws.proofs.LineSilent.{AreClear, AreHeard, heard, tag_for}
 use Rattle.judge_laws.proofs.OfProfile.{layout_is_profile}
 use Rattle.judge_laws.proofs.Quiet.{IsPlaced, placed_says}
+use Rattle.judge_laws.proofs.Reading.{with_other, with_own}
 use Rattle.judge_laws.proofs.Recording.{after_is, id_of, judge_of, new_links, own_line, packets_next, same_line, vl_of}
 use Rattle.judge_laws.proofs.Silent.{IsSubSilent, ends_silent, silent_is_sent, sub_frames, sub_silent}
 use Rattle.judge_laws.proofs.Whole.{time_is}
@@ -59,14 +60,10 @@ module _ (plan : Plan) (options : Options) (times : Times) (links : List Link) (
   line_same : (k : ℕ) (m : Net) → (k ≡ p.k → same_net net m ≡ false) → line_on m (link_at links_now k) ≡ line_on m (link_at links k)
   line_same k m apart = same_line plan options times links p.k (tag_of net number p.at) packet.bytes k m inside apart
 
-  clear_net : (ps : List Recorded) (k : ℕ) → k < length plan.links → AreClear plan k options net (line_on net (link_at links_now k)) (own_packets plan k ps)
-      → AreClear plan k options net (line_on net (link_at links k)) (own_packets plan k (packet ∷ ps))
-  clear_net ps k within later = grind (arith, cases_eq, its_place, clear_own, line_same)
-
   pub clear_next : (ps : List OnNet) (k : ℕ) (m : Net) → k < length plan.links
       → ((n : Net) → AreClear plan k options n (line_on n (link_at links_now k)) (own_packets plan k (packets_of n ps)))
       → AreClear plan k options m (line_on m (link_at links k)) (own_packets plan k (packets_of m (record { net = net; number = number; packet = packet } ∷ ps)))
-  clear_next ps k m within later = grind (arith, packets_next, cases_Bool, same_is, clear_net, line_same)
+  clear_next ps k m within later = grind (arith, packets_next, cases_Bool, same_is, cases_eq, its_place, clear_own, line_same, with_other, with_own)
 
 -- ---- a recording
 

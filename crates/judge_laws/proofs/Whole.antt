@@ -7,7 +7,7 @@ use Rattle.judge_laws.specs.NoFalseAlarm.{AreFit, IsRecord, IsSent, packets_of}
 use Rattle.judge_laws.specs.NothingFound.{IsInOrder, NothingFound, time_of}
 use Rattle.judge_laws.proofs.Begin.{IsOwn, both_copies, copies_begin, going_begins, handed_to, link_is_new, links_at_start, own_options, owns, stream_on_both}
 use Rattle.judge_laws.proofs.Copies.{AreCopied, IsStream, copies_go_on}
-use Rattle.judge_laws.proofs.Leading.{AllStay, AreOpen, IsLedBy, IsWaitFor, LeadsOn, leads_on, other, past_later, rest_both, stay_kept}
+use Rattle.judge_laws.proofs.Leading.{AllStay, AreOpen, ArePast, IsLedBy, IsWaitFor, LeadsOn, leads_on, other, past_later, rest_both, stay_kept}
 use Rattle.judge_laws.proofs.Recording.{AreRecorded, AreTwins, IsGoing, IsPacketTaken, IsRecorded, id_of, judge_of, nearness_at, packet_taken, recorded_after, recorded_next, rest_after, rest_of, setting_at, stream_next, twins_go_on}
 
 -- one network of a link on both leads, and no frame of a link on one network waits
@@ -15,7 +15,8 @@ pub record IsLed (gap origin jitter latest : ℕ) (rest : Net → List Entry) (w
   pub stream : List Entry
   pub is_stream : IsStream gap stream
   pub lead : Net
-  pub leading : IsLedBy stream origin jitter latest rest waiting lead
+  pub leading : IsLedBy stream origin jitter rest waiting lead
+  pub past : ArePast latest waiting
 
 pub record IsPaired (plan : Plan) (origin : ℕ) (options : Options) (latest k : ℕ) (rest : Net → List Entry) (p : Pairing) : Type 0 where
   pub both : is_both (link_plan_at plan.links k).networks ≡ true
@@ -81,7 +82,7 @@ module _ (plan : Plan) (origin : ℕ) (options : Options) (times : Times) (told 
       (λ (e : Entry). t.at ≤ origin + 1000 * (e.at + options.jitter)) (rest m) (limits m)) t.known.size
       (stream_next (id_of plan k) (rest net) e es next t.known.link)
       (ap (link_stream (id_of plan k)) (rest_both net es rest).0) (ap (link_stream (id_of plan k)) (rest_both net es rest).1)
-      (pair both).lead (pair both).leading
+      (pair both).lead (pair both).leading (pair both).past
 
   -- nothing is given up at it
   pub given_up_none : (found : List Finding)
@@ -91,8 +92,13 @@ module _ (plan : Plan) (origin : ℕ) (options : Options) (times : Times) (told 
 
   own_pair : IsPaired plan origin options t.at k (rest_of plan k (rest_after net es rest)) (link_at t.new k).twins
   own_pair = record {
-    both = λ both. rw (t.both both)
-        (record { stream = (pair both).stream; is_stream = (pair both).is_stream; lead = (led both).lead; leading = (led both).after });
+    both = λ both. rw (t.both both) (record {
+      stream = (pair both).stream;
+      is_stream = (pair both).is_stream;
+      lead = (led both).lead;
+      leading = (led both).after;
+      past = (led both).past;
+    });
     alone = λ one. rw (t.alone one) ((pairs k t.known.within).alone one);
   }
 
@@ -101,21 +107,12 @@ module _ (plan : Plan) (origin : ℕ) (options : Options) (times : Times) (told 
   other_pair j is = record {
     both = λ both.
         let of = is.both both in
-        let by = of.leading in
         record {
           stream = of.stream;
           is_stream = of.is_stream;
           lead = of.lead;
-          leading = record {
-            done = by.done;
-            ahead = by.ahead;
-            coming = by.coming;
-            whole = by.whole;
-            leads = by.leads;
-            lags = by.lags;
-            waits = by.waits;
-            past = past_later latest t.at (link_at links j).twins.waiting up by.past;
-          };
+          leading = of.leading;
+          past = past_later latest t.at (link_at links j).twins.waiting up of.past;
         };
     alone = is.alone;
   }
@@ -216,8 +213,8 @@ pairs_begin plan accepted a b origin options sent same k inside = rw (link_is_ne
           ∙ stream_side B (id_of plan k) (on_both plan.links a)
           ∙ ap (map (side B)) (stream_on_both plan k a sent.valid inside both);
       waits = tt;
-      past = All-nil (λ (w : Wait). w.tag.at ≤ 0);
     };
+    past = All-nil (λ (w : Wait). w.tag.at ≤ 0);
   };
   alone = λ one. refl;
 })
