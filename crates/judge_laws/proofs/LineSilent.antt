@@ -128,15 +128,9 @@ module _ (plan : Plan) (k : ℕ) (options : Options) (net : Net) (line : Line) (
       let gap : 1000 * (bag_micros (link_plan_at plan.links k).bag - options.jitter) ≡ 1000 * bag_micros (link_plan_at plan.links k).bag =
       rw jitter (omega arith) in
       let turn = subst (λ q. passed_by q line.subs ≡ None) (sub_of_frame r.bytes) (turn_none come.sub (passed_by come.sub line.subs) right.turn) in
-      record {
-        numbered = (number, later.numbered);
-        spaced = (apart_from (bag_micros (link_plan_at plan.links k).bag) i (time_of r) before line.last is.last (rw gap at right.early), later.spaced);
-        due = due_back line.subs i (entry_of r) (map entry_of rs) s new later.due is.size is.came four refl counts turn;
-        turns = (
-          λ more q. later.due.once s q (ap (λ (x : Sub). x.due) (sub_same line.subs s new (rw is.size four)) ∙ more_of r.bytes ∙ more),
-          later.turns,
-        );
-      }
+      let apart = apart_from (bag_micros (link_plan_at plan.links k).bag) i (time_of r) before line.last is.last (rw gap at right.early) in
+      let due = due_back line.subs i (entry_of r) (map entry_of rs) s new later.due is.size is.came four refl counts turn in
+      grind (arith, nat_tests, number, apart, due, sub_same, more_of)
 
 pub heard : (plan : Plan) (k : ℕ) (options : Options) (net : Net) (line : Line) (rs : List Recorded) (i : ℕ) (before : Option Stamp)
     → options.late ≡ false → options.jitter ≡ 0 → IsAt line i before → i + length rs ≤ 2 ^ 64 - 1 → AreClear plan k options net line rs

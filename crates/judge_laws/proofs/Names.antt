@@ -1,8 +1,8 @@
 -- Names of other crates for the proofs here.
-pub use Rattle.std.proofs.Common.{Bool, Err, List, None, Ok, Option, Result, Some, ap, append-nil, append_assoc, arith, drop, false, get_or, inl, inr, le_refl, length, length-append, length-set, map, max, nat_le, not, refl}
-pub use Rattle.std.proofs.Common.{replicate, slice_index, subst, suc, sym, take, true, zero, ℕ, [], ◌%◌, ◌*◌, ◌++◌, ◌+◌, ◌-◌, ◌/◌, ◌<◌, ◌==◌, ◌^◌, ◌↔◌, ◌∙◌, ◌∷◌, ◌≡◌, ◌≢◌, ◌≤◌, ◌⊎◌}
+pub use Rattle.std.proofs.Common.{Bool, List, None, Ok, Option, Result, Some, ap, append-nil, append_assoc, arith, drop, false, get_or, inl, inr, le_refl, length, length-append, length-set, map, max, nat_le, not, refl, replicate}
+pub use Rattle.std.proofs.Common.{slice_index, subst, suc, sym, take, true, zero, ℕ, [], ◌%◌, ◌*◌, ◌++◌, ◌+◌, ◌-◌, ◌/◌, ◌<◌, ◌==◌, ◌^◌, ◌↔◌, ◌∙◌, ◌∷◌, ◌≡◌, ◌≢◌, ◌≤◌, ◌⊎◌}
 pub use Rattle.std.proofs.Math.Seq.{drop-cons, get_or-append_right, get_or-append_seam, take-add}
-pub use Rattle.std.proofs.lemmas.Bool.{and_right, both_ways, cases_Bool, cases_eq, cases_lt, eq-eqb, eqb-true, le-ltb, lt-ltb, ne_eqb}
+pub use Rattle.std.proofs.lemmas.Bool.{both_ways, cases_Bool, cases_eq, cases_lt, eq-eqb, eqb-true, le-ltb, lt-ltb, ne_eqb}
 pub use Rattle.std.proofs.lemmas.Bool.Decides.{nat_tests}
 pub use Rattle.std.proofs.lemmas.Grind.{same_number_lists}
 pub use Rattle.std.proofs.lemmas.List.{drop-drop, drop-set-lt, drop_at, get_or-append-add, get_or-drop, get_or-map, get_or-replicate, get_or-set_other, get_or-set_same, get_or-take, get_or_append_left, get_or_default, get_or_past}
@@ -13,7 +13,7 @@ pub use Rattle.std.proofs.Math.Path.{fun_ext}
 pub use Rattle.std.proofs.lemmas.List.Quantifiers.{position-Some}
 pub use Rattle.std.proofs.lemmas.List.Sums.{fails_before_first, position_or_len_is}
 pub use Rattle.std.proofs.lemmas.Simd.{map-map}
-pub use Rattle.std.specs.List.{AllZip, list_all, position_or_len}
+pub use Rattle.std.specs.List.{AllZip, list_all}
 pub use Rattle.std.specs.Prelude.{All, Contains, IfSome, filter, find, if◌then◌else◌, min, nat_eq, nat_lt, position, remove, slice_range, slice_set, unwrap_or, ◌&&◌}
 pub use Rattle.afdx_plan.proofs.DemoPlan.{demo_valid}
 pub use Rattle.afdx_plan.specs.Address.{destination_address, destination_of, two_bytes}
@@ -23,7 +23,7 @@ pub use Rattle.afdx_plan.specs.Plan.{IsLink, IsPort, IsUnicast, bag_micros, iden
 pub use Rattle.afdx_plan.specs.declared.link_plan.LinkPlan.{LinkPlan}
 pub use Rattle.afdx_plan.specs.declared.port_plan.PortPlan.{PortPlan}
 pub use Rattle.afdx_plan.specs.declared.port_plan.UdpSum.{UdpSum}
-pub use Rattle.afdx_plan.specs.declared.port_plan.UdpSum.TheVariants.{Generated, Omitted}
+pub use Rattle.afdx_plan.specs.declared.port_plan.UdpSum.TheVariants.{Generated}
 pub use Rattle.afdx_plan.specs.declared.port_plan.VlId.{VlId}
 pub use Rattle.afdx_frame.proofs.CuttingLemmas.{left_first, left_none}
 pub use Rattle.afdx_frame.proofs.Datagram.{length-udp_header, take_datagram, zeros_part, zeros_there}
@@ -32,9 +32,9 @@ pub use Rattle.afdx_frame.proofs.Twins.{cut_whole, length-twin, twin_number, twi
 pub use Rattle.afdx_frame.proofs.UdpLemmas.{checksums_pass, word_sum-append}
 pub use Rattle.afdx_frame.specs.Checksum.{word_sum}
 unfoldable pub use Rattle.afdx_frame.specs.Checksum.{checksum, udp_checksum}
-pub use Rattle.afdx_frame.specs.Cutting.{Cutting, piece_at, pieces_left}
+pub use Rattle.afdx_frame.specs.Cutting.{Cutting, piece_at}
 pub use Rattle.afdx_frame.specs.Fragments.{Sent, blanked, fragments, fragments_from, fragments_left}
-pub use Rattle.afdx_frame.specs.Frame.{frame_of, interface_byte, more_fragments, udp_field}
+pub use Rattle.afdx_frame.specs.Frame.{frame_of, interface_byte, udp_field}
 unfoldable pub use Rattle.afdx_frame.specs.Frame.{addresses, datagram, header_front, internet_header, link_header, udp_header, udp_sum, unnumbered}
 pub use Rattle.afdx_frame.specs.Header.{link_in, number_in, sub_in, twin_of}
 pub use Rattle.afdx_frame.specs.Profile.{HasAddresses, HasInternetHeader, HasLinkHeader, HasZeroPadding, IsFrame, fragment_field, total_length, word_at}
@@ -53,16 +53,15 @@ pub use Rattle.afdx_laws.proofs.LegalLinks.{stream_front, stream_side}
 pub use Rattle.afdx_laws.proofs.ListLemmas.{fails_by, nil_begins}
 pub use Rattle.afdx_laws.proofs.WorkedDemo.{needs_legal}
 pub use Rattle.afdx_laws.specs.WorkedPlan.{pair_at, second_frame, two_accepted, two_entries}
-pub use Rattle.judge.proofs.Pairs.{none_is}
 unfoldable pub use Rattle.judge.specs.CheckSequence.{check_sequence, with_byte}
-pub use Rattle.judge.specs.Deviations.{first_of, with_finding}
+pub use Rattle.judge.specs.Deviations.{first_of}
 unfoldable pub use Rattle.judge.specs.Fields.{fields_of}
 pub use Rattle.judge.specs.Joining.{address_number, addresses_deviation, begun, end_deviation, head_after, head_of, head_with, ident_before, ident_of, if_known, is_of_port, is_towards, joined, misfit_if, next_of, port_of, right_sum}
 unfoldable pub use Rattle.judge.specs.Joining.{fragment_deviation, head_now, length_deviation, message_deviation}
-pub use Rattle.judge.specs.Judging.{Admitted, Judging, OnNet, after_timed, arrived, at_place, findings, first_port, found_from, found_given_up, found_judged, found_left, found_on_line, found_refusal, found_timed, found_twin}
-pub use Rattle.judge.specs.Judging.{given_up, is_with_check, line_on, link_at, measure_of, nearness_of, new_link, no_times, placed, tag_of, timed, times_with}
+pub use Rattle.judge.specs.Judging.{Admitted, Judging, OnNet, after_timed, arrived, findings, first_port, found_from, found_given_up, found_left, found_timed, given_up, line_on, link_at, measure_of, nearness_of, new_link, no_times}
+pub use Rattle.judge.specs.Judging.{placed, tag_of, timed, times_with}
 unfoldable pub use Rattle.judge.specs.Judging.{admitted, after_packet, found_of_arrival, found_on_link, found_with_end, found_with_packet, link_after, with_arrival, with_verdict}
-pub use Rattle.judge.specs.Layouts.{first_nonzero, has_four_more, has_total, padding_of, unless_kept}
+pub use Rattle.judge.specs.Layouts.{first_nonzero, has_four_more, padding_of, unless_kept}
 unfoldable pub use Rattle.judge.specs.Layouts.{address_broken, internet_broken, layout_broken, link_broken, padding_broken}
 pub use Rattle.judge.specs.Lines.{due_before, early_deviation, early_since, figures_with, new_line, new_sub, next_number, number_after, number_deviation, number_unless, numbered, other_sub, passed_by, port_deviation, settled}
 pub use Rattle.judge.specs.Lines.{sub_at, sub_in as judge_sub, turn_deviation, turn_if}

@@ -2,8 +2,8 @@
 -- without a finding is the datagram of its content.
 use Rattle.judge_laws.proofs.Names.{Contains, Fields, Head, IsFrame, IsPort, Joining, LinkPlan, List, Net, None, Ok, Option, Piece, PieceIn, Plan, PortPlan, Some, UdpSum, VlId, address_number, addresses, ap, arith, begun}
 use Rattle.judge_laws.proofs.Names.{cases_Bool, cases_lt, datagram, destination_address, drop, false, fields_of, first_port, fragment_deviation, fragment_field, get_or, get_or-append_right, get_or_append_left, head_with, ident_of}
-use Rattle.judge_laws.proofs.Names.{inl, inr, interface_byte, interface_on, is_of_port, is_towards, judge_sub, layout_broken, length, length-append, length-drop, length_deviation, link_in, link_plan_at, message_deviation, names}
-use Rattle.judge_laws.proofs.Names.{nat_le, nat_tests, next_of, on_link, place_of, port_deviation, position, position-Some, right_sum, size_deviation, slice_index, step_of, sym, take, take-append-drop, total_length, true, two_bytes}
+use Rattle.judge_laws.proofs.Names.{interface_byte, interface_on, is_of_port, is_towards, judge_sub, layout_broken, length, length-append, length-drop, length_deviation, link_in, link_plan_at, message_deviation, names, nat_le}
+use Rattle.judge_laws.proofs.Names.{nat_tests, next_of, on_link, place_of, port_deviation, position, position-Some, right_sum, size_deviation, slice_index, step_of, sym, take, take-append-drop, total_length, true, two_bytes}
 use Rattle.judge_laws.proofs.Names.{udp_checksum, udp_field, udp_header, udp_sum, word_at, word_sum, word_sum-append, ℕ, [], ◌%◌, ◌*◌, ◌++◌, ◌+◌, ◌-◌, ◌/◌, ◌<◌, ◌==◌, ◌∙◌, ◌≡◌, ◌≤◌, ◌⊎◌}
 use Rattle.judge_laws.proofs.Message.{IsGood, port_at, room_at}
 use Rattle.judge_laws.proofs.OfProfile.{layout_is_profile, none_both}
@@ -27,19 +27,9 @@ pub tells_more : (end_system : ℕ) (port : PortPlan) (given body : List ℕ) (h
 tells_more end_system port given body head fields tells even octets sum =
     let here = λ (i : ℕ) (below : i < 8). get_or_append_left given body 0 i (omega (arith, tells.long)) in
     let both = word_sum-append (length given / 2) given body (omega arith) in
-    record {
-      port_is = tells.port_is;
-      long = omega (arith, length-append given body, tells.long);
-      octets = λ i. elim (cases_lt i (length given)) [
-        | inl inside ↦ rw (get_or_append_left given body 0 i inside) (tells.octets i)
-        | inr past ↦ rw (get_or-append_right given body i 0 past) (octets (i - length given))
-      ];
-      source = rw (here 0 (omega arith), here 1 (omega arith)) tells.source;
-      destination = rw (here 2 (omega arith), here 3 (omega arith)) tells.destination;
-      udp_len = rw (here 4 (omega arith), here 5 (omega arith)) tells.udp_len;
-      udp_sum_is = rw (here 6 (omega arith), here 7 (omega arith)) tells.udp_sum_is;
-      sum = omega (arith, tells.sum, here 6 (omega arith), here 7 (omega arith));
-    }
+    let small : (i : ℕ) → get_or (given ++ body) i 0 < 256 =
+    λ i. grind (arith, nat_tests, cases_lt i (length given), get_or_append_left, get_or-append_right, tells.octets i, octets (i - length given)) in
+    grind (arith, nat_tests, here 0, here 1, here 2, here 3, here 4, here 5, here 6, here 7, both, small, length-append)
 
 -- the checksum that is right is the datagram's
 field_back : (how : UdpSum) (ends words field len sum : ℕ) → field < 65536
