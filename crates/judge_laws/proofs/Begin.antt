@@ -81,7 +81,8 @@ line_begins plan accepted k origin options net before rest valid inside legal al
         record {
           more = all.0;
           awaiting = awaits plan k s net options.late (accepted k s) (told (sub_stream s sent)) (told (sub_stream s own) ++ all.0)
-              valid inside index (allowed k s inside index) (sym all.1 ∙ rw (split, told_both s sent own, append_assoc) refl) (λ early. rw (first early) refl);
+              valid inside index (allowed k s inside index)
+              (sym all.1 ∙ rw (split, told_both s sent own, append_assoc) refl) (λ early. rw (first early) refl);
         }
 
 -- ---- the streams of a link on both networks
@@ -105,7 +106,11 @@ owns plan net vl es known = All-filter (λ (e : Entry). nat_eq (link_in e.frame)
     es (known_all plan.links net es known))
 
 own_copies : (net : Net) (stream : List Entry) → All (IsOwn net) stream → All (IsCopy stream net) stream
-own_copies net stream own = λ k spare inside. record { place = k; inside = inside; is = sym (own k spare inside).1 ∙ ap (side net) (get_or_default stream k spare (entry 0 []) inside) }
+own_copies net stream own = λ k spare inside. record {
+  place = k;
+  inside = inside;
+  is = sym (own k spare inside).1 ∙ ap (side net) (get_or_default stream k spare (entry 0 []) inside);
+}
 
 pub record AreBoth (gap : ℕ) (m n : Net) (long short : List Entry) : Type 0 where
   pub stream : IsStream gap long
@@ -169,7 +174,8 @@ own_stream plan accepted a b k sent inside both =
 abbrev pub links_at_start : Plan → Options → List Link
 links_at_start plan options = replicate (length plan.links) (new_link options.late false)
 
-pub link_is_new : (plan : Plan) (options : Options) (k : ℕ) → k < length plan.links → link_at (links_at_start plan options) k ≡ new_link options.late false
+pub link_is_new : (plan : Plan) (options : Options) (k : ℕ) → k < length plan.links
+    → link_at (links_at_start plan options) k ≡ new_link options.late false
 link_is_new plan options k inside = get_or-replicate (length plan.links) k (new_link options.late false) (new_link false false) inside
 
 pub line_is_new : (plan : Plan) (options : Options) (k : ℕ) (net : Net) → k < length plan.links

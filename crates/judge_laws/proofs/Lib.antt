@@ -1,10 +1,7 @@
 pub mod Begin
-pub mod Brings
 pub mod Copies
-pub mod FoundNone
 pub mod Leading
 pub mod Line
-pub mod LineSilent
 pub mod Message
 mod Names
 pub mod OfProfile

@@ -250,7 +250,10 @@ line_taken plan k net origin options line tag e es valid inside long index fit i
       | inl same ↦ rw (same, sub_new_at line.subs s new (omega (arith, is.due.size)))
           (record { more = ahead.more; awaiting = clean.next })
       | inr other ↦ rw (sub_other_at line.subs s q new other (grind (arith, is.due.size, valid.each_link k (link_plan_at [] 0) inside)))
-          (record { more = (is.pieces q within).more; awaiting = rw (with_other (λ (e : Entry). sub_in e.frame) q e es (λ its. other (sym its))) at (is.pieces q within).awaiting })
+          (record {
+            more = (is.pieces q within).more;
+            awaiting = rw (with_other (λ (e : Entry). sub_in e.frame) q e es (λ its. other (sym its))) at (is.pieces q within).awaiting;
+          })
     ]
 
     after : IsLine plan k net origin options (line_of port come line s) es

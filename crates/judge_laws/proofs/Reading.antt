@@ -257,7 +257,9 @@ module _ (end_system : ℕ) (port : PortPlan) (net : Net) (ident : ℕ) (piece :
   address_part =
       let system = word_is (get_or f 9 0) (get_or f 10 0) end_system read.end_system_is (read.octets 9) (read.octets 10) in
       let destination : bytes_at f 30 4 ≡ destination_address port =
-      one_address (bytes_at f 30 4) (destination_address port) (record { four = refl; bytes = (read.octets 30, read.octets 31, read.octets 32, read.octets 33) }) (destination_is port.vl.0 port.unicast is_port.unicast)
+      one_address (bytes_at f 30 4) (destination_address port)
+      (record { four = refl; bytes = (read.octets 30, read.octets 31, read.octets 32, read.octets 33) })
+      (destination_is port.vl.0 port.unicast is_port.unicast)
       (omega (arith, read.address)) in
       cc
 

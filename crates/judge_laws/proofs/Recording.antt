@@ -177,7 +177,11 @@ packet_taken plan origin options times told links net number packet e es rest va
   known = know;
   unlike = unlike;
   new = new_links plan options times links k tag e.frame;
-  both = λ both. rw (new_at plan options times links k tag e.frame within, twins_after setting tag (port_at plan k e.frame) e.frame (link_at links k) both, number_of e.frame) refl;
+  both = λ both. rw (
+    new_at plan options times links k tag e.frame within,
+    twins_after setting tag (port_at plan k e.frame) e.frame (link_at links k) both,
+    number_of e.frame,
+  ) refl;
   alone = λ one. rw (new_at plan options times links k tag e.frame within) (twins_alone setting tag (port_at plan k e.frame) e.frame (link_at links k) one);
   others = other_at plan options times links k tag e.frame;
   after = after_is plan options times told links net number record_of.at packet e.frame k record_of.told frame taken.clean.placed;
@@ -188,7 +192,8 @@ packet_taken plan origin options times told links net number packet e es rest va
   };
   found = λ found same.
       found_is plan options times told links net number record_of.at packet e.frame k record_of.told frame taken.clean.placed found
-      ∙ found_none setting tag (port_at plan k e.frame) e.frame (link_at links k) (number_in e.frame) found (number_of e.frame) taken.wrong taken.clean.sized same;
+      ∙ found_none setting tag (port_at plan k e.frame) e.frame (link_at links k) (number_in e.frame) found
+      (number_of e.frame) taken.wrong taken.clean.sized same;
 }
   where
     know : IsKnown plan.links net e.frame
@@ -211,7 +216,8 @@ packet_taken plan origin options times told links net number packet e es rest va
 
     taken : IsTaken plan k net origin options (line_on net (link_at links k)) tag e (link_stream (id_of plan k) es)
     taken = line_taken plan k net origin options (line_on net (link_at links k)) tag e (link_stream (id_of plan k) es) valid know.within
-        know.size know.of_sub (fit.jitter k know.within) (rw (stream_next (id_of plan k) (rest net) e es next know.link) at (is.lines k know.within net)) delayed
+        know.size know.of_sub (fit.jitter k know.within)
+        (rw (stream_next (id_of plan k) (rest net) e es next know.link) at (is.lines k know.within net)) delayed
 
     frame : frame_in (of_profile options) packet ≡ Ok e.frame
     frame = taken.clean.admitted (of_profile options) packet refl record_of.bytes record_of.whole

@@ -1,22 +1,116 @@
--- Nothing missed: where a judge finds nothing, each line is clear, and what was recorded of each network was sent legally.
-use Rattle.judge_laws.proofs.Names.{A, All, All-cons, All-nil, All-tail, AreKnown, B, Bool, Entry, Finding, IsAllowed, IsFrame, IsKnown, IsPlan, Judging, Link, List, Net, None, Ok, OnNet, Options, Plan, Recorded, Sent, Times}
-use Rattle.judge_laws.proofs.Names.{after_packet, ap, append-nil, arith, blanked, cases_Bool, cases_eq, cases_lt, eq-eqb, false, filter, findings, found_from, found_with_packet, fragments, get_or, inl, inr, layout_broken, length}
-use Rattle.judge_laws.proofs.Names.{length-filter_both, length-map, length-replicate, length-set, line_on, link_at, link_in, link_plan_at, link_stream, map, map-map, names, ne_eqb, new_line, new_link, new_sub, no_times, not}
-use Rattle.judge_laws.proofs.Names.{place_of, refl, room_of, same_net, sub_in, sub_stream, subst, suc, sym, tag_of, those_with, times_with, told, true, with_map, zero, ℕ, [], ◌+◌, ◌-◌, ◌<◌, ◌^◌, ◌∙◌, ◌∷◌, ◌≡◌, ◌≤◌}
+-- Nothing missed: findings only grow, so where none is found in the end, no packet has one, each line is clear, and what was
+-- recorded of each network was sent legally.
+use Rattle.judge_laws.proofs.Names.{A, Admitted, All, All-cons, All-nil, All-tail, AreKnown, B, Bool, Entry, Finding, IsAllowed, IsFrame, IsKnown, IsPlan, Judging, Link, LinkPlan, List, Nearness, Net, None, Ok, OnNet, Option}
+use Rattle.judge_laws.proofs.Names.{Options, Plan, PortPlan, Recorded, Refused, Result, Sent, Setting, Some, Tag, Times, admitted, after_packet, ap, append-nil, arith, arrived, blanked, cases_Bool, cases_eq, cases_lt, eq-eqb, false}
+use Rattle.judge_laws.proofs.Names.{filter, findings, found_at_end, found_from, found_left, found_missing, found_of_arrival, found_on_link, found_timed, found_with_end, found_with_packet, fragments, frame_in, get_or, inl, inr}
+use Rattle.judge_laws.proofs.Names.{layout_broken, length, length-filter_both, length-map, length-replicate, length-set, line_on, link_at, link_in, link_plan_at, link_stream, map, map-map, names, nat_tests, ne_eqb, new_line}
+use Rattle.judge_laws.proofs.Names.{new_link, new_sub, nil_begins, no_times, not, place_of, placed, refl, room_of, same_net, size_deviation, sub_in, sub_stream, subst, suc, sym, tag_of, those_with, timed, times_with, told, true}
+use Rattle.judge_laws.proofs.Names.{unchecked, verdict, with_map, with_verdict, zero, ℕ, [], ◌+◌, ◌-◌, ◌<◌, ◌^◌, ◌∙◌, ◌∷◌, ◌≡◌, ◌≤◌}
 use Rattle.judge_laws.specs.NoFalseAlarm.{packets_of}
 use Rattle.judge_laws.specs.NothingFound.{time_of}
 use Rattle.judge_laws.specs.NothingMissed.{EndsWhole, IsOctets, IsSentTo, IsStrict, NothingMissed, entry_of, frames_of, sent_to}
 use Rattle.judge_laws.proofs.Begin.{line_is_new, links_at_start, new_is, own_options}
-use Rattle.judge_laws.proofs.Brings.{first_of_sub}
-use Rattle.judge_laws.proofs.FoundNone.{IsPacketSilent, grows, packet_silent}
-use Rattle.judge_laws.proofs.Line.{line_then}
-use Rattle.judge_laws.proofs.LineSilent.{AreClear, AreHeard, heard, tag_for}
+use Rattle.judge_laws.proofs.Line.{IsFaultless, faultless, line_then, of_profile}
+use Rattle.judge_laws.proofs.Message.{port_at}
 use Rattle.judge_laws.proofs.OfProfile.{layout_is_profile}
-use Rattle.judge_laws.proofs.Quiet.{IsPlaced, placed_says}
-use Rattle.judge_laws.proofs.Reading.{with_other, with_own}
-use Rattle.judge_laws.proofs.Recording.{after_is, id_of, judge_of, new_links, own_line, packets_next, same_line, vl_of}
-use Rattle.judge_laws.proofs.Silent.{IsSubSilent, ends_silent, silent_is_sent, sub_frames, sub_silent}
+use Rattle.judge_laws.proofs.Quiet.{IsPlaced, first_of_sub, placed_says}
+use Rattle.judge_laws.proofs.Reading.{back_none, with_other, with_own}
+use Rattle.judge_laws.proofs.Recording.{after_is, found_is, id_of, judge_of, line_given_up, new_links, own_line, packets_next, same_line, setting_at, vl_of}
+use Rattle.judge_laws.proofs.Silent.{AreClear, AreHeard, IsSubSilent, ends_silent, heard, silent_is_sent, sub_frames, sub_silent, tag_for}
 use Rattle.judge_laws.proofs.Whole.{time_is}
+
+-- ---- a link
+
+-- nothing is wrong with a frame on its link
+pub record IsLinkSilent (setting : Setting) (tag : Tag) (port : Option PortPlan) (frame : List ℕ) (link : Link) (found : List Finding) : Type 0 where
+  pub sized : size_deviation setting.plan (length frame) ≡ None
+  pub wrong : verdict setting.measure port (arrived setting.measure tag port frame (line_on tag.net link)) (line_on tag.net link) ≡ faultless
+  pub none : found ≡ []
+
+pub link_none : (setting : Setting) (tag : Tag) (port : Option PortPlan) (frame : List ℕ) (link : Link) (found : List Finding)
+    → found_on_link setting tag port frame link found ≡ [] → IsLinkSilent setting tag port frame link found
+unfolding found_on_link with_verdict found_missing
+link_none setting tag port frame link found none = grind (arith, nat_tests, back_none, line_given_up, nil_begins, cases_Bool)
+
+-- ---- packets
+
+timed_none : (net : Net) (number : ℕ) (packet : Recorded) (j : Judging) (found : List Finding) (at : Option ℕ)
+    → found_timed net number packet j found at ≡ [] → found ≡ []
+unfolding found_of_arrival
+timed_none net number packet j found at none = grind (arith, nat_tests, nil_begins, admitted, link_none, cases_Bool)
+
+end_none : (nearness : Nearness) (at : ℕ) (plans : List LinkPlan) (links : List Link) (found : List Finding)
+    → found_left nearness at plans links found ≡ [] → found ≡ []
+unfolding found_at_end
+end_none nearness at [] links found none = none
+end_none nearness at (plan ∷ plans) [] found none = none
+end_none nearness at (plan ∷ plans) (link ∷ links) found none = nil_begins found _ (end_none nearness at plans links _ none)
+
+pub grows : (ps : List OnNet) (j : Judging) (found : List Finding) → found_from ps j found ≡ [] → found ≡ []
+unfolding found_with_end found_with_packet
+grows [] j found none = end_none _ _ j.plan.links j.links found none
+grows (p ∷ ps) j found none = timed_none p.net p.number p.packet j found p.packet.at
+    (grows ps (after_packet p.net p.number p.packet j) (found_with_packet p.net p.number p.packet j found) none)
+
+-- ---- a packet
+
+-- its frame is the packet whole, and of the layout
+frame_says : (options : Options) (packet : Recorded) (frame : List ℕ) → options.fcs ≡ false → frame_in (of_profile options) packet ≡ Ok frame
+    → (frame ≡ packet.bytes) × (layout_broken false packet.bytes ≡ None)
+unfolding frame_in unchecked
+frame_says options packet frame plain is = grind (arith, nat_tests, cases_Bool)
+
+-- a packet in which nothing is found
+pub record IsPacketSilent (plan : Plan) (options : Options) (times : Times) (links : List Link) (net : Net) (number : ℕ) (packet : Recorded) : Type 0 where
+  pub at : ℕ
+  pub timed : packet.at ≡ Some at
+  pub k : ℕ
+  pub whole : frame_in (of_profile options) packet ≡ Ok packet.bytes
+  pub placed : place_of plan net packet.bytes ≡ Ok k
+  pub layout : layout_broken false packet.bytes ≡ None
+  pub sized : size_deviation (link_plan_at plan.links k) (length packet.bytes) ≡ None
+  pub wrong : IsFaultless plan k options (tag_of net number at) packet.bytes (line_on net (link_at links k))
+
+-- a packet without a finding has a time, and is admitted
+seen : (plan : Plan) (options : Options) (times : Times) (links : List Link) (net : Net) (number : ℕ) (packet : Recorded) (time : Option ℕ)
+    → found_timed net number packet (judge_of plan options times false links) [] time ≡ [] → (at : ℕ) × (time ≡ Some at) × (it : Admitted)
+    × (admitted net packet (judge_of plan options (times_with at times) false links) ≡ Ok it)
+seen plan options times links net number packet time none = grind (arith, nat_tests)
+
+admitted_says : (plan : Plan) (net : Net) (frame : Result (List ℕ) Refused) (it : Admitted) → placed plan net frame ≡ Ok it
+    → (frame ≡ Ok it.frame) × (place_of plan net it.frame ≡ Ok it.place)
+admitted_says plan net frame it is = grind (arith, nat_tests)
+
+silent_as : (plan : Plan) (options : Options) (times : Times) (links : List Link) (net : Net) (number : ℕ) (packet : Recorded) (at k : ℕ)
+    (frame : List ℕ) → options.fcs ≡ false → packet.at ≡ Some at → frame_in (of_profile options) packet ≡ Ok frame
+    → place_of plan net frame ≡ Ok k
+    → found_with_packet net number packet (judge_of plan options times false links) [] ≡ []
+    → IsPacketSilent plan options times links net number packet
+silent_as plan options times links net number packet at k frame plain timed is on none =
+    let says = frame_says options packet frame plain is in
+    let whole : frame_in (of_profile options) packet ≡ Ok packet.bytes = rw says.0 at is in
+    let placed : place_of plan net packet.bytes ≡ Ok k = rw says.0 at on in
+    let silent = link_none (setting_at plan options at times k) (tag_of net number at) (port_at plan k packet.bytes) packet.bytes (link_at links k) []
+    (sym (found_is plan options times false links net number at packet packet.bytes k timed whole placed []) ∙ none) in
+    record {
+      at = at;
+      timed = timed;
+      k = k;
+      whole = whole;
+      placed = placed;
+      layout = says.1;
+      sized = silent.sized;
+      wrong = silent.wrong;
+    }
+
+pub packet_silent : (plan : Plan) (options : Options) (times : Times) (links : List Link) (net : Net) (number : ℕ) (packet : Recorded)
+    → options.fcs ≡ false → found_with_packet net number packet (judge_of plan options times false links) [] ≡ []
+    → IsPacketSilent plan options times links net number packet
+unfolding found_with_packet admitted
+packet_silent plan options times links net number packet plain none =
+    let it = seen plan options times links net number packet packet.at none in
+    let says = admitted_says plan net (frame_in (of_profile options) packet) it.2 it.3 in
+    silent_as plan options times links net number packet it.0 it.2.place it.2.frame plain it.1 says.0 says.1 none
 
 same_is : (m n : Net) → same_net m n ≡ true → m ≡ n
 same_is A A is = refl
@@ -62,7 +156,8 @@ module _ (plan : Plan) (options : Options) (times : Times) (links : List Link) (
 
   pub clear_next : (ps : List OnNet) (k : ℕ) (m : Net) → k < length plan.links
       → ((n : Net) → AreClear plan k options n (line_on n (link_at links_now k)) (own_packets plan k (packets_of n ps)))
-      → AreClear plan k options m (line_on m (link_at links k)) (own_packets plan k (packets_of m (record { net = net; number = number; packet = packet } ∷ ps)))
+      → AreClear plan k options m (line_on m (link_at links k))
+      (own_packets plan k (packets_of m (record { net = net; number = number; packet = packet } ∷ ps)))
   clear_next ps k m within later = grind (arith, packets_next, cases_Bool, same_is, cases_eq, its_place, clear_own, line_same, with_other, with_own)
 
 -- ---- a recording
@@ -78,7 +173,8 @@ pub record IsPlacedAt (plan : Plan) (net : Net) (r : Recorded) : Type 0 where
   pub layout : layout_broken false r.bytes ≡ None
 
 pub record AreSilent (plan : Plan) (options : Options) (links : List Link) (ps : List OnNet) : Type 0 where
-  pub clear : (k : ℕ) (net : Net) → k < length plan.links → AreClear plan k options net (line_on net (link_at links k)) (own_packets plan k (packets_of net ps))
+  pub clear : (k : ℕ) (net : Net) → k < length plan.links
+      → AreClear plan k options net (line_on net (link_at links k)) (own_packets plan k (packets_of net ps))
   pub placed : (net : Net) → All (IsPlacedAt plan net) (packets_of net ps)
 
 pub are_silent : (plan : Plan) (options : Options) (times : Times) (links : List Link) (ps : List OnNet) → IsPlan plan → options.fcs ≡ false
@@ -132,7 +228,8 @@ some_pass f g m n (x ∷ xs) zero d inside first second none =
 some_pass f g m n (x ∷ xs) (suc i) d inside first second none =
     some_pass f g m n xs i d (omega arith) first second (later_none f g m n x xs none)
 
-none_pass : {X : Type 0} (f : X → ℕ) (n : ℕ) (xs : List X) → ((i : ℕ) (d : X) → i < length xs → f (get_or xs i d) ≡ n → ⊥) → those_with f n xs ≡ []
+none_pass : {X : Type 0} (f : X → ℕ) (n : ℕ) (xs : List X) → ((i : ℕ) (d : X) → i < length xs → f (get_or xs i d) ≡ n → ⊥)
+    → those_with f n xs ≡ []
 none_pass f n [] none = refl
 none_pass f n (x ∷ xs) none = rw (ne_eqb (f x) n (none 0 x (omega arith))) (none_pass f n xs (λ i d inside. none (suc i) d (omega arith)))
 

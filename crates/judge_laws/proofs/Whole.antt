@@ -175,7 +175,8 @@ goes_silent : (plan : Plan) (origin : ℕ) (options : Options) (times : Times) (
 unfolding found_with_end
 goes_silent plan origin options times told links [] rest latest found valid fit wide is twins pairs order zip =
     none_left _ _ plan.links links found
-    (none_waits plan origin options latest links rest is.size pairs (λ net. all_came origin options (rest net) (zip_of origin options (rest net) [] (zip net))))
+    (none_waits plan origin options latest links rest is.size pairs
+    (λ net. all_came origin options (rest net) (zip_of origin options (rest net) [] (zip net))))
 goes_silent plan origin options times told links (p ∷ ps) rest latest found valid fit wide is twins pairs order zip =
     let next = recorded_next origin options (λ net. []) rest p ps zip in
     let t = packet_taken plan origin options times told links p.net p.number p.packet next.first next.later rest valid fit is next.is
@@ -183,7 +184,8 @@ goes_silent plan origin options times told links (p ∷ ps) rest latest found va
     let met = copies_go_on plan origin options times told links p.net p.number p.packet next.first next.later rest fit next.is t twins in
     let time : time_of p.packet ≡ t.at = time_is p.packet t.at t.timed in
     let up : latest ≤ t.at = rw time at order.0 in
-    let limits = λ (m : Net). open_records origin t.at options m (p ∷ ps) (rest m) (rw time (le_refl t.at), order.1) (zip_of origin options (rest m) (packets_of m (p ∷ ps)) (zip m)) in
+    let limits = λ (m : Net). open_records origin t.at options m (p ∷ ps) (rest m) (rw time (le_refl t.at), order.1)
+    (zip_of origin options (rest m) (packets_of m (p ∷ ps)) (zip m)) in
     let given = given_up_none plan origin options times told links p.net p.number p.packet next.first next.later rest latest fit wide next.is t up
     limits pairs found in
     rw (t.after, t.found found met.0, given) (goes_silent plan origin options (times_with t.at times) told t.new ps (rest_after p.net next.later rest)

@@ -31,7 +31,8 @@ recorded origin t at options net frame plain least most =
 
 -- the two frames of a network, recorded at these times
 pair_zip : (origin now first second : ℕ) (options : Options) (net : Net) → options.fcs ≡ false
-    → (origin ≤ first) × (first ≤ origin + 1000 * options.jitter) × (origin + 1000 * now ≤ second) × (second ≤ origin + 1000 * (now + options.jitter))
+    → (origin ≤ first) × (first ≤ origin + 1000 * options.jitter) × (origin + 1000 * now ≤ second)
+    × (second ≤ origin + 1000 * (now + options.jitter))
     → AllZip (IsRecord origin options) (pair_at now net)
     ((packet net first (one_frame net)).packet ∷ (packet net second (second_frame net)).packet ∷ [])
 pair_zip origin now first second options net plain times = grind (arith, nat_tests, recorded, one_frame)
@@ -42,7 +43,8 @@ whole_run origin options es packets zip =
     record { before = []; recorded = es; after = []; whole = sym (append-nil es); first = λ early. refl; each = zip }
 
 pair_run : (origin now first second : ℕ) (options : Options) (net : Net) → options.fcs ≡ false
-    → (origin ≤ first) × (first ≤ origin + 1000 * options.jitter) × (origin + 1000 * now ≤ second) × (second ≤ origin + 1000 * (now + options.jitter))
+    → (origin ≤ first) × (first ≤ origin + 1000 * options.jitter) × (origin + 1000 * now ≤ second)
+    × (second ≤ origin + 1000 * (now + options.jitter))
     → IsRunOf origin options (pair_at now net) ((packet net first (one_frame net)).packet ∷ (packet net second (second_frame net)).packet ∷ [])
 pair_run origin now first second options net plain times = whole_run origin options _ _ (pair_zip origin now first second options net plain times)
 
