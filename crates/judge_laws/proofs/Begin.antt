@@ -1,9 +1,9 @@
 -- A judge before the first packet of a recording, and the law: of what was sent legally it finds nothing but missing twins.
 use Rattle.judge_laws.proofs.Names.{A, Accepted, All, All-drop, All-filter, All-nil, All-weaker, AreAllowed, AreKnown, B, Bool, Entry, Finding, IsKnown, IsLegalOn, IsNumbered, IsPlan, IsSpaced, Link, LinkPlan, List, Nearness, Net}
-use Rattle.judge_laws.proofs.Names.{None, OnNet, Option, Options, Plan, Setting, Some, Stamp, Tag, TakeTurnsOn, TakesTurns, Times, ap, append_assoc, arith, bag_micros, blanked, cases_Bool, cases_lt, drop_at, entry, entry_number}
-use Rattle.judge_laws.proofs.Names.{eqb-true, false, filter, findings, found_at_end, found_from, found_given_up, found_left, found_missing, found_with_end, get_or-replicate, get_or_default, inl, inr, is_both, known_all, latest}
-use Rattle.judge_laws.proofs.Names.{length, length-replicate, line_on, link_at, link_in, link_plan_at, link_stream, map, map-append, nat_eq, nat_tests, new_line, new_link, new_sub, no_times, number_in, on_both, on_both_is, refl}
-use Rattle.judge_laws.proofs.Names.{replicate, side, stamp_of, stream_front, sub_at, sub_in, sub_stream, subst, suc, sym, tag_of, take, times_with, told, true, twin_same, with_append, zero, ℕ, [], ◌++◌, ◌+◌, ◌<◌, ◌∙◌, ◌∷◌, ◌≡◌, ◌≤◌}
+use Rattle.judge_laws.proofs.Names.{None, OnNet, Option, Options, Plan, Setting, Some, Stamp, Tag, TakeTurnsOn, TakesTurns, Times, ap, append_assoc, arith, bag_micros, cases_Bool, cases_lt, drop_at, entry, entry_number, eqb-true}
+use Rattle.judge_laws.proofs.Names.{false, filter, findings, found_at_end, found_from, found_given_up, found_left, found_missing, found_with_end, get_or-replicate, get_or_default, inl, inr, is_both, known_all, latest, length}
+use Rattle.judge_laws.proofs.Names.{length-replicate, line_on, link_at, link_in, link_plan_at, link_stream, map, map-append, nat_eq, nat_tests, new_line, new_link, new_sub, no_times, number_in, on_both, on_both_is, refl, replicate}
+use Rattle.judge_laws.proofs.Names.{side, stamp_of, stream_front, sub_at, sub_in, sub_stream, subst, suc, sym, tag_of, take, times_with, told, true, twin_same, with_append, zero, ℕ, [], ◌++◌, ◌+◌, ◌<◌, ◌∙◌, ◌∷◌, ◌≡◌, ◌≤◌}
 use Rattle.judge_laws.specs.NoFalseAlarm.{AreFit, IsMissing, IsRunOf, IsSent, NoFalseAlarm, packets_of}
 use Rattle.judge_laws.proofs.Copies.{AreCopied, IsCopy, IsStream, IsWait, all_copies, all_missing, copies_go_on}
 use Rattle.judge_laws.proofs.Line.{AreDue, IsAhead, IsLine, of_profile, own_sub}
@@ -36,9 +36,6 @@ goes_on_from gap i before (x ∷ xs) ys numbered spaced turns =
 known_on : (links : List LinkPlan) (net : Net) (xs ys : List Entry) → AreKnown links net (xs ++ ys) → AreKnown links net ys
 known_on links net [] ys known = known
 known_on links net (x ∷ xs) ys known = known_on links net xs ys known.1
-
-told_both : (s : ℕ) (xs ys : List Entry) → told (sub_stream s (xs ++ ys)) ≡ told (sub_stream s xs) ++ told (sub_stream s ys)
-told_both s xs ys = rw (with_append (λ (e : Entry). sub_in e.frame) s xs ys) (map-append (λ (e : Entry). blanked e.frame) _ _)
 
 all_on : {X : Type 0} (P : X → Type 0) (xs ys : List X) → All P (xs ++ ys) → All P ys
 all_on P xs ys all = rw (drop_at xs ys (length xs) refl) at (All-drop P (length xs) (xs ++ ys) all)
@@ -82,7 +79,12 @@ line_begins plan accepted k origin options net before rest valid inside legal al
           more = all.0;
           awaiting = awaits plan k s net options.late (accepted k s) (told (sub_stream s sent)) (told (sub_stream s own) ++ all.0)
               valid inside index (allowed k s inside index)
-              (sym all.1 ∙ rw (split, told_both s sent own, append_assoc) refl) (λ early. rw (first early) refl);
+              (sym all.1 ∙ rw (
+                split,
+                with_append (λ (e : Entry). sub_in e.frame) s sent own,
+                map-append,
+                append_assoc,
+              ) refl) (λ early. rw (first early) refl);
         }
 
 -- ---- the streams of a link on both networks
@@ -226,10 +228,7 @@ left_missing nearness at (plan ∷ plans) (link ∷ links) found all =
 all_given_up : (setting : Setting) (tag : Tag) (number : ℕ) (link : Link) (found : List Finding) → All IsMissing found
     → All IsMissing (found_given_up setting tag number link found)
 unfolding found_missing
-all_given_up setting tag number link found all = elim (cases_Bool (is_both setting.plan.networks)) [
-  | inl both ↦ rw both (all_missing setting.plan.id _ found all)
-  | inr one ↦ rw one all
-]
+all_given_up setting tag number link found all = grind (arith, cases_Bool, all_missing)
 
 goes_on : (plan : Plan) (origin : ℕ) (options : Options) (times : Times) (told : Bool) (links : List Link) (recording : List OnNet)
     (after rest : Net → List Entry) (found : List Finding) → IsPlan plan → AreFit plan options → IsGoing plan origin options links rest

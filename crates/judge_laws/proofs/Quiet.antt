@@ -82,11 +82,7 @@ pub tells_whole : (end_system : ℕ) (port : PortPlan) (given : List ℕ) (head 
 unfolding datagram
 tells_whole end_system port given head is_port tells none =
     let said = none_says (length given) head none in
-    record {
-      datagram_is = rw (header_back end_system port given head is_port tells none) (parts given tells.long);
-      some = omega (arith, length-drop 8 given);
-      most = omega (arith, length-drop 8 given, ap (λ (p : PortPlan). p.max) tells.port_is);
-    }
+    grind (arith, nat_tests, said, header_back, parts, length-drop, tells.port_is)
 
 -- The judge finds nothing in a frame of bytes. Its header checksum isn't 65,535, which no sender computes: a receiver, and
 -- the judge, take it for 0.

@@ -142,10 +142,7 @@ module _ (end_system : ℕ) (port : PortPlan) (message : List ℕ) (place : ℕ)
 
   address_at : IsPort port → (j : ℕ) → j < 4 → slice_index frame (30 + j) ≡ get_or (destination_address port) j 0
   unfolding addresses
-  address_at is j below =
-      let there : 26 + (4 + j) ≡ 30 + j = omega arith in
-      rw (← there) (part_at frame (addresses end_system port) 8 26 (4 + j) (ends_are is) (omega arith)
-      ∙ sym (get_or-drop 4 (addresses end_system port) j 0))
+  address_at is j below = grind (arith, part_at frame (addresses end_system port) 8 26 (4 + j), ends_are, get_or-drop)
 
   header_at : IsPort port → IsPiece (length message) piece → piece.start ≡ 0 → (j : ℕ) → j < 8
       → slice_index frame (34 + j) ≡ get_or (udp_header end_system port message) j 0

@@ -175,11 +175,6 @@ pub record IsResumed (plan : Plan) (k s : ℕ) (net : Net) (place : ℕ) (frames
 piece_again : (room n start : ℕ) (piece : Piece) → IsNext room n start piece → piece_at room n start ≡ piece
 piece_again room n start piece next = grind (arith, lt-ltb, le-ltb)
 
--- a whole message is due no longer
-past_end : (plan : Plan) (k : ℕ) (net : Net) (sent : Sent) (place start : ℕ) (later : List Sent) → 8 + length sent.bytes ≤ start
-    → due_from plan k net sent place start later ≡ fragments_from plan.end_system (room_at plan k) net (suc place) later
-past_end plan k net sent place start later over = rw (left_none (room_at plan k) (cut_at sent place start) over) refl
-
 -- what silence tells, between messages and within one
 record Tidings (plan : Plan) (k s : ℕ) (net : Net) (last : Joining) (frames : List (List ℕ)) : Type 0 where
   between : (place : ℕ) (joining : Joining) → IsBetween s place joining → IsSilent plan k s net joining frames last
@@ -289,8 +284,8 @@ module _ {plan : Plan} {k s : ℕ} {net : Net} {place : ℕ} {given : List ℕ} 
         most = told.most;
       }) (record { start_is = brings.start; len_is = inr (last, omega arith, omega arith) })
       (λ some. omega (arith, cut_len.1 last (omega (arith, brings.start)))) rest.allowed
-      (rest.frames_are ∙ sym (past_end plan k net (record { port = port; bytes = bytes }) place (length given + (piece_in frame).len)
-      rest.accepted (omega arith)))
+      (rw (left_none (room_at plan k) (cut_at (record { port = port; bytes = bytes }) place (length given + (piece_in frame).len)) (omega arith))
+      rest.frames_are)
 
   -- a frame that brings a piece, and silent ones after it
   tidings_more : {last : Joining} {fs : List (List ℕ)} → Tidings plan k s net last fs → IsSilent plan k s net (joining_after plan k frame joining) fs last
