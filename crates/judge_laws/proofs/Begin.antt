@@ -79,12 +79,8 @@ line_begins plan accepted k origin options net before rest valid inside legal al
           more = all.0;
           awaiting = awaits plan k s net options.late (accepted k s) (told (sub_stream s sent)) (told (sub_stream s own) ++ all.0)
               valid inside index (allowed k s inside index)
-              (sym all.1 ∙ rw (
-                split,
-                with_append (λ (e : Entry). sub_in e.frame) s sent own,
-                map-append,
-                append_assoc,
-              ) refl) (λ early. rw (first early) refl);
+              (sym all.1 ∙ rw (split, with_append (λ (e : Entry). sub_in e.frame) s sent own, map-append, append_assoc) refl)
+              (λ early. rw (first early) refl);
         }
 
 -- ---- the streams of a link on both networks
