@@ -5,7 +5,7 @@ use Rattle.afdx_plan.specs.Config.{Plan}
 use Rattle.capture.specs.Recording.{Recording, read_capture}
 use Rattle.judge.specs.Judging.{findings}
 use Rattle.judge.specs.declared.finding.Finding.{Finding}
-use Rattle.judge_captures.specs.Merging.{from_places}
+use Rattle.judge.specs.Merging.{from_places}
 use Rattle.afdx_handle.specs.Listing.{with_front}
 use Rattle.afdx_handle.specs.Rows.{row_of, captured_of, options_of}
 use Rattle.afdx_handle.specs.declared.answer.TheConstants.{DONE, MEMORY, SMALL_BUFFER, BAD_CAPTURE}

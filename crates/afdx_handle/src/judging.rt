@@ -3,7 +3,7 @@ ghost use Rattle.std.specs.Prelude.{◌≡◌, ◌≢◌, length};
 ghost use Rattle.afdx_config.specs.Faults.{IsLeastFault};
 ghost use Rattle.afdx_plan.specs.declared.fault.ConfigFault.{ConfigFault};
 ghost use Rattle.afdx_plan.specs.PlanFaults.{fault_number};
-ghost use Rattle.capture.specs.Whole.{recording_of};
+ghost use Rattle.capture.specs.Recording.{recording_of};
 ghost use Rattle.afdx_handle.specs.Judged.{IsJudged, Judges, IsRefused, answer_of};
 
 use crate::answer::{BAD_CAPTURE, DONE, MEMORY, SMALL_BUFFER};
@@ -11,7 +11,7 @@ use crate::rows::{Captured, FindingRow, JudgeOptions, captured_of, write_rows};
 use afdx_config::read_config;
 use afdx_plan::Config;
 use capture::{Recording, read_capture};
-use judge_captures::judge_packets;
+use judge::judge_packets;
 use std::alloc::Global;
 
 /// How many findings there are, and what was read of the captures of the two networks; of one of both, the same twice.

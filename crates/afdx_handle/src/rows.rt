@@ -1,6 +1,6 @@
 //! Findings and what was read of captures, in the layout of C.
 ghost use Rattle.std.specs.Prelude.{◌≡◌, map, length, take};
-ghost use Rattle.capture.specs.Whole.{recording_of};
+ghost use Rattle.capture.specs.Recording.{recording_of};
 ghost use Rattle.afdx_handle.specs.Listing.{with_front};
 ghost use Rattle.afdx_handle.specs.Rows.{rule_number, row_of, captured_of, options_of};
 

@@ -8,3 +8,4 @@ mod SoFar
 mod Steps
 mod Times
 mod Written
+mod Names

@@ -1,10 +1,6 @@
 -- The frames of two networks in order, one after the other, which is that of their times.
-use Rattle.std.proofs.Common.{◌≡◌, ◌≤◌, Bool, true, false, List, [], ◌∷◌, map, refl, arith, ℕ}
-use Rattle.std.specs.Prelude.{nat_lt, if◌then◌else◌}
+use Rattle.capture.proofs.Names.{A, B, Bool, Captured, Entry, IsInTime, List, RiseFrom, arith, before_others, captured_moments, false, if◌then◌else◌, in_order, map, moments, nat_lt, next_net, on, refl, true, [], ℕ, ◌∷◌, ◌≡◌, ◌≤◌}
 use borrow.Author.Tests.{ltb-true, ltb-false}
-use Rattle.afdx_frame.specs.declared.net.Net.TheVariants.{A, B}
-use Rattle.redundant_mux.specs.Lines.{Entry}
-use Rattle.capture.specs.Order.{Captured, on, before_others, in_order, next_net, RiseFrom, moments, captured_moments, IsInTime}
 
 -- a frame that comes next is the first
 pub order_a : (xs bs rest : List Entry) (e : Entry) → A ≡ next_net xs bs → xs ≡ e ∷ rest

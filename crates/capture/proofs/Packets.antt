@@ -1,8 +1,5 @@
 -- The blocks of packets.
-use Rattle.std.proofs.Common.{◌≡◌, ℕ, ◌+◌, ◌++◌, length, length-append, append_assoc, arith}
-use Rattle.std.proofs.lemmas.List.{length-replicate}
-use Rattle.redundant_mux.specs.Lines.{Entry}
-use Rattle.capture.specs.Capture.{word, fill, filled, block, packet_body, packet_front}
+use Rattle.capture.proofs.Names.{Entry, append_assoc, arith, block, fill, filled, length, length-append, length-replicate, packet_body, packet_front, word, ℕ, ◌++◌, ◌+◌, ◌≡◌}
 
 -- how many bytes are in a packet
 pub length-packet_body : (interface : ℕ) (e : Entry)

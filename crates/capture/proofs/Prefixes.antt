@@ -1,20 +1,8 @@
 -- A step reads no byte past its unit, so it is the same whatever follows the bytes that it was given.
-use Rattle.std.proofs.Common.{◌≡◌, ℕ, ◌+◌, ◌≤◌, Bool, true, false, List, ◌++◌, length, take, drop, refl, length-append, length-drop, Result, Ok, Err, arith}
-use Rattle.std.specs.Prelude.{nat_lt}
-use Rattle.std.proofs.lemmas.List.{drop-append-le, take-append-le}
-use Rattle.std.proofs.lemmas.Bool.{le-ltb, ltb-false}
-use Rattle.byteorder.specs.Numbers.{big_from-append, little_from-append}
-use Rattle.capture.specs.Interfaces.{◌>>=◌}
-use Rattle.capture.specs.Recording.{Progress, Moved, moved, content_of, with_bytes, next}
-use Rattle.capture.specs.Units.{number_at, unit_of, section_unit, header_unit, size_of}
-use Rattle.capture.specs.declared.order.Order.{Order}
-use Rattle.capture.specs.declared.order.Order.TheVariants.{Little, Big}
-use Rattle.capture.specs.declared.stop.Stop.{Stop}
-use Rattle.capture.specs.declared.stop.Stop.TheVariants.{More}
-use Rattle.capture.specs.declared.unit.Format.{Format}
-use Rattle.capture.specs.declared.unit.Format.TheVariants.{Unknown, Blocks, Records}
+use Rattle.capture.proofs.Names.{Big, Block, Blocks, Bool, Err, Format, Header, List, Little, More, Moved, Ok, Order, Progress, Record, Records, Result, Section, Stop, Unknown, arith, big_from-append, content_of, drop, drop-append-le}
+use Rattle.capture.proofs.Names.{false, header_unit, le-ltb, length, length-append, length-drop, little_from-append, ltb-false, moved, nat_lt, next, number_at, or_stop, refl, section_unit, size_of, take, take-append-le, true, unit_of}
+use Rattle.capture.proofs.Names.{with_bytes, ℕ, ◌++◌, ◌+◌, ◌>>=◌, ◌≡◌, ◌≤◌}
 use Rattle.capture.specs.declared.unit.Unit.{Unit as CaptureUnit}
-use Rattle.capture.specs.declared.unit.Unit.TheVariants.{Section, Block, Header, Record}
 
 -- a number that is within the bytes
 pub number_at-append : (order : Order) (n i : ℕ) (bytes more : List ℕ) → i + n ≤ length bytes
@@ -83,10 +71,10 @@ then-same (Err stop) f g other same = refl
 -- a step from its unit's length on, and from its unit on
 abbrev pub from_size : Progress → List ℕ → CaptureUnit → ℕ → Result Moved Stop
 from_size p bytes unit size =
-    with_bytes size bytes (content_of p unit (take size bytes) >>= (λ does. Ok (moved size does)))
+    with_bytes size bytes (or_stop (content_of p unit (take size bytes)) >>= (λ does. Ok (moved size does)))
 
 abbrev pub from_unit : Progress → List ℕ → CaptureUnit → Result Moved Stop
-from_unit p bytes unit = size_of unit bytes >>= from_size p bytes unit
+from_unit p bytes unit = or_stop (size_of unit bytes) >>= from_size p bytes unit
 
 -- the step is the same
 pub next-append : (p : Progress) (bytes more : List ℕ) → (next p bytes ≡ Err More → ⊥)
@@ -94,12 +82,12 @@ pub next-append : (p : Progress) (bytes more : List ℕ) → (next p bytes ≡ E
 unfolding next
 next-append p bytes more other =
     let all : List ℕ = bytes ++ more in
-    with_bytes-append 12 bytes more (unit_of p.format bytes >>= from_unit p bytes)
-    (unit_of p.format all >>= from_unit p all) other (λ enough other_unit.
+    with_bytes-append 12 bytes more (or_stop (unit_of p.format bytes) >>= from_unit p bytes)
+    (or_stop (unit_of p.format all) >>= from_unit p all) other (λ enough other_unit.
     rw (unit_of-append p.format bytes more enough)
-    (then-same (unit_of p.format bytes) (from_unit p bytes) (from_unit p all) other_unit (λ unit other_size.
+    (then-same (or_stop (unit_of p.format bytes)) (from_unit p bytes) (from_unit p all) other_unit (λ unit other_size.
     rw (size_of-append unit bytes more enough)
-    (then-same (size_of unit bytes) (from_size p bytes unit) (from_size p all unit) other_size (λ size other_does.
-    with_bytes-append size bytes more (content_of p unit (take size bytes) >>= (λ does. Ok (moved size does)))
-    (content_of p unit (take size all) >>= (λ does. Ok (moved size does))) other_does
+    (then-same (or_stop (size_of unit bytes)) (from_size p bytes unit) (from_size p all unit) other_size (λ size other_does.
+    with_bytes-append size bytes more (or_stop (content_of p unit (take size bytes)) >>= (λ does. Ok (moved size does)))
+    (or_stop (content_of p unit (take size all)) >>= (λ does. Ok (moved size does))) other_does
     (λ within last. rw (take-append-le size bytes more within) refl))))))

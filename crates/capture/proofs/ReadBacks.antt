@@ -1,19 +1,8 @@
 -- What was written is read back.
-use Rattle.std.proofs.Common.{◌≡◌, ℕ, ◌+◌, List, [], ◌∷◌, ◌++◌, map, length, Some, Ok, refl, sym, ap, ◌∙◌, append_assoc, arith}
-use Rattle.std.specs.Prelude.{codes, All}
-use Rattle.std.proofs.lemmas.List.Elements.{All-head, All-tail}
-use Rattle.std.proofs.lemmas.List.{drop_all}
-use Rattle.afdx_frame.specs.declared.net.Net.TheVariants.{A, B}
-use Rattle.redundant_mux.specs.Lines.{Entry}
-use Rattle.capture.specs.Capture.{word, half, section_block, interface_block, packet_block, packet_blocks, header_blocks, interface_of, packet_body}
-use Rattle.capture.specs.Order.{Captured, in_order}
-use Rattle.capture.specs.ReadBack.{Fits, ReadsBack, packet_for, packets_on}
-use Rattle.capture.specs.Recording.{Progress, Content, Recorded, moved, content, no_packet, at_start, section_content, interface_content, block_content, content_of, body_of, next, with_packet, read_capture, read_from, read_within}
-use Rattle.capture.specs.Interfaces.{with_options, first_option, with_option}
-use Rattle.capture.specs.Units.{unit_of, section_unit, size_of, block_size}
-use Rattle.capture.specs.declared.end.End.TheVariants.{Whole}
-use Rattle.capture.specs.declared.order.Order.TheVariants.{Little}
-use Rattle.capture.specs.declared.unit.Format.TheVariants.{Blocks}
+use Rattle.capture.proofs.Names.{A, All, All-head, All-tail, B, Blocks, Captured, Content, Entry, Fits, List, Little, Ok, Progress, ReadsBack, Recorded, Some, Whole, ap, append_assoc, arith, at_start, block_content, block_size, body_of}
+use Rattle.capture.proofs.Names.{codes, content, content_of, drop_all, first_option, half, header_blocks, in_order, interface_block, interface_content, interface_of, length, map, moved, next, no_packet, packet_block, packet_blocks}
+use Rattle.capture.proofs.Names.{packet_body, packet_for, packets_on, read_capture, read_from, read_within, refl, section_block, section_content, section_unit, size_of, sym, unit_of, with_option, with_options, with_packet, word, [], ℕ}
+use Rattle.capture.proofs.Names.{◌++◌, ◌+◌, ◌∙◌, ◌∷◌, ◌≡◌}
 use Rattle.capture.proofs.Orders.{Merges, none, next_a, next_b, order_merges}
 use Rattle.capture.proofs.Packets.{length-packet_body}
 use Rattle.capture.proofs.Steps.{steps_on}

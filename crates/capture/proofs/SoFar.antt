@@ -1,12 +1,7 @@
 -- Packets that were read, and those that follow them.
-use Rattle.std.proofs.Common.{◌≡◌, ℕ, ◌+◌, ◌-◌, ◌≤◌, List, [], ◌∷◌, ◌++◌, map, length, drop, Option, Some, None, refl, sym, ap, ◌∙◌, append_assoc, append-nil, length-drop, Ok, Err, arith}
-use Rattle.std.specs.Prelude.{slice_range}
-use Rattle.std.proofs.lemmas.List.{map-append, drop-drop, take_all}
+use Rattle.capture.proofs.Names.{End, Err, List, None, Ok, Option, Packet, Progress, Recorded, Recording, Some, Stop, ap, append-nil, append_assoc, arith, at_start, content, drop, drop-drop, ended, length, length-drop, map, map-append}
+use Rattle.capture.proofs.Names.{moved, next, read_capture, read_from, read_within, recorded, recorded_if, refl, slice_range, sym, take_all, with_packet, [], ℕ, ◌++◌, ◌+◌, ◌-◌, ◌∙◌, ◌∷◌, ◌≡◌, ◌≤◌}
 use Rattle.capture.proofs.Steps.{steps_on, used_of}
-use Rattle.capture.specs.Recording.{Progress, Recorded, Recording, moved, content, recorded, recorded_if, at_start, next, ended, with_packet, read_within, read_from, read_capture}
-use Rattle.capture.specs.declared.end.End.{End}
-use Rattle.capture.specs.declared.packet.Packet.{Packet}
-use Rattle.capture.specs.declared.stop.Stop.{Stop}
 
 -- packets in front of a recording
 abbrev pub after_packets : List Recorded → Recording → Recording
@@ -16,9 +11,6 @@ after_packets packets rest = record rest { packets = packets ++ rest.packets }
 pub record HasRead (bytes : List ℕ) (used : ℕ) (p : Progress) (packets : List Packet) : Type 0 where
   pub within : used ≤ length bytes
   pub same : after_packets (map recorded packets) (read_from used p (drop used bytes)) ≡ read_capture bytes
-
-pub has_read_none : (bytes : List ℕ) → HasRead bytes 0 at_start []
-has_read_none bytes = record { within = omega arith; same = refl }
 
 -- the bytes that are left
 abbrev pub left_of : List ℕ → ℕ → List ℕ

@@ -1,24 +1,15 @@
 -- Reading on from a step.
-use Rattle.std.proofs.Common.{◌≡◌, ℕ, zero, suc, ◌+◌, ◌≤◌, ◌<◌, Bool, true, false, List, ◌++◌, length, take, drop, refl, ap, ◌∙◌, length-append, length-drop, Result, Ok, Err, arith}
-use Rattle.std.proofs.lemmas.List.{drop-append-le}
+use Rattle.capture.proofs.Names.{Block, Bool, Err, Fault, Header, List, Malformed, More, Moved, Ok, Progress, Record, Result, Section, StepsOn, Stop, StopsThere, ap, arith, block_size, content_of, drop, drop-append-le, false, length}
+use Rattle.capture.proofs.Names.{length-append, length-drop, ltb-false, moved, nat_lt, next, or_stop, read_within, record_size, refl, size_of, suc, take, then_read, true, unit_of, with_bytes, with_packet, zero, ℕ, ◌++◌, ◌+◌, ◌<◌, ◌>>=◌}
+use Rattle.capture.proofs.Names.{◌∙◌, ◌≡◌, ◌≤◌}
 use Rattle.capture.proofs.Prefixes.{next-append, from_size, from_unit}
-use Rattle.std.proofs.lemmas.Bool.{ltb-false}
-use Rattle.std.specs.Prelude.{nat_lt}
-use Rattle.capture.specs.Interfaces.{◌>>=◌}
-use Rattle.capture.specs.Units.{unit_of, size_of, block_size, record_size}
 use Rattle.capture.specs.declared.unit.Unit.{Unit as CaptureUnit}
-use Rattle.capture.specs.declared.unit.Unit.TheVariants.{Section, Block, Header, Record}
-use Rattle.capture.specs.Recording.{content_of, moved, with_bytes}
-use Rattle.capture.specs.Recording.{Progress, Moved, next, then_read, with_packet, read_within}
-use Rattle.capture.specs.Streaming.{StepsOn, StopsThere}
-use Rattle.capture.specs.declared.stop.Stop.{Stop}
-use Rattle.capture.specs.declared.stop.Stop.TheVariants.{More, Malformed}
 
 -- what it takes to give something
-then_ok : {X Y : Type 0} (first : Result X Stop) (f : X → Result Y Stop) (y : Y) → first >>= f ≡ Ok y
+then_ok : {X Y : Type 0} (first : Result X Fault) (f : X → Result Y Stop) (y : Y) → or_stop first >>= f ≡ Ok y
     → (x : X) × (first ≡ Ok x) × (f x ≡ Ok y)
 then_ok (Ok x) f y is = (x, refl, is)
-then_ok (Err stop) f y is = absurd (cc)
+then_ok (Err fault) f y is = absurd (cc)
 
 enough_ok : {Y : Type 0} (len : ℕ) (bytes : List ℕ) (inside : Result Y Stop) (y : Y)
     → with_bytes len bytes inside ≡ Ok y
@@ -43,10 +34,10 @@ pub used_of : (p : Progress) (bytes : List ℕ) (step : Moved) → next p bytes 
     → (12 ≤ step.used) × (step.used ≤ length bytes)
 unfolding next
 used_of p bytes step is =
-    let front = enough_ok 12 bytes (unit_of p.format bytes >>= from_unit p bytes) step is in
+    let front = enough_ok 12 bytes (or_stop (unit_of p.format bytes) >>= from_unit p bytes) step is in
     let unit = then_ok (unit_of p.format bytes) (from_unit p bytes) step front.1 in
     let size = then_ok (size_of unit.0 bytes) (from_size p bytes unit.0) step unit.2 in
-    let whole = enough_ok size.0 bytes (content_of p unit.0 (take size.0 bytes) >>= (λ does. Ok
+    let whole = enough_ok size.0 bytes (or_stop (content_of p unit.0 (take size.0 bytes)) >>= (λ does. Ok
     (moved size.0 does))) step size.2 in
     let does = then_ok (content_of p unit.0 (take size.0 bytes)) (λ does. Ok (moved size.0 does)) step whole.1 in
     let used : size.0 ≡ step.used = cc does.2 in

@@ -1,6 +1,5 @@
 -- Times of a very fine resolution.
-use Rattle.std.proofs.Common.{◌≡◌, ℕ, ◌/◌, ◌*◌, ◌^◌, ◌≤◌, ◌<◌, arith, sym}
-use Rattle.std.proofs.Math.Nat.{pow-le-pow_right, div-eq_of_lt}
+use Rattle.capture.proofs.Names.{arith, div-eq_of_lt, pow-le-pow_right, sym, ℕ, ◌*◌, ◌/◌, ◌<◌, ◌^◌, ◌≡◌, ◌≤◌}
 
 -- fewer units than a second has, each in nanoseconds, are no nanosecond
 pub less_divided : (ticks resolution : ℕ) → ticks < 2 ^ 64 → 38 < resolution → 0 ≡ ticks * 1000000000 / 10 ^ resolution

@@ -1,23 +1,7 @@
 -- The blocks that are written, as a reading takes them.
-use Rattle.std.proofs.Common.{◌≡◌, ℕ, ◌+◌, ◌-◌, ◌*◌, ◌/◌, ◌%◌, ◌^◌, ◌<◌, ◌≤◌, List, [], ◌∷◌, ◌++◌, length, drop, Some, Ok, refl, sym, ap, ◌∙◌, append-nil, length-append, eq-eqb, arith}
-use Rattle.std.specs.Prelude.{slice_range}
-use Rattle.std.proofs.lemmas.Bool.{le-ltb}
-use Rattle.std.proofs.lemmas.List.{take_all, drop-drop}
-use Rattle.std.proofs.Math.Seq.{take-append_seam, drop-append_seam}
-use Rattle.byteorder.specs.Numbers.{little_number-reads_back}
-use Rattle.afdx_frame.specs.declared.net.Net.{Net}
-use Rattle.afdx_frame.specs.declared.net.Net.TheVariants.{A, B}
-use Rattle.redundant_mux.specs.Lines.{Entry}
-use Rattle.capture.specs.Capture.{word, filled, block, interface_of, packet_body}
-use Rattle.capture.specs.Interfaces.{◌>>=◌, time_of, known, network_of}
-use Rattle.capture.specs.ReadBack.{Fits, packet_for}
-use Rattle.capture.specs.Recording.{Progress, moved, content_of, body_of, block_content, enhanced, next}
-use Rattle.capture.specs.Units.{number_at, section_type, unit_of, size_of, block_size}
-use Rattle.capture.specs.declared.interface.Interface.{Interface}
-use Rattle.capture.specs.declared.order.Order.TheVariants.{Little}
-use Rattle.capture.specs.declared.unit.Format.TheVariants.{Blocks}
-use Rattle.capture.specs.declared.unit.TheConstants.{GREATEST_UNIT}
-use Rattle.capture.specs.declared.unit.Unit.TheVariants.{Block}
+use Rattle.capture.proofs.Names.{A, B, Block, Blocks, Entry, Fits, GREATEST_UNIT, Interface, List, Little, Net, Ok, Progress, Some, ap, append-nil, arith, block, block_content, block_size, body_of, content_of, drop, drop-append_seam}
+use Rattle.capture.proofs.Names.{drop-drop, enhanced, eq-eqb, filled, interface_of, known, le-ltb, length, length-append, little_number-reads_back, moved, network_of, next, number_at, or_stop, packet_body, packet_for, refl, section_type}
+use Rattle.capture.proofs.Names.{size_of, slice_range, sym, take-append_seam, take_all, time_of, unit_of, word, [], ℕ, ◌%◌, ◌*◌, ◌++◌, ◌+◌, ◌-◌, ◌/◌, ◌<◌, ◌>>=◌, ◌^◌, ◌∙◌, ◌∷◌, ◌≡◌, ◌≤◌}
 use Rattle.capture.proofs.Packets.{length-packet_body}
 
 -- a reading in a little-endian section
@@ -85,7 +69,7 @@ step_is : (interfaces : List Interface) (bytes body : List ℕ) (kind to : ℕ) 
     → (kind ≡ section_type → ⊥) → number_at Little 4 4 bytes ≡ to + 4 → length bytes ≡ to + 4 → 8 ≤ to
     → to + 4 ≤ GREATEST_UNIT → (to + 4) % 4 ≡ 0 → number_at Little 4 to bytes ≡ to + 4 → slice_range bytes 8 to ≡ body
     → next (in_section interfaces) bytes
-    ≡ block_content (in_section interfaces) Little kind body >>= (λ does. Ok (moved (to + 4) does))
+    ≡ or_stop (block_content (in_section interfaces) Little kind body) >>= (λ does. Ok (moved (to + 4) does))
 unfolding next
 step_is interfaces bytes body kind to is other front len least most even end inside =
     rw (
@@ -101,7 +85,7 @@ step_is interfaces bytes body kind to is other front len least most even end ins
 pub block_next : (kind : ℕ) (body : List ℕ) (interfaces : List Interface) → kind < 2 ^ 32 → (kind ≡ section_type → ⊥)
     → 12 + length body ≤ GREATEST_UNIT → (12 + length body) % 4 ≡ 0
     → next (in_section interfaces) (block kind body)
-    ≡ block_content (in_section interfaces) Little kind body >>= (λ does. Ok (moved (12 + length body) does))
+    ≡ or_stop (block_content (in_section interfaces) Little kind body) >>= (λ does. Ok (moved (12 + length body) does))
 block_next kind body interfaces lt other most even =
     let to : ℕ = 8 + length body in
     let len : 12 + length body ≡ to + 4 = omega arith in
@@ -109,7 +93,7 @@ block_next kind body interfaces lt other most even =
     step_is interfaces (block kind body) body kind to (kind_is kind body lt) other (length_is kind body small ∙ len)
     (length-block kind body ∙ len) (omega arith) (omega arith) (omega arith) (end_is kind body small ∙ len)
     (inside_is kind body)
-    ∙ ap (λ (n : ℕ). block_content (in_section interfaces) Little kind body >>= (λ does. Ok (moved n does))) (sym len)
+    ∙ ap (λ (n : ℕ). or_stop (block_content (in_section interfaces) Little kind body) >>= (λ does. Ok (moved n does))) (sym len)
 
 -- the interfaces that are written
 abbrev pub interface_for : Net → Interface

@@ -1,22 +1,22 @@
 -- What a section describes of an interface, and what the times of its packets are.
-use Rattle.std.specs.Prelude.{ℕ, zero, suc, ◌+◌, ◌-◌, ◌*◌, ◌/◌, ◌^◌, nat_eq, nat_lt, if◌then◌else◌, List, [], ◌∷◌, length, drop, slice_get, slice_range, Option, Some, None, Result, Ok, Err}
+use Rattle.std.specs.Prelude.{ℕ, zero, suc, ◌+◌, ◌-◌, ◌*◌, ◌/◌, ◌^◌, nat_eq, nat_lt, if◌then◌else◌, List, [], ◌∷◌, length, drop, slice_get, slice_range, ok_or, option_and_then, Option, Some, None, Result, Ok, Err}
 use Rattle.std.specs.List.{list_any}
 use Rattle.std.specs.Option.{is_some}
 use Rattle.afdx_frame.specs.declared.net.Net.{Net}
 use Rattle.afdx_frame.specs.declared.net.Net.TheVariants.{A, B}
 use Rattle.capture.specs.Capture.{fill}
-use Rattle.capture.specs.Units.{number_at, malformed}
+use Rattle.capture.specs.Units.{number_at}
 use Rattle.capture.specs.declared.interface.Interface.{Interface}
 use Rattle.capture.specs.declared.interface.OptionFront.{OptionFront}
 use Rattle.capture.specs.declared.order.Order.{Order}
+use Rattle.capture.specs.declared.stop.Fault.{Fault}
 use Rattle.capture.specs.declared.stop.Fault.TheVariants.{BadOption, NoInterface, Time}
-use Rattle.capture.specs.declared.stop.Stop.{Stop}
 
--- a step that may stop, and what follows it
+-- a step that may fail, and what follows it
 infixl 10 ◌>>=◌
-abbrev pub ◌>>=◌ : {X Y : Type 0} → Result X Stop → (X → Result Y Stop) → Result Y Stop
+abbrev pub ◌>>=◌ : {X Y E : Type 0} → Result X E → (X → Result Y E) → Result Y E
 Ok x >>= f = f x
-Err stop >>= f = Err stop
+Err why >>= f = Err why
 
 -- an interface without options: its times are in microseconds since 1970
 abbrev pub plain : ℕ → Interface
@@ -29,29 +29,29 @@ name_of (letter ∷ []) =
 name_of _ = None
 
 -- the resolution of times is one byte
-abbrev pub with_resolution : List ℕ → Interface → Result Interface Stop
+abbrev pub with_resolution : List ℕ → Interface → Result Interface Fault
 with_resolution (byte ∷ []) i = Ok (record i { resolution = byte })
-with_resolution _ i = malformed BadOption
+with_resolution _ i = Err BadOption
 
 -- the name is option 2, the resolution of times 9, and what is added to them 14; others are skipped
-unfoldable pub with_option : Order → ℕ → List ℕ → Interface → Result Interface Stop
+unfoldable pub with_option : Order → ℕ → List ℕ → Interface → Result Interface Fault
 with_option order code value i =
     if nat_eq code 2 then Ok (record i { name = name_of value })
     else (if nat_eq code 9 then with_resolution value i
     else (if nat_eq code 14
-    then (if nat_eq (length value) 8 then Ok (record i { offset = number_at order 8 0 value }) else malformed BadOption)
+    then (if nat_eq (length value) 8 then Ok (record i { offset = number_at order 8 0 value }) else Err BadOption)
     else Ok i))
 
 -- an option: its code, the length of its value, and its value with padding to a multiple of 4
-unfoldable pub first_option : Order → List ℕ → Result OptionFront Stop
+unfoldable pub first_option : Order → List ℕ → Result OptionFront Fault
 first_option order bytes =
     let len = number_at order 2 2 bytes in
-    if nat_lt (length bytes) 4 then malformed BadOption
-    else (if nat_lt (length bytes) (4 + (len + fill len)) then malformed BadOption
+    if nat_lt (length bytes) 4 then Err BadOption
+    else (if nat_lt (length bytes) (4 + (len + fill len)) then Err BadOption
     else Ok (record { code = number_at order 2 0 bytes; len = len }))
 
 -- options, at most `most`, up to option 0 or the end of the bytes
-unfoldable pub with_options : Order → ℕ → List ℕ → Interface → Result Interface Stop
+unfoldable pub with_options : Order → ℕ → List ℕ → Interface → Result Interface Fault
 with_options order most [] i = Ok i
 with_options order zero (byte ∷ bytes) i = Ok i
 with_options order (suc most) (byte ∷ bytes) i =
@@ -64,28 +64,23 @@ abbrev pub per_second : ℕ → ℕ
 per_second resolution = if nat_lt resolution 128 then 10 ^ resolution else 2 ^ (resolution - 128)
 
 -- a time with seconds added, in two's complement of 64 bits; it isn't before 1970
-abbrev pub shifted : ℕ → ℕ → Result ℕ Stop
+abbrev pub shifted : ℕ → ℕ → Result ℕ Fault
 shifted offset nanos =
     if nat_lt offset (2 ^ 63) then Ok (nanos + offset * 10 ^ 9)
-    else (if nat_lt nanos ((2 ^ 64 - offset) * 10 ^ 9) then malformed Time
+    else (if nat_lt nanos ((2 ^ 64 - offset) * 10 ^ 9) then Err Time
     else Ok (nanos - (2 ^ 64 - offset) * 10 ^ 9))
 
 -- nanoseconds since 1970
-unfoldable pub time_of : Interface → ℕ → Result ℕ Stop
+unfoldable pub time_of : Interface → ℕ → Result ℕ Fault
 time_of i ticks = shifted i.offset (ticks * 10 ^ 9 / per_second i.resolution)
 
 -- the interface of a number
-abbrev pub ok_or_unknown : Option Interface → Result Interface Stop
-ok_or_unknown None = malformed NoInterface
-ok_or_unknown (Some i) = Ok i
-
-abbrev pub known : List Interface → ℕ → Result Interface Stop
-known interfaces number = ok_or_unknown (slice_get interfaces number)
+abbrev pub known : List Interface → ℕ → Result Interface Fault
+known interfaces number = ok_or (slice_get interfaces number) NoInterface
 
 -- the network that an interface is named after
 abbrev pub network_named : Option Interface → Option Net
-network_named None = None
-network_named (Some i) = i.name
+network_named interface = option_and_then (λ (i : Interface). i.name) interface
 
 -- without names the first interface is network A, and the second B
 abbrev pub network_numbered : ℕ → Option Net

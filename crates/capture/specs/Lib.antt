@@ -5,4 +5,3 @@ pub mod Units
 pub mod Interfaces
 pub mod Recording
 pub mod Streaming
-pub mod Whole

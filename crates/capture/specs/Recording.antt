@@ -1,15 +1,17 @@
 -- Reading a capture: what each unit does to a reading, and which packets all units give.
-use Rattle.std.specs.Prelude.{ℕ, Bool, false, zero, suc, ◌+◌, ◌-◌, ◌*◌, ◌%◌, ◌^◌, ◌≡◌, nat_eq, nat_lt, ◌||◌, if◌then◌else◌, List, [], ◌∷◌, ◌++◌, length, take, drop, slice_range, Option, Some, None, Result, Ok, Err}
+use Rattle.std.specs.Prelude.{ℕ, Bool, false, zero, suc, ◌+◌, ◌-◌, ◌*◌, ◌%◌, ◌^◌, ◌≡◌, nat_eq, nat_lt, ◌||◌, if◌then◌else◌, List, [], ◌∷◌, ◌++◌, length, map, take, drop, slice_range, option_map, Option, Some, None, Result, Ok, Err}
 use Rattle.afdx_frame.specs.declared.net.Net.{Net}
 use Rattle.afdx_frame.specs.declared.net.Net.TheVariants.{A}
 use Rattle.capture.specs.Interfaces.{◌>>=◌, plain, with_options, time_of, known, network_of}
-use Rattle.capture.specs.Units.{number_at, malformed, unit_of, size_of}
+use Rattle.capture.specs.Units.{number_at, unit_of, size_of}
 use Rattle.capture.specs.declared.end.End.{End}
 use Rattle.capture.specs.declared.end.End.TheVariants.{Whole, CutOff, Broken}
 use Rattle.capture.specs.declared.interface.Interface.{Interface}
 use Rattle.capture.specs.declared.interface.TheConstants.{MOST_INTERFACES}
 use Rattle.capture.specs.declared.order.Order.{Order}
 use Rattle.capture.specs.declared.packet.Packet.{Packet}
+use Rattle.capture.specs.declared.recording.Recording.{Recording as ReadRecording}
+use Rattle.capture.specs.declared.stop.Fault.{Fault}
 use Rattle.capture.specs.declared.stop.Fault.TheVariants.{Version, Length, EndLength, LinkType, Interfaces, Obsolete, Captured}
 use Rattle.capture.specs.declared.stop.Stop.{Stop}
 use Rattle.capture.specs.declared.stop.Stop.TheVariants.{More, Malformed}
@@ -40,25 +42,24 @@ recorded p = record {
 }
 
 abbrev pub recorded_if : Option Packet → Option Recorded
-recorded_if None = None
-recorded_if (Some p) = Some (recorded p)
+recorded_if packet = option_map recorded packet
 
 -- a packet was read, or why none was
-abbrev pub Gives : Result Packet Stop → Result Recorded Stop → Type 0
+abbrev pub Gives : Result Packet Fault → Result Recorded Fault → Type 0
 Gives (Ok packet) wanted = wanted ≡ Ok (recorded packet)
-Gives (Err stop) wanted = wanted ≡ Err stop
+Gives (Err fault) wanted = wanted ≡ Err fault
 
 -- ---- packets
 
 -- An enhanced packet block: the interface, the time with its high word first, how many bytes were captured
 -- and how many there were, and the bytes. Padding and options are left.
-unfoldable pub enhanced : Order → List Interface → List ℕ → Result Recorded Stop
+unfoldable pub enhanced : Order → List Interface → List ℕ → Result Recorded Fault
 enhanced order interfaces body =
     let interface = number_at order 4 0 body in
     let captured = number_at order 4 12 body in
-    if nat_lt (length body) 20 then malformed Length
+    if nat_lt (length body) 20 then Err Length
     else known interfaces interface >>= (λ described.
-    if nat_lt (length body) (20 + captured) then malformed Captured
+    if nat_lt (length body) (20 + captured) then Err Captured
     else time_of described (number_at order 4 4 body * 2 ^ 32 + number_at order 4 8 body) >>= (λ at.
     Ok (record {
       interface = interface;
@@ -73,12 +74,12 @@ abbrev pub captured_of : ℕ → ℕ → ℕ
 captured_of limit original = if nat_eq limit 0 || nat_lt original limit then original else limit
 
 -- A simple packet block: how many bytes there were, and the bytes. It is of the first interface, and has no time.
-unfoldable pub simple : Order → List Interface → List ℕ → Result Recorded Stop
+unfoldable pub simple : Order → List Interface → List ℕ → Result Recorded Fault
 simple order interfaces body =
     let original = number_at order 4 0 body in
-    if nat_lt (length body) 4 then malformed Length
+    if nat_lt (length body) 4 then Err Length
     else known interfaces 0 >>= (λ described.
-    if nat_lt (length body) (4 + captured_of described.limit original) then malformed Captured
+    if nat_lt (length body) (4 + captured_of described.limit original) then Err Captured
     else Ok (record {
       interface = 0;
       network = network_of interfaces 0;
@@ -124,56 +125,66 @@ content after packet = record { after = after; packet = packet }
 abbrev pub no_packet : Format → List Interface → Content
 no_packet format interfaces = record { after = record { format = format; interfaces = interfaces }; packet = None }
 
+-- what a reading takes of a unit does this; a fault leaves the reading as it was
+abbrev pub Does : Progress → Progress → Result (Option Packet) Fault → Result Content Fault → Type 0
+Does old new (Ok packet) wanted = wanted ≡ Ok (content new (recorded_if packet))
+Does old new (Err fault) wanted = (wanted ≡ Err fault) × (new ≡ old)
+
 -- the body of a block, between its type and first length, and its last length, which is that length once more
-unfoldable pub body_of : Order → List ℕ → Result (List ℕ) Stop
+unfoldable pub body_of : Order → List ℕ → Result (List ℕ) Fault
 body_of order whole =
     if nat_eq (number_at order 4 (length whole - 4) whole) (length whole)
     then Ok (slice_range whole 8 (length whole - 4))
-    else malformed EndLength
+    else Err EndLength
 
 -- a section header: version 1 of the format, and the section's length, which isn't needed. It begins anew.
-unfoldable pub section_content : Order → List ℕ → Result Content Stop
+unfoldable pub section_content : Order → List ℕ → Result Content Fault
 section_content order body =
-    if nat_lt (length body) 16 then malformed Length
-    else (if nat_eq (number_at order 2 4 body) 1 then Ok (no_packet (Blocks order) []) else malformed Version)
+    if nat_lt (length body) 16 then Err Length
+    else (if nat_eq (number_at order 2 4 body) 1 then Ok (no_packet (Blocks order) []) else Err Version)
 
 -- an interface description block: Ethernet, the limit of what is captured, and options
-unfoldable pub interface_content : Format → List Interface → Order → List ℕ → Result Content Stop
+unfoldable pub interface_content : Format → List Interface → Order → List ℕ → Result Content Fault
 interface_content format interfaces order body =
-    if nat_lt (length body) 8 then malformed Length
+    if nat_lt (length body) 8 then Err Length
     else (if nat_eq (number_at order 2 0 body) 1
     then (if nat_lt (length interfaces) MOST_INTERFACES
     then with_options order (length (drop 8 body)) (drop 8 body) (plain (number_at order 4 4 body))
     >>= (λ i. Ok (no_packet format (interfaces ++ i ∷ [])))
-    else malformed Interfaces)
-    else malformed LinkType)
+    else Err Interfaces)
+    else Err LinkType)
 
 -- A block by its type: 1 describes an interface, and 3 and 6 are packets. 2 is a packet in a form that the format
 -- has given up, which would be lost. Others are skipped.
-unfoldable pub block_content : Progress → Order → ℕ → List ℕ → Result Content Stop
+unfoldable pub block_content : Progress → Order → ℕ → List ℕ → Result Content Fault
 block_content p order kind body =
     if nat_eq kind 1 then interface_content p.format p.interfaces order body
-    else (if nat_eq kind 2 then malformed Obsolete
+    else (if nat_eq kind 2 then Err Obsolete
     else (if nat_eq kind 3 then simple order p.interfaces body >>= (λ packet. Ok (content p (Some packet)))
     else (if nat_eq kind 6 then enhanced order p.interfaces body >>= (λ packet. Ok (content p (Some packet)))
     else Ok (content p None))))
 
 -- the header of a pcap file: version 2 of the format, and Ethernet, in the low 16 bits of its last word.
 -- All records are of one interface.
-unfoldable pub header_content : Order → Clock → List ℕ → Result Content Stop
+unfoldable pub header_content : Order → Clock → List ℕ → Result Content Fault
 header_content order clock whole =
     if nat_eq (number_at order 2 4 whole) 2
     then (if nat_eq (number_at order 4 20 whole % 2 ^ 16) 1
     then Ok (no_packet (Records order clock) (plain (number_at order 4 16 whole) ∷ []))
-    else malformed LinkType)
-    else malformed Version
+    else Err LinkType)
+    else Err Version
 
 -- what a whole unit does
-unfoldable pub content_of : Progress → CaptureUnit → List ℕ → Result Content Stop
+unfoldable pub content_of : Progress → CaptureUnit → List ℕ → Result Content Fault
 content_of p (Section order) whole = body_of order whole >>= section_content order
 content_of p (Block order) whole = body_of order whole >>= block_content p order (number_at order 4 0 whole)
 content_of p (Header order clock) whole = header_content order clock whole
 content_of p (Record order clock) whole = Ok (content p (Some (from_record order clock whole)))
+
+-- a fault stops a reading
+abbrev pub or_stop : {X : Type 0} → Result X Fault → Result X Stop
+or_stop (Ok x) = Ok x
+or_stop (Err fault) = Err (Malformed fault)
 
 -- there are as many bytes, or more are needed
 abbrev pub with_bytes : {X : Type 0} → ℕ → List ℕ → Result X Stop → Result X Stop
@@ -190,9 +201,9 @@ moved used does = record { content = does; used = used }
 -- the next unit of these bytes
 unfoldable pub next : Progress → List ℕ → Result Moved Stop
 next p bytes =
-    with_bytes UNIT_FRONT bytes (unit_of p.format bytes >>= (λ unit.
-    size_of unit bytes >>= (λ size.
-    with_bytes size bytes (content_of p unit (take size bytes) >>= (λ does. Ok (moved size does))))))
+    with_bytes UNIT_FRONT bytes (or_stop (unit_of p.format bytes) >>= (λ unit.
+    or_stop (size_of unit bytes) >>= (λ size.
+    with_bytes size bytes (or_stop (content_of p unit (take size bytes)) >>= (λ does. Ok (moved size does))))))
 
 -- ---- recordings
 
@@ -200,6 +211,10 @@ next p bytes =
 pub record Recording : Type 0 where
   pub packets : List Recorded
   pub end : End
+
+-- one that was read, with the bytes that its packets borrow
+abbrev pub recording_of : ReadRecording → Recording
+recording_of r = record { packets = map recorded r.packets.items; end = r.end }
 
 -- nothing is left of a capture of a known format
 abbrev pub is_end : Format → List ℕ → Bool

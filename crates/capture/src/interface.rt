@@ -6,7 +6,7 @@ ghost use Rattle.capture.specs.Capture.{fill};
 ghost use Rattle.capture.specs.Interfaces.{plain, name_of as name_network, with_option, first_option, with_options, per_second, time_of, known, network_named, network_of as network_at};
 
 use crate::order::Order;
-use crate::stop::{Fault, Stop};
+use crate::stop::Fault;
 use crate::write::fill_of;
 use afdx_frame::Net;
 
@@ -71,41 +71,22 @@ impl Interface {
 
     /// The interface with one more option.
     #[tactic(auto, unfolding(crate::specs::Interfaces::with_option))]
-    fn with_option(self, order: Order, code: u16, value: &[u8]) -> Result<Interface, Stop>
+    fn with_option(self, order: Order, code: u16, value: &[u8]) -> Result<Interface, Fault>
         ensures { result ≡ with_option order code value.now self }
     {
-        match code {
-            NAME => {
-                Ok(Interface {
-                    name: name_of(value),
-                    ..self
-                })
-            }
-            RESOLUTION => {
-                match value {
-                    [resolution] => {
-                        Ok(Interface {
-                            resolution: *resolution,
-                            ..self
-                        })
-                    }
-                    _ => Err(Stop::Malformed(Fault::BadOption)),
-                }
-            }
-            OFFSET => {
-                if value.len() == 8 {
-                    let offset = order.long(value);
-                    Ok(Interface { offset, ..self })
-                } else {
-                    Err(Stop::Malformed(Fault::BadOption))
-                }
-            }
-            _ => Ok(self),
+        let mut changed = self;
+        match (code, value) {
+            (NAME, _) => changed.name = name_of(value),
+            (RESOLUTION, [resolution]) => changed.resolution = *resolution,
+            (OFFSET, [_, _, _, _, _, _, _, _]) => changed.offset = order.long(value),
+            (RESOLUTION | OFFSET, _) => return Err(Fault::BadOption),
+            _ => {}
         }
+        Ok(changed)
     }
 
     /// The interface with the options that these bytes are.
-    pub(crate) fn with_options(self, order: Order, options: &[u8]) -> Result<Interface, Stop>
+    pub(crate) fn with_options(self, order: Order, options: &[u8]) -> Result<Interface, Fault>
         ensures { result ≡ with_options order (length options.now) options.now self }
     {
         let mut interface = self;
@@ -124,7 +105,7 @@ impl Interface {
 
     /// The time of a packet in nanoseconds since 1970.
     #[tactic(auto, unfolding(crate::specs::Interfaces::time_of))]
-    pub(crate) fn time(self, ticks: u64) -> Result<u128, Stop>
+    pub(crate) fn time(self, ticks: u64) -> Result<u128, Fault>
         ensures { result ≡ time_of self ticks }
     {
         let nanos = nanos(self.resolution, ticks);
@@ -133,7 +114,7 @@ impl Interface {
         }
         let back = (0x1_0000_0000_0000_0000 - self.offset as u128) * SECOND;
         if nanos < back {
-            Err(Stop::Malformed(Fault::Time))
+            Err(Fault::Time)
         } else {
             Ok(nanos - back)
         }
@@ -142,16 +123,16 @@ impl Interface {
 
 /// The option with which these bytes begin; it ends within them.
 #[tactic(auto, unfolding(crate::specs::Interfaces::first_option))]
-fn first_option(order: Order, bytes: &[u8]) -> Result<OptionFront, Stop>
+fn first_option(order: Order, bytes: &[u8]) -> Result<OptionFront, Fault>
     ensures value { result ≡ first_option order bytes.now }
     ensures within { IfOk result (λ front. 4 + (front.len + fill front.len) ≤ length bytes.now) }
 {
     if bytes.len() < 4 {
-        return Err(Stop::Malformed(Fault::BadOption));
+        return Err(Fault::BadOption);
     }
     let (code, len) = (order.half_at(bytes, 0), order.half_at(bytes, 2));
     if bytes.len() < 4 + (len as usize + fill_of(len as usize)) {
-        return Err(Stop::Malformed(Fault::BadOption));
+        return Err(Fault::BadOption);
     }
     Ok(OptionFront { code, len })
 }
@@ -173,13 +154,13 @@ fn nanos(resolution: u8, ticks: u64) -> u128
 }
 
 /// The interface of a number.
-pub(crate) fn known(interfaces: &[Interface], number: u32) -> Result<Interface, Stop>
+pub(crate) fn known(interfaces: &[Interface], number: u32) -> Result<Interface, Fault>
     ensures { result ≡ known interfaces.now number }
 {
-    match interfaces.get(number as usize) {
-        Some(interface) => Ok(*interface),
-        None => Err(Stop::Malformed(Fault::NoInterface)),
-    }
+    interfaces
+        .get(number as usize)
+        .copied()
+        .ok_or(Fault::NoInterface)
 }
 
 /// Whether some interface has the name of a network.
@@ -193,10 +174,7 @@ fn has_names(interfaces: &[Interface]) -> bool
 fn named(interfaces: &[Interface], number: u32) -> Option<Net>
     ensures { result ≡ network_named (slice_get interfaces.now number) }
 {
-    match interfaces.get(number as usize) {
-        Some(interface) => interface.name,
-        None => None,
-    }
+    interfaces.get(number as usize)?.name
 }
 
 /// The network of an interface, by its number.

@@ -4,7 +4,7 @@ ghost use Rattle.capture.specs.Recording.{Gives, enhanced, simple, from_record, 
 
 use crate::interface::{Interface, known, network_of};
 use crate::order::Order;
-use crate::stop::{Fault, Stop};
+use crate::stop::Fault;
 use crate::unit::Clock;
 use afdx_frame::Net;
 
@@ -29,17 +29,17 @@ pub(crate) fn enhanced<'a>(
     order: Order,
     interfaces: &[Interface],
     body: &'a [u8],
-) -> Result<Packet<'a>, Stop>
+) -> Result<Packet<'a>, Fault>
     ensures { Gives result (enhanced order interfaces.now body.now) }
 {
     if body.len() < 20 {
-        return Err(Stop::Malformed(Fault::Length));
+        return Err(Fault::Length);
     }
     let interface = order.word_at(body, 0);
     let described = known(interfaces, interface)?;
     let captured = order.word_at(body, 12) as usize;
     if body.len() < 20 + captured {
-        return Err(Stop::Malformed(Fault::Captured));
+        return Err(Fault::Captured);
     }
     let ticks = order.word_at(body, 4) as u64 * 0x1_0000_0000 + order.word_at(body, 8) as u64;
     let at = described.time(ticks)?;
@@ -69,17 +69,17 @@ pub(crate) fn simple<'a>(
     order: Order,
     interfaces: &[Interface],
     body: &'a [u8],
-) -> Result<Packet<'a>, Stop>
+) -> Result<Packet<'a>, Fault>
     ensures { Gives result (simple order interfaces.now body.now) }
 {
     if body.len() < 4 {
-        return Err(Stop::Malformed(Fault::Length));
+        return Err(Fault::Length);
     }
     let described = known(interfaces, 0)?;
     let original = order.word_at(body, 0);
     let captured = captured_of(described.limit, original) as usize;
     if body.len() < 4 + captured {
-        return Err(Stop::Malformed(Fault::Captured));
+        return Err(Fault::Captured);
     }
     Ok(Packet {
         interface: 0,

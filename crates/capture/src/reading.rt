@@ -1,7 +1,7 @@
 //! Reading a capture, a unit at a time.
 ghost use Rattle.std.specs.Prelude.{◌≡◌, ℕ, ◌+◌, ◌≤◌, ◌<◌, length, IfOk, IfErr, OnOk, OnErr};
 ghost use Rattle.capture.specs.Units.{least_size};
-ghost use Rattle.capture.specs.Recording.{Progress, at_start, section_content, interface_content, block_content, header_content, body_of, content, no_packet, content_of, moved, next, ended, recorded_if};
+ghost use Rattle.capture.specs.Recording.{Progress, at_start, section_content, interface_content, block_content, header_content, body_of, content, content_of, Does, moved, next, ended, recorded_if};
 
 use crate::end::End;
 use crate::interface::{Interface, MOST_INTERFACES};
@@ -78,103 +78,99 @@ impl Reading {
         if window.len() < UNIT_FRONT {
             return Err(Stop::More);
         }
-        let unit = Unit::of(self.format, window)?;
-        let used = unit.size(window)?;
+        let unit = Unit::of(self.format, window).map_err(Stop::Malformed)?;
+        let used = unit.size(window).map_err(Stop::Malformed)?;
         if window.len() < used {
             return Err(Stop::More);
         }
-        let packet = self.take(unit, &window[..used])?;
+        let taken = self.take(unit, &window[..used]);
+        let packet = taken.map_err(Stop::Malformed)?;
         Ok(Step { packet, used })
     }
 
     /// Takes what a whole unit says.
     #[tactic(auto, unfolding(crate::specs::Recording::content_of))]
-    fn take<'a>(&mut self, unit: Unit, whole: &'a [u8]) -> Result<Option<Packet<'a>>, Stop>
+    fn take<'a>(&mut self, unit: Unit, whole: &'a [u8]) -> Result<Option<Packet<'a>>, Fault>
         requires { least_size unit ≤ length whole.now }
-        ensures ok { IfOk result (λ p. content_of self.old unit whole.now
-            ≡ Ok (content self.new (recorded_if p))) }
-        ensures err { IfErr result (λ stop. content_of self.old unit whole.now ≡ Err stop) }
-        ensures unchanged { OnErr result (self.new ≡ self.old) }
+        ensures { Does self.old self.new result (content_of self.old unit whole.now) }
     {
         match unit {
-            Unit::Section(order) => {
-                self.begin_section(order, body(order, whole)?)?;
-                Ok(None)
-            }
+            Unit::Section(order) => self.begin_section(order, body(order, whole)?),
             Unit::Block(order) => {
                 self.take_block(order, order.word_at(whole, 0), body(order, whole)?)
             }
-            Unit::Header(order, clock) => {
-                self.begin_records(order, clock, whole)?;
-                Ok(None)
-            }
+            Unit::Header(order, clock) => self.begin_records(order, clock, whole),
             Unit::Record(order, clock) => Ok(Some(from_record(order, clock, whole))),
         }
     }
 
     /// Begins a section of pcapng, which has no interfaces yet.
     #[tactic(auto, unfolding(crate::specs::Recording::section_content))]
-    fn begin_section(&mut self, order: Order, body: &[u8]) -> Result<(), Stop>
-        ensures ok { OnOk result (section_content order body.now
-            ≡ Ok (no_packet self.new.format self.new.interfaces)) }
-        ensures err { IfErr result (λ stop. section_content order body.now ≡ Err stop) }
-        ensures unchanged { OnErr result (self.new ≡ self.old) }
+    fn begin_section<'a>(
+        &mut self,
+        order: Order,
+        body: &'a [u8],
+    ) -> Result<Option<Packet<'a>>, Fault>
+        ensures { Does self.old self.new result (section_content order body.now) }
     {
         if body.len() < 16 {
-            return Err(Stop::Malformed(Fault::Length));
+            return Err(Fault::Length);
         }
         if order.half_at(body, 4) != 1 {
-            return Err(Stop::Malformed(Fault::Version));
+            return Err(Fault::Version);
         }
         self.format = Format::Blocks(order);
         self.interfaces.clear();
-        Ok(())
+        Ok(None)
     }
 
     /// Begins the records of pcap, all of one interface.
     #[tactic(auto, unfolding(crate::specs::Recording::header_content))]
-    fn begin_records(&mut self, order: Order, clock: Clock, whole: &[u8]) -> Result<(), Stop>
+    fn begin_records<'a>(
+        &mut self,
+        order: Order,
+        clock: Clock,
+        whole: &'a [u8],
+    ) -> Result<Option<Packet<'a>>, Fault>
         requires { 24 ≤ length whole.now }
-        ensures ok { OnOk result (header_content order clock whole.now
-            ≡ Ok (no_packet self.new.format self.new.interfaces)) }
-        ensures err { IfErr result (λ stop. header_content order clock whole.now ≡ Err stop) }
-        ensures unchanged { OnErr result (self.new ≡ self.old) }
+        ensures { Does self.old self.new result (header_content order clock whole.now) }
     {
         if order.half_at(whole, 4) != 2 {
-            return Err(Stop::Malformed(Fault::Version));
+            return Err(Fault::Version);
         }
         if order.word_at(whole, 20) % 0x1_0000 != 1 {
-            return Err(Stop::Malformed(Fault::LinkType));
+            return Err(Fault::LinkType);
         }
         self.format = Format::Records(order, clock);
         self.interfaces.clear();
         self.interfaces
             .push(Interface::new(order.word_at(whole, 16)));
-        Ok(())
+        Ok(None)
     }
 
     /// Takes one more interface.
     #[tactic(auto, unfolding(crate::specs::Recording::interface_content))]
-    fn add_interface(&mut self, order: Order, body: &[u8]) -> Result<(), Stop>
-        ensures ok { OnOk result (interface_content self.old.format self.old.interfaces order body.now
-            ≡ Ok (no_packet self.new.format self.new.interfaces)) }
-        ensures err { IfErr result (λ stop.
-            interface_content self.old.format self.old.interfaces order body.now ≡ Err stop) }
-        ensures unchanged { OnErr result (self.new ≡ self.old) }
+    fn add_interface<'a>(
+        &mut self,
+        order: Order,
+        body: &'a [u8],
+    ) -> Result<Option<Packet<'a>>, Fault>
+        ensures { Does self.old self.new result
+            (interface_content self.old.format self.old.interfaces order body.now) }
     {
         if body.len() < 8 {
-            return Err(Stop::Malformed(Fault::Length));
+            return Err(Fault::Length);
         }
         if order.half_at(body, 0) != 1 {
-            return Err(Stop::Malformed(Fault::LinkType));
+            return Err(Fault::LinkType);
         }
         if self.interfaces.len() >= MOST_INTERFACES {
-            return Err(Stop::Malformed(Fault::Interfaces));
+            return Err(Fault::Interfaces);
         }
         let plain = Interface::new(order.word_at(body, 4));
         let interface = plain.with_options(order, &body[8..])?;
         self.interfaces.push(interface);
-        Ok(())
+        Ok(None)
     }
 
     /// Takes a block, by its type.
@@ -184,18 +180,12 @@ impl Reading {
         order: Order,
         kind: u32,
         body: &'a [u8],
-    ) -> Result<Option<Packet<'a>>, Stop>
-        ensures ok { IfOk result (λ p. block_content self.old order kind body.now
-            ≡ Ok (content self.new (recorded_if p))) }
-        ensures err { IfErr result (λ stop. block_content self.old order kind body.now ≡ Err stop) }
-        ensures unchanged { OnErr result (self.new ≡ self.old) }
+    ) -> Result<Option<Packet<'a>>, Fault>
+        ensures { Does self.old self.new result (block_content self.old order kind body.now) }
     {
         match kind {
-            INTERFACE_TYPE => {
-                self.add_interface(order, body)?;
-                Ok(None)
-            }
-            OBSOLETE_TYPE => Err(Stop::Malformed(Fault::Obsolete)),
+            INTERFACE_TYPE => self.add_interface(order, body),
+            OBSOLETE_TYPE => Err(Fault::Obsolete),
             SIMPLE_TYPE => Ok(Some(simple(order, self.interfaces.as_slice(), body)?)),
             ENHANCED_TYPE => Ok(Some(enhanced(order, self.interfaces.as_slice(), body)?)),
             _ => Ok(None),
@@ -205,14 +195,14 @@ impl Reading {
 
 /// The body of a block.
 #[tactic(auto, unfolding(crate::specs::Recording::body_of))]
-fn body<'a>(order: Order, whole: &'a [u8]) -> Result<&'a [u8], Stop>
+fn body<'a>(order: Order, whole: &'a [u8]) -> Result<&'a [u8], Fault>
     requires { 12 ≤ length whole.now }
     ensures ok { IfOk result (λ inside. body_of order whole.now ≡ Ok inside.now) }
-    ensures err { IfErr result (λ stop. body_of order whole.now ≡ Err stop) }
+    ensures err { IfErr result (λ fault. body_of order whole.now ≡ Err fault) }
 {
     let end = whole.len() - 4;
     if order.word_at(whole, end) as usize != whole.len() {
-        return Err(Stop::Malformed(Fault::EndLength));
+        return Err(Fault::EndLength);
     }
     Ok(&whole[8..end])
 }

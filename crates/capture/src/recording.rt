@@ -1,7 +1,6 @@
 //! Reading a capture as a whole.
 ghost use Rattle.std.specs.Prelude.{◌≡◌, IfOk};
-ghost use Rattle.capture.specs.Whole.{recording_of};
-ghost use Rattle.capture.specs.Recording.{read_capture as recording_in};
+ghost use Rattle.capture.specs.Recording.{recording_of, read_capture as recording_in};
 
 use crate::end::End;
 use crate::packet::Packet;

@@ -3,7 +3,7 @@ ghost use Rattle.std.specs.Prelude.{◌≡◌, ◌≤◌, length, IfOk};
 ghost use Rattle.capture.specs.Units.{unit_of, section_unit, header_unit, size_of, block_size, record_size, least_size};
 
 use crate::order::Order;
-use crate::stop::{Fault, Stop};
+use crate::stop::Fault;
 
 /// The greatest length in bytes of a block, or of a record with its header.
 pub const GREATEST_UNIT: usize = 0x10_0000;
@@ -55,32 +55,21 @@ pub(crate) enum Unit {
 impl Unit {
     /// The unit that begins with these bytes.
     #[tactic(auto, unfolding(crate::specs::Units::unit_of))]
-    pub(crate) fn of(format: Format, front: &[u8]) -> Result<Unit, Stop>
+    pub(crate) fn of(format: Format, front: &[u8]) -> Result<Unit, Fault>
         requires { UNIT_FRONT ≤ length front.now }
         ensures { result ≡ unit_of format front.now }
     {
         match format {
             Format::Records(order, clock) => Ok(Unit::Record(order, clock)),
-            Format::Blocks(order) => {
-                if Order::Little.word_at(front, 0) == SECTION_TYPE {
-                    section(front)
-                } else {
-                    Ok(Unit::Block(order))
-                }
-            }
-            Format::Unknown => {
-                if Order::Little.word_at(front, 0) == SECTION_TYPE {
-                    section(front)
-                } else {
-                    header(front)
-                }
-            }
+            _ if Order::Little.word_at(front, 0) == SECTION_TYPE => section(front),
+            Format::Blocks(order) => Ok(Unit::Block(order)),
+            Format::Unknown => header(front),
         }
     }
 
     /// The length of the unit.
     #[tactic(auto, unfolding(crate::specs::Units::size_of))]
-    pub(crate) fn size(self, front: &[u8]) -> Result<usize, Stop>
+    pub(crate) fn size(self, front: &[u8]) -> Result<usize, Fault>
         requires { UNIT_FRONT ≤ length front.now }
         ensures value { result ≡ size_of self front.now }
         ensures least { IfOk result (λ size. least_size self ≤ size) }
@@ -97,7 +86,7 @@ impl Unit {
 
 /// A section header block, by its byte-order magic.
 #[tactic(auto, unfolding(crate::specs::Units::section_unit))]
-fn section(front: &[u8]) -> Result<Unit, Stop>
+fn section(front: &[u8]) -> Result<Unit, Fault>
     requires { UNIT_FRONT ≤ length front.now }
     ensures { result ≡ section_unit front.now }
 {
@@ -106,13 +95,13 @@ fn section(front: &[u8]) -> Result<Unit, Stop>
     } else if Order::Big.word_at(front, 8) == SECTION_MAGIC {
         Ok(Unit::Section(Order::Big))
     } else {
-        Err(Stop::Malformed(Fault::ByteOrder))
+        Err(Fault::ByteOrder)
     }
 }
 
 /// The header of a pcap file, by its magic number.
 #[tactic(auto, unfolding(crate::specs::Units::header_unit))]
-fn header(front: &[u8]) -> Result<Unit, Stop>
+fn header(front: &[u8]) -> Result<Unit, Fault>
     requires { UNIT_FRONT ≤ length front.now }
     ensures { result ≡ header_unit front.now }
 {
@@ -123,7 +112,7 @@ fn header(front: &[u8]) -> Result<Unit, Stop>
             match Order::Big.word_at(front, 0) {
                 MICROS_MAGIC => Ok(Unit::Header(Order::Big, Clock::Micros)),
                 NANOS_MAGIC => Ok(Unit::Header(Order::Big, Clock::Nanos)),
-                _ => Err(Stop::Malformed(Fault::Format)),
+                _ => Err(Fault::Format),
             }
         }
     }
@@ -131,15 +120,15 @@ fn header(front: &[u8]) -> Result<Unit, Stop>
 
 /// The length of a block.
 #[tactic(auto, unfolding(crate::specs::Units::block_size))]
-fn block_len(len: u32) -> Result<usize, Stop>
+fn block_len(len: u32) -> Result<usize, Fault>
     ensures value { result ≡ block_size len }
     ensures least { IfOk result (λ size. 12 ≤ size) }
     ensures most { IfOk result (λ size. size ≤ GREATEST_UNIT) }
 {
     if len < 12 || len % 4 != 0 {
-        Err(Stop::Malformed(Fault::Length))
+        Err(Fault::Length)
     } else if len as usize > GREATEST_UNIT {
-        Err(Stop::Malformed(Fault::TooLong))
+        Err(Fault::TooLong)
     } else {
         Ok(len as usize)
     }
@@ -147,14 +136,14 @@ fn block_len(len: u32) -> Result<usize, Stop>
 
 /// The length of a record, of so many captured bytes.
 #[tactic(auto, unfolding(crate::specs::Units::record_size))]
-fn record_len(captured: u32) -> Result<usize, Stop>
+fn record_len(captured: u32) -> Result<usize, Fault>
     ensures value { result ≡ record_size captured }
     ensures least { IfOk result (λ size. 16 ≤ size) }
     ensures most { IfOk result (λ size. size ≤ GREATEST_UNIT) }
 {
     let len = 16 + captured as usize;
     if len > GREATEST_UNIT {
-        Err(Stop::Malformed(Fault::TooLong))
+        Err(Fault::TooLong)
     } else {
         Ok(len)
     }

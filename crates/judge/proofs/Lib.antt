@@ -1,4 +1,2 @@
-pub mod Left
-pub mod Missing
-pub mod Others
 pub mod Pairs
+pub mod Places

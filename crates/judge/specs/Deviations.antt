@@ -1,11 +1,8 @@
 -- What is wrong with a frame, and the findings of packets.
 use Rattle.std.specs.Prelude.{ℕ, List, [], ◌∷◌, ◌++◌, Option, Some, None}
-use Rattle.afdx_plan.specs.declared.port_plan.VlId.{VlId}
-use Rattle.judge.specs.declared.finding.Deviation.{Deviation}
-use Rattle.judge.specs.declared.finding.Finding.{Finding}
-use Rattle.judge.specs.declared.finding.Kind.{Kind}
+use Rattle.std.specs.Option.{option_or}
+use Rattle.judge.specs.Types.{Deviation, Finding, Kind, Tag, VlId}
 use Rattle.judge.specs.declared.finding.Kind.TheVariants.{Frame, Source, Link, Network, Size, Number, Early, Port, Fragment, Message, Turn, Twin, Missing}
-use Rattle.judge.specs.declared.finding.Tag.{Tag}
 
 -- the number of a kind
 abbrev pub kind_number : Kind → ℕ
@@ -28,8 +25,7 @@ deviation kind seen wanted = record { kind = kind; seen = seen; wanted = wanted 
 
 -- the first of two deviations
 abbrev pub first_of : Option Deviation → Option Deviation → Option Deviation
-first_of None other = other
-first_of (Some d) other = Some d
+first_of one other = option_or one other
 
 -- a packet's finding
 abbrev pub finding_of : Tag → Option VlId → Deviation → Finding

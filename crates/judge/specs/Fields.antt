@@ -4,33 +4,25 @@ use Rattle.afdx_frame.specs.Checksum.{word_sum}
 use Rattle.afdx_frame.specs.Frame.{more_fragments, offset_modulus}
 use Rattle.afdx_frame.specs.Header.{number_in}
 use Rattle.afdx_frame.specs.Profile.{word_at, total_length, fragment_field}
-use Rattle.judge.specs.declared.fields.Fields.{Fields}
-use Rattle.judge.specs.declared.fields.Flow.{Flow}
-use Rattle.judge.specs.declared.fields.PieceIn.{PieceIn}
+use Rattle.judge.specs.Types.{Fields}
 
--- its piece: the identification, the place and the length in bytes, and whether more follow (RFC 791, 3.1)
-abbrev pub piece_of : List ℕ → PieceIn
-piece_of frame = record {
-  ident = word_at frame 18;
-  start = 8 * (fragment_field frame % offset_modulus);
-  len = total_length frame - 20;
-  more = nat_le more_fragments (fragment_field frame);
-}
-
--- the partition, the destination address as a number of 32 bits, and the UDP ports
-abbrev pub flow_of : List ℕ → Flow
-flow_of frame = record {
-  partition = slice_index frame 29;
-  address = 65536 * word_at frame 30 + word_at frame 32;
-  source = word_at frame 34;
-  destination = word_at frame 36;
-}
-
+-- Its piece: the identification, the place and the length in bytes, and whether more follow (RFC 791, 3.1). The flow: the
+-- partition, the destination address as a number of 32 bits, and the UDP ports.
 unfoldable pub fields_of : List ℕ → Fields
 fields_of frame = record {
   number = number_in frame;
-  piece = piece_of frame;
-  flow = flow_of frame;
+  piece = record {
+    ident = word_at frame 18;
+    start = 8 * (fragment_field frame % offset_modulus);
+    len = total_length frame - 20;
+    more = nat_le more_fragments (fragment_field frame);
+  };
+  flow = record {
+    partition = slice_index frame 29;
+    address = 65536 * word_at frame 30 + word_at frame 32;
+    source = word_at frame 34;
+    destination = word_at frame 36;
+  };
   udp_len = word_at frame 38;
   udp_sum = word_at frame 40;
   sum = word_sum (slice_range frame 34 (14 + total_length frame));

@@ -1,22 +1,15 @@
 -- The message of a sub-VL on a network, as its pieces come: which piece is next, and what is wrong with a whole message.
-use Rattle.std.specs.Prelude.{ℕ, ◌+◌, ◌-◌, ◌*◌, ◌%◌, nat_eq, nat_lt, nat_le, not, ◌&&◌, ◌||◌, Bool, true, false, if◌then◌else◌, List, find, Option, Some, None}
+use Rattle.std.specs.Prelude.{ℕ, ◌+◌, ◌-◌, ◌*◌, ◌%◌, nat_eq, nat_lt, nat_le, not, ◌&&◌, ◌||◌, Bool, true, false, if◌then◌else◌, List, find, option_map, option_and_then, Option, Some, None}
+use Rattle.std.specs.Option.{option_map_or}
 use Rattle.afdx_plan.specs.Address.{destination_address}
 use Rattle.afdx_plan.specs.Plan.{step_of}
-use Rattle.afdx_plan.specs.declared.port_plan.PortPlan.{PortPlan}
 use Rattle.afdx_frame.specs.Frame.{udp_field}
 use Rattle.afdx_frame.specs.Profile.{word_at}
 use Rattle.judge.specs.Deviations.{deviation, first_of}
-use Rattle.judge.specs.declared.fields.Fields.{Fields}
-use Rattle.judge.specs.declared.fields.Flow.{Flow}
-use Rattle.judge.specs.declared.fields.PieceIn.{PieceIn}
-use Rattle.judge.specs.declared.finding.Deviation.{Deviation}
-use Rattle.judge.specs.declared.finding.Ending.{Ending}
+use Rattle.judge.specs.Types.{Deviation, Ending, Fields, Flow, Head, Joining, Misfit, PieceIn, PortPlan}
 use Rattle.judge.specs.declared.finding.Ending.TheVariants.{UdpLength, Size as TooLong, UdpChecksum}
 use Rattle.judge.specs.declared.finding.Kind.TheVariants.{Fragment, Message}
-use Rattle.judge.specs.declared.finding.Misfit.{Misfit}
 use Rattle.judge.specs.declared.finding.Misfit.TheVariants.{Offset, Identification, Repeated, Addresses, Length}
-use Rattle.judge.specs.declared.joining.Head.{Head}
-use Rattle.judge.specs.declared.joining.Joining.{Joining}
 use Rattle.judge.specs.declared.joining.Joining.TheVariants.{Any, Between, After, Within}
 
 -- ---- ports
@@ -57,46 +50,38 @@ head_with head fields = record head { sum = (head.sum + fields.sum) % 65535 }
 -- where the next piece begins, and its identification, if anything is known
 abbrev pub next_of : Joining → Option ℕ
 next_of Any = None
-next_of (Between ident) = Some 0
-next_of (After before) = Some 0
 next_of (Within message) = Some message.next
+next_of _ = Some 0
 
 abbrev pub ident_of : Joining → Option ℕ
-ident_of Any = None
 ident_of (Between ident) = Some ident
-ident_of (After before) = None
 ident_of (Within message) = Some message.ident
+ident_of _ = None
 
 -- what is known of the message that was begun
 abbrev pub begun : Joining → Option Head
-begun Any = None
-begun (Between ident) = None
-begun (After before) = None
 begun (Within message) = message.head
+begun _ = None
 
 -- the identification that the next message doesn't have
 abbrev pub ident_before : Joining → Option ℕ
-ident_before Any = None
-ident_before (Between ident) = None
 ident_before (After before) = before
-ident_before (Within message) = None
+ident_before _ = None
 
 -- a piece has the addresses of its message, if they are known
 abbrev pub has_addresses : Option Head → Flow → Bool
-has_addresses None flow = true
-has_addresses (Some head) flow = is_towards flow head.port
+has_addresses head flow = option_map_or (λ (h : Head). is_towards flow h.port) head true
 
 abbrev pub misfit : Misfit → ℕ → ℕ → Option Deviation
 misfit how seen wanted = Some (deviation (Fragment how) seen wanted)
 
 -- a number is the one that is wanted, if one is
 abbrev pub misfit_if : Misfit → Option ℕ → ℕ → Option Deviation
-misfit_if how None seen = None
-misfit_if how (Some wanted) seen = if nat_eq seen wanted then None else misfit how seen wanted
+misfit_if how wanted seen =
+    option_and_then (λ wanted. if nat_eq seen wanted then None else misfit how seen wanted) wanted
 
 abbrev pub repeated_if : Option ℕ → ℕ → Option Deviation
-repeated_if None seen = None
-repeated_if (Some before) seen = if nat_eq seen before then misfit Repeated seen 0 else None
+repeated_if before seen = option_and_then (λ before. if nat_eq seen before then misfit Repeated seen 0 else None) before
 
 abbrev pub addresses_deviation : Option Head → Flow → Option Deviation
 addresses_deviation head flow = if has_addresses head flow then None else misfit Addresses 0 0
@@ -113,16 +98,8 @@ length_deviation room piece =
 
 -- a piece goes on with a message in progress: it has its identification and its addresses (RFC 791, 3.2, reassembly)
 abbrev pub goes_on : Fields → Joining → Bool
-goes_on fields Any = false
-goes_on fields (Between ident) = false
-goes_on fields (After before) = false
 goes_on fields (Within message) = nat_eq fields.piece.ident message.ident && has_addresses message.head fields.flow
-
-abbrev pub is_unknown : Joining → Bool
-is_unknown Any = true
-is_unknown (Between ident) = false
-is_unknown (After before) = false
-is_unknown (Within message) = false
+goes_on fields _ = false
 
 -- how a piece isn't the next one
 unfoldable pub fragment_deviation : ℕ → Fields → Joining → Option Deviation
@@ -133,16 +110,12 @@ fragment_deviation room fields joining = first_of (misfit_if Offset (next_of joi
 
 -- what is known of the message with one more piece
 abbrev pub head_after : Option Head → Fields → Option Head
-head_after None fields = None
-head_after (Some head) fields = Some (head_with head fields)
-
-abbrev pub head_from : Option PortPlan → Fields → Option Head
-head_from None fields = None
-head_from (Some port) fields = Some (head_of port fields)
+head_after head fields = option_map (λ head. head_with head fields) head
 
 unfoldable pub head_now : Option PortPlan → Fields → Joining → Option Head
 head_now port fields joining =
-    if nat_eq fields.piece.start 0 then head_from port fields else head_after (begun joining) fields
+    if nat_eq fields.piece.start 0 then option_map (λ port. head_of port fields) port
+    else head_after (begun joining) fields
 
 -- The right checksum of a datagram of this length, from the sum without it: the pseudo header adds protocol 17 and the
 -- length (RFC 768).
@@ -162,17 +135,13 @@ message_deviation len head =
 
 -- the same of the message that a piece ends, if that is known
 abbrev pub if_known : ℕ → Option Head → Option Deviation
-if_known len None = None
-if_known len (Some head) = message_deviation len head
+if_known len head = option_and_then (message_deviation len) head
 
 abbrev pub end_deviation : PieceIn → Option Head → Option Deviation
 end_deviation piece head = if piece.more then None else if_known (piece.start + piece.len) head
 
 -- what is known after a piece: the next message's identification follows, or by ARINC 664 alone is another one
-abbrev pub after_message : Bool → ℕ → Joining
-after_message arinc ident = if arinc then After (Some ident) else Between ((ident + 4) % 65536)
-
 abbrev pub joined : Bool → PieceIn → Option Head → Joining
 joined arinc piece head =
     if piece.more then Within (record { ident = piece.ident; next = piece.start + piece.len; head = head })
-    else after_message arinc piece.ident
+    else (if arinc then After (Some piece.ident) else Between ((piece.ident + 4) % 65536))

@@ -1,36 +1,17 @@
 -- The findings of a recording: what its packets do wrong, in their order, by a plan.
-use Rattle.std.specs.Prelude.{ℕ, ◌-◌, ◌*◌, nat_eq, nat_lt, ◌&&◌, Bool, true, false, if◌then◌else◌, List, [], ◌∷◌, length, slice_set, get_or, replicate, Option, Some, None, Result, Ok, Err}
-use Rattle.afdx_plan.specs.Config.{Plan, link_plan_at}
+use Rattle.std.specs.Prelude.{ℕ, ◌-◌, ◌*◌, nat_eq, nat_lt, ◌&&◌, Bool, true, false, if◌then◌else◌, List, [], ◌∷◌, length, slice_set, get_or, replicate, unwrap_or, option_map, option_and_then, Option, Some, None, Result, Ok, Err}
+use Rattle.afdx_plan.specs.Config.{link_plan_at}
 use Rattle.afdx_plan.specs.Plan.{bag_micros, is_both, room_of}
-use Rattle.afdx_plan.specs.declared.link_plan.LinkPlan.{LinkPlan}
-use Rattle.afdx_plan.specs.declared.port_plan.PortPlan.{PortPlan}
-use Rattle.afdx_plan.specs.declared.port_plan.VlId.{VlId}
-use Rattle.afdx_frame.specs.declared.net.Net.{Net}
 use Rattle.afdx_frame.specs.declared.net.Net.TheVariants.{A, B}
-use Rattle.capture.specs.Recording.{Recorded}
 use Rattle.judge.specs.Deviations.{deviation, with_finding}
 use Rattle.judge.specs.Fields.{fields_of}
 use Rattle.judge.specs.Joining.{port_of}
 use Rattle.judge.specs.Lines.{new_line, line_after, verdict, sub_in, sub_of}
 use Rattle.judge.specs.Rules.{frame_in, place_of, size_deviation}
 use Rattle.judge.specs.Twins.{found_missing, left_waiting, twin_deviation, pairing_with, found_at_end}
-use Rattle.judge.specs.declared.fields.Fields.{Fields}
-use Rattle.judge.specs.declared.finding.Finding.{Finding}
-use Rattle.judge.specs.declared.finding.Kind.{Kind}
+use Rattle.judge.specs.Types.{Arrived, Fields, Figures, Finding, Kind, Line, Link, LinkPlan, Measure, Nearness, Net, Options, Plan, PortPlan, Recorded, Refused, Setting, Tag, Times, Verdict, VlId}
 use Rattle.judge.specs.declared.finding.Kind.TheVariants.{Frame}
 use Rattle.judge.specs.declared.finding.Layout.TheVariants.{Time, Recorded as WithCheck}
-use Rattle.judge.specs.declared.finding.Tag.{Tag}
-use Rattle.judge.specs.declared.line.Arrived.{Arrived}
-use Rattle.judge.specs.declared.line.Figures.{Figures}
-use Rattle.judge.specs.declared.line.Line.{Line}
-use Rattle.judge.specs.declared.line.Measure.{Measure}
-use Rattle.judge.specs.declared.line.Verdict.{Verdict}
-use Rattle.judge.specs.declared.link.Link.{Link}
-use Rattle.judge.specs.declared.link.Setting.{Setting}
-use Rattle.judge.specs.declared.options.Options.{Options}
-use Rattle.judge.specs.declared.rules.Refused.{Refused}
-use Rattle.judge.specs.declared.times.Times.{Times}
-use Rattle.judge.specs.declared.twins.Nearness.{Nearness}
 
 -- ---- a link
 
@@ -54,12 +35,10 @@ with_line B line link = record link { b = line }
 
 -- what came of a link on a network, and the greatest time between its twins
 abbrev pub figures_on : Net → Option Link → Option Figures
-figures_on net None = None
-figures_on net (Some link) = Some (line_on net link).figures
+figures_on net link = option_map (λ (link : Link). (line_on net link).figures) link
 
 abbrev pub lead_of : Option Link → Option ℕ
-lead_of None = None
-lead_of (Some link) = link.twins.lead
+lead_of link = option_and_then (λ (link : Link). link.twins.lead) link
 
 -- the findings of a line, in the order of their kinds
 unfoldable pub with_verdict : Tag → VlId → Verdict → List Finding → List Finding
@@ -148,13 +127,9 @@ at_start plan options = record {
 }
 
 -- the first time, and the latest
-abbrev pub first_or : ℕ → Option ℕ → Option ℕ
-first_or at None = Some at
-first_or at (Some first) = Some first
-
 abbrev pub times_with : ℕ → Times → Times
 times_with at times = record {
-  first = first_or at times.first;
+  first = Some (unwrap_or times.first at);
   latest = if nat_lt times.latest at then at else times.latest;
 }
 
@@ -242,20 +217,15 @@ timed at j = record j { times = times_with at j.times }
 abbrev pub tag_of : Net → ℕ → ℕ → Tag
 tag_of net number at = record { packet = number; net = net; at = at }
 
-abbrev pub after_seen : Net → ℕ → Recorded → ℕ → Judging → Judging
-after_seen net number packet at j = judged (tag_of net number at) (admitted net packet j) j
-
-abbrev pub found_seen : Net → ℕ → Recorded → ℕ → Judging → List Finding → List Finding
-found_seen net number packet at j found = found_judged (tag_of net number at) (admitted net packet j) j found
-
 abbrev pub after_timed : Net → ℕ → Recorded → Judging → Option ℕ → Judging
 after_timed net number packet j None = j
-after_timed net number packet j (Some at) = after_seen net number packet at (timed at j)
+after_timed net number packet j (Some at) = judged (tag_of net number at) (admitted net packet (timed at j)) (timed at j)
 
 abbrev pub found_timed : Net → ℕ → Recorded → Judging → List Finding → Option ℕ → List Finding
 found_timed net number packet j found None =
     with_finding (tag_of net number 0) None (Some (deviation (Frame Time) 0 0)) found
-found_timed net number packet j found (Some at) = found_seen net number packet at (timed at j) found
+found_timed net number packet j found (Some at) =
+    found_judged (tag_of net number at) (admitted net packet (timed at j)) (timed at j) found
 
 -- A packet of a network, by its number in its file: the judge after it, and the findings with the packet's.
 unfoldable pub after_packet : Net → ℕ → Recorded → Judging → Judging

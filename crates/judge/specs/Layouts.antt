@@ -1,12 +1,11 @@
 -- The first rule of the layout that a frame breaks (ARINC 664 Part 7, frame structure; RFC 791).
-use Rattle.std.specs.Prelude.{ℕ, ◌+◌, ◌-◌, ◌*◌, ◌%◌, ◌≤◌, ◌==◌, nat_eq, nat_lt, nat_le, not, ◌&&◌, ◌||◌, Bool, if◌then◌else◌, max, List, length, slice_index, slice_range, Option, Some, None, position}
+use Rattle.std.specs.Prelude.{ℕ, ◌+◌, ◌-◌, ◌*◌, ◌%◌, ◌≤◌, ◌==◌, nat_eq, nat_lt, nat_le, not, ◌&&◌, ◌||◌, Bool, if◌then◌else◌, max, List, length, slice_index, slice_range, Option, Some, None, option_map, position}
 use Rattle.afdx_frame.specs.Checksum.{word_sum}
 use Rattle.afdx_frame.specs.Frame.{greatest_datagram, more_fragments, offset_modulus}
 use Rattle.afdx_frame.specs.Profile.{total_length, fragment_field}
 use Rattle.judge.specs.Deviations.{deviation, first_of}
-use Rattle.judge.specs.declared.finding.Deviation.{Deviation}
+use Rattle.judge.specs.Types.{Deviation, Layout}
 use Rattle.judge.specs.declared.finding.Kind.TheVariants.{Frame}
-use Rattle.judge.specs.declared.finding.Layout.{Layout}
 use Rattle.judge.specs.declared.finding.Layout.TheVariants.{Length, DestinationMac, SourceMac, Interface, EtherType, Version, TotalLength, Fragment, Protocol, HeaderSum, SourceAddress, DestinationAddress, Padding}
 
 -- a rule whose field begins at a byte, unless it is kept
@@ -24,22 +23,12 @@ length_broken frame =
     else (if nat_lt 1514 (length frame) then Some (deviation (Frame Length) (length frame) 1514) else None)
 
 -- the constant fields of the MAC addresses, the interface identifier and the type
-abbrev pub has_destination_mac : List ℕ → Bool
-has_destination_mac f = has_byte f 0 3 && has_byte f 1 0 && has_byte f 2 0 && has_byte f 3 0
-
-abbrev pub has_source_mac : List ℕ → Bool
-has_source_mac f = has_byte f 6 2 && has_byte f 7 0 && has_byte f 8 0
-
-abbrev pub has_interface : List ℕ → Bool
-has_interface f = has_byte f 11 32 || has_byte f 11 64
-
-abbrev pub has_type : List ℕ → Bool
-has_type f = has_byte f 12 8 && has_byte f 13 0
-
 unfoldable pub link_broken : List ℕ → Option Deviation
-link_broken f = first_of (unless_kept (has_destination_mac f) DestinationMac 0)
-    (first_of (unless_kept (has_source_mac f) SourceMac 6)
-    (first_of (unless_kept (has_interface f) Interface 11) (unless_kept (has_type f) EtherType 12)))
+link_broken f =
+    first_of (unless_kept (has_byte f 0 3 && has_byte f 1 0 && has_byte f 2 0 && has_byte f 3 0) DestinationMac 0)
+    (first_of (unless_kept (has_byte f 6 2 && has_byte f 7 0 && has_byte f 8 0) SourceMac 6)
+    (first_of (unless_kept (has_byte f 11 32 || has_byte f 11 64) Interface 11)
+    (unless_kept (has_byte f 12 8 && has_byte f 13 0) EtherType 12)))
 
 -- the length of a frame with this total length: a short one is padded to 60 bytes
 abbrev pub framed : ℕ → ℕ
@@ -63,14 +52,12 @@ has_fragment f = nat_lt (fragment_field f) 16384
 abbrev pub has_protocol : Bool → List ℕ → Bool
 has_protocol arinc f = (arinc || has_byte f 22 1) && has_byte f 23 17
 
-abbrev pub has_header_sum : List ℕ → Bool
-has_header_sum f = nat_eq (word_sum (slice_range f 14 34) % 65535) 0
-
 unfoldable pub internet_broken : Bool → List ℕ → Option Deviation
 internet_broken arinc f = first_of (unless_kept (has_version arinc f) Version 14)
     (first_of (unless_kept (has_total f) TotalLength 16)
     (first_of (unless_kept (has_fragment f) Fragment 20)
-    (first_of (unless_kept (has_protocol arinc f) Protocol 22) (unless_kept (has_header_sum f) HeaderSum 24))))
+    (first_of (unless_kept (has_protocol arinc f) Protocol 22)
+    (unless_kept (nat_eq (word_sum (slice_range f 14 34) % 65535) 0) HeaderSum 24))))
 
 -- the source address: 10, the end system of the source MAC address, a partition from 0 to 31
 abbrev pub has_source_address : List ℕ → Bool
@@ -78,12 +65,9 @@ has_source_address f = has_byte f 26 10 && has_byte f 27 (slice_index f 9) && ha
     && nat_le (slice_index f 29) 31
 
 -- the destination address: 224.224 and the link of the destination MAC address, or a unicast address
-abbrev pub has_multicast : List ℕ → Bool
-has_multicast f = has_byte f 30 224 && has_byte f 31 224 && has_byte f 32 (slice_index f 4)
-    && has_byte f 33 (slice_index f 5)
-
 abbrev pub has_destination_address : List ℕ → Bool
-has_destination_address f = has_multicast f || has_byte f 30 10
+has_destination_address f = has_byte f 30 224 && has_byte f 31 224 && has_byte f 32 (slice_index f 4)
+    && has_byte f 33 (slice_index f 5) || has_byte f 30 10
 
 unfoldable pub address_broken : List ℕ → Option Deviation
 address_broken f = first_of (unless_kept (has_source_address f) SourceAddress 26)
@@ -96,13 +80,10 @@ padding_of f = slice_range f (14 + total_length f) (length f - 1)
 abbrev pub first_nonzero : List ℕ → Option ℕ
 first_nonzero bytes = position (λ byte. not (byte == 0)) bytes
 
-abbrev pub broken_after : ℕ → Option ℕ → Option Deviation
-broken_after start None = None
-broken_after start (Some place) = Some (deviation (Frame Padding) (start + place) 0)
-
 unfoldable pub padding_broken : Bool → List ℕ → Option Deviation
 padding_broken arinc f =
-    if arinc then None else broken_after (14 + total_length f) (first_nonzero (padding_of f))
+    if arinc then None
+    else option_map (λ place. deviation (Frame Padding) (14 + total_length f + place) 0) (first_nonzero (padding_of f))
 
 -- The rules in their order. By ARINC 664 alone (`arinc`), what only this project chose isn't one.
 unfoldable pub layout_broken : Bool → List ℕ → Option Deviation

@@ -5,6 +5,7 @@ pub mod Joining
 pub mod Judging
 pub mod Layouts
 pub mod Lines
+pub mod Merging
 pub mod Rules
 pub mod Twins
 pub mod Types

@@ -1,21 +1,11 @@
 -- A link on a network: its sequence numbers, its gaps, the turns of its sub-VLs, and the messages of these.
-use Rattle.std.specs.Prelude.{ℕ, ◌+◌, ◌-◌, ◌%◌, ◌^◌, nat_eq, nat_lt, nat_le, ◌&&◌, ◌||◌, Bool, false, if◌then◌else◌, min, List, [], ◌∷◌, slice_set, get_or, position, unwrap_or, Option, Some, None}
-use Rattle.std.specs.Option.{is_some}
-use Rattle.afdx_plan.specs.declared.port_plan.PortPlan.{PortPlan}
+use Rattle.std.specs.Prelude.{ℕ, ◌+◌, ◌-◌, ◌%◌, ◌^◌, nat_eq, nat_lt, nat_le, ◌&&◌, ◌||◌, Bool, false, if◌then◌else◌, min, List, [], ◌∷◌, slice_set, get_or, position, unwrap_or, option_map, not, Option, Some, None}
+use Rattle.std.specs.Option.{is_some, option_map_or}
 use Rattle.judge.specs.Deviations.{deviation, first_of}
-use Rattle.judge.specs.Joining.{fragment_deviation, head_now, end_deviation, joined, goes_on, is_unknown}
-use Rattle.judge.specs.declared.fields.Fields.{Fields}
-use Rattle.judge.specs.declared.finding.Deviation.{Deviation}
+use Rattle.judge.specs.Joining.{fragment_deviation, head_now, end_deviation, joined, goes_on, next_of}
+use Rattle.judge.specs.Types.{Arrived, Deviation, Fields, Figures, Joining, Last, Line, Measure, PortPlan, Sub, Verdict}
 use Rattle.judge.specs.declared.finding.Kind.TheVariants.{Number, Early, Port, Turn}
-use Rattle.judge.specs.declared.joining.Joining.{Joining}
 use Rattle.judge.specs.declared.joining.Joining.TheVariants.{Any, Between, After}
-use Rattle.judge.specs.declared.line.Arrived.{Arrived}
-use Rattle.judge.specs.declared.line.Figures.{Figures}
-use Rattle.judge.specs.declared.last.Last.{Last}
-use Rattle.judge.specs.declared.line.Line.{Line}
-use Rattle.judge.specs.declared.line.Measure.{Measure}
-use Rattle.judge.specs.declared.line.Sub.{Sub}
-use Rattle.judge.specs.declared.line.Verdict.{Verdict}
 
 -- ---- a line of which nothing came
 
@@ -27,18 +17,15 @@ new_sub late arinc sub = record {
   due = false;
 }
 
-abbrev pub no_figures : Figures
-no_figures = record { frames = 0; bytes = 0; messages = 0; least_gap = None }
-
 abbrev pub new_line : Bool → Bool → Line
 new_line late arinc = record {
   last = None;
-  figures = no_figures;
+  figures = record { frames = 0; bytes = 0; messages = 0; least_gap = None };
   subs = new_sub late arinc 0 ∷ new_sub late arinc 1 ∷ new_sub late arinc 2 ∷ new_sub late arinc 3 ∷ [];
 }
 
 abbrev pub unknown_place : List Sub → Option ℕ
-unknown_place subs = position (λ (s : Sub). is_unknown s.joining) subs
+unknown_place subs = position (λ (s : Sub). not (is_some (next_of s.joining))) subs
 
 -- The sub-VL of a frame, if it is one of the four. Else the frame begins a message, unless it may be of a sub-VL of whose
 -- message nothing is known.
@@ -72,8 +59,7 @@ number_deviation late number line = number_unless number (next_number late line.
 
 -- the time since the last frame
 abbrev pub gap_since : ℕ → Option Last → Option ℕ
-gap_since at None = None
-gap_since at (Some last) = Some (at - last.at)
+gap_since at last = option_map (λ (l : Last). at - l.at) last
 
 -- a frame is less than a gap after the last one, or before it
 abbrev pub early_since : ℕ → ℕ → Option Last → Option Deviation
@@ -111,8 +97,7 @@ abbrev pub passed_by : ℕ → List Sub → Option ℕ
 passed_by sub subs = due_before (sub_at subs sub).came subs
 
 abbrev pub turn_if : ℕ → Option ℕ → Option Deviation
-turn_if sub None = None
-turn_if sub (Some due) = Some (deviation Turn sub due)
+turn_if sub due = option_map (deviation Turn sub) due
 
 abbrev pub turn_deviation : ℕ → Line → Option Deviation
 turn_deviation sub line = turn_if sub (passed_by sub line.subs)
@@ -142,8 +127,7 @@ abbrev pub going_on : Fields → List Sub → Option ℕ
 going_on fields subs = position (λ (s : Sub). goes_on fields s.joining) subs
 
 abbrev pub sub_shown : Option PortPlan → Fields → List Sub → ℕ
-sub_shown (Some port) fields subs = port.sub
-sub_shown None fields subs = unwrap_or (going_on fields subs) 4
+sub_shown port fields subs = option_map_or (λ (p : PortPlan). p.sub) port (unwrap_or (going_on fields subs) 4)
 
 abbrev pub sub_of : Measure → Option PortPlan → Fields → Line → ℕ
 sub_of measure port fields line =
@@ -183,41 +167,37 @@ joining_on arrived line = (sub_at line.subs arrived.sub).joining
 abbrev pub fragment_on : Measure → Arrived → Line → Option Deviation
 fragment_on measure arrived line = fragment_deviation measure.room arrived.fields (joining_on arrived line)
 
--- a sub-VL after its frame
-abbrev pub sub_after : Measure → Option PortPlan → Arrived → Line → Sub
-sub_after measure port arrived line = record {
-  joining = joining_after measure.arinc (fragment_on measure arrived line) arrived.fields port (joining_on arrived line);
-  came = (figures_with arrived line).frames;
-  due = arrived.fields.piece.more;
-}
-
--- the line after a frame, from the settled one
-unfoldable pub line_with : Measure → Option PortPlan → Arrived → Line → Line
-line_with measure port arrived line = record {
+-- the line after a frame, after which this is known of its message
+abbrev pub line_joined : Arrived → Joining → Line → Line
+line_joined arrived joining line = record {
   last = Some (record { number = arrived.fields.number; at = arrived.at });
   figures = figures_with arrived line;
-  subs = slice_set line.subs arrived.sub (sub_after measure port arrived line);
+  subs = slice_set line.subs arrived.sub (record {
+    joining = joining;
+    came = (figures_with arrived line).frames;
+    due = arrived.fields.piece.more;
+  });
 }
+
+-- the same, from the settled line
+unfoldable pub line_with : Measure → Option PortPlan → Arrived → Line → Line
+line_with measure port arrived line = line_joined arrived
+    (joining_after measure.arinc (fragment_on measure arrived line) arrived.fields port (joining_on arrived line)) line
 
 -- the line on which a frame is judged: after its number, and after its turn
 abbrev pub numbered : Measure → Arrived → Line → Line
 numbered measure arrived line = after_number (number_deviation measure.late arrived.fields.number line) line
 
-abbrev pub settled_from : ℕ → Line → Line
-settled_from sub line = after_turn (turn_deviation sub line) line
-
 abbrev pub settled : Measure → Arrived → Line → Line
-settled measure arrived line = settled_from arrived.sub (numbered measure arrived line)
+settled measure arrived line =
+    after_turn (turn_deviation arrived.sub (numbered measure arrived line)) (numbered measure arrived line)
 
 -- By ARINC 664 alone messages show the sub-VL of a piece: nothing is known of them after a piece that isn't the next one of
 -- any, or is of no port.
-abbrev pub traced : Bool → Option Deviation → Line → Line
-traced arinc stray line = if arinc && is_some stray then unsettled line else line
-
 abbrev pub traced_with : Measure → Option PortPlan → Arrived → Line → Line
 traced_with measure port arrived line =
-    traced measure.arinc (first_of (port_deviation arrived.fields port) (fragment_on measure arrived line))
-    (line_with measure port arrived line)
+    if measure.arinc && is_some (first_of (port_deviation arrived.fields port) (fragment_on measure arrived line))
+    then unsettled (line_with measure port arrived line) else line_with measure port arrived line
 
 unfoldable pub line_after : Measure → Option PortPlan → Arrived → Line → Line
 line_after measure port arrived line = traced_with measure port arrived (settled measure arrived line)

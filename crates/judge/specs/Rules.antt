@@ -1,24 +1,17 @@
 -- The rules by which a packet is admitted: those that need no state. A packet that breaks one is judged no further.
 use Rattle.std.specs.Prelude.{ℕ, ◌+◌, ◌-◌, ◌==◌, nat_eq, nat_lt, nat_le, Bool, if◌then◌else◌, List, length, drop, take, slice_index, position, Option, Some, None, Result, Ok, Err}
 use Rattle.byteorder.specs.Endian.{little_number}
-use Rattle.afdx_plan.specs.Config.{Plan, link_plan_at}
-use Rattle.afdx_plan.specs.declared.link_plan.LinkPlan.{LinkPlan}
-use Rattle.afdx_plan.specs.declared.port_plan.VlId.{VlId}
-use Rattle.afdx_frame.specs.declared.net.Net.{Net}
+use Rattle.afdx_plan.specs.Config.{link_plan_at}
 use Rattle.afdx_frame.specs.Frame.{interface_byte}
 use Rattle.afdx_frame.specs.Header.{link_in}
 use Rattle.afdx_frame.specs.Profile.{word_at}
 use Rattle.redundant_mux.specs.Lines.{names}
-use Rattle.capture.specs.Recording.{Recorded}
 use Rattle.judge.specs.CheckSequence.{check_sequence}
 use Rattle.judge.specs.Deviations.{deviation}
 use Rattle.judge.specs.Layouts.{has_four_more, layout_broken}
-use Rattle.judge.specs.declared.finding.Deviation.{Deviation}
-use Rattle.judge.specs.declared.finding.Kind.{Kind}
+use Rattle.judge.specs.Types.{Deviation, Kind, LinkPlan, Net, Options, Plan, Recorded, Refused, VlId}
 use Rattle.judge.specs.declared.finding.Kind.TheVariants.{Frame, Source, Link, Network, Size}
 use Rattle.judge.specs.declared.finding.Layout.TheVariants.{Snapped, CheckSequence, Recorded as WithCheck, Length}
-use Rattle.judge.specs.declared.options.Options.{Options}
-use Rattle.judge.specs.declared.rules.Refused.{Refused}
 
 abbrev pub refused : Option VlId → Kind → ℕ → ℕ → Refused
 refused link kind seen wanted = record { deviation = deviation kind seen wanted; link = link }

@@ -1,16 +1,12 @@
 -- The frames of a link on two networks, and their twins (ARINC 664 Part 7, redundancy).
-use Rattle.std.specs.Prelude.{ℕ, ◌+◌, ◌-◌, nat_eq, nat_lt, nat_le, not, ◌&&◌, ◌||◌, Bool, true, false, if◌then◌else◌, List, [], ◌∷◌, ◌++◌, map, filter, find, length, remove, slice_range, Option, Some, None}
+use Rattle.std.specs.Prelude.{ℕ, ◌+◌, ◌-◌, nat_eq, nat_lt, nat_le, not, ◌&&◌, ◌||◌, Bool, true, false, if◌then◌else◌, List, [], ◌∷◌, ◌++◌, map, filter, find, length, remove, slice_range, option_map, option_and_then, Option, Some, None}
+use Rattle.std.specs.Option.{option_map_or, option_or}
 use Rattle.std.specs.List.{position_or_len}
-use Rattle.afdx_plan.specs.declared.port_plan.VlId.{VlId}
-use Rattle.afdx_frame.specs.declared.net.Net.{Net}
 use Rattle.afdx_frame.specs.declared.net.Net.TheVariants.{A, B}
 use Rattle.judge.specs.Deviations.{deviation, finding_of}
 use Rattle.judge.specs.Waiting.{Wait, Pairing}
-use Rattle.judge.specs.declared.finding.Deviation.{Deviation}
-use Rattle.judge.specs.declared.finding.Finding.{Finding}
+use Rattle.judge.specs.Types.{Deviation, Finding, Nearness, Net, Tag, VlId}
 use Rattle.judge.specs.declared.finding.Kind.TheVariants.{Twin, Missing}
-use Rattle.judge.specs.declared.finding.Tag.{Tag}
-use Rattle.judge.specs.declared.twins.Nearness.{Nearness}
 
 -- the time between two times
 abbrev pub apart : ℕ → ℕ → ℕ
@@ -20,12 +16,8 @@ abbrev pub is_near : Nearness → ℕ → ℕ → Bool
 is_near nearness a b = nat_le (apart a b) nearness.skew
 
 -- a frame of this time may have no twin, since the recording began late
-abbrev pub near_edge : Nearness → Option ℕ → ℕ → Bool
-near_edge nearness None at = false
-near_edge nearness (Some edge) at = is_near nearness edge at
-
 abbrev pub is_excused : Nearness → ℕ → Bool
-is_excused nearness at = near_edge nearness nearness.edge at
+is_excused nearness at = option_map_or (λ edge. is_near nearness edge at) nearness.edge false
 
 abbrev pub same_net : Net → Net → Bool
 same_net A A = true
@@ -71,13 +63,9 @@ first_other i [] (y ∷ ys) = Some i
 first_other i (x ∷ xs) [] = Some i
 first_other i (x ∷ xs) (y ∷ ys) = if nat_eq x y then first_other (i + 1) xs ys else Some i
 
-abbrev pub first_place : Option ℕ → Option ℕ → Option ℕ
-first_place None other = other
-first_place (Some place) other = Some place
-
 -- the same of frames of two networks, but for the interface identifier
 unfoldable pub twin_other : List ℕ → List ℕ → Option ℕ
-twin_other a b = first_place (first_other 0 (slice_range a 0 11) (slice_range b 0 11))
+twin_other a b = option_or (first_other 0 (slice_range a 0 11) (slice_range b 0 11))
     (first_other 12 (slice_range a 12 (length a)) (slice_range b 12 (length b)))
 
 -- the frame that waits with this number on the other network
@@ -85,29 +73,20 @@ abbrev pub is_twin : Tag → ℕ → Wait → Bool
 is_twin tag number w = not (same_net w.tag.net tag.net) && nat_eq w.number number
 
 abbrev pub other_at : Wait → Option ℕ → Option Deviation
-other_at w None = None
-other_at w (Some place) = Some (deviation Twin place w.tag.packet)
-
-abbrev pub twin_if : List ℕ → Option Wait → Option Deviation
-twin_if frame None = None
-twin_if frame (Some w) = other_at w (twin_other w.bytes frame)
+other_at w place = option_map (λ place. deviation Twin place w.tag.packet) place
 
 unfoldable pub twin_deviation : Tag → ℕ → List ℕ → Pairing → Option Deviation
-twin_deviation tag number frame p = twin_if frame (find (is_twin tag number) p.waiting)
-
--- those that wait, without the frame's twin
-abbrev pub without_twin : Tag → ℕ → List Wait → List Wait
-without_twin tag number ws = remove ws (position_or_len (is_twin tag number) ws)
+twin_deviation tag number frame p =
+    option_and_then (λ w. other_at w (twin_other w.bytes frame)) (find (is_twin tag number) p.waiting)
 
 abbrev pub greatest_of : Option ℕ → ℕ → Option ℕ
-greatest_of None b = Some b
-greatest_of (Some a) b = Some (if nat_lt a b then b else a)
+greatest_of a b = Some (option_map_or (λ a. if nat_lt a b then b else a) a b)
 
 abbrev pub met : Tag → ℕ → List ℕ → Pairing → Option Wait → Pairing
 met tag number frame p None =
     record p { waiting = p.waiting ++ record { tag = tag; number = number; bytes = frame } ∷ [] }
 met tag number frame p (Some w) = record {
-  waiting = without_twin tag number p.waiting;
+  waiting = remove p.waiting (position_or_len (is_twin tag number) p.waiting);
   lead = greatest_of p.lead (apart w.tag.at tag.at);
 }
 

@@ -1,6 +1,6 @@
 //! What a judge finds.
 ghost use Rattle.std.specs.Prelude.{◌≡◌, OnOk};
-ghost use Rattle.judge.specs.Deviations.{kind_number, deviation, first_of, finding_of, with_finding};
+ghost use Rattle.judge.specs.Deviations.{kind_number, deviation, finding_of, with_finding};
 
 use afdx_frame::Net;
 use afdx_plan::VlId;
@@ -186,13 +186,6 @@ impl Tag {
             wanted: deviation.wanted,
         }
     }
-}
-
-/// The first of two deviations.
-pub(crate) fn first_of(one: Option<Deviation>, other: Option<Deviation>) -> Option<Deviation>
-    ensures { result ≡ first_of one other }
-{
-    one.or(other)
 }
 
 /// Appends a packet's finding, if there is one.

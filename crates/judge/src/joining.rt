@@ -5,7 +5,7 @@ ghost use Rattle.judge.specs.Joining.{address_number, is_towards, is_of_port, po
 ghost use Rattle.afdx_plan.specs.Address.{destination_address};
 
 use crate::fields::{Fields, Flow, PieceIn};
-use crate::finding::{Deviation, Ending, Kind, Misfit, first_of};
+use crate::finding::{Deviation, Ending, Kind, Misfit};
 use afdx_plan::{PortPlan, UdpSum, VlId};
 
 /// What is known of the message of a sub-VL.
@@ -143,18 +143,18 @@ impl Joining {
             Joining::Any => len,
             Joining::Between(next) => {
                 let other = misfit_if(Misfit::Identification, *next as u32, ident as u32);
-                first_of(misfit_if(Misfit::Offset, 0, start), first_of(other, len))
+                misfit_if(Misfit::Offset, 0, start).or(other.or(len))
             }
             Joining::After(Some(before)) if *before == ident => {
                 let repeated = misfit(Misfit::Repeated, ident as u64, 0);
-                first_of(misfit_if(Misfit::Offset, 0, start), repeated)
+                misfit_if(Misfit::Offset, 0, start).or(repeated)
             }
-            Joining::After(_) => first_of(misfit_if(Misfit::Offset, 0, start), len),
+            Joining::After(_) => misfit_if(Misfit::Offset, 0, start).or(len),
             Joining::Within(open) => {
                 let offset = misfit_if(Misfit::Offset, open.next, start);
                 let other = misfit_if(Misfit::Identification, open.ident as u32, ident as u32);
                 let addresses = addresses_deviation(open.head, &fields.flow);
-                first_of(offset, first_of(other, first_of(addresses, len)))
+                offset.or(other.or(addresses.or(len)))
             }
         }
     }

@@ -3,7 +3,7 @@ ghost use Rattle.std.specs.Prelude.{◌≡◌, ◌<◌, length, replicate, slice
 ghost use Rattle.capture.specs.Recording.{recorded};
 ghost use Rattle.judge.specs.Fields.{fields_of};
 ghost use Rattle.judge.specs.Layouts.{IsReadable};
-ghost use Rattle.judge.specs.Judging.{Judging, Admitted, at_start, measure_of, nearness_of, setting_of, first_port, with_arrival, found_of_arrival, with_refusal, found_refusal, admitted, after_packet, found_with_packet, found_with_end, after_seen, found_seen, timed, found_left, is_with_check, new_link, figures_on, lead_of};
+ghost use Rattle.judge.specs.Judging.{Judging, Admitted, at_start, measure_of, nearness_of, setting_of, first_port, with_arrival, found_of_arrival, with_refusal, found_refusal, admitted, after_packet, found_with_packet, found_with_end, timed, found_left, is_with_check, new_link, figures_on, lead_of, no_times, times_with};
 
 use crate::fields::{Fields, fields_of};
 use crate::finding::{Deviation, Finding, Kind, Layout, Tag, add};
@@ -12,7 +12,6 @@ use crate::line::{Figures, Measure, sub_in};
 use crate::link::{Link, Setting};
 use crate::options::Options;
 use crate::rules::{Refused, frame_in, place_of};
-use crate::times::Times;
 use crate::twins::Nearness;
 use afdx_frame::Net;
 use afdx_plan::{Config, LinkPlan, PortPlan, VlId};
@@ -48,6 +47,35 @@ impl Model for Judge {
     } };
 
     ghost invariant = { λ j. length j.links.items ≡ length j.config.links };
+}
+
+/// The times of the packets so far, in nanoseconds: the first one's, and the latest.
+#[derive(Clone, Copy)]
+pub(crate) struct Times {
+    pub(crate) first: Option<u128>,
+    pub(crate) latest: u128,
+}
+
+impl Times {
+    /// The times of no packet.
+    pub(crate) fn new() -> Times
+        ensures { result ≡ no_times }
+    {
+        Times {
+            first: None,
+            latest: 0,
+        }
+    }
+
+    /// The times with one more.
+    pub(crate) fn with(self, at: u128) -> Times
+        ensures { result ≡ times_with at self }
+    {
+        Times {
+            first: Some(self.first.unwrap_or(at)),
+            latest: if self.latest < at { at } else { self.latest },
+        }
+    }
 }
 
 /// How near twins are.
@@ -220,7 +248,6 @@ impl Judge {
 }
 
 /// Appends which frames of links are missing at the end of the recording, at this time.
-#[tactic(auto, using(crate::proofs::Left::next_left, crate::proofs::Left::none_left))]
 fn add_left(
     nearness: &Nearness,
     at: u128,
@@ -232,9 +259,11 @@ fn add_left(
     ensures { OnOk result (found.new.items
         ≡ found_left nearness.now at plans.now links.now found.old.items) }
 {
-    for place in 0..plans.len() {
-        let link = &links[place];
-        link.twins.find_left(nearness, plans[place].id, at, found)?;
+    let (mut left, mut rest) = (plans, links);
+    'links: while let ([plan, more_plans @ ..], [link, more_links @ ..]) = (left, rest) {
+        link.twins.find_left(nearness, plan.id, at, found)?;
+        left = more_plans;
+        rest = more_links;
     }
     Ok(())
 }

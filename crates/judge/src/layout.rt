@@ -4,7 +4,7 @@ ghost use Rattle.afdx_frame.specs.Profile.{total_length};
 ghost use Rattle.judge.specs.Deviations.{deviation};
 ghost use Rattle.judge.specs.Layouts.{length_broken, link_broken, framed, has_total, has_fragment, internet_broken, address_broken, first_nonzero, padding_broken, layout_broken, has_four_more, IsReadable};
 
-use crate::finding::{Deviation, Kind, Layout, first_of};
+use crate::finding::{Deviation, Kind, Layout};
 use afdx_frame::net::SHORTEST_FRAME;
 use afdx_frame::{GREATEST_FRAME, word_at, word_sum};
 
@@ -152,7 +152,7 @@ pub(crate) fn layout_broken(arinc: bool, frame: &[u8]) -> Option<Deviation>
     if let Some(broken) = internet_broken(arinc, frame) {
         return Some(broken);
     }
-    first_of(address_broken(frame), padding_broken(arinc, frame))
+    address_broken(frame).or(padding_broken(arinc, frame))
 }
 
 /// Whether a frame has four bytes more than its total length says, as one with its check sequence has.

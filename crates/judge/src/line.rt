@@ -1,12 +1,11 @@
 //! A link on a network: its numbers, its gaps and its sub-VLs.
 ghost use Rattle.std.specs.Prelude.{◌≡◌, ◌+◌, ◌≤◌, ◌<◌, ◌%◌, if◌then◌else◌, slice_set, true, false};
 ghost use Rattle.judge.specs.Fields.{AreSmall};
-ghost use Rattle.judge.specs.Lines.{new_sub, new_line, next_number, number_unless, number_deviation, gap_since, early_since, early_deviation, unsettled_sub, unsettled, excused_sub, excused, turn_deviation, due_before, unknown_place, going_on, sub_at, other_sub, port_deviation, sub_in, sub_shown, sub_of, least_of, figures_with, joining_after, message_after, line_with, line_after, verdict, after_number, after_turn};
+ghost use Rattle.judge.specs.Lines.{new_sub, new_line, next_number, number_unless, number_deviation, gap_since, early_since, early_deviation, unsettled_sub, unsettled, excused_sub, excused, turn_deviation, due_before, unknown_place, going_on, sub_at, other_sub, port_deviation, sub_in, sub_shown, sub_of, least_of, figures_with, joining_after, message_after, line_joined, line_with, line_after, verdict, after_number, after_turn};
 
 use crate::fields::Fields;
-use crate::finding::{Deviation, Kind, first_of};
+use crate::finding::{Deviation, Kind};
 use crate::joining::{Joining, end_deviation, joined};
-use crate::last::{Last, gap_since, next_number};
 use afdx_plan::PortPlan;
 
 /// The state of a link on a network.
@@ -16,6 +15,13 @@ pub(crate) struct Line {
     pub(crate) figures: Figures,
     /// The sub-VLs, by their indices.
     pub(crate) subs: [Sub; 4],
+}
+
+/// The sequence number and the time in nanoseconds of the last frame of a link on a network.
+#[derive(Clone, Copy)]
+pub(crate) struct Last {
+    pub(crate) number: u8,
+    pub(crate) at: u128,
 }
 
 /// The state of a sub-VL on a network.
@@ -72,6 +78,25 @@ pub(crate) struct Verdict {
     pub(crate) fragment: Option<Deviation>,
     pub(crate) message: Option<Deviation>,
     pub(crate) turn: Option<Deviation>,
+}
+
+/// The number of the next frame, if it is known.
+fn next_number(late: bool, last: Option<Last>) -> Option<u8>
+    ensures { result ≡ next_number late last }
+{
+    match last {
+        Some(last) if last.number == 255 => Some(1),
+        Some(last) => Some(last.number + 1),
+        None if late => None,
+        None => Some(0),
+    }
+}
+
+/// The time since the last frame.
+fn gap_since(at: u128, last: Option<Last>) -> Option<u128>
+    ensures { result ≡ gap_since at last }
+{
+    Some(at.saturating_sub(last?.at))
 }
 
 /// The lesser of two times, of which either may be missing.
@@ -299,15 +324,7 @@ impl Line {
 
     /// The line with a frame, after which this is known of its message.
     fn with(&self, arrived: &Arrived, joining: Joining) -> Line
-        ensures { result ≡ record {
-          last = Some (record { number = arrived.now.fields.number; at = arrived.now.at });
-          figures = figures_with arrived.now self.now;
-          subs = slice_set self.now.subs arrived.now.sub (record {
-            joining = joining;
-            came = (figures_with arrived.now self.now).frames;
-            due = arrived.now.fields.piece.more;
-          });
-        } }
+        ensures { result ≡ line_joined arrived.now joining self.now }
     {
         let figures = self.figures_with(arrived);
         let after = Sub {
@@ -347,7 +364,7 @@ impl Line {
         let fragment = joining.fragment_deviation(measure.room, fields);
         let (after, message) = ended(measure.arinc, fragment, fields, port, &joining);
         let port = port_deviation(fields, port);
-        let stray = first_of(port, fragment);
+        let stray = port.or(fragment);
         let line = settled.with(arrived, after);
         *self = if measure.arinc {
             line.after(stray, true)

@@ -84,8 +84,7 @@ impl Link {
     {
         if is_both(&setting.plan) {
             let (nearness, vl) = (&setting.nearness, setting.plan.id);
-            self.twins.find_missing(nearness, vl, tag, number, found)?;
-            self.twins.give_up(nearness, tag, number);
+            self.twins.give_up(nearness, vl, tag, number, found)?;
         }
         Ok(())
     }

@@ -1,7 +1,7 @@
 //! The frames of a link that one network has and the other hasn't yet.
 ghost use Rattle.std.specs.Prelude.{◌≡◌, ◌+◌, ◌^◌, ◌≤◌, ◌<◌, find, position, length, OnOk, IfOk, None, []};
 ghost use Rattle.judge.specs.Waiting.{Wait, Pairing};
-ghost use Rattle.judge.specs.Twins.{apart, is_near, is_excused, same_net, is_passed, kept, is_lost, is_left, is_twin, missing, found_missing, left_waiting, first_other, twin_other, other_at, twin_if, twin_deviation, greatest_of, pairing_with, found_at_end};
+ghost use Rattle.judge.specs.Twins.{apart, is_near, is_excused, same_net, is_passed, kept, is_lost, is_left, is_twin, missing, found_missing, left_waiting, first_other, twin_other, other_at, twin_deviation, greatest_of, pairing_with, found_at_end};
 
 use crate::finding::{Deviation, Finding, Kind, Tag};
 use afdx_frame::Net;
@@ -89,24 +89,23 @@ impl Nearness {
 }
 
 /// The first place at which bytes differ, counted from this one.
-#[tactic(auto, using(crate::proofs::Others::other_after, crate::proofs::Others::none_after, crate::proofs::Others::other_here, crate::proofs::Others::same_here))]
 fn first_other(from: usize, a: &[u8], b: &[u8]) -> Option<usize>
     requires { from ≤ 12 }
     ensures { result ≡ first_other from a.now b.now }
 {
-    let len = a.len().min(b.len());
-    let mut i = 0;
-    while i < len {
-        if a[i] != b[i] {
-            return Some(from + i);
+    let (mut place, mut rest_a, mut rest_b) = (from, a, b);
+    'bytes: while let [x, after_a @ ..] = rest_a {
+        let [y, after_b @ ..] = rest_b else {
+            return Some(place);
+        };
+        if x != y {
+            return Some(place);
         }
-        i += 1;
+        place += 1;
+        rest_a = after_a;
+        rest_b = after_b;
     }
-    if a.len() == b.len() {
-        None
-    } else {
-        Some(from + len)
-    }
+    if rest_b.len() == 0 { None } else { Some(place) }
 }
 
 /// The first place at which frames of two networks differ, beside the interface identifier.
@@ -198,18 +197,19 @@ impl Twins {
         }
     }
 
-    /// Appends the frames that a frame shows to have no twin.
-    #[tactic(auto, unfolding(crate::specs::Twins::found_missing))]
-    pub(crate) fn find_missing(
-        &self,
+    /// Gives up the frames that a frame shows to have no twin, and appends them.
+    #[tactic(auto, unfolding(crate::specs::Twins::found_missing, crate::specs::Twins::left_waiting))]
+    pub(crate) fn give_up(
+        &mut self,
         nearness: &Nearness,
         vl: VlId,
         tag: &Tag,
         number: u8,
         found: &mut Vec<Finding>,
     ) -> Result<(), AllocError>
-        ensures { OnOk result (found.new.items
-            ≡ found_missing nearness.now vl tag.now number self.now.waiting found.old.items) }
+        ensures after { OnOk result (self.new ≡ left_waiting nearness.now tag.now number self.old) }
+        ensures found { OnOk result (found.new.items
+            ≡ found_missing nearness.now vl tag.now number self.old.waiting found.old.items) }
     {
         let waiting = self.waiting.as_slice();
         for w in waiting {
@@ -217,15 +217,8 @@ impl Twins {
                 found.push(w.missing(vl))?;
             }
         }
-        Ok(())
-    }
-
-    /// Lets those that a frame shows to have no twin wait no longer.
-    #[tactic(auto, unfolding(crate::specs::Twins::left_waiting))]
-    pub(crate) fn give_up(&mut self, nearness: &Nearness, tag: &Tag, number: u8)
-        ensures { self.new ≡ left_waiting nearness.now tag.now number self.old }
-    {
         keep(&mut self.waiting, nearness, tag, number);
+        Ok(())
     }
 
     /// The place of a frame's twin among those that wait.

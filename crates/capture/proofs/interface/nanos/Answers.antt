@@ -1,5 +1,4 @@
-use Rattle.std.proofs.Common.{◌-◌, arith}
-use Rattle.std.proofs.Math.Nat.{pow-le-pow_right}
+use Rattle.capture.proofs.Names.{arith, pow-le-pow_right, ◌-◌}
 use Rattle.capture.proofs.Times.{less_divided}
 use Rattle.capture.proofs.interface.nanos.Goals as goal
 

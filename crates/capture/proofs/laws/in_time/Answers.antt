@@ -1,5 +1,4 @@
-use Rattle.std.proofs.Common.{arith}
-use Rattle.capture.specs.Order.{in_order}
+use Rattle.capture.proofs.Names.{arith, in_order}
 use Rattle.capture.proofs.Orders.{in_time}
 use Rattle.capture.proofs.laws.in_time.Goals as goal
 

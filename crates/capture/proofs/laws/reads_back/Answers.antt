@@ -1,9 +1,5 @@
-use Rattle.std.proofs.Common.{refl}
-use Rattle.capture.specs.Capture.{half, word, section_block, interface_block, packet_block, packet_blocks, header_blocks}
-use Rattle.capture.specs.Interfaces.{with_option, first_option, with_options, time_of}
-use Rattle.capture.specs.Order.{in_order}
-use Rattle.capture.specs.Recording.{enhanced, section_content, interface_content, block_content, body_of, content_of, next, read_within}
-use Rattle.capture.specs.Units.{unit_of, section_unit, size_of, block_size}
+use Rattle.capture.proofs.Names.{block_content, block_size, body_of, content_of, enhanced, first_option, half, header_blocks, in_order, interface_block, interface_content, next, packet_block, packet_blocks, read_within, refl}
+use Rattle.capture.proofs.Names.{section_block, section_content, section_unit, size_of, time_of, unit_of, with_option, with_options, word}
 use Rattle.capture.proofs.ReadBacks.{reads_back}
 use Rattle.capture.proofs.laws.reads_back.Goals as goal
 

@@ -1,6 +1,4 @@
-use Rattle.std.proofs.Common.{arith}
-use Rattle.capture.specs.Capture.{packet_blocks}
-use Rattle.script_text.proofs.Written.{written_none, written_turn, written_all}
+use Rattle.capture.proofs.Names.{arith, packet_blocks, written_all, written_none, written_turn}
 use Rattle.capture.proofs.write.write_capture.Goals as goal
 
 pub loop-packet-init : goal.loop-packet-init

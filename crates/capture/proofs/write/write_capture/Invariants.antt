@@ -1,6 +1,4 @@
-use Rattle.capture.specs.Capture.{header_blocks, packet_block}
-use Rattle.capture.specs.Order.{in_order}
-use Rattle.script_text.proofs.Written.{HasWritten}
+use Rattle.capture.proofs.Names.{HasWritten, header_blocks, in_order, packet_block}
 use Rattle.capture.proofs.write.write_capture.Given as goal
 
 abbrev pub invariant-loop-packet : goal.invariant-loop-packet

@@ -1,7 +1,13 @@
-use Rattle.std.proofs.Common.{◌≡◌, drop}
+use Rattle.std.proofs.Common.{◌≡◌, length}
 use Rattle.judge.specs.Judging.{found_left}
 use Rattle.judge.proofs.judge.add_left.Given as goal
 
-abbrev pub invariant-loop-place : goal.invariant-loop-place
-invariant-loop-place l = found_left l.nearness l.at (drop l.place l.plans) (drop l.place l.links) l.found.items
-    ≡ found_left l.nearness l.at l.plans l.links l.initial.found.items
+abbrev pub invariant-links : goal.invariant-links
+invariant-links l = record {
+  matched : length l.rest ≡ length l.left;
+  same : found_left l.nearness l.at l.left l.rest l.found.items
+      ≡ found_left l.nearness l.at l.plans l.links l.initial.found.items;
+}
+
+abbrev pub decreases-links : goal.decreases-links
+decreases-links l = length l.left

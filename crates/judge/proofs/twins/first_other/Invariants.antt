@@ -1,12 +1,12 @@
-use Rattle.std.proofs.Common.{◌≡◌, ◌+◌, ◌-◌, ◌≤◌, drop}
+use Rattle.std.proofs.Common.{◌≡◌, ◌+◌, length}
 use Rattle.judge.specs.Twins.{first_other}
 use Rattle.judge.proofs.twins.first_other.Given as goal
 
-abbrev pub invariant-loop-i : goal.invariant-loop-i
-invariant-loop-i l = record {
-  within : l.i ≤ l.len;
-  same : first_other (l.from + l.i) (drop l.i l.a) (drop l.i l.b) ≡ first_other l.from l.a l.b;
+abbrev pub invariant-bytes : goal.invariant-bytes
+invariant-bytes l = record {
+  within : l.place + length l.rest_a ≡ l.from + length l.a;
+  same : first_other l.place l.rest_a l.rest_b ≡ first_other l.from l.a l.b;
 }
 
-abbrev pub decreases-loop-i : goal.decreases-loop-i
-decreases-loop-i l = l.len - l.i
+abbrev pub decreases-bytes : goal.decreases-bytes
+decreases-bytes l = length l.rest_a

@@ -1,9 +1,9 @@
-use Rattle.std.proofs.Common.{◌≡◌, drop}
-use Rattle.judge.specs.Twins.{is_left}
-use Rattle.judge.proofs.Missing.{found_from}
+use Rattle.std.proofs.Common.{◌≡◌, ◌++◌, drop}
+use Rattle.std.specs.Prelude.{filter}
+use Rattle.judge.specs.Twins.{is_left, missing_of}
 use Rattle.judge.proofs.twins.Twins.find_left.Given as goal
 
 abbrev pub invariant-loop-w : goal.invariant-loop-w
 invariant-loop-w l =
-    found_from (is_left l.nearness l.at) l.vl (drop l.w-index l.waiting) l.found.items
-    ≡ found_from (is_left l.nearness l.at) l.vl l.waiting l.initial.found.items
+    l.found.items ++ missing_of l.vl (filter (is_left l.nearness l.at) (drop l.w-index l.waiting))
+    ≡ l.initial.found.items ++ missing_of l.vl (filter (is_left l.nearness l.at) l.waiting)

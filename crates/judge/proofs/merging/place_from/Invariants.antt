@@ -1,7 +1,7 @@
 use Rattle.std.proofs.Common.{◌≡◌, ◌≤◌, ◌+◌, ◌-◌, map, length, drop}
 use Rattle.capture.specs.Recording.{recorded}
-use Rattle.judge_captures.specs.Merging.{of_net}
-use Rattle.judge_captures.proofs.merging.place_from.Given as goal
+use Rattle.judge.specs.Merging.{of_net}
+use Rattle.judge.proofs.merging.place_from.Given as goal
 
 abbrev pub invariant-others : goal.invariant-others
 invariant-others l = record {

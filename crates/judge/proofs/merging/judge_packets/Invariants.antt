@@ -2,8 +2,8 @@ use Rattle.std.proofs.Common.{◌≡◌, ◌≤◌, ◌+◌, ◌-◌, map, lengt
 use Rattle.afdx_frame.specs.declared.net.Net.TheVariants.{A, B}
 use Rattle.capture.specs.Recording.{recorded}
 use Rattle.judge.specs.Judging.{found_from, findings}
-use Rattle.judge_captures.specs.Merging.{from_places, BeginsOn}
-use Rattle.judge_captures.proofs.merging.judge_packets.Given as goal
+use Rattle.judge.specs.Merging.{from_places, BeginsOn}
+use Rattle.judge.proofs.merging.judge_packets.Given as goal
 
 abbrev pub invariant-packets : goal.invariant-packets
 invariant-packets l = record {

@@ -1,17 +1,9 @@
 -- The packets of two networks in the order of their times.
-use Rattle.std.specs.Prelude.{ℕ, ◌+◌, ◌≡◌, nat_lt, ◌||◌, Bool, true, false, if◌then◌else◌, List, [], ◌∷◌, drop, Option, Some, None, ⊤}
-use Rattle.afdx_frame.specs.declared.net.Net.{Net}
+use Rattle.std.specs.Prelude.{ℕ, ◌+◌, ◌≡◌, nat_lt, ◌||◌, Bool, true, if◌then◌else◌, List, [], ◌∷◌, drop, unwrap_or, Option, Some, None, ⊤}
 use Rattle.afdx_frame.specs.declared.net.Net.TheVariants.{A, B}
-use Rattle.capture.specs.Recording.{Recorded}
+use Rattle.capture.specs.ReadBack.{is_of as is_on}
 use Rattle.judge.specs.Judging.{OnNet}
-
--- an interface is that of a network
-abbrev pub is_on : Net → Option Net → Bool
-is_on net None = false
-is_on A (Some A) = true
-is_on A (Some B) = false
-is_on B (Some A) = false
-is_on B (Some B) = true
+use Rattle.judge.specs.Types.{Net, Recorded}
 
 -- a packet is of a network: any in a capture of that network alone, otherwise those of its interface
 abbrev pub is_of : Bool → Net → Recorded → Bool
@@ -28,12 +20,8 @@ of_net alone net number (p ∷ ps) =
     else of_net alone net (number + 1) ps
 
 -- the time by which a packet is merged: 0 if none was recorded
-abbrev pub or_zero : Option ℕ → ℕ
-or_zero None = 0
-or_zero (Some at) = at
-
 abbrev pub time_of : Recorded → ℕ
-time_of packet = or_zero packet.at
+time_of packet = unwrap_or packet.at 0
 
 -- a packet of A, after those of B that are earlier, and before what comes of the others
 abbrev pub before_others : OnNet → (List OnNet → List OnNet) → List OnNet → List OnNet

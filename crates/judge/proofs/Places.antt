@@ -7,7 +7,7 @@ use Rattle.capture.specs.Recording.{Recorded, recorded}
 use Rattle.capture.specs.declared.packet.Packet.{Packet}
 use Rattle.judge.specs.Judging.{OnNet, Judging, after_packet, found_with_packet, found_from}
 use Rattle.judge.specs.declared.finding.Finding.{Finding}
-use Rattle.judge_captures.specs.Merging.{on_net, of_net, merged, from_places, next_net, BeginsOn}
+use Rattle.judge.specs.Merging.{on_net, of_net, merged, from_places, next_net, BeginsOn}
 
 -- the packet at a place begins what is left from there on
 pub at_place : (ps : List Packet) (i : ℕ) (d : Packet) → i < length ps

@@ -2,12 +2,14 @@
 ghost use Rattle.std.specs.Prelude.{◌≡◌, ◌+◌, ◌<◌, ◌≤◌, Some, map, length, drop, IfOk};
 ghost use Rattle.capture.specs.Recording.{recorded};
 ghost use Rattle.judge.specs.Judging.{findings};
-ghost use Rattle.judge_captures.specs.Merging.{is_of, next_net, of_net, time_of, from_places, BeginsOn};
+ghost use Rattle.judge.specs.Merging.{is_of, next_net, of_net, time_of, from_places, BeginsOn};
 
+use crate::finding::Finding;
+use crate::judge::Judge;
+use crate::options::Options;
 use afdx_frame::Net;
 use afdx_plan::Config;
 use capture::Packet;
-use judge::{Finding, Judge, Options};
 use std::alloc::{AllocError, Global};
 
 /// Whether a packet is of a network: any in a capture of that network alone, otherwise those of its interface.

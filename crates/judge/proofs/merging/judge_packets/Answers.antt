@@ -1,6 +1,6 @@
 use Rattle.std.proofs.Common.{arith}
-use Rattle.judge_captures.proofs.Places.{next_a, next_b, found_on, rest_is}
-use Rattle.judge_captures.proofs.merging.judge_packets.Goals as goal
+use Rattle.judge.proofs.Places.{next_a, next_b, found_on, rest_is}
+use Rattle.judge.proofs.merging.judge_packets.Goals as goal
 
 pub packets-preserved-in-A : goal.packets-preserved-in-A
 packets-preserved-in-A c = record {

@@ -1,6 +1,0 @@
-//! Judges the packets of captures that are in memory.
-#![tactic(auto)]
-
-mod merging;
-
-pub use merging::judge_packets;
