@@ -7,6 +7,7 @@ pub mod Layouts
 pub mod Lines
 pub mod Merging
 pub mod Rules
+pub mod State
 pub mod Twins
 pub mod Types
 pub mod Waiting

@@ -1,5 +1,4 @@
--- The types of the definitions here, of this crate and of others. Other crates' laws speak of a judge's state by these
--- names, since the judge keeps it to itself.
+-- The types of the definitions here, of this crate and of others.
 pub use Rattle.afdx_plan.specs.Config.{Plan}
 pub use Rattle.afdx_plan.specs.declared.link_plan.LinkPlan.{LinkPlan}
 pub use Rattle.afdx_plan.specs.declared.port_plan.PortPlan.{PortPlan}

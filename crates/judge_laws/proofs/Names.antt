@@ -34,7 +34,7 @@ pub use Rattle.afdx_frame.specs.Checksum.{word_sum}
 unfoldable pub use Rattle.afdx_frame.specs.Checksum.{checksum, udp_checksum}
 pub use Rattle.afdx_frame.specs.Cutting.{Cutting, piece_at}
 pub use Rattle.afdx_frame.specs.Fragments.{Sent, blanked, fragments, fragments_from, fragments_left}
-pub use Rattle.afdx_frame.specs.Frame.{frame_of, interface_byte, udp_field}
+pub use Rattle.afdx_frame.specs.Frame.{frame_of, interface_byte, more_fragments, udp_field}
 unfoldable pub use Rattle.afdx_frame.specs.Frame.{addresses, datagram, header_front, internet_header, link_header, udp_header, udp_sum, unnumbered}
 pub use Rattle.afdx_frame.specs.Header.{link_in, number_in, sub_in, twin_of}
 pub use Rattle.afdx_frame.specs.Profile.{HasAddresses, HasInternetHeader, HasLinkHeader, HasZeroPadding, IsFrame, fragment_field, total_length, word_at}
@@ -61,7 +61,7 @@ unfoldable pub use Rattle.judge.specs.Joining.{fragment_deviation, head_now, len
 pub use Rattle.judge.specs.Judging.{Admitted, Judging, OnNet, after_timed, arrived, findings, first_port, found_from, found_given_up, found_left, found_timed, given_up, line_on, link_at, measure_of, nearness_of, new_link, no_times}
 pub use Rattle.judge.specs.Judging.{placed, tag_of, timed, times_with}
 unfoldable pub use Rattle.judge.specs.Judging.{admitted, after_packet, found_of_arrival, found_on_link, found_with_end, found_with_packet, link_after, with_arrival, with_verdict}
-pub use Rattle.judge.specs.Layouts.{first_nonzero, has_four_more, padding_of, unless_kept}
+pub use Rattle.judge.specs.Layouts.{first_nonzero, has_four_more, has_total, padding_of, unless_kept}
 unfoldable pub use Rattle.judge.specs.Layouts.{address_broken, internet_broken, layout_broken, link_broken, padding_broken}
 pub use Rattle.judge.specs.Lines.{due_before, early_deviation, early_since, figures_with, new_line, new_sub, next_number, number_after, number_deviation, number_unless, numbered, other_sub, passed_by, port_deviation, settled}
 pub use Rattle.judge.specs.Lines.{sub_at, sub_in as judge_sub, turn_deviation, turn_if}
@@ -70,7 +70,7 @@ pub use Rattle.judge.specs.Rules.{interface_on, on_link, size_deviation}
 unfoldable pub use Rattle.judge.specs.Rules.{checked, frame_in, place_of, unchecked}
 pub use Rattle.judge.specs.Twins.{first_other, is_lost, is_passed, is_twin, kept, missing, missing_of, same_net, stays}
 unfoldable pub use Rattle.judge.specs.Twins.{found_at_end, found_missing, left_waiting, pairing_with, twin_deviation, twin_other}
-pub use Rattle.judge.specs.Types.{Arrived, Deviation, Fields, Flow, Head, Joining, Last, Line, Link, Measure, Nearness, PieceIn, Refused, Setting, Sub, Tag, Times, Verdict}
+pub use Rattle.judge.specs.State.{Arrived, Deviation, Fields, Flow, Head, Joining, Last, Line, Link, Measure, Nearness, PieceIn, Refused, Setting, Sub, Tag, Times, Verdict}
 pub use Rattle.judge.specs.Waiting.{Pairing, Wait}
 pub use Rattle.judge.specs.declared.finding.Finding.{Finding}
 pub use Rattle.judge.specs.declared.finding.Kind.TheVariants.{Missing}

@@ -1,7 +1,7 @@
 -- The judge's rules of the layout are those of the profile.
-use Rattle.judge_laws.proofs.Names.{Bool, Deviation, HasAddresses, HasInternetHeader, HasLinkHeader, HasZeroPadding, Layout, List, None, Option, address_broken, arith, fails_before_first, false, first_nonzero, first_of, get_or}
-use Rattle.judge_laws.proofs.Names.{internet_broken, layout_broken, length, link_broken, max, nat_tests, not, padding_broken, padding_of, position_or_len_is, refl, total_length, true, unless_kept, zeros_part, zeros_there, ℕ, ◌+◌}
-use Rattle.judge_laws.proofs.Names.{◌-◌, ◌<◌, ◌==◌, ◌↔◌, ◌≡◌}
+use Rattle.judge_laws.proofs.Names.{Bool, Deviation, HasAddresses, HasInternetHeader, HasLinkHeader, HasZeroPadding, Layout, List, None, Option, address_broken, arith, fails_before_first, false, first_nonzero, first_of, fragment_field, get_or, has_total}
+use Rattle.judge_laws.proofs.Names.{internet_broken, layout_broken, length, link_broken, max, more_fragments, nat_tests, not, padding_broken, padding_of, position_or_len_is, refl, total_length, true, unless_kept, zeros_part, zeros_there, ℕ, ◌%◌, ◌+◌}
+use Rattle.judge_laws.proofs.Names.{◌-◌, ◌<◌, ◌==◌, ◌↔◌, ◌≡◌, ◌≤◌}
 use Rattle.judge_laws.specs.Frames.{LayoutIsProfile}
 
 pub none_both : (a b : Option Deviation) → first_of a b ≡ None → (a ≡ None) × (b ≡ None)
@@ -15,12 +15,16 @@ address_rules : (f : List ℕ) → (address_broken f ≡ None) ↔ HasAddresses 
 unfolding address_broken
 address_rules f = grind (arith, nat_tests)
 
+total_from : (f : List ℕ) → has_total f ≡ true → (21 ≤ total_length f) × (length f ≡ max 60 (15 + total_length f))
+    × (more_fragments ≤ fragment_field f → (total_length f - 20) % 8 ≡ 0)
+total_from f e = grind (arith, nat_tests)
+
 kept_of : (kept : Bool) (rule : Layout) (byte : ℕ) → unless_kept kept rule byte ≡ None → kept ≡ true
 kept_of kept rule byte e = grind arith
 
 internet_from : (f : List ℕ) → internet_broken false f ≡ None → HasInternetHeader f × (length f ≡ max 60 (15 + total_length f))
 unfolding internet_broken
-internet_from f e = grind (arith, nat_tests, none_both, kept_of)
+internet_from f e = grind (arith, nat_tests, none_both, total_from, kept_of)
 
 internet_to : (f : List ℕ) → HasInternetHeader f → length f ≡ max 60 (15 + total_length f) → internet_broken false f ≡ None
 unfolding internet_broken
