@@ -1,11 +1,16 @@
 //! The files that the words name.
-use crate::stop::{Cause, Named, Stop};
-use plan_report::Failure;
-use std::fs::{self, File, Metadata};
-use std::io;
+use crate::stop::{Cause, Stop, of_file};
+use afdx_plan::Config;
+use plan_report::{Halting, read_plan};
+use std::alloc::{AllocError, Global};
+use std::fs::{self, File};
+use std::io::{self, BufWriter};
 use std::os::fd::AsRawFd;
 use std::os::unix::fs::MetadataExt;
 use tx_script::RunFault;
+
+// The size of the buffer of a file that is written, in bytes.
+const BUFFER: usize = 65_536;
 
 /// Takes the number of a closed standard stream, so that no other file gets it. A folder can be neither
 /// read nor written, so the stream still fails. `None` if all three streams are open.
@@ -19,38 +24,71 @@ pub fn stand_in(rt: &HostRuntime) -> Option<File> {
 }
 
 /// Opens a file that a word names.
-pub fn open(rt: &HostRuntime, path: &str, named: Named) -> Result<File, Stop> {
-    File::open(rt, path).map_err(|error| failed(error, RunFault::Read, named))
+pub fn open<'a>(rt: &HostRuntime, path: &'a str) -> Result<File, Stop<'a>> {
+    File::open(rt, path).map_err(|error| failed(error, RunFault::Read, path))
 }
 
-/// Makes a file that a word names, or empties it. If it is one of the files that are read, under any name, returns
-/// Write and leaves the file unchanged.
-pub fn create(rt: &HostRuntime, path: &str, named: Named, read: &[&File]) -> Result<File, Stop> {
-    match is_any(rt, path, read) {
-        Ok(false) => {}
-        Ok(true) => {
-            let failure = Failure::Run(RunFault::Write);
-            return Err(Stop::by_file(failure, named, Cause::Same));
-        }
-        Err(error) => return Err(failed(error, RunFault::Write, named)),
+/// Opens a file, if a word names one.
+pub fn open_given<'a>(
+    rt: &HostRuntime,
+    path: &'a Option<String>,
+) -> Result<Option<File>, Stop<'a>> {
+    match path {
+        Some(path) => Ok(Some(open(rt, path.as_str())?)),
+        None => Ok(None),
     }
-    File::create(rt, path).map_err(|error| failed(error, RunFault::Write, named))
+}
+
+/// Opens the file of a plan and reads it. The file is kept, since none that is written may be the same.
+pub fn open_plan<'a>(rt: &HostRuntime, path: &'a str) -> Result<(File, Config), Stop<'a>> {
+    let text = open(rt, path)?;
+    let plan = of_file(read_plan(rt.alloc(), &text), path, Cause::UnreadPlan)?;
+    Ok((text, plan))
+}
+
+/// Makes a file, or empties it, if a word names one. If it is one of the files that are read, under any name, returns
+/// Write and leaves the file unchanged.
+pub fn create<'a>(
+    rt: &HostRuntime,
+    path: &'a Option<String>,
+    read: &[&File],
+) -> Result<Option<File>, Stop<'a>> {
+    let Some(path) = path else {
+        return Ok(None);
+    };
+    let path = path.as_str();
+    let made = match is_any(rt, path, read) {
+        Ok(false) => File::create(rt, path),
+        Ok(true) => return Err(Stop::by_file(RunFault::Write, path, Cause::Same)),
+        Err(error) => Err(error),
+    };
+    match made {
+        Ok(file) => Ok(Some(file)),
+        Err(error) => Err(failed(error, RunFault::Write, path)),
+    }
+}
+
+/// A buffer of a file that is written.
+pub fn buffered(alloc: Global, file: File) -> Result<BufWriter<Halting<File>>, AllocError> {
+    let buffer = BufWriter::with_capacity(alloc, BUFFER, Halting::new(file));
+    buffer.map_err(|_| AllocError)
 }
 
 /// What an error of a file ends a command with.
-fn failed(error: io::Error, fault: RunFault, named: Named) -> Stop {
+fn failed(error: io::Error, fault: RunFault, path: &str) -> Stop<'_> {
     match error.kind() {
-        io::ErrorKind::OutOfMemory => Stop::from(Failure::Run(RunFault::Memory)),
-        _ => Stop::by_file(Failure::Run(fault), named, Cause::System(error)),
+        io::ErrorKind::OutOfMemory => Stop::from(AllocError),
+        _ => Stop::by_file(fault, path, Cause::System(error)),
     }
 }
 
-/// Whether a path leads to one of some open files.
+/// Whether a path leads to one of some open files: both have the same number on the same device.
 fn is_any(rt: &HostRuntime, path: &str, files: &[&File]) -> io::Result<bool> {
     match fs::metadata(rt, path) {
         Ok(found) => {
             for file in files {
-                if is_same(&found, &file.metadata()?) {
+                let other = file.metadata()?;
+                if found.dev() == other.dev() && found.ino() == other.ino() {
                     return Ok(true);
                 }
             }
@@ -59,9 +97,4 @@ fn is_any(rt: &HostRuntime, path: &str, files: &[&File]) -> io::Result<bool> {
         Err(error) if error.kind() == io::ErrorKind::NotFound => Ok(false),
         Err(error) => Err(error),
     }
-}
-
-/// Whether two files are one: they have the same number on the same device.
-fn is_same(one: &Metadata, other: &Metadata) -> bool {
-    one.dev() == other.dev() && one.ino() == other.ino()
 }

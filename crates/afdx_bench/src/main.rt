@@ -6,6 +6,7 @@ ghost use Rattle.std.specs.Prelude.{◌≤◌};
 ghost use Rattle.plan_report.specs.Status.{IsInRange};
 
 mod files;
+mod findings;
 mod hearing;
 mod judging;
 mod report;
@@ -14,102 +15,76 @@ mod stop;
 
 use afdx_plan::{Config, demo_config};
 use capture::write_capture;
-use files::{create, open, stand_in};
+use files::{buffered, create, open, open_plan, stand_in};
 use judging::judge_files;
 use plan_report::{
-    End, Failure, Halting, Words, check, read_plan, read_words, status_of, tell_faults, tell_words,
+    End, Failure, Halting, Words, check, read_words, status_of, tell_faults, tell_words,
 };
-use report::{Asked, report};
-use std::alloc::Global;
+use report::report;
+use std::alloc::{AllocError, Global};
 use std::fs::File;
 use std::io::{self, BufWriter, IsTerminal, Write};
 use std::process::ExitCode;
 use std::sync::Wait;
 use std::thread::Threads;
-use stop::{Named, Stop};
+use stop::{Cause, Stop, of_file};
 use storm::{OpenGate, Progress, bench_storm};
-use tx_script::{Played, RunFault, play_script, run_script};
+use tx_script::{Played, RunFault, Summary, play_script, run_script};
 
-// The size of a capture's write buffer in bytes.
-const CAPTURE_BUFFER: usize = 65_536;
-
-/// The failure of a run whose output can't be written.
-fn unwritten(_error: io::Error) -> Failure {
-    Failure::Run(RunFault::Write)
+/// How the command ends after a script, by its path.
+fn end_of<'a>(ran: Result<Summary, RunFault>, path: &'a str) -> Result<End, Stop<'a>> {
+    of_file(ran.map(End::Ran).map_err(Failure::Run), path, Cause::Unread)
 }
 
-/// Runs a script, and then writes the frames of both networks to a file. The file stays empty if the
-/// transcript can't be written or an allocation fails.
-fn run_captured<W: Write>(
-    alloc: Global,
-    config: Config,
-    script: File,
-    capture: File,
+/// Runs a script over a configuration, each by the path of its file. The configuration is read before the script is
+/// opened, and the file of a capture is made after that. It gets the frames of both networks after the run, and stays
+/// empty if the transcript can't be written or an allocation fails.
+fn run_files<'a, W: Write>(
+    rt: &HostRuntime,
+    config: &'a str,
+    path: &'a str,
+    capture: &'a Option<String>,
     writer: &mut W,
-) -> Result<End, Failure> {
-    let file = BufWriter::with_capacity(alloc, CAPTURE_BUFFER, Halting::new(capture));
-    let mut output = file.map_err(|_| Failure::Run(RunFault::Memory))?;
+) -> Result<End, Stop<'a>> {
+    let alloc = rt.alloc();
+    let (text, config) = open_plan(rt, config)?;
+    let script = open(rt, path)?;
+    let Some(file) = create(rt, capture, &[&text, &script])? else {
+        return end_of(run_script(alloc, config, script, writer), path);
+    };
+    let mut output = buffered(alloc, file)?;
     match play_script(alloc, config, script, writer) {
         Played::Whole { ended, a, b } => {
-            writer.flush().map_err(unwritten)?;
-            write_capture(&mut output, &a, &b).map_err(unwritten)?;
-            output.flush().map_err(unwritten)?;
-            ended.map(End::Ran).map_err(Failure::Run)
+            writer.flush()?;
+            write_capture(&mut output, &a, &b)?;
+            output.flush()?;
+            end_of(ended, path)
         }
-        Played::Broken(fault) => Err(Failure::Run(fault)),
+        Played::Broken(fault) => end_of(Err(fault), path),
     }
 }
 
-/// Runs a script over a configuration, each by the path of its file. The configuration is read before the
-/// script is opened, and the file of a capture is made after that.
-fn run_files<W: Write>(
-    rt: &HostRuntime,
-    config: &str,
-    script: &str,
-    capture: Option<&str>,
-    writer: &mut W,
-) -> Result<End, Stop> {
-    let alloc = rt.alloc();
-    let text = open(rt, config, Named::Plan)?;
-    let read = read_plan(alloc, &text);
-    let config = read.map_err(|failure| Stop::reading(failure, Named::Plan))?;
-    let script = open(rt, script, Named::Script)?;
-    let ran = match capture {
-        Some(path) => {
-            let file = create(rt, path, Named::Capture, &[&text, &script])?;
-            run_captured(alloc, config, script, file, writer)
-        }
-        None => run_script(alloc, config, script, writer)
-            .map(End::Ran)
-            .map_err(Failure::Run),
-    };
-    ran.map_err(|failure| Stop::reading(failure, Named::Script))
-}
-
-/// Shows the progress of a storm on standard error, if that is a terminal.
-fn progress_of(rt: &HostRuntime, messages: u32) -> Option<Progress<'_, HostRuntime>> {
-    if rt.stderr().is_terminal() {
-        Progress::begin(rt, messages).ok()
-    } else {
-        None
-    }
-}
-
-/// Runs a storm over a configuration, by the path of its file.
-fn run_storm<W: Write, T: Threads + Wait + Sync>(
+/// Runs a storm over a configuration, by the path of its file. Shows its progress on standard error, if that is a
+/// terminal.
+fn run_storm<'a, W: Write, T: Threads + Wait + Sync>(
     rt: &HostRuntime,
     threads: &T,
-    config: &str,
+    path: &'a str,
     messages: u32,
     turns: u64,
     writer: &mut W,
-) -> Result<End, Stop>
+) -> Result<End, Stop<'a>>
     requires messages { (1 ≤ messages) × (messages ≤ 65535) }
     requires turns { (1 ≤ turns) × (turns ≤ 1000000000) }
 {
     let alloc = rt.alloc();
-    let text = open(rt, config, Named::Plan)?;
-    let ended = match progress_of(rt, messages) {
+    let text = open(rt, path)?;
+    let progress = if rt.stderr().is_terminal() {
+        Progress::begin(rt, messages).ok()
+    } else {
+        None
+    };
+    let ended = match progress {
         Some(gate) => {
             let ended = bench_storm(threads, alloc, text, writer, messages, turns, &gate);
             gate.end();
@@ -117,117 +92,78 @@ fn run_storm<W: Write, T: Threads + Wait + Sync>(
         }
         None => bench_storm(threads, alloc, text, writer, messages, turns, &OpenGate),
     };
-    ended.map_err(|failure| Stop::reading(failure, Named::Plan))?;
+    of_file(ended, path, Cause::UnreadPlan)?;
     Ok(End::Told)
-}
-
-/// Runs a script from standard input over the demonstration configuration.
-fn run_demo<W: Write>(rt: &HostRuntime, writer: &mut W) -> Result<End, Stop> {
-    let alloc = rt.alloc();
-    let config = demo_config(alloc).map_err(Failure::Config)?;
-    let ran = run_script(alloc, config, rt.stdin(), writer);
-    let ended = ran.map(End::Ran).map_err(Failure::Run);
-    ended.map_err(|failure| Stop::reading(failure, Named::Script))
-}
-
-/// Writes the plan and the jitter of a configuration, by the path of its file.
-fn check_file<W: Write>(rt: &HostRuntime, config: &str, writer: &mut W) -> Result<End, Stop> {
-    let checked = check(rt.alloc(), open(rt, config, Named::Plan)?, writer);
-    checked.map_err(|failure| Stop::reading(failure, Named::Plan))?;
-    Ok(End::Told)
-}
-
-/// Writes the faults of a configuration, by the path of its file.
-fn explain_file<W: Write>(rt: &HostRuntime, config: &str, writer: &mut W) -> Result<End, Stop> {
-    let told = tell_faults(rt.alloc(), open(rt, config, Named::Plan)?, config, writer);
-    told.map_err(|failure| Stop::reading(failure, Named::Plan))
 }
 
 /// Runs the command of the words. The runtime is passed a second time for threads, since only a bound
 /// lets a function start them.
-fn obey<W: Write, T: Threads + Wait + Sync>(
+fn obey<'a, W: Write, T: Threads + Wait + Sync>(
     rt: &HostRuntime,
     threads: &T,
-    words: &Words,
+    words: &'a Words,
     writer: &mut W,
-) -> Result<End, Stop>
+) -> Result<End, Stop<'a>>
     requires { IsInRange words.now }
 {
+    let alloc = rt.alloc();
     match words {
-        Words::Script => run_demo(rt, writer),
+        Words::Script => {
+            let config = demo_config(alloc).map_err(Failure::Config)?;
+            let ran = run_script(alloc, config, rt.stdin(), writer);
+            end_of(ran, "standard input")
+        }
         Words::Run {
             config,
             script,
             capture,
-        } => run_files(
-            rt,
-            config.as_str(),
-            script.as_str(),
-            capture.as_ref().map(|path| path.as_str()),
-            writer,
-        ),
-        Words::Check { config } => check_file(rt, config.as_str(), writer),
-        Words::Explain { config } => explain_file(rt, config.as_str(), writer),
-        Words::Report {
-            config,
-            lateness,
-            html,
-            traffic,
-            csv,
-            date,
-            strict,
-        } => {
-            let asked = Asked {
-                lateness: *lateness,
-                html: html.as_ref().map(|path| path.as_str()),
-                date: date.as_ref().map(|date| date.as_str()),
-                traffic: traffic.as_ref().map(|path| path.as_str()),
-                csv: csv.as_ref().map(|path| path.as_str()),
-                strict: *strict,
-            };
-            report(rt, config.as_str(), asked, writer)
+        } => run_files(rt, config.as_str(), script.as_str(), capture, writer),
+        Words::Check(path) => {
+            let checked = check(alloc, open(rt, path.as_str())?, writer);
+            of_file(checked, path.as_str(), Cause::UnreadPlan)?;
+            Ok(End::Told)
         }
+        Words::Explain(path) => {
+            let told = tell_faults(alloc, open(rt, path.as_str())?, path.as_str(), writer);
+            of_file(told, path.as_str(), Cause::UnreadPlan)
+        }
+        Words::Report(asked) => report(rt, asked, writer),
         Words::Judge(case) => judge_files(rt, case, writer),
         Words::Storm {
             config,
             messages,
             turns,
-        } => { run_storm(rt, threads, config.as_str(), *messages, *turns, writer) }
+        } => run_storm(rt, threads, config.as_str(), *messages, *turns, writer),
     }
 }
 
 /// Runs the command of the words, and flushes the output. A failed write is the last one.
-fn run<T: Threads + Wait + Sync>(rt: &HostRuntime, threads: &T, words: &Words) -> Result<End, Stop>
+fn run<'a, T: Threads + Wait + Sync>(
+    rt: &HostRuntime,
+    threads: &T,
+    words: &'a Words,
+) -> Result<End, Stop<'a>>
     requires { IsInRange words.now }
 {
     let writer = BufWriter::new(rt.alloc(), Halting::new(io::writer(rt)));
-    let mut writer = writer.map_err(|_| Failure::Run(RunFault::Memory))?;
+    let mut writer = writer.map_err(|_| Stop::from(AllocError))?;
     let end = obey(rt, threads, words, &mut writer);
-    match writer.flush() {
-        Ok(()) => end,
-        Err(_) => Err(Stop::from(Failure::Run(RunFault::Write))),
-    }
-}
-
-/// Runs the command of the words, and writes to standard error how it failed.
-fn run_telling<T: Threads + Wait + Sync>(rt: &HostRuntime, threads: &T, words: &Words) -> End
-    requires { IsInRange words.now }
-{
-    match run(rt, threads, words) {
-        Ok(end) => end,
-        Err(stop) => {
-            let failure = stop.failure;
-            let _told = eprintln!(rt; "{failure}");
-            stop.tell_more(rt, words);
-            End::Failed(failure)
-        }
-    }
+    writer.flush()?;
+    end
 }
 
 fn main(rt: HostRuntime) -> ExitCode {
     let _stand_ins = [stand_in(&rt), stand_in(&rt), stand_in(&rt)];
     let end = match read_words(&rt) {
-        Ok(words) => run_telling(&rt, &rt, &words),
+        Ok(words) => match run(&rt, &rt, &words) {
+            Ok(end) => end,
+            Err(stop) => {
+                let failure = stop.failure;
+                let _told = eprintln!(rt; "{failure}");
+                stop.tell_more(&rt, &words);
+                End::Failed(failure)
+            }
+        },
         Err(error) => {
             let end = tell_words(&rt, &error);
             if let End::Failed(failure) = &end {

@@ -1,94 +1,53 @@
 //! The command `report`.
 ghost use Rattle.std.specs.Prelude.{◌≤◌};
 
-use crate::files::{create, open};
-use crate::stop::{Named, Stop};
+use crate::files::{buffered, create, open, open_given};
+use crate::stop::{Cause, Stop, of_file};
 use afdx_plan::Config;
 use csv::{ErrorKind, WriterBuilder};
 use plan_analysis::{LATENESS_LIMIT, analyze, traffic_waits};
 use plan_report::{
-    Assessment, Digested, End, Failure, Halting, Origin, Traffic, no_traffic, read_digested,
-    read_text, read_traffic, senders_of, write_analysis, write_page, write_rows, write_traffic,
-    write_verdict,
+    Asked, Assessment, Digested, End, Failure, Traffic, no_traffic, read_digested, read_text,
+    read_traffic, senders_of, write_analysis, write_page, write_rows, write_traffic, write_verdict,
 };
-use std::alloc::{AllocError, Global};
+use std::alloc::Global;
 use std::fs::File;
-use std::io::{self, BufWriter, Write};
+use std::io::{self, Write};
 use std::path::Path;
 use tx_script::RunFault;
 
-/// What the words say of a report beside the configuration. Files are named by their paths.
-#[derive(Clone, Copy)]
-pub struct Asked<'a> {
-    // the greatest lateness of a poll, in microseconds
-    pub lateness: u64,
-    // a page, and its date
-    pub html: Option<&'a str>,
-    pub date: Option<&'a str>,
-    // the traffic of the ports
-    pub traffic: Option<&'a str>,
-    // rows for a spreadsheet
-    pub csv: Option<&'a str>,
-    // whether a missed limit or deadline is a failure
-    pub strict: bool,
-}
-
-/// Writes the verdict, the loads, the jitter and the longest waits of a configuration, by the path of its file; and
-/// before that the page and the rows to their files. If the traffic has faults, writes these alone.
-pub fn report<W: Write>(
+/// Writes the verdict, the loads, the jitter and the longest waits of a configuration; and before that the page and the
+/// rows to their files. If the traffic has faults, writes these alone.
+pub fn report<'a, W: Write>(
     rt: &HostRuntime,
-    config: &str,
-    asked: Asked<'_>,
+    asked: &'a Asked,
     writer: &mut W,
-) -> Result<End, Stop>
-    requires { asked.lateness ≤ LATENESS_LIMIT }
+) -> Result<End, Stop<'a>>
+    requires { asked.now.lateness ≤ LATENESS_LIMIT }
 {
-    let alloc = rt.alloc();
-    let text = open(rt, config, Named::Plan)?;
-    let read = read_digested(alloc, &text);
-    let plan = read.map_err(|failure| Stop::reading(failure, Named::Plan))?;
-    let demands = match asked.traffic {
-        Some(path) => Some(open(rt, path, Named::Traffic)?),
-        None => None,
-    };
-    let read = traffic_of(alloc, &plan.config, demands.as_ref());
-    let traffic = read.map_err(|failure| Stop::reading(failure, Named::Traffic))?;
+    let (alloc, lateness, path) = (rt.alloc(), asked.lateness, asked.config.as_str());
+    let text = open(rt, path)?;
+    let plan = of_file(read_digested(alloc, &text), path, Cause::UnreadPlan)?;
+    let file = open_given(rt, &asked.traffic)?;
+    let traffic = traffic_of(alloc, &plan.config, asked, file.as_ref())?;
     if !traffic.faults.is_empty() {
         return Ok(tell(&traffic, writer)?);
     }
-    let lateness = asked.lateness;
-    let analysis = analyze(alloc, &plan.config, lateness).map_err(no_memory)?;
-    let senders = senders_of(alloc, &plan.config, &traffic).map_err(no_memory)?;
-    let waits = traffic_waits(alloc, &plan.config, lateness, senders.as_slice()).map_err(
-        no_memory,
-    )?;
-    let assessment = Assessment {
-        analysis: &analysis,
-        traffic: &traffic,
-        waits: waits.as_slice(),
-    };
-    let other = demands.as_ref().unwrap_or(&text);
-    if let Some(path) = asked.html {
-        let page = create(rt, path, Named::Page, &[&text, other])?;
-        save_page(alloc, page, config, asked.date, &plan, &assessment)?;
+    let analysis = analyze(alloc, &plan.config, lateness)?;
+    let senders = senders_of(alloc, &plan.config, &traffic)?;
+    let waits = traffic_waits(alloc, &plan.config, lateness, senders.as_slice())?;
+    let assessment = Assessment::new(alloc, &analysis, &traffic, waits.as_slice())?;
+    let read = [&text, file.as_ref().unwrap_or(&text)];
+    if let Some(page) = create(rt, &asked.html, &read)? {
+        save_page(alloc, page, asked, &plan, &assessment)?;
     }
-    if let Some(path) = asked.csv {
-        let rows = create(rt, path, Named::Rows, &[&text, other])?;
+    if let Some(rows) = create(rt, &asked.csv, &read)? {
         save_rows(alloc, rows, &assessment)?;
     }
-    Ok(tell_report(writer, &assessment, asked).map_err(unwritten)?)
-}
-
-/// Writes the text of a report.
-fn tell_report<W: Write>(
-    writer: &mut W,
-    assessment: &Assessment<'_>,
-    asked: Asked<'_>,
-) -> io::Result<End> {
-    write_verdict(writer, assessment)?;
-    write_analysis(writer, assessment.analysis)?;
-    if asked.traffic.is_some() {
-        write_traffic(writer, assessment)?;
+    write_verdict(writer, &assessment)?;
+    write_analysis(writer, &analysis)?;
+    if file.is_some() {
+        write_traffic(writer, &assessment)?;
     }
     if asked.strict && !assessment.all_kept() {
         Ok(End::Missed)
@@ -98,67 +57,55 @@ fn tell_report<W: Write>(
 }
 
 /// The traffic of a plan's ports, from its file if there is one.
-fn traffic_of(alloc: Global, plan: &Config, file: Option<&File>) -> Result<Traffic, Failure> {
-    match file {
-        Some(file) => {
-            let text = read_text(alloc, file)?;
-            read_traffic(alloc, plan, text.as_slice()).map_err(no_memory)
+fn traffic_of<'a>(
+    alloc: Global,
+    plan: &Config,
+    asked: &'a Asked,
+    file: Option<&File>,
+) -> Result<Traffic, Stop<'a>> {
+    match (&asked.traffic, file) {
+        (Some(path), Some(file)) => {
+            let text = of_file(read_text(alloc, file), path.as_str(), Cause::Unread)?;
+            Ok(read_traffic(alloc, plan, text.as_slice())?)
         }
-        None => no_traffic(alloc, plan).map_err(no_memory),
+        _ => Ok(no_traffic(alloc, plan)?),
     }
 }
 
 /// Writes the faults of a traffic file.
-fn tell<W: Write>(traffic: &Traffic, writer: &mut W) -> Result<End, Failure> {
+fn tell<W: Write>(traffic: &Traffic, writer: &mut W) -> io::Result<End> {
     let count = traffic.faults.len();
     let faults = if count == 1 { "fault" } else { "faults" };
-    writeln!(writer, "{count} {faults} of the traffic").map_err(unwritten)?;
+    writeln!(writer, "{count} {faults} of the traffic")?;
     for fault in traffic.faults.iter() {
-        writeln!(writer, "{fault}").map_err(unwritten)?;
+        writeln!(writer, "{fault}")?;
     }
     Ok(End::FaultsTold)
 }
 
-/// Writes the page of a report to a file. `config` is the path of the configuration's.
-fn save_page(
+/// Writes the page of a report to a file.
+fn save_page<'a>(
     alloc: Global,
     page: File,
-    config: &str,
-    date: Option<&str>,
+    asked: &'a Asked,
     plan: &Digested,
     assessment: &Assessment<'_>,
-) -> Result<(), Failure> {
-    let file = BufWriter::new(alloc, Halting::new(page));
-    let mut output = file.map_err(|_| Failure::Run(RunFault::Memory))?;
-    let origin = Origin {
-        file: Path::new(config).file_name().unwrap_or(config),
-        digest: &plan.digest,
-        date,
-    };
-    write_page(&mut output, &plan.config, assessment, origin).map_err(unwritten)?;
-    output.flush().map_err(unwritten)
+) -> Result<(), Stop<'a>> {
+    let path = asked.config.as_str();
+    let file = Path::new(path).file_name().unwrap_or(path);
+    let mut output = buffered(alloc, page)?;
+    write_page(&mut output, plan, assessment, file, &asked.date)?;
+    Ok(output.flush()?)
 }
 
 /// Writes the rows of the ports to a file.
-fn save_rows(alloc: Global, rows: File, assessment: &Assessment<'_>) -> Result<(), Failure> {
-    let file = BufWriter::new(alloc, Halting::new(rows));
-    let output = file.map_err(|_| Failure::Run(RunFault::Memory))?;
-    let mut output = WriterBuilder::new().from_writer(output);
+fn save_rows<'a>(alloc: Global, rows: File, assessment: &Assessment<'_>) -> Result<(), Stop<'a>> {
+    let mut output = WriterBuilder::new().from_writer(buffered(alloc, rows)?);
     match write_rows(&mut output, assessment) {
         Ok(()) => Ok(()),
         Err(error) => match error.into_kind() {
-            ErrorKind::OutOfMemory => Err(Failure::Run(RunFault::Memory)),
-            _ => Err(Failure::Run(RunFault::Write)),
+            ErrorKind::OutOfMemory => Err(Stop::from(Failure::Run(RunFault::Memory))),
+            _ => Err(Stop::from(Failure::Run(RunFault::Write))),
         },
     }
-}
-
-/// The failure of a report for which an allocation failed.
-fn no_memory(_error: AllocError) -> Failure {
-    Failure::Run(RunFault::Memory)
-}
-
-/// The failure of a report that can't be written.
-fn unwritten(_error: io::Error) -> Failure {
-    Failure::Run(RunFault::Write)
 }

@@ -1,12 +1,12 @@
 //! A capture that is read in pieces.
-ghost use Rattle.std.specs.Prelude.{◌≤◌, length, vec_len, IfOk};
+ghost use Rattle.std.specs.Prelude.{◌≤◌, length, vec_len, IfSome};
 
 use crate::hearing::Hearing;
+use crate::stop::{Cause, Stop};
 use afdx_frame::Net;
-use capture::{End, GREATEST_UNIT, Reading, Stop};
-use judge_report::Captured;
-use plan_report::Failure;
+use capture::{End, GREATEST_UNIT, Reading, Stop as Halt};
 use std::alloc::{AllocError, Global};
+use std::fmt;
 use std::fs::File;
 use std::io::{ErrorKind, Read, Write};
 use tx_script::RunFault;
@@ -15,7 +15,7 @@ use tx_script::RunFault;
 const WINDOW: usize = 2 * GREATEST_UNIT;
 
 /// Which packets of a capture are heard, and of which network they are.
-#[derive(Clone, Copy, Debug, PartialEq, Eq)]
+#[derive(Clone, Copy)]
 pub enum Part {
     /// Those of both networks, by their interfaces.
     Both,
@@ -36,10 +36,12 @@ impl Part {
     }
 }
 
-/// A capture, and a window on it.
+/// A capture, and a window on it. `Display` prints what was read: the packets, those of other interfaces among them, and
+/// the end.
 #[derive(Drop)]
-pub struct Source {
+pub struct Source<'a> {
     file: File,
+    path: &'a str,
     part: Part,
     reading: Reading,
     window: Vec<u8>,
@@ -57,11 +59,17 @@ pub struct Source {
     ghost within: { end ≤ vec_len window },
 }
 
-impl Source {
+impl<'a> Source<'a> {
     /// A source of a file, of which nothing is read.
-    pub fn new(alloc: Global, file: File, part: Part) -> Result<Source, AllocError> {
+    pub fn new(
+        alloc: Global,
+        file: File,
+        path: &'a str,
+        part: Part,
+    ) -> Result<Source<'a>, AllocError> {
         Ok(Source {
             file,
+            path,
             part,
             reading: Reading::new(),
             window: vec![in alloc; 0u8; WINDOW]?,
@@ -89,7 +97,7 @@ impl Source {
         until: u128,
         hearing: &mut Hearing,
         writer: &mut W,
-    ) -> Result<(), Failure> {
+    ) -> Result<(), Stop<'a>> {
         for _ in 0..u64::MAX {
             let rest = &self.window.as_slice()[self.start..self.end];
             match self.reading.step(rest) {
@@ -104,14 +112,15 @@ impl Source {
                         self.packets = self.packets.saturating_add(1);
                         match net {
                             Some(net) => hearing.hear(writer, net, self.packets, &packet)?,
-                            None => self.others = counted(self.others, packet.network),
+                            None if packet.network.is_some() => {}
+                            None => self.others = self.others.saturating_add(1),
                         }
                     }
                     self.start += step.used;
                     self.used = self.used.saturating_add(step.used as u64);
                 }
                 Err(stop) => {
-                    if stop != Stop::More || !self.fill()? {
+                    if stop != Halt::More || !self.fill()? {
                         let rest = &self.window.as_slice()[self.start..self.end];
                         self.ended = Some(self.reading.end(self.used, rest, stop));
                         return Ok(());
@@ -123,46 +132,58 @@ impl Source {
     }
 
     /// Moves what isn't used to the front of the window, and reads more. Returns whether there was more.
-    fn fill(&mut self) -> Result<bool, Failure> {
+    fn fill(&mut self) -> Result<bool, Stop<'a>> {
         self.window
             .as_mut_slice()
             .copy_within(self.start..self.end, 0);
         self.end -= self.start;
         self.start = 0;
-        let count = read_some(&mut self.file, &mut self.window.as_mut_slice()[self.end..])?;
-        self.end += count;
-        Ok(count > 0)
+        match read_some(&mut self.file, &mut self.window.as_mut_slice()[self.end..]) {
+            Some(count) => {
+                self.end += count;
+                Ok(count > 0)
+            }
+            None => Err(Stop::by_file(RunFault::Read, self.path, Cause::Unread)),
+        }
     }
 
-    /// What was read.
-    pub fn captured(&self) -> Captured {
-        Captured {
-            packets: self.packets,
-            others: self.others,
-            end: self.ended.unwrap_or(End::CutOff(self.used)),
-        }
+    /// How the capture ended.
+    fn ending(&self) -> End {
+        self.ended.unwrap_or(End::CutOff(self.used))
+    }
+
+    /// Whether it was read to its end.
+    pub fn is_whole(&self) -> bool {
+        self.ending() == End::Whole
     }
 }
 
-/// A count of packets of neither network, with one more packet.
-fn counted(others: u64, network: Option<Net>) -> u64 {
-    match network {
-        Some(_) => others,
-        None => others.saturating_add(1),
+impl fmt::Display for Source<'_> {
+    fn fmt<W: fmt::Write>(&self, f: &mut fmt::Formatter<W>) -> fmt::Result {
+        let (packets, others) = (self.packets, self.others);
+        write!(f, "{packets} packets")?;
+        if others > 0 {
+            write!(f, ", {others} of other interfaces")?;
+        }
+        match self.ending() {
+            End::Whole => Ok(()),
+            End::CutOff(at) => write!(f, ", cut off at byte {at}"),
+            End::Broken(at, fault) => write!(f, ", malformed at byte {at}: {fault:?}"),
+        }
     }
 }
 
 /// Reads once, and again after an interruption. Returns how many bytes were read: 0 at the end of the file, or if there
-/// is no room.
-fn read_some(file: &mut File, room: &mut [u8]) -> Result<usize, Failure>
-    ensures { IfOk result (λ count. count ≤ length room.old) }
+/// is no room. `None` if the file can't be read.
+fn read_some(file: &mut File, room: &mut [u8]) -> Option<usize>
+    ensures { IfSome result (λ count. count ≤ length room.old) }
 {
     for _ in 0..u64::MAX {
         match file.read(room) {
-            Ok(count) => return Ok(count),
+            Ok(count) => return Some(count),
             Err(error) if error.kind() == ErrorKind::Interrupted => {}
-            Err(_) => return Err(Failure::Run(RunFault::Read)),
+            Err(_) => return None,
         }
     }
-    Err(Failure::Run(RunFault::Read))
+    None
 }

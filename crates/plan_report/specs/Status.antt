@@ -4,27 +4,21 @@ use Rattle.plan_report.specs.declared.status.Failure.{Failure}
 use Rattle.plan_report.specs.declared.status.Failure.TheVariants.{Config, Run, Short, Turns}
 use Rattle.plan_report.specs.declared.status.End.{End}
 use Rattle.plan_report.specs.declared.status.End.TheVariants.{Told, Ran, FaultsTold, Missed, WordsRefused, Failed}
-use Rattle.script_text.specs.declared.faults.RunFault.{RunFault}
-use Rattle.script_text.specs.declared.faults.RunFault.TheVariants.{Line, Lines, Read, Write, Memory}
+use Rattle.script_text.specs.declared.faults.RunFault.TheVariants.{Line, Lines, Write, Memory}
 use Rattle.plan_report.specs.declared.words.Words.{Words}
 use Rattle.plan_report.specs.declared.words.Words.TheVariants.{Report, Judge, Storm}
 use Rattle.clap.specs.declared.error.kind.ErrorKind.{ErrorKind}
 use Rattle.clap.specs.declared.error.kind.ErrorKind.TheVariants.{DisplayHelp, DisplayVersion, OutOfMemory}
 use Rattle.afdx_plan.specs.declared.fault.ConfigFault.TheVariants as Plan
 
--- 2 if the script has a fault, 4 if an allocation, a read or a write failed
-abbrev pub run_status : RunFault → ℕ
-run_status (Line line fault) = 2
-run_status Lines = 2
-run_status Read = 4
-run_status Write = 4
-run_status Memory = 4
-
--- 2 if the configuration has a fault or a port that a storm cannot use, 5 if a storm exhausted its turns
+-- 2 if the configuration or the script has a fault, or the configuration a port that a storm cannot use; 4 if an
+-- allocation, a read or a write failed; 5 if a storm exhausted its turns
 abbrev pub failure_status : Failure → ℕ
 failure_status (Config Plan.Memory) = 4
 failure_status (Config _) = 2
-failure_status (Run fault) = run_status fault
+failure_status (Run (Line line fault)) = 2
+failure_status (Run Lines) = 2
+failure_status (Run _) = 4
 failure_status Short = 2
 failure_status Turns = 5
 
@@ -42,17 +36,14 @@ exit_status (Failed failure) = failure_status failure
 abbrev pub IsInRange : Words → Type 0
 IsInRange (Storm config messages turns) =
     ((1 ≤ messages) × (messages ≤ 65535)) × ((1 ≤ turns) × (turns ≤ 1000000000))
-IsInRange (Report config lateness html traffic csv date strict) = lateness ≤ 1000000
+IsInRange (Report asked) = asked.lateness ≤ 1000000
 IsInRange (Judge case) = (case.jitter ≤ 1000000) × (case.skew ≤ 1000000)
 IsInRange _ = ⊤
 
--- a message was written, or standard output failed
-abbrev pub IsHelpEnd : End → Type 0
-IsHelpEnd end = (end ≡ Told) ⊎ (end ≡ Failed (Run Write))
-
--- how the program ends if the words name no command: help or the version, no memory, or wrong words
+-- how the program ends if the words name no command: a message was written or standard output failed for help and the
+-- version; no memory; or wrong words
 abbrev pub EndsWords : ErrorKind → End → Type 0
-EndsWords DisplayHelp end = IsHelpEnd end
-EndsWords DisplayVersion end = IsHelpEnd end
+EndsWords DisplayHelp end = (end ≡ Told) ⊎ (end ≡ Failed (Run Write))
+EndsWords DisplayVersion end = (end ≡ Told) ⊎ (end ≡ Failed (Run Write))
 EndsWords OutOfMemory end = end ≡ Failed (Run Memory)
 EndsWords _ end = end ≡ WordsRefused

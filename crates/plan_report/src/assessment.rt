@@ -1,71 +1,105 @@
-//! An analysis beside the traffic of its ports: which bound of a wait holds, and which deadlines are kept.
+//! An analysis beside the traffic of its ports: which bound of a wait holds, which deadlines are kept, and a verdict; as
+//! text and as CSV.
 ghost use Rattle.std.specs.Prelude.{◌≡◌, ◌≤◌, Option, Some, None, nat_lt, IfOk, IfSome, false};
 ghost use Rattle.plan_report.specs.Assessed.{longest_wait, is_missed as is_missed_by};
 ghost use Rattle.plan_analysis.specs.Traffic.{AreSendersOf};
 
+use crate::html::Cell;
 use crate::traffic::{Demand, Traffic};
 use afdx_plan::Config;
+use csv::{Error, Writer};
 use plan_analysis::{Analysis, JITTER_LIMIT, PortRow, Sender};
 use std::alloc::{AllocError, Global};
+use std::fmt::{self, InlineText};
+use std::io::{self, Write};
 
-/// An analysis, the traffic of its ports, and their waits by it, each in the order of the plan.
-#[derive(Clone, Copy)]
+/// An analysis, and what its ports do, in the order of the plan.
+#[derive(Drop)]
 pub struct Assessment<'a> {
     pub analysis: &'a Analysis,
-    pub traffic: &'a Traffic,
-    pub waits: &'a [Option<u64>],
+    pub(crate) rows: Vec<Row<'a>>,
 }
 
-impl Assessment<'_> {
-    /// The number of ports.
-    pub(crate) fn len(&self) -> usize {
-        self.analysis.ports.len()
-    }
-
-    /// The row of the port at a place.
-    pub(crate) fn row(&self, place: usize) -> Option<Row<'_>> {
-        Some(Row {
-            port: self.analysis.ports.get(place)?,
-            demand: self.traffic.demands.get(place)?,
-            by_traffic: *self.waits.get(place)?,
-        })
+impl<'a> Assessment<'a> {
+    /// The assessment of the traffic of the ports, and of their waits by it.
+    pub fn new(
+        alloc: Global,
+        analysis: &'a Analysis,
+        traffic: &'a Traffic,
+        waits: &[Option<u64>],
+    ) -> Result<Assessment<'a>, AllocError> {
+        let mut rows = Vec::with_capacity(alloc, waits.len())?;
+        let ports = analysis.ports.iter().zip(traffic.demands.iter());
+        for ((port, demand), by_traffic) in ports.zip(waits.iter()) {
+            rows.push(Row {
+                port,
+                demand,
+                by_traffic: *by_traffic,
+            })?;
+        }
+        Ok(Assessment { analysis, rows })
     }
 
     /// Whether a traffic text has a row.
     pub(crate) fn has_traffic(&self) -> bool {
-        let demands = self.traffic.demands.as_slice();
-        demands.iter().any(|demand| demand.line.is_some())
-    }
-
-    /// Whether neither network carries more than it can.
-    pub(crate) fn loads_kept(&self) -> bool {
-        !self.analysis.network_a.exceeded && !self.analysis.network_b.exceeded
-    }
-
-    /// Whether the jitter is within its limit.
-    pub(crate) fn jitter_kept(&self) -> bool {
-        self.analysis.jitter <= JITTER_LIMIT
+        self.rows.iter().any(|row| row.demand.line.is_some())
     }
 
     /// How many ports have a deadline, and how many of them miss it.
     pub(crate) fn deadlines(&self) -> (usize, usize) {
-        let (mut given, mut missed) = (0usize, 0usize);
-        for place in 0..self.len() {
-            if let Some(row) = self.row(place) {
-                if row.demand.deadline.is_some() {
-                    given = given.saturating_add(1);
-                }
-                if row.is_missed() {
-                    missed = missed.saturating_add(1);
-                }
-            }
-        }
-        (given, missed)
+        let given = self.rows.iter().filter(|row| row.demand.deadline.is_some());
+        let missed = self.rows.iter().filter(|row| row.is_missed());
+        (given.count(), missed.count())
+    }
+
+    /// The verdict on loads, jitter and deadlines.
+    pub(crate) fn verdict(&self) -> [Sentence; 3] {
+        let is_over = self.analysis.network_a.exceeded || self.analysis.network_b.exceeded;
+        let (given, missed) = self.deadlines();
+        [
+            Sentence::Limit("loads", is_over),
+            Sentence::Limit("jitter", self.analysis.jitter > JITTER_LIMIT),
+            Sentence::Deadlines(given, missed),
+        ]
     }
 
     /// Whether loads, jitter and all deadlines are kept.
     pub fn all_kept(&self) -> bool {
-        self.loads_kept() && self.jitter_kept() && self.deadlines().1 == 0
+        let verdict = self.verdict();
+        !verdict
+            .iter()
+            .any(|sentence| sentence.is_kept() == Some(false))
+    }
+}
+
+/// A sentence of a verdict: whether the limit of something is exceeded, or how many ports have a deadline and how many
+/// of them miss it.
+#[derive(Clone, Copy)]
+pub(crate) enum Sentence {
+    Limit(&'static str, bool),
+    Deadlines(usize, usize),
+}
+
+impl Sentence {
+    /// Whether it is kept. `None` if there is nothing to keep.
+    pub(crate) fn is_kept(&self) -> Option<bool> {
+        match *self {
+            Sentence::Limit(_, exceeded) => Some(!exceeded),
+            Sentence::Deadlines(0, _) => None,
+            Sentence::Deadlines(_, missed) => Some(missed == 0),
+        }
+    }
+}
+
+impl fmt::Display for Sentence {
+    fn fmt<W: fmt::Write>(&self, f: &mut fmt::Formatter<W>) -> fmt::Result {
+        match *self {
+            Sentence::Limit(what, true) => write!(f, "{what} exceeded"),
+            Sentence::Limit(what, false) => write!(f, "{what} within limits"),
+            Sentence::Deadlines(0, _) => f.write_str("deadlines not given"),
+            Sentence::Deadlines(_, 0) => f.write_str("deadlines kept"),
+            Sentence::Deadlines(of, missed) => write!(f, "deadlines missed: {missed} of {of}"),
+        }
     }
 }
 
@@ -105,6 +139,11 @@ impl Row<'_> {
             None => false,
         }
     }
+
+    /// The time from the end of the longest wait to the deadline: negative if it is missed.
+    pub(crate) fn slack(&self) -> Option<i128> {
+        Some(self.demand.deadline? as i128 - self.wait() as i128)
+    }
 }
 
 /// The ports of a plan with the periods of their traffic.
@@ -135,4 +174,91 @@ fn period_at(traffic: &Traffic, place: usize) -> Option<u64>
         Some(0) | None => None,
         Some(period) => Some(period),
     }
+}
+
+/// Writes the verdict on a plan, one line: whether its loads and its jitter are within their limits, and
+/// whether its ports keep their deadlines.
+pub fn write_verdict<W: Write>(writer: &mut W, assessment: &Assessment<'_>) -> io::Result<()> {
+    let [loads, jitter, deadlines] = assessment.verdict();
+    writeln!(writer, "{loads}, {jitter}, {deadlines}")
+}
+
+/// Writes a table of the ports: period, deadline, the wait by the queue, the wait by traffic, which of the
+/// two holds, slack, whether the deadline is missed, and the name.
+pub fn write_traffic<W: Write>(writer: &mut W, assessment: &Assessment<'_>) -> io::Result<()> {
+    writer.write_all(
+        b" port      period-us    deadline-us  wait-queue-us wait-traffic-us   holds       slack-us missed  name\n",
+    )?;
+    for row in assessment.rows.iter() {
+        write_row(writer, row)?;
+    }
+    Ok(())
+}
+
+fn write_row<W: Write>(writer: &mut W, row: &Row<'_>) -> io::Result<()> {
+    let port = row.port.id.0;
+    let period = Cell(row.demand.period, "-");
+    let deadline = Cell(row.demand.deadline, "-");
+    let by_queue = row.port.wait;
+    let by_traffic = Cell(row.by_traffic, "-");
+    let bound = row.bound();
+    let slack = Cell(row.slack(), "-");
+    let missed = missed(row, "-");
+    let name = row.demand.name.as_str();
+    let gap = if name.is_empty() { "" } else { "  " };
+    writeln!(
+        writer,
+        "{port:>5}{period:>15}{deadline:>15}{by_queue:>15} {by_traffic:>15} {bound:>7}{slack:>15} {missed:>6}{gap}{name}"
+    )
+}
+
+/// Whether the deadline of a port is missed, in a word.
+fn missed(row: &Row<'_>, without: &'static str) -> &'static str {
+    match row.demand.deadline {
+        Some(_) => if row.is_missed() { "yes" } else { "no" },
+        None => without,
+    }
+}
+
+/// The header of the rows for a spreadsheet.
+const HEADER: &str =
+    "port,name,link,sub_vl,fragments,period_us,deadline_us,wait_queue_us,wait_traffic_us,holds,slack_us,missed";
+
+/// Writes the rows of the ports for a spreadsheet, with a header.
+pub fn write_rows<W: Write + Drop>(
+    out: &mut Writer<W>,
+    assessment: &Assessment<'_>,
+) -> Result<(), Error> {
+    for name in HEADER.split(',') {
+        put(out, name)?;
+    }
+    out.end_record()?;
+    for row in assessment.rows.iter() {
+        write_fields(out, row)?;
+        out.end_record()?;
+    }
+    out.flush()
+}
+
+fn write_fields<W: Write + Drop>(out: &mut Writer<W>, row: &Row<'_>) -> Result<(), Error> {
+    put(out, row.port.id.0)?;
+    out.write_field(row.demand.name.as_bytes())?;
+    put(out, row.port.vl.0)?;
+    put(out, row.port.sub)?;
+    put(out, row.port.fragments)?;
+    put(out, Cell(row.demand.period, ""))?;
+    put(out, Cell(row.demand.deadline, ""))?;
+    put(out, row.port.wait)?;
+    put(out, Cell(row.by_traffic, ""))?;
+    put(out, row.bound())?;
+    put(out, Cell(row.slack(), ""))?;
+    put(out, missed(row, ""))
+}
+
+/// Writes a field, of at most 24 bytes.
+fn put<W: Write + Drop, T: fmt::Display + Drop>(
+    out: &mut Writer<W>,
+    field: T,
+) -> Result<(), Error> {
+    out.write_field(InlineText::<24>::of(field).as_str().as_bytes())
 }

@@ -9,7 +9,15 @@ const ROW: u64 = 16;
 
 const HEADS: u64 = 34;
 
-/// The columns of the picture, and their places in percent of its width.
+/// The heads of the columns of the picture, and their places in percent of its width.
+const COLUMNS: [(u64, &str); 5] = [
+    (PARTITION, "partition"),
+    (PORT, "port"),
+    (SUB_VL, "sub-VL"),
+    (LINK, "link"),
+    (NETWORK, "network"),
+];
+
 const PARTITION: u64 = 8;
 
 const PORT: u64 = 29;
@@ -20,15 +28,18 @@ const LINK: u64 = 71;
 
 const NETWORK: u64 = 92;
 
+/// The networks, and the quarters of the height at which they stand.
+const NETWORKS: [(NetworkName, &str, u64); 2] = [
+    (NetworkName::A, "A", 1),
+    (NetworkName::B, "B", 3),
+];
+
 /// Half the width of a label.
 const HALF: u64 = 5;
 
-/// A place in the picture.
+/// A place in the picture: its column and its height.
 #[derive(Clone, Copy)]
-struct Node {
-    column: u64,
-    y: u64,
-}
+struct Node(u64, u64);
 
 /// Writes a text at a place.
 fn write_label<W: Write, T: fmt::Display + Drop>(
@@ -36,14 +47,14 @@ fn write_label<W: Write, T: fmt::Display + Drop>(
     at: Node,
     text: T,
 ) -> io::Result<()> {
-    let Node { column, y } = at;
-    writeln!(writer, "<text x=\"{column}%\" y=\"{y}\">{text}</text>")
+    let Node(x, y) = at;
+    writeln!(writer, "<text x=\"{x}%\" y=\"{y}\">{text}</text>")
 }
 
 /// Writes a line between two labels, in the color of a class.
 fn write_edge<W: Write>(writer: &mut W, class: &str, from: Node, to: Node) -> io::Result<()> {
-    let (x1, y1) = (from.column.saturating_add(HALF), from.y);
-    let (x2, y2) = (to.column.saturating_sub(HALF), to.y);
+    let (x1, y1) = (from.0.saturating_add(HALF), from.1);
+    let (x2, y2) = (to.0.saturating_sub(HALF), to.1);
     writeln!(
         writer,
         "<line class=\"{class}\" x1=\"{x1}%\" y1=\"{y1}\" x2=\"{x2}%\" y2=\"{y2}\"/>"
@@ -55,10 +66,7 @@ fn middle(column: u64, first: u64, count: u64) -> Node {
     let halves = first
         .saturating_mul(2)
         .saturating_add(count.saturating_sub(1));
-    Node {
-        column,
-        y: HEADS.saturating_add(halves.saturating_mul(ROW / 2)),
-    }
+    Node(column, HEADS.saturating_add(halves.saturating_mul(ROW / 2)))
 }
 
 /// A plan, and the number of rows of its picture: one for each port, and for each link without a port; two at least.
@@ -80,47 +88,32 @@ pub(crate) fn write_flow<W: Write>(writer: &mut W, config: &Config) -> io::Resul
         writer,
         "<h2>From partitions to networks</h2>\n<svg class=\"flow\" style=\"height:{height}px\">"
     )?;
-    for (column, text) in [
-        (PARTITION, "partition"),
-        (PORT, "port"),
-        (SUB_VL, "sub-VL"),
-        (LINK, "link"),
-        (NETWORK, "network"),
-    ] {
-        write_label(writer, Node { column, y: 10 }, text)?;
+    for (column, text) in COLUMNS {
+        write_label(writer, Node(column, 10), text)?;
     }
     flow.write_links(writer)?;
-    flow.write_ends(writer)?;
+    for partition in 0..32u8 {
+        if flow.has_port(partition) {
+            write_label(writer, flow.partition(partition), partition)?;
+        }
+    }
+    for (_, name, part) in NETWORKS {
+        write_label(writer, flow.part(NETWORK, part, 4), name)?;
+    }
     writer.write_all(b"</svg>\n")
 }
 
 impl Flow<'_> {
     /// The number of ports of a link, or of one of its sub-VLs.
     fn count(&self, link: &LinkPlan, sub: Option<u8>) -> u64 {
-        let mut count = 0u64;
-        for port in self.config.ports() {
-            if is_on(port, link, sub) {
-                count = count.saturating_add(1);
-            }
-        }
-        count
+        let ports = self.config.ports().iter();
+        ports.filter(|port| is_on(port, link, sub)).count() as u64
     }
 
     /// The place at a part of the height.
     fn part(&self, column: u64, part: u64, whole: u64) -> Node {
         let rows = self.rows.saturating_mul(ROW).saturating_mul(part) / whole.max(1);
-        Node {
-            column,
-            y: rows.saturating_add(HEADS - ROW / 2),
-        }
-    }
-
-    /// The place of a network.
-    fn network(&self, name: NetworkName) -> Node {
-        match name {
-            NetworkName::A => self.part(NETWORK, 1, 4),
-            NetworkName::B => self.part(NETWORK, 3, 4),
-        }
+        Node(column, rows.saturating_add(HEADS - ROW / 2))
     }
 
     fn has_port(&self, partition: u8) -> bool {
@@ -143,17 +136,6 @@ impl Flow<'_> {
         self.part(PARTITION, before, whole)
     }
 
-    /// Writes the labels of partitions and networks.
-    fn write_ends<W: Write>(&self, writer: &mut W) -> io::Result<()> {
-        for partition in 0..32u8 {
-            if self.has_port(partition) {
-                write_label(writer, self.partition(partition), partition)?;
-            }
-        }
-        write_label(writer, self.network(NetworkName::A), "A")?;
-        write_label(writer, self.network(NetworkName::B), "B")
-    }
-
     /// Writes the links. Neighbouring links differ in color.
     fn write_links<W: Write>(&self, writer: &mut W) -> io::Result<()> {
         let mut first = 0u64;
@@ -162,9 +144,9 @@ impl Flow<'_> {
             let rows = self.count(link, None).max(1);
             let to = middle(LINK, first, rows);
             write_label(writer, to, link.id.0)?;
-            for name in [NetworkName::A, NetworkName::B] {
+            for (name, _, part) in NETWORKS {
                 if carries(name, link.networks) {
-                    write_edge(writer, class, to, self.network(name))?;
+                    write_edge(writer, class, to, self.part(NETWORK, part, 4))?;
                 }
             }
             self.write_subs(writer, link, class, first, to)?;
@@ -186,18 +168,19 @@ impl Flow<'_> {
         let mut row = first;
         for sub in 0..link.sub_vls {
             let ports = self.count(link, Some(sub));
-            if ports > 0 {
-                let from = middle(SUB_VL, row, ports);
-                write_label(writer, from, sub)?;
-                write_edge(writer, class, from, to)?;
-                for port in self.config.ports() {
-                    if is_on(port, link, Some(sub)) {
-                        let at = middle(PORT, row, 1);
-                        write_label(writer, at, port.id.0)?;
-                        write_edge(writer, class, self.partition(port.partition), at)?;
-                        write_edge(writer, class, at, from)?;
-                        row = row.saturating_add(1);
-                    }
+            if ports == 0 {
+                continue;
+            }
+            let from = middle(SUB_VL, row, ports);
+            write_label(writer, from, sub)?;
+            write_edge(writer, class, from, to)?;
+            for port in self.config.ports() {
+                if is_on(port, link, Some(sub)) {
+                    let at = middle(PORT, row, 1);
+                    write_label(writer, at, port.id.0)?;
+                    write_edge(writer, class, self.partition(port.partition), at)?;
+                    write_edge(writer, class, at, from)?;
+                    row = row.saturating_add(1);
                 }
             }
         }
@@ -207,9 +190,5 @@ impl Flow<'_> {
 
 /// Whether a port sends on a link, and on this sub-VL of it if one is given.
 fn is_on(port: &PortPlan, link: &LinkPlan, sub: Option<u8>) -> bool {
-    port.vl.0 == link.id.0
-        && match sub {
-            Some(sub) => port.sub == sub,
-            None => true,
-        }
+    port.vl.0 == link.id.0 && port.sub == sub.unwrap_or(port.sub)
 }

@@ -1,7 +1,6 @@
 //! A writer that stops calling its inner writer after a failure.
 ghost use Rattle.std.specs.Prelude.{◌≡◌, length, false};
-ghost use Rattle.std.specs.IoError.{error_kind};
-ghost use Rattle.plan_report.specs.Halting.{is_failure as is_failure_kind, flush_fails, write_fails};
+ghost use Rattle.plan_report.specs.Halting.{flush_fails, write_fails};
 
 use std::io::{self, ErrorKind, Write};
 use std::marker::Model;
@@ -80,20 +79,13 @@ fn failed_before() -> io::Error {
     io::Error::new(ErrorKind::Other, "a write failed before")
 }
 
-/// Whether an error is not an interruption.
-fn is_failure(error: &io::Error) -> bool
-    ensures { result ≡ is_failure_kind (error_kind error.now) }
-{
-    !matches!(error.kind(), ErrorKind::Interrupted)
-}
-
 /// Whether a flush failed.
 fn flush_failed(flushed: &io::Result<()>) -> bool
     ensures { result ≡ flush_fails flushed.now }
 {
     match flushed {
         Ok(()) => false,
-        Err(error) => is_failure(error),
+        Err(error) => !matches!(error.kind(), ErrorKind::Interrupted),
     }
 }
 
@@ -103,6 +95,6 @@ fn write_failed(size: usize, written: &io::Result<usize>) -> bool
 {
     match written {
         Ok(taken) => *taken == 0 && size > 0,
-        Err(error) => is_failure(error),
+        Err(error) => !matches!(error.kind(), ErrorKind::Interrupted),
     }
 }

@@ -1,5 +1,16 @@
-//! Texts and numbers of the page.
+//! Texts and numbers of the page, and its bars as SVG.
 use std::fmt::{self, InlineText};
+use std::io::{self, Write};
+
+/// The width of a drawing.
+pub(crate) const WIDTH: u64 = 10_000;
+
+/// The width of a mark.
+const MARK: u64 = 50;
+
+/// The begin of a drawing.
+pub(crate) const DRAWING: &str =
+    "<svg viewBox=\"0 0 10000 100\" preserveAspectRatio=\"none\" aria-hidden=\"true\">";
 
 /// A text from outside, with what HTML gives a meaning escaped.
 #[derive(Drop)]
@@ -40,28 +51,29 @@ impl fmt::Display for Grouped {
     }
 }
 
-/// A number of thousandths, or of hundredths, with its decimal point.
-#[derive(Clone, Copy)]
-pub(crate) enum Decimal {
-    Thousandths(u64),
-    Hundredths(u64),
+/// A number of thousandths, with its decimal point.
+#[derive(Drop)]
+pub(crate) struct Thousandths(pub(crate) u64);
+
+impl fmt::Display for Thousandths {
+    fn fmt<W: fmt::Write>(&self, f: &mut fmt::Formatter<W>) -> fmt::Result {
+        write!(f, "{}.{:03}", Grouped(self.0 / 1_000), self.0 % 1_000)
+    }
 }
 
-impl fmt::Display for Decimal {
+/// A number of hundredths, with its decimal point.
+#[derive(Drop)]
+pub(crate) struct Hundredths(pub(crate) u64);
+
+impl fmt::Display for Hundredths {
     fn fmt<W: fmt::Write>(&self, f: &mut fmt::Formatter<W>) -> fmt::Result {
-        match *self {
-            Decimal::Thousandths(value) => {
-                let whole = Grouped(value / 1_000);
-                let rest = value % 1_000;
-                write!(f, "{whole}.{rest:03}")
-            }
-            Decimal::Hundredths(value) => {
-                let whole = Grouped(value / 100);
-                let rest = value % 100;
-                write!(f, "{whole}.{rest:02}")
-            }
-        }
+        write!(f, "{}.{:02}", Grouped(self.0 / 100), self.0 % 100)
     }
+}
+
+/// A part of a whole in percent.
+pub(crate) fn percent(part: u64, whole: u64) -> Hundredths {
+    Hundredths(part.saturating_mul(10_000) / whole.max(1))
 }
 
 /// A time in nanoseconds, printed in the greatest unit of which it has one.
@@ -73,62 +85,111 @@ impl Time {
     pub(crate) fn of_micros(micros: u64) -> Time {
         Time(micros.saturating_mul(1_000))
     }
-
-    /// The unit in nanoseconds, and its name.
-    fn unit(&self) -> (u64, &'static str) {
-        match self.0 {
-            1..=999 => (1, "ns"),
-            0..=999_999 => (1_000, "µs"),
-            1_000_000..=999_999_999 => (1_000_000, "ms"),
-            _ => (1_000_000_000, "s"),
-        }
-    }
 }
 
 impl fmt::Display for Time {
     fn fmt<W: fmt::Write>(&self, f: &mut fmt::Formatter<W>) -> fmt::Result {
-        let (unit, name) = self.unit();
-        let unit = unit.max(1);
-        fmt::Display::fmt(&Grouped(self.0 / unit), f)?;
-        let mut rest = self.0 % unit;
+        let (unit, name): (u64, &str) = match self.0 {
+            1..=999 => (1, "ns"),
+            0..=999_999 => (1_000, "µs"),
+            1_000_000..=999_999_999 => (1_000_000, "ms"),
+            _ => (1_000_000_000, "s"),
+        };
+        write!(f, "{}", Grouped(self.0 / unit.max(1)))?;
+        let mut rest = self.0 % unit.max(1);
         if rest > 0 {
             f.write_char('.')?;
         }
-        for place in [
-            100_000_000,
-            10_000_000,
-            1_000_000,
-            100_000,
-            10_000,
-            1_000,
-            100,
-            10,
-            1,
-        ] {
-            if place < unit && rest > 0 {
-                let digit = rest / place;
-                write!(f, "{digit}")?;
-                rest %= place;
+        for _digit in 0..9 {
+            if rest > 0 {
+                rest = rest.saturating_mul(10);
+                write!(f, "{}", rest / unit.max(1))?;
+                rest %= unit.max(1);
             }
         }
         write!(f, "\u{a0}{name}")
     }
 }
 
-/// A time in microseconds, or a dash if there is none.
-#[derive(Drop)]
-pub(crate) struct Micros(pub(crate) Option<u64>);
+/// A number, or else a text.
+#[derive(Clone, Copy)]
+pub struct Cell<T>(pub Option<T>, pub &'static str);
 
-impl fmt::Display for Micros {
+impl<T: fmt::Display> fmt::Display for Cell<T> {
     fn fmt<W: fmt::Write>(&self, f: &mut fmt::Formatter<W>) -> fmt::Result {
-        match self.0 {
-            Some(micros) => fmt::Display::fmt(&Time::of_micros(micros), f),
-            None => f.write_str("–"),
+        match &self.0 {
+            Some(number) => fmt::Display::fmt(number, f),
+            None => f.pad(self.1),
         }
     }
 }
 
-/// A part of a whole in percent.
-pub(crate) fn percent(part: u64, whole: u64) -> Decimal {
-    Decimal::Hundredths(part.saturating_mul(10_000) / whole.max(1))
+/// A time in microseconds, or a dash if there is none.
+pub(crate) fn micros(micros: Option<u64>) -> Cell<Time> {
+    Cell(micros.map(Time::of_micros), "–")
+}
+
+/// The position of a value in the drawing of a bar that `scale` fills.
+pub(crate) fn place(scale: u64, value: u64) -> u64 {
+    value.min(scale).saturating_mul(WIDTH) / scale.max(1)
+}
+
+/// A rectangle of the height of a drawing: its class, which gives its color, its start and its width.
+#[derive(Drop)]
+pub(crate) struct Rect(pub(crate) &'static str, pub(crate) u64, pub(crate) u64);
+
+/// The mark of a limit at a position.
+pub(crate) fn mark(place: u64) -> Rect {
+    Rect("mark", place.saturating_sub(MARK), MARK)
+}
+
+impl fmt::Display for Rect {
+    fn fmt<W: fmt::Write>(&self, f: &mut fmt::Formatter<W>) -> fmt::Result {
+        let Rect(class, start, width) = self;
+        write!(
+            f,
+            "<rect class=\"{class}\" x=\"{start}\" width=\"{width}\" height=\"100\"/>"
+        )
+    }
+}
+
+/// A bar of several parts with the mark of a limit. Scale, limit and parts are in one unit.
+#[derive(Drop)]
+pub struct Parts {
+    // the value that fills the bar
+    scale: u64,
+    limit: u64,
+    filled: u64,
+    // whether the next part has the second color
+    second: bool,
+}
+
+impl Parts {
+    /// Begins a bar without parts.
+    pub fn begin<W: Write>(writer: &mut W, scale: u64, limit: u64) -> io::Result<Parts> {
+        let track = Rect("track", 0, WIDTH);
+        write!(writer, "{DRAWING}{track}")?;
+        Ok(Parts {
+            scale,
+            limit,
+            filled: 0,
+            second: false,
+        })
+    }
+
+    /// Adds a part. Neighbouring parts differ in color.
+    pub fn fill<W: Write>(&mut self, writer: &mut W, value: u64) -> io::Result<()> {
+        let start = place(self.scale, self.filled);
+        self.filled = self.filled.saturating_add(value);
+        let width = place(self.scale, self.filled).saturating_sub(start);
+        let rect = Rect(if self.second { "two" } else { "one" }, start, width);
+        self.second = !self.second;
+        write!(writer, "{rect}")
+    }
+
+    /// Ends the bar.
+    pub fn end<W: Write>(self, writer: &mut W) -> io::Result<()> {
+        let mark = mark(place(self.scale, self.limit));
+        write!(writer, "{mark}</svg>")
+    }
 }

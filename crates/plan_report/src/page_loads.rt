@@ -1,7 +1,6 @@
 //! The tables of the networks and of the links of a page, with bars of loads and jitter.
 use crate::analysis_text::{network_name, networks_cell};
-use crate::bars::{DRAWING, Parts, Rect, place};
-use crate::html::{Decimal, Grouped, Time};
+use crate::html::{DRAWING, Grouped, Hundredths, Parts, Rect, Thousandths, Time, WIDTH, place};
 use plan_analysis::{
     Analysis, JITTER_LIMIT, LinkRow, NetworkName, NetworkRow, OWN_JITTER, carries,
 };
@@ -45,42 +44,24 @@ fn write_network<W: Write>(
     row: &NetworkRow,
 ) -> io::Result<()> {
     let name = network_name(row.name).trim();
-    let load = Decimal::Thousandths(row.load);
-    let share = Decimal::Hundredths(row.share);
+    let (load, share) = (Thousandths(row.load), Hundredths(row.share));
     let over = over(row.exceeded);
     write!(
         writer,
         "<tr><td>{name}<td{over}>{load}<td>{share}<td class=\"bar\">"
     )?;
-    write_load_bar(writer, analysis, row.name)?;
+    let most = analysis.network_a.load.max(analysis.network_b.load);
+    let mut bar = Parts::begin(writer, most.max(LINE_RATE), LINE_RATE)?;
+    for link in analysis.links.as_slice() {
+        if carries(row.name, link.plan.networks) {
+            bar.fill(writer, link.load)?;
+        }
+    }
+    bar.end(writer)?;
     let jitter = Time(row.jitter);
     write!(writer, "<td>{jitter}<td class=\"bar\">")?;
     write_jitter_bar(writer, analysis, Some(row.name))?;
     writer.write_all(b"\n")
-}
-
-/// Whether a link is one of those of a network, or of all if none is named.
-fn is_on(network: Option<NetworkName>, link: &LinkRow) -> bool {
-    match network {
-        Some(name) => carries(name, link.plan.networks),
-        None => true,
-    }
-}
-
-/// Writes the load of a network by link.
-fn write_load_bar<W: Write>(
-    writer: &mut W,
-    analysis: &Analysis,
-    network: NetworkName,
-) -> io::Result<()> {
-    let most = analysis.network_a.load.max(analysis.network_b.load);
-    let mut bar = Parts::begin(writer, most.max(LINE_RATE), LINE_RATE)?;
-    for row in analysis.links.as_slice() {
-        if is_on(Some(network), row) {
-            bar.fill(writer, row.load)?;
-        }
-    }
-    bar.end(writer)
 }
 
 /// Writes the jitter of a network, or of all links, by link.
@@ -91,9 +72,10 @@ fn write_jitter_bar<W: Write>(
 ) -> io::Result<()> {
     let mut bar = Parts::begin(writer, analysis.jitter.max(JITTER_LIMIT), JITTER_LIMIT)?;
     bar.fill(writer, OWN_JITTER)?;
-    for row in analysis.links.as_slice() {
-        if is_on(network, row) {
-            bar.fill(writer, row.jitter)?;
+    for link in analysis.links.as_slice() {
+        match network {
+            Some(name) if !carries(name, link.plan.networks) => {}
+            _ => bar.fill(writer, link.jitter)?,
         }
     }
     bar.end(writer)
@@ -115,22 +97,21 @@ pub(crate) fn write_links<W: Write>(writer: &mut W, links: &[LinkRow]) -> io::Re
 
 fn write_link<W: Write>(writer: &mut W, row: &LinkRow) -> io::Result<()> {
     let plan = &row.plan;
-    let id = plan.id.0;
-    let bag = Time::of_micros(plan.bag.micros());
+    let (id, subs) = (plan.id.0, plan.sub_vls);
+    let gap = Time::of_micros(plan.bag.micros());
     let lmax = Grouped(plan.lmax.bytes() as u64);
-    let subs = plan.sub_vls;
     let networks = networks_cell(plan.networks).trim();
-    write!(
-        writer,
-        "<tr><td>{id}<td>{bag}<td>{lmax}<td>{subs}<td>{networks}"
-    )?;
-    let load = Decimal::Thousandths(row.load);
-    let share = Decimal::Hundredths(row.share);
+    let (load, share) = (Thousandths(row.load), Hundredths(row.share));
     let jitter = Time(row.jitter);
-    let track = Rect::track();
-    let bar = Rect::to("one", place(GREATEST_RATE / plan.bag.ms().max(1), row.load));
+    let track = Rect("track", 0, WIDTH);
+    let bar = Rect(
+        "one",
+        0,
+        place(GREATEST_RATE / plan.bag.ms().max(1), row.load),
+    );
     writeln!(
         writer,
-        "<td>{load}<td>{share}<td>{jitter}<td class=\"bar\">{DRAWING}{track}{bar}</svg>"
+        "<tr><td>{id}<td>{gap}<td>{lmax}<td>{subs}<td>{networks}<td>{load}<td>{share}<td>{jitter}\
+        <td class=\"bar\">{DRAWING}{track}{bar}</svg>"
     )
 }

@@ -31,7 +31,7 @@ pub fn read_plan<R: Read + Drop>(alloc: Global, reader: R) -> Result<Config, Fai
 }
 
 /// A plan, and the SHA-256 digest of its text.
-#[derive(Debug, Drop)]
+#[derive(Drop)]
 pub struct Digested {
     pub config: Config,
     pub digest: [u8; 32],
@@ -113,13 +113,6 @@ fn end_of(told: &Explanation) -> End
     }
 }
 
-/// A text of this many bytes is accepted.
-fn is_accepted(size: usize) -> bool
-    ensures { result ≡ nat_le size text_limit }
-{
-    size as u64 <= TEXT_LIMIT
-}
-
 /// Reads the rest of a reader, of at most `TEXT_LIMIT` bytes.
 pub fn read_text<R: Read + Drop>(alloc: Global, reader: R) -> Result<Vec<u8>, Failure>
     ensures whole { IfOk result (λ text. IfSome (R.remaining reader) (λ bytes.
@@ -131,19 +124,10 @@ pub fn read_text<R: Read + Drop>(alloc: Global, reader: R) -> Result<Vec<u8>, Fa
     let mut text = Vec::new(alloc);
     let mut reader = reader.take(TEXT_LIMIT + 1);
     match reader.read_to_end(&mut text) {
-        Ok(_) => {
-            if is_accepted(text.len()) {
-                Ok(text)
-            } else {
-                Err(Failure::Run(RunFault::Read))
-            }
+        Ok(_) if text.len() as u64 <= TEXT_LIMIT => Ok(text),
+        Err(error) if error.kind() == io::ErrorKind::OutOfMemory => {
+            Err(Failure::Run(RunFault::Memory))
         }
-        Err(error) => {
-            if error.kind() == io::ErrorKind::OutOfMemory {
-                Err(Failure::Run(RunFault::Memory))
-            } else {
-                Err(Failure::Run(RunFault::Read))
-            }
-        }
+        _ => Err(Failure::Run(RunFault::Read)),
     }
 }

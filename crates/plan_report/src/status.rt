@@ -1,26 +1,11 @@
 //! How a command ends: failures and exit statuses.
 ghost use Rattle.std.specs.Prelude.{◌≡◌};
-ghost use Rattle.plan_report.specs.Status.{exit_status, failure_status as status_of_failure, run_status as status_of_run};
+ghost use Rattle.plan_report.specs.Status.{exit_status, failure_status as status_of_failure};
 
 use afdx_plan::ConfigFault;
 use script_text::{RunFault, Summary};
 use std::error::Error;
 use std::fmt;
-
-/// Success: no line of a script was refused.
-pub const DONE: u8 = 0;
-
-/// The command line, the configuration or the script was refused.
-pub const REFUSED: u8 = 2;
-
-/// The script ended, and at least one of its lines was refused while running.
-pub const LINES_REFUSED: u8 = 3;
-
-/// An allocation, a read or a write failed.
-pub const FAILED: u8 = 4;
-
-/// A storm exhausted its turns.
-pub const USED_UP: u8 = 5;
 
 /// The end of a run of the program.
 #[derive(Clone, Copy, Debug, PartialEq, Eq)]
@@ -44,11 +29,10 @@ pub fn status_of(end: &End) -> u8
     ensures { result ≡ exit_status end.now }
 {
     match end {
-        End::Told => DONE,
-        End::Ran(summary) if summary.refused == 0 => DONE,
-        End::Ran(_) => LINES_REFUSED,
-        End::FaultsTold | End::Missed => REFUSED,
-        End::WordsRefused => REFUSED,
+        End::Told => 0,
+        End::Ran(summary) if summary.refused == 0 => 0,
+        End::Ran(_) => 3,
+        End::FaultsTold | End::Missed | End::WordsRefused => 2,
         End::Failed(failure) => failure_status(failure),
     }
 }
@@ -57,20 +41,10 @@ fn failure_status(failure: &Failure) -> u8
     ensures { result ≡ status_of_failure failure.now }
 {
     match failure {
-        Failure::Config(ConfigFault::Memory) => FAILED,
-        Failure::Config(_) => REFUSED,
-        Failure::Run(fault) => run_status(fault),
-        Failure::Short => REFUSED,
-        Failure::Turns => USED_UP,
-    }
-}
-
-fn run_status(fault: &RunFault) -> u8
-    ensures { result ≡ status_of_run fault.now }
-{
-    match fault {
-        RunFault::Line { .. } | RunFault::Lines => REFUSED,
-        RunFault::Read | RunFault::Write | RunFault::Memory => FAILED,
+        Failure::Config(ConfigFault::Memory) => 4,
+        Failure::Run(RunFault::Read | RunFault::Write | RunFault::Memory) => 4,
+        Failure::Config(_) | Failure::Run(_) | Failure::Short => 2,
+        Failure::Turns => 5,
     }
 }
 

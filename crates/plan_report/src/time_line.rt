@@ -1,7 +1,6 @@
 //! The picture of a longest wait: the turns of a link, from the acceptance of a message to its last fragment.
 use crate::assessment::{Assessment, Row};
-use crate::bars::{DRAWING, Rect, WIDTH};
-use crate::html::{Escaped, Grouped, Time, percent};
+use crate::html::{DRAWING, Escaped, Grouped, Rect, Time, WIDTH, percent};
 use crate::traffic::PERIOD_LIMIT;
 use afdx_plan::Config;
 use plan_analysis::used_sub_vls;
@@ -16,8 +15,9 @@ const LAST: u64 = 36;
 #[derive(Clone, Copy)]
 struct Turns {
     wait: u64,
-    // the time of a turn
+    // the time of a turn, and the number of turns
     turn: u64,
+    count: u64,
     // the turns of a round: the sub-VLs of the link that have a port
     round: u64,
     // the fragments of the message itself
@@ -29,52 +29,40 @@ impl Turns {
     fn of(config: &Config, lateness: u64, row: &Row<'_>) -> Option<Turns> {
         let place = config.link_index(row.port.vl)?;
         let link = config.links().get(place)?;
+        let turn = link.bag.micros().saturating_add(lateness).max(1);
         Some(Turns {
             wait: row.wait(),
-            turn: link.bag.micros().saturating_add(lateness).max(1),
+            turn,
+            count: row.wait().div_ceil(turn),
             round: used_sub_vls(link, config.ports()).max(1),
             own: row.port.fragments,
         })
     }
 
-    /// The number of turns.
-    fn count(&self) -> u64 {
-        self.wait.div_ceil(self.turn.max(1))
-    }
-
-    /// The fragments that the sub-VL sends before the message.
-    fn before(&self) -> u64 {
-        self.count()
-            .div_ceil(self.round.max(1))
-            .saturating_sub(self.own)
-    }
-
     /// The number of places that are drawn, one of them for the turns that are left out, if any are.
     fn places(&self) -> u64 {
-        self.count().min(FIRST + 1 + LAST)
+        self.count.min(FIRST + 1 + LAST)
     }
 
     /// How many turns are left out.
     fn left_out(&self) -> u64 {
-        if self.count() > FIRST + 1 + LAST {
-            self.count().saturating_sub(FIRST + LAST)
-        } else {
-            0
+        match self.count.saturating_sub(self.places()) {
+            0 => 0,
+            more => more.saturating_add(1),
         }
     }
 
     /// The turns that come after the one at a place. `None` if the place is for those left out.
     fn after(&self, place: u64) -> Option<u64> {
-        let last = if self.left_out() > 0 && place < FIRST {
-            self.count()
+        if self.left_out() > 0 && place == FIRST {
+            return None;
+        }
+        let last = if place < FIRST {
+            self.count
         } else {
             self.places()
         };
-        if self.left_out() > 0 && place == FIRST {
-            None
-        } else {
-            Some(last.saturating_sub(1).saturating_sub(place))
-        }
+        Some(last.saturating_sub(1).saturating_sub(place))
     }
 
     /// The class of a turn that comes before so many others: it sends a fragment of the message, of its sub-VL
@@ -89,31 +77,21 @@ impl Turns {
             "two"
         }
     }
-
-    /// The time from the acceptance to the end of a turn that comes before so many others.
-    fn end(&self, after: u64) -> Time {
-        Time::of_micros(self.wait.saturating_sub(after.saturating_mul(self.turn)))
-    }
 }
 
 /// The row of the port with the least slack; if no deadline is given, of the one that waits longest.
 fn worst<'a>(assessment: &'a Assessment<'_>, given: usize) -> Option<Row<'a>> {
     let mut worst = None;
     let mut most = 0;
-    for place in 0..assessment.len() {
-        if let Some(row) = assessment.row(place) {
-            let over = match row.demand.deadline {
-                Some(deadline) => row
-                    .wait()
-                    .saturating_add(PERIOD_LIMIT)
-                    .saturating_sub(deadline),
-                None if given == 0 => row.wait(),
-                None => 0,
-            };
-            if over > most {
-                most = over;
-                worst = Some(row);
-            }
+    for row in assessment.rows.iter() {
+        let over = match row.demand.deadline {
+            Some(deadline) => (row.wait().saturating_add(PERIOD_LIMIT)).saturating_sub(deadline),
+            None if given == 0 => row.wait(),
+            None => 0,
+        };
+        if over > most {
+            most = over;
+            worst = Some(*row);
         }
     }
     worst
@@ -160,11 +138,8 @@ fn write_turns<W: Write>(writer: &mut W, turns: &Turns) -> io::Result<()> {
     let places = turns.places().max(1);
     for place in 0..places {
         if let Some(after) = turns.after(place) {
-            let rect = Rect {
-                class: turns.class(after),
-                start: place.saturating_mul(WIDTH) / places,
-                width: WIDTH * 86 / 100 / places,
-            };
+            let (start, width) = (place.saturating_mul(WIDTH), WIDTH * 86 / 100);
+            let rect = Rect(turns.class(after), start / places, width / places);
             write!(writer, "{rect}")?;
         }
     }
@@ -175,14 +150,13 @@ fn write_turns<W: Write>(writer: &mut W, turns: &Turns) -> io::Result<()> {
 fn write_times<W: Write>(writer: &mut W, turns: &Turns) -> io::Result<()> {
     let whole = turns.places();
     let step = (whole / 5).saturating_add(1);
-    for place in 0..whole {
-        let part = place.saturating_add(1);
-        if let Some(after) = turns.after(place)
+    for part in 1..whole {
+        if let Some(after) = turns.after(part - 1)
             && part % step == 0
-            && part < whole
         {
             let x = percent(part, whole);
-            let end = turns.end(after);
+            let left = after.saturating_mul(turns.turn);
+            let end = Time::of_micros(turns.wait.saturating_sub(left));
             write!(writer, "<text x=\"{x}%\" y=\"11\">{end}</text>")?;
         }
     }
@@ -191,8 +165,14 @@ fn write_times<W: Write>(writer: &mut W, turns: &Turns) -> io::Result<()> {
 
 /// Writes what the colors of the turns mean, and how many turns aren't drawn.
 fn write_legend<W: Write>(writer: &mut W, turns: &Turns) -> io::Result<()> {
-    let [own, before, other] = ["one", "two", "track"].map(|class| Rect::to(class, WIDTH));
-    let earlier = Grouped(turns.before());
+    let [own, before, other] = ["one", "two", "track"].map(|class| Rect(class, 0, WIDTH));
+    // (the fragments that the sub-VL sends before the message)
+    let earlier = Grouped(
+        turns
+            .count
+            .div_ceil(turns.round.max(1))
+            .saturating_sub(turns.own),
+    );
     write!(
         writer,
         "<figcaption><span>{DRAWING}{own}</svg>its fragments</span>\

@@ -1,11 +1,10 @@
 //! The traffic of a plan: names, periods and deadlines of its ports, read from a CSV text.
-ghost use Rattle.std.specs.Prelude.{◌≤◌, IfSome};
-
-use crate::traffic_fault::{Column, TrafficFault, Wrong};
 use afdx_plan::Config;
 use csv::{ByteRecord, ReaderBuilder};
 use script_text::number;
 use std::alloc::{AllocError, Global};
+use std::fmt;
+use thiserror::Error;
 
 /// The greatest period and the greatest deadline, in microseconds.
 pub const PERIOD_LIMIT: u64 = 1_000_000_000_000;
@@ -16,8 +15,11 @@ const NAME_LIMIT: usize = 64;
 /// The most faults that are found.
 const FAULTS_LIMIT: usize = 1_000;
 
+/// The columns of a traffic text, by their names in its header.
+const COLUMNS: [&str; 4] = ["port", "name", "period_us", "deadline_us"];
+
 /// What a traffic text says of a port. Times are in microseconds.
-#[derive(Debug, Drop)]
+#[derive(Drop)]
 pub struct Demand {
     // the line that names the port, if one does
     pub line: Option<u64>,
@@ -27,32 +29,50 @@ pub struct Demand {
 }
 
 /// A traffic text: a demand for each port of the plan, in order, and the faults of the text.
-#[derive(Debug, Drop)]
+#[derive(Drop)]
 pub struct Traffic {
     pub demands: Vec<Demand>,
     pub faults: Vec<TrafficFault>,
 }
 
-/// The places of the columns in a row.
+/// A fault of a traffic text: its line from 1, the name of its column, if it is of one that has a name, and what is
+/// wrong. `Display` prints its line of the report.
 #[derive(Clone, Copy)]
-struct Columns {
-    port: Option<usize>,
-    name: Option<usize>,
-    period: Option<usize>,
-    deadline: Option<usize>,
-    count: usize,
-}
+pub struct TrafficFault(pub u64, pub Option<&'static str>, pub Wrong);
 
-impl Columns {
-    /// The place of a column.
-    fn place(&mut self, column: Column) -> &mut Option<usize> {
+impl fmt::Display for TrafficFault {
+    fn fmt<W: fmt::Write>(&self, f: &mut fmt::Formatter<W>) -> fmt::Result {
+        let TrafficFault(line, column, wrong) = *self;
         match column {
-            Column::Port => &mut self.port,
-            Column::Name => &mut self.name,
-            Column::Period => &mut self.period,
-            Column::Deadline => &mut self.deadline,
+            Some(column) => write!(f, "line {line}, {column}: {wrong}"),
+            None => write!(f, "line {line}: {wrong}"),
         }
     }
+}
+
+/// What is wrong in a traffic text.
+#[derive(Clone, Copy, Debug, Error)]
+pub enum Wrong {
+    #[error("a header is missing")]
+    NoHeader,
+    #[error("column {0} is none of port, name, period_us and deadline_us")]
+    UnknownColumn(u64),
+    #[error("the column occurs twice")]
+    SecondColumn,
+    #[error("the column is missing")]
+    NoColumn,
+    #[error("the row has {found} fields, and the header {wanted}")]
+    Fields { found: usize, wanted: usize },
+    #[error("0 to 65535 is wanted")]
+    PortNumber,
+    #[error("the plan has no port {0}")]
+    UnknownPort(u64),
+    #[error("port {id} already has a row, line {first}")]
+    SecondRow { id: u64, first: u64 },
+    #[error("1 to {PERIOD_LIMIT} is wanted")]
+    Time,
+    #[error("at most 64 bytes of text without control characters are wanted")]
+    Name,
 }
 
 /// Traffic without a text: no port has a name, a period or a deadline. Fails only if an allocation fails.
@@ -75,8 +95,13 @@ pub fn no_traffic(alloc: Global, config: &Config) -> Result<Traffic, AllocError>
 /// Reads the traffic of a plan: a header, and a row for each port. A faulty header is the last row that is
 /// read. Fails only if an allocation fails.
 pub fn read_traffic(alloc: Global, config: &Config, text: &[u8]) -> Result<Traffic, AllocError> {
-    let mut traffic = no_traffic(alloc, config)?;
-    let mut head = None;
+    let mut reading = Reading {
+        config,
+        traffic: no_traffic(alloc, config)?,
+        line: 1,
+        places: [None; 4],
+        count: None,
+    };
     let rows = ReaderBuilder::new()
         .has_headers(false)
         .flexible(true)
@@ -85,79 +110,109 @@ pub fn read_traffic(alloc: Global, config: &Config, text: &[u8]) -> Result<Traff
         let Ok(row) = row else {
             return Err(AllocError);
         };
-        let line = line_of(&row);
-        match &head {
+        reading.line = row.position().map_or(0, |at| at.line());
+        match reading.count {
             None => {
-                head = Some(read_head(&row, line, &mut traffic.faults)?);
-                if !traffic.faults.is_empty() {
-                    return Ok(traffic);
+                reading.head(&row)?;
+                if !reading.traffic.faults.is_empty() {
+                    return Ok(reading.traffic);
                 }
             }
-            Some(columns) => read_row(alloc, config, columns, &row, line, &mut traffic)?,
+            Some(wanted) => reading.row(alloc, wanted, &row)?,
         }
-        if traffic.faults.len() >= FAULTS_LIMIT {
-            return Ok(traffic);
+        if reading.traffic.faults.len() >= FAULTS_LIMIT {
+            return Ok(reading.traffic);
         }
     }
-    if head.is_none() {
-        add(&mut traffic.faults, 1, None, Wrong::NoHeader)?;
+    if reading.count.is_none() {
+        reading.add(None, Wrong::NoHeader)?;
     }
-    Ok(traffic)
+    Ok(reading.traffic)
 }
 
-/// The line on which a row begins.
-fn line_of(row: &ByteRecord) -> u64 {
-    match row.position() {
-        Some(at) => at.line(),
-        None => 0,
+/// A traffic text that is read, at the line of a row.
+#[derive(Drop)]
+struct Reading<'a> {
+    config: &'a Config,
+    traffic: Traffic,
+    line: u64,
+    // the place of each column, and how many fields a row has, once the header is read
+    places: [Option<usize>; 4],
+    count: Option<usize>,
+}
+
+impl Reading<'_> {
+    /// Adds a fault of the row.
+    fn add(&mut self, column: Option<&'static str>, wrong: Wrong) -> Result<(), AllocError> {
+        let fault = TrafficFault(self.line, column, wrong);
+        self.traffic.faults.push(fault)?;
+        Ok(())
     }
-}
 
-/// Adds a fault.
-fn add(
-    faults: &mut Vec<TrafficFault>,
-    line: u64,
-    column: Option<Column>,
-    wrong: Wrong,
-) -> Result<(), AllocError> {
-    faults.push(TrafficFault {
-        line,
-        column,
-        wrong,
-    })?;
-    Ok(())
-}
-
-/// Reads the header.
-fn read_head(
-    row: &ByteRecord,
-    line: u64,
-    faults: &mut Vec<TrafficFault>,
-) -> Result<Columns, AllocError> {
-    let mut columns = Columns {
-        port: None,
-        name: None,
-        period: None,
-        deadline: None,
-        count: row.len(),
-    };
-    for place in 0..row.len() {
-        match Column::named(row.get(place).unwrap_or(b"")) {
-            None => add(faults, line, None, Wrong::UnknownColumn(place as u64))?,
-            Some(column) => {
-                let at = columns.place(column);
-                if at.is_some() {
-                    add(faults, line, Some(column), Wrong::SecondColumn)?;
-                } else {
-                    *at = Some(place);
+    /// Reads the header.
+    fn head(&mut self, row: &ByteRecord) -> Result<(), AllocError> {
+        self.count = Some(row.len());
+        for place in 0..row.len() {
+            let field = row.get(place).unwrap_or(b"");
+            match COLUMNS.iter().position(|name| name.as_bytes() == field) {
+                None => self.add(None, Wrong::UnknownColumn(place as u64 + 1))?,
+                Some(column) if self.places[column].is_some() => {
+                    self.add(Some(COLUMNS[column]), Wrong::SecondColumn)?;
                 }
+                Some(column) => self.places[column] = Some(place),
             }
         }
+        if self.places[0].is_none() {
+            self.add(Some("port"), Wrong::NoColumn)?;
+        }
+        Ok(())
     }
-    if columns.port.is_none() {
-        add(faults, line, Some(Column::Port), Wrong::NoColumn)?;
+
+    /// Reads the row of a port.
+    fn row(&mut self, alloc: Global, wanted: usize, row: &ByteRecord) -> Result<(), AllocError> {
+        let found = row.len();
+        if found != wanted {
+            return self.add(None, Wrong::Fields { found, wanted });
+        }
+        let [port, name, period, deadline] = self.places.map(|place| field(row, place));
+        let name = read_name(alloc, name)?;
+        if name.is_none() {
+            self.add(Some("name"), Wrong::Name)?;
+        }
+        let period = self.time(period, "period_us")?;
+        let deadline = self.time(deadline, "deadline_us")?;
+        let Some(id) = number(port, 65_535) else {
+            return self.add(Some("port"), Wrong::PortNumber);
+        };
+        let mut ports = self.config.ports().iter();
+        let place = ports.position(|port| port.id.0 as u64 == id);
+        let demands = &mut self.traffic.demands;
+        let Some(demand) = demands.get_mut(place.unwrap_or(usize::MAX)) else {
+            return self.add(Some("port"), Wrong::UnknownPort(id));
+        };
+        if let Some(first) = demand.line {
+            return self.add(Some("port"), Wrong::SecondRow { id, first });
+        }
+        *demand = Demand {
+            line: Some(self.line),
+            name: name.unwrap_or(String::new(alloc)),
+            period,
+            deadline,
+        };
+        Ok(())
     }
-    Ok(columns)
+
+    /// Reads a time, which an empty field leaves out.
+    fn time(&mut self, field: &[u8], column: &'static str) -> Result<Option<u64>, AllocError> {
+        let time = match number(field, PERIOD_LIMIT) {
+            Some(0) => None,
+            time => time,
+        };
+        if time.is_none() && !field.is_empty() {
+            self.add(Some(column), Wrong::Time)?;
+        }
+        Ok(time)
+    }
 }
 
 /// The field of a column; nothing if the text lacks the column.
@@ -165,75 +220,6 @@ fn field(row: &ByteRecord, place: Option<usize>) -> &[u8] {
     match place {
         Some(place) => row.get(place).unwrap_or(b""),
         None => b"",
-    }
-}
-
-/// Reads the row of a port.
-fn read_row(
-    alloc: Global,
-    config: &Config,
-    columns: &Columns,
-    row: &ByteRecord,
-    line: u64,
-    traffic: &mut Traffic,
-) -> Result<(), AllocError> {
-    let faults = &mut traffic.faults;
-    if row.len() != columns.count {
-        let wrong = Wrong::Fields {
-            found: row.len() as u64,
-            wanted: columns.count as u64,
-        };
-        return add(faults, line, None, wrong);
-    }
-    let name = read_name(alloc, field(row, columns.name))?;
-    if name.is_none() {
-        add(faults, line, Some(Column::Name), Wrong::Name)?;
-    }
-    let period = read_time(field(row, columns.period), line, Column::Period, faults)?;
-    let deadline = read_time(field(row, columns.deadline), line, Column::Deadline, faults)?;
-    let Some(id) = number(field(row, columns.port), 65_535) else {
-        return add(faults, line, Some(Column::Port), Wrong::PortNumber);
-    };
-    let place = config
-        .ports()
-        .iter()
-        .position(|port| port.id.0 as u64 == id);
-    let Some(demand) = traffic.demands.get_mut(place.unwrap_or(usize::MAX)) else {
-        return add(faults, line, Some(Column::Port), Wrong::UnknownPort(id));
-    };
-    if let Some(first) = demand.line {
-        return add(
-            faults,
-            line,
-            Some(Column::Port),
-            Wrong::SecondRow { id, first },
-        );
-    }
-    *demand = Demand {
-        line: Some(line),
-        name: name.unwrap_or(String::new(alloc)),
-        period,
-        deadline,
-    };
-    Ok(())
-}
-
-/// Reads a time, which an empty field leaves out.
-fn read_time(
-    field: &[u8],
-    line: u64,
-    column: Column,
-    faults: &mut Vec<TrafficFault>,
-) -> Result<Option<u64>, AllocError> {
-    if field.is_empty() {
-        return Ok(None);
-    }
-    match number(field, PERIOD_LIMIT) {
-        Some(0) | None => {
-            add(faults, line, Some(column), Wrong::Time)?;
-            Ok(None)
-        }
-        Some(time) => Ok(Some(time)),
     }
 }
 

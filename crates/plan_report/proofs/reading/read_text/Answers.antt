@@ -1,13 +1,12 @@
-use Rattle.std.proofs.Common.{arith, ap, sym, ◌≤◌}
-use Rattle.std.proofs.lemmas.Bool.{leb-true}
+use Rattle.std.proofs.Common.{arith, ap, ◌≤◌}
 use Rattle.plan_report.proofs.ReadingLemmas.{whole_text}
 use Rattle.plan_report.specs.Reading.{text_limit}
 use Rattle.plan_report.proofs.reading.read_text.Goals as goal
 
-pub returns-then-is_accepted-clause-whole : goal.returns-then-is_accepted-clause-whole
-returns-then-is_accepted-clause-whole g c =
+pub returns-in-Ok-clause-whole : goal.returns-in-Ok-clause-whole
+returns-in-Ok-clause-whole g c =
     let inner = c.take-reader.result.inner in
-    let few : c.len.result ≤ text_limit = leb-true c.len.result text_limit (sym c.if-is_accepted.ensures) in
+    let few : c.len.result ≤ text_limit = omega arith in
     whole_text (g.R.Read.remaining c.args.reader) (g.R.Read.remaining inner) text_limit
     c.take-reader.result.limit c.new-text.result.items c.read_to_end.new.buf.items
     c.take-reader.ensures.limit (ap g.R.Read.remaining c.take-reader.ensures.inner)
