@@ -20,6 +20,7 @@ import tty
 # (no compiled copy is left beside the scripts)
 sys.dont_write_bytecode = True
 import pcapng
+import storms
 from trying import DEMO, HELP, JUDGED, ONE_FRAME, REPORT, ROOT, SCRIPT, STORM_HELP, WRONG, Tries, built, started, text_of, totals
 
 sys.path.append(f"{ROOT}/tests/report")
@@ -37,14 +38,10 @@ LONG = "".join(
 FULL, FULL_NOTED = "send 10 01\nsend 10 02\nsend 10 03\nat 0\n", "line 3: refused Full\n" + ONE_FRAME
 # The most bytes of a plan, and of a line of a script.
 TEXT_LIMIT, LINE_LIMIT = 16 * 2**20, 20_000
-# Many ports with little room.
-PORTS = 64
-CROWD = DEMO.replace("capacity = 2", "capacity = 1").replace(
-    PORT, "".join(PORT.replace("id = 10", f"id = {k}").replace("1000", f"{1000 + k}") for k in range(PORTS))
-)
 FILES = {
+    "six.toml": DEMO.replace("max = 8192", "max = 6"), **storms.PLANS,
     "demo.toml": DEMO, "wrong.toml": DEMO.replace("bag_ms = 1", "bag_ms = 3"), "small.toml": DEMO.replace("max = 8192", "max = 5"),
-    "two.toml": TWO.replace("capacity = 2", "capacity = 100"), "many.toml": CROWD, "old.pcapng": "\0" * 100_000,
+    "two.toml": TWO.replace("capacity = 2", "capacity = 100"), "old.pcapng": "\0" * 100_000,
     "short.txt": SCRIPT, "long.txt": LONG, "faulty.txt": SCRIPT + "at x\n", "full.txt": FULL, "lines.txt": "\n" * 1_000_001,
 }
 RUN, JUDGE, CHECK = ["run", "demo.toml", "short.txt"], ["judge", "demo.toml", "short.txt"], ["check", "demo.toml"]
@@ -98,6 +95,7 @@ ROWS = [
     ([*JUDGE, "full.txt", "--html", "full.txt"], 4, "", "write failed\nfull.txt: the command reads this file, so name another\n"),
     (["judge", "wrong.toml", "none.pcap", "--html", "unmade"], 2, "", BAD_BAG + SEE_EXPLAIN),
     (LATE, 5, "", "turns used up\n"),
+    *storms.ROWS,
     # the configuration is read before the script, and both are opened before a capture is made
     (["run", "wrong.toml", "none.txt", "--capture", "unmade"], 2, "", BAD_BAG),
     (["run", "demo.toml", "none.txt", "--capture", "unmade"], 4, "", "read failed\n"),
@@ -352,13 +350,13 @@ def progress(room):
         begun = time.monotonic()
         words = ["storm", "many.toml", "--messages", str(messages), "--turns", "1000000000"]
         status, out, shown = on_terminal(room, words)
-        room.want((status, out) == (0, totals(PORTS * messages)), f"status {status}, {out!r}")
+        room.want((status, out) == (0, totals(storms.MANY * messages)), f"status {status}, {out!r}")
         if shown:
             break
     counts = [tuple(map(int, it)) for it in SHOWN.findall(shown)]
     is_whole = re.fullmatch(b"(?:" + SHOWN.pattern + b")+\n", shown) is not None
     rises = all(list(it) == sorted(it) for it in zip(*counts))
-    in_range = all(max(it) <= PORTS * messages and it[1] % messages == 0 for it in counts)
+    in_range = all(max(it) <= storms.MANY * messages and it[1] % messages == 0 for it in counts)
     room.want(is_whole and rises and in_range and len(counts) <= 10 * (time.monotonic() - begun), repr(shown))
     room.want(on_terminal(room, STORM) == (0, totals(2), b""), "a short storm on a terminal")
 

@@ -2,6 +2,7 @@
 """Tests bindings/afdx and the test bench as `install/install.sh` installs them into a folder of their own. The last
 line is 'N passed, M failed'."""
 import os
+import random
 import re
 import resource
 import shutil
@@ -12,7 +13,7 @@ import tempfile
 import threading
 import time
 from collections.abc import Iterator
-from contextlib import contextmanager
+from contextlib import contextmanager, suppress
 from pathlib import Path
 
 ROOT = os.path.dirname(os.path.dirname(os.path.abspath(__file__)))
@@ -23,7 +24,7 @@ PYTHON = f"{PREFIX.name}/lib/python"
 sys.dont_write_bytecode = True
 os.environ.pop("AFDX_LIBRARY", None)
 subprocess.run(["bash", f"{ROOT}/install/install.sh", "--built", PREFIX.name], check=True)
-sys.path[:0] = [PYTHON, f"{ROOT}/tests/judge"]
+sys.path[:0] = [PYTHON, f"{ROOT}/tests/judge", f"{ROOT}/tests/run"]
 import afdx
 from afdx import A, B, EndSystem
 
@@ -271,29 +272,47 @@ def all_raised() -> None:
 
 
 def threads() -> None:
-    """Ports that send from threads of their own lose nothing, and each one's messages stay in order."""
+    """Ports that send from threads of their own lose nothing, and each one's messages stay in order, up to a close. What that
+    returns is what was accepted, and comes out."""
     plan = DEMO + "".join(SECOND.replace("id = 11", f"id = {k}").replace("1001", f"{1000 + k}") for k in (11, 12, 13))
-    with EndSystem(plan) as it:
-        ports = {1000 if k == 10 else 1000 + k: it.port(k) for k in (10, 11, 12, 13)}
-        def send(port: afdx.Port) -> None:
-            for k in range(1000):
-                while not port.try_send(k.to_bytes(2, "big")):
-                    time.sleep(0)
-        workers = [threading.Thread(target=send, args=(port,)) for port in ports.values()]
-        for worker in workers:
-            worker.start()
-        came = dict.fromkeys(ports, 0)
-        for now in range(0, 10**9, 1000):
-            for frame in it.poll(now).b:
-                source = int.from_bytes(frame[34:36], "big")
-                assert int.from_bytes(frame[42:44], "big") == came[source], source
-                came[source] += 1
-            if sum(came.values()) == 4000:
-                break
-            time.sleep(0)
-        for worker in workers:
-            worker.join()
-        assert set(came.values()) == {1000} and all(port.accepted == 1000 for port in ports.values())
+    for closed_at, most in ((4000, 4000), (500, 502)):
+        with EndSystem(plan) as it:
+            ports = {1000 if k == 10 else 1000 + k: it.port(k) for k in (10, 11, 12, 13)}
+            def send(port: afdx.Port) -> None:
+                with suppress(afdx.Closed):
+                    for k in range(1000):
+                        while not port.try_send(k.to_bytes(2, "big")):
+                            time.sleep(0)
+            workers = [threading.Thread(target=send, args=(port,)) for port in ports.values()]
+            for worker in workers:
+                worker.start()
+            came, total = dict.fromkeys(ports, 0), -1
+            for now in range(0, 10**9, 1000):
+                for frame in it.poll(now).b:
+                    source = int.from_bytes(frame[34:36], "big")
+                    assert int.from_bytes(frame[42:44], "big") == came[source], source
+                    came[source] += 1
+                total = it.close(1, 0) if total < 0 and sum(came.values()) >= closed_at else total
+                if sum(came.values()) == total:
+                    break
+                time.sleep(0)
+            for worker in workers:
+                worker.join()
+            assert closed_at <= total <= most and it.close(1, 0) == total
+            assert {source: port.accepted for source, port in ports.items()} == came
+
+
+def driven_runs() -> None:
+    """Random runs over random plans, with networks that fail, and plans of every size answer as the model says."""
+    import driven
+    done = [driven.run(seed) for seed in range(400)]
+    assert 50 < sum(done) < 350, sum(done)
+    for ports in range(1, 257):
+        it = driven.Driven(driven.size(ports), random.Random(ports))
+        for port in it.ports:
+            it.send(port, b"\7")
+        it.at(0)
+        assert it.drain(1000, 256), ports
 
 
 def bench() -> None:
@@ -323,7 +342,7 @@ def speed() -> None:
 
 def main() -> int:
     passed = failed = 0
-    for test in (first_message, names, configurations, answers, judging, lists, all_raised, bytes_like, tries, version, typed, threads, bench, speed):
+    for test in (first_message, names, configurations, answers, judging, lists, all_raised, bytes_like, tries, version, typed, threads, driven_runs, bench, speed):
         try:
             test()
             passed += 1

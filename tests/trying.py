@@ -70,10 +70,10 @@ For more information, try '--help'.
 """
 
 
-def totals(messages, networks="equal"):
-    """What a storm over one link prints, whose ports send `messages` messages of six bytes in all."""
-    link = f"link 1: frames {messages}, bytes {60 * messages}, messages {messages}"
-    return f"accepted {messages}\n{link}\nnetworks {networks}\nwatcher never back\n"
+def totals(messages, networks="equal", links=(1,)):
+    """What a storm prints whose ports send `messages` messages of six bytes on each link."""
+    lines = "".join(f"link {vl}: frames {messages}, bytes {60 * messages}, messages {messages}\n" for vl in links)
+    return f"accepted {messages * len(links)}\n{lines}networks {networks}\nwatcher never back\n"
 
 
 def compiler(variable="CC", names=("cc", "gcc", "clang")):

@@ -61,6 +61,37 @@ static void check_release(void) {
     CHECK(afdx_free(&it) == AFDX_OK && blocks == 0);
 }
 
+/* A million messages, each a gap after the one before: numbers go on with 1 after 255 and identifications with 0 after 65,535,
+   twins differ in the network alone, and all are counted. */
+static void check_long_run(void) {
+    enum { MANY = 1000000 };
+    afdx_end_system it = {0};
+    afdx_port port = {0};
+    afdx_counts counts = {0};
+    uint8_t standing = 0, a[AFDX_GREATEST_FRAME], b[AFDX_GREATEST_FRAME];
+    uint64_t accepted = 0;
+    uint32_t k = 0;
+    CHECK(afdx_open(&it, (const uint8_t *)PLAN, sizeof PLAN - 1) == AFDX_OK && afdx_port_of(&it, 10, &port) == AFDX_OK);
+    for (bool is_well = true; is_well && k < MANY; k += is_well) {
+        uint8_t message[4] = {(uint8_t)(k >> 24), (uint8_t)(k >> 16), (uint8_t)(k >> 8), (uint8_t)k};
+        unsigned number = k == 0 ? 0 : (k - 1) % 255 + 1, ident = 4 * k % 65536;
+        uint64_t now = 1000 * (uint64_t)k;
+        size_t length = 0, count = 0, late = 7;
+        is_well = afdx_send(&port, message, 4) == AFDX_OK && afdx_poll(&it, now, &standing) == AFDX_OK && standing == 3
+            && afdx_frames(&it, AFDX_A, &count) == AFDX_OK && count == 1 && afdx_frames(&it, AFDX_B, &count) == AFDX_OK && count == 1
+            && afdx_frame(&it, AFDX_A, 0, a, sizeof a, &length) == AFDX_OK && afdx_frame(&it, AFDX_B, 0, b, sizeof b, &length) == AFDX_OK
+            && afdx_poll(&it, now + 999, &standing) == AFDX_OK && afdx_frames(&it, AFDX_A, &late) == AFDX_OK && late == 0;
+        is_well = is_well && length == 60 && a[59] == number && a[18] << 8 == (int)(ident & 0xff00) && a[19] == (ident & 0xff)
+            && memcmp(a + 42, message, 4) == 0 && a[11] == 0x20 && b[11] == 0x40;
+        b[11] = 0x20;
+        is_well = is_well && memcmp(a, b, 60) == 0;
+    }
+    CHECK(k == MANY && afdx_accepted(&port, &accepted) == AFDX_OK && accepted == MANY);
+    CHECK(afdx_link_counts(&it, 513, &counts) == AFDX_OK && counts.frames == MANY && counts.bytes == 60 * MANY);
+    CHECK(counts.messages == MANY && counts.last == 1000 * (uint64_t)(MANY - 1));
+    CHECK(afdx_give_back(&it, &port) == AFDX_OK && afdx_free(&it) == AFDX_OK && blocks == 0);
+}
+
 /* What a line says, or the number with which it is refused; nothing else is written. */
 static void says(const char *line, size_t length, uint8_t number, afdx_line wanted, const char *message) {
     uint8_t buffer[10000];
@@ -135,6 +166,7 @@ static void check_sizes(void) {
 
 int main(void) {
     check_release();
+    check_long_run();
     check_lines();
     check_sizes();
     CHECK(afdx_version_number() == AFDX_VERSION_NUMBER && AFDX_VERSION_NUMBER == 10000);

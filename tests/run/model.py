@@ -83,13 +83,18 @@ class Link:
 
 
 class EndSystem:
-    """An end system: its links and ports by identifier, the time of its last poll, and the lines of each network's frames."""
+    """An end system: its links and ports by identifier, the time of its last poll, and the lines of each network's frames. Of
+    the networks, which are up, and which of them fail at their next frame; the frames of the last poll; the counts of each link
+    on each network, as `afdx_counts` has them; whether a frame was lost."""
 
     def __init__(self, plan: Table) -> None:
         self.number, self.now = plan["end_system"]["id"], 0
         self.links = {link["id"]: Link(link) for link in plan["vl"]}
         self.ports = {port["id"]: port for port in plan["port"]}
         self.lines: dict[str, list[str]] = {name: [] for name in NETWORKS}
+        self.up, self.failing, self.is_lost = dict.fromkeys(NETWORKS, True), set(), False
+        self.made: dict[str, list[bytes]] = {name: [] for name in NETWORKS}
+        self.counted = {(vl, name): (0, 0, 0, 0) for vl in self.links for name in NETWORKS}
 
     def send(self, number: int, message: bytes) -> str:
         """Sends a message. Returns a note, as the others do, or ''."""
@@ -106,17 +111,32 @@ class EndSystem:
         sub.accepted += 1
         return ""
 
+    def carriers(self, link: Link) -> list[str]:
+        """The networks that carry a link and are up."""
+        on = link.table.get("networks", "both")
+        return [name for name, is_up in self.up.items() if is_up and on in ("both", name.lower())]
+
+    def hand(self, vl: int, name: str, frame: bytes) -> None:
+        """Gives a link's frame to a network, which fails if it is to."""
+        self.up[name] = name not in self.failing
+        if self.up[name]:
+            frame = struct.pack(">IHBHHBH", 0x0300_0000, vl, 2, 0, self.number, NETWORKS[name], 0x0800) + frame
+            frames, size, messages, _ = self.counted[vl, name]
+            self.counted[vl, name] = (frames + 1, size + len(frame), messages + (frame[20] & 0x20 == 0), self.now)
+            self.made[name].append(frame)
+            self.lines[name].append(f"{name} {self.now} {frame.hex()}\n")
+
     def at(self, moment: int) -> str:
         """Polls once."""
-        if moment < self.now:
-            return "refused TimeBack"
-        self.now = moment
+        if moment < self.now or not any(self.up.values()):
+            return "refused TimeBack" if moment < self.now else "refused BothDown"
+        self.now, self.made = moment, {name: [] for name in NETWORKS}
         for vl, link in self.links.items():
-            frame, on = link.release(moment), link.table.get("networks", "both")
-            for name, byte_11 in NETWORKS.items():
-                if frame and on in ("both", name.lower()):
-                    header = struct.pack(">IHBHHBH", 0x0300_0000, vl, 2, 0, self.number, byte_11, 0x0800)
-                    self.lines[name].append(f"{name} {moment} {(header + frame).hex()}\n")
+            on = self.carriers(link)
+            frame = link.release(moment) if on else b""
+            for name in on if frame else ():
+                self.hand(vl, name, frame)
+            self.is_lost |= bool(frame) and not self.carriers(link)
         return ""
 
     def close(self, vl: int, sub: int) -> str:

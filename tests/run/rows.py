@@ -197,21 +197,32 @@ def networks() -> Iterator[Row]:
         yield row(key, "version = 2\n" + demo(f"capacity = 2{key}"), "send 10 01|at 0|", frames([FIRST], nets), 1)
 
 
-# What two sub-VLs of a link with frames of 64 bytes send in turn: a message of 60 bytes, which is three pieces, and two of
-# one byte.
-SENT_IN_TURN = packet_frames(
+# The IPv4 packets of the pieces of a message of 60 bytes on a link with frames of 64 bytes.
+PIECES = (
     "4500002c000020000111addf0a000101e0e0000103e807d000440000aaaaaaaaaaaaaaaaaaaaaaaaaaaaaaaa",
-    "4500001d000100000111cded0a000101e0e0000103e907d00009000001",
     "4500002c000020030111addc0a000101e0e00001aaaaaaaaaaaaaaaaaaaaaaaaaaaaaaaaaaaaaaaaaaaaaaaa",
-    "4500001d000500000111cde90a000101e0e0000103e907d00009000002",
     "45000028000000060111cddd0a000101e0e00001aaaaaaaaaaaaaaaaaaaaaaaaaaaaaaaaaaaaaaaa",
 )
+
+
+def short_packets(byte: int, *idents: int) -> list[str]:
+    """The IPv4 packets of messages of one byte of link 1, by their identifications."""
+    return [f"4500001d{k:04x}00000111{0xCDEE - k:04x}0a000101e0e00001{1000 + k % 4:04x}07d000090000{byte:02x}" for k in idents]
+
+
+# What two sub-VLs send in turn: that message, and two of one byte.
+SENT_IN_TURN = packet_frames(PIECES[0], *short_packets(1, 1), PIECES[1], *short_packets(2, 5), PIECES[2])
 
 
 def turns() -> Iterator[Row]:
     """Two sub-VLs that send piece by piece in turn, and closes among several sub-VLs."""
     long, polls = f"send 20 {'aa' * 60}|", "at 1000|at 2000|at 3000|at 4000|"
     yield row("in turn", IN_TURN, f"{long}send 21 01|send 21 02|at 0|{polls}", SENT_IN_TURN, 3)
+    ports = [(30 + k, 1, k) for k in range(4)]
+    short = "".join(f"send {port} 01|send {port} 02|" for port, _, _ in ports[1:])
+    out = packet_frames(PIECES[0], *short_packets(1, 1, 2, 3), PIECES[1], *short_packets(2, 5, 6, 7), PIECES[2])
+    script = f"send 30 {'aa' * 60}|{short}at 0|{polls}at 5000|at 6000|at 7000|at 8000|"
+    yield row("four sub-VLs in turn", plan_of([(1, 64, 4, 2)], ports), script, out, 7)
     script = f"{long}send 21 01|at 0|close 1 0|send 21 02|send 20 03|close 1 1|send 21 04|{polls}at 5000|"
     notes = lines("line 4: closed 1|line 6: refused Closed|line 7: closed 2|line 8: refused Closed|")
     yield row("a closed sub-VL ends what it began to send", IN_TURN, script, notes + SENT_IN_TURN, 3)

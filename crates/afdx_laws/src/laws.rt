@@ -176,9 +176,9 @@ pub fn legal_despite_loss()
 ///
 /// The premise on the transmitter (`afdx_legal`, `IsHandedWhole`) follows from the contracts of `afdx_tx`:
 /// `Emitter::gather` (`gathered`: what was accepted of each port is its own list), `Draining::poll` (`accepted`: it
-/// stays so), `Draining::is_done`, and `Draining::into_networks` (`legal`, `allowed`). A test of `afdx_tests` combines
-/// them. The premises at the other end are those of `legal_arrive`. For a link on one network, that network carried
-/// all.
+/// stays so), `Draining::is_done`, and `Draining::into_networks` (`legal`, `allowed`). `storm::storm` combines them in
+/// its contract. The premises at the other end are those of `legal_arrive`. For a link on one network, that network
+/// carried all.
 pub fn own_lists_arrive()
     ensures arrive { OwnListsArrive }
     ensures worked { OneIsWhole }

@@ -1,37 +1,20 @@
-//! Tests of the emitter through its public calls.
+//! Tests of whole end systems, of what no contract says: that a poll finds what was sent, that calls succeed if memory
+//! suffices, that threads make progress, and what becomes of a run whose networks fail.
 #![tactic(auto)]
 
 #[cfg(test)]
 mod failing_tests;
 #[cfg(test)]
-mod field_tests;
-#[cfg(test)]
-mod headline_tests;
-#[cfg(test)]
 mod library_call;
-#[cfg(test)]
-mod list_model;
-#[cfg(test)]
-mod long_tests;
-#[cfg(test)]
-mod model_tests;
 #[cfg(test)]
 mod order_tests;
 #[cfg(test)]
 mod pausing_tests;
 #[cfg(test)]
-mod play;
-#[cfg(test)]
-mod play_tests;
-#[cfg(test)]
 mod rig;
 #[cfg(test)]
-mod sending_tests;
-#[cfg(test)]
-mod size_tests;
+mod step_tests;
 #[cfg(test)]
 mod testing;
-#[cfg(test)]
-mod turn_tests;
 #[cfg(test)]
 mod watching_tests;

@@ -2,24 +2,20 @@
 ghost use Rattle.std.specs.Prelude.{◌≡◌, []};
 ghost use Rattle.redundant_mux.specs.Lines.{entries_of};
 
-use crate::rig::send;
+use crate::rig::*;
 use crate::testing::*;
 use afdx_frame::vl_of;
 use afdx_plan::{Networks, VlId};
-use afdx_tx::{Draining, Emitter, TxPort, open_tx};
 use redundant_mux::{HandFault, Network, Trail};
-use std::marker::Model;
 use std::sync::Arc;
 use std::sync::atomic::{AtomicU64, Ordering};
 
-/// A frame that a network accepted: its place among those of both networks, its time in microseconds, and its link.
-type Taken = (u64, u64, Option<VlId>);
-
-/// A network that counts the frames of both networks, in a number that the two share.
+/// A network that keeps the place of each frame among those of both networks, in a number that the two share, and its
+/// time in microseconds and link.
 #[derive(Drop)]
 struct Counting {
     places: Arc<AtomicU64, Global>,
-    taken: Vec<Taken>,
+    taken: Vec<(u64, u64, Option<VlId>)>,
     failures: u64,
     trail: Trail,
 }
@@ -56,10 +52,10 @@ fn make_network(rt: &impl Host, places: &Arc<AtomicU64, Global>) -> Counting
 // A link on both networks, one on A, one on both and one on B, with a port on each.
 const FOUR: Plan = (
     &[
-        (1, "both", 1_518, 1, 4),
-        (2, "a", 1_518, 1, 4),
-        (3, "both", 1_518, 1, 4),
-        (4, "b", 1_518, 1, 4),
+        (1, "both", 1, 1_518, 1, 4),
+        (2, "a", 1, 1_518, 1, 4),
+        (3, "both", 1, 1_518, 1, 4),
+        (4, "b", 1, 1_518, 1, 4),
     ],
     &[
         (10, 1, 0, 1, 8_192),
@@ -73,56 +69,6 @@ const FOUR: Plan = (
 const FOR_A: [(u64, u16); 3] = [(0, 1), (2, 2), (3, 3)];
 
 const FOR_B: [(u64, u16); 3] = [(1, 1), (4, 3), (5, 4)];
-
-/// An emitter over two such networks, and its ports.
-#[derive(Drop)]
-struct Pair {
-    tx: Emitter<Counting, Counting>,
-    ports: Vec<TxPort>,
-}
-
-impl Model for Pair {
-    ghost use Rattle.afdx_tx.specs.Emitter.{Tx};
-    ghost use Rattle.afdx_tx.specs.Ports.{AreOpenedWith};
-
-    ghost Value = { Tx };
-
-    ghost view = { λ p. p.tx };
-
-    ghost invariant = { λ p. AreOpenedWith p.tx p.ports.items };
-}
-
-fn open(rt: &impl Host) -> Pair {
-    let (alloc, config) = (rt.alloc(), config_of(rt, text_of(rt, FOUR)));
-    let places = Arc::new(alloc, AtomicU64::new(0)).expect(rt, "memory");
-    let (a, b) = (make_network(rt, &places), make_network(rt, &places));
-    match open_tx(alloc, config, a, b) {
-        Ok((tx, ports, monitor)) => {
-            drop(monitor);
-            Pair { tx, ports }
-        }
-        Err(_) => panic!(rt; "no memory"),
-    }
-}
-
-impl Pair {
-    fn send(&mut self, rt: &impl Host, at: usize, bytes: &[u8]) {
-        assert!(rt; at < self.ports.len());
-        send(rt, &mut self.ports[at], bytes, None);
-    }
-
-    fn poll(&mut self, rt: &impl Host, now: u64) {
-        assert!(rt; self.tx.now() <= now);
-        assert!(rt; self.tx.poll(now).is_ok());
-    }
-
-    fn gather(self, rt: &impl Host) -> Draining<Counting, Counting> {
-        match self.tx.gather(self.ports) {
-            Ok(draining) => draining,
-            Err(_) => panic!(rt; "each port is there"),
-        }
-    }
-}
 
 // Asserts that a network took these frames in each of four polls.
 fn assert_row(rt: &impl Abort, network: &Counting, row: &[(u64, u16)]) {
@@ -139,19 +85,22 @@ fn assert_row(rt: &impl Abort, network: &Counting, row: &[(u64, u16)]) {
 // Two polls of the emitter, and two in the drain.
 #[test]
 fn at_one_time_each_frame_goes_to_a_and_then_to_b(rt: HostRuntime) {
-    let mut pair = open(&rt);
+    let places = Arc::new(rt.alloc(), AtomicU64::new(0)).expect(&rt, "memory");
+    let (a, b) = (make_network(&rt, &places), make_network(&rt, &places));
+    let mut rig = open_over(&rt, text_of(&rt, FOUR), a, b);
     for at in 0..4 {
         for byte in 0..4u8 {
-            pair.send(&rt, at, &[byte]);
+            rig.send(&rt, at, &[byte]);
         }
     }
-    pair.poll(&rt, 0);
-    pair.poll(&rt, GAP);
-    let mut draining = pair.gather(&rt);
+    for now in [0, GAP] {
+        assert!(rt; rig.poll(&rt, now).is_ok());
+    }
+    let mut draining = rig.gather(&rt);
     for now in [2 * GAP, 3 * GAP] {
-        assert!(rt; draining.now() <= now);
-        assert!(rt; draining.poll(now).is_ok());
+        assert!(rt; drain(&rt, &mut draining, now).is_ok());
     }
     assert_row(&rt, draining.network_a(), &FOR_A);
     assert_row(&rt, draining.network_b(), &FOR_B);
+    drop((draining, places));
 }

@@ -1,83 +1,91 @@
 //! Tests of a port that pauses in a send while others send.
-use crate::play::Step::*;
-use crate::play::{Step, act_all};
+use crate::rig::Step::*;
 use crate::rig::*;
 use crate::testing::*;
 use afdx_tx::{Refusal, TxPort};
+use redundant_mux::MemNetwork;
 use std::sync::atomic::{AtomicU64, Ordering};
 use std::thread;
 
+// One link of two sub-VLs with a port on each.
+const TWO_SUB_VLS: Plan = (
+    &[(1, "both", 1, 64, 2, 2)],
+    &[(20, 1, 0, 1, 8_192), (21, 1, 1, 1, 8_192)],
+);
+
 // How many bytes a port sends, the steps in its pause, and why the message is refused, if it is.
-type Paused<'a> = (usize, &'a [Step<'a>], Option<Refusal>);
+type Paused = (usize, &'static [Step<'static>], Option<Refusal>);
+
+// What the port of sub-VL 0 sends, and the steps after that. The steps have the port of sub-VL 1 alone.
+const PAUSES: &[(&[Paused], &[Step])] = &[
+    // Another sub-VL releases in the pause of a port.
+    (
+        &[(
+            1,
+            &[Sends(0, &[2]), Polls(0, Some((&[(1, 1, 0)], BOTH)))],
+            None,
+        )],
+        &[Polls(1_000, Some((&[(1, 0, 1)], BOTH)))],
+    ),
+    // The close in the pause counts the message. It is sent, and so is one of the other sub-VL, which is open.
+    (
+        &[
+            (1, &[Closes(1, 0, 1)], None),
+            (1, &[], Some(Refusal::Closed)),
+        ],
+        &[
+            Closes(1, 0, 1),
+            Sends(0, &[2]),
+            Polls(0, Some((&[(1, 0, 0)], BOTH))),
+            Polls(1_000, Some((&[(1, 1, 1)], BOTH))),
+            Closes(1, 1, 1),
+        ],
+    ),
+    // A pause runs where a port accepts alone.
+    (
+        &[
+            (0, &[], Some(Refusal::Empty)),
+            (8_193, &[], Some(Refusal::TooLong)),
+            (8_192, &[], None),
+            (1, &[], None),
+            (1, &[], Some(Refusal::Full)),
+        ],
+        &[Closes(1, 0, 2)],
+    ),
+    // A message goes out after the pause of its port.
+    (
+        &[(1, &[Polls(0, Some((&[], BOTH)))], None)],
+        &[Polls(0, Some((&[(1, 0, 0)], BOTH)))],
+    ),
+];
 
 // A port sends with a pause. Its steps are taken only if the message is accepted.
-fn send_paused(rt: &impl Host, rig: &mut Rig, port: &mut TxPort, (size, steps, why): Paused) {
+fn send_paused(
+    rt: &impl Host,
+    rig: &mut Rig<MemNetwork>,
+    port: &mut TxPort,
+    &(size, steps, why): &Paused,
+) {
     let bytes = Vec::from_elem(rt.alloc(), 1u8, size).expect(rt, "memory");
     let mut ran = false;
     let sent = port.send_with(bytes, || {
-        act_all(rt, rig, steps);
+        rig.act_all(rt, steps);
         ran = true;
     });
-    let refused = match sent {
-        Ok(()) => None,
-        Err(fault) => Some(fault.why),
-    };
-    assert_same(rt, refused, why);
-    assert_same(rt, ran, why.is_none());
-}
-
-// The port of sub-VL 0 sends, again and again, and then steps are taken. The steps have the port of sub-VL 1 alone.
-fn play_paused(rt: &impl Host, sends: &[Paused], after: &[Step]) {
-    let mut rig = open(rt, TWO_SUB_VLS, NEVER);
-    let mut port = rig.take_first(rt);
-    for paused in sends {
-        send_paused(rt, &mut rig, &mut port, *paused);
-    }
-    act_all(rt, &mut rig, after);
-    drop((rig, port));
+    let refused = sent.err().map(|fault| fault.why);
+    assert_same(rt, (refused, ran), (why, why.is_none()));
 }
 
 #[test]
 fn a_port_pauses_only_where_it_accepts_and_its_message_goes_out_after_that(rt: HostRuntime) {
-    const PAUSES: &[(&[Paused], &[Step])] = &[
-        // Another sub-VL releases in the pause of a port.
-        (
-            &[(1, &[Sends(0, &[2]), Polls(0, &[(1, 1, 0)], BOTH)], None)],
-            &[Polls(1_000, &[(1, 0, 1)], BOTH)],
-        ),
-        // The close in the pause counts the message. It is sent, and so is one of the other sub-VL, which is open.
-        (
-            &[
-                (1, &[Closes(1, 0, Ok(1))], None),
-                (1, &[], Some(Refusal::Closed)),
-            ],
-            &[
-                Closes(1, 0, Ok(1)),
-                Sends(0, &[2]),
-                Polls(0, &[(1, 0, 0)], BOTH),
-                Polls(1_000, &[(1, 1, 1)], BOTH),
-                Closes(1, 1, Ok(1)),
-            ],
-        ),
-        // A pause runs where a port accepts alone.
-        (
-            &[
-                (0, &[], Some(Refusal::Empty)),
-                (8_193, &[], Some(Refusal::TooLong)),
-                (8_192, &[], None),
-                (1, &[], None),
-                (1, &[], Some(Refusal::Full)),
-            ],
-            &[Closes(1, 0, Ok(2))],
-        ),
-        // A message goes out after the pause of its port.
-        (
-            &[(1, &[Polls(0, &[], BOTH)], None)],
-            &[Polls(0, &[(1, 0, 0)], BOTH)],
-        ),
-    ];
     for &(sends, after) in PAUSES {
-        play_paused(&rt, sends, after);
+        let mut rig = open(&rt, TWO_SUB_VLS, (NEVER, NEVER));
+        let mut port = rig.take_first(&rt);
+        for paused in sends {
+            send_paused(&rt, &mut rig, &mut port, paused);
+        }
+        rig.act_all(&rt, after);
+        drop((rig, port));
     }
 }
 
@@ -109,16 +117,17 @@ fn send_held(rt: &impl Host, port: &mut TxPort, stage: &AtomicU64) -> bool {
     sent.is_ok() && may_go
 }
 
+// What the rig does while the port is held.
+const MEANWHILE: &[Step] = &[
+    Sends(0, &[2]),
+    Polls(0, Some((&[(1, 1, 0)], BOTH))),
+    Polls(1_000, Some((&[], BOTH))),
+];
+
 // The other sub-VL releases meanwhile, and the first once its port may go on.
 #[test]
 fn a_port_held_in_its_pause_holds_back_its_own_sub_vl_alone(rt: HostRuntime) {
-    const MEANWHILE: &[Step] = &[
-        Sends(0, &[2]),
-        Polls(0, &[(1, 1, 0)], BOTH),
-        Polls(1_000, &[], BOTH),
-    ];
-    const AFTER: &[Step] = &[Polls(1_000, &[(1, 0, 1)], BOTH)];
-    let mut rig = open(&rt, TWO_SUB_VLS, NEVER);
+    let mut rig = open(&rt, TWO_SUB_VLS, (NEVER, NEVER));
     let mut port = rig.take_first(&rt);
     let stage = AtomicU64::new(0);
     let (is_sent, is_held) = thread::join(
@@ -126,13 +135,13 @@ fn a_port_held_in_its_pause_holds_back_its_own_sub_vl_alone(rt: HostRuntime) {
         || send_held(&rt, &mut port, &stage),
         || {
             let is_held = reaches(&stage, 1);
-            act_all(&rt, &mut rig, MEANWHILE);
+            rig.act_all(&rt, MEANWHILE);
             stage.store(2, Ordering::SeqCst);
             is_held
         },
     );
     assert_same(&rt, (is_held, is_sent), (true, true));
     assert_same(&rt, port.accepted(), 1);
-    act_all(&rt, &mut rig, AFTER);
+    rig.act_all(&rt, &[Polls(1_000, Some((&[(1, 0, 1)], BOTH)))]);
     drop((rig, port));
 }

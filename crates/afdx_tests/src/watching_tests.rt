@@ -1,23 +1,32 @@
-//! Tests of a monitor that reads in a thread of its own while the emitter polls and publishes.
-ghost use Rattle.std.specs.Prelude.{◌<◌, ◌≤◌};
+//! A test of a monitor that reads in a thread of its own while the emitter polls and publishes.
+ghost use Rattle.std.specs.Prelude.{◌≤◌};
 ghost use Rattle.status_board.specs.Views.{links_of};
 
 use crate::rig::*;
 use crate::testing::*;
+use afdx_tx::{Emitter, TxPort};
+use redundant_mux::MemNetwork;
 use status_board::{Counts, Monitor};
 use std::sync::Wait;
 use std::thread;
 
-// Polls a gap after the last poll, which releases `count` frames, and publishes.
-fn poll_and_publish(rt: &impl Host, tx: &mut Sending, count: usize) {
-    let now = tx.now().saturating_add(GAP);
-    let report = tx.poll(now).expect(rt, "both networks are up");
-    assert_same(rt, report.released.len(), count);
-    tx.publish(rt);
-}
+// The place of the last link of the greatest plan.
+const LAST: usize = 63;
 
-// How many messages the port of the demonstration sends.
+// How many messages the ports of the first and the last link send each.
 const MESSAGES: u64 = 10_000;
+
+// The text of 64 links, of which the first and the last have a port each.
+fn greatest_text(rt: &impl Host) -> String {
+    let mut text = text_of(rt, (&[], &[]));
+    for vl in 0..64 {
+        push_link(rt, &mut text, &(vl, "both", 1, 64, 1, 2));
+    }
+    for &vl in &[0, 63] {
+        push_port(rt, &mut text, &(vl, vl, 0, 1, 8_192));
+    }
+    text
+}
 
 // Whether the counts are of one entry: each frame of 60 bytes has a message of its own, a gap after the one before.
 fn is_whole(found: Counts) -> bool {
@@ -26,94 +35,55 @@ fn is_whole(found: Counts) -> bool {
         && (found.bytes, found.messages, found.last) == (60 * frames, frames, GAP * frames)
 }
 
-// Reads until all frames are counted. Returns whether each reading was whole, and none older than the one before.
+// Reads the last link and then the first one, which has as many frames at each poll and is published before it, until
+// all frames of the last are counted. Returns whether each reading was whole, none was older than the one before, and
+// the first link never had fewer frames.
 fn watch<R: Wait>(rt: &R, mut monitor: Monitor) -> bool
-    requires { 0 < links_of monitor }
+    requires { 64 ≤ links_of monitor }
 {
     let mut frames = 0;
     for _ in rt.forever() {
-        let found = monitor.read(rt, 0);
-        if !is_whole(found) || found.frames < frames {
+        let last = monitor.read(rt, LAST);
+        let first = monitor.read(rt, 0);
+        let are_whole = is_whole(last) && is_whole(first);
+        if !are_whole || last.frames < frames || first.frames < last.frames {
             return false;
         }
-        if found.frames == MESSAGES {
+        if last.frames == MESSAGES {
             return true;
         }
-        frames = found.frames;
+        frames = last.frames;
         thread::yield_now();
     }
     unreachable!()
 }
 
+// Each port sends a message, which a poll sends a gap after the last one. Its counts are published.
+fn send_and_publish(
+    rt: &impl Host,
+    tx: &mut Emitter<MemNetwork, MemNetwork>,
+    ports: &mut [TxPort],
+) {
+    for port in ports.iter_mut() {
+        let message = vec![in rt.alloc(); 7u8].expect(rt, "memory");
+        assert!(rt; port.send(message).is_ok());
+    }
+    let now = tx.now().saturating_add(GAP);
+    let report = tx.poll(now).expect(rt, "both networks are up");
+    assert_same(rt, report.released.len(), 2);
+    tx.publish(rt);
+}
+
 #[test]
-fn a_watcher_reads_whole_counts_while_the_emitter_polls_and_publishes(rt: HostRuntime) {
-    let mut rig = open(&rt, DEMO, NEVER);
-    let mut port = rig.take_first(&rt);
-    drop((rig.ports, rig.workers));
-    let (mut tx, monitor) = (rig.tx, rig.monitor);
-    assert!(rt; !tx.config().links().is_empty());
+fn a_watcher_reads_whole_counts_in_the_order_in_which_they_are_published(rt: HostRuntime) {
+    let (a, b) = (MemNetwork::new(rt.alloc()), MemNetwork::new(rt.alloc()));
+    let rig = open_over(&rt, greatest_text(&rt), a, b);
+    let (mut tx, mut ports, monitor) = (rig.tx, rig.ports, rig.monitor);
+    assert!(rt; LAST < tx.config().links().len());
     let watcher = thread::spawn(&rt, move || watch(&rt, monitor)).expect(&rt, "a thread");
     for _message in 0..MESSAGES {
-        send(&rt, &mut port, &[7], None);
-        poll_and_publish(&rt, &mut tx, 1);
+        send_and_publish(&rt, &mut tx, ports.as_mut_slice());
     }
     assert_same(&rt, watcher.join(&rt), true);
-    drop((tx, port));
-}
-
-// The place of the last link of the greatest plan.
-const LAST: usize = 63;
-
-// How many messages of 8,192 bytes each port sends. Each is sent in 342 frames: 341 pieces of 24 bytes, and one of
-// the rest.
-const LONG_MESSAGES: u16 = 16;
-
-const FRAMES: u64 = 16 * 342;
-
-// Opens 64 links, of which the first and the last have a port each.
-fn open_greatest(rt: &impl Host) -> Rig {
-    let mut text = text_of(rt, (&[], &[]));
-    for vl in 0..64 {
-        push_link(rt, &mut text, &(vl, "both", 64, 1, LONG_MESSAGES));
-    }
-    for &vl in &[0, 63] {
-        push_port(rt, &mut text, &(vl, vl, 0, 1, 8_192));
-    }
-    open_text(rt, text, NEVER)
-}
-
-// Reads the last link and then the first one, which has as many frames at each poll, until all frames of
-// the last are counted. Returns whether the first one never had fewer.
-fn watch_two<R: Wait>(rt: &R, mut monitor: Monitor) -> bool
-    requires { 64 ≤ links_of monitor }
-{
-    for _ in rt.forever() {
-        let last = monitor.read(rt, LAST);
-        let first = monitor.read(rt, 0);
-        if first.frames < last.frames {
-            return false;
-        }
-        if last.frames == FRAMES {
-            return true;
-        }
-    }
-    unreachable!()
-}
-
-#[test]
-fn the_first_link_is_never_read_behind_the_last(rt: HostRuntime) {
-    let mut rig = open_greatest(&rt);
-    for _message in 0..LONG_MESSAGES {
-        rig.send(&rt, 0, &[7; 8_192], None);
-        rig.send(&rt, 1, &[7; 8_192], None);
-    }
-    drop((rig.ports, rig.workers));
-    let (mut tx, monitor) = (rig.tx, rig.monitor);
-    assert!(rt; LAST < tx.config().links().len());
-    let watcher = thread::spawn(&rt, move || watch_two(&rt, monitor)).expect(&rt, "a thread");
-    for _poll in 0..FRAMES {
-        poll_and_publish(&rt, &mut tx, 2);
-    }
-    assert_same(&rt, watcher.join(&rt), true);
-    drop(tx);
+    drop((tx, ports));
 }

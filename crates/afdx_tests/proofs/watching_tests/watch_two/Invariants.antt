@@ -1,6 +1,0 @@
-use Rattle.std.proofs.Common.{◌≤◌}
-use Rattle.status_board.specs.Views.{links_of}
-use Rattle.afdx_tests.proofs.watching_tests.watch_two.Given as goal
-
-abbrev pub invariant-loop : goal.invariant-loop
-invariant-loop g l = 64 ≤ links_of l.monitor
