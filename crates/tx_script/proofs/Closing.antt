@@ -1,21 +1,6 @@
 -- A sub-VL is closed: the end system that matches stays the same.
-use Rattle.std.proofs.Common.{ℕ, ◌≡◌, ◌+◌, List, arith, refl, ap, ◌∙◌, sym, subst, Option, Some, None}
-use Rattle.afdx_plan.specs.Config.{Plan, IsPlan}
-use Rattle.vl_link.specs.Calls.{Closes}
-use Rattle.vl_link.specs.Links.{Held, LinkState, held_at, link_at, nothing_held, no_link}
-use Rattle.vl_link.specs.Seen.{Seen, receiving, gathered, total_of}
-use Rattle.vl_link.proofs.Choosing.{each_set}
-use Rattle.afdx_tx.specs.Calls.{IsSubAt, LacksSub, ClosesTx}
-use Rattle.afdx_tx.specs.Emitter.{Tx, total_in}
-use Rattle.afdx_tx.specs.Ports.{PortView}
-use Rattle.afdx_tx.proofs.PortLink.{none_has, found_at}
-use Rattle.afdx_tx.proofs.ClosedEmitter.{ClosedLinks, closes_within, closes_links}
-use Rattle.script_text.specs.declared.line.Line.TheVariants.{Close}
+use Rattle.tx_script.proofs.Names.{ℕ, ◌≡◌, ◌+◌, List, arith, refl, ap, ◌∙◌, sym, subst, Option, Some, None, Plan, IsPlan, Closes, Held, LinkState, held_at, link_at, nothing_held, no_link, Seen, receiving, gathered, total_of, each_set, IsSubAt, LacksSub, ClosesTx, Tx, total_in, PortView, none_has, found_at, ClosedLinks, closes_within, closes_links, Close, NoSub, AtBench, IsAtHand, Obeys, progress_of, MatchesTx, EndSystem, Answer, tells, told_by, closed_at, link_of, ClosesAt}
 use Rattle.script_text.specs.declared.notes.Outcome.TheVariants as Became
-use Rattle.script_text.specs.declared.faults.Refusal.TheVariants.{NoSub}
-use Rattle.tx_script.specs.AtBench.{AtBench, IsAtHand, Obeys, progress_of, MatchesTx}
-use Rattle.tx_script.specs.EndSystem.{EndSystem}
-use Rattle.tx_script.specs.Play.{Answer, tells, told_by, closed_at, link_of, ClosesAt}
 use Rattle.tx_script.proofs.Matched.{asked_on, still_planned}
 use Rattle.tx_script.proofs.Sending.{obeys_still}
 

@@ -1,29 +1,6 @@
 -- What is known of a run once its ports are taken back: polls found the first of what was sent, and closes reported
 -- the totals.
-use Rattle.std.proofs.Common.{ℕ, zero, suc, ◌≡◌, ◌≢◌, ◌+◌, ◌<◌, Bool, true, false, if◌then◌else◌, List, [], ◌∷◌, length, arith, refl, ap, ◌∙◌, sym, ⊎_elim, ◌++◌, get_or, append_assoc, subst, inl, inr}
-use Rattle.std.specs.Prelude.{All}
-use Rattle.std.specs.Cmp.Derive.{both_true}
-use Rattle.std.proofs.lemmas.Bool.{cases_eq, eq-eqb, cases_lt, eqb-true, and_parts}
-use Rattle.std.proofs.lemmas.List.{get_or_default, get_or_past, get_or_append_left, length-append, map-append}
-use Rattle.std.proofs.lemmas.List.Elements.{All-tail, All-weaker, Contains-get_or}
-use Rattle.afdx_plan.specs.Config.{Plan, IsPlan, link_plan_at, port_plan_at, link_place}
-use Rattle.afdx_plan.specs.declared.port_plan.PortPlan.{PortPlan}
-use Rattle.afdx_frame.specs.Fragments.{Sent}
-use Rattle.afdx_legal.specs.Accepted.{IsAllowed, messages_of, AreAllowed, port_messages}
-use Rattle.tx_script.specs.Play.{Messages, is_on, accepted_among, AnsweredLine, Play, FindsFirst, IsTotal, AreTotals, ClosesAt, found}
-use Rattle.vl_link.specs.Calls.{BecomesWhole}
-use Rattle.vl_link.specs.Links.{no_link, Held, held_at, link_at, sent_of, sent_by}
-use Rattle.vl_link.specs.Seen.{Seen, receiving, gathered, taken_of, known_of}
-use Rattle.afdx_tx.specs.Calls.{IsSubAt}
-use Rattle.afdx_tx.specs.Run.{accepted_in}
-use Rattle.afdx_tx.specs.Emitter.{Tx, taken_in}
-use Rattle.afdx_tx.specs.Gathering.{IsGatheredTx, HasOwnPart}
-use Rattle.afdx_tx.specs.Ports.{PortView, LacksPlace}
-use Rattle.afdx_tx.proofs.ClosedEmitter.{total_whole}
-use Rattle.afdx_tx.proofs.PortLink.{link_within}
-use Rattle.script_text.specs.Meaning.{meaning_of}
-use Rattle.script_text.specs.declared.line.Line.{Line}
-use Rattle.tx_script.specs.AtBench.{AtBench, IsAtHand, Matches, OnlyTakes, TellsTotal, AreTold, IsGathered}
+use Rattle.tx_script.proofs.Names.{ℕ, zero, suc, ◌≡◌, ◌≢◌, ◌+◌, ◌<◌, Bool, true, false, if◌then◌else◌, List, [], ◌∷◌, length, arith, refl, ap, ◌∙◌, sym, ⊎_elim, ◌++◌, get_or, append_assoc, subst, inl, inr, All, both_true, cases_eq, eq-eqb, cases_lt, eqb-true, and_parts, get_or_default, get_or_past, get_or_append_left, length-append, map-append, All-tail, All-weaker, Contains-get_or, Plan, IsPlan, link_plan_at, port_plan_at, link_place, PortPlan, Sent, IsAllowed, messages_of, AreAllowed, port_messages, Messages, is_on, accepted_among, AnsweredLine, Play, FindsFirst, IsTotal, AreTotals, ClosesAt, found, BecomesWhole, no_link, Held, held_at, link_at, sent_of, sent_by, Seen, receiving, gathered, taken_of, known_of, IsSubAt, accepted_in, Tx, taken_in, IsGatheredTx, HasOwnPart, PortView, LacksPlace, total_whole, link_within, meaning_of, Line, AtBench, IsAtHand, Matches, OnlyTakes, TellsTotal, AreTold, IsGathered}
 
 -- the messages of each port among some
 abbrev pub each_port : Plan → List Sent → Messages

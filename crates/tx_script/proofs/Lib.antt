@@ -1,6 +1,7 @@
 mod Closing
 mod Finding
 mod Matched
+mod Names
 mod Polling
 mod RunLemmas
 mod Sending

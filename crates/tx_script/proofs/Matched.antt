@@ -1,20 +1,5 @@
 -- A bench that matches an end system: at the beginning, and after a change.
-use Rattle.std.proofs.Common.{ℕ, ◌≡◌, List, length, arith, ◌∙◌, None, ◌≤◌, ◌<◌, ◌+◌, if◌then◌else◌, [], ◌++◌, set, get_or, nat_eq, append-nil, Some}
-use Rattle.std.proofs.lemmas.Bool.{cases_lt, ne_eqb}
-use Rattle.std.proofs.lemmas.List.{get_or_past, length-set}
-use Rattle.afdx_plan.specs.Config.{Plan}
-use Rattle.afdx_plan.specs.declared.link_plan.LinkPlan.{LinkPlan}
-use Rattle.vl_link.specs.Links.{LinkState, held_at, link_at}
-use Rattle.afdx_tx.specs.Emitter.{Tx, IsFreshTx, total_in, queues_in}
-use Rattle.script_text.specs.declared.line.Line.{Line}
-use Rattle.tx_script.specs.EndSystem.{no_progress}
-use Rattle.tx_script.specs.AtBench.{IsPlannedLink, progress_of, ClosesOnly, IsAtHand, HaveAsked, HaveSent, Sends}
-use Rattle.std.proofs.lemmas.List.Elements.{All-set}
-use Rattle.subvl_queue.specs.Messages.{most_calls}
-use Rattle.vl_link.proofs.Choosing.{each_set}
-use Rattle.script_text.specs.declared.notes.Outcome.{Outcome}
-use Rattle.afdx_tx.specs.Ports.{PortView, BelongsTo}
-use Rattle.tx_script.specs.Play.{Messages, added, with_messages}
+use Rattle.tx_script.proofs.Names.{ℕ, ◌≡◌, List, length, arith, ◌∙◌, None, ◌≤◌, ◌<◌, ◌+◌, if◌then◌else◌, [], ◌++◌, set, get_or, nat_eq, append-nil, Some, cases_lt, ne_eqb, get_or_past, length-set, Plan, LinkPlan, LinkState, held_at, link_at, Tx, IsFreshTx, total_in, queues_in, Line, no_progress, IsPlannedLink, progress_of, ClosesOnly, IsAtHand, HaveAsked, HaveSent, Sends, All-set, most_calls, each_set, Outcome, PortView, BelongsTo, Messages, added, with_messages}
 
 -- No total has changed.
 pub same_totals : (line : Line) (old new : Tx) → new.plan ≡ old.plan

@@ -1,30 +1,7 @@
 -- A poll of an emitter, over what was taken of its sub-VLs and what is left.
-use Rattle.std.proofs.Common.{ℕ, ◌≡◌, ◌≢◌, ◌-◌, ◌+◌, ◌<◌, ◌≤◌, List, ◌++◌, Bool, true, false, nat_lt, length, append-nil, arith, refl, ap, ◌∙◌, subst, inr, ⊎_elim, Result, Ok, Err, OnOk, OnErr}
-use Rattle.std.proofs.lemmas.Bool.{cases_eq, le-ltb}
-use Rattle.std.proofs.lemmas.List.{length-append, length-map, map-append}
-use Rattle.afdx_plan.specs.Config.{link_plan_at}
-use Rattle.afdx_plan.specs.declared.link_plan.LinkPlan.{LinkPlan}
-use Rattle.afdx_frame.specs.declared.net.Net.{Net}
-use Rattle.afdx_frame.specs.declared.net.Net.TheVariants.{A, B}
-use Rattle.afdx_frame.specs.Fragments.{Sent}
-use Rattle.redundant_mux.specs.Lines.{Entry, Logged, sent_to, Lines, log, Keeps, IsMirrored}
-use Rattle.vl_shaper.specs.Pace.{Pace}
-use Rattle.vl_link.specs.declared.served.Served.{Served}
-use Rattle.vl_link.specs.declared.served.Served.TheVariants.{Nothing, Released, Lost}
-use Rattle.vl_link.specs.Turn.{Turn, AreTurns, IsChoice}
-use Rattle.vl_link.specs.Links.{Held, LinkState, held_at, link_at, Starts, GivesFrame, held_view, sent_of, IsSameLink, taken_by}
-use Rattle.vl_link.proofs.QueueLooks.{taken_finds}
-use Rattle.vl_link.proofs.TurnLaws.{choice_other, turn_seen, turns_seen, turns_each}
-use Rattle.afdx_tx.specs.declared.report.Release.{Release}
-use Rattle.afdx_tx.specs.Run.{pace_in, IsTurn, IsTurnAt, IsRun}
-use Rattle.afdx_tx.specs.Emitter.{Tx, taken_in, total_in}
-use Rattle.afdx_tx.specs.Ports.{PortView}
-use Rattle.afdx_tx.specs.Report.{IsTold}
+use Rattle.tx_script.proofs.Names.{ℕ, ◌≡◌, ◌≢◌, ◌-◌, ◌+◌, ◌<◌, ◌≤◌, List, ◌++◌, Bool, true, false, nat_lt, length, append-nil, arith, refl, ap, ◌∙◌, subst, inr, ⊎_elim, Result, Ok, Err, OnOk, OnErr, cases_eq, le-ltb, length-append, length-map, map-append, link_plan_at, LinkPlan, Net, A, B, Sent, Entry, Logged, sent_to, Lines, log, Keeps, IsMirrored, Pace, Served, Nothing, Released, Lost, Turn, AreTurns, IsChoice, Held, LinkState, held_at, link_at, Starts, GivesFrame, held_view, sent_of, IsSameLink, taken_by, taken_finds, choice_other, turn_seen, turns_seen, turns_each, Release, pace_in, IsTurn, IsTurnAt, IsRun, Tx, taken_in, total_in, PortView, IsTold, Progress, EndSystem, started, SendsFrame, progress_view, HasTurnAt, HasPolled, AtBench, IsPlannedLink, progress_of, MatchesTx, Obeys, OnlyTakes, leaves}
 use Rattle.script_text.specs.declared.line.Line.TheVariants as Said
 use Rattle.script_text.specs.declared.notes.Outcome.TheVariants as Became
-use Rattle.tx_script.specs.EndSystem.{Progress, EndSystem, started, SendsFrame, progress_view, HasTurnAt, HasPolled}
-use Rattle.tx_script.specs.AtBench.{AtBench, IsPlannedLink, progress_of, MatchesTx, Obeys, OnlyTakes}
-use Rattle.tx_script.specs.Play.{leaves}
 use Rattle.tx_script.proofs.Matched.{asked_on, same_totals}
 
 -- as many entries as were logged

@@ -1,29 +1,9 @@
 -- How a run goes on, how its lines end, and how it ends once its streams are written.
-use Rattle.std.proofs.Common.{◌≡◌, ℕ, ◌+◌, ◌*◌, ◌<◌, ◌≤◌, List, [], ◌∷◌, append-nil, Option, Some, None, refl, ap, sym, ◌∙◌, subst, arith, true, inl, inr, ◌++◌}
-use Rattle.std.specs.Prelude.{IfSome, Ok, Err, Result}
-use Rattle.std.specs.Io.KnownBytes.{Appends}
-use Rattle.std.proofs.KnownBytes.{Appends-nil, Appends-trans}
-use Rattle.std.proofs.lemmas.List.Elements.{All-cons, All-head, All-tail}
-use Rattle.std.proofs.lemmas.Option.{IfSome_then}
-use Rattle.afdx_plan.specs.Config.{Plan}
-use Rattle.afdx_tx.specs.Emitter.{Tx}
-use Rattle.script_text.specs.Lines.{first_line}
-use Rattle.script_text.specs.Meaning.{meaning_of, counted, HasFew}
-use Rattle.script_text.specs.Transcript.{note_of, streams, ends_writing}
+use Rattle.tx_script.proofs.Names.{◌≡◌, ℕ, ◌+◌, ◌*◌, ◌<◌, ◌≤◌, List, [], ◌∷◌, append-nil, Option, Some, None, refl, ap, sym, ◌∙◌, subst, arith, true, inl, inr, ◌++◌, IfSome, Ok, Err, Result, Appends, Appends-nil, Appends-trans, All-cons, All-head, All-tail, IfSome_then, Plan, Tx, first_line, meaning_of, counted, HasFew, note_of, streams, ends_writing, Outcome, RunFault, AtBench, IsFreshBench, Obeys, OnlyTakes, ClosesOnly, AreTold, TellsTotal, IsGathered, AnsweredLine, Play, play, ClosesAt, transcript, left_after, AreRun, HasPlayed, IsWhole, Plays, Ends, Leaves, SaysLine, ReadsLine, Running, Halted, Stops, HandsOver, Finishes, EndsEarly, false≢true, FrameLog, Played, Whole, Broken}
 use Rattle.script_text.specs.declared.line.Line.{Line as Said}
-use Rattle.script_text.specs.declared.notes.Outcome.{Outcome}
-use Rattle.script_text.specs.declared.faults.RunFault.{RunFault}
 use Rattle.script_text.specs.declared.faults.RunFault.TheVariants as Fault
 use Rattle.script_text.specs.declared.notes.Summary.{Summary as Sums}
-use Rattle.tx_script.specs.AtBench.{AtBench, IsFreshBench, Obeys, OnlyTakes, ClosesOnly, AreTold, TellsTotal, IsGathered}
-use Rattle.tx_script.specs.Play.{AnsweredLine, Play, play, ClosesAt, transcript}
-use Rattle.tx_script.specs.Run.{left_after, AreRun, HasPlayed, IsWhole, Plays, Ends, Leaves}
-use Rattle.tx_script.specs.Running.{SaysLine, ReadsLine, Running, Halted, Stops, HandsOver, Finishes, EndsEarly}
 use Rattle.tx_script.proofs.Matched.{same_totals, each_fresh}
-use Rattle.std.proofs.lemmas.Bool.{false≢true}
-use Rattle.script_text.specs.FrameLog.{FrameLog}
-use Rattle.tx_script.specs.declared.played.Played.{Played}
-use Rattle.tx_script.specs.declared.played.Played.TheVariants.{Whole, Broken}
 use Rattle.tx_script.proofs.Finding.{finds_first, totals_are}
 
 -- counts grow slowly

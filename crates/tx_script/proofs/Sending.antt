@@ -1,26 +1,11 @@
 -- Obeying a line that sends a message.
-use Rattle.std.proofs.Common.{ℕ, ◌≡◌, ◌≢◌, ◌≤◌, ◌<◌, ◌+◌, ◌==◌, inl, inr, List, [], length, set, get_or, refl, ap, ◌∙◌, sym, arith, append-nil, Option, Some, None}
-use Rattle.std.proofs.lemmas.Bool.{eq-eqb}
-use Rattle.std.proofs.lemmas.List.Quantifiers.{position-Some}
-use Rattle.afdx_plan.specs.Config.{Plan, port_plan_at}
-use Rattle.afdx_plan.specs.declared.port_plan.PortPlan.{PortPlan}
-use Rattle.subvl_queue.specs.Views.{SenderView, IsRefused}
+use Rattle.tx_script.proofs.Names.{ℕ, ◌≡◌, ◌≢◌, ◌≤◌, ◌<◌, ◌+◌, ◌==◌, inl, inr, List, [], length, set, get_or, refl, ap, ◌∙◌, sym, arith, append-nil, Option, Some, None, eq-eqb, position-Some, Plan, port_plan_at, PortPlan, SenderView, IsRefused, Tx, PortView, Refuses, QueueRefuses, length_refusal, Line, Send, Refusal, Empty, TooLong, Closed, Full, NoPort, Outcome, HasFew, AtBench, IsAtHand, Matches, Sends, Obeys, ObeysAt, EndSystem, Answer, Messages, takes, closes, fills, place_of, passed_on, queued, script_refusal, outcome_of}
 use Rattle.subvl_queue.specs.declared.refused.Why.{Why as QueueWhy}
 use Rattle.subvl_queue.specs.declared.refused.Why.TheVariants as Queue
 use Rattle.afdx_tx.specs.declared.fault.Refusal.{Refusal as SendRefusal}
 use Rattle.afdx_tx.specs.declared.fault.Refusal.TheVariants as Why
-use Rattle.afdx_tx.specs.Emitter.{Tx}
-use Rattle.afdx_tx.specs.Ports.{PortView, Refuses, QueueRefuses, length_refusal}
-use Rattle.script_text.specs.declared.line.Line.{Line}
-use Rattle.script_text.specs.declared.line.Line.TheVariants.{Send}
-use Rattle.script_text.specs.declared.faults.Refusal.{Refusal}
-use Rattle.script_text.specs.declared.faults.Refusal.TheVariants.{Empty, TooLong, Closed, Full, NoPort}
-use Rattle.script_text.specs.declared.notes.Outcome.{Outcome}
 use Rattle.script_text.specs.declared.notes.Outcome.TheVariants as Became
-use Rattle.script_text.specs.Meaning.{HasFew}
-use Rattle.tx_script.specs.AtBench.{AtBench, IsAtHand, Matches, Sends, Obeys, ObeysAt}
-use Rattle.tx_script.specs.EndSystem.{EndSystem}
-use Rattle.tx_script.specs.Play.{Answer, Messages, takes, closes, fills, place_of, passed_on, queued, sent_to, script_refusal, outcome_of}
+use Rattle.tx_script.specs.Play.{sent_to}
 use Rattle.tx_script.proofs.Matched.{sent_at_hand, asked_more, have_sent, same_totals}
 
 -- a sender but for its counts of requests and of loads of the closed flag, and what it found

@@ -37,6 +37,7 @@ impl Bench {
     ghost use Rattle.tx_script.specs.AtBench.{IsFreshBench, IsGathered};
 
     /// A fresh bench. The only fault is Memory.
+    #[tactic(auto, using(std::proofs::Common::arith))]
     pub fn open(alloc: Global, config: Config) -> Result<Bench, RunFault>
         ensures fresh { IfOk result (λ bench. IsFreshBench config bench) }
         ensures err { IfErr result (λ fault. fault ≡ RunFault.Memory) }

@@ -46,6 +46,7 @@ fn next_said<R: Read + Drop>(
 }
 
 /// Obeys the lines of a reader at a fresh bench, and writes their notes.
+#[tactic(auto, using(crate::proofs::RunLemmas::running_none))]
 pub fn obey_lines<R: Read + Drop, W: Write>(
     alloc: Global,
     bytes: &mut Bytes<R>,

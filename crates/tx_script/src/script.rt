@@ -24,6 +24,7 @@ fn write_handed<W: Write>(writer: &mut W, bench: Bench, ended: Result<Summary, R
 
 /// Writes the streams after a fault, unless it ends the writing. The ports are taken back in both cases:
 /// only then are the noted totals known.
+#[tactic(auto, using(std::proofs::Common::arith))]
 fn end_early<W: Write>(writer: &mut W, bench: Bench, fault: RunFault) -> Played
     ensures { EndsEarly fault bench (W.contents writer.old) (W.contents writer.new) result }
 {
@@ -36,6 +37,7 @@ fn end_early<W: Write>(writer: &mut W, bench: Bench, fault: RunFault) -> Played
 
 /// Runs a script as `run_script` does, and also returns the two networks if the transcript is written
 /// whole.
+#[tactic(auto, using(crate::proofs::RunLemmas::finished, crate::proofs::RunLemmas::early, crate::proofs::RunLemmas::plays_by, crate::proofs::RunLemmas::plays_none))]
 pub fn play_script<R: Read + Drop, W: Write>(
     alloc: Global,
     config: Config,

@@ -1,7 +1,4 @@
-use Rattle.std.proofs.Common.{arith, ◌≡◌, ap, sym, ◌∙◌, subst, None}
-use Rattle.afdx_plan.specs.Config.{Plan}
-use Rattle.tx_script.specs.AtBench.{AtBench}
-use Rattle.tx_script.specs.Play.{place_of}
+use Rattle.std.proofs.Common.{arith}
 use Rattle.tx_script.proofs.Sending.{sent_at, at_bench, obeys_nowhere}
 use Rattle.tx_script.proofs.bench.obey_send.Goals as goal
 

@@ -1,10 +1,7 @@
 use Rattle.std.proofs.Common.{arith}
 use Rattle.std.proofs.lemmas.Result.{err_from_is_err_and}
-use Rattle.tx_script.proofs.RunLemmas.{running_none, running_turn, within_more, stop_memory, stop_fault}
+use Rattle.tx_script.proofs.RunLemmas.{running_turn, within_more, stop_memory, stop_fault}
 use Rattle.tx_script.proofs.obey_lines.obey_lines.Goals as goal
-
-pub loop-count-init : goal.loop-count-init
-loop-count-init g c = grind (arith, running_none)
 
 pub returns-in_err-said : goal.returns-in_err-said
 returns-in_err-said g c =
@@ -31,9 +28,3 @@ loop-count-preserved g c =
           reads c.in_ok-outcome.ensures.ok c.in_ok-write_note.ensures.ok;
       within = within_more _ _ _ c.in_ok-outcome.ensures.ok.few c.loop-count.invariant.within;
     })
-
-pub returns-in-Ok-Some : goal.returns-in-Ok-Some
-returns-in-Ok-Some g c = grind arith
-
-pub obey-requires : goal.obey-requires
-obey-requires g c = grind arith
