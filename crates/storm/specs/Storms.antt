@@ -22,10 +22,6 @@ use Rattle.afdx_plan.specs.declared.fault.ConfigFault.TheVariants as Plans
 use Rattle.script_text.specs.declared.faults.RunFault.TheVariants as Ran
 use Rattle.plan_report.specs.declared.status.Failure.TheVariants as Failures
 
--- how many messages were accepted
-unfoldable pub accepted_line : ℕ → List ℕ
-accepted_line accepted = codes "accepted " ++ decimal accepted ++ 10 ∷ []
-
 -- the counts of a link
 unfoldable pub link_line : ℕ → Counts → List ℕ
 link_line id counts = codes "link " ++ decimal id ++ codes ": frames " ++ decimal counts.frames
@@ -41,18 +37,12 @@ link_lines_to links counts zero = []
 link_lines_to links counts (suc k) =
     link_lines_to links counts k ++ link_line (link_plan_at links k).id.0 (counts_at counts k)
 
--- whether both networks have the same frames
-unfoldable pub networks_line : Bool → List ℕ
-networks_line equal = if equal then codes "networks equal" ++ 10 ∷ [] else codes "networks differ" ++ 10 ∷ []
-
--- whether a count was seen to fall
-unfoldable pub watcher_line : Bool → List ℕ
-watcher_line back = if back then codes "watcher back" ++ 10 ∷ [] else codes "watcher never back" ++ 10 ∷ []
-
--- all of it
+-- all of it: also whether both networks have the same frames, and whether a count was seen to fall
 unfoldable pub totals_text : List LinkPlan → ℕ → List Counts → Bool → Bool → List ℕ
-totals_text links accepted counts equal back = accepted_line accepted
-    ++ link_lines_to links counts (length links) ++ networks_line equal ++ watcher_line back
+totals_text links accepted counts equal back = (codes "accepted " ++ decimal accepted ++ 10 ∷ [])
+    ++ link_lines_to links counts (length links)
+    ++ (codes "networks " ++ (if equal then codes "equal" else codes "differ") ++ 10 ∷ [])
+    ++ codes "watcher " ++ (if back then codes "back" else codes "never back") ++ 10 ∷ []
 
 -- of a report
 abbrev pub totals_of : List LinkPlan → StormReport → List ℕ

@@ -1,12 +1,12 @@
 //! Comparing the frames of two networks over the links that both carry.
 ghost use Rattle.std.specs.Prelude.{◌≡◌, ◌↔◌, ◌≤◌, length, map, IsTrue, All};
-ghost use Rattle.afdx_frame.specs.Header.{link_in};
 ghost use Rattle.afdx_frame.specs.declared.net.Net.TheVariants.{A as ForA, B as ForB};
 ghost use Rattle.redundant_mux.specs.Lines.{side};
 ghost use Rattle.redundant_mux.specs.Memory.{entries};
 ghost use Rattle.afdx_legal.specs.Legal.{AreKnown, AreTwins, is_on_both, on_both};
 
-use afdx_plan::{LINKS_LIMIT, LinkPlan, VlId};
+use afdx_frame::word_at;
+use afdx_plan::{LINKS_LIMIT, LinkPlan};
 use redundant_mux::{Handed, MemNetwork};
 use std::marker::Model;
 
@@ -50,29 +50,25 @@ impl KeptLinks {
     }
 }
 
-fn is_on_both(links: &[LinkPlan], vl: VlId) -> bool
-    ensures { result ≡ is_on_both links.now vl.0 }
+fn is_on_both(links: &[LinkPlan], vl: u16) -> bool
+    ensures { result ≡ is_on_both links.now vl }
 {
-    links.iter().any(|link| link.id.0 == vl.0
+    links.iter().any(|link| link.id.0 == vl
         && link.networks.carries_a()
         && link.networks.carries_b())
 }
 
-/// The link of a frame, from its destination MAC address.
-fn link_of(frame: &[u8]) -> VlId
-    requires { 6 ≤ length frame.now }
-    ensures { result.0 ≡ link_in frame.now }
-{
-    VlId(256 * u16::from(frame[4]) + u16::from(frame[5]))
-}
+// Where a frame has its link, at the end of the destination MAC address.
+const LINK: usize = 4;
 
+#[tactic(auto, using(crate::proofs::Whole::has_link))]
 fn count_on_both(links: &[LinkPlan], handed: &[Handed]) -> usize
     requires { All (λ e. 6 ≤ length e.frame) (entries handed.now) }
     ensures { result ≡ length (on_both links.now (entries handed.now)) }
 {
     let mut count = 0;
     for one in handed {
-        if is_on_both(links, link_of(&one.frame)) {
+        if is_on_both(links, word_at(&one.frame, LINK)) {
             count += 1;
         }
     }

@@ -4,7 +4,6 @@
 
 mod both;
 mod command;
-mod drain;
 mod fault;
 mod gate;
 mod outcome;

@@ -4,9 +4,9 @@ ghost use Rattle.std.specs.List.{sum_by};
 ghost use Rattle.storm.specs.Threads.{cells_of, cells_read, IsShown, all_counts, IsReady, IsJoined};
 ghost use Rattle.storm.specs.Storms.{IsEnded};
 
-use crate::drain::{drain, gather_all};
 use crate::fault::Stop;
 use crate::gate::Gate;
+use crate::polling::{drain, gather_all};
 use crate::run::{Joined, Opened, StormDraining, run_threads};
 use crate::worker::Load;
 use afdx_plan::Config;

@@ -1,13 +1,19 @@
-//! The main thread's part while workers run.
-ghost use Rattle.std.specs.Prelude.{◌≡◌, ◌*◌, ◌≤◌, IfOk};
+//! The main thread's part: it polls while workers run, then takes back the ports and sends what is left.
+ghost use Rattle.std.specs.Prelude.{◌≡◌, ◌*◌, ◌≤◌, length, IfOk, OnOk};
+ghost use Rattle.redundant_mux.specs.Lines.{log};
+ghost use Rattle.afdx_legal.specs.Accepted.{IsAllDone};
+ghost use Rattle.afdx_legal.specs.Streams.{AreOwnStreams};
+ghost use Rattle.afdx_tx.specs.Run.{accepted_in};
 ghost use Rattle.afdx_tx.specs.Emitter.{queues_in};
 ghost use Rattle.afdx_tx.specs.Phases.{KeepsMessages};
+ghost use Rattle.afdx_tx.specs.Ports.{AreOpenedWith, HasEveryPlace};
+ghost use Rattle.afdx_tx.specs.Gathering.{IsGatheredTx};
 ghost use Rattle.storm.specs.Threads.{cells_of, IsShown};
 
 use crate::fault::Stop;
 use crate::gate::Gate;
-use crate::run::StormTx;
-use afdx_tx::{Emitter, Phase};
+use crate::run::{StormDraining, StormTx};
+use afdx_tx::{Emitter, Phase, TxPort};
 use redundant_mux::MemNetwork;
 use std::sync::Wait;
 use std::sync::atomic::{AtomicU64, Ordering};
@@ -18,7 +24,7 @@ use std::thread;
 pub(crate) const STEP: u64 = 128_000;
 
 /// Polls and publishes. Returns the number of released frames, or `None` if no network is up.
-pub(crate) fn poll_once<G: Gate, P: Phase, R: Wait>(
+fn poll_once<G: Gate, P: Phase, R: Wait>(
     rt: &R,
     tx: &mut Emitter<MemNetwork, MemNetwork, P>,
     gate: &G,
@@ -69,4 +75,52 @@ pub(crate) fn poll_while<G: Gate, R: Wait>(
         }
     }
     Ok(turns)
+}
+
+/// Takes back all ports and starts draining.
+pub(crate) fn gather_all(tx: StormTx, ports: Vec<TxPort>) -> StormDraining
+    requires opened { AreOpenedWith tx ports.items }
+    requires every { HasEveryPlace (length tx.plan.ports) ports.items }
+    ensures { IsGatheredTx tx ports.items result }
+{
+    match tx.gather(ports) {
+        Ok(draining) => draining,
+        Err(_) => unreachable!(),
+    }
+}
+
+/// Polls from poll number `first` on, at most `turns` times, until all that was accepted is transmitted.
+pub(crate) fn drain<G: Gate, R: Wait>(
+    rt: &R,
+    draining: &mut StormDraining,
+    gate: &G,
+    first: u64,
+    turns: u64,
+) -> Result<(), Stop>
+    requires moment { draining.old.moment ≤ first * STEP }
+    requires first { first ≤ 1000000000 }
+    requires turns { turns ≤ 1000000000 }
+    requires shown { IsShown draining.old }
+    ensures plan { draining.new.plan ≡ draining.old.plan }
+    ensures accepted { accepted_in draining.new.links ≡ accepted_in draining.old.links }
+    ensures done { OnOk result (IsAllDone draining.new.plan
+        (accepted_in draining.new.links) (log draining.new.lines)) }
+    ensures streams { OnOk result (AreOwnStreams draining.new.plan
+        (log draining.new.lines) draining.new.lines.a draining.new.lines.b) }
+    ensures shown { IsShown draining.new }
+    ensures cells { cells_of draining.new.board ≡ cells_of draining.old.board }
+{
+    for turn in 0..turns {
+        if draining.is_done() {
+            return Ok(());
+        }
+        if poll_once(rt, draining, gate, (first + turn) * STEP).is_none() {
+            return Err(Stop::Memory);
+        }
+    }
+    if draining.is_done() {
+        Ok(())
+    } else {
+        Err(Stop::Turns)
+    }
 }

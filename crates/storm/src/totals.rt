@@ -1,7 +1,7 @@
 //! Writing the totals of a storm.
-ghost use Rattle.std.specs.Prelude.{◌≡◌, length, OnOk};
+ghost use Rattle.std.specs.Prelude.{◌≡◌, if◌then◌else◌, length, OnOk};
 ghost use Rattle.std.specs.Io.KnownBytes.{Appends};
-ghost use Rattle.storm.specs.Storms.{link_line, link_lines_to, networks_line, watcher_line, totals_of};
+ghost use Rattle.storm.specs.Storms.{link_line, link_lines_to, totals_of};
 
 use crate::report::StormReport;
 use afdx_plan::{LinkPlan, VlId};
@@ -11,7 +11,7 @@ use std::io::{self, Write};
 /// Writes the totals of a storm over these links, in the order of their plan: how many messages were
 /// accepted, the counts of each link, whether both networks have the same frames, and whether a count was
 /// seen to fall.
-#[tactic(auto, unfolding(crate::specs::Storms::totals_text, crate::specs::Storms::accepted_line))]
+#[tactic(auto, unfolding(crate::specs::Storms::totals_text))]
 pub fn write_totals<W: Write>(
     writer: &mut W,
     links: &[LinkPlan],
@@ -22,10 +22,12 @@ pub fn write_totals<W: Write>(
         (totals_of links.now report.now)) }
 {
     let accepted = report.accepted;
+    let networks = either(report.equal, "equal", "differ");
+    let watcher = either(report.back, "back", "never back");
     writeln!(writer, "accepted {accepted}")?;
     write_links(writer, links, report)?;
-    write_networks(writer, report.equal)?;
-    write_watcher(writer, report.back)
+    writeln!(writer, "networks {networks}")?;
+    writeln!(writer, "watcher {watcher}")
 }
 
 fn write_links<W: Write>(writer: &mut W, links: &[LinkPlan], report: &StormReport) -> io::Result<()>
@@ -54,26 +56,8 @@ fn write_link<W: Write>(writer: &mut W, id: VlId, counts: &Counts) -> io::Result
     )
 }
 
-#[tactic(auto, unfolding(crate::specs::Storms::networks_line))]
-fn write_networks<W: Write>(writer: &mut W, equal: bool) -> io::Result<()>
-    ensures { OnOk result (Appends (W.contents writer.old) (W.contents writer.new)
-        (networks_line equal)) }
+fn either(is: bool, yes: &'static str, no: &'static str) -> &'static str
+    ensures { result.now ≡ (if is then yes.now else no.now) }
 {
-    if equal {
-        writer.write_all(b"networks equal\n")
-    } else {
-        writer.write_all(b"networks differ\n")
-    }
-}
-
-#[tactic(auto, unfolding(crate::specs::Storms::watcher_line))]
-fn write_watcher<W: Write>(writer: &mut W, back: bool) -> io::Result<()>
-    ensures { OnOk result (Appends (W.contents writer.old) (W.contents writer.new)
-        (watcher_line back)) }
-{
-    if back {
-        writer.write_all(b"watcher back\n")
-    } else {
-        writer.write_all(b"watcher never back\n")
-    }
+    if is { yes } else { no }
 }

@@ -37,6 +37,7 @@ fn is_back(earlier: &Counts, later: &Counts) -> bool
 }
 
 /// Reads a link `times` times. Returns whether a count fell.
+#[tactic(auto, using(std::proofs::Common::arith))]
 fn watch_link<G: Gate, R: Wait>(
     rt: &R,
     gate: &G,
@@ -61,6 +62,7 @@ fn watch_link<G: Gate, R: Wait>(
 }
 
 /// Reads each link `times` times. Returns the monitor, and whether a count fell.
+#[tactic(auto, using(std::proofs::Common::arith))]
 fn watch<G: Gate, R: Wait>(
     rt: &R,
     gate: &G,

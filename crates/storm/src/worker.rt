@@ -31,6 +31,7 @@ fn make_message(alloc: Global, port: PortId, call: u32) -> Result<Vec<u8>, Alloc
 }
 
 /// Sends a message, again and again if it is refused, as by a full queue. Each send is a turn.
+#[tactic(auto, using(std::proofs::Common::arith))]
 fn send_on(port: &mut TxPort, bytes: Vec<u8>, turns: &mut u64) -> Result<(), Stop>
     ensures sent { OnOk result (named port.new ≡ with_more port.old (bytes.items ∷ [])) }
     ensures asks { asked_after turns.new port.new ≤ asked_after turns.old port.old }

@@ -1,9 +1,6 @@
 use Rattle.storm.proofs.Names.{arith, common_steps}
-use Rattle.storm.proofs.Whole.{has_link, count_more}
+use Rattle.storm.proofs.Whole.{count_more}
 use Rattle.storm.proofs.both.count_on_both.Goals as goal
-
-pub link_of-requires : goal.link_of-requires
-link_of-requires c = grind (arith, has_link)
 
 pub loop-one-preserved : goal.loop-one-preserved
 loop-one-preserved c =

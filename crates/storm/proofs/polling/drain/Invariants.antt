@@ -1,5 +1,5 @@
 use Rattle.storm.proofs.Names.{◌≡◌, ◌+◌, ◌*◌, ◌≤◌, cells_of, IsShown, accepted_in}
-use Rattle.storm.proofs.drain.drain.Given as goal
+use Rattle.storm.proofs.polling.drain.Given as goal
 
 abbrev pub invariant-loop-turn : goal.invariant-loop-turn
 invariant-loop-turn g l = record {
