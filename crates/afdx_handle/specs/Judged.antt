@@ -1,11 +1,11 @@
 -- The findings of a recording, as they are written for C.
 use Rattle.std.specs.Prelude.{ℕ, ◌≡◌, ◌≤◌, ◌&&◌, nat_eq, nat_lt, if◌then◌else◌, Bool, List, length, map, take}
 use Rattle.afdx_config.specs.Faults.{IsPlanOf}
-use Rattle.afdx_plan.specs.Config.{Plan}
 use Rattle.capture.specs.Recording.{Recording, read_capture}
 use Rattle.judge.specs.Judging.{findings}
-use Rattle.judge.specs.declared.finding.Finding.{Finding}
 use Rattle.judge.specs.Merging.{from_places}
+use Rattle.judge.specs.Types.{Plan}
+use Rattle.judge.specs.declared.finding.Finding.{Finding}
 use Rattle.afdx_handle.specs.Listing.{with_front}
 use Rattle.afdx_handle.specs.Rows.{row_of, captured_of, options_of}
 use Rattle.afdx_handle.specs.declared.answer.TheConstants.{DONE, MEMORY, SMALL_BUFFER, BAD_CAPTURE}

@@ -1,5 +1,5 @@
 -- An emitter and its polls, before and after its ports are gathered.
-use Rattle.std.specs.Prelude.{ℕ, ◌≡◌, ◌-◌, ◌^◌, Bool, true, false, Option, Some, None}
+use Rattle.std.specs.Prelude.{ℕ, ◌≡◌, ◌-◌, ◌^◌, Bool, true, false, unwrap_or, Option}
 use Rattle.afdx_tx.specs.Emitter.{Tx}
 use Rattle.afdx_tx.specs.Calls.{TellsNextDue}
 use Rattle.afdx_tx.specs.Phases.{Runs, StaysLawful}
@@ -8,14 +8,9 @@ use Rattle.afdx_tx.specs.declared.report.Report.{Report}
 use Rattle.afdx_handle.specs.declared.stage.Stage.{Stage}
 use Rattle.afdx_handle.specs.declared.stage.Stage.TheVariants.{Sending, Draining}
 
--- a time, or the greatest number of 64 bits if there is none
-abbrev pub or_never : Option ℕ → ℕ
-or_never None = 2 ^ 64 - 1
-or_never (Some at) = at
-
--- the first time after the last poll at which a link may release a frame and couldn't then
+-- the first time after the last poll at which a link may release a frame and couldn't then, or the greatest number of 64 bits
 abbrev pub IsNextDue : Tx → ℕ → Type 0
-IsNextDue tx at = (next : Option ℕ) × TellsNextDue tx next × (at ≡ or_never next)
+IsNextDue tx at = (next : Option ℕ) × TellsNextDue tx next × (at ≡ unwrap_or next (2 ^ 64 - 1))
 
 -- whether the ports are gathered
 abbrev pub is_gathered : Stage → Bool

@@ -1,24 +1,24 @@
 -- Findings and what was read of captures, as C has them.
-use Rattle.std.specs.Prelude.{ℕ, ◌^◌, ◌-◌, length, Option, Some, None, nat_eq, nat_lt, not, if◌then◌else◌}
-use Rattle.afdx_frame.specs.declared.net.Net.{Net}
+use Rattle.std.specs.Prelude.{ℕ, ◌^◌, ◌-◌, length, nat_eq, nat_lt, not, if◌then◌else◌}
+use Rattle.std.specs.Option.{option_map_or}
 use Rattle.afdx_frame.specs.declared.net.Net.TheVariants.{A, B}
-use Rattle.afdx_plan.specs.declared.port_plan.VlId.{VlId}
 use Rattle.capture.specs.Recording.{Recording}
 use Rattle.capture.specs.declared.end.End.{End}
 use Rattle.capture.specs.declared.end.End.TheVariants.{Whole, CutOff, Broken}
 use Rattle.capture.specs.declared.stop.Fault.{Fault}
 use Rattle.capture.specs.declared.stop.Fault.TheVariants as fault
 use Rattle.judge.specs.Deviations.{kind_number}
+use Rattle.judge.specs.Types.{Net, VlId}
 use Rattle.judge.specs.declared.finding.Ending.{Ending}
-use Rattle.judge.specs.declared.finding.Ending.TheVariants as ending
 use Rattle.judge.specs.declared.finding.Finding.{Finding}
 use Rattle.judge.specs.declared.finding.Kind.{Kind}
-use Rattle.judge.specs.declared.finding.Kind.TheVariants.{Frame, Fragment, Message}
 use Rattle.judge.specs.declared.finding.Layout.{Layout}
-use Rattle.judge.specs.declared.finding.Layout.TheVariants as layout
 use Rattle.judge.specs.declared.finding.Misfit.{Misfit}
-use Rattle.judge.specs.declared.finding.Misfit.TheVariants as misfit
 use Rattle.judge.specs.declared.options.Options.{Options}
+use Rattle.judge.specs.declared.finding.Ending.TheVariants as ending
+use Rattle.judge.specs.declared.finding.Kind.TheVariants.{Frame, Fragment, Message}
+use Rattle.judge.specs.declared.finding.Layout.TheVariants as layout
+use Rattle.judge.specs.declared.finding.Misfit.TheVariants as misfit
 use Rattle.afdx_handle.specs.declared.rows.Captured.{Captured}
 use Rattle.afdx_handle.specs.declared.rows.FindingRow.{FindingRow}
 use Rattle.afdx_handle.specs.declared.rows.JudgeOptions.{JudgeOptions}
@@ -72,23 +72,18 @@ rule_number (Fragment rule) = misfit_number rule
 rule_number (Message rule) = ending_number rule
 rule_number _ = 0
 
--- the identifier of a link, or a number that none has
-abbrev pub link_number : Option VlId → ℕ
-link_number None = 2 ^ 16
-link_number (Some vl) = vl.0
-
 abbrev pub net_number : Net → ℕ
 net_number A = 0
 net_number B = 1
 
--- a finding; a time from 2 ^ 64 - 1 nanoseconds on is that one
+-- a finding; a time from 2 ^ 64 - 1 nanoseconds on is that one, and no link a number that none has
 abbrev pub row_of : Finding → FindingRow
 row_of f = record {
   packet = f.packet;
   at = if nat_lt f.at (2 ^ 64) then f.at else 2 ^ 64 - 1;
   seen = f.seen;
   wanted = f.wanted;
-  vl = link_number f.link;
+  vl = option_map_or (λ (vl : VlId). vl.0) f.link (2 ^ 16);
   network = net_number f.net;
   kind = kind_number f.kind;
   rule = rule_number f.kind;

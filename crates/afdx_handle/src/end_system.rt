@@ -18,21 +18,15 @@ use std::alloc::Global;
 use std::marker::Model;
 use std::sync::Arc;
 
-/// The number of frames that a network had accepted before the last poll.
-#[derive(Drop)]
-pub struct Side {
-    pub before: u64,
-}
-
-/// An end system: its emitter, the ports in it, the sides of its networks, and the block whose
-/// address is its mark. Each port that is out owns that block too. So no other end system has the
+/// An end system: its emitter, the ports in it, how many frames each network had accepted before the last poll, and the
+/// block whose address is its mark. Each port that is out owns that block too. So no other end system has the
 /// same mark while this one or one of its ports exists.
 #[derive(Drop)]
 pub struct EndSystem {
     pub stage: Stage,
     pub ports: Vec<TxPort>,
-    pub a: Side,
-    pub b: Side,
+    pub a_before: u64,
+    pub b_before: u64,
     pub block: Block,
 }
 
@@ -43,9 +37,9 @@ impl Model for EndSystem {
 
     ghost Value = { EndView };
 
-    ghost view = { λ e. end_view (is_gathered e.stage) (tx_of e.stage) e.ports.items (vec_capacity e.ports) e.a.before e.b.before e.block };
+    ghost view = { λ e. end_view (is_gathered e.stage) (tx_of e.stage) e.ports.items (vec_capacity e.ports) e.a_before e.b_before e.block };
 
-    ghost invariant = { λ e. IsEndSystem (end_view (is_gathered e.stage) (tx_of e.stage) e.ports.items (vec_capacity e.ports) e.a.before e.b.before e.block) };
+    ghost invariant = { λ e. IsEndSystem (end_view (is_gathered e.stage) (tx_of e.stage) e.ports.items (vec_capacity e.ports) e.a_before e.b_before e.block) };
 }
 
 impl EndSystem {
@@ -86,8 +80,8 @@ impl EndSystem {
             *standing = 0;
             return BOTH_DOWN;
         };
-        self.a.before = a_before;
-        self.b.before = b_before;
+        self.a_before = a_before;
+        self.b_before = b_before;
         *standing = standing_bits(up);
         DONE
     }
@@ -99,8 +93,8 @@ impl EndSystem {
         ensures few { result.1 ≤ result.0 + 64 }
     {
         match net {
-            Net::A => (self.a.before, self.stage.network(Net::A).count()),
-            Net::B => (self.b.before, self.stage.network(Net::B).count()),
+            Net::A => (self.a_before, self.stage.network(Net::A).count()),
+            Net::B => (self.b_before, self.stage.network(Net::B).count()),
         }
     }
 
@@ -126,14 +120,10 @@ impl EndSystem {
         ensures size { result ≡ DONE → size.new ≡ length (made_at net k self.now) }
         ensures unwritten { result ≢ DONE → (buffer.new ≡ buffer.old) × (size.new ≡ size.old) }
     {
-        let (first, end) = self.numbers(net);
-        if k as u64 >= end.saturating_sub(first) {
+        if k >= self.frames(net) {
             return NO_FRAME;
         }
-        let Some(kept) = self.stage.network(net).frame(first + k as u64) else {
-            unreachable!();
-        };
-        let bytes = kept.frame.as_slice();
+        let bytes = self.made(net, k);
         if buffer.len() < bytes.len() {
             return SMALL_BUFFER;
         }
@@ -256,10 +246,7 @@ impl EndSystem {
     pub fn next_due(&self) -> u64
         ensures { IsNextDue self.now.tx result }
     {
-        match self.stage.next_due() {
-            Some(at) => at,
-            None => u64::MAX,
-        }
+        self.stage.next_due().unwrap_or(u64::MAX)
     }
 
     /// Makes a network fail at its next frame. The result shows which: the network of these frames.
@@ -276,10 +263,7 @@ impl EndSystem {
         ensures counts { IfOk result (λ counts.
             counts ≡ counts_in (own_stream vl self.now.tx.lines.a self.now.tx.lines.b)) }
     {
-        match self.stage.counts(VlId(vl)) {
-            Some(counts) => Ok(counts),
-            None => Err(NO_LINK),
-        }
+        self.stage.counts(VlId(vl)).ok_or(NO_LINK)
     }
 
     /// Closes a sub-VL, by its link and its index there, and writes the number of accepted messages. `GATHERED` if the

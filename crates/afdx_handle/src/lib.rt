@@ -5,7 +5,6 @@
 pub mod answer;
 mod block;
 mod end_system;
-mod explaining;
 mod handle;
 mod home;
 mod judging;
@@ -20,12 +19,11 @@ mod stage;
 
 pub use answer::LinkCounts;
 pub use block::Block;
-pub use end_system::{EndSystem, Side};
-pub use explaining::explain_into;
+pub use end_system::EndSystem;
 pub use handle::{Handle, Marked, Opening};
 pub use home::{Home, OwnPort};
 pub use judging::{Judged, judge_into};
-pub use opening::open_home;
+pub use opening::{explain_into, open_home};
 pub use ports::{gather, give_to, is_nothing, send, take_port};
 pub use release::FrameRelease;
 pub use rows::{FindingRow, JudgeOptions};

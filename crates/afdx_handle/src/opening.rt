@@ -1,14 +1,17 @@
-//! Opening an end system.
-ghost use Rattle.std.specs.Prelude.{◌≡◌, ◌≢◌, Some, IfOk, IfErr};
+//! The text of a configuration: an end system of it, or its faults explained to C.
+ghost use Rattle.std.specs.Prelude.{◌≡◌, ◌≢◌, ◌⊎◌, ◌<◌, ◌≤◌, [], ◌∷◌, length, take, Some, IfOk, IfErr};
 ghost use Rattle.afdx_config.specs.Faults.{IsLeastFault};
 ghost use Rattle.afdx_handle.specs.EndSystem.{IsOpened};
 ghost use Rattle.afdx_handle.specs.Held.{HoldsEnd};
+ghost use Rattle.afdx_handle.specs.Listing.{IsExplainedIn, with_front};
+ghost use Rattle.afdx_handle.specs.Numbers.{IsOneOf};
 
+use crate::answer::{DONE, MEMORY, SMALL_BUFFER};
 use crate::block::Block;
-use crate::end_system::{EndSystem, Side};
+use crate::end_system::EndSystem;
 use crate::home::Home;
 use crate::stage::Stage;
-use afdx_config::{ConfigFault, read_config};
+use afdx_config::{ConfigFault, explain, read_config};
 use afdx_tx::open_tx;
 use redundant_mux::Outbox;
 use std::alloc::Global;
@@ -20,24 +23,18 @@ fn open_end(alloc: Global, text: &[u8]) -> Result<EndSystem, ConfigFault>
     ensures fault { IfErr result (λ fault. fault ≢ ConfigFault.Memory → IsLeastFault text.now fault) }
 {
     let config = read_config(alloc, text)?;
-    let Ok(outbox_a) = Outbox::new(alloc) else {
-        return Err(ConfigFault::Memory);
-    };
-    let Ok(outbox_b) = Outbox::new(alloc) else {
-        return Err(ConfigFault::Memory);
-    };
+    let outbox_a = Outbox::new(alloc).map_err(|_| ConfigFault::Memory)?;
+    let outbox_b = Outbox::new(alloc).map_err(|_| ConfigFault::Memory)?;
     let Ok((emitter, ports, _monitor)) = open_tx(alloc, config, outbox_a, outbox_b) else {
         return Err(ConfigFault::Memory);
     };
-    let Ok(block) = Block::new(alloc) else {
-        return Err(ConfigFault::Memory);
-    };
+    let block = Block::new(alloc).map_err(|_| ConfigFault::Memory)?;
     let stage = Stage::Sending(emitter);
     Ok(EndSystem {
         stage,
         ports,
-        a: Side { before: 0 },
-        b: Side { before: 0 },
+        a_before: 0,
+        b_before: 0,
         block,
     })
 }
@@ -57,5 +54,38 @@ pub fn open_home(alloc: Global, text: &[u8]) -> Result<(Box<Home>, *const u8), C
     match Box::new(alloc, Home::EndSystem(boxed)).ok() {
         Some(home) => Ok((home, mark)),
         None => Err(ConfigFault::Memory),
+    }
+}
+
+/// Writes as much of a text as fits into the buffer.
+fn write_front(buffer: &mut [u8], text: &[u8]) -> u8
+    ensures answers { IsOneOf result (DONE ∷ SMALL_BUFFER ∷ []) }
+    ensures whole { result ≡ DONE → length text.now ≤ length buffer.old }
+    ensures small { result ≡ SMALL_BUFFER → length buffer.old < length text.now }
+    ensures front { buffer.new ≡ with_front (take (length buffer.old) text.now) buffer.old }
+{
+    let room = buffer.len().min(text.len());
+    buffer[..room].copy_from_slice(&text[..room]);
+    if room < text.len() {
+        SMALL_BUFFER
+    } else {
+        DONE
+    }
+}
+
+/// Writes the explanation of a configuration's text into a buffer, and its length.
+pub fn explain_into(alloc: Global, text: &[u8], buffer: &mut [u8], size: &mut usize) -> u8
+    ensures answers { IsOneOf result (DONE ∷ MEMORY ∷ SMALL_BUFFER ∷ []) }
+    ensures explained { result ≢ MEMORY → IsExplainedIn text.now buffer.old buffer.new size.new }
+    ensures whole { result ≡ DONE → size.new ≤ length buffer.old }
+    ensures small { result ≡ SMALL_BUFFER → length buffer.old < size.new }
+    ensures unwritten { result ≡ MEMORY → (buffer.new ≡ buffer.old) × (size.new ≡ size.old) }
+{
+    match explain(alloc, text) {
+        Ok(told) => {
+            *size = told.text.len();
+            write_front(buffer, told.text.as_slice())
+        }
+        Err(_) => MEMORY,
     }
 }

@@ -105,8 +105,8 @@ pub fn gather(alloc: Global, it: EndSystem) -> (EndSystem, u8)
     let EndSystem {
         stage,
         ports,
-        a,
-        b,
+        a_before,
+        b_before,
         block,
     } = it;
     let (stage, ports, answer) = match stage {
@@ -119,8 +119,8 @@ pub fn gather(alloc: Global, it: EndSystem) -> (EndSystem, u8)
     let it = EndSystem {
         stage,
         ports,
-        a,
-        b,
+        a_before,
+        b_before,
         block,
     };
     (it, answer)

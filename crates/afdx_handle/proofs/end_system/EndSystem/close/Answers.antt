@@ -5,7 +5,7 @@ use Rattle.afdx_handle.proofs.end_system.EndSystem.close.Goals as goal
 
 -- The end system before the call, in its known stage.
 sends : (c : Joined-close) → end_view false c.in-Sending.emitter c.self.inside.ports.items
-    (vec_capacity c.self.inside.ports) c.self.inside.a.before c.self.inside.b.before c.self.inside.block ≡ c.args.self.now
+    (vec_capacity c.self.inside.ports) c.self.inside.a_before c.self.inside.b_before c.self.inside.block ≡ c.args.self.now
 sends c = cc
 
 pub returns-clause-no_sub : goal.returns-clause-no_sub
@@ -20,7 +20,7 @@ pub returns-clause-closed : goal.returns-clause-closed
 returns-clause-closed c =
     subst (λ (it : EndView). c.match-close.result ≡ 0 → ClosesEnd it c.args.vl c.args.sub c.match-close.total
     (end_view false c.close.new.self c.self.inside.ports.items
-    (vec_capacity c.self.inside.ports) c.self.inside.a.before c.self.inside.b.before c.self.inside.block)) (sends c)
+    (vec_capacity c.self.inside.ports) c.self.inside.a_before c.self.inside.b_before c.self.inside.block)) (sends c)
     (elim c.match-close.branch [
       | in-Ok w ↦ search rules
       | in-Err w ↦ search rules
