@@ -1,9 +1,11 @@
 //! Tests of whole end systems, of what no contract says: that a poll finds what was sent, that calls succeed if memory
-//! suffices, that threads make progress, and what becomes of a run whose networks fail.
+//! suffices, that threads make progress, and what becomes of a run whose networks, reader or writer fail.
 #![tactic(auto)]
 
 #[cfg(test)]
 mod failing_tests;
+#[cfg(test)]
+mod gates;
 #[cfg(test)]
 mod library_call;
 #[cfg(test)]
@@ -14,6 +16,10 @@ mod pausing_tests;
 mod rig;
 #[cfg(test)]
 mod step_tests;
+#[cfg(test)]
+mod storm_tests;
+#[cfg(test)]
+mod stream_tests;
 #[cfg(test)]
 mod testing;
 #[cfg(test)]

@@ -1,4 +1,4 @@
-//! Gates that tests of storms share.
+//! A gate that holds the threads of a storm.
 use std::sync::atomic::{AtomicU64, Ordering};
 use std::thread;
 use storm::Gate;
@@ -38,7 +38,7 @@ impl Count {
 }
 
 /// The condition that a gate waits for.
-#[derive(Clone, Copy)]
+#[derive(Clone, Copy, PartialEq, Eq)]
 pub enum Until {
     /// The first call of each worker waits until this many workers have entered.
     Entered(u64),
@@ -65,11 +65,11 @@ pub struct Holding {
     frames: Count,
     pub accepted: Count,
     pub polls: Count,
-    /// How often the watcher read each of two links.
+    /// How often the watcher read the first link, and the others.
     pub first: Count,
-    pub second: Count,
+    pub others: Count,
     /// How often a worker that is followed was before or after a call.
-    pub calls: Count,
+    pub followed: Count,
     /// How often it was at the wrong time, or the watcher waited for a poll in vain.
     pub wrong: Count,
 }
@@ -83,15 +83,15 @@ impl Holding {
             accepted: Count::new(),
             polls: Count::new(),
             first: Count::new(),
-            second: Count::new(),
-            calls: Count::new(),
+            others: Count::new(),
+            followed: Count::new(),
             wrong: Count::new(),
         }
     }
 
     // The worker's call after `before` others, when `accepted` messages were accepted.
     fn follow(&self, before: u64, accepted: u64) {
-        let calls = self.calls.add(1);
+        let calls = self.followed.add(1);
         // Of these polls the second at the latest began after the call.
         let is_polled = self.polls.reaches(self.polls.get().saturating_add(3));
         if !is_polled || calls != before || self.frames.get() != accepted {
@@ -110,7 +110,7 @@ impl Gate for Holding {
             Until::Entered(workers) => !is_first || self.entered.reaches(workers),
             Until::Polled(least) => !is_first || self.polls.reaches(least),
             Until::Read(least) => {
-                !is_first || (self.first.reaches(least) && self.second.reaches(least))
+                !is_first || (self.first.reaches(least) && self.others.reaches(least))
             }
             Until::Released(at) => call != at || self.frames.reaches(1),
             Until::Never {
@@ -142,7 +142,7 @@ impl Gate for Holding {
     }
 
     fn watched(&self, link: usize) {
-        let readings = if link == 0 { &self.first } else { &self.second };
+        let readings = if link == 0 { &self.first } else { &self.others };
         readings.add(1);
         if let Until::Read(_least) = self.until {
             // (a watcher that was once left without a poll doesn't wait again)
