@@ -6,7 +6,7 @@
    Both send the same messages and make the same frames, which is checked first. Then each work is measured in turn, the
    library and the other, ROUNDS times each (11 by default), and one line is printed: the least nanoseconds of each, the
    ratio of these, and the least, median and greatest ratio of a repetition. PARTS is a program in Rattle that times what a
-   call of the library hides ("alone"), and sends and polls without that call ("in Rattle"): crates/probes.
+   call of the library hides ("alone"): crates/probes.
    The rows of lwIP compare the library's frames for two networks with lwIP's for one that only touches them. Below are the
    time of a call that only looks into its handle, and that of one poll of 64 virtual links that are all due, as a
    distribution. The exit status is 0 if the frames were equal.
@@ -131,7 +131,7 @@ static double by_lwip(struct side *side, const struct work *work) {
 }
 #endif
 
-/* Threads that send through a port each to one queue, while this one polls, or only takes the messages. */
+/* Threads that send through a port each to one queue, while this one polls. */
 struct sender {
     struct side *side;
     unsigned port, messages;
@@ -160,9 +160,9 @@ static double in_threads(struct side *side, const struct work *work) {
     }
     for (unsigned got = 0; got < each * work->threads;) {
         size_t count = 0;
-        if (!work->part) poll_due(side);
+        poll_due(side);
         if (side->hand) {
-            count = work->part ? hand_take(side->hand) : hand_frames(side->hand, 0);
+            count = hand_frames(side->hand, 0);
         } else {
             afdx_frames(&side->it, AFDX_A, &count);
         }
@@ -196,14 +196,6 @@ static const struct work WORKS[] = {
     {"frames alone, 1,472 bytes", {1, 1518, 2, 1, GREATEST}, 1472, 0, frames_alone, 102400, "frames"},
     {"frames alone, 8,192 bytes", {1, 1518, 2, 1, GREATEST}, 8192, 0, frames_alone, 20480, "frames"},
     {"queue alone, one in, one out", {1, 1518, 256, 1, GREATEST}, 1, 0, queue_alone, 1024000, "queue"},
-    {"queue alone, 1 sender in a thread", {1, 1518, 256, 1, GREATEST}, 1, 1, in_threads, 102400, "threads"},
-    {"queue alone, 2 senders in threads", {1, 1518, 256, 2, GREATEST}, 1, 2, in_threads, 102400, "threads"},
-    {"queue alone, 4 senders in threads", {1, 1518, 256, 4, GREATEST}, 1, 4, in_threads, 102400, "threads"},
-    {"queue alone, 16 senders in threads", {1, 1518, 256, 16, GREATEST}, 1, 16, in_threads, 102400, "threads"},
-    {"in Rattle: send and due poll", {1, 1518, 2, 1, GREATEST}, 1, 0, send_and_poll, 204800, "poll"},
-    {"in Rattle: send of 1 byte", {1, 1518, 256, 1, GREATEST}, 1, 0, sends, 204800, "send"},
-    {"in Rattle: frame, 64 links due", {64, 1518, 4, 64, GREATEST}, 1, 0, frames_due, 204800, "due"},
-    {"in Rattle: poll, none due", {64, 1518, 4, 64, GREATEST}, 1, 0, none_due, 204800, "idle"},
 #ifdef WITH_LWIP
     {"lwIP: 1 byte", {1, 1518, 2, 1, GREATEST}, 1, 0, by_lwip, 204800, NULL},
     {"lwIP: 100 bytes", {1, 1518, 2, 1, GREATEST}, 100, 0, by_lwip, 204800, NULL},
@@ -233,7 +225,7 @@ static int by_size(const void *a, const void *b) {
 /* The nanoseconds of a unit of a work by one of the two. */
 static double time_of(struct side *side, const struct work *work) {
     if (side->hand || !work->part) return work->measured(side, work);
-    return printed(started(work->part, work->threads ? work->threads : work->length, work->units)) / work->units;
+    return printed(started(work->part, work->length, work->units)) / work->units;
 }
 
 /* The same by a driver over a library. */

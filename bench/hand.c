@@ -294,10 +294,3 @@ void hand_pass(struct hand *it, unsigned times) {
     for (unsigned k = 0; k < times; k++)
         if (!push(&it->link[0].queue, &it->port[0].sender, item) || !pop(&it->link[0].queue, &item)) abort();
 }
-
-size_t hand_take(struct hand *it) {
-    struct item item;
-    if (!pop(&it->link[0].queue, &item)) return 0;
-    free(item.bytes);
-    return 1;
-}

@@ -30,7 +30,7 @@ fn send_next(rt: &HostRuntime, letters: &mut Vec<Letter>, port: &mut TxPort)
 
 /// Polls at a time, or at that of the last poll if that is later, and prints how many frames were released, and which
 /// networks are up after it.
-fn poll_told<N: Network + Drop, P: Phase>(rt: &HostRuntime, tx: &mut Emitter<N, N, P>, at: u64)
+fn poll_told<N: Network + Drop>(rt: &HostRuntime, tx: &mut Emitter<N, N>, at: u64)
     ensures { (port : PortView) → IsPortOfTx tx.old port → IsPortOfTx tx.new port }
 {
     let at = at.max(tx.now());
@@ -204,7 +204,9 @@ fn drain<W: Wait>(rt: &HostRuntime, wait: &W, opened: Opened) -> Ended
     requires { IsPortOfTx opened.tx opened.port }
 {
     let mut tx = gather(opened).ok_or(Trouble::Other)?;
-    poll_told(rt, &mut tx, 2_000);
+    let at = tx.now().max(2_000);
+    let answer = tx.poll(at);
+    tell_report(rt, at, answer);
     tx.publish(wait);
     tell_state(rt, &tx);
     line(rt, format_args!("done: {}", tx.is_done()));

