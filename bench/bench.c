@@ -1,18 +1,17 @@
 /* Compares the proved library with a transmitter written by hand (hand.c).
 
-       bench [ROUNDS [PARTS [OLD]]]
+       bench [ROUNDS [OLD]]
        bench --row ROW
 
    Both send the same messages and make the same frames, which is checked first. Then each work is measured in turn, the
    library and the other, ROUNDS times each (11 by default), and one line is printed: the least nanoseconds of each, the
-   ratio of these, and the least, median and greatest ratio of a repetition. PARTS is a program in Rattle that times what a
-   call of the library hides ("alone"): crates/probes.
+   ratio of these, and the least, median and greatest ratio of a repetition.
    The rows of lwIP compare the library's frames for two networks with lwIP's for one that only touches them. Below are the
    time of a call that only looks into its handle, and that of one poll of 64 virtual links that are all due, as a
    distribution. The exit status is 0 if the frames were equal.
 
    OLD is this driver over another library. Then the two libraries are compared, each row in a process of its own
-   (--row prints the library's nanoseconds of a row), without PARTS and lwIP. */
+   (--row prints the library's nanoseconds of a row), without lwIP. */
 #define _GNU_SOURCE
 #include "sides.h"
 
@@ -32,8 +31,7 @@ static double now_ns(void) {
     return 1e9 * (double)at.tv_sec + (double)at.tv_nsec;
 }
 
-/* A work over a plan with messages of a length: `measured` returns the nanoseconds of one of its units. A part is what the
-   program of parts measures in place of the library. */
+/* A work over a plan with messages of a length: `measured` returns the nanoseconds of one of its units. */
 struct work {
     const char *name;
     struct plan plan;
@@ -41,7 +39,6 @@ struct work {
     unsigned threads;
     double (*measured)(struct side *, const struct work *);
     unsigned units;
-    const char *part;
 };
 
 /* How many frames a message takes on each network. */
@@ -90,34 +87,6 @@ static double none_due(struct side *side, const struct work *work) {
     poll_due(side);
     double begun = now_ns();
     for (unsigned k = 0; k < work->units; k++) poll_at(side, side->now);
-    return (now_ns() - begun) / work->units;
-}
-
-/* The sum of what two networks have read of the frames that were cut alone by hand. */
-static uint64_t touched;
-
-/* By hand alone: the cutting of messages that are made before, of less than 128 KB, as by the program of parts, whose
-   allocator gives more than that back to the system when it is freed. */
-static double frames_alone(struct side *side, const struct work *work) {
-    enum { BATCH = 32 };
-    uint8_t *messages[BATCH];
-    const unsigned batch = work->length > 2048 ? 8 : BATCH;
-    double sum = 0;
-    for (unsigned k = 0; k < work->units; k += batch) {
-        for (unsigned j = 0; j < batch; j++) {
-            want((messages[j] = malloc(work->length)) != NULL, "no memory");
-            memcpy(messages[j], message, work->length);
-        }
-        double begun = now_ns();
-        touched = hand_cut(side->hand, messages, batch, work->length);
-        sum += now_ns() - begun;
-    }
-    return sum / work->units;
-}
-
-static double queue_alone(struct side *side, const struct work *work) {
-    double begun = now_ns();
-    hand_pass(side->hand, work->units);
     return (now_ns() - begun) / work->units;
 }
 
@@ -174,61 +143,35 @@ static double in_threads(struct side *side, const struct work *work) {
 }
 
 static const struct work WORKS[] = {
-    {"send and due poll, 1 byte", {1, 1518, 2, 1, GREATEST}, 1, 0, send_and_poll, 204800, NULL},
-    {"send and due poll, 100 bytes", {1, 1518, 2, 1, GREATEST}, 100, 0, send_and_poll, 204800, NULL},
-    {"send and due poll, 1,471 bytes", {1, 1518, 2, 1, GREATEST}, 1471, 0, send_and_poll, 102400, NULL},
-    {"send and 6 due polls, 8,192 bytes", {1, 1518, 2, 1, GREATEST}, 8192, 0, send_and_poll, 20480, NULL},
-    {"send of 1 byte", {1, 1518, 256, 1, GREATEST}, 1, 0, sends, 204800, NULL},
-    {"frame of 60 bytes, 64 links due", {64, 1518, 4, 64, GREATEST}, 1, 0, frames_due, 204800, NULL},
-    {"frame of 1,514 bytes, 64 links due", {64, 1518, 4, 64, GREATEST}, 1471, 0, frames_due, 51200, NULL},
-    {"poll of 64 links, none due", {64, 1518, 4, 64, GREATEST}, 1, 0, none_due, 204800, NULL},
-    {"message, 1 link, 1 port", {1, 1518, 4, 1, GREATEST}, 1, 0, send_and_poll, 204800, NULL},
-    {"message, 16 links, 64 ports", {16, 1518, 4, 64, GREATEST}, 1, 0, send_and_poll, 204800, NULL},
-    {"message, 64 links, 256 ports", {64, 1518, 4, 256, GREATEST}, 1, 0, send_and_poll, 204800, NULL},
-    {"message, 1 sender in a thread", {1, 1518, 256, 1, GREATEST}, 1, 1, in_threads, 102400, NULL},
-    {"message, 2 senders in threads", {1, 1518, 256, 2, GREATEST}, 1, 2, in_threads, 102400, NULL},
-    {"message, 4 senders in threads", {1, 1518, 256, 4, GREATEST}, 1, 4, in_threads, 102400, NULL},
-    {"message, 16 senders in threads", {1, 1518, 256, 16, GREATEST}, 1, 16, in_threads, 102400, NULL},
-    {"frames alone, 1 byte", {1, 1518, 2, 1, GREATEST}, 1, 0, frames_alone, 204800, "frames"},
-    {"frames alone, 17 bytes", {1, 1518, 2, 1, GREATEST}, 17, 0, frames_alone, 204800, "frames"},
-    {"frames alone, 100 bytes", {1, 1518, 2, 1, GREATEST}, 100, 0, frames_alone, 204800, "frames"},
-    {"frames alone, 1,471 bytes", {1, 1518, 2, 1, GREATEST}, 1471, 0, frames_alone, 102400, "frames"},
-    {"frames alone, 1,472 bytes", {1, 1518, 2, 1, GREATEST}, 1472, 0, frames_alone, 102400, "frames"},
-    {"frames alone, 8,192 bytes", {1, 1518, 2, 1, GREATEST}, 8192, 0, frames_alone, 20480, "frames"},
-    {"queue alone, one in, one out", {1, 1518, 256, 1, GREATEST}, 1, 0, queue_alone, 1024000, "queue"},
+    {"send and due poll, 1 byte", {1, 1518, 2, 1, GREATEST}, 1, 0, send_and_poll, 204800},
+    {"send and due poll, 100 bytes", {1, 1518, 2, 1, GREATEST}, 100, 0, send_and_poll, 204800},
+    {"send and due poll, 1,471 bytes", {1, 1518, 2, 1, GREATEST}, 1471, 0, send_and_poll, 102400},
+    {"send and 6 due polls, 8,192 bytes", {1, 1518, 2, 1, GREATEST}, 8192, 0, send_and_poll, 20480},
+    {"send of 1 byte", {1, 1518, 256, 1, GREATEST}, 1, 0, sends, 204800},
+    {"frame of 60 bytes, 64 links due", {64, 1518, 4, 64, GREATEST}, 1, 0, frames_due, 204800},
+    {"frame of 1,514 bytes, 64 links due", {64, 1518, 4, 64, GREATEST}, 1471, 0, frames_due, 51200},
+    {"poll of 64 links, none due", {64, 1518, 4, 64, GREATEST}, 1, 0, none_due, 204800},
+    {"message, 1 link, 1 port", {1, 1518, 4, 1, GREATEST}, 1, 0, send_and_poll, 204800},
+    {"message, 16 links, 64 ports", {16, 1518, 4, 64, GREATEST}, 1, 0, send_and_poll, 204800},
+    {"message, 64 links, 256 ports", {64, 1518, 4, 256, GREATEST}, 1, 0, send_and_poll, 204800},
+    {"message, 1 sender in a thread", {1, 1518, 256, 1, GREATEST}, 1, 1, in_threads, 102400},
+    {"message, 2 senders in threads", {1, 1518, 256, 2, GREATEST}, 1, 2, in_threads, 102400},
+    {"message, 4 senders in threads", {1, 1518, 256, 4, GREATEST}, 1, 4, in_threads, 102400},
+    {"message, 16 senders in threads", {1, 1518, 256, 16, GREATEST}, 1, 16, in_threads, 102400},
 #ifdef WITH_LWIP
-    {"lwIP: 1 byte", {1, 1518, 2, 1, GREATEST}, 1, 0, by_lwip, 204800, NULL},
-    {"lwIP: 100 bytes", {1, 1518, 2, 1, GREATEST}, 100, 0, by_lwip, 204800, NULL},
-    {"lwIP: 1,471 bytes", {1, 1518, 2, 1, GREATEST}, 1471, 0, by_lwip, 102400, NULL},
-    {"lwIP: 8,192 bytes", {1, 1518, 2, 1, GREATEST}, 8192, 0, by_lwip, 20480, NULL},
+    {"lwIP: 1 byte", {1, 1518, 2, 1, GREATEST}, 1, 0, by_lwip, 204800},
+    {"lwIP: 100 bytes", {1, 1518, 2, 1, GREATEST}, 100, 0, by_lwip, 204800},
+    {"lwIP: 1,471 bytes", {1, 1518, 2, 1, GREATEST}, 1471, 0, by_lwip, 102400},
+    {"lwIP: 8,192 bytes", {1, 1518, 2, 1, GREATEST}, 8192, 0, by_lwip, 20480},
 #endif
 };
-
-/* That the program of parts makes the same frames: that networks read the same of them, at each place in turn. */
-static void check_parts(void) {
-    static struct side sides[2];
-    for (size_t k = 0; k < sizeof WORKS / sizeof *WORKS; k++) {
-        const struct work *work = &WORKS[k];
-        if (work->measured != frames_alone) continue;
-        open_both(sides, work->plan);
-        work->measured(&sides[1], work);
-        want(printed(started("touched", work->length, work->units)) == (double)touched, "other frames alone");
-        close_both(sides);
-    }
-}
 
 static int by_size(const void *a, const void *b) {
     double x = *(const double *)a, y = *(const double *)b;
     return (x > y) - (x < y);
 }
 
-/* The nanoseconds of a unit of a work by one of the two. */
-static double time_of(struct side *side, const struct work *work) {
-    if (side->hand || !work->part) return work->measured(side, work);
-    return printed(started(work->part, work->length, work->units)) / work->units;
-}
-
-/* The same by a driver over a library. */
+/* The nanoseconds of a unit of a work by a driver over a library. */
 static double time_by(const char *driver, const struct work *work) {
     char command[1024];
     snprintf(command, sizeof command, "'%s' --row %zu", driver, (size_t)(work - WORKS));
@@ -241,7 +184,7 @@ static void compare(const struct work *work, unsigned rounds, const char *const 
     static struct side sides[2];
     open_both(sides, work->plan);
     for (unsigned k = 0; k < rounds; k++) {
-        for (int s = 0; s < 2; s++) times[s][k] = drivers[1] ? time_by(drivers[s], work) : time_of(&sides[s], work);
+        for (int s = 0; s < 2; s++) times[s][k] = drivers[1] ? time_by(drivers[s], work) : work->measured(&sides[s], work);
         ratios[k] = times[0][k] / times[1][k];
     }
     close_both(sides);
@@ -299,21 +242,18 @@ int main(int count, char **words) {
         static struct side sides[2];
         const struct work *work = &WORKS[strtoul(words[2], NULL, 10)];
         open_both(sides, work->plan);
-        return printf("%f\n", time_of(&sides[0], work)) < 0;
+        return printf("%f\n", work->measured(&sides[0], work)) < 0;
     }
     unsigned rounds = count > 1 ? (unsigned)strtoul(words[1], NULL, 10) : 11;
-    const char *const drivers[2] = {words[0], count > 3 ? words[3] : NULL};
-    parts = count > 2 && *words[2] ? words[2] : NULL;
+    const char *const drivers[2] = {words[0], count > 2 ? words[2] : NULL};
     want(rounds >= 1 && rounds <= MOST_ROUNDS, "1 to 101 rounds");
     check_frames();
-    if (parts) check_parts();
     printf("| %-34s | %9s | %9s | %5s | %5s | %5s | %5s |\n", "nanoseconds", drivers[1] ? "new" : "library",
         drivers[1] ? "old" : "other", "ratio", "least", "half", "most");
     printf("|---|---|---|---|---|---|---|\n");
     for (size_t k = 0; k < sizeof WORKS / sizeof *WORKS; k++)
-        if (!WORKS[k].part || parts) compare(&WORKS[k], rounds, drivers);
+        compare(&WORKS[k], rounds, drivers);
     if (drivers[1]) return 0;
-    if (!parts) printf("\nThe parts are left out: their program isn't there.\n");
 #ifndef WITH_LWIP
     printf("\nlwIP is left out: liblwip-dev isn't there.\n");
 #endif

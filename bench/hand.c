@@ -48,15 +48,8 @@ struct out {
     struct kept kept[HAND_LINKS];
 };
 
-/* A network that reads a byte of each frame, at each place in turn, and keeps no frame. */
-struct touch {
-    uint64_t sum;
-    size_t place;
-};
-
 struct hand {
     unsigned links, ports;
-    struct touch touched[2];
     struct link link[HAND_LINKS];
     struct port port[HAND_PORTS];
     struct out out[2];
@@ -257,40 +250,4 @@ const uint8_t *hand_frame(const struct hand *it, unsigned network, size_t k, siz
     const struct kept *kept = &it->out[network].kept[(it->out[network].begun + k) % HAND_LINKS];
     *length = kept->length;
     return kept->frame;
-}
-
-static void touch(struct touch *network, const uint8_t *frame, size_t length) {
-    if (network->place < length) {
-        network->sum += frame[network->place++];
-    } else {
-        network->place = 0;
-    }
-}
-
-uint64_t hand_cut(struct hand *it, uint8_t *const *messages, unsigned count, size_t length) {
-    struct touch a = it->touched[0], b = it->touched[1];
-    struct link *link = &it->link[0];
-    uint8_t frame[HAND_FRAME];
-    link->total = 8 + length;
-    for (unsigned k = 0; k < count; k++) {
-        link->cut = (struct item){messages[k], length, 0};
-        link->number = 0;
-        for (link->sent = 0; link->sent < link->total; link->number++) {
-            size_t size = write_frame(it, link, frame);
-            touch(&a, frame, size);
-            frame[11] = 0x40;
-            touch(&b, frame, size);
-        }
-        free(messages[k]);
-    }
-    link->cut.bytes = NULL;
-    it->touched[0] = a;
-    it->touched[1] = b;
-    return a.sum + b.sum;
-}
-
-void hand_pass(struct hand *it, unsigned times) {
-    struct item item = {NULL, 1, 0};
-    for (unsigned k = 0; k < times; k++)
-        if (!push(&it->link[0].queue, &it->port[0].sender, item) || !pop(&it->link[0].queue, &item)) abort();
 }

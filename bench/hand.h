@@ -31,12 +31,6 @@ void hand_poll(struct hand *it, uint64_t now);
 size_t hand_frames(const struct hand *it, unsigned network);
 const uint8_t *hand_frame(const struct hand *it, unsigned network, size_t k, size_t *length);
 
-/* Parts alone, on the first link. hand_cut makes the frames of messages of a length, which it frees, for two networks that
-   read a byte of each; it returns the sum of what they read so far. hand_pass puts a message into the queue and takes it
-   out, again and again. */
-uint64_t hand_cut(struct hand *it, uint8_t *const *messages, unsigned count, size_t length);
-void hand_pass(struct hand *it, unsigned times);
-
 /* Sends a message by lwIP (lwip.c) to a multicast address, over one network that reads a byte of each frame. Returns how many
    frames it got, 0 if the message isn't sent. */
 unsigned lwip_send(const uint8_t *message, size_t length);

@@ -5,11 +5,10 @@
 #     bash bench/run.sh --duties [ROUNDS]
 #     bash bench/run.sh --against OLD.a [ROUNDS]
 #
-# It proves and builds the library and the program of crates/probes where they are missing, as in a fresh clone. With
-# --few, as in the test command, it measures each work once, with and without --duties, which shows that the bench works
-# and that all make the same frames; its last line counts. With --duties the transmitter in C has the library's duties
-# too (hand.h): what is left is the cost of how the library does them. With --against it compares the library with an
-# older one, in turn.
+# It proves and builds the library where it is missing, as in a fresh clone. With --few, as in the test command, it
+# measures each work once, with and without --duties, which shows that the bench works and that all make the same frames;
+# its last line counts. With --duties the transmitter in C has the library's duties too (hand.h): what is left is the
+# cost of how the library does them. With --against it compares the library with an older one, in turn.
 set -eu
 old=
 flags=()
@@ -25,9 +24,7 @@ kit=$(dirname "$(rt doc)")
 room=$(mktemp -d)
 trap 'rm -r "$room"' EXIT
 library=../crates/afdx/out/libafdx.a
-parts=../crates/probes/out/probes
 [ -f "$library" ] || (cd ../crates/afdx && rt lib)
-[ -x "$parts" ] || [ -n "$old" ] || (cd ../crates/probes && rt run >"$room/out")
 lwip=()
 if [ -z "$old" ] && echo '#include <lwip/udp.h>' | ${CC:-cc} -I/usr/include/lwip -E - >"$room/out" 2>&1; then
     lwip=(-DWITH_LWIP -isystem /usr/include/lwip lwip.c -llwip)
@@ -42,13 +39,13 @@ build() {
 build "$library" "$room/bench"
 if [ -n "$old" ]; then
     build "$old" "$room/old"
-    "$room/bench" "${1-11}" "" "$room/old"
+    "$room/bench" "${1-11}" "$room/old"
 elif [ "${1-}" = --few ]; then
-    "$room/bench" 1 "$parts"
+    "$room/bench" 1
     flags=(-DDUTIES)
     build "$library" "$room/duties"
-    "$room/duties" 1 "$parts"
+    "$room/duties" 1
     echo "2 passed, 0 failed"
 else
-    "$room/bench" "${1-11}" "$parts"
+    "$room/bench" "${1-11}"
 fi

@@ -91,15 +91,6 @@ void check_frames(void) {
     }
 }
 
-const char *parts;
-
-FILE *started(const char *part, size_t size, unsigned units) {
-    static char command[sizeof text + 1024];
-    int end = snprintf(command, sizeof command, "'%s' %s %zu %u <<'END'\n%sEND\n", parts, part, size, units, text);
-    want(end > 0 && (size_t)end < sizeof command, "a long command");
-    return popen(command, "r");
-}
-
 double printed(FILE *program) {
     double number = 0;
     want(program && fscanf(program, "%lf", &number) == 1 && pclose(program) == 0, "a program doesn't answer");

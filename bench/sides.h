@@ -60,10 +60,6 @@ static inline void poll_due(struct side *side) {
 /* That both make the same frames of messages of several lengths. */
 void check_frames(void);
 
-/* The program of parts, if it is there, and its start over the plan that was opened last. */
-extern const char *parts;
-FILE *started(const char *part, size_t size, unsigned units);
-
 /* The number that a program prints. */
 double printed(FILE *program);
 

@@ -19,8 +19,8 @@ from concurrent.futures import ThreadPoolExecutor
 
 # (no compiled copy is left beside the scripts)
 sys.dont_write_bytecode = True
-from refusals_wanted import CASES, CLOSED, COMMANDS, LONG, WRITTEN
-from trying import DEMO, ROOT, SCRIPT, Tries, built, compiler, started
+from refusals_wanted import CASES, CLOSED, COMMANDS, FILES, WRITTEN
+from trying import ROOT, Tries, built, compiler, started
 
 # How many runs are begun together, and after how many requests something is wrong.
 BATCH = 32
@@ -48,7 +48,7 @@ class Bench:
         self.room, self.library = room, f"{room}/refuse.so"
         words = ["-O2", "-shared", "-fPIC", "-o", self.library, f"{ROOT}/tests/refuse.c", "-ldl"]
         subprocess.run([compiler() or "cc", *words], check=True)
-        for name, text in (("plan.toml", DEMO), ("script.txt", SCRIPT), ("long.txt", LONG)):
+        for name, text in FILES.items():
             with open(f"{room}/{name}", "w", encoding="utf-8") as file:
                 file.write(text)
 

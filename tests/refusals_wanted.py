@@ -1,15 +1,29 @@
 """What runs of the built programs may come to when requests for memory are refused: each way to end, by its name."""
-import re
 import sys
+import tomllib
 
 from trying import DEMO, HELP, ONE_FRAME, REPORT, ROOT, SCRIPT, WRONG, text_of, totals
 
-sys.path.append(f"{ROOT}/tests/run")
+sys.path += [f"{ROOT}/tests/run", f"{ROOT}/tests/report"]
+import expected
 import model
 
 # A script of a hundred messages of one byte, each of which is polled for, and what is printed of it.
 LONG = "".join(f"send 10 {place:02x}\nat {1000 * place}\n" for place in range(100))
 LONG_FRAMES = model.run(DEMO, LONG.encode())[1]
+# A line of each kind, and a message that has no room at first.
+LINES = "# note\nsend 10 01\nsend 10 0123456789abcdef\nsend 10 03\nat 0\nsend 10 03\nsend 10 -\nat 1000\nclose 1 0\nat 2000\n"
+LINES_STATUS, LINES_TOLD, _ = model.run(DEMO, LINES.encode())
+# Two ports on each of two sub-VLs, and two ports of one flow, which is one of the last faults that are looked for.
+LINK = "end_system = { id = 1 }\nvl = [{ id = 1, bag_ms = 1, lmax = 1518, sub_vls = 2, capacity = 256 }]\nport = [\n"
+PORT = "kind = 'queuing', source = 1000, destination = 2000, max = 64 },\n"
+PORTS = "".join([LINK, *(f"{{ id = {k}, vl = 1, sub = {(k - 1) // 2}, partition = {k}, {PORT}" for k in range(1, 5)), "]\n"])
+FLOW = "".join([LINK, *(f"{{ id = {k}, vl = 1, sub = {k - 1}, partition = 1, {PORT}" for k in (1, 2)), "]\n"])
+# The files of the folder in which the programs run.
+FILES = {
+    "plan.toml": DEMO, "ports.toml": PORTS, "flow.toml": FLOW, "broken.toml": "lmax =", "script.txt": SCRIPT,
+    "long.txt": LONG, "lines.txt": LINES, "hex.txt": "send 10 0g\n", "extra.txt": "send 10 01 02\n",
+}
 
 
 def beginnings(text):
@@ -44,6 +58,12 @@ class Case:
 # What each case of the program `probes` prints when memory is ample: its stored run.
 PARTS = [part.partition("\n") for part in text_of("crates/probes/stdout").split("== ")[1:]]
 STORED = {name: text for name, _, text in PARTS}
+# How Rust prints the demonstration plan.
+DEMO_PLAN = (
+    "Config { end_system: 1, links: [LinkPlan { id: VlId(1), bag: Ms1, lmax: Lmax { size: 1518 }, sub_vls: 1, capacity: 2, "
+    "networks: Both }], ports: [PortPlan { id: PortId(10), vl: VlId(1), sub: 0, partition: 1, kind: Queuing, source: 1000, "
+    "destination: 2000, max: 8192, unicast: None, checksum: Omitted }] }"
+)
 # Memory was refused to what a case makes before its call.
 UNPREPARED = "no memory before the call\n"
 BEFORE = ("before the call", lambda ran: ran.ended(1, "", UNPREPARED))
@@ -76,8 +96,8 @@ def handed(a, b):
 def opening(many):
     """An emitter over networks in memory, of which A fails at its second hand, and B never, unless memory is refused. It is
     opened with what `open_tx` returned if that was refused, and all is done again if a network failed for memory."""
-    text, (config,) = STORED["open_tx"], re.findall(r"^Ok\((.*)\)$", STORED["demo_config"], re.MULTILINE)
-    note, b_down = f"refused OpenFault, {config}\n", [handed(2, k) for k in (1, 2)]
+    text, b_down = STORED["open_tx"], [handed(2, k) for k in (1, 2)]
+    note = f"refused OpenFault, {DEMO_PLAN}\n"
     outputs = {"answered": [text], "refused by open_tx": [note + text]}
     if many == 1:
         outputs |= {"A went down": [handed(1, 3) + text], "B went down": [down + text for down in b_down]}
@@ -86,17 +106,6 @@ def opening(many):
     twice = ("refused by open_tx twice", lambda ran: ran.ended(1, note, "refused OpenFault\n"))
     again = ("before the second call", lambda ran: any(ran.ended(1, down, UNPREPARED) for down in b_down))
     return Case("open_tx", ["open_tx"], outputs, [*outputs][1:] + [twice[0], again[0]], [BEFORE, twice, again], many=many)
-
-
-def storm(many):
-    """A storm, and another one if the first was refused or had a network that failed."""
-    text, note = STORED["storm"], "refused\n"
-    if many == 0:
-        again = ("refused", lambda ran: ran.ended(1, note, UNPREPARED))
-        return Case("storm", ["storm"], {"answered": [text]}, ["refused"], [BEFORE, again], many=0)
-    differs = text.replace("equal true", "equal false")
-    outputs = {"answered": [text], "refused": [note + text], "a network went down": [differs + note + text]}
-    return Case("storm", ["storm"], outputs, ["refused", "a network went down"], [BEFORE])
 
 
 def quiet():
@@ -109,9 +118,6 @@ def quiet():
 
 
 CASES = [
-    *(call(name) for name in ("read_config", "demo_config", "read_line", "run_script")),
-    storm(1),
-    storm(0),
     shown(call("open_board")),
     shown(call("make")),
     opening(1),
@@ -146,7 +152,26 @@ def commands(many):
     ]
 
 
-COMMANDS = [*commands(1), command(LONG_RUN, LONG_FRAMES), *commands(0)]
+def storm(many):
+    """Threads of four ports, which send 100 messages each."""
+    text = "accepted 400\nlink 1: frames 400, bytes 24000, messages 400\nnetworks equal\nwatcher never back\n"
+    others = {"a network went down": [text.replace("equal", "differ")]} if many == 1 else None
+    return command(["storm", "ports.toml", "--messages", "100", "--turns", "1000"], text, others=others, many=many)
+
+
+COMMANDS = [
+    *commands(1),
+    command(LONG_RUN, LONG_FRAMES),
+    command(["run", "plan.toml", "lines.txt"], LINES_TOLD, status=LINES_STATUS),
+    command(["run", "plan.toml", "hex.txt"], "", status=2, err="script line 1: 3 Hex\n"),
+    command(["run", "plan.toml", "extra.txt"], "", status=2, err="script line 1: 4 Extra\n"),
+    command(["check", "ports.toml"], expected.check_of(tomllib.loads(PORTS))),
+    command(["check", "flow.toml"], "", status=2, err="configuration refused: 12 SameFlow\n"),
+    command(["check", "broken.toml"], "", status=2, err="configuration refused: 1 Toml\n"),
+    storm(1),
+    *commands(0),
+    storm(0),
+]
 # The commands whose standard output is closed early, and those whose writes are made to fail.
 CLOSED = [RUN, LONG_RUN, CAPTURED, CHECK, STORM, ["--help"]]
 WRITTEN = [*CLOSED, [*LONG_RUN, "--capture", "frames.pcapng"]]

@@ -26,16 +26,16 @@ pub fn tell_fields(rt: &HostRuntime, frame: &[u8]) {
 }
 
 /// The first port of a configuration and the first link, if the port sends over it.
-pub fn first_flow(config: &Config) -> Result<(PortPlan, LinkPlan), Trouble>
+fn first_flow(config: &Config) -> Result<(PortPlan, LinkPlan), Trouble>
     ensures port { IfOk result (λ flow. IsPort flow.0) }
     ensures over { IfOk result (λ flow. SendsOver flow.0 flow.1) }
 {
     if config.ports().is_empty() || config.links().is_empty() {
-        return Err(Trouble::Plan);
+        return Err(Trouble::Other);
     }
     let (port, link) = (config.ports()[0], config.links()[0]);
     if link.id != port.vl || port.sub >= link.sub_vls {
-        return Err(Trouble::Plan);
+        return Err(Trouble::Other);
     }
     Ok((port, link))
 }

@@ -1,15 +1,9 @@
-//! Queues, and the time of one. What is printed of them allocates nothing.
+//! Queues. What is printed of them allocates nothing.
 ghost use Rattle.std.specs.Prelude.{◌≡◌, length};
 ghost use Rattle.subvl_queue.specs.Views.{AreOf};
 
 use crate::trouble::*;
 use subvl_queue::{Receiver, Sender, make};
-
-/// How many messages the queue has room for.
-const ROOM: usize = 256;
-
-/// How often each sender may request a slot.
-const CALLS: u64 = 1 << 40;
 
 /// Sends the next message, and prints the answer.
 fn send_next(rt: &HostRuntime, letters: &mut Vec<Letter>, sender: &mut Sender)
@@ -102,30 +96,4 @@ pub fn use_queues(rt: &HostRuntime) -> Ended {
     gather(rt, receiver, senders);
     close_in_pause(rt, &mut others, &mut other, &mut its[0]);
     Ok(())
-}
-
-/// Sends a message and takes it out again.
-fn pass(sender: &mut Sender, receiver: &mut Receiver, letter: Letter) -> Option<Letter> {
-    let Letter { bytes } = letter;
-    sender.send(bytes).ok()?;
-    let item = receiver.take()?;
-    Some(Letter { bytes: item.bytes })
-}
-
-/// Sends a message and takes it out again, `times` times.
-fn pass_on(sender: &mut Sender, receiver: &mut Receiver, letter: Letter, times: u32) -> Ended {
-    let mut held = letter;
-    for _ in 0..times {
-        held = pass(sender, receiver, held).ok_or(Trouble::Other)?;
-    }
-    Ok(())
-}
-
-/// The nanoseconds of sending and taking one message again and again, on one thread.
-pub fn time(rt: &HostRuntime, load: Load) -> Result<u64, Trouble> {
-    let letter = make_letter(rt.alloc(), 1)?;
-    let (mut receiver, mut senders) = make(rt.alloc(), ROOM, 1, CALLS)?;
-    let begun = now(rt)?;
-    pass_on(&mut senders[0], &mut receiver, letter, load.units)?;
-    Ok(now(rt)?.wrapping_sub(begun))
 }

@@ -8,8 +8,6 @@ pub use std::alloc::Global;
 use std::alloc::{AllocError, AllocFailed};
 use std::fmt::Display;
 use std::io::{self, Write};
-use std::num::ParseIntError;
-use std::rt::Clock;
 use thiserror::Error;
 
 /// Why a run ends early.
@@ -24,12 +22,8 @@ pub enum Trouble {
     Refused,
     #[error("a call of the library has another answer")]
     Other,
-    #[error("no such word, size or number")]
+    #[error("no such word")]
     NoWord,
-    #[error("standard input has no plan, or none with a port on its first link")]
-    Plan,
-    #[error("the clock can't be read")]
-    Clock,
 }
 
 /// How a run ends.
@@ -59,12 +53,6 @@ impl From<ConfigFault> for Trouble {
     }
 }
 
-impl From<ParseIntError> for Trouble {
-    fn from(_error: ParseIntError) -> Trouble {
-        Trouble::NoWord
-    }
-}
-
 impl<N: Network + Drop> From<OpenFault<N, N>> for Trouble {
     fn from(_fault: OpenFault<N, N>) -> Trouble {
         Trouble::NotOpened
@@ -74,20 +62,6 @@ impl<N: Network + Drop> From<OpenFault<N, N>> for Trouble {
 /// Prints a line, without allocating.
 pub fn line(rt: &HostRuntime, text: impl Display + Drop) {
     let _printed = writeln!(io::writer(rt), "{text}");
-}
-
-/// A reading of the clock, in nanoseconds.
-pub fn now(rt: &HostRuntime) -> Result<u64, Trouble> {
-    let time = rt.monotonic().ok().ok_or(Trouble::Clock)?;
-    let seconds = time.as_secs().wrapping_mul(1_000_000_000);
-    Ok(seconds.wrapping_add(u64::from(time.subsec_nanos())))
-}
-
-/// What is timed: `units` messages, each of `size` bytes.
-#[derive(Clone, Copy)]
-pub struct Load {
-    pub size: usize,
-    pub units: u32,
 }
 
 /// A message of 1 to 8,192 bytes, which a queue takes.
