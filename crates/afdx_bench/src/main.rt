@@ -28,7 +28,7 @@ use std::process::ExitCode;
 use std::sync::Wait;
 use std::thread::Threads;
 use stop::{Cause, Stop, of_file};
-use storm::{OpenGate, Progress, bench_storm};
+use storm::{OpenGate, Progress, StormFault, ThrowFault, throw_storm};
 use tx_script::{Played, RunFault, Summary, play_script, run_script};
 
 /// How the command ends after a script, by its path.
@@ -78,22 +78,31 @@ fn run_storm<'a, W: Write, T: Threads + Wait + Sync>(
     requires turns { (1 ≤ turns) × (turns ≤ 1000000000) }
 {
     let alloc = rt.alloc();
-    let text = open(rt, path)?;
+    let (_text, plan) = open_plan(rt, path)?;
     let progress = if rt.stderr().is_terminal() {
         Progress::begin(rt, messages).ok()
     } else {
         None
     };
-    let ended = match progress {
+    let thrown = match progress {
         Some(gate) => {
-            let ended = bench_storm(threads, alloc, text, writer, messages, turns, &gate);
+            let thrown = throw_storm(threads, alloc, plan, writer, messages, turns, &gate);
             gate.end();
-            ended
+            thrown
         }
-        None => bench_storm(threads, alloc, text, writer, messages, turns, &OpenGate),
+        None => throw_storm(threads, alloc, plan, writer, messages, turns, &OpenGate),
     };
-    of_file(ended, path, Cause::UnreadPlan)?;
+    thrown.map_err(failure_of)?;
     Ok(End::Told)
+}
+
+fn failure_of(fault: ThrowFault) -> Failure {
+    match fault {
+        ThrowFault::Storm(StormFault::Short) => Failure::Short,
+        ThrowFault::Storm(StormFault::Turns) => Failure::Turns,
+        ThrowFault::Storm(StormFault::Memory) => Failure::Run(RunFault::Memory),
+        ThrowFault::Write => Failure::Run(RunFault::Write),
+    }
 }
 
 /// Runs the command of the words. The runtime is passed a second time for threads, since only a bound

@@ -14,7 +14,6 @@ pub use Rattle.afdx_plan.specs.declared.link_plan.LinkPlan.{LinkPlan}
 pub use Rattle.afdx_tx.specs.Run.{accepted_in}
 pub use Rattle.afdx_tx.specs.Emitter.{IsFreshTx, Tx, queues_in}
 pub use Rattle.afdx_tx.specs.Ports.{AreFreshPorts, AreOpenedWith, BelongsTo, HasEveryPlace, PortView}
-pub use Rattle.plan_report.specs.declared.status.Failure.{Failure}
 pub use Rattle.redundant_mux.specs.Lines.{Entry, log}
 pub use Rattle.redundant_mux.specs.Memory.{entries, entry_of}
 pub use Rattle.status_board.specs.Views.{NoFieldFalls, value_of, zeros, AreNew, IsReading, Published, Watched, last_of, links_of, no_cell, published, seen}
@@ -22,5 +21,5 @@ pub use Rattle.status_board.specs.declared.counts.Counts.{Counts}
 pub use Rattle.subvl_queue.specs.Views.{SenderView}
 pub use Rattle.storm.specs.Threads.{IsShown, ReadsFirst, ReadsOnly, all_counts, cells_of, cells_read, own_counts}
 pub use Rattle.storm.specs.Workers.{messages_to, own_messages, AreAtMost, AreSpent, IsSpent, asked_after, asked_by, named, sent_all}
-pub use Rattle.storm.specs.Storms.{HasShortPort, IsPlanRefusal, IsStormRefusal, failure_of, link_lines_to, totals_of}
+pub use Rattle.storm.specs.Storms.{HasShortPort, link_lines_to, totals_of}
 pub use Rattle.storm.specs.declared.fault.StormFault.{StormFault}

@@ -1,5 +1,5 @@
--- The frames of a storm, once its ports are taken back and all is sent, and why one is refused.
-use Rattle.storm.proofs.Names.{◌≡◌, ◌∙◌, ℕ, ◌<◌, List, length, All, ap, sym, subst, All-contains, Plan, Entry, log, Accepted, IsLegal, AreAllowed, AreOwn, AreOwnStreams, accepted_in, Tx, PortView, own_messages, AreSpent, ◌+◌, ◌≤◌, cond, take, get_or, arith, length-map, get_or-map, LinkPlan, entry_of, entries, AreKnown, is_on_both, on_both, refl, Failure, StormFault, HasShortPort, IsPlanRefusal, IsStormRefusal, failure_of}
+-- The frames of a storm, once its ports are taken back and all is sent.
+use Rattle.storm.proofs.Names.{◌≡◌, ◌∙◌, ℕ, ◌<◌, List, length, All, ap, sym, subst, All-contains, Plan, Entry, log, Accepted, IsLegal, AreAllowed, AreOwn, AreOwnStreams, accepted_in, Tx, PortView, own_messages, AreSpent, ◌+◌, ◌≤◌, cond, take, get_or, arith, length-map, get_or-map, LinkPlan, entry_of, entries, AreKnown, is_on_both, on_both, refl}
 use Rattle.afdx_legal.specs.Accepted.{IsAllDone, IsHandedWhole}
 use Rattle.afdx_tx.specs.Gathering.{IsGatheredTx}
 use Rattle.std.proofs.lemmas.List.Filters.{length-filter_more}
@@ -7,10 +7,6 @@ use Rattle.afdx_frame.specs.Header.{link_in}
 use Rattle.afdx_frame.specs.declared.net.Net.{Net}
 use Rattle.redundant_mux.specs.declared.memory.Handed.{Handed}
 use Rattle.afdx_legal.proofs.StreamLemmas.{known_all}
-use Rattle.afdx_config.specs.Faults.{IsPlanOf}
-use Rattle.storm.specs.declared.fault.StormFault.TheVariants.{Short, Turns, Memory}
-use Rattle.plan_report.specs.declared.status.Failure.TheVariants as Failures
-use Rattle.script_text.specs.declared.faults.RunFault.TheVariants as Ran
 
 -- what was accepted of each port is its own list
 gathered_own : (tx gathered : Tx) (n turns : ℕ) (ports : List PortView) → AreSpent tx n turns ports → IsGatheredTx tx ports gathered
@@ -69,21 +65,3 @@ count_more links handed i one inside is =
     length-filter_more (λ (e : Entry). is_on_both links (link_in e.frame)) (entries handed) i (entry_of one) (omega (arith, length-map handed entry_of))
     ∙ ap (λ (e : Entry). length (on_both links (take i (entries handed))) + cond (is_on_both links (link_in e.frame)) 1 0)
     (entry_at handed i one inside is)
-
--- what a storm that ended early is reported as
-pub refuses_plan : (plan : Plan) (fault : StormFault) → (fault ≡ Short → HasShortPort plan) → (HasShortPort plan → fault ≡ Short)
-    → IsPlanRefusal plan (failure_of fault)
-refuses_plan plan Short is short = is refl
-refuses_plan plan Turns is short = λ some. let no : Turns ≡ Short = short some in cc
-refuses_plan plan Memory is short = λ some. let no : Memory ≡ Short = short some in cc
-
--- so it is of the plan of a text
-pub refuses_text : (text : List ℕ) (plan : Plan) (failure : Failure) → IsPlanOf text plan → IsPlanRefusal plan failure
-    → IsStormRefusal text failure
-refuses_text text plan Failures.Short is refusal = record { plan = plan; is_plan = is; refusal = refusal }
-refuses_text text plan Failures.Turns is refusal = record { plan = plan; is_plan = is; refusal = refusal }
-refuses_text text plan (Failures.Run Ran.Write) is refusal = record { plan = plan; is_plan = is; refusal = refusal }
-refuses_text text plan (Failures.Run Ran.Memory) is refusal = tt
-refuses_text text plan (Failures.Run Ran.Read) is refusal = tt
-refuses_text text plan (Failures.Run _) is refusal = absurd refusal
-refuses_text text plan (Failures.Config fault) is refusal = absurd refusal

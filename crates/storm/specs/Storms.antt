@@ -1,4 +1,4 @@
--- The results of a storm over a plan, and what the command `storm` writes of it.
+-- The results of a storm over a plan, and what is written of it.
 use Rattle.std.specs.Prelude.{codes, ℕ, zero, suc, List, [], ◌∷◌, ◌++◌, length, slice_index_or, Bool, if◌then◌else◌, decimal, ◌≡◌, ◌≢◌, ◌<◌, ◌↔◌, ◌*◌, map, Option, Result, Ok, Err, false, IsTrue, ⊤}
 use Rattle.afdx_plan.specs.Config.{link_plan_at, Plan}
 use Rattle.afdx_plan.specs.declared.link_plan.LinkPlan.{LinkPlan}
@@ -8,19 +8,14 @@ use Rattle.storm.specs.declared.report.StormReport.{StormReport}
 use Rattle.std.specs.Io.KnownBytes.{Appends}
 use Rattle.std.specs.List.{Any}
 use Rattle.afdx_plan.specs.declared.port_plan.PortPlan.{PortPlan}
-use Rattle.afdx_config.specs.Faults.{IsPlanOf, IsLeastFault}
 use Rattle.afdx_frame.specs.declared.net.Net.TheVariants.{B}
 use Rattle.redundant_mux.specs.Lines.{Entry, side}
 use Rattle.afdx_legal.specs.Accepted.{IsHandedWhole}
 use Rattle.afdx_legal.specs.Legal.{on_both}
-use Rattle.plan_report.specs.declared.status.Failure.{Failure}
 use Rattle.storm.specs.declared.fault.StormFault.{StormFault}
-use Rattle.storm.specs.declared.fault.StormFault.TheVariants.{Short, Turns, Memory}
+use Rattle.storm.specs.declared.fault.StormFault.TheVariants.{Short}
 use Rattle.storm.specs.Threads.{all_counts}
 use Rattle.storm.specs.Workers.{own_messages}
-use Rattle.afdx_plan.specs.declared.fault.ConfigFault.TheVariants as Plans
-use Rattle.script_text.specs.declared.faults.RunFault.TheVariants as Ran
-use Rattle.plan_report.specs.declared.status.Failure.TheVariants as Failures
 
 -- the counts of a link
 unfoldable pub link_line : ℕ → Counts → List ℕ
@@ -71,44 +66,9 @@ pub record IsReportOf (plan : Plan) (n : ℕ) (report : StormReport) : Type 0 wh
   pub ended : IsEnded plan n report.accepted report.links.items report.back report.a.handed report.b.handed
   pub equal : IsTrue report.equal ↔ (on_both plan.links report.b.handed ≡ map (side B) (on_both plan.links report.a.handed))
 
--- the failure that a fault is reported as
-abbrev pub failure_of : StormFault → Failure
-failure_of Short = Failures.Short
-failure_of Turns = Failures.Turns
-failure_of Memory = Failures.Run Ran.Memory
-
--- Why a storm over a plan ends early: for a short port, whatever else would stop it, and for another reason only if no
--- port is short.
-abbrev pub IsPlanRefusal : Plan → Failure → Type 0
-IsPlanRefusal plan Failures.Short = HasShortPort plan
-IsPlanRefusal plan Failures.Turns = HasShortPort plan → ⊥
-IsPlanRefusal plan (Failures.Run Ran.Memory) = HasShortPort plan → ⊥
-IsPlanRefusal plan (Failures.Run Ran.Write) = HasShortPort plan → ⊥
-IsPlanRefusal plan _ = ⊥
-
--- so it is of the plan of a text
-pub record IsTextRefusal (text : List ℕ) (failure : Failure) : Type 0 where
-  pub plan : Plan
-  pub is_plan : IsPlanOf text plan
-  pub refusal : IsPlanRefusal plan failure
-
--- A text is refused for its fault of the least number, or for what ends a storm over its plan. Memory and the reading of it
--- may fail.
-abbrev pub IsStormRefusal : List ℕ → Failure → Type 0
-IsStormRefusal text (Failures.Config fault) = fault ≢ Plans.Memory → IsLeastFault text fault
-IsStormRefusal text (Failures.Run Ran.Read) = ⊤
-IsStormRefusal text (Failures.Run Ran.Memory) = ⊤
-IsStormRefusal text failure = IsTextRefusal text failure
-
 -- What was written of a storm over a plan, none of whose ports is short: the text of its report.
 pub record ReportsPlan (plan : Plan) (n : ℕ) (old new : Option (List ℕ)) : Type 0 where
   pub long : HasShortPort plan → ⊥
   pub report : StormReport
   pub of : IsReportOf plan n report
   pub wrote : Appends old new (totals_of plan.links report)
-
--- so it is of the plan of a text
-pub record ReportsStorm (text : List ℕ) (n : ℕ) (old new : Option (List ℕ)) : Type 0 where
-  pub plan : Plan
-  pub is_plan : IsPlanOf text plan
-  pub storm : ReportsPlan plan n old new

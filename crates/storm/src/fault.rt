@@ -20,6 +20,13 @@ pub enum StormFault {
     Memory = 3,
 }
 
+/// Why the totals of a storm aren't written: it gives no report, or the writer fails.
+#[derive(Clone, Copy, Debug, PartialEq, Eq)]
+pub enum ThrowFault {
+    Storm(StormFault),
+    Write,
+}
+
 /// Why a running storm stops early.
 #[derive(Clone, Copy)]
 pub(crate) enum Stop {

@@ -1,5 +1,5 @@
 //! A storm over a whole end system: each of its ports sends from a thread of its own, while one thread polls
-//! the emitter and another reads the counts of its links; and the command that runs one and prints its totals.
+//! the emitter and another reads the counts of its links; and its totals.
 #![tactic(auto)]
 
 mod both;
@@ -16,8 +16,8 @@ mod totals;
 mod watcher;
 mod worker;
 
-pub use command::bench_storm;
-pub use fault::StormFault;
+pub use command::throw_storm;
+pub use fault::{StormFault, ThrowFault};
 pub use gate::{Gate, OpenGate};
 pub use progress::Progress;
 pub use report::{StormReport, storm, storm_over};
