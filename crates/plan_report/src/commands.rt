@@ -1,31 +1,182 @@
 //! The commands of the program, and the words of each.
-use clap::{Arg, Command, arg, value_parser};
+use crate::words::{MESSAGES_LIMIT, MICROS_LIMIT, TURNS_LIMIT};
+use clap::builder::ValueParser;
+use clap::{Arg, ArgAction, Command};
 use std::alloc::{AllocError, Global};
 
 /// The program's version, which is the library's: `AFDX_VERSION` in `afdx.h`.
 pub(crate) const VERSION: &str = "1.0.0";
 
-// What frames are judged by.
+const ABOUT: &str =
+    "A transmitting AFDX end system. Without words it runs a script from standard input.";
+
+/// The names of the commands, and what each does.
+const COMMANDS: [(&str, &str); 6] = [
+    (
+        "run",
+        "Runs a script over a configuration and prints the frames of both networks",
+    ),
+    (
+        "check",
+        "Prints the plan and the jitter of a configuration; `explain` locates its faults",
+    ),
+    (
+        "explain",
+        "Prints the faults of a configuration, each with its place and what is allowed there",
+    ),
+    (
+        "report",
+        "Prints the loads, the jitter and the longest waits of a configuration",
+    ),
+    (
+        "judge",
+        "Prints what is wrong with a recording of an end system",
+    ),
+    (
+        "storm",
+        "Has all ports of a configuration send at once, and prints what came of it",
+    ),
+];
+
+/// What frames are judged by.
 const PROFILES: [&str; 2] = ["own", "arinc"];
+
+/// What a word is, and what follows it.
+enum Kind {
+    /// A path, which may be left out.
+    Path,
+    /// A path.
+    Needed,
+    Flag,
+    /// A flag, and a text with this name.
+    Text(&'static str),
+    Profile,
+    /// A flag, and microseconds.
+    Micros,
+    /// A flag that must be given, and a number from 1 to this one.
+    Count(u64),
+}
+
+/// A word: the name of its command, its own, what follows it, and what it means.
+struct Word(&'static str, &'static str, Kind, &'static str);
+
+/// The words after that of the configuration, in the order of the help.
+const WORDS: [Word; 18] = [
+    Word("run", "script", Kind::Needed, "The file of the script"),
+    Word(
+        "run",
+        "capture",
+        Kind::Text("file"),
+        "Also writes the frames of both networks to a file in the pcapng format",
+    ),
+    Word(
+        "report",
+        "lateness",
+        Kind::Micros,
+        "How late polls come at most, in microseconds: 0 if left out",
+    ),
+    Word(
+        "report",
+        "html",
+        Kind::Text("file"),
+        "Also writes the report as a page to a file",
+    ),
+    Word(
+        "report",
+        "traffic",
+        Kind::Text("file"),
+        "The periods and deadlines of the ports, from a CSV file",
+    ),
+    Word(
+        "report",
+        "csv",
+        Kind::Text("file"),
+        "Also writes a row for each port to a CSV file",
+    ),
+    Word(
+        "report",
+        "date",
+        Kind::Text("text"),
+        "The date that the page names",
+    ),
+    Word(
+        "report",
+        "strict",
+        Kind::Flag,
+        "Ends with status 2 if a limit or a deadline is missed",
+    ),
+    Word(
+        "judge",
+        "capture",
+        Kind::Needed,
+        "The recording, of both networks or of network A",
+    ),
+    Word(
+        "judge",
+        "capture_b",
+        Kind::Path,
+        "The recording of network B",
+    ),
+    Word(
+        "judge",
+        "jitter",
+        Kind::Micros,
+        "How much closer than a BAG frames may come, in microseconds: 0 if left out",
+    ),
+    Word(
+        "judge",
+        "skew",
+        Kind::Micros,
+        "How far the networks may be apart, in microseconds: 10000 if left out",
+    ),
+    Word(
+        "judge",
+        "late",
+        Kind::Flag,
+        "The recording began after the end system",
+    ),
+    Word(
+        "judge",
+        "fcs",
+        Kind::Flag,
+        "Frames were recorded with their check sequence",
+    ),
+    Word(
+        "judge",
+        "profile",
+        Kind::Profile,
+        "By what frames are judged: by ARINC 664 Part 7 alone, or as this project's own, if left out",
+    ),
+    Word(
+        "judge",
+        "html",
+        Kind::Text("file"),
+        "Also writes the summary as a page to a file",
+    ),
+    Word(
+        "storm",
+        "messages",
+        Kind::Count(MESSAGES_LIMIT),
+        "How many messages each port sends, each about 3 KB of memory",
+    ),
+    Word(
+        "storm",
+        "turns",
+        Kind::Count(TURNS_LIMIT),
+        "How often each thread may try",
+    ),
+];
 
 /// All command lines of the program.
 pub(crate) fn command<'a>(alloc: Global) -> Result<Command<'a>, AllocError> {
-    let about =
-        "A transmitting AFDX end system. Without words it runs a script from standard input.";
-    let program = Command::new(alloc, "afdx_bench")
+    let mut program = Command::new(alloc, "afdx_bench")
         .version(VERSION)
-        .about(about);
-    let program = program
-        .disable_help_subcommand(true)
-        .subcommand(run_command(alloc)?)?;
-    let about = "Prints the plan and the jitter of a configuration; `explain` locates its faults";
-    let program = program.subcommand(over_config(alloc, "check", about)?)?;
-    let about =
-        "Prints the faults of a configuration, each with its place and what is allowed there";
-    let program = program.subcommand(over_config(alloc, "explain", about)?)?;
-    let program = program.subcommand(report_command(alloc)?)?;
-    let program = program.subcommand(judge_command(alloc)?)?;
-    program.subcommand(storm_command(alloc)?)
+        .about(ABOUT)
+        .disable_help_subcommand(true);
+    for &(name, about) in COMMANDS.iter() {
+        program = program.subcommand(over_config(alloc, name, about)?)?;
+    }
+    Ok(program)
 }
 
 /// A command over the file of a configuration.
@@ -34,67 +185,34 @@ fn over_config<'a>(
     name: &'a str,
     about: &'a str,
 ) -> Result<Command<'a>, AllocError> {
-    let config = arg!(in alloc; <config> "The file of the configuration");
-    Command::new(alloc, name).about(about).arg(config)
+    let config = Arg::new(alloc, "config")
+        .help("The file of the configuration")
+        .required(true);
+    let mut command = Command::new(alloc, name).about(about).arg(config)?;
+    for word in WORDS.iter() {
+        if word.0 == name {
+            command = command.arg(arg_of(alloc, word))?;
+        }
+    }
+    Ok(command)
 }
 
-/// A flag that microseconds follow.
-fn micros<'a>(flag: Arg<'a>) -> Arg<'a> {
-    flag.value_parser(value_parser!(u64).range(0..1_000_001))
-}
-
-fn run_command<'a>(alloc: Global) -> Result<Command<'a>, AllocError> {
-    let words = vec![in alloc;
-        arg!(in alloc; <script> "The file of the script"),
-        arg!(in alloc; --capture <file> "Also writes the frames of both networks to a file in the pcapng format"),
-    ]?;
-    let about = "Runs a script over a configuration and prints the frames of both networks";
-    over_config(alloc, "run", about)?.args(words)
-}
-
-fn report_command<'a>(alloc: Global) -> Result<Command<'a>, AllocError> {
-    let words = vec![in alloc;
-        micros(
-            arg!(in alloc; --lateness <micros> "How late polls come at most, in microseconds: 0 if left out")
-        ),
-        arg!(in alloc; --html <file> "Also writes the report as a page to a file"),
-        arg!(in alloc; --traffic <file> "The periods and deadlines of the ports, from a CSV file"),
-        arg!(in alloc; --csv <file> "Also writes a row for each port to a CSV file"),
-        arg!(in alloc; --date <text> "The date that the page names"),
-        arg!(in alloc; --strict "Ends with status 2 if a limit or a deadline is missed"),
-    ]?;
-    let about = "Prints the loads, the jitter and the longest waits of a configuration";
-    over_config(alloc, "report", about)?.args(words)
-}
-
-fn judge_command<'a>(alloc: Global) -> Result<Command<'a>, AllocError> {
-    let words = vec![in alloc;
-        arg!(in alloc; <capture> "The recording, of both networks or of network A"),
-        arg!(in alloc; [capture_b] "The recording of network B"),
-        micros(
-            arg!(in alloc; --jitter <micros> "How much closer than a BAG frames may come, in microseconds: 0 if left out")
-        ),
-        micros(
-            arg!(in alloc; --skew <micros> "How far the networks may be apart, in microseconds: 10000 if left out")
-        ),
-        arg!(in alloc; --late "The recording began after the end system"),
-        arg!(in alloc; --fcs "Frames were recorded with their check sequence"),
-        arg!(in alloc; --profile <profile>
-            "By what frames are judged: by ARINC 664 Part 7 alone, or as this project's own, if left out")
-        .value_parser(PROFILES.as_slice()),
-        arg!(in alloc; --html <file> "Also writes the summary as a page to a file"),
-    ]?;
-    let about = "Prints what is wrong with a recording of an end system";
-    over_config(alloc, "judge", about)?.args(words)
-}
-
-fn storm_command<'a>(alloc: Global) -> Result<Command<'a>, AllocError> {
-    let about = "Has all ports of a configuration send at once, and prints what came of it";
-    let messages = arg!(in alloc; --messages <messages>
-        "How many messages each port sends, each about 3 KB of memory");
-    let messages = messages.value_parser(value_parser!(u32).range(1..65536));
-    let turns = arg!(in alloc; --turns <turns> "How often each thread may try");
-    let turns = turns.value_parser(value_parser!(u64).range(1..1_000_000_001));
-    let words = vec![in alloc; messages.required(true), turns.required(true)]?;
-    over_config(alloc, "storm", about)?.args(words)
+fn arg_of<'a>(alloc: Global, word: &Word) -> Arg<'a> {
+    let Word(_, id, kind, help) = word;
+    let arg = Arg::new(alloc, id).help(help);
+    match kind {
+        Kind::Path => arg,
+        Kind::Needed => arg.required(true),
+        Kind::Flag => arg.long(id).action(ArgAction::SetTrue),
+        Kind::Text(name) => arg.long(id).value_name(name),
+        Kind::Profile => arg.long(id).value_parser(PROFILES.as_slice()),
+        Kind::Micros => {
+            let micros = ValueParser::unsigned(0, MICROS_LIMIT);
+            arg.long(id).value_name("micros").value_parser(micros)
+        }
+        Kind::Count(most) => {
+            let count = ValueParser::unsigned(1, *most);
+            arg.long(id).required(true).value_parser(count)
+        }
+    }
 }

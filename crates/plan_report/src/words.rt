@@ -13,13 +13,13 @@ use std::io;
 use std::rt::Env;
 
 /// The greatest lateness, jitter and skew, in microseconds.
-const MICROS_LIMIT: u64 = 1_000_000;
+pub(crate) const MICROS_LIMIT: u64 = 1_000_000;
 
 /// The greatest number of messages of a port.
-const MESSAGES_LIMIT: u64 = 65_535;
+pub(crate) const MESSAGES_LIMIT: u64 = 65_535;
 
 /// The greatest number of turns of a thread.
-const TURNS_LIMIT: u64 = 1_000_000_000;
+pub(crate) const TURNS_LIMIT: u64 = 1_000_000_000;
 
 /// A parsed command line. Configurations and scripts are named by the paths of their files.
 #[derive(Drop)]
