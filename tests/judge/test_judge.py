@@ -45,7 +45,7 @@ class Counts(NamedTuple):
     damaged: int
 
 
-FEW, ALL = Counts(300, 12, 300, 1_500), Counts(10_000, 300, 10_000, 100_000)
+FEW, ALL = Counts(200, 8, 100, 800), Counts(10_000, 300, 10_000, 100_000)
 Verdict = tuple[int, str, str]
 
 
