@@ -40,6 +40,22 @@ pub(crate) fn write_waits<W: Write>(writer: &mut W, assessment: &Assessment<'_>)
     writer.write_all(b"</table>\n")
 }
 
+/// Writes the cells of a port's traffic: its period and deadline, both waits, and the slack.
+fn write_times<W: Write>(writer: &mut W, row: &Row<'_>) -> io::Result<()> {
+    let period = micros(row.demand.period);
+    let deadline = micros(row.demand.deadline);
+    let queue = Time::of_micros(row.port.wait);
+    let traffic = micros(row.by_traffic);
+    let over = over(row.is_missed());
+    let minus = if row.is_missed() { "−" } else { "" };
+    let deadline_of = row.demand.deadline;
+    let slack = micros(deadline_of.map(|deadline| deadline.abs_diff(row.wait())));
+    write!(
+        writer,
+        "<td>{period}<td>{deadline}<td>{queue}<td>{traffic}<td{over}>{minus}{slack}"
+    )
+}
+
 /// Writes the row of a port. Its bar has the wait by the queue, the less of the waits over that, and the deadline.
 fn write_port<W: Write>(
     writer: &mut W,
@@ -57,20 +73,10 @@ fn write_port<W: Write>(
     let (link, sub, fragments) = (port.vl.0, port.sub, port.fragments);
     let rate = Thousandths(port.sustained);
     write!(writer, "<td>{link}<td>{sub}<td>{fragments}<td>{rate}")?;
-    let queue = Time::of_micros(port.wait);
     if has_traffic {
-        let period = micros(row.demand.period);
-        let deadline = micros(row.demand.deadline);
-        let traffic = micros(row.by_traffic);
-        let over = over(row.is_missed());
-        let minus = if row.is_missed() { "−" } else { "" };
-        let deadline_of = row.demand.deadline;
-        let slack = micros(deadline_of.map(|deadline| deadline.abs_diff(row.wait())));
-        write!(
-            writer,
-            "<td>{period}<td>{deadline}<td>{queue}<td>{traffic}<td{over}>{minus}{slack}"
-        )?;
+        write_times(writer, row)?;
     } else {
+        let queue = Time::of_micros(port.wait);
         write!(writer, "<td>{queue}")?;
     }
     let by_queue = Rect("two", 0, scale.place(port.wait));

@@ -102,31 +102,7 @@ pub fn read_traffic(alloc: Global, config: &Config, text: &[u8]) -> Result<Traff
         places: [None; 4],
         count: None,
     };
-    let rows = ReaderBuilder::new()
-        .has_headers(false)
-        .flexible(true)
-        .from_reader(alloc, text);
-    for row in rows.into_byte_records() {
-        let Ok(row) = row else {
-            return Err(AllocError);
-        };
-        reading.line = row.position().map_or(0, |at| at.line());
-        match reading.count {
-            None => {
-                reading.head(&row)?;
-                if !reading.traffic.faults.is_empty() {
-                    return Ok(reading.traffic);
-                }
-            }
-            Some(wanted) => reading.row(alloc, wanted, &row)?,
-        }
-        if reading.traffic.faults.len() >= FAULTS_LIMIT {
-            return Ok(reading.traffic);
-        }
-    }
-    if reading.count.is_none() {
-        reading.add(None, Wrong::NoHeader)?;
-    }
+    reading.read(alloc, text)?;
     Ok(reading.traffic)
 }
 
@@ -142,6 +118,37 @@ struct Reading<'a> {
 }
 
 impl Reading<'_> {
+    /// Reads a text. A fault of the header ends it, and so does the last fault that is kept.
+    fn read(&mut self, alloc: Global, text: &[u8]) -> Result<(), AllocError> {
+        let rows = ReaderBuilder::new()
+            .has_headers(false)
+            .flexible(true)
+            .from_reader(alloc, text);
+        for row in rows.into_byte_records() {
+            let Ok(row) = row else {
+                return Err(AllocError);
+            };
+            self.line = row.position().map_or(0, |at| at.line());
+            let most = match self.count {
+                None => {
+                    self.head(&row)?;
+                    1
+                }
+                Some(wanted) => {
+                    self.row(alloc, wanted, &row)?;
+                    FAULTS_LIMIT
+                }
+            };
+            if self.traffic.faults.len() >= most {
+                return Ok(());
+            }
+        }
+        if self.count.is_none() {
+            self.add(None, Wrong::NoHeader)?;
+        }
+        Ok(())
+    }
+
     /// Adds a fault of the row.
     fn add(&mut self, column: Option<&'static str>, wrong: Wrong) -> Result<(), AllocError> {
         let fault = TrafficFault(self.line, column, wrong);

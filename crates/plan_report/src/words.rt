@@ -133,15 +133,7 @@ fn words_of(alloc: Global, name: &str, matches: &ArgMatches<'_>) -> Result<Words
         }),
         "check" => Ok(Words::Check(config)),
         "explain" => Ok(Words::Explain(config)),
-        "report" => Ok(Words::Report(Asked {
-            config,
-            lateness: count(alloc, matches, "lateness", "0", 0, MICROS_LIMIT)?,
-            html: given(alloc, matches, "html")?,
-            date: given(alloc, matches, "date")?,
-            traffic: given(alloc, matches, "traffic")?,
-            csv: given(alloc, matches, "csv")?,
-            strict: matches.get_flag("strict"),
-        })),
+        "report" => report_words(alloc, matches, config),
         "judge" => judge_words(alloc, matches, config),
         _ => Ok(Words::Storm {
             config,
@@ -149,6 +141,20 @@ fn words_of(alloc: Global, name: &str, matches: &ArgMatches<'_>) -> Result<Words
             turns: count(alloc, matches, "turns", "", 1, TURNS_LIMIT)?,
         }),
     }
+}
+
+fn report_words(alloc: Global, matches: &ArgMatches<'_>, config: String) -> Result<Words, Error>
+    ensures { IfOk result IsInRange }
+{
+    Ok(Words::Report(Asked {
+        config,
+        lateness: count(alloc, matches, "lateness", "0", 0, MICROS_LIMIT)?,
+        html: given(alloc, matches, "html")?,
+        date: given(alloc, matches, "date")?,
+        traffic: given(alloc, matches, "traffic")?,
+        csv: given(alloc, matches, "csv")?,
+        strict: matches.get_flag("strict"),
+    }))
 }
 
 fn judge_words(alloc: Global, matches: &ArgMatches<'_>, config: String) -> Result<Words, Error>

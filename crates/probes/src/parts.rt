@@ -10,7 +10,6 @@ use afdx_plan::laws::flows_apart;
 use afdx_plan::{Bag, Config, LinkPlan, Networks, PortId, PortPlan, VlId, jitter_ns};
 use redundant_mux::{MemNetwork, Mux, Outbox};
 use vl_shaper::Shaper;
-use vl_shaper::laws::one_each;
 
 /// Prints the length and the fields of a frame.
 pub fn tell_fields(rt: &HostRuntime, frame: &[u8]) {
@@ -42,7 +41,6 @@ fn first_flow(config: &Config) -> Result<(PortPlan, LinkPlan), Trouble>
 
 /// Stamps a release, and prints which sub-VL is first and whether the link is due.
 fn use_shaper(rt: &HostRuntime) {
-    one_each();
     let mut shaper = Shaper::new(Bag::Ms1, 2);
     let (many, first) = (shaper.sub_vls(), shaper.turn(0));
     let (number, next) = (shaper.stamp(0, 0), shaper.turn(0));
