@@ -124,18 +124,14 @@ impl Sender {
         ensures back { IfErr result (λ e. e.bytes.items ≡ bytes.items) }
         ensures refused { IfErr result (λ e. IsRefused self.old e.why self.new) }
     {
+        // Read before the steps on the ring, which no later read overtakes.
+        let (ring, earlier, slot): (&Ring, u64, usize) = (&self.ring, self.place, self.slot);
         let parcel = (u64::from(self.port), Message { bytes });
-        match claim_place(
-            &self.ring,
-            &mut self.seat,
-            &mut self.asks,
-            self.calls,
-            &parcel,
-        ) {
+        match claim_place(ring, &mut self.seat, &mut self.asks, self.calls, &parcel) {
             Ok(place) => {
                 pause();
-                let slot = self.ring.slot_from(place, self.place, self.slot);
-                self.ring.publish(&mut self.seat, place, slot, parcel);
+                let slot = ring.slot_from(place, earlier, slot);
+                ring.publish(&mut self.seat, place, slot, parcel);
                 self.place = place;
                 self.slot = slot;
                 self.accepted += 1;
