@@ -31,7 +31,6 @@
    end system, a time that goes back, an unknown identifier, and a buffer that is too small. */
 #ifndef AFDX_H
 #define AFDX_H /**< this header is included */
-
 #include <stddef.h>
 #include <stdint.h>
 
