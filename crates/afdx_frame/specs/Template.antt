@@ -11,22 +11,27 @@ use Rattle.afdx_frame.specs.Frame.{addresses, link_header}
 abbrev pub udp_ports : PortPlan → List ℕ
 udp_ports port = two_bytes port.source ++ two_bytes port.destination
 
--- The headers of a port's frames for network A, up to the UDP ports. Zero are the fields that a frame fills in: the end
--- system's identifier, the total length, the identification, flags and offset, and the header checksum.
-unfoldable pub unfilled : PortPlan → List ℕ
-unfilled port = link_header port.vl.0 0 A
+-- where a frame comes from: a port of an end system
+pub record Origin : Type 0 where
+  pub end_system : ℕ
+  pub port : PortPlan
+
+-- The headers of a port's frames for network A, up to the UDP ports. Zero are the fields that a frame fills in: the
+-- total length, the identification, flags and offset, and the header checksum.
+unfoldable pub unfilled : Origin → List ℕ
+unfilled of = link_header of.port.vl.0 of.end_system A
     ++ two_bytes 17664
     ++ replicate 6 0
     ++ two_bytes 273
     ++ replicate 2 0
-    ++ addresses 0 port
-    ++ udp_ports port
+    ++ addresses of.end_system of.port
+    ++ udp_ports of.port
 
 -- the invariant of a template
-pub record IsTemplate (port : PortPlan) (headers : List ℕ) (sum : ℕ) : Type 0 where
-  pub port_is : IsPort port
-  pub headers_are : headers ≡ unfilled port
-  pub sum_is : sum ≡ word_sum (addresses 0 port)
+pub record IsTemplate (of : Origin) (headers : List ℕ) (sum : ℕ) : Type 0 where
+  pub port_is : IsPort of.port
+  pub headers_are : headers ≡ unfilled of
+  pub sum_is : sum ≡ word_sum (addresses of.end_system of.port)
   pub most : sum ≤ 400000
 
 -- the frame that was written last

@@ -1,5 +1,5 @@
 //! The buffer of a frame, which is overwritten in place.
-ghost use Rattle.std.specs.Prelude.{◌≡◌, ◌≤◌, [], length, take, ◌+◌, ◌++◌};
+ghost use Rattle.std.specs.Prelude.{◌≡◌, ℕ, ◌≤◌, List, [], length, take, ◌+◌, ◌++◌, nat_le, if◌then◌else◌};
 ghost use Rattle.afdx_frame.specs.Header.{twin_of};
 ghost use Rattle.arrayvec.specs.ArrayVec.{array_vec_len};
 
@@ -130,4 +130,45 @@ pub(crate) fn put(out: &mut [u8; GREATEST_FRAME], at: usize, bytes: &[u8])
     ensures { take (at + length bytes.now) out.new ≡ take at out.old ++ bytes.now }
 {
     out[at..at + bytes.len()].copy_from_slice(bytes);
+}
+
+/// Overwrites `step` more bytes, if there are as many after the first `done`, which are there already. Returns
+/// how many are there then.
+#[inline(always)]
+fn put_step(
+    out: &mut [u8; GREATEST_FRAME],
+    at: usize,
+    bytes: &[u8],
+    done: usize,
+    step: usize,
+) -> usize
+    requires room { at + length bytes.now ≤ GREATEST_FRAME }
+    requires done { done ≤ length bytes.now }
+    requires step { step ≤ 8 }
+    ensures count { result ≡ (if nat_le (done + step) (length bytes.now) then done + step else done) }
+    ensures bytes { (front : List ℕ) → take (at + done) out.old ≡ front ++ take done bytes.now
+        → take (at + result) out.new ≡ front ++ take result bytes.now }
+{
+    let next = done + step;
+    if next > bytes.len() {
+        return done;
+    }
+    put(out, at + done, &bytes[done..next]);
+    next
+}
+
+/// As `put`, but fewer than 16 bytes are copied without a call.
+#[inline(always)]
+pub(crate) fn put_short(out: &mut [u8; GREATEST_FRAME], at: usize, bytes: &[u8])
+    requires { at + length bytes.now ≤ GREATEST_FRAME }
+    ensures { take (at + length bytes.now) out.new ≡ take at out.old ++ bytes.now }
+{
+    if bytes.len() >= 16 {
+        put(out, at, bytes);
+        return;
+    }
+    let eights = put_step(out, at, bytes, 0, 8);
+    let fours = put_step(out, at, bytes, eights, 4);
+    let twos = put_step(out, at, bytes, fours, 2);
+    put_step(out, at, bytes, twos, 1);
 }

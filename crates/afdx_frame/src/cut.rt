@@ -47,16 +47,19 @@ impl Model for Rest {
 /// A message of a port at a place of its sub-VL, given frame by frame.
 #[derive(Drop)]
 pub struct Cut {
-    template: Template,
+    port: PortPlan,
     rest: Rest,
 }
 
 impl Model for Cut {
+    ghost use Rattle.afdx_plan.specs.Plan.{IsPort};
     ghost use Rattle.afdx_frame.specs.Cutting.{Cutting, cut_of};
 
     ghost Value = { Cutting };
 
-    ghost view = { λ c. cut_of c.template c.rest };
+    ghost view = { λ c. cut_of c.port c.rest };
+
+    ghost invariant = { λ c. IsPort c.port };
 }
 
 /// The next piece, if there is one. If the rest doesn't fit into the room, the piece is the
@@ -163,43 +166,36 @@ impl Rest {
         &mut self,
         template: &Template,
         link: &LinkPlan,
-        end_system: u16,
         number: u8,
         net: Net,
         out: &mut FrameBuffer,
     ) -> bool
-        requires { SendsOver template.now link.now }
+        requires { SendsOver template.now.port link.now }
         ensures frame { TakesFirst
             (λ piece frame. frame.items ≡ frame_of
-            end_system template.now self.old.bytes self.old.place piece net number)
-            (pieces_left (room_of link.now.lmax) (cut_of template.now self.old))
+            template.now.end_system template.now.port self.old.bytes self.old.place piece net number)
+            (pieces_left (room_of link.now.lmax) (cut_of template.now.port self.old))
             (written result out.new)
-            (pieces_left (room_of link.now.lmax) (cut_of template.now self.new)) }
-        ensures same { SameMessage (cut_of template.now self.old) (cut_of template.now self.new) }
+            (pieces_left (room_of link.now.lmax) (cut_of template.now.port self.new)) }
+        ensures same { SameMessage (cut_of template.now.port self.old) (cut_of template.now.port self.new) }
         ensures memory { self.new.capacity ≡ self.old.capacity }
         ensures fragments { MatchOption (written result out.new)
-            (fragments_left end_system (room_of link.now.lmax) net (cut_of template.now self.old) ≡ [])
-            (λ frame. fragments_left end_system (room_of link.now.lmax) net (cut_of template.now self.old)
+            (fragments_left template.now.end_system (room_of link.now.lmax) net
+            (cut_of template.now.port self.old) ≡ [])
+            (λ frame. fragments_left template.now.end_system (room_of link.now.lmax) net
+            (cut_of template.now.port self.old)
             ≡ blanked frame.items
-            ∷ fragments_left end_system (room_of link.now.lmax) net (cut_of template.now self.new)) }
+            ∷ fragments_left template.now.end_system (room_of link.now.lmax) net
+            (cut_of template.now.port self.new)) }
         ensures header { result ≡ true →
-            IsFrameOf template.now.vl.0 template.now.sub number net out.new.items }
+            IsFrameOf template.now.port.vl.0 template.now.port.sub number net out.new.items }
         ensures none { result ≡ false → out.new ≡ out.old }
     {
         let room = link.lmax.room() as usize;
         let Some(piece) = next_piece(room, self.end, self.start) else {
             return false;
         };
-        write_frame(
-            out,
-            end_system,
-            template,
-            &self.bytes,
-            self.place,
-            piece,
-            net,
-            number,
-        );
+        write_frame(out, template, &self.bytes, self.place, piece, net, number);
         self.start += piece.len;
         true
     }
@@ -225,7 +221,7 @@ impl Cut {
             (record { port = port.now; bytes = bytes.items }) }
     {
         Cut {
-            template: Template::new(port),
+            port: *port,
             rest: Rest::new(bytes, place),
         }
     }
@@ -261,10 +257,11 @@ impl Cut {
             ≡ blanked frame.items
             ∷ fragments_left end_system (room_of link.now.lmax) net self.new) }
     {
+        let template = Template::new(end_system, &self.port);
         let mut frame = FrameBuffer::new();
         if !self
             .rest
-            .write_next(&self.template, link, end_system, number, net, &mut frame)
+            .write_next(&template, link, number, net, &mut frame)
         {
             return None;
         }

@@ -9,32 +9,34 @@ use crate::sum::word_sum;
 use afdx_plan::PortPlan;
 use std::marker::Model;
 
-/// What the frames of a port have in common. Contracts see the port.
+/// What the frames of a port of an end system have in common. Contracts see the two.
 #[derive(Clone, Copy)]
 pub struct Template {
     pub(crate) port: PortPlan,
     // The headers for network A up to the UDP ports, with zeros in the fields that a frame fills in.
     pub(crate) headers: [u8; 38],
-    // The sum of the words of the addresses, without the end system's identifier.
+    // The sum of the words of the addresses.
     pub(crate) sum: u32,
+    // For contracts: the headers have it.
+    end_system: u16,
 }
 
 impl Model for Template {
-    ghost use Rattle.afdx_plan.specs.declared.port_plan.PortPlan.{PortPlan};
     ghost use Rattle.afdx_frame.specs.Checksum.{word_sum};
     ghost use Rattle.afdx_frame.specs.Frame.{addresses};
-    ghost use Rattle.afdx_frame.specs.Template.{unfilled, IsTemplate};
+    ghost use Rattle.afdx_frame.specs.Template.{Origin, unfilled, IsTemplate};
 
-    ghost Value = { PortPlan };
+    ghost Value = { Origin };
 
-    ghost view = { λ t. t.port };
+    ghost view = { λ t. record { end_system = t.end_system; port = t.port } };
 
-    ghost invariant = { λ t. IsTemplate t.port t.headers t.sum };
+    ghost invariant = { λ t. IsTemplate (record { end_system = t.end_system; port = t.port }) t.headers t.sum };
 
-    ghost inverse = { λ port. record {
-      port = port;
-      headers = unfilled port;
-      sum = word_sum (addresses 0 port);
+    ghost inverse = { λ of. record {
+      port = of.port;
+      headers = unfilled of;
+      sum = word_sum (addresses of.end_system of.port);
+      end_system = of.end_system;
     } };
 }
 
@@ -53,13 +55,13 @@ fn destination(port: &PortPlan) -> [u8; 4]
 }
 
 impl Template {
-    /// The template of a port.
-    #[tactic(auto, unfolding(crate::specs::Frame::link_header, crate::specs::Frame::addresses, crate::specs::Template::unfilled))]
-    pub fn new(port: &PortPlan) -> Template
+    /// The template of a port of an end system.
+    pub fn new(end_system: u16, port: &PortPlan) -> Template
         requires { IsPort port.now }
-        ensures { result ≡ port.now }
+        ensures { result ≡ record { end_system = end_system; port = port.now } }
     {
         let [v0, v1] = port.vl.0.to_be_bytes();
+        let [e0, e1] = end_system.to_be_bytes();
         let [d0, d1, d2, d3] = destination(port);
         let [s0, s1] = port.source.to_be_bytes();
         let [t0, t1] = port.destination.to_be_bytes();
@@ -67,12 +69,13 @@ impl Template {
         Template {
             port: *port,
             headers: [
-                3, 0, 0, 0, v0, v1, 2, 0, 0, 0, 0, a, 8, 0, // MAC addresses, type
+                3, 0, 0, 0, v0, v1, 2, 0, 0, e0, e1, a, 8, 0, // MAC addresses, type
                 0x45, 0, 0, 0, 0, 0, 0, 0, 1, 17, 0, 0, // the internet header to its checksum
-                10, 0, 0, p, d0, d1, d2, d3, // addresses
+                10, e0, e1, p, d0, d1, d2, d3, // addresses
                 s0, s1, t0, t1, // UDP ports
             ],
-            sum: word_sum(&[10, 0, 0, p, d0, d1, d2, d3]),
+            sum: word_sum(&[10, e0, e1, p, d0, d1, d2, d3]),
+            end_system,
         }
     }
 

@@ -4,6 +4,7 @@ ghost use Rattle.afdx_plan.specs.Config.{IsPlan};
 ghost use Rattle.afdx_plan.specs.Plan.{IsLink, IsPort};
 ghost use Rattle.afdx_tx.specs.Emitter.{IsOpenedSub, IsOpenedLink, AreOpenedLinks, AreFreshLinks, IsFreshTx, ports_of_sub, queues_in};
 ghost use Rattle.afdx_tx.specs.Ports.{ArePortsOf, AreFreshPorts, AreOpenedWith};
+ghost use Rattle.vl_link.specs.Kept.{AreAtEnd, plans_of};
 ghost use Rattle.status_board.specs.Views.{links_of, AreNew};
 
 use crate::emitter::Emitter;
@@ -33,14 +34,15 @@ fn is_port_of(port: &PortPlan, of: &SubVl) -> bool
 /// What the frames of each port of a sub-VL have in common, in the order of the configuration.
 fn templates_of(alloc: Global, ports: &[PortPlan], of: &SubVl) -> Result<Vec<Template>, AllocError>
     requires { All IsPort ports.now }
-    ensures { IfOk result
-        (λ own. own.items ≡ ports_of_sub ports.now of.now.link.id.0 of.now.sub) }
+    ensures ports { IfOk result
+        (λ own. plans_of own.items ≡ ports_of_sub ports.now of.now.link.id.0 of.now.sub) }
+    ensures at_end { IfOk result (λ own. AreAtEnd of.now.end_system own.items) }
 {
     let count = ports.iter().filter(|port| is_port_of(port, of)).count();
     let mut own = Vec::with_capacity(alloc, count)?;
     for port in ports {
         if is_port_of(port, of) {
-            own.push(Template::new(port))?;
+            own.push(Template::new(of.end_system, port))?;
         }
     }
     Ok(own)

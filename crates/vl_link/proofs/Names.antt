@@ -25,7 +25,7 @@ pub use Rattle.std.proofs.lemmas.List.{get_or_read, length-append, length-map, l
 pub use Rattle.std.proofs.lemmas.List.Elements.{All-head, All-map, All-push, All-tail, All-weaker, filter-append}
 pub use Rattle.std.proofs.lemmas.List.Sums.{sum_by-append, sum_by-cons}
 pub use Rattle.std.specs.Prelude.{All, count_by}
-pub use Rattle.vl_link.specs.Kept.{IsKept, IsLinkTied, IsTied, ShowsChoices, begun_after, begun_by, none_begun, shown_choice, IsPortOf, IsSub, seen_of}
+pub use Rattle.vl_link.specs.Kept.{IsKept, IsLinkTied, IsTied, ShowsChoices, begun_after, begun_by, none_begun, shown_choice, IsPortOf, IsSub, plans_of, seen_of}
 pub use Rattle.vl_link.specs.Calls.{AreFullSubs, BecomesWhole, GathersSub, IsFullSub}
 pub use Rattle.vl_link.specs.Links.{AreSameSubs, AreSubsOf, Asks, Follows, Gives, GivesFrame, GoesOn, HasOwnItems, Held, IsLinkOfPlan, IsPicked, IsSameLink}
 pub use Rattle.vl_link.specs.Links.{IsSameSub, LinkState, PassedOver, Passes, Serves, Starts, held_at, held_view, left_of, message_fragments}

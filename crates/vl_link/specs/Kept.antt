@@ -1,5 +1,5 @@
 -- The invariants of a sub-VL and of a link, and the choices that the link's stream shows.
-use Rattle.std.specs.Prelude.{ℕ, Bool, true, false, nat_eq, if◌then◌else◌, Option, Some, List, [], ◌∷◌, ◌≡◌, ◌<◌, ◌++◌, None, ◌≤◌, ◌%◌, length, All}
+use Rattle.std.specs.Prelude.{ℕ, Bool, true, false, nat_eq, if◌then◌else◌, Option, Some, List, [], ◌∷◌, ◌≡◌, ◌<◌, ◌++◌, None, ◌≤◌, ◌%◌, length, map, All}
 use Rattle.afdx_frame.specs.Header.{sub_in}
 use Rattle.redundant_mux.specs.Lines.{Entry, log}
 use Rattle.vl_shaper.specs.Pace.{Choice, IsChosen, turn_of}
@@ -13,6 +13,7 @@ use Rattle.vl_link.specs.Links.{Held, LinkState, held_at, taken_by, sub_fragment
 use Rattle.afdx_plan.specs.Config.{port_plan_at}
 use Rattle.afdx_plan.specs.declared.port_plan.PortPlan.{PortPlan}
 use Rattle.afdx_frame.specs.Cutting.{Cutting, Remains, cut_of}
+use Rattle.afdx_frame.specs.Template.{Origin}
 use Rattle.vl_link.specs.declared.sub.SubVl.{SubVl}
 use Rattle.vl_link.specs.declared.queue.Queue.{Queue}
 use Rattle.vl_link.specs.declared.queue.Queue.TheVariants.{Receiving, Gathered, Empty}
@@ -92,6 +93,14 @@ pub record IsPortOf (owner : SubVl) (sender : PortPlan) : Type 0 where
   pub port : IsPort sender
   pub over : SendsOver sender owner.link
   pub of_sub : sender.sub ≡ owner.sub
+
+-- the ports that frames come from
+abbrev pub plans_of : List Origin → List PortPlan
+plans_of origins = map (λ (of : Origin). of.port) origins
+
+-- they are ports of this end system
+abbrev pub AreAtEnd : ℕ → List Origin → Type 0
+AreAtEnd end_system origins = All (λ (of : Origin). of.end_system ≡ end_system) origins
 
 -- what remains of a message of one of these ports
 abbrev pub cut_among : List PortPlan → ℕ → Remains → Cutting

@@ -32,25 +32,26 @@ pub struct Sub {
 impl Model for Sub {
     ghost use Rattle.std.specs.Box.{boxed_slice_items};
     ghost use Rattle.vl_link.specs.Links.{Held, left_of};
-    ghost use Rattle.vl_link.specs.Kept.{IsSub, cut_among, seen_of};
+    ghost use Rattle.vl_link.specs.Kept.{IsSub, AreAtEnd, plans_of, cut_among, seen_of};
 
     ghost Value = { Held };
 
     ghost view = { λ s. record {
       of = s.of;
-      ports = boxed_slice_items s.ports;
-      left = left_of s.of (cut_among (boxed_slice_items s.ports) s.port s.rest);
+      ports = plans_of (boxed_slice_items s.ports);
+      left = left_of s.of (cut_among (plans_of (boxed_slice_items s.ports)) s.port s.rest);
       seen = seen_of s.queue;
     } };
 
-    ghost invariant = { λ s. IsSub s.of (boxed_slice_items s.ports) s.port s.rest (seen_of s.queue) s.place };
+    ghost invariant = { λ s. IsSub s.of (plans_of (boxed_slice_items s.ports)) s.port s.rest (seen_of s.queue) s.place
+        × AreAtEnd s.of.end_system (boxed_slice_items s.ports) };
 }
 
 impl Sub {
     ghost use Rattle.vl_link.specs.Seen.{receiving};
     ghost use Rattle.vl_link.specs.Links.{Held, Asks};
     ghost use Rattle.vl_link.specs.Calls.{TellsSubDone, IsFullSub, GathersSub, LacksSender, SubMakesSender, SubTakesBack, ClosesSub};
-    ghost use Rattle.vl_link.specs.Kept.{IsPortOf};
+    ghost use Rattle.vl_link.specs.Kept.{IsPortOf, AreAtEnd, plans_of};
     ghost use Rattle.subvl_queue.specs.Messages.{most_calls};
     ghost use Rattle.vl_link.specs.Seen.{IsReceiving, queue_of};
 
@@ -58,12 +59,13 @@ impl Sub {
     /// nothing.
     pub fn new(of: SubVl, ports: Vec<Template>, receiver: Receiver) -> Sub
         requires link { IsLink of.link }
-        requires ports { All (IsPortOf of) ports.items }
+        requires at_end { AreAtEnd of.end_system ports.items }
+        requires ports { All (IsPortOf of) (plans_of ports.items) }
         requires count { receiver.ports ≤ length ports.items }
         requires fresh { receiver.taken ≡ [] }
         ensures { result ≡ record {
           of = of;
-          ports = ports.items;
+          ports = plans_of ports.items;
           left = [];
           seen = receiving receiver;
         } }
@@ -114,10 +116,10 @@ impl Sub {
         ensures frame { IsFrameOf self.old.of.link.id.0 self.old.of.sub number ForA out.new.items }
         ensures same { self.new ≡ record self.old { left = self.new.left } }
     {
-        let (template, of) = (&self.ports[usize::from(self.port)], &self.of);
+        let template = &self.ports[usize::from(self.port)];
         if !self
             .rest
-            .write_next(template, &of.link, of.end_system, number, Net::A, out)
+            .write_next(template, &self.of.link, number, Net::A, out)
         {
             unreachable!()
         }

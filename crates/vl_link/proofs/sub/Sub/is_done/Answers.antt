@@ -1,13 +1,13 @@
-use Rattle.vl_link.proofs.Names.{arith}
+use Rattle.vl_link.proofs.Names.{arith, plans_of}
 use Rattle.vl_link.proofs.QueueLooks.{done_tells}
 use Rattle.vl_link.proofs.sub.Sub.is_done.Goals as goal
 
 pub returns-else-is_done : goal.returns-else-is_done
 returns-else-is_done c =
-    let tells = done_tells c.self.inside.of c.self.inside.ports.items.items c.self.inside.port _ c.is_done.result c.is_done.ensures in
+    let tells = done_tells c.self.inside.of (plans_of c.self.inside.ports.items.items) c.self.inside.port _ c.is_done.result c.is_done.ensures in
     grind arith
 
 pub returns-then-is_done : goal.returns-then-is_done
 returns-then-is_done c =
-    let tells = done_tells c.self.inside.of c.self.inside.ports.items.items c.self.inside.port _ c.is_done.result c.is_done.ensures in
+    let tells = done_tells c.self.inside.of (plans_of c.self.inside.ports.items.items) c.self.inside.port _ c.is_done.result c.is_done.ensures in
     grind arith
