@@ -31,7 +31,7 @@ struct port {
     uint32_t sum;
 };
 
-/* A network: the frames of the last poll, or with DUTIES the last frames of all, in turn. */
+/* A network: the frames of the last poll. */
 struct kept {
     uint64_t at;
     size_t length;
@@ -183,7 +183,7 @@ static void give(struct out *out, uint64_t now, const uint8_t *frame, size_t len
         out->stands = false;
         return;
     }
-    struct kept *kept = &out->kept[out->count++ % HAND_LINKS];
+    struct kept *kept = &out->kept[out->count++ - out->begun];
     kept->at = now;
     memcpy(kept->frame, frame, length);
     kept->length = length;
@@ -247,7 +247,7 @@ size_t hand_frames(const struct hand *it, unsigned network) {
 }
 
 const uint8_t *hand_frame(const struct hand *it, unsigned network, size_t k, size_t *length) {
-    const struct kept *kept = &it->out[network].kept[(it->out[network].begun + k) % HAND_LINKS];
+    const struct kept *kept = &it->out[network].kept[k];
     *length = kept->length;
     return kept->frame;
 }

@@ -3,7 +3,7 @@
    headers of a port are made once, as the library's are. It checks only what it has to: no configuration text, no
    closing, no networks that fail, no gathering. Built with DUTIES it does in each call what the library owes there:
    queues that close and whose room is known before a place is drawn, a number of sends that ends, networks that are
-   lent a frame, keep the last 64 and may fail, counts of each link, and times that don't go back. */
+   lent a frame and may fail, counts of each link, and times that don't go back. */
 #ifndef HAND_H
 #define HAND_H
 

@@ -18,8 +18,8 @@ gives_kept it new room port kept own is = record {
   mirrored = kept.mirrored;
   own = λ sending. subst (λ (ports : List PortView). All (IsPortOfTx it.tx) ports) (sym is)
       (All-push (IsPortOfTx it.tx) it.ports port (kept.own sending) (own sending));
-  few_a = kept.few_a;
-  few_b = kept.few_b;
+  made_a = kept.made_a;
+  made_b = kept.made_b;
 }
 
 -- A port that is taken out is one of the emitter's.

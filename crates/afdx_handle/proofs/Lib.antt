@@ -1,5 +1,5 @@
 pub mod AsBox
 pub mod EndPorts
-pub mod FewFrames
+pub mod PollFrames
 pub mod MadeFrames
 mod Names

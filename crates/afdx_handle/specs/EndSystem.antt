@@ -1,9 +1,9 @@
 -- An end system as contracts see it, and the effect of each of its calls.
-use Rattle.std.specs.Prelude.{ℕ, ◌≡◌, ◌≤◌, ◌+◌, ◌-◌, List, [], ◌∷◌, ◌++◌, length, Bool, true, false, nat_eq, IsPermutation}
+use Rattle.std.specs.Prelude.{ℕ, ◌≡◌, ◌≤◌, ◌<◌, ◌+◌, ◌-◌, List, [], ◌∷◌, ◌++◌, length, Bool, true, false, nat_eq, IsPermutation}
 use Rattle.afdx_frame.specs.declared.net.Net.{Net}
 use Rattle.afdx_frame.specs.declared.net.Net.TheVariants.{A, B}
 use Rattle.redundant_mux.specs.Memory.{entry_at}
-use Rattle.redundant_mux.specs.Lines.{log, IsMirrored}
+use Rattle.redundant_mux.specs.Lines.{Entry, log, IsMirrored}
 use Rattle.afdx_legal.specs.Accepted.{IsAllDone}
 use Rattle.afdx_plan.specs.Config.{Plan}
 use Rattle.afdx_config.specs.Faults.{IsPlanOf}
@@ -58,12 +58,17 @@ made_at net k it = (entry_at (line_of net it.tx.lines) (before_of net it + k)).f
 abbrev pub IsAllSent : EndView → Type 0
 IsAllSent it = IsAllDone it.tx.plan (accepted_in it.tx.links) (log it.tx.lines)
 
--- the invariant of an end system: its ports are its emitter's, and a poll makes at most 64 frames for a network
+-- the frames from this number on are those of one poll: at most 64, all of its time
+pub record AreOfPoll (at before : ℕ) (handed : List Entry) : Type 0 where
+  pub few : length handed ≤ before + 64
+  pub same : (k : ℕ) → before ≤ k → k < length handed → (entry_at handed k).at ≡ at
+
+-- the invariant of an end system: its ports are its emitter's, and the frames after those of earlier polls are of the last
 pub record IsEndSystem (it : EndView) : Type 0 where
   pub mirrored : IsMirrored it.tx.lines
   pub own : it.gathered ≡ false → AreOpenedWith it.tx it.ports
-  pub few_a : length it.tx.lines.a ≤ it.a_before + 64
-  pub few_b : length it.tx.lines.b ≤ it.b_before + 64
+  pub made_a : AreOfPoll it.tx.moment it.a_before it.tx.lines.a
+  pub made_b : AreOfPoll it.tx.moment it.b_before it.tx.lines.b
 
 -- A poll: the frames that it makes for a network are those after the frames accepted before.
 pub record PollsEnd (now : ℕ) (old new : EndView) : Type 0 where

@@ -175,10 +175,10 @@ impl EndSystem {
         ensures most { length result.now ≤ 1514 }
     {
         let (first, _end) = self.numbers(net);
-        let Some(kept) = self.stage.network(net).frame(first + k as u64) else {
+        let Some(frame) = self.stage.network(net).frame(first + k as u64) else {
             unreachable!();
         };
-        kept.frame.as_slice()
+        frame.as_slice()
     }
 
     /// Writes the link, the sub-VL and the number of frame `k`, from 0, that the last poll made for a network. Writes

@@ -4,7 +4,7 @@ ghost use Rattle.afdx_plan.specs.Config.{IsPlan};
 ghost use Rattle.afdx_plan.specs.Plan.{IsLink, IsPort};
 ghost use Rattle.afdx_tx.specs.Emitter.{IsOpenedSub, IsOpenedLink, AreOpenedLinks, AreFreshLinks, IsFreshTx, ports_of_sub, queues_in};
 ghost use Rattle.afdx_tx.specs.Ports.{ArePortsOf, AreFreshPorts, AreOpenedWith};
-ghost use Rattle.vl_link.specs.Kept.{AreAtEnd, plans_of};
+ghost use Rattle.vl_link.specs.Kept.{AreOfEndSystem, plans_of};
 ghost use Rattle.status_board.specs.Views.{links_of, AreNew};
 
 use crate::emitter::Emitter;
@@ -36,7 +36,7 @@ fn templates_of(alloc: Global, ports: &[PortPlan], of: &SubVl) -> Result<Vec<Tem
     requires { All IsPort ports.now }
     ensures ports { IfOk result
         (λ own. plans_of own.items ≡ ports_of_sub ports.now of.now.link.id.0 of.now.sub) }
-    ensures at_end { IfOk result (λ own. AreAtEnd of.now.end_system own.items) }
+    ensures end_system { IfOk result (λ own. AreOfEndSystem of.now.end_system own.items) }
 {
     let count = ports.iter().filter(|port| is_port_of(port, of)).count();
     let mut own = Vec::with_capacity(alloc, count)?;

@@ -12,5 +12,5 @@ mod trail;
 pub use memory::{Handed, MemNetwork};
 pub use mux::{BothDown, Mux, Standing};
 pub use network::{HandFault, Network};
-pub use outbox::{Failing, Kept, Outbox, ROOM};
+pub use outbox::{Failing, Outbox, ROOM};
 pub use trail::Trail;

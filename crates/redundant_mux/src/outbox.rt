@@ -1,5 +1,5 @@
 //! A network that keeps the last frames that it accepted.
-ghost use Rattle.std.specs.Prelude.{◌≡◌, ◌+◌, ◌≤◌, ◌^◌, ◌<◌, [], ◌∷◌, ◌++◌, true, false, if◌then◌else◌, length, IfOk, OnOk, OnErr, IsErr};
+ghost use Rattle.std.specs.Prelude.{◌≡◌, ◌+◌, ◌-◌, ◌%◌, ◌≤◌, ◌^◌, ◌<◌, nat_eq, [], ◌∷◌, ◌++◌, true, false, if◌then◌else◌, length, IfOk, OnOk, OnErr, IsErr};
 ghost use Rattle.redundant_mux.specs.Lines.{entry};
 
 use crate::flag::Flag;
@@ -12,23 +12,40 @@ use std::boxed::BoxedSlice;
 use std::marker::Model;
 use std::mem::swap;
 
-/// The number of frames that are kept: the most of one poll, one per virtual link.
+/// The greatest number of frames that are kept: the most of one poll, one per virtual link.
 pub const ROOM: usize = 64;
 
-/// A frame that is kept until 64 more were accepted, and its time in microseconds.
-#[derive(Drop)]
-pub struct Kept {
-    pub at: u64,
-    pub frame: Box<FrameBuffer>,
+/// The time at which the frames that are kept were accepted, and the number of the first.
+#[derive(Clone, Copy)]
+struct Latest {
+    at: u64,
+    first: u64,
 }
 
-/// A network that keeps the last 64 frames that it accepted, by their numbers, and fails each call
-/// of `hand` and `hand_with` after `fail`. Contracts see all frames that it accepted, the failures,
-/// and what each of those calls found when it read the flag that `fail` sets.
+impl Latest {
+    /// The slot of the next frame, which is accepted at this time. Each time begins at slot 0, so that few frames use
+    /// little of the cache.
+    #[inline(always)]
+    fn slot(&mut self, at: u64, count: u64) -> usize
+        requires { self.old.first ≤ count }
+        ensures at { self.new.at ≡ at }
+        ensures first { self.new.first ≡ (if nat_eq at self.old.at then self.old.first else count) }
+        ensures slot { result ≡ (count - self.new.first) % 64 }
+    {
+        if at != self.at {
+            *self = Latest { at, first: count };
+        }
+        ((count - self.first) % ROOM as u64) as usize
+    }
+}
+
+/// A network that keeps the frames that it accepted at one time, the last, at most 64, by their numbers, and fails each
+/// call of `hand` and `hand_with` after `fail`. Contracts see all frames that it accepted, the failures, and what each
+/// of those calls found when it read the flag that `fail` sets.
 #[derive(Drop)]
 pub struct Outbox {
-    // Frame n is in slot n modulo 64.
-    slots: BoxedSlice<Kept>,
+    slots: BoxedSlice<Box<FrameBuffer>>,
+    latest: Latest,
     count: u64,
     failures: u64,
     flag: Flag,
@@ -49,7 +66,7 @@ impl Model for Outbox {
       reads = o.flag;
     } };
 
-    ghost invariant = { λ o. KeepsLast (boxed_slice_items o.slots) o.count (entries_of o.trail.logged) };
+    ghost invariant = { λ o. KeepsLast (boxed_slice_items o.slots) o.latest o.count (entries_of o.trail.logged) };
 }
 
 /// The outbox that `Outbox::fail` was called on. Nothing else makes one.
@@ -67,22 +84,19 @@ impl<'a> Model for Failing<'a> {
 }
 
 /// 64 empty slots.
-fn make_slots(alloc: Global) -> Result<Vec<Kept>, AllocError>
+fn make_slots(alloc: Global) -> Result<Vec<Box<FrameBuffer>>, AllocError>
     ensures { IfOk result (λ slots. length slots.items ≡ 64) }
 {
     let mut slots = Vec::with_capacity(alloc, ROOM)?;
     for _ in 0..ROOM {
-        slots.push(Kept {
-            at: 0,
-            frame: Box::new(alloc, FrameBuffer::new())?,
-        })?;
+        slots.push(Box::new(alloc, FrameBuffer::new())?)?;
     }
     Ok(slots)
 }
 
 impl Outbox {
     ghost use Rattle.std.specs.Prelude.{◌≡◌, ◌↔◌, [], length, IsSome, IfSome, IfOk};
-    ghost use Rattle.redundant_mux.specs.Memory.{IsAmongLast, entry_at, kept_entry, fresh_outbox, FailsByFlag};
+    ghost use Rattle.redundant_mux.specs.Memory.{IsAmongLast, entry_at, fresh_outbox, FailsByFlag};
 
     /// An outbox without frames. No later call allocates.
     pub fn new(alloc: Global) -> Result<Outbox, AllocError>
@@ -90,6 +104,7 @@ impl Outbox {
     {
         Ok(Outbox {
             slots: make_slots(alloc)?.into_boxed_slice(),
+            latest: Latest { at: 0, first: 0 },
             count: 0,
             failures: 0,
             flag: Flag::new(),
@@ -104,15 +119,16 @@ impl Outbox {
         self.count
     }
 
-    /// The frame with this number, from 0, or `None` exactly if it isn't among the last 64.
-    pub fn frame(&self, number: u64) -> Option<&Kept>
-        ensures some { IsSome result ↔ IsAmongLast (length self.now.handed) number }
-        ensures frame { IfSome result (λ kept. kept_entry kept.now ≡ entry_at self.now.handed number) }
+    /// The frame with this number, from 0, or `None` exactly if it isn't kept.
+    pub fn frame(&self, number: u64) -> Option<&FrameBuffer>
+        ensures some { IsSome result ↔ IsAmongLast self.now.handed number }
+        ensures frame { IfSome result (λ frame. frame.now.items ≡ (entry_at self.now.handed number).frame) }
     {
-        if number >= self.count || self.count - number > ROOM as u64 {
+        let first = self.latest.first;
+        if number < first || number >= self.count || self.count - number > ROOM as u64 {
             return None;
         }
-        Some(&self.slots[(number % ROOM as u64) as usize])
+        Some(&self.slots[((number - first) % ROOM as u64) as usize])
     }
 
     /// Makes each later call of `hand` and `hand_with` fail.
@@ -147,8 +163,8 @@ impl Network for Outbox {
 
     ghost failures = { λ o. o.failures };
 
-    /// Copies the frame over the one accepted 64 frames before. Reads the flag once. Fails exactly if
-    /// it is set, or if 2^64 - 1 frames were accepted.
+    /// Copies the frame over an older one. Reads the flag once. Fails exactly if it is set, or if 2^64 - 1 frames were
+    /// accepted.
     #[inline(always)]
     fn hand(&mut self, at: u64, frame: &[u8]) -> Result<(), HandFault>
         requires short { length frame.now ≤ GREATEST_FRAME }
@@ -163,16 +179,15 @@ impl Network for Outbox {
         if self.refuses() {
             return Err(HandFault);
         }
-        let slot = &mut self.slots[(self.count % ROOM as u64) as usize];
-        slot.at = at;
-        slot.frame.fill(frame);
+        let slot = self.latest.slot(at, self.count);
+        self.slots[slot].fill(frame);
         self.count += 1;
         // Contracts read the entries alone, so any `Networks` will do.
         self.trail = Trail::with(&self.trail, &Networks::Both, &at, frame);
         Ok(())
     }
 
-    /// As `hand`, without a copy: exchanges the buffer for that of the frame accepted 64 frames before.
+    /// As `hand`, without a copy: exchanges the buffer for that of an older frame.
     #[inline(always)]
     fn hand_with(&mut self, at: u64, frame: &mut Box<FrameBuffer>) -> Result<(), HandFault>
         requires few { self.old.failures + 1 < 2 ^ 64 }
@@ -187,11 +202,15 @@ impl Network for Outbox {
         if self.refuses() {
             return Err(HandFault);
         }
-        let slot = &mut self.slots[(self.count % ROOM as u64) as usize];
-        slot.at = at;
-        swap(&mut slot.frame, frame);
+        let slot = self.latest.slot(at, self.count);
+        swap(&mut self.slots[slot], frame);
         self.count += 1;
-        self.trail = Trail::with(&self.trail, &Networks::Both, &at, slot.frame.as_slice());
+        self.trail = Trail::with(
+            &self.trail,
+            &Networks::Both,
+            &at,
+            self.slots[slot].as_slice(),
+        );
         Ok(())
     }
 }

@@ -99,8 +99,8 @@ abbrev pub plans_of : List Origin → List PortPlan
 plans_of origins = map (λ (of : Origin). of.port) origins
 
 -- they are ports of this end system
-abbrev pub AreAtEnd : ℕ → List Origin → Type 0
-AreAtEnd end_system origins = All (λ (of : Origin). of.end_system ≡ end_system) origins
+abbrev pub AreOfEndSystem : ℕ → List Origin → Type 0
+AreOfEndSystem end_system origins = All (λ (of : Origin). of.end_system ≡ end_system) origins
 
 -- what remains of a message of one of these ports
 abbrev pub cut_among : List PortPlan → ℕ → Remains → Cutting

@@ -263,7 +263,9 @@ impl Link {
             mux,
             now,
         );
-        self.lost = self.lost || did.is_lost();
+        if did.is_lost() {
+            self.lost = true;
+        }
         did
     }
 

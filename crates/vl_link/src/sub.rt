@@ -32,7 +32,7 @@ pub struct Sub {
 impl Model for Sub {
     ghost use Rattle.std.specs.Box.{boxed_slice_items};
     ghost use Rattle.vl_link.specs.Links.{Held, left_of};
-    ghost use Rattle.vl_link.specs.Kept.{IsSub, AreAtEnd, plans_of, cut_among, seen_of};
+    ghost use Rattle.vl_link.specs.Kept.{IsSub, AreOfEndSystem, plans_of, cut_among, seen_of};
 
     ghost Value = { Held };
 
@@ -44,14 +44,14 @@ impl Model for Sub {
     } };
 
     ghost invariant = { λ s. IsSub s.of (plans_of (boxed_slice_items s.ports)) s.port s.rest (seen_of s.queue) s.place
-        × AreAtEnd s.of.end_system (boxed_slice_items s.ports) };
+        × AreOfEndSystem s.of.end_system (boxed_slice_items s.ports) };
 }
 
 impl Sub {
     ghost use Rattle.vl_link.specs.Seen.{receiving};
     ghost use Rattle.vl_link.specs.Links.{Held, Asks};
     ghost use Rattle.vl_link.specs.Calls.{TellsSubDone, IsFullSub, GathersSub, LacksSender, SubMakesSender, SubTakesBack, ClosesSub};
-    ghost use Rattle.vl_link.specs.Kept.{IsPortOf, AreAtEnd, plans_of};
+    ghost use Rattle.vl_link.specs.Kept.{IsPortOf, AreOfEndSystem, plans_of};
     ghost use Rattle.subvl_queue.specs.Messages.{most_calls};
     ghost use Rattle.vl_link.specs.Seen.{IsReceiving, queue_of};
 
@@ -59,7 +59,7 @@ impl Sub {
     /// nothing.
     pub fn new(of: SubVl, ports: Vec<Template>, receiver: Receiver) -> Sub
         requires link { IsLink of.link }
-        requires at_end { AreAtEnd of.end_system ports.items }
+        requires end_system { AreOfEndSystem of.end_system ports.items }
         requires ports { All (IsPortOf of) (plans_of ports.items) }
         requires count { receiver.ports ≤ length ports.items }
         requires fresh { receiver.taken ≡ [] }

@@ -1,5 +1,5 @@
 use Rattle.afdx_handle.proofs.Names.{◌∙◌, Bool, length, sym, ap, subst, vec_capacity, tx_of, end_view, IsEndSystem, the_view}
-use Rattle.afdx_handle.proofs.FewFrames.{poll_keeps}
+use Rattle.afdx_handle.proofs.PollFrames.{poll_keeps}
 use Rattle.afdx_handle.proofs.end_system.EndSystem.poll.Goals as goal
 
 pub invariant_of-self-2 : goal.invariant_of-self-2
