@@ -86,12 +86,7 @@ pub fn refusal_number(why: Refusal) -> u8
 pub fn standing_bits(standing: Standing) -> u8
     ensures { result ≡ standing_bits standing.a standing.b }
 {
-    match (standing.a, standing.b) {
-        (true, true) => 3,
-        (true, false) => 1,
-        (false, true) => 2,
-        (false, false) => 0,
-    }
+    u8::from(standing.a) + 2 * u8::from(standing.b)
 }
 
 /// The counts of a virtual link: the frames that at least one network accepted, the sum of their lengths in bytes, the
