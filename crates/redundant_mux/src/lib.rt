@@ -1,5 +1,5 @@
 //! Sends each frame to the networks that it is for, and abandons a network at its first failure.
-//! Has two networks: one keeps all frames in memory, the other the last 64.
+//! Has two networks: one keeps all frames in memory, the other those of its last time, at most 64.
 #![tactic(auto)]
 
 mod flag;

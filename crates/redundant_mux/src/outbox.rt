@@ -119,7 +119,8 @@ impl Outbox {
         self.count
     }
 
-    /// The frame with this number, from 0, or `None` exactly if it isn't kept.
+    /// The frame with this number, from 0, or `None` exactly if it isn't among the last 64 or a later one has another
+    /// time.
     pub fn frame(&self, number: u64) -> Option<&FrameBuffer>
         ensures some { IsSome result ↔ IsAmongLast self.now.handed number }
         ensures frame { IfSome result (λ frame. frame.now.items ≡ (entry_at self.now.handed number).frame) }
