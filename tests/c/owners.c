@@ -259,7 +259,7 @@ static void check_explain(void) {
 /* The bytes that an end system holds from afdx_open to afdx_free: docs/guide/c.md has this formula. */
 static size_t formula(size_t links, size_t sub_vls, size_t capacity, size_t each) {
     size_t ports = links * sub_vls * each;
-    return 198601 + 280 * links + 24 * (links < 4 ? 4 : links) + 176 * ports + 32 * (ports < 4 ? 4 : ports)
+    return 199625 + 280 * links + 24 * (links < 4 ? 4 : links) + 176 * ports + 32 * (ports < 4 ? 4 : ports)
         + links * sub_vls * (272 + 48 * capacity);
 }
 

@@ -12,7 +12,7 @@ use crate::stage::Stage;
 use afdx_frame::Net;
 use afdx_plan::VlId;
 use afdx_tx::TxPort;
-use redundant_mux::Failing;
+use redundant_mux::{Failing, LastTime};
 use status_board::Counts;
 use std::alloc::Global;
 use std::marker::Model;
@@ -175,10 +175,10 @@ impl EndSystem {
         ensures most { length result.now ≤ 1514 }
     {
         let (first, _end) = self.numbers(net);
-        let Some(frame) = self.stage.network(net).frame(first + k as u64) else {
+        let Some(kept) = self.stage.network(net).frame(first + k as u64) else {
             unreachable!();
         };
-        frame.as_slice()
+        kept.frame.as_slice()
     }
 
     /// Writes the link, the sub-VL and the number of frame `k`, from 0, that the last poll made for a network. Writes
@@ -250,7 +250,7 @@ impl EndSystem {
     }
 
     /// Makes a network fail at its next frame. The result shows which: the network of these frames.
-    pub fn fail(&self, net: Net) -> Failing<'_>
+    pub fn fail(&self, net: Net) -> Failing<'_, LastTime>
         ensures { result.handed ≡ line_of net self.now.tx.lines }
     {
         self.stage.network(net).fail()

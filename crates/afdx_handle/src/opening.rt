@@ -23,8 +23,8 @@ fn open_end(alloc: Global, text: &[u8]) -> Result<EndSystem, ConfigFault>
     ensures fault { IfErr result (λ fault. fault ≢ ConfigFault.Memory → IsLeastFault text.now fault) }
 {
     let config = read_config(alloc, text)?;
-    let outbox_a = Outbox::new(alloc).map_err(|_| ConfigFault::Memory)?;
-    let outbox_b = Outbox::new(alloc).map_err(|_| ConfigFault::Memory)?;
+    let outbox_a = Outbox::of_last_time(alloc).map_err(|_| ConfigFault::Memory)?;
+    let outbox_b = Outbox::of_last_time(alloc).map_err(|_| ConfigFault::Memory)?;
     let Ok((emitter, ports, _monitor)) = open_tx(alloc, config, outbox_a, outbox_b) else {
         return Err(ConfigFault::Memory);
     };

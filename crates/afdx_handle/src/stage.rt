@@ -4,14 +4,14 @@ ghost use Rattle.std.specs.Prelude.{◌≡◌, ℕ};
 use afdx_frame::Net;
 use afdx_plan::{Config, VlId};
 use afdx_tx::{Draining, Emitter, PollFault};
-use redundant_mux::{Outbox, Standing};
+use redundant_mux::{LastTime, Outbox, Standing};
 use status_board::Counts;
 
-/// An emitter over two outboxes, before or after its ports are gathered.
+/// An emitter over two outboxes, which keep the frames of one poll, before or after its ports are gathered.
 #[derive(Drop)]
 pub enum Stage {
-    Sending(Emitter<Outbox, Outbox>),
-    Draining(Draining<Outbox, Outbox>),
+    Sending(Emitter<Outbox<LastTime>, Outbox<LastTime>>),
+    Draining(Draining<Outbox<LastTime>, Outbox<LastTime>>),
 }
 
 impl Stage {
@@ -37,7 +37,7 @@ impl Stage {
     }
 
     /// A network.
-    pub fn network(&self, net: Net) -> &Outbox
+    pub fn network(&self, net: Net) -> &Outbox<LastTime>
         ensures { result.now.handed ≡ line_of net (tx_of self.now).lines }
     {
         match (self, net) {

@@ -199,7 +199,7 @@ fn gather(opened: Opened) -> Option<Draining<Outbox, Outbox>>
     tx.gather(ports).ok()
 }
 
-/// Polls for what is left, publishes, and prints the frames that both networks accepted at the last time.
+/// Polls for what is left, publishes, and prints the frames that both networks accepted.
 fn drain<W: Wait>(rt: &HostRuntime, wait: &W, opened: Opened) -> Ended
     requires { IsPortOfTx opened.tx opened.port }
 {
@@ -213,9 +213,9 @@ fn drain<W: Wait>(rt: &HostRuntime, wait: &W, opened: Opened) -> Ended
     let (a, b) = tx.into_networks();
     for number in 0..3 {
         if let (Some(on_a), Some(on_b)) = (a.frame(number), b.frame(number)) {
-            line(rt, format_args!("frame {}", number));
-            tell_fields(rt, on_a.as_slice());
-            tell_fields(rt, on_b.as_slice());
+            line(rt, format_args!("at {} and {}", on_a.at, on_b.at));
+            tell_fields(rt, on_a.frame.as_slice());
+            tell_fields(rt, on_b.frame.as_slice());
         }
     }
     Ok(())

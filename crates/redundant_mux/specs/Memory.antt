@@ -1,9 +1,8 @@
 -- Networks in memory: one that keeps all frames, and one that keeps the last that it accepted.
-use Rattle.std.specs.Prelude.{ℕ, List, [], Option, map, ◌≡◌, ◌≢◌, ◌⊎◌, ◌↔◌, ◌+◌, ◌-◌, ◌%◌, ◌^◌, ◌<◌, ◌≤◌, ◌∷◌, ◌++◌, Bool, true, length, get_or}
-use Rattle.std.specs.Global.{Box}
-use Rattle.afdx_frame.specs.Template.{Buffered}
+use Rattle.std.specs.Prelude.{ℕ, List, [], Option, map, ◌≡◌, ◌≢◌, ◌⊎◌, ◌↔◌, ◌+◌, ◌-◌, ◌%◌, ◌^◌, ◌<◌, ◌≤◌, ◌∷◌, ◌++◌, Bool, true, false, length, get_or}
 use Rattle.redundant_mux.specs.Lines.{Entry, entry}
 use Rattle.redundant_mux.specs.declared.memory.Handed.{Handed}
+use Rattle.redundant_mux.specs.declared.outbox.Kept.{Kept}
 use Rattle.redundant_mux.specs.declared.outbox.Latest.{Latest}
 
 -- the frames that it accepted, its capacity in frames, the number of failures and of calls, and the
@@ -45,23 +44,29 @@ pub record FailsByFlag (old new : OutboxView) (fails : Type 0) : Type 0 where
   pub reads : new.reads ≡ old.reads ++ is_set ∷ []
   pub by : FailsBy is_set old fails
 
+abbrev pub kept_entry : Kept → Entry
+kept_entry one = entry one.at one.frame.value.items
+
 -- the entry with this number, from 0
 abbrev pub entry_at : List Entry → ℕ → Entry
 entry_at handed number = get_or handed number (entry 0 [])
 
--- the entry with this number is one of the last 64, and each one after it is of the same time
-pub record IsAmongLast (handed : List Entry) (number : ℕ) : Type 0 where
+-- The entry with this number is one of the last 64 and, if those of earlier times aren't kept, each one after it
+-- is of the same time.
+pub record IsKept (earlier : Bool) (handed : List Entry) (number : ℕ) : Type 0 where
   pub below : number < length handed
   pub late : length handed ≤ number + 64
-  pub same : (k : ℕ) → number ≤ k → k < length handed → (entry_at handed k).at ≡ (entry_at handed number).at
+  pub same : earlier ≡ false → (k : ℕ) → number ≤ k → k < length handed
+      → (entry_at handed k).at ≡ (entry_at handed number).at
 
--- Of the frames that it accepted, those of the last time are from number `first` on. The last 64 of
--- them are kept, frame n in slot n - first modulo 64.
-pub record KeepsLast (slots : List (Box Buffered)) (latest : Latest) (count : ℕ) (handed : List Entry) : Type 0 where
+-- Of the frames that it accepted, the last 64 from number `first` on are kept, frame n in slot n - first modulo 64.
+-- If those of earlier times are, `first` is 0. Otherwise all from `first` on are of the last time.
+pub record KeepsLast (earlier : Bool) (slots : List Kept) (latest : Latest) (count : ℕ) (handed : List Entry) : Type 0 where
   pub room : length slots ≡ 64
   pub counted : count ≡ length handed
   pub begun : latest.first ≤ count
-  pub same : (k : ℕ) → latest.first ≤ k → k < count → (entry_at handed k).at ≡ latest.at
-  pub earlier : 0 < latest.first → (latest.first < count) × ((entry_at handed (latest.first - 1)).at ≢ latest.at)
-  pub each : (number : ℕ) (slot : Box Buffered) → latest.first ≤ number → number < count → count ≤ number + 64
-      → (get_or slots ((number - latest.first) % 64) slot).value.items ≡ (entry_at handed number).frame
+  pub whole : earlier ≡ true → latest.first ≡ 0
+  pub same : earlier ≡ false → (k : ℕ) → latest.first ≤ k → k < count → (entry_at handed k).at ≡ latest.at
+  pub other : 0 < latest.first → (latest.first < count) × ((entry_at handed (latest.first - 1)).at ≢ latest.at)
+  pub each : (number : ℕ) (slot : Kept) → latest.first ≤ number → number < count → count ≤ number + 64
+      → kept_entry (get_or slots ((number - latest.first) % 64) slot) ≡ entry_at handed number

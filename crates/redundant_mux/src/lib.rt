@@ -1,5 +1,5 @@
 //! Sends each frame to the networks that it is for, and abandons a network at its first failure.
-//! Has two networks: one keeps all frames in memory, the other those of its last time, at most 64.
+//! Has two networks: one keeps all frames in memory, the other the last 64, or those of its last time.
 #![tactic(auto)]
 
 mod flag;
@@ -7,10 +7,12 @@ mod memory;
 mod mux;
 mod network;
 mod outbox;
+mod span;
 mod trail;
 
 pub use memory::{Handed, MemNetwork};
 pub use mux::{BothDown, Mux, Standing};
 pub use network::{HandFault, Network};
-pub use outbox::{Failing, Outbox, ROOM};
+pub use outbox::{Failing, Kept, Outbox, ROOM};
+pub use span::{LastFrames, LastTime, Span};
 pub use trail::Trail;

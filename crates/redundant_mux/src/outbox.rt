@@ -1,21 +1,29 @@
 //! A network that keeps the last frames that it accepted.
-ghost use Rattle.std.specs.Prelude.{◌≡◌, ◌+◌, ◌-◌, ◌%◌, ◌≤◌, ◌^◌, ◌<◌, nat_eq, [], ◌∷◌, ◌++◌, true, false, if◌then◌else◌, length, IfOk, OnOk, OnErr, IsErr};
+ghost use Rattle.std.specs.Prelude.{◌≡◌, ◌+◌, ◌-◌, ◌%◌, ◌≤◌, ◌^◌, ◌<◌, ◌||◌, nat_eq, [], ◌∷◌, ◌++◌, true, false, if◌then◌else◌, length, IfOk, OnOk, OnErr, IsErr};
 ghost use Rattle.redundant_mux.specs.Lines.{entry};
 
 use crate::flag::Flag;
 use crate::network::{HandFault, Network};
+use crate::span::{LastFrames, LastTime, Span};
 use crate::trail::Trail;
 use afdx_frame::{FrameBuffer, GREATEST_FRAME};
 use afdx_plan::Networks;
 use std::alloc::{AllocError, Global};
 use std::boxed::BoxedSlice;
-use std::marker::Model;
+use std::marker::{Model, PhantomData};
 use std::mem::swap;
 
 /// The greatest number of frames that are kept: the most of one poll, one per virtual link.
 pub const ROOM: usize = 64;
 
-/// The time at which the frames that are kept were accepted, and the number of the first.
+/// A frame that is kept, and its time in microseconds.
+#[derive(Drop)]
+pub struct Kept {
+    pub at: u64,
+    pub frame: Box<FrameBuffer>,
+}
+
+/// The number of the first frame that is kept, and if none of an earlier time is, the time of all.
 #[derive(Clone, Copy)]
 struct Latest {
     at: u64,
@@ -23,37 +31,37 @@ struct Latest {
 }
 
 impl Latest {
-    /// The slot of the next frame, which is accepted at this time. Each time begins at slot 0, so that few frames use
-    /// little of the cache.
+    /// The slot of the next frame, which is accepted at this time.
     #[inline(always)]
-    fn slot(&mut self, at: u64, count: u64) -> usize
+    fn slot(&mut self, earlier: bool, at: u64, count: u64) -> usize
         requires { self.old.first ≤ count }
-        ensures at { self.new.at ≡ at }
-        ensures first { self.new.first ≡ (if nat_eq at self.old.at then self.old.first else count) }
+        ensures at { earlier ≡ false → self.new.at ≡ at }
+        ensures first { self.new.first ≡ (if earlier || nat_eq at self.old.at then self.old.first else count) }
         ensures slot { result ≡ (count - self.new.first) % 64 }
     {
-        if at != self.at {
+        if !earlier && at != self.at {
             *self = Latest { at, first: count };
         }
         ((count - self.first) % ROOM as u64) as usize
     }
 }
 
-/// A network that keeps the frames that it accepted at one time, the last, at most 64, by their numbers, and fails each
-/// call of `hand` and `hand_with` after `fail`. Contracts see all frames that it accepted, the failures, and what each
-/// of those calls found when it read the flag that `fail` sets.
+/// A network that keeps the last 64 frames that it accepted, by their numbers, or of these only those of the last time
+/// (`Outbox<LastTime>`), and fails each call of `hand` and `hand_with` after `fail`. Contracts see all frames that it
+/// accepted, the failures, and what each of those calls found when it read the flag that `fail` sets.
 #[derive(Drop)]
-pub struct Outbox {
-    slots: BoxedSlice<Box<FrameBuffer>>,
+pub struct Outbox<S: Span = LastFrames> {
+    slots: BoxedSlice<Kept>,
     latest: Latest,
     count: u64,
     failures: u64,
     flag: Flag,
     // All frames accepted so far, for proofs alone.
     trail: Trail,
+    span: PhantomData<S>,
 }
 
-impl Model for Outbox {
+impl<S: Span> Model for Outbox<S> {
     ghost use Rattle.std.specs.Box.{boxed_slice_items};
     ghost use Rattle.redundant_mux.specs.Lines.{entries_of};
     ghost use Rattle.redundant_mux.specs.Memory.{OutboxView, KeepsLast};
@@ -66,16 +74,16 @@ impl Model for Outbox {
       reads = o.flag;
     } };
 
-    ghost invariant = { λ o. KeepsLast (boxed_slice_items o.slots) o.latest o.count (entries_of o.trail.logged) };
+    ghost invariant = { λ o. KeepsLast S.EARLIER (boxed_slice_items o.slots) o.latest o.count (entries_of o.trail.logged) };
 }
 
 /// The outbox that `Outbox::fail` was called on. Nothing else makes one.
 #[derive(Drop)]
-pub struct Failing<'a> {
-    outbox: &'a Outbox,
+pub struct Failing<'a, S: Span = LastFrames> {
+    outbox: &'a Outbox<S>,
 }
 
-impl<'a> Model for Failing<'a> {
+impl<'a, S: Span> Model for Failing<'a, S> {
     ghost use Rattle.redundant_mux.specs.Memory.{OutboxView};
 
     ghost Value = { OutboxView };
@@ -84,22 +92,49 @@ impl<'a> Model for Failing<'a> {
 }
 
 /// 64 empty slots.
-fn make_slots(alloc: Global) -> Result<Vec<Box<FrameBuffer>>, AllocError>
+fn make_slots(alloc: Global) -> Result<Vec<Kept>, AllocError>
     ensures { IfOk result (λ slots. length slots.items ≡ 64) }
 {
     let mut slots = Vec::with_capacity(alloc, ROOM)?;
     for _ in 0..ROOM {
-        slots.push(Box::new(alloc, FrameBuffer::new())?)?;
+        slots.push(Kept {
+            at: 0,
+            frame: Box::new(alloc, FrameBuffer::new())?,
+        })?;
     }
     Ok(slots)
 }
 
-impl Outbox {
-    ghost use Rattle.std.specs.Prelude.{◌≡◌, ◌↔◌, [], length, IsSome, IfSome, IfOk};
-    ghost use Rattle.redundant_mux.specs.Memory.{IsAmongLast, entry_at, fresh_outbox, FailsByFlag};
+impl Outbox<LastFrames> {
+    ghost use Rattle.std.specs.Prelude.{◌≡◌, IfOk};
+    ghost use Rattle.redundant_mux.specs.Memory.{fresh_outbox};
 
-    /// An outbox without frames. No later call allocates.
-    pub fn new(alloc: Global) -> Result<Outbox, AllocError>
+    /// An outbox without frames, which will keep the last 64. No later call allocates.
+    pub fn new(alloc: Global) -> Result<Outbox<LastFrames>, AllocError>
+        ensures { IfOk result (λ outbox. outbox ≡ fresh_outbox) }
+    {
+        Outbox::empty(alloc)
+    }
+}
+
+impl Outbox<LastTime> {
+    ghost use Rattle.std.specs.Prelude.{◌≡◌, IfOk};
+    ghost use Rattle.redundant_mux.specs.Memory.{fresh_outbox};
+
+    /// An outbox without frames, which will keep those of the last time, at most 64. No later call allocates.
+    pub fn of_last_time(alloc: Global) -> Result<Outbox<LastTime>, AllocError>
+        ensures { IfOk result (λ outbox. outbox ≡ fresh_outbox) }
+    {
+        Outbox::empty(alloc)
+    }
+}
+
+impl<S: Span> Outbox<S> {
+    ghost use Rattle.std.specs.Prelude.{◌≡◌, ◌↔◌, [], length, IsSome, IfSome, IfOk};
+    ghost use Rattle.redundant_mux.specs.Memory.{IsKept, entry_at, kept_entry, fresh_outbox, FailsByFlag};
+
+    /// An outbox without frames.
+    fn empty(alloc: Global) -> Result<Outbox<S>, AllocError>
         ensures { IfOk result (λ outbox. outbox ≡ fresh_outbox) }
     {
         Ok(Outbox {
@@ -109,6 +144,7 @@ impl Outbox {
             failures: 0,
             flag: Flag::new(),
             trail: Trail::new(),
+            span: PhantomData,
         })
     }
 
@@ -119,11 +155,11 @@ impl Outbox {
         self.count
     }
 
-    /// The frame with this number, from 0, or `None` exactly if it isn't among the last 64 or a later one has another
-    /// time.
-    pub fn frame(&self, number: u64) -> Option<&FrameBuffer>
-        ensures some { IsSome result ↔ IsAmongLast self.now.handed number }
-        ensures frame { IfSome result (λ frame. frame.now.items ≡ (entry_at self.now.handed number).frame) }
+    /// The frame with this number, from 0, or `None` exactly if it isn't kept: it isn't among the last 64, or, if only
+    /// those of the last time are kept, a later one has another time.
+    pub fn frame(&self, number: u64) -> Option<&Kept>
+        ensures some { IsSome result ↔ IsKept S.EARLIER self.now.handed number }
+        ensures frame { IfSome result (λ kept. kept_entry kept.now ≡ entry_at self.now.handed number) }
     {
         let first = self.latest.first;
         if number < first || number >= self.count || self.count - number > ROOM as u64 {
@@ -133,7 +169,7 @@ impl Outbox {
     }
 
     /// Makes each later call of `hand` and `hand_with` fail.
-    pub fn fail(&self) -> Failing<'_>
+    pub fn fail(&self) -> Failing<'_, S>
         ensures { result ≡ self.now }
     {
         self.flag.set();
@@ -157,7 +193,7 @@ impl Outbox {
     }
 }
 
-impl Network for Outbox {
+impl<S: Span> Network for Outbox<S> {
     ghost use Rattle.redundant_mux.specs.Memory.{OutboxView, FailsByFlag};
 
     ghost handed = { λ o. o.handed };
@@ -180,8 +216,9 @@ impl Network for Outbox {
         if self.refuses() {
             return Err(HandFault);
         }
-        let slot = self.latest.slot(at, self.count);
-        self.slots[slot].fill(frame);
+        let slot = &mut self.slots[self.latest.slot(S::EARLIER, at, self.count)];
+        slot.at = at;
+        slot.frame.fill(frame);
         self.count += 1;
         // Contracts read the entries alone, so any `Networks` will do.
         self.trail = Trail::with(&self.trail, &Networks::Both, &at, frame);
@@ -203,15 +240,11 @@ impl Network for Outbox {
         if self.refuses() {
             return Err(HandFault);
         }
-        let slot = self.latest.slot(at, self.count);
-        swap(&mut self.slots[slot], frame);
+        let slot = &mut self.slots[self.latest.slot(S::EARLIER, at, self.count)];
+        slot.at = at;
+        swap(&mut slot.frame, frame);
         self.count += 1;
-        self.trail = Trail::with(
-            &self.trail,
-            &Networks::Both,
-            &at,
-            self.slots[slot].as_slice(),
-        );
+        self.trail = Trail::with(&self.trail, &Networks::Both, &at, slot.frame.as_slice());
         Ok(())
     }
 }
