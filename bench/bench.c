@@ -4,8 +4,10 @@
        bench --row ROW
 
    Both send the same messages and make the same frames, which is checked first. Then each work is measured in turn, the
-   library and the other, ROUNDS times each (11 by default), and one line is printed: the least nanoseconds of each, the
-   ratio of these, and the least, median and greatest ratio of a repetition.
+   library and the other, in ROUNDS rounds (11 by default), and one line is printed: the least nanoseconds of each, the
+   ratio of these, and the least, median and greatest ratio of a round. In a round each has several turns, of SLICES slices
+   each, and its least slice counts: on a processor that others use too, a tenth of a millisecond is more often undisturbed
+   than a round.
    The rows of lwIP compare the library's frames for two networks with lwIP's for one that only touches them. Below are the
    time of a call that only looks into its handle, and that of one poll of 64 virtual links that are all due, as a
    distribution. The exit status is 0 if the frames were equal.
@@ -17,13 +19,14 @@
 
 #include <limits.h>
 #include <malloc.h>
+#include <math.h>
 #include <pthread.h>
 #include <sched.h>
 #include <stdlib.h>
 #include <string.h>
 #include <time.h>
 
-enum { MOST_ROUNDS = 101 };
+enum { MOST_ROUNDS = 101, SLICES = 5 };
 
 static double now_ns(void) {
     struct timespec at;
@@ -31,14 +34,15 @@ static double now_ns(void) {
     return 1e9 * (double)at.tv_sec + (double)at.tv_nsec;
 }
 
-/* A work over a plan with messages of a length: `measured` returns the nanoseconds of one of its units. */
+/* A work over a plan with messages of a length: `measured` does a slice of `units` units, and returns the nanoseconds of
+   one. In a round each side has `turns` turns. */
 struct work {
     const char *name;
     struct plan plan;
     size_t length;
     unsigned threads;
     double (*measured)(struct side *, const struct work *);
-    unsigned units;
+    unsigned units, turns;
 };
 
 /* How many frames a message takes on each network. */
@@ -143,28 +147,41 @@ static double in_threads(struct side *side, const struct work *work) {
 }
 
 static const struct work WORKS[] = {
-    {"send and due poll, 1 byte", {1, 1518, 2, 1, GREATEST}, 1, 0, send_and_poll, 204800},
-    {"send and due poll, 100 bytes", {1, 1518, 2, 1, GREATEST}, 100, 0, send_and_poll, 204800},
-    {"send and due poll, 1,471 bytes", {1, 1518, 2, 1, GREATEST}, 1471, 0, send_and_poll, 102400},
-    {"send and 6 due polls, 8,192 bytes", {1, 1518, 2, 1, GREATEST}, 8192, 0, send_and_poll, 20480},
-    {"send of 1 byte", {1, 1518, 256, 1, GREATEST}, 1, 0, sends, 204800},
-    {"frame of 60 bytes, 64 links due", {64, 1518, 4, 64, GREATEST}, 1, 0, frames_due, 204800},
-    {"frame of 1,514 bytes, 64 links due", {64, 1518, 4, 64, GREATEST}, 1471, 0, frames_due, 51200},
-    {"poll of 64 links, none due", {64, 1518, 4, 64, GREATEST}, 1, 0, none_due, 204800},
-    {"message, 1 link, 1 port", {1, 1518, 4, 1, GREATEST}, 1, 0, send_and_poll, 204800},
-    {"message, 16 links, 64 ports", {16, 1518, 4, 64, GREATEST}, 1, 0, send_and_poll, 204800},
-    {"message, 64 links, 256 ports", {64, 1518, 4, 256, GREATEST}, 1, 0, send_and_poll, 204800},
-    {"message, 1 sender in a thread", {1, 1518, 256, 1, GREATEST}, 1, 1, in_threads, 102400},
-    {"message, 2 senders in threads", {1, 1518, 256, 2, GREATEST}, 1, 2, in_threads, 102400},
-    {"message, 4 senders in threads", {1, 1518, 256, 4, GREATEST}, 1, 4, in_threads, 102400},
-    {"message, 16 senders in threads", {1, 1518, 256, 16, GREATEST}, 1, 16, in_threads, 102400},
+    {"send and due poll, 1 byte", {1, 1518, 2, 1, GREATEST}, 1, 0, send_and_poll, 2048, 20},
+    {"send and due poll, 100 bytes", {1, 1518, 2, 1, GREATEST}, 100, 0, send_and_poll, 2048, 20},
+    {"send and due poll, 1,471 bytes", {1, 1518, 2, 1, GREATEST}, 1471, 0, send_and_poll, 1024, 20},
+    {"send and 6 due polls, 8,192 bytes", {1, 1518, 2, 1, GREATEST}, 8192, 0, send_and_poll, 256, 16},
+    {"send of 1 byte", {1, 1518, 256, 1, GREATEST}, 1, 0, sends, 2048, 20},
+    {"frame of 60 bytes, 64 links due", {64, 1518, 4, 64, GREATEST}, 1, 0, frames_due, 2048, 20},
+    {"frame of 1,514 bytes, 64 links due", {64, 1518, 4, 64, GREATEST}, 1471, 0, frames_due, 1024, 10},
+    {"poll of 64 links, none due", {64, 1518, 4, 64, GREATEST}, 1, 0, none_due, 2048, 20},
+    {"message, 1 link, 1 port", {1, 1518, 4, 1, GREATEST}, 1, 0, send_and_poll, 2048, 20},
+    {"message, 16 links, 64 ports", {16, 1518, 4, 64, GREATEST}, 1, 0, send_and_poll, 2048, 20},
+    {"message, 64 links, 256 ports", {64, 1518, 4, 256, GREATEST}, 1, 0, send_and_poll, 2048, 20},
+    {"message, 1 sender in a thread", {1, 1518, 256, 1, GREATEST}, 1, 1, in_threads, 102400, 1},
+    {"message, 2 senders in threads", {1, 1518, 256, 2, GREATEST}, 1, 2, in_threads, 102400, 1},
+    {"message, 4 senders in threads", {1, 1518, 256, 4, GREATEST}, 1, 4, in_threads, 102400, 1},
+    {"message, 16 senders in threads", {1, 1518, 256, 16, GREATEST}, 1, 16, in_threads, 102400, 1},
 #ifdef WITH_LWIP
-    {"lwIP: 1 byte", {1, 1518, 2, 1, GREATEST}, 1, 0, by_lwip, 204800},
-    {"lwIP: 100 bytes", {1, 1518, 2, 1, GREATEST}, 100, 0, by_lwip, 204800},
-    {"lwIP: 1,471 bytes", {1, 1518, 2, 1, GREATEST}, 1471, 0, by_lwip, 102400},
-    {"lwIP: 8,192 bytes", {1, 1518, 2, 1, GREATEST}, 8192, 0, by_lwip, 20480},
+    {"lwIP: 1 byte", {1, 1518, 2, 1, GREATEST}, 1, 0, by_lwip, 2048, 20},
+    {"lwIP: 100 bytes", {1, 1518, 2, 1, GREATEST}, 100, 0, by_lwip, 2048, 20},
+    {"lwIP: 1,471 bytes", {1, 1518, 2, 1, GREATEST}, 1471, 0, by_lwip, 1024, 20},
+    {"lwIP: 8,192 bytes", {1, 1518, 2, 1, GREATEST}, 8192, 0, by_lwip, 256, 16},
 #endif
 };
+
+static double lesser(double a, double b) {
+    return a < b ? a : b;
+}
+
+/* The nanoseconds of a unit in some turns of one side: the least of their slices. With threads a turn is one slice: the
+   least of many would show the luckiest schedule. */
+static double least_of(struct side *side, const struct work *work, unsigned turns) {
+    unsigned slices = work->threads > 0 ? turns : turns * SLICES;
+    double least = INFINITY;
+    for (unsigned k = 0; k < slices; k++) least = lesser(least, work->measured(side, work));
+    return least;
+}
 
 static int by_size(const void *a, const void *b) {
     double x = *(const double *)a, y = *(const double *)b;
@@ -178,21 +195,43 @@ static double time_by(const char *driver, const struct work *work) {
     return printed(popen(command, "r"));
 }
 
-/* Compares the library and the other at a work, or two drivers. */
-static void compare(const struct work *work, unsigned rounds, const char *const drivers[2]) {
+/* What the rounds of a work took: nanoseconds of a unit of the library and of the other, and their ratios. */
+struct row {
     double times[2][MOST_ROUNDS], ratios[MOST_ROUNDS];
+};
+
+/* A round of a work: the library and the other by turns, or two drivers. */
+static void time_round(struct row *row, unsigned round, const struct work *work, const char *const drivers[2]) {
     static struct side sides[2];
+    unsigned turns = drivers[1] ? 1 : work->turns;
+    double least[2] = {INFINITY, INFINITY};
     open_both(sides, work->plan);
-    for (unsigned k = 0; k < rounds; k++) {
-        for (int s = 0; s < 2; s++) times[s][k] = drivers[1] ? time_by(drivers[s], work) : work->measured(&sides[s], work);
-        ratios[k] = times[0][k] / times[1][k];
+    for (unsigned k = 0; k < turns; k++) {
+        for (int s = 0; s < 2; s++) {
+            double time = drivers[1] ? time_by(drivers[s], work) : least_of(&sides[s], work, 1);
+            least[s] = lesser(least[s], time);
+        }
     }
     close_both(sides);
-    for (int s = 0; s < 2; s++) qsort(times[s], rounds, sizeof(double), by_size);
-    qsort(ratios, rounds, sizeof(double), by_size);
-    printf("| %-34s | %9.1f | %9.1f | %5.2f | %5.2f | %5.2f | %5.2f |\n", work->name, times[0][0], times[1][0],
-        times[0][0] / times[1][0], ratios[0], ratios[rounds / 2], ratios[rounds - 1]);
-    fflush(stdout);
+    for (int s = 0; s < 2; s++) row->times[s][round] = least[s];
+    row->ratios[round] = least[0] / least[1];
+}
+
+/* Prints the line of a work. */
+static void print_row(struct row *row, unsigned rounds, const struct work *work) {
+    for (int s = 0; s < 2; s++) qsort(row->times[s], rounds, sizeof(double), by_size);
+    qsort(row->ratios, rounds, sizeof(double), by_size);
+    printf("| %-34s | %9.1f | %9.1f | %5.2f | %5.2f | %5.2f | %5.2f |\n", work->name, row->times[0][0], row->times[1][0],
+        row->times[0][0] / row->times[1][0], row->ratios[0], row->ratios[rounds / 2], row->ratios[rounds - 1]);
+}
+
+/* Compares the library and the other at each work, or two drivers. The rounds of a work are spread over the whole run,
+   since what else the processor does changes within seconds. */
+static void compare_all(unsigned rounds, const char *const drivers[2]) {
+    static struct row rows[sizeof WORKS / sizeof *WORKS];
+    for (unsigned round = 0; round < rounds; round++)
+        for (size_t k = 0; k < sizeof WORKS / sizeof *WORKS; k++) time_round(&rows[k], round, &WORKS[k], drivers);
+    for (size_t k = 0; k < sizeof WORKS / sizeof *WORKS; k++) print_row(&rows[k], rounds, &WORKS[k]);
 }
 
 /* A call that does nothing but look into its handle: what each call of the C library costs before its own work. */
@@ -242,7 +281,7 @@ int main(int count, char **words) {
         static struct side sides[2];
         const struct work *work = &WORKS[strtoul(words[2], NULL, 10)];
         open_both(sides, work->plan);
-        return printf("%f\n", work->measured(&sides[0], work)) < 0;
+        return printf("%f\n", least_of(&sides[0], work, work->turns)) < 0;
     }
     unsigned rounds = count > 1 ? (unsigned)strtoul(words[1], NULL, 10) : 11;
     const char *const drivers[2] = {words[0], count > 2 ? words[2] : NULL};
@@ -251,8 +290,7 @@ int main(int count, char **words) {
     printf("| %-34s | %9s | %9s | %5s | %5s | %5s | %5s |\n", "nanoseconds", drivers[1] ? "new" : "library",
         drivers[1] ? "old" : "other", "ratio", "least", "half", "most");
     printf("|---|---|---|---|---|---|---|\n");
-    for (size_t k = 0; k < sizeof WORKS / sizeof *WORKS; k++)
-        compare(&WORKS[k], rounds, drivers);
+    compare_all(rounds, drivers);
     if (drivers[1]) return 0;
 #ifndef WITH_LWIP
     printf("\nlwIP is left out: liblwip-dev isn't there.\n");
