@@ -259,12 +259,12 @@ static void check_explain(void) {
 /* The bytes that an end system holds from afdx_open to afdx_free: docs/guide/c.md has this formula. */
 static size_t formula(size_t links, size_t sub_vls, size_t capacity, size_t each) {
     size_t ports = links * sub_vls * each;
-    return 199625 + 280 * links + 24 * (links < 4 ? 4 : links) + 176 * ports + 32 * (ports < 4 ? 4 : ports)
+    return 199633 + 280 * links + 24 * (links < 4 ? 4 : links) + 176 * ports + 32 * (ports < 4 ? 4 : ports)
         + links * sub_vls * (272 + 48 * capacity);
 }
 
 /* What is held beyond that for a moment while an end system is opened. */
-static size_t passing(size_t links) { return links > 54 ? 8 * (links - 54) : 0; }
+static size_t passing(size_t links) { return links > 55 ? 8 * (links - 55) : 0; }
 
 static void check_memory(void) {
     static const int rows[][4] = {{1, 1, 1, 1}, {1, 1, 2, 1}, {1, 1, 1, 2}, {1, 2, 1, 1},

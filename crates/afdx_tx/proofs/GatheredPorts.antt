@@ -1,6 +1,6 @@
 -- The accepted messages of each port that was gathered.
 use Rattle.afdx_tx.proofs.PortMessages.{own_messages}
-use Rattle.afdx_tx.proofs.Names.{ℕ, ◌≡◌, ◌<◌, List, length, arith, ap, ◌∙◌, subst, Contains, All-contains, PortPlan, Plan, IsPlan, port_plan_at, link_place, part_of, brought_by, known_of, LinkState, held_at, link_at, back_of, Lines, Tx, AreLinksOf, HaveOwnItems, IsSound, queues_in, PortView, BelongsTo, AreOpenedWith, HasPlace, HasEveryPlace, index_of, AreGathered, OnlyTakeBack, IsTakenBack, GathersLinks, GathersPorts, IsGatheredTx, HasOwnPart, held_for, Published, Reaches}
+use Rattle.afdx_tx.proofs.Names.{ℕ, ◌≡◌, ◌<◌, List, length, arith, ap, ◌∙◌, subst, Contains, All-contains, PortPlan, Plan, IsPlan, port_plan_at, link_place, part_of, brought_by, known_of, LinkState, held_at, link_at, back_of, Lines, Tx, AreLinksOf, HaveOwnItems, AllWaitUntil, IsSound, queues_in, PortView, BelongsTo, AreOpenedWith, HasPlace, HasEveryPlace, index_of, AreGathered, OnlyTakeBack, IsTakenBack, GathersLinks, GathersPorts, IsGatheredTx, HasOwnPart, held_for, Published, Reaches}
 use Rattle.afdx_tx.proofs.PortMessages.{port_within}
 use Rattle.afdx_tx.proofs.KeptLinks.{kept_sound}
 
@@ -52,6 +52,11 @@ gathers_sound config old ports new lines moment g sound =
 pub gathers_reaches : (config : Plan) (old : List LinkState) (ports : List PortView) (new : List LinkState) (board : List Published)
     → GathersPorts config old ports new → Reaches old board → Reaches new board
 gathers_reaches config old ports new board g r = grind arith
+
+-- Gathering makes no link due earlier.
+pub gathers_wait : (config : Plan) (old : List LinkState) (ports : List PortView) (new : List LinkState) (at : ℕ)
+    → GathersPorts config old ports new → AllWaitUntil at old (length old) → AllWaitUntil at new (length new)
+gathers_wait config old ports new at g wait = grind arith
 
 -- The accepted messages of each port are its own list.
 pub gathers_tx : (old new : Tx) (ports : List PortView) → GathersPorts old.plan old.links ports new.links

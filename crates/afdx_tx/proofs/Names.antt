@@ -21,7 +21,7 @@ pub use Rattle.afdx_tx.specs.Calls.{ClosesTx, LacksSub, IsFirstDue, NoneDueBefor
 pub use Rattle.afdx_tx.specs.Run.{AreGathered, Drains, DrainsAt, IsDrained, accepted_by, accepted_in, accepted_view, pace_in, IsRun, IsTurn, IsTurnAt}
 pub use Rattle.afdx_tx.specs.DrainEnds.{AreApartBy, AreDrained, DrainEnds, DrainsOne, no_lines, one_line, owed, owed_at, stream_at}
 pub use Rattle.afdx_tx.specs.Emitter.{AreApart, AreCarried, AreFreshLinks, AreKept, AreLinks, AreLinksOf, AreOpenedLinks, AreOpenedSubs, AreReceiving}
-pub use Rattle.afdx_tx.specs.Emitter.{AreServedBy, AreWhole, HaveOwnItems, IsOpenedLink, IsOpenedSub, IsSamePlan, IsSound, Tx, held_queue, link_queues}
+pub use Rattle.afdx_tx.specs.Emitter.{AllWaitUntil, AreServedBy, AreWhole, HaveOwnItems, IsOpenedLink, IsOpenedSub, IsSamePlan, IsSound, Tx, held_queue, link_queues}
 pub use Rattle.afdx_tx.specs.Emitter.{plan_of_link, plans, ports_of_sub, queues_in, taken_in, total_in}
 pub use Rattle.afdx_tx.specs.Gathering.{AreFull, GathersLinks, GathersPorts, HasOwnPart, IsGatheredLink, IsGatheredTx, IsTakenBack, OnlyTakeBack, OnlyTakesBack, held_for}
 pub use Rattle.afdx_tx.specs.Ports.{AreOpenedWith, BelongsTo, HasEveryPlace, HasOwnMessages, HasPlace, IsFreshPort, IsFreshSender, PortView, index_of, queue_at, queue_for}
@@ -63,5 +63,5 @@ pub use Rattle.vl_link.specs.Turn.{AreTurns, is_lost, may_release}
 pub use Rattle.vl_link.specs.declared.served.Served.{Served}
 pub use Rattle.vl_link.specs.declared.served.Served.TheVariants.{Lost, Nothing, Released}
 pub use Rattle.vl_link.specs.declared.sub.SubVl.{SubVl}
-pub use Rattle.vl_shaper.specs.Pace.{IsLater, Pace, is_due}
+pub use Rattle.vl_shaper.specs.Pace.{IsLater, Pace, due_from, is_due, waits_until}
 pub use Rattle.vl_shaper.specs.declared.shaper.Stamp.{Stamp}

@@ -1,5 +1,5 @@
 -- A poll after one more link's turn.
-use Rattle.afdx_tx.proofs.Names.{ℕ, ◌≡◌, ◌≢◌, ◌<◌, List, [], ◌∷◌, ◌++◌, ◌||◌, false, length, map, set, get_or, arith, ap, ◌∙◌, sym, subst, length-set, ext_get_or, get_or-map, length-map, All-push, LinkPlan, link_plan_at, A, link_in, Entry, entry, Logged, logged_for, Lines, log, log_more, log_same, IsLater, Served, Nothing, Released, Lost, counts_in, link_stream, IsKnown, AreKnown, LinkState, link_at, no_link, Serves, Follows, IsSameLink, is_lost, plan_of_link, plans, AreApart, AreCarried, AreServedBy, IsSamePlan, IsKept, IsSteady, Turned, IsOwn, HasItems, link_turn, kept_turn, other_stream, kept_stream, each_set, ◌+◌, add-one, true, append-nil, map-append, append_assoc, length-append, get_or-set_same, get_or-set_other, BothEndure, any_up, both_on, may_release, AreTurns, Release, turn_release, IsTold, IsPolling, IsTurn, IsTurnAt, turns_seen, turns_push}
+use Rattle.afdx_tx.proofs.Names.{ℕ, zero, suc, ◌≡◌, ◌≢◌, ◌<◌, ◌≤◌, rules, due_from, waits_until, min, cases_lt, AllWaitUntil, List, [], ◌∷◌, ◌++◌, ◌||◌, false, length, map, set, get_or, arith, ap, ◌∙◌, sym, subst, length-set, ext_get_or, get_or-map, length-map, All-push, LinkPlan, link_plan_at, A, link_in, Entry, entry, Logged, logged_for, Lines, log, log_more, log_same, IsLater, Served, Nothing, Released, Lost, counts_in, link_stream, IsKnown, AreKnown, LinkState, link_at, no_link, Serves, Follows, IsSameLink, is_lost, plan_of_link, plans, AreApart, AreCarried, AreServedBy, IsSamePlan, IsKept, IsSteady, Turned, IsOwn, HasItems, AreWhole, link_turn, kept_turn, other_stream, kept_stream, each_set, ◌+◌, add-one, true, append-nil, map-append, append_assoc, length-append, get_or-set_same, get_or-set_other, BothEndure, any_up, both_on, may_release, AreTurns, Release, turn_release, IsTold, IsPolling, IsTurn, IsTurnAt, turns_seen, turns_push}
 
 -- The turn of one link, at its place.
 pub turned_at : (now i : ℕ) (links : List LinkState) (item new : LinkState) (lines after : Lines) (did : Served)
@@ -165,3 +165,20 @@ polling_on now i old links before lines released p lt may_not_now =
       room = omega arith;
       stays_down = p.stays_down;
     }
+
+-- No link is due before the time that all of them wait for: a poll before it gives no link a turn.
+pub polling_none : (now at : ℕ) (links : List LinkState) (lines : Lines) → IsSteady now links links lines → AreWhole links lines
+    → AllWaitUntil at links (length links) → now < at → (i : ℕ) → i ≤ length links → IsPolling now i links links lines lines []
+polling_none now at links lines steady whole wait before zero le = search rules
+polling_none now at links lines steady whole wait before (suc i) le =
+    rw (← add-one) (polling_on now i links links lines lines []
+    (polling_none now at links lines steady whole wait before i (omega arith)) (omega arith) (not_due (wait i (omega arith))))
+  where
+    not_due : at ≤ due_from (link_at links i).pace.gap (link_at links i).pace.last
+        → may_release now (link_at links i).plan (link_at links i).pace lines ≡ false
+    not_due later = grind arith
+
+-- All wait until the earlier of two times, if the first links wait until the one and the next until the other.
+pub wait_more : (at i : ℕ) (links : List LinkState) (item : LinkState) → item ≡ link_at links i → AllWaitUntil at links i
+    → AllWaitUntil (min at (waits_until item.pace.gap item.pace.last)) links (i + 1)
+wait_more at i links item is wait k klt = grind (arith, cases_lt)

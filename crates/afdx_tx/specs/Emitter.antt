@@ -1,5 +1,5 @@
 -- An emitter, as contracts see it.
-use Rattle.std.specs.Prelude.{ℕ, ◌≡◌, ◌<◌, ◌&&◌, List, [], length, map, filter, true, false, nat_eq, Option, None, All}
+use Rattle.std.specs.Prelude.{ℕ, ◌≡◌, ◌<◌, ◌≤◌, ◌&&◌, List, [], length, map, filter, true, false, nat_eq, Option, None, All}
 use Rattle.afdx_plan.specs.Config.{Plan, link_plan_at, IsPlan}
 use Rattle.afdx_plan.specs.Plan.{bag_micros, sequence_number}
 use Rattle.afdx_plan.specs.declared.link_plan.LinkPlan.{LinkPlan}
@@ -7,7 +7,7 @@ use Rattle.afdx_plan.specs.declared.port_plan.PortPlan.{PortPlan}
 use Rattle.afdx_frame.specs.declared.net.Net.TheVariants.{A}
 use Rattle.afdx_frame.specs.Header.{link_in}
 use Rattle.redundant_mux.specs.Lines.{Entry, Logged, Lines, log, any_up, IsMirrored}
-use Rattle.vl_shaper.specs.Pace.{IsLater}
+use Rattle.vl_shaper.specs.Pace.{IsLater, due_from}
 use Rattle.subvl_queue.specs.Views.{QueueName, new_receiver}
 use Rattle.vl_link.specs.declared.sub.SubVl.{SubVl}
 use Rattle.status_board.specs.Views.{zeros, Published}
@@ -108,6 +108,10 @@ AreCarried links logged = (k : ℕ) → k < length links
 -- no link was served after this time
 abbrev pub AreServedBy : ℕ → List LinkState → Type 0
 AreServedBy now links = (k : ℕ) → k < length links → IsLater (link_at links k).pace.last now
+
+-- none of the first `many` links is due before this time
+abbrev pub AllWaitUntil : ℕ → List LinkState → (many : ℕ) → Type 0
+AllWaitUntil at links many = (k : ℕ) → k < many → at ≤ due_from (link_at links k).pace.gap (link_at links k).pace.last
 
 -- the known messages of each queue are of its sub-VL's ports
 abbrev pub HaveOwnItems : List LinkState → Type 0

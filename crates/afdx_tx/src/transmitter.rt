@@ -4,7 +4,7 @@ ghost use Rattle.afdx_tx.specs.declared.report.Release.{Release};
 ghost use Rattle.redundant_mux.specs.Lines.{BothEndure};
 ghost use Rattle.afdx_tx.specs.Run.{IsRun};
 ghost use Rattle.afdx_tx.specs.Report.{IsTold, turn_release};
-ghost use Rattle.afdx_tx.specs.Emitter.{AreApart, AreServedBy, AreWhole};
+ghost use Rattle.afdx_tx.specs.Emitter.{AllWaitUntil, AreApart, AreServedBy, AreWhole};
 ghost use Rattle.afdx_tx.specs.Calls.{earlier, IsFirstDue, Reaches, PublishesCounts};
 ghost use Rattle.afdx_tx.specs.Phases.{IsSteady, TellsAllDone};
 
@@ -55,14 +55,14 @@ impl Notes for Unreported {
     fn note(&mut self, _vl: VlId, _did: &Served) {}
 }
 
-/// Gives each link its turn, in order.
+/// Gives each link its turn, in order, and returns a time before which none is due: 0 if one was.
 fn serve_all<A: Network + Drop, B: Network + Drop, N: Notes>(
     links: &mut [Link],
     frame: &mut Box<FrameBuffer>,
     mux: &mut Mux<A, B>,
     now: u64,
     notes: &mut N,
-)
+) -> u64
     requires few { length links.old ≤ 64 }
     requires none { N.noted notes.old [] }
     requires steady { IsSteady now links.old links.old mux.old }
@@ -74,13 +74,19 @@ fn serve_all<A: Network + Drop, B: Network + Drop, N: Notes>(
     ensures told { (released : List Release) × N.noted notes.new released
         × (length released ≤ length links.old) × IsTold now released mux.old mux.new }
     ensures stays_down { BothEndure mux.old mux.new }
+    ensures wait { AllWaitUntil result links.new (length links.new) }
 {
+    let mut first = u64::MAX;
     for link in links.iter_mut() {
         if link.may_release(mux, now) {
             let did = link.serve(frame, mux, now);
             notes.note(link.id(), &did);
+            first = 0;
+        } else {
+            first = first.min(link.waits_until());
         }
     }
+    first
 }
 
 /// Whether no link has anything left to send, and none has lost a frame.
@@ -133,6 +139,8 @@ fn publish_all<R: Wait>(rt: &R, links: &[Link], board: &mut Board)
 pub struct Transmitter<A: Network + Drop, B: Network + Drop> {
     pub(crate) config: Config,
     links: BoxedSlice<Link>,
+    // No link is due before this time.
+    earliest: u64,
     pub(crate) mux: Mux<A, B>,
     // The buffer of the next frame.
     frame: Box<FrameBuffer>,
@@ -142,7 +150,8 @@ pub struct Transmitter<A: Network + Drop, B: Network + Drop> {
 
 impl<A: Network + Drop, B: Network + Drop> Model for Transmitter<A, B> {
     ghost use Rattle.std.specs.Box.{boxed_slice_items};
-    ghost use Rattle.afdx_tx.specs.Emitter.{Tx, IsSound};
+    ghost use Rattle.std.specs.Prelude.{length};
+    ghost use Rattle.afdx_tx.specs.Emitter.{AllWaitUntil, Tx, IsSound};
     ghost use Rattle.afdx_tx.specs.Calls.{Reaches};
 
     ghost Value = { Tx };
@@ -156,7 +165,8 @@ impl<A: Network + Drop, B: Network + Drop> Model for Transmitter<A, B> {
     } };
 
     ghost invariant = { λ e. IsSound e.config (boxed_slice_items e.links) e.mux e.moment
-        × Reaches (boxed_slice_items e.links) e.board };
+        × Reaches (boxed_slice_items e.links) e.board
+        × AllWaitUntil e.earliest (boxed_slice_items e.links) (length (boxed_slice_items e.links)) };
 }
 
 impl<A: Network + Drop, B: Network + Drop> Transmitter<A, B> {
@@ -198,6 +208,7 @@ impl<A: Network + Drop, B: Network + Drop> Transmitter<A, B> {
         Transmitter {
             config,
             links: links.into_boxed_slice(),
+            earliest: 0,
             mux: Mux::new(a, b),
             frame,
             moment: 0,
@@ -241,6 +252,7 @@ impl<A: Network + Drop, B: Network + Drop> Transmitter<A, B> {
         let Transmitter {
             config: _,
             links: _,
+            earliest: _,
             mux,
             frame: _,
             moment: _,
@@ -267,7 +279,10 @@ impl<A: Network + Drop, B: Network + Drop> Transmitter<A, B> {
             return Err(PollFault::BothDown);
         }
         self.moment = now;
-        serve_all(&mut self.links, &mut self.frame, &mut self.mux, now, notes);
+        if now < self.earliest {
+            return Ok(self.mux.standing());
+        }
+        self.earliest = serve_all(&mut self.links, &mut self.frame, &mut self.mux, now, notes);
         Ok(self.mux.standing())
     }
 

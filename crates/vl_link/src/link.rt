@@ -136,7 +136,7 @@ impl Model for Link {
 impl Link {
     ghost use Rattle.std.specs.Prelude.{◌≡◌, ℕ, ◌||◌, length, true, false, None};
     ghost use Rattle.afdx_plan.specs.Plan.{sequence_number, IsLink, bag_micros};
-    ghost use Rattle.vl_shaper.specs.Pace.{IsLater};
+    ghost use Rattle.vl_shaper.specs.Pace.{IsLater, waits_until};
     ghost use Rattle.redundant_mux.specs.Lines.{BothEndure, log};
     ghost use Rattle.afdx_legal.specs.Streams.{link_stream};
     ghost use Rattle.afdx_legal.specs.Counting.{counts_in};
@@ -230,6 +230,13 @@ impl Link {
             return None;
         }
         self.shaper.due_from()
+    }
+
+    /// The time in microseconds from which it is due, or `u64::MAX` if that has more than 64 bits.
+    pub fn waits_until(&self) -> u64
+        ensures { result ≡ waits_until self.now.pace.gap self.now.pace.last }
+    {
+        self.shaper.waits_until()
     }
 
     /// One turn of the link at `now`, in microseconds, when it may release a frame. Makes the frame

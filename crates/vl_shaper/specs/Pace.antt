@@ -1,5 +1,5 @@
 -- The regulation of a virtual link (ARINC 664 Part 7, bandwidth allocation gap and sub-VLs), and its choices in cyclic order.
-use Rattle.std.specs.Prelude.{ℕ, zero, suc, ◌+◌, ◌-◌, ◌%◌, ◌<◌, ◌≤◌, Bool, true, nat_le, Option, Some, None, ◌≡◌, ◌≢◌, List, [], ◌∷◌, false, nat_eq, count_by, if◌then◌else◌}
+use Rattle.std.specs.Prelude.{ℕ, zero, suc, ◌+◌, ◌-◌, ◌%◌, ◌<◌, ◌≤◌, Bool, true, nat_le, Option, Some, None, ◌≡◌, ◌≢◌, List, [], ◌∷◌, false, nat_eq, count_by, if◌then◌else◌, min, ◌^◌}
 use Rattle.vl_shaper.specs.declared.shaper.Stamp.{Stamp}
 
 -- a link's gap in microseconds, its number of sub-VLs, its last release, and the next sequence number
@@ -18,6 +18,10 @@ is_due gap (Some last) now = nat_le gap (now - last.at)
 abbrev pub due_from : ℕ → Option Stamp → ℕ
 due_from gap None = 0
 due_from gap (Some last) = last.at + gap
+
+-- the time from which the link is due, or the greatest of 64 bits if that has more
+abbrev pub waits_until : ℕ → Option Stamp → ℕ
+waits_until gap last = min (due_from gap last) (2 ^ 64 - 1)
 
 -- the time isn't before the last release
 abbrev pub IsLater : Option Stamp → ℕ → Type 0

@@ -1,7 +1,7 @@
 //! Sequence numbers, gap and cyclic order of a virtual link.
 ghost use Rattle.std.specs.Prelude.{◌≡◌, ℕ, ◌+◌, ◌-◌, ◌*◌, ◌%◌, ◌^◌, ◌<◌, ◌≤◌, None, Some, true, MatchOption};
 ghost use Rattle.afdx_plan.specs.Plan.{bag_micros, sequence_number};
-ghost use Rattle.vl_shaper.specs.Pace.{Pace, is_due, due_from, IsLater, turn_of};
+ghost use Rattle.vl_shaper.specs.Pace.{Pace, is_due, due_from, waits_until, IsLater, turn_of};
 
 use afdx_plan::Bag;
 use std::marker::Model;
@@ -17,7 +17,7 @@ pub struct Stamp {
 /// and which sequence number is next (ARINC 664 Part 7, end system, virtual link scheduling).
 #[derive(Drop)]
 pub struct Shaper {
-    // It is not due before this moment.
+    // The time from which it is due, at most `u64::MAX`.
     from: u64,
     gap: u64,
     sub_vls: u8,
@@ -26,8 +26,8 @@ pub struct Shaper {
 }
 
 impl Model for Shaper {
-    ghost use Rattle.std.specs.Prelude.{◌≤◌};
-    ghost use Rattle.vl_shaper.specs.Pace.{Pace, IsShaped, due_from};
+    ghost use Rattle.std.specs.Prelude.{◌≡◌};
+    ghost use Rattle.vl_shaper.specs.Pace.{Pace, IsShaped, waits_until};
 
     ghost Value = { Pace };
 
@@ -38,7 +38,7 @@ impl Model for Shaper {
       next = s.number;
     } };
 
-    ghost invariant = { λ s. IsShaped s.gap s.sub_vls s.last × (s.from ≤ due_from s.gap s.last) };
+    ghost invariant = { λ s. IsShaped s.gap s.sub_vls s.last × (s.from ≡ waits_until s.gap s.last) };
 }
 
 impl Shaper {
@@ -81,6 +81,10 @@ impl Shaper {
         if now < self.from {
             return false;
         }
+        if self.from < u64::MAX {
+            return true;
+        }
+        // The time from which it is due may have more than 64 bits.
         match self.last {
             None => true,
             Some(last) => self.gap <= now - last.at,
@@ -97,6 +101,14 @@ impl Shaper {
             None => Some(0),
             Some(last) => last.at.checked_add(self.gap),
         }
+    }
+
+    /// The time in microseconds from which the link is due, or `u64::MAX` if that has more than 64
+    /// bits.
+    pub fn waits_until(&self) -> u64
+        ensures { result ≡ waits_until self.now.gap self.now.last }
+    {
+        self.from
     }
 
     /// The sub-VL of turn `k`, from 0: cyclic order after the last served sub-VL. Each sub-VL has

@@ -12,4 +12,5 @@ invariant_of-self g c =
     let kept = closed_kept links _ (grind (arith, links_closed)) in (
       kept_sound c.self.inside.config links _ c.self.inside.mux c.self.inside.moment kept c.self.invariant.0,
       grind arith,
+      grind arith,
     )

@@ -1,6 +1,6 @@
 use Rattle.afdx_tx.proofs.Names.{arith, refl, ◌≡◌, with_items, with_items_is, IsSound, GathersPorts}
 use Rattle.afdx_tx.proofs.Conforming.{sound_conforms}
-use Rattle.afdx_tx.proofs.GatheredPorts.{gathers_sound, gathers_reaches, gathers_tx, all_gathered}
+use Rattle.afdx_tx.proofs.GatheredPorts.{gathers_sound, gathers_reaches, gathers_wait, gathers_tx, all_gathered}
 use Rattle.afdx_tx.proofs.OwnLengths.{gathered_allowed}
 use Rattle.afdx_tx.proofs.PortMessages.{accepted_allowed}
 use Rattle.afdx_tx.proofs.transmitter.Transmitter.gather.Given
@@ -22,7 +22,11 @@ sound : (g : Given.Over) (c : goal.After-self-1 g)
 sound g c = rw (links_are g c) (gathers_sound _ _ _ _ _ _ (gathers g c) c.self.invariant.0)
 
 pub invariant_of-self : goal.invariant_of-self
-invariant_of-self g c = (sound g c, rw (links_are g c) (gathers_reaches _ _ _ _ _ (gathers g c) c.self.invariant.1))
+invariant_of-self g c = (
+  sound g c,
+  rw (links_are g c) (gathers_reaches _ _ _ _ _ (gathers g c) c.self.invariant.1),
+  rw (links_are g c) (gathers_wait _ _ _ _ _ (gathers g c) c.self.invariant.2),
+)
 
 pub returns-clause-gathered : goal.returns-clause-gathered
 returns-clause-gathered g c =

@@ -8,4 +8,5 @@ invariant_of-result g c = rw c.into_boxed_slice.ensures.items (
   subst (λ (lines : Lines). IsSound c.args.config c.args.links.items lines 0) (sym c.new.ensures)
       (fresh_sound c.args.config c.args.links.items c.requires.valid c.requires.fresh),
   grind (arith, reaches_none),
+  grind arith,
 )

@@ -21,4 +21,4 @@ publishes old board sound reaches p =
     }
 
 pub returns : goal.returns
-returns g c = grind (arith, publishes)
+returns g c = rw (← c.self.view_is) (publishes _ _ c.self.invariant.0 c.self.invariant.1 (grind arith))
