@@ -132,29 +132,17 @@ pub(crate) fn put(out: &mut [u8; GREATEST_FRAME], at: usize, bytes: &[u8])
     out[at..at + bytes.len()].copy_from_slice(bytes);
 }
 
-/// Overwrites `step` more bytes, if there are as many after the first `done`, which are there already. Returns
-/// how many are there then.
+/// As `put`, by two copies of `step` bytes each, the first and the last, which may overlap.
 #[inline(always)]
-fn put_step(
-    out: &mut [u8; GREATEST_FRAME],
-    at: usize,
-    bytes: &[u8],
-    done: usize,
-    step: usize,
-) -> usize
+fn put_ends(out: &mut [u8; GREATEST_FRAME], at: usize, bytes: &[u8], step: usize)
     requires room { at + length bytes.now ≤ GREATEST_FRAME }
-    requires done { done ≤ length bytes.now }
-    requires step { step ≤ 8 }
-    ensures count { result ≡ (if nat_le (done + step) (length bytes.now) then done + step else done) }
-    ensures bytes { (front : List ℕ) → take (at + done) out.old ≡ front ++ take done bytes.now
-        → take (at + result) out.new ≡ front ++ take result bytes.now }
+    requires least { step ≤ length bytes.now }
+    requires most { length bytes.now ≤ step + step }
+    ensures { take (at + length bytes.now) out.new ≡ take at out.old ++ bytes.now }
 {
-    let next = done + step;
-    if next > bytes.len() {
-        return done;
-    }
-    put(out, at + done, &bytes[done..next]);
-    next
+    let rest = bytes.len() - step;
+    put(out, at, &bytes[..step]);
+    put(out, at + rest, &bytes[rest..]);
 }
 
 /// As `put`, but fewer than 16 bytes are copied without a call.
@@ -163,12 +151,16 @@ pub(crate) fn put_short(out: &mut [u8; GREATEST_FRAME], at: usize, bytes: &[u8])
     requires { at + length bytes.now ≤ GREATEST_FRAME }
     ensures { take (at + length bytes.now) out.new ≡ take at out.old ++ bytes.now }
 {
-    if bytes.len() >= 16 {
+    let many = bytes.len();
+    if many >= 16 {
         put(out, at, bytes);
-        return;
+    } else if many >= 8 {
+        put_ends(out, at, bytes, 8);
+    } else if many >= 4 {
+        put_ends(out, at, bytes, 4);
+    } else if many >= 2 {
+        put_ends(out, at, bytes, 2);
+    } else if many == 1 {
+        put(out, at, &bytes[..1]);
     }
-    let eights = put_step(out, at, bytes, 0, 8);
-    let fours = put_step(out, at, bytes, eights, 4);
-    let twos = put_step(out, at, bytes, fours, 2);
-    put_step(out, at, bytes, twos, 1);
 }

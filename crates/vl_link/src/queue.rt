@@ -4,10 +4,11 @@ use subvl_queue::{Gathered, Item, Receiver};
 /// The taking end of a queue: a receiver, or all ends.
 #[derive(Drop)]
 pub enum Queue {
-    Receiving(Receiver),
     Gathered(Gathered),
     // The receiver was moved out, to be gathered.
     Empty,
+    // Last, since a `match` tests for the last variant first.
+    Receiving(Receiver),
 }
 
 impl Queue {
