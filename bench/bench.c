@@ -7,7 +7,7 @@
    library and the other, in ROUNDS rounds (11 by default), and one line is printed: the least nanoseconds of each, the
    ratio of these, and the least, median and greatest ratio of a round. In a round each has several turns, of SLICES slices
    each, and its least slice counts: on a processor that others use too, a tenth of a millisecond is more often undisturbed
-   than a round. With threads the least may be of a round in which all shared a processor by chance: the median says more.
+   than a round. With threads the least may be of a lucky round of either: the median says more.
    The rows of lwIP compare the library's frames for two networks with lwIP's for one that only touches them. Below are the
    time of a call that only looks into its handle, and that of one poll of 64 virtual links that are all due, as a
    distribution. The exit status is 0 if the frames were equal.
