@@ -39,11 +39,6 @@ pub record Polls (now : ℕ) (old : Tx) (report : Report) (new : Tx) : Type 0 wh
   pub a_stands : report.standing.a ≡ new.lines.a_stands
   pub b_stands : report.standing.b ≡ new.lines.b_stands
 
--- A poll, by the frames that it released and the networks that are up.
-abbrev pub PollsWith : ℕ → Tx → List Release → Standing → Tx → Type 0
-PollsWith now old released standing new =
-    Polls now old (record { released = record { items = released }; standing = standing }) new
-
 -- A poll without a report: the networks that are up, and what the report would have been.
 pub record PollsUnreported (now : ℕ) (old : Tx) (standing : Standing) (new : Tx) : Type 0 where
   pub report : Report

@@ -120,8 +120,11 @@ impl<A: Network + Drop, B: Network + Drop, P: Phase> Emitter<A, B, P> {
         ensures run { OnOk result (Runs P.gathered now self.old self.new) }
     {
         let mut released = ArrayVec::new();
-        let standing = self.inner.poll(now, &mut released)?;
-        Ok(Report { released, standing })
+        self.inner.poll(now, &mut released)?;
+        Ok(Report {
+            released,
+            standing: self.inner.mux.standing(),
+        })
     }
 
     /// As `poll`, without a report: for a caller that asks the networks for the frames.
@@ -134,7 +137,8 @@ impl<A: Network + Drop, B: Network + Drop, P: Phase> Emitter<A, B, P> {
         ensures told { IfOk result (λ standing. PollsUnreported now self.old standing self.new) }
         ensures run { OnOk result (Runs P.gathered now self.old self.new) }
     {
-        self.inner.poll(now, &mut Unreported)
+        self.inner.poll(now, &mut Unreported)?;
+        Ok(self.inner.mux.standing())
     }
 
     /// Publishes the counts of each link, once, in the order of the configuration: those of the

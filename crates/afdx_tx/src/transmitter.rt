@@ -16,7 +16,7 @@ use crate::routing::link_of_sub;
 use afdx_frame::FrameBuffer;
 use afdx_plan::{Config, Networks, VlId};
 use arrayvec::ArrayVec;
-use redundant_mux::{Mux, Network, Standing};
+use redundant_mux::{Mux, Network};
 use status_board::{Board, Counts};
 use std::boxed::BoxedSlice;
 use std::marker::Model;
@@ -176,7 +176,7 @@ impl<A: Network + Drop, B: Network + Drop> Transmitter<A, B> {
     ghost use Rattle.redundant_mux.specs.Lines.{is_alive, log};
     ghost use Rattle.afdx_legal.specs.Accepted.{IsAllDone, AreAllowed};
     ghost use Rattle.afdx_tx.specs.Phases.{IsInPhase, KeepsPhase, Runs, Conforms};
-    ghost use Rattle.afdx_tx.specs.Report.{PollsWith};
+    ghost use Rattle.afdx_tx.specs.Report.{IsTold};
     ghost use Rattle.afdx_tx.specs.declared.report.Release.{Release};
     ghost use Rattle.afdx_tx.specs.Emitter.{IsFreshTx, AreFreshLinks, AreReceiving};
     ghost use Rattle.afdx_tx.specs.Calls.{Publishes, ShowsCounts, TellsNextDue, LacksSub, ClosesTx};
@@ -261,17 +261,18 @@ impl<A: Network + Drop, B: Network + Drop> Transmitter<A, B> {
         mux.into_networks()
     }
 
-    /// Gives each link its turn at `now`, in microseconds, in the order of the configuration.
-    #[inline(always)]
-    pub fn poll<N: Notes>(&mut self, now: u64, notes: &mut N) -> Result<Standing, PollFault>
+    /// Gives each link its turn at `now`, in microseconds, in the order of the configuration. Which networks are up is
+    /// asked afterwards: returned from here, it would pass through memory.
+    pub fn poll<N: Notes>(&mut self, now: u64, notes: &mut N) -> Result<(), PollFault>
         requires later { self.old.moment ≤ now }
         requires none { N.noted notes.old [] }
         ensures both_down { IsErr result ↔ (is_alive self.old.lines ≡ false) }
         ensures unchanged { OnErr result (self.new ≡ self.old) }
         ensures kept { (gathered : Bool) → IsInPhase gathered self.old.plan self.old.links
             → KeepsPhase gathered self.old self.new }
-        ensures told { IfOk result (λ standing. (released : List Release) × N.noted notes.new released
-            × (length released ≤ 64) × PollsWith now self.old released standing self.new) }
+        ensures moment { OnOk result (self.new.moment ≡ now) }
+        ensures told { OnOk result ((released : List Release) × N.noted notes.new released
+            × (length released ≤ 64) × IsTold now released self.old.lines self.new.lines) }
         ensures run { OnOk result ((gathered : Bool) → IsInPhase gathered self.old.plan self.old.links
             → Runs gathered now self.old self.new) }
     {
@@ -280,10 +281,12 @@ impl<A: Network + Drop, B: Network + Drop> Transmitter<A, B> {
         }
         self.moment = now;
         if now < self.earliest {
-            return Ok(self.mux.standing());
+            return Ok(());
         }
         self.earliest = serve_all(&mut self.links, &mut self.frame, &mut self.mux, now, notes);
-        Ok(self.mux.standing())
+        // For its contract, which the invariant needs: the frames of both networks still mirror the log.
+        let _standing = self.mux.standing();
+        Ok(())
     }
 
     /// Closes the queue of a sub-VL, and returns the number of its accepted messages.

@@ -9,7 +9,7 @@ use Rattle.afdx_tx.proofs.transmitter.Transmitter.poll.Given
 use Rattle.afdx_tx.proofs.transmitter.Transmitter.poll.Goals as goal
 
 -- Before any link is due, each turn releases nothing.
-none_due : (g : Given.Over) (c : goal.After-standing g)
+none_due : (g : Given.Over) (c : goal.Then-now-self g)
     → IsRun c.args.now c.self.inside.links.items.items c.self.inside.links.items.items c.self.inside.mux c.self.inside.mux
 none_due g c = record {
   count = refl;
@@ -17,7 +17,7 @@ none_due g c = record {
 }
 
 -- The transmitter is sound at that time too.
-sound_then : (g : Given.Over) (c : goal.After-standing g)
+sound_then : (g : Given.Over) (c : goal.Then-now-self g)
     → IsSound c.self.inside.config c.self.inside.links.items.items c.self.inside.mux c.args.now
 sound_then g c = grind arith
 
@@ -37,21 +37,21 @@ pub serve_all-self-inside-requires-clause-apart : goal.serve_all-self-inside-req
 serve_all-self-inside-requires-clause-apart g c = grind (arith, links_apart)
 
 -- The links of the transmitter afterwards.
-links_are : (g : Given.Over) (c : goal.After-standing-2 g)
+links_are : (g : Given.Over) (c : goal.After-standing-standing g)
     → (with_items c.self.inside.links.items c.serve_all-self-inside.new.links).items ≡ c.serve_all-self-inside.new.links
 links_are g c = grind (arith, with_items_is)
 
 -- The turns kept the invariant, over the links before them.
-steady : (g : Given.Over) (c : goal.After-standing-2 g)
+steady : (g : Given.Over) (c : goal.After-standing-standing g)
     → IsSteady c.args.now c.self.inside.links.items.items c.serve_all-self-inside.new.links c.serve_all-self-inside.new.mux
 steady g c = grind arith
 
 -- The transmitter is sound after the poll.
-sound : (g : Given.Over) (c : goal.After-standing-2 g)
+sound : (g : Given.Over) (c : goal.After-standing-standing g)
     → IsSound c.self.inside.config (with_items c.self.inside.links.items c.serve_all-self-inside.new.links).items
     c.serve_all-self-inside.new.mux c.args.now
 sound g c = rw (links_are g c) (sound_after _ _ _ _ _ c.self.invariant.0.valid c.self.invariant.0.of_plan (steady g c)
-    c.standing-2.ensures.mirrored c.serve_all-self-inside.ensures.whole)
+    c.standing-standing.ensures.mirrored c.serve_all-self-inside.ensures.whole)
 
 pub invariant_of-self-2 : goal.invariant_of-self-2
 invariant_of-self-2 g c = (
