@@ -31,7 +31,6 @@ impl Model for FrameBuffer {
 }
 
 /// Overwrites the first bytes.
-#[inline(always)]
 fn put_front(out: &mut [u8; GREATEST_FRAME], frame: &[u8])
     requires { length frame.now ≤ GREATEST_FRAME }
     ensures { take (length frame.now) out.new ≡ frame.now }
@@ -59,7 +58,6 @@ impl FrameBuffer {
     }
 
     /// The frame.
-    #[inline(always)]
     pub fn as_slice(&self) -> &[u8]
         ensures value { result.now ≡ self.now.items }
         ensures short { length result.now ≤ GREATEST_FRAME }
@@ -68,7 +66,6 @@ impl FrameBuffer {
     }
 
     /// Copies a frame in.
-    #[inline(always)]
     pub fn fill(&mut self, frame: &[u8])
         requires { length frame.now ≤ GREATEST_FRAME }
         ensures { self.new.items ≡ frame.now }
@@ -79,7 +76,6 @@ impl FrameBuffer {
 
     /// Turns the frame into its twin for a network, which differs in the interface identifier alone. Bytes too
     /// short to have one are unchanged.
-    #[inline(always)]
     pub fn turn(&mut self, net: Net)
         ensures { self.new.items ≡ twin_of net self.old.items }
     {
@@ -110,7 +106,6 @@ pub fn twin(frame: &Frame, net: Net) -> Frame
 }
 
 /// Appends bytes.
-#[inline(always)]
 pub(crate) fn append(out: &mut Frame, bytes: &[u8])
     requires { array_vec_len out.old + length bytes.now ≤ GREATEST_FRAME }
     ensures items { out.new.items ≡ out.old.items ++ bytes.now }
@@ -124,7 +119,6 @@ pub(crate) fn append(out: &mut Frame, bytes: &[u8])
 
 /// Overwrites bytes from an index on.
 #[tactic(auto, using(std::proofs::lemmas::Slice::overwrites))]
-#[inline(always)]
 pub(crate) fn put(out: &mut [u8; GREATEST_FRAME], at: usize, bytes: &[u8])
     requires { at + length bytes.now ≤ GREATEST_FRAME }
     ensures { take (at + length bytes.now) out.new ≡ take at out.old ++ bytes.now }
@@ -133,7 +127,6 @@ pub(crate) fn put(out: &mut [u8; GREATEST_FRAME], at: usize, bytes: &[u8])
 }
 
 /// As `put`, by two copies of `step` bytes each, the first and the last, which may overlap.
-#[inline(always)]
 fn put_ends(out: &mut [u8; GREATEST_FRAME], at: usize, bytes: &[u8], step: usize)
     requires room { at + length bytes.now ≤ GREATEST_FRAME }
     requires least { step ≤ length bytes.now }
@@ -146,7 +139,6 @@ fn put_ends(out: &mut [u8; GREATEST_FRAME], at: usize, bytes: &[u8], step: usize
 }
 
 /// As `put`, but fewer than 16 bytes are copied without a call.
-#[inline(always)]
 pub(crate) fn put_short(out: &mut [u8; GREATEST_FRAME], at: usize, bytes: &[u8])
     requires { at + length bytes.now ≤ GREATEST_FRAME }
     ensures { take (at + length bytes.now) out.new ≡ take at out.old ++ bytes.now }

@@ -122,7 +122,6 @@ impl Rest {
     }
 
     /// Another message in place of this one, as `new`.
-    #[inline(always)]
     pub fn restart(&mut self, bytes: Vec<u8>, place: u64)
         requires some { 1 ≤ vec_len bytes }
         requires most { vec_len bytes ≤ greatest_message }
@@ -136,7 +135,6 @@ impl Rest {
 
     /// Frees the message's memory, once all pieces were given. None is left afterwards.
     #[tactic(auto, using(crate::proofs::CuttingLemmas::left_none))]
-    #[inline(always)]
     pub fn release(&mut self)
         requires done { (port : _) (room : ℕ) → pieces_left room (cut_of port self.old) ≡ [] }
         ensures free { self.new.capacity ≡ 0 }
@@ -150,7 +148,6 @@ impl Rest {
 
     /// Whether all pieces were given.
     #[tactic(auto, using(crate::proofs::CuttingLemmas::left_none, crate::proofs::CuttingLemmas::left_only))]
-    #[inline(always)]
     pub fn is_done(&self) -> bool
         ensures { (port : _) (room : ℕ) →
             IsTrue result ↔ (pieces_left room (cut_of port self.now) ≡ []) }
@@ -161,7 +158,6 @@ impl Rest {
     /// Writes the frame of the next piece, with this sequence number, for this network, into the
     /// caller's buffer, which it overwrites. Returns whether a piece was left; if none was, the
     /// buffer and the message are unchanged.
-    #[inline(always)]
     pub fn write_next(
         &mut self,
         template: &Template,

@@ -80,7 +80,6 @@ impl Template {
     }
 
     /// Writes the headers, not filled in yet.
-    #[inline(always)]
     pub(crate) fn put(&self, out: &mut [u8; GREATEST_FRAME])
         ensures { take 38 out.new ≡ unfilled self.now }
     {

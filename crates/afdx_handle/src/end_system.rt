@@ -59,7 +59,6 @@ impl EndSystem {
     /// Gives each link its turn at `now`, in microseconds, and writes the networks that are up
     /// afterwards, as bits. `TIME_BACK` if `now` is before an earlier poll; `BOTH_DOWN`, with no
     /// bits, if both networks have failed before. Both leave it unchanged.
-    #[inline(always)]
     pub fn poll(&mut self, now: u64, standing: &mut u8) -> u8
         ensures answers { (result ≡ DONE) ⊎ ((result ≡ TIME_BACK) ⊎ (result ≡ BOTH_DOWN)) }
         ensures time_back { (result ≡ TIME_BACK) ↔ (now < self.old.tx.moment) }

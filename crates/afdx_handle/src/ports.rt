@@ -17,7 +17,6 @@ use std::alloc::{AllocError, Global};
 use std::mem;
 
 /// A copy of a message. A short one is copied byte by byte, which is quicker than a call.
-#[inline(always)]
 fn copy_of(alloc: Global, message: &[u8]) -> Result<Vec<u8>, AllocError>
     ensures { IfOk result (λ copy. copy.items ≡ message.now) }
 {

@@ -82,7 +82,6 @@ impl Stage {
 
     /// Gives each link its turn at `now`, in microseconds, and returns which networks are up. An error changes
     /// nothing.
-    #[inline(always)]
     pub fn poll(&mut self, now: u64) -> Result<Standing, PollFault>
         requires { (tx_of self.old).moment ≤ now }
         ensures both_down { IsErr result ↔ (is_alive (tx_of self.old).lines ≡ false) }

@@ -118,7 +118,6 @@ impl Networks {
     ghost use Rattle.afdx_plan.specs.Plan.{carries_a, carries_b};
 
     /// Whether network A is one of them.
-    #[inline(always)]
     pub fn carries_a(self) -> bool
         ensures { result ≡ carries_a self }
     {
@@ -130,7 +129,6 @@ impl Networks {
     }
 
     /// Whether network B is one of them.
-    #[inline(always)]
     pub fn carries_b(self) -> bool
         ensures { result ≡ carries_b self }
     {

@@ -41,7 +41,6 @@ impl Flag {
     }
 
     /// Whether the flag is set. No other call adds a read.
-    #[inline(always)]
     pub fn read(&mut self) -> bool
         ensures { self.new ≡ self.old ++ result ∷ [] }
     {

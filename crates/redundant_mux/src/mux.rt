@@ -24,7 +24,6 @@ pub struct Standing {
 
 impl Standing {
     /// Whether one of these networks is up.
-    #[inline(always)]
     fn has_one_of(&self, networks: Networks) -> bool
         ensures { result ≡ some_of networks self.now.a self.now.b }
     {
@@ -57,7 +56,6 @@ impl<A: Network + Drop, B: Network + Drop> Model for Mux<A, B> {
 }
 
 /// Sends a frame once to the network if it is named and up. A failure takes the network down.
-#[inline(always)]
 fn hand_to<N: Network + Drop>(
     network: &mut N,
     stands: &mut bool,
@@ -78,7 +76,6 @@ fn hand_to<N: Network + Drop>(
 }
 
 /// As `hand_to`, with the frame in its buffer, whose bytes are open afterwards.
-#[inline(always)]
 fn hand_with<N: Network + Drop>(
     network: &mut N,
     stands: &mut bool,
@@ -98,7 +95,6 @@ fn hand_with<N: Network + Drop>(
 }
 
 /// Keeps the longer log if a network accepted the frame.
-#[inline(always)]
 fn note(trail: &mut Trail, taken: bool, longer: Trail)
     ensures taken { taken ≡ true → trail.new.logged ≡ longer.logged }
     ensures lost { taken ≡ false → trail.new.logged ≡ trail.old.logged }
@@ -143,7 +139,6 @@ impl<A: Network + Drop, B: Network + Drop> Mux<A, B> {
     }
 
     /// Whether one of the named networks is up.
-    #[inline(always)]
     pub fn any_up(&self, networks: Networks) -> bool
         ensures { result ≡ any_up networks self.now }
     {
@@ -229,7 +224,6 @@ impl<A: Network + Drop, B: Network + Drop> Mux<A, B> {
     /// As `hand`, with the frame in its buffer, which a network may exchange for another. What the
     /// buffer has afterwards is open. B's twin is made in place.
     #[tactic(auto, using(std::proofs::Common::arith))]
-    #[inline(always)]
     pub fn hand_with(
         &mut self,
         at: u64,

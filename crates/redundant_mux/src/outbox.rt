@@ -32,7 +32,6 @@ struct Latest {
 
 impl Latest {
     /// The slot of the next frame, which is accepted at this time.
-    #[inline(always)]
     fn slot(&mut self, earlier: bool, at: u64, count: u64) -> usize
         requires { self.old.first ≤ count }
         ensures at { earlier ≡ false → self.new.at ≡ at }
@@ -177,7 +176,6 @@ impl<S: Span> Outbox<S> {
     }
 
     /// Reads the flag, and counts a failure if it is set or 2^64 - 1 frames were accepted.
-    #[inline(always)]
     fn refuses(&mut self) -> bool
         requires few { self.old.failures + 1 < 2 ^ 64 }
         ensures handed { self.new.handed ≡ self.old.handed }
@@ -202,7 +200,6 @@ impl<S: Span> Network for Outbox<S> {
 
     /// Copies the frame over an older one. Reads the flag once. Fails exactly if it is set, or if 2^64 - 1 frames were
     /// accepted.
-    #[inline(always)]
     fn hand(&mut self, at: u64, frame: &[u8]) -> Result<(), HandFault>
         requires short { length frame.now ≤ GREATEST_FRAME }
         requires few { self.old.failures + 1 < 2 ^ 64 }
@@ -226,7 +223,6 @@ impl<S: Span> Network for Outbox<S> {
     }
 
     /// As `hand`, without a copy: exchanges the buffer for that of an older frame.
-    #[inline(always)]
     fn hand_with(&mut self, at: u64, frame: &mut Box<FrameBuffer>) -> Result<(), HandFault>
         requires few { self.old.failures + 1 < 2 ^ 64 }
         ensures ok { OnOk result

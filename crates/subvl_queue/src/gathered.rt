@@ -44,7 +44,6 @@ impl Model for Gathered {
 impl Gathered {
     /// Takes the next accepted message, or returns `None` exactly if all were taken.
     #[tactic(auto, using(crate::proofs::Senders::leaves))]
-    #[inline(always)]
     pub fn take(&mut self) -> Option<Item>
         ensures none { IfNone result (self.old.left ≡ []) }
         ensures unchanged { IfNone result (self.new ≡ self.old) }

@@ -111,7 +111,6 @@ impl Receiver {
     }
 
     /// Takes the message of the next place, if it is ready. Counts as a poll either way.
-    #[inline(always)]
     pub fn take(&mut self) -> Option<Item>
         ensures none { IfNone result (self.new ≡ looked self.old) }
         ensures some { IfSome result (λ item. self.new ≡ after_take self.old item) }

@@ -98,7 +98,6 @@ impl Ring {
 
     /// The slot of a place, from an earlier place and its slot: no division, unless a whole round of other places
     /// lies between.
-    #[inline(always)]
     pub fn slot_from(&self, place: u64, earlier: u64, slot: usize) -> usize
         requires { IsSlotOf self.now.capacity earlier slot }
         ensures { IsSlotOf self.now.capacity place result }

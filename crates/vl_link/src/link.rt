@@ -201,7 +201,6 @@ impl Link {
 
     /// Whether it may release a frame at `now`, in microseconds: it is due, and a network that carries
     /// it is up.
-    #[inline(always)]
     pub fn may_release<A: Network + Drop, B: Network + Drop>(
         &self,
         mux: &Mux<A, B>,

@@ -18,7 +18,6 @@ impl Queue {
     ghost use Rattle.vl_link.specs.Kept.{seen_of};
 
     /// Takes the next message, if one is ready. Never waits.
-    #[inline(always)]
     pub fn take(&mut self) -> Option<Item>
         ensures none { IfNone result (FindsNothing (seen_of self.old) (seen_of self.new)) }
         ensures some { IfSome result (λ item. Finds (seen_of self.old) item (seen_of self.new)) }

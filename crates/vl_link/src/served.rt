@@ -30,7 +30,6 @@ impl Served {
 
 // The number of messages that end with a frame: one, unless the flag of more fragments is set (RFC
 // 791, 3.1).
-#[inline(always)]
 fn messages_ended(frame: &[u8]) -> u64
     requires { 22 ≤ length frame.now }
     ensures { result ≡ (if nat_lt (fragment_field frame.now) more_fragments then 1 else 0) }
@@ -39,7 +38,6 @@ fn messages_ended(frame: &[u8]) -> u64
 }
 
 /// The counts of a link's stream after this frame. A count stops at its greatest value.
-#[inline(always)]
 pub fn counts_with(counts: &Counts, now: u64, frame: &[u8]) -> Counts
     requires { 22 ≤ length frame.now }
     ensures { (stream : List Entry) → counts.now ≡ counts_in stream →
