@@ -5,7 +5,8 @@ ghost use Rattle.afdx_tx.specs.declared.fault.Refusal.{Refusal};
 ghost use Rattle.afdx_tx.specs.Ports.{MaySend, Accepts, Refuses};
 ghost use Rattle.afdx_tx.specs.Calls.{LacksSub};
 ghost use Rattle.afdx_handle.specs.Numbers.{IsOneOf, net_of, refusal_number, standing_bits};
-ghost use Rattle.afdx_handle.specs.EndSystem.{PollsEnd, ClosesEnd};
+ghost use Rattle.afdx_handle.specs.EndSystem.{PollsEnd, ClosesEnd, FailsEnd};
+ghost use Rattle.afdx_frame.specs.declared.net.Net.{Net};
 ghost use Rattle.afdx_handle.specs.Held.{end_of, port_of, HoldsNothing, HoldsEnd, HoldsPort, HoldsSame, EndDoes, PortDoes};
 
 use crate::content::{at_end, with_end, with_port};
@@ -68,14 +69,16 @@ pub extern "C" fn afdx_poll(it: &mut Handle, now: u64, standing: &mut u8) -> u8
     with_end!(it, end_system => end_system.poll(now, standing))
 }
 
-/// Makes a network fail at its next frame.
+/// Makes a network fail at each later frame. It stays up until then.
 #[unsafe(no_mangle)]
 pub extern "C" fn afdx_fail(it: &mut Handle, network: u8) -> u8
     ensures answers { IsOneOf result (DONE ∷ NOT_HELD ∷ WRONG_HANDLE ∷ NO_NETWORK ∷ []) }
     ensures not_held { (result ≡ NOT_HELD) ↔ HoldsNothing it.old.kept.home }
     ensures wrong_handle { (result ≡ WRONG_HANDLE) ↔ IsSome (port_of it.old.kept.home) }
     ensures no_network { (result ≡ NO_NETWORK) ↔ (IsSome (end_of it.old.kept.home) × IsNone (net_of network)) }
-    ensures same { HoldsSame it.old.kept.home it.new.kept.home }
+    ensures failed { (net : Net) → net_of network ≡ Some net → result ≡ DONE
+        → EndDoes it.old.kept.home it.new.kept.home (FailsEnd net) }
+    ensures refused { result ≢ DONE → HoldsSame it.old.kept.home it.new.kept.home }
 {
     with_end!(it, end => match net_of(network) {
         Some(net) => {

@@ -3,7 +3,7 @@ use Rattle.std.specs.Prelude.{ℕ, ◌≡◌, ◌≤◌, ◌<◌, ◌+◌, ◌-�
 use Rattle.afdx_frame.specs.declared.net.Net.{Net}
 use Rattle.afdx_frame.specs.declared.net.Net.TheVariants.{A, B}
 use Rattle.redundant_mux.specs.Memory.{entry_at}
-use Rattle.redundant_mux.specs.Lines.{Entry, log, IsMirrored}
+use Rattle.redundant_mux.specs.Lines.{Entry, log, with_failing, IsMirrored}
 use Rattle.afdx_legal.specs.Accepted.{IsAllDone}
 use Rattle.afdx_plan.specs.Config.{Plan}
 use Rattle.afdx_config.specs.Faults.{IsPlanOf}
@@ -80,6 +80,10 @@ pub record PollsEnd (now : ℕ) (old new : EndView) : Type 0 where
   pub a_before : new.a_before ≡ length old.tx.lines.a
   pub b_before : new.b_before ≡ length old.tx.lines.b
   pub block : new.block ≡ old.block
+
+-- an end system one of whose networks was made to fail; all else is unchanged
+abbrev pub FailsEnd : Net → (old new : EndView) → Type 0
+FailsEnd net old new = new ≡ record old { tx = record old.tx { lines = with_failing net old.tx.lines } }
 
 -- an end system one of whose sub-VLs is closed with this total; all else is unchanged
 pub record ClosesEnd (old : EndView) (vl sub total : ℕ) (new : EndView) : Type 0 where

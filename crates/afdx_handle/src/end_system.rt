@@ -12,7 +12,6 @@ use crate::stage::Stage;
 use afdx_frame::Net;
 use afdx_plan::VlId;
 use afdx_tx::TxPort;
-use redundant_mux::{Failing, LastTime};
 use status_board::Counts;
 use std::alloc::Global;
 use std::marker::Model;
@@ -52,7 +51,7 @@ impl EndSystem {
     ghost use Rattle.afdx_handle.specs.Numbers.{line_of, standing_bits};
     ghost use Rattle.afdx_handle.specs.Release.{IsReleaseOf};
     ghost use Rattle.afdx_handle.specs.Polling.{IsNextDue};
-    ghost use Rattle.afdx_handle.specs.EndSystem.{PollsEnd, ClosesEnd, before_of, made_for, made_at, IsAllSent};
+    ghost use Rattle.afdx_handle.specs.EndSystem.{PollsEnd, ClosesEnd, FailsEnd, before_of, made_for, made_at, IsAllSent};
     ghost use Rattle.afdx_handle.specs.Listing.{with_front, port_ids, link_ids, all_made, bytes_of, lengths_of};
     ghost use Rattle.std.specs.List.{concat};
 
@@ -248,11 +247,11 @@ impl EndSystem {
         self.stage.next_due().unwrap_or(u64::MAX)
     }
 
-    /// Makes a network fail at its next frame. The result shows which: the network of these frames.
-    pub fn fail(&self, net: Net) -> Failing<'_, LastTime>
-        ensures { result.handed ≡ line_of net self.now.tx.lines }
+    /// Makes a network fail at each later frame. It stays up until then.
+    pub fn fail(&mut self, net: Net)
+        ensures { FailsEnd net self.old self.new }
     {
-        self.stage.network(net).fail()
+        self.stage.fail(net);
     }
 
     /// The counts of a link, by its identifier.

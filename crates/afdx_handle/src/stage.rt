@@ -16,7 +16,7 @@ pub enum Stage {
 
 impl Stage {
     ghost use Rattle.std.specs.Prelude.{◌≡◌, ◌≤◌, ◌↔◌, false, true, IsErr, OnErr, OnOk, IfOk, IsNone, IfSome};
-    ghost use Rattle.redundant_mux.specs.Lines.{is_alive};
+    ghost use Rattle.redundant_mux.specs.Lines.{is_alive, with_failing};
     ghost use Rattle.afdx_tx.specs.Emitter.{LacksLink};
     ghost use Rattle.afdx_tx.specs.Calls.{TellsNextDue};
     ghost use Rattle.afdx_legal.specs.Counting.{counts_in};
@@ -45,6 +45,17 @@ impl Stage {
             (Stage::Sending(emitter), Net::B) => emitter.network_b(),
             (Stage::Draining(draining), Net::A) => draining.network_a(),
             (Stage::Draining(draining), Net::B) => draining.network_b(),
+        }
+    }
+
+    /// Makes a network fail at each later frame.
+    pub fn fail(&mut self, net: Net)
+        ensures tx { tx_of self.new ≡ record (tx_of self.old) { lines = with_failing net (tx_of self.old).lines } }
+        ensures stage { is_gathered self.new ≡ is_gathered self.old }
+    {
+        match self {
+            Stage::Sending(emitter) => emitter.fail(net),
+            Stage::Draining(draining) => draining.fail(net),
         }
     }
 

@@ -29,8 +29,8 @@ pub use Rattle.afdx_tx.specs.Report.{IsTold, release_of, turn_release}
 pub use Rattle.afdx_tx.specs.Phases.{Conforms, IsPolling, IsSteady, TellsAllDone}
 pub use Rattle.afdx_tx.specs.declared.report.Release.{Release}
 pub use Rattle.redundant_mux.proofs.MirroredLines.{both_none, both_on, stood_before}
-pub use Rattle.redundant_mux.proofs.MirroredLines.{entries_append, fresh_in_step, fresh_lines, fresh_log, log_more, log_same}
-pub use Rattle.redundant_mux.specs.Lines.{Entry, entry, BothEndure, IsMirrored, Keeps, Lines, any_up, Logged, entries_of, logged_for, names, only, sent_to, side}
+pub use Rattle.redundant_mux.proofs.MirroredLines.{entries_append, fresh_in_step, fresh_lines, fresh_log, log_more, log_same, mirrored_failing}
+pub use Rattle.redundant_mux.specs.Lines.{Entry, entry, BothEndure, IsMirrored, Keeps, Lines, any_up, Logged, entries_of, logged_for, names, only, sent_to, side, with_failing}
 unfoldable pub use Rattle.redundant_mux.specs.Lines.{log}
 pub use Rattle.status_board.specs.Views.{NoFieldFalls, zeros, Published, last_of, published, with_entry}
 pub use Rattle.std.proofs.Common.{Bool, Err, IfOk, List, None, Ok, OnErr, Option, Result, Some, [], add-one, add-zero, ap, arith, below_more, cond, drop}

@@ -1,5 +1,5 @@
 -- An emitter after the turns of its links.
-use Rattle.afdx_tx.proofs.Names.{ℕ, ◌≡◌, ◌<◌, List, length, arith, ap, ◌∙◌, Bool, LinkPlan, Plan, IsPlan, link_plan_at, Lines, log, IsMirrored, Keeps, IsLegal, counts_in, own_stream, AreOwnStreams, LinkState, link_at, no_link, held_at, nothing_held, plan_of_link, AreLinks, AreApart, AreLinksOf, AreWhole, IsSound, taken_in, held_queue, link_queues, queues_in, AreCarried, IsSteady, Net, A, B, Entry}
+use Rattle.afdx_tx.proofs.Names.{ℕ, ◌≡◌, ◌<◌, List, length, arith, ap, ◌∙◌, Bool, LinkPlan, Plan, IsPlan, link_plan_at, Lines, log, IsMirrored, Keeps, IsLegal, counts_in, own_stream, AreOwnStreams, LinkState, link_at, no_link, held_at, nothing_held, plan_of_link, AreLinks, AreApart, AreLinksOf, AreWhole, IsSound, taken_in, held_queue, link_queues, queues_in, AreCarried, IsSteady, Net, A, B, Entry, true, with_failing, mirrored_failing}
 use Rattle.afdx_tx.proofs.LegalLists.{legal_of}
 use Rattle.afdx_tx.proofs.OwnStreams.{own_streams}
 use Rattle.afdx_tx.proofs.PollTurns.{map_alike, plan_at_is, plans_length}
@@ -112,3 +112,25 @@ sound_turns config links lines moment s =
       on_a = turns_keeps config A lines.a_stands lines.a lines s.mirrored.first s.carried turns;
       on_b = turns_keeps config B lines.b_stands lines.b lines s.mirrored.second s.carried turns;
     }
+
+-- An emitter is sound whichever of its networks was made to fail.
+pub sound_failing : (config : Plan) (links : List LinkState) (lines : Lines) (moment : ℕ) (p q : Bool)
+    → IsSound config links lines moment → IsSound config links (record lines { a_failing = p; b_failing = q }) moment
+unfolding log
+sound_failing config links lines moment p q s = record {
+  valid = s.valid;
+  of_plan = s.of_plan;
+  kept = s.kept;
+  later = s.later;
+  mirrored = mirrored_failing lines p q s.mirrored;
+  known = s.known;
+  carried = s.carried;
+  whole = s.whole;
+  items = s.items;
+}
+
+-- So it is once one of them is made to fail.
+pub sound_with_failing : (config : Plan) (links : List LinkState) (lines : Lines) (moment : ℕ) (net : Net)
+    → IsSound config links lines moment → IsSound config links (with_failing net lines) moment
+sound_with_failing config links lines moment A s = sound_failing config links lines moment true lines.b_failing s
+sound_with_failing config links lines moment B s = sound_failing config links lines moment lines.a_failing true s

@@ -57,11 +57,11 @@ DrainEnds = (plan : Plan) (accepted : Accepted) (moments : List ℕ) (lines afte
 -- A worked drain over the demonstration configuration. One message of one byte was accepted and not
 -- transmitted, and two polls follow, a gap apart. No frame was transmitted before them.
 abbrev pub no_lines : Lines
-no_lines = lines_of [] [] 0 0 true true []
+no_lines = lines_of [] [] 0 0 true true false false []
 
 -- both networks accepted the frame, at `now`; then each failed this often, and is up or not
 abbrev pub line_of : (now failures : ℕ) → Bool → Lines
-line_of now failures up = lines_of (one_entry_at now A) (one_entry_at now B) failures failures up up
+line_of now failures up = lines_of (one_entry_at now A) (one_entry_at now B) failures failures up up false false
     (logged_for Both (entry now (one_frame A)) ∷ [])
 
 abbrev pub one_line_at : ℕ → Lines

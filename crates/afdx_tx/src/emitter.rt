@@ -6,9 +6,10 @@ use crate::phase::{Phase, Sending};
 use crate::port::TxPort;
 use crate::report::Report;
 use crate::transmitter::{Transmitter, Unreported};
+use afdx_frame::Net;
 use afdx_plan::{Config, VlId};
 use arrayvec::ArrayVec;
-use redundant_mux::{Network, Standing};
+use redundant_mux::{Failable, Network, Standing};
 use status_board::Counts;
 use std::marker::{Model, PhantomData};
 use std::sync::Wait;
@@ -148,6 +149,18 @@ impl<A: Network + Drop, B: Network + Drop, P: Phase> Emitter<A, B, P> {
         ensures { Publishes self.old self.new }
     {
         self.inner.publish(rt);
+    }
+}
+
+impl<A: Failable + Drop, B: Failable + Drop, P: Phase> Emitter<A, B, P> {
+    ghost use Rattle.std.specs.Prelude.{◌≡◌};
+    ghost use Rattle.redundant_mux.specs.Lines.{with_failing};
+
+    /// Makes a network fail at each later frame. It stays up until then.
+    pub fn fail(&mut self, net: Net)
+        ensures { self.new ≡ record self.old { lines = with_failing net self.old.lines } }
+    {
+        self.inner.fail(net);
     }
 }
 

@@ -13,10 +13,10 @@ use crate::gather::gather_links;
 use crate::port::TxPort;
 use crate::report::Release;
 use crate::routing::link_of_sub;
-use afdx_frame::FrameBuffer;
+use afdx_frame::{FrameBuffer, Net};
 use afdx_plan::{Config, Networks, VlId};
 use arrayvec::ArrayVec;
-use redundant_mux::{Mux, Network};
+use redundant_mux::{Failable, Mux, Network};
 use status_board::{Board, Counts};
 use std::boxed::BoxedSlice;
 use std::marker::Model;
@@ -320,5 +320,16 @@ impl<A: Network + Drop, B: Network + Drop> Transmitter<A, B> {
         ensures conforms { Conforms self.new }
     {
         gather_links(&self.config, &mut self.links, ports);
+    }
+}
+
+impl<A: Failable + Drop, B: Failable + Drop> Transmitter<A, B> {
+    ghost use Rattle.redundant_mux.specs.Lines.{with_failing};
+
+    /// Makes a network fail at each later frame.
+    pub fn fail(&mut self, net: Net)
+        ensures { self.new ≡ record self.old { lines = with_failing net self.old.lines } }
+    {
+        self.mux.fail(net);
     }
 }

@@ -141,7 +141,7 @@ fn use_frames(
     let (port, link) = first_flow(config)?;
     let Letter { bytes } = message;
     let mut cut = Cut::new(bytes, 0, &port);
-    let _failing = mux.network_b().fail();
+    mux.fail(Net::B);
     use_frame(rt, &mut cut, &link, &mut mux, 0, Networks::OnlyA);
     use_frame(rt, &mut cut, &link, &mut mux, 1, Networks::Both);
     let is_last = cut.next_frame(&link, 1, 2, Net::A).is_none();

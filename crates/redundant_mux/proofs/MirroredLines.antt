@@ -100,7 +100,7 @@ log_same lines after same = ap entries_of same
 
 -- the lines of two networks that accepted nothing
 abbrev pub fresh_lines : Lines
-fresh_lines = lines_of [] [] 0 0 true true []
+fresh_lines = lines_of [] [] 0 0 true true false false []
 
 -- Their log is empty.
 pub fresh_log : log fresh_lines ≡ []
@@ -151,3 +151,17 @@ both_on before mid after p q = grind (arith, endures_on)
 pub stood_before : (before after : Lines) (networks : Networks) → BothEndure before after → any_up networks after ≡ true
     → any_up networks before ≡ true
 stood_before before after networks p some = grind (arith, ⊎_elim, and_parts, or_left, and_from, or_right, or_cases)
+
+-- Lines mirror the log whichever network was made to fail.
+pub mirrored_failing : (lines : Lines) (p q : Bool) → IsMirrored lines
+    → IsMirrored (record lines { a_failing = p; b_failing = q })
+mirrored_failing lines p q m = record { first = m.first; second = m.second; one = m.one; for_a = m.for_a }
+
+-- They are in step whichever network was made to fail.
+pub in_step_failing : (lines : Lines) (p q : Bool) → AreInStep lines
+    → AreInStep (record lines { a_failing = p; b_failing = q })
+in_step_failing lines p q s = record {
+  a_unfailed = s.a_unfailed;
+  b_unfailed = s.b_unfailed;
+  mirrored = mirrored_failing lines p q s.mirrored;
+}

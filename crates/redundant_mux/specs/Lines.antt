@@ -1,5 +1,5 @@
 -- The frames that two networks accepted, in one log and by network, and which networks are up.
-use Rattle.std.specs.Prelude.{ℕ, List, Bool, map, filter, nat_eq, ◌≡◌, ◌⊎◌, ◌↔◌, ◌+◌, ◌≤◌, [], ◌∷◌, ◌++◌, true, false, ◌&&◌, ◌||◌, All}
+use Rattle.std.specs.Prelude.{ℕ, List, Bool, map, filter, ◌≡◌, ◌⊎◌, ◌↔◌, ◌+◌, ◌≤◌, [], ◌∷◌, ◌++◌, true, false, ◌&&◌, ◌||◌, All}
 use Rattle.afdx_plan.specs.declared.link_plan.Networks.{Networks}
 use Rattle.afdx_plan.specs.declared.link_plan.Networks.TheVariants.{OnlyA, OnlyB}
 use Rattle.afdx_plan.specs.Plan.{carries_a, carries_b}
@@ -27,10 +27,6 @@ logged_for networks e = record { networks = networks; entry = e }
 abbrev pub entries_of : List Logged → List Entry
 entries_of logged = map (λ (l : Logged). l.entry) logged
 
--- what the reads of a flag found, from a log of them: the time of an entry is 1 if the flag was set, otherwise 0
-abbrev pub reads_of : List Logged → List Bool
-reads_of logged = map (λ (l : Logged). nat_eq l.entry.at 1) logged
-
 -- the network is among those named
 abbrev pub names : Net → Networks → Bool
 names A networks = carries_a networks
@@ -49,8 +45,8 @@ side net e = record { at = e.at; frame = twin_of net e.frame }
 abbrev pub sent_to : Net → List Logged → List Entry
 sent_to net logged = map (side net) (entries_of (filter (λ (l : Logged). names net l.networks) logged))
 
--- The frames that each network accepted, its failures, and whether it is up. `logged` has in order
--- the frames that at least one network accepted.
+-- The frames that each network accepted, its failures, whether it is up, and whether it was made to fail. `logged` has
+-- in order the frames that at least one network accepted.
 pub record Lines : Type 0 where
   pub a : List Entry
   pub b : List Entry
@@ -58,12 +54,30 @@ pub record Lines : Type 0 where
   pub b_failures : ℕ
   pub a_stands : Bool
   pub b_stands : Bool
+  pub a_failing : Bool
+  pub b_failing : Bool
   pub logged : List Logged
 
 -- the lines of two networks
-abbrev pub lines_of : (a b : List Entry) (a_failures b_failures : ℕ) (a_stands b_stands : Bool) (logged : List Logged) → Lines
-lines_of a b f g s t logged =
-    record { a = a; b = b; a_failures = f; b_failures = g; a_stands = s; b_stands = t; logged = logged }
+abbrev pub lines_of : (a b : List Entry) (a_failures b_failures : ℕ) (a_stands b_stands a_failing b_failing : Bool)
+    (logged : List Logged) → Lines
+lines_of a b f g s t p q logged =
+    record {
+      a = a;
+      b = b;
+      a_failures = f;
+      b_failures = g;
+      a_stands = s;
+      b_stands = t;
+      a_failing = p;
+      b_failing = q;
+      logged = logged;
+    }
+
+-- the lines after this network was made to fail
+abbrev pub with_failing : Net → Lines → Lines
+with_failing A lines = record lines { a_failing = true }
+with_failing B lines = record lines { b_failing = true }
 
 -- One network at a hand of an entry. `named` says whether the entry is for it, `stood` and `stands`
 -- whether it is up before and afterwards.
@@ -87,10 +101,17 @@ pub record Endures (stood stands : Bool) (old new : List Entry) (failures_old fa
   pub most : failures_new ≤ failures_old + 1
   pub down : stood ≡ false → (new ≡ old) × (failures_new ≡ failures_old)
 
+-- One network through a list of hands: none makes it fail, and if it was made to fail, it accepts nothing.
+pub record StaysFailing (was is : Bool) (old new : List Entry) : Type 0 where
+  pub same : is ≡ was
+  pub silent : was ≡ true → new ≡ old
+
 -- both networks through a list of hands
 pub record BothEndure (before after : Lines) : Type 0 where
   pub a : Endures before.a_stands after.a_stands before.a after.a before.a_failures after.a_failures
   pub b : Endures before.b_stands after.b_stands before.b after.b before.b_failures after.b_failures
+  pub a_failing : StaysFailing before.a_failing after.a_failing before.a after.a
+  pub b_failing : StaysFailing before.b_failing after.b_failing before.b after.b
 
 -- one of these networks is up
 abbrev pub some_of : Networks → (a b : Bool) → Bool

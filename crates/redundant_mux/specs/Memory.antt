@@ -24,25 +24,19 @@ entry_of one = entry one.at one.frame.items
 abbrev pub entries : List Handed → List Entry
 entries handed = map entry_of handed
 
--- all frames that it accepted, its number of failures, and what each call found when it read the flag
+-- all frames that it accepted, its number of failures, and whether it was made to fail
 pub record OutboxView : Type 0 where
   pub handed : List Entry
   pub failures : ℕ
-  pub reads : List Bool
+  pub failing : Bool
 
 -- an outbox that had no call
 abbrev pub fresh_outbox : OutboxView
-fresh_outbox = record { handed = []; failures = 0; reads = [] }
+fresh_outbox = record { handed = []; failures = 0; failing = false }
 
--- A call fails exactly if the flag is set or 2^64 - 1 frames were accepted.
-abbrev pub FailsBy : (is_set : Bool) → OutboxView → (fails : Type 0) → Type 0
-FailsBy is_set old fails = fails ↔ ((is_set ≡ true) ⊎ (2 ^ 64 ≤ length old.handed + 1))
-
--- A call reads the flag once, and fails by what it found.
-pub record FailsByFlag (old new : OutboxView) (fails : Type 0) : Type 0 where
-  pub is_set : Bool
-  pub reads : new.reads ≡ old.reads ++ is_set ∷ []
-  pub by : FailsBy is_set old fails
+-- A call fails exactly if the outbox was made to fail, or if 2^64 - 1 frames were accepted.
+abbrev pub Refuses : OutboxView → (fails : Type 0) → Type 0
+Refuses outbox fails = fails ↔ ((outbox.failing ≡ true) ⊎ (2 ^ 64 ≤ length outbox.handed + 1))
 
 abbrev pub kept_entry : Kept → Entry
 kept_entry one = entry one.at one.frame.value.items

@@ -2,7 +2,6 @@
 //! Has two networks: one keeps all frames in memory, the other the last 64, or those of its last time.
 #![tactic(auto)]
 
-mod flag;
 mod memory;
 mod mux;
 mod network;
@@ -12,7 +11,7 @@ mod trail;
 
 pub use memory::{Handed, MemNetwork};
 pub use mux::{BothDown, Mux, Standing};
-pub use network::{HandFault, Network};
-pub use outbox::{Failing, Kept, Outbox, ROOM};
+pub use network::{Failable, HandFault, Network};
+pub use outbox::{Kept, Outbox, ROOM};
 pub use span::{LastFrames, LastTime, Span};
 pub use trail::Trail;

@@ -3,9 +3,9 @@ ghost use Rattle.std.specs.Prelude.{◌≡◌, ℕ, ◌≤◌, ◌↔◌, [], �
 ghost use Rattle.afdx_plan.specs.Plan.{carries_a, carries_b};
 ghost use Rattle.afdx_frame.specs.Header.{twin_of};
 ghost use Rattle.afdx_frame.specs.declared.net.Net.TheVariants.{A as ForA, B as ForB};
-ghost use Rattle.redundant_mux.specs.Lines.{entry, logged_for, Handing, BothEndure, some_of, any_up, IsMirrored};
+ghost use Rattle.redundant_mux.specs.Lines.{entry, logged_for, Handing, BothEndure, StaysFailing, some_of, any_up, IsMirrored};
 
-use crate::network::Network;
+use crate::network::{Failable, Network};
 use crate::trail::Trail;
 use afdx_frame::{Frame, FrameBuffer, GREATEST_FRAME, Net};
 use afdx_plan::Networks;
@@ -31,9 +31,8 @@ impl Standing {
     }
 }
 
-/// Two networks, each of which is abandoned at its first failure. Contracts see the frames that
-/// each accepted, the failures, which networks are up, and in order the frames that at least one
-/// accepted.
+/// Two networks, each of which is abandoned at its first failure. Contracts see the frames that each accepted, the
+/// failures, which networks are up, which were made to fail, and in order the frames that at least one accepted.
 #[derive(Drop)]
 pub struct Mux<A: Network + Drop, B: Network + Drop> {
     a: A,
@@ -49,10 +48,10 @@ impl<A: Network + Drop, B: Network + Drop> Model for Mux<A, B> {
     ghost Value = { Lines };
 
     ghost view = { λ m. lines_of (A.handed m.a) (B.handed m.b) (A.failures m.a) (B.failures m.b)
-        m.standing.a m.standing.b m.trail.logged };
+        m.standing.a m.standing.b (A.failing m.a) (B.failing m.b) m.trail.logged };
 
     ghost invariant = { λ m. AreInStep (lines_of (A.handed m.a) (B.handed m.b) (A.failures m.a)
-        (B.failures m.b) m.standing.a m.standing.b m.trail.logged) };
+        (B.failures m.b) m.standing.a m.standing.b (A.failing m.a) (B.failing m.b) m.trail.logged) };
 }
 
 /// Sends a frame once to the network if it is named and up. A failure takes the network down.
@@ -69,6 +68,7 @@ fn hand_to<N: Network + Drop>(
         (N.handed network.old) (N.handed network.new)
         (N.failures network.old) (N.failures network.new) }
     ensures unfailed { stands.new ≡ true → N.failures network.new ≡ 0 }
+    ensures failing { StaysFailing (N.failing network.old) (N.failing network.new) (N.handed network.old) (N.handed network.new) }
 {
     if named && *stands && network.hand(at, frame).is_err() {
         *stands = false;
@@ -88,6 +88,7 @@ fn hand_with<N: Network + Drop>(
         (N.handed network.old) (N.handed network.new)
         (N.failures network.old) (N.failures network.new) }
     ensures unfailed { stands.new ≡ true → N.failures network.new ≡ 0 }
+    ensures failing { StaysFailing (N.failing network.old) (N.failing network.new) (N.handed network.old) (N.handed network.new) }
 {
     if named && *stands && network.hand_with(at, frame).is_err() {
         *stands = false;
@@ -118,6 +119,8 @@ impl<A: Network + Drop, B: Network + Drop> Mux<A, B> {
           b_failures = 0;
           a_stands = true;
           b_stands = true;
+          a_failing = A.failing a;
+          b_failing = B.failing b;
           logged = [];
         } }
     {
@@ -259,5 +262,19 @@ impl<A: Network + Drop, B: Network + Drop> Mux<A, B> {
         let taken = self.standing.has_one_of(networks);
         note(&mut self.trail, taken, longer);
         Ok(self.standing)
+    }
+}
+
+impl<A: Failable + Drop, B: Failable + Drop> Mux<A, B> {
+    ghost use Rattle.redundant_mux.specs.Lines.{with_failing};
+
+    /// Makes a network fail at each later frame. It stays up until then.
+    pub fn fail(&mut self, net: Net)
+        ensures { self.new ≡ with_failing net self.old }
+    {
+        match net {
+            Net::A => self.a.fail(),
+            Net::B => self.b.fail(),
+        }
     }
 }

@@ -1,5 +1,5 @@
 //! The interface of a network.
-ghost use Rattle.std.specs.Prelude.{◌≡◌, ℕ, ◌+◌, ◌^◌, ◌<◌, ◌≤◌, List, [], ◌∷◌, ◌++◌, length, OnOk, OnErr};
+ghost use Rattle.std.specs.Prelude.{◌≡◌, ℕ, ◌+◌, ◌^◌, ◌<◌, ◌≤◌, Bool, true, false, List, [], ◌∷◌, ◌++◌, length, OnOk, OnErr, IsErr};
 ghost use Rattle.redundant_mux.specs.Lines.{Entry, entry};
 
 use afdx_frame::{FrameBuffer, GREATEST_FRAME};
@@ -8,12 +8,14 @@ use afdx_frame::{FrameBuffer, GREATEST_FRAME};
 #[derive(Clone, Copy, Debug, PartialEq, Eq)]
 pub struct HandFault;
 
-/// A network, seen by contracts as the frames that it accepted, with their times in microseconds,
-/// and its number of failures.
+/// A network. Contracts see the frames that it accepted, with their times in microseconds, its number of failures,
+/// and whether it was made to fail.
 pub trait Network {
     ghost handed: { Self → List Entry };
 
     ghost failures: { Self → ℕ };
+
+    ghost failing: { Self → Bool } = { λ _. false };
 
     /// Sends the network a frame, from destination MAC address to sequence number, at `at` in
     /// microseconds. After an error the network has the same frames and one failure more.
@@ -23,7 +25,9 @@ pub trait Network {
         ensures ok { OnOk result (handed self.new ≡ handed self.old ++ entry at frame.now ∷ []) }
         ensures ok_failures { OnOk result (failures self.new ≡ failures self.old) }
         ensures err { OnErr result (handed self.new ≡ handed self.old) }
-        ensures err_failures { OnErr result (failures self.new ≡ failures self.old + 1) };
+        ensures err_failures { OnErr result (failures self.new ≡ failures self.old + 1) }
+        ensures failing { failing self.new ≡ failing self.old }
+        ensures fails { failing self.old ≡ true → IsErr result };
 
     /// As `hand`, with the frame in its buffer, which the network may keep if it leaves another there.
     /// What the buffer has afterwards is open.
@@ -34,7 +38,18 @@ pub trait Network {
         ensures ok_failures { OnOk result (failures self.new ≡ failures self.old) }
         ensures err { OnErr result (handed self.new ≡ handed self.old) }
         ensures err_failures { OnErr result (failures self.new ≡ failures self.old + 1) }
+        ensures failing { failing self.new ≡ failing self.old }
+        ensures fails { failing self.old ≡ true → IsErr result }
     {
         self.hand(at, frame.as_slice())
     }
+}
+
+/// A network that can be made to fail, to try what comes after.
+pub trait Failable: Network {
+    /// Makes each later call of `hand` and `hand_with` fail.
+    fn fail(&mut self)
+        ensures handed { Self.handed self.new ≡ Self.handed self.old }
+        ensures failures { Self.failures self.new ≡ Self.failures self.old }
+        ensures failing { Self.failing self.new ≡ true };
 }

@@ -2,8 +2,7 @@
 ghost use Rattle.std.specs.Prelude.{◌≡◌, ◌+◌, ◌-◌, ◌%◌, ◌≤◌, ◌^◌, ◌<◌, ◌||◌, nat_eq, [], ◌∷◌, ◌++◌, true, false, if◌then◌else◌, length, IfOk, OnOk, OnErr, IsErr};
 ghost use Rattle.redundant_mux.specs.Lines.{entry};
 
-use crate::flag::Flag;
-use crate::network::{HandFault, Network};
+use crate::network::{Failable, HandFault, Network};
 use crate::span::{LastFrames, LastTime, Span};
 use crate::trail::Trail;
 use afdx_frame::{FrameBuffer, GREATEST_FRAME};
@@ -47,14 +46,14 @@ impl Latest {
 
 /// A network that keeps the last 64 frames that it accepted, by their numbers, or of these only those of the last time
 /// (`Outbox<LastTime>`), and fails each call of `hand` and `hand_with` after `fail`. Contracts see all frames that it
-/// accepted, the failures, and what each of those calls found when it read the flag that `fail` sets.
+/// accepted, the failures, and whether it was made to fail.
 #[derive(Drop)]
 pub struct Outbox<S: Span = LastFrames> {
     slots: BoxedSlice<Kept>,
     latest: Latest,
     count: u64,
     failures: u64,
-    flag: Flag,
+    failing: bool,
     // All frames accepted so far, for proofs alone.
     trail: Trail,
     span: PhantomData<S>,
@@ -70,24 +69,10 @@ impl<S: Span> Model for Outbox<S> {
     ghost view = { λ o. record {
       handed = entries_of o.trail.logged;
       failures = o.failures;
-      reads = o.flag;
+      failing = o.failing;
     } };
 
     ghost invariant = { λ o. KeepsLast S.EARLIER (boxed_slice_items o.slots) o.latest o.count (entries_of o.trail.logged) };
-}
-
-/// The outbox that `Outbox::fail` was called on. Nothing else makes one.
-#[derive(Drop)]
-pub struct Failing<'a, S: Span = LastFrames> {
-    outbox: &'a Outbox<S>,
-}
-
-impl<'a, S: Span> Model for Failing<'a, S> {
-    ghost use Rattle.redundant_mux.specs.Memory.{OutboxView};
-
-    ghost Value = { OutboxView };
-
-    ghost view = { λ f. f.outbox.now };
 }
 
 /// 64 empty slots.
@@ -130,7 +115,7 @@ impl Outbox<LastTime> {
 
 impl<S: Span> Outbox<S> {
     ghost use Rattle.std.specs.Prelude.{◌≡◌, ◌↔◌, [], length, IsSome, IfSome, IfOk};
-    ghost use Rattle.redundant_mux.specs.Memory.{IsKept, entry_at, kept_entry, fresh_outbox, FailsByFlag};
+    ghost use Rattle.redundant_mux.specs.Memory.{IsKept, entry_at, kept_entry, fresh_outbox, Refuses};
 
     /// An outbox without frames.
     fn empty(alloc: Global) -> Result<Outbox<S>, AllocError>
@@ -141,7 +126,7 @@ impl<S: Span> Outbox<S> {
             latest: Latest { at: 0, first: 0 },
             count: 0,
             failures: 0,
-            flag: Flag::new(),
+            failing: false,
             trail: Trail::new(),
             span: PhantomData,
         })
@@ -167,23 +152,16 @@ impl<S: Span> Outbox<S> {
         Some(&self.slots[((number - first) % ROOM as u64) as usize])
     }
 
-    /// Makes each later call of `hand` and `hand_with` fail.
-    pub fn fail(&self) -> Failing<'_, S>
-        ensures { result ≡ self.now }
-    {
-        self.flag.set();
-        Failing { outbox: self }
-    }
-
-    /// Reads the flag, and counts a failure if it is set or 2^64 - 1 frames were accepted.
+    /// Counts a failure if it was made to fail or 2^64 - 1 frames were accepted.
     fn refuses(&mut self) -> bool
         requires few { self.old.failures + 1 < 2 ^ 64 }
         ensures handed { self.new.handed ≡ self.old.handed }
         ensures failures { self.new.failures ≡ (if result then self.old.failures + 1 else self.old.failures) }
-        ensures fails { FailsByFlag self.old self.new (result ≡ true) }
+        ensures failing { self.new.failing ≡ self.old.failing }
+        ensures fails { Refuses self.old (result ≡ true) }
         ensures room { result ≡ false → length self.old.handed + 1 < 2 ^ 64 }
     {
-        let refused = self.flag.read() || self.count == u64::MAX;
+        let refused = self.failing || self.count == u64::MAX;
         if refused {
             self.failures += 1;
         }
@@ -192,13 +170,15 @@ impl<S: Span> Outbox<S> {
 }
 
 impl<S: Span> Network for Outbox<S> {
-    ghost use Rattle.redundant_mux.specs.Memory.{OutboxView, FailsByFlag};
+    ghost use Rattle.redundant_mux.specs.Memory.{OutboxView, Refuses};
 
     ghost handed = { λ o. o.handed };
 
     ghost failures = { λ o. o.failures };
 
-    /// Copies the frame over an older one. Reads the flag once. Fails exactly if it is set, or if 2^64 - 1 frames were
+    ghost failing = { λ o. o.failing };
+
+    /// Copies the frame over an older one. Fails exactly if the outbox was made to fail, or if 2^64 - 1 frames were
     /// accepted.
     fn hand(&mut self, at: u64, frame: &[u8]) -> Result<(), HandFault>
         requires short { length frame.now ≤ GREATEST_FRAME }
@@ -208,7 +188,8 @@ impl<S: Span> Network for Outbox<S> {
         ensures err { OnErr result (self.new.handed ≡ self.old.handed) }
         ensures err_failures { OnErr result (self.new.failures ≡ self.old.failures + 1) }
 
-        ensures fails { FailsByFlag self.old self.new (IsErr result) }
+        ensures failing { self.new.failing ≡ self.old.failing }
+        ensures fails { Refuses self.old (IsErr result) }
     {
         if self.refuses() {
             return Err(HandFault);
@@ -231,7 +212,8 @@ impl<S: Span> Network for Outbox<S> {
         ensures err { OnErr result (self.new.handed ≡ self.old.handed) }
         ensures err_failures { OnErr result (self.new.failures ≡ self.old.failures + 1) }
 
-        ensures fails { FailsByFlag self.old self.new (IsErr result) }
+        ensures failing { self.new.failing ≡ self.old.failing }
+        ensures fails { Refuses self.old (IsErr result) }
     {
         if self.refuses() {
             return Err(HandFault);
@@ -242,5 +224,16 @@ impl<S: Span> Network for Outbox<S> {
         self.count += 1;
         self.trail = Trail::with(&self.trail, &Networks::Both, &at, slot.frame.as_slice());
         Ok(())
+    }
+}
+
+impl<S: Span> Failable for Outbox<S> {
+    ghost use Rattle.redundant_mux.specs.Memory.{OutboxView};
+
+    /// Makes each later call of `hand` and `hand_with` fail.
+    fn fail(&mut self)
+        ensures { self.new ≡ record self.old { failing = true } }
+    {
+        self.failing = true;
     }
 }

@@ -45,7 +45,7 @@ message_accepted k sub = one_accepted
 -- these frames, transmitted on both networks at these times
 abbrev pub lines_by : List (ℕ × (Net → List ℕ)) → Lines
 lines_by frames = lines_of (map (λ (f : ℕ × (Net → List ℕ)). entry f.0 (f.1 A)) frames)
-    (map (λ (f : ℕ × (Net → List ℕ)). entry f.0 (f.1 B)) frames) 0 0 true true
+    (map (λ (f : ℕ × (Net → List ℕ)). entry f.0 (f.1 B)) frames) 0 0 true true false false
     (map (λ (f : ℕ × (Net → List ℕ)). logged_for Both (entry f.0 (f.1 A))) frames)
 
 -- the first frame
@@ -61,7 +61,7 @@ both_lines = both_at 1000
 
 -- both networks failed with the second frame
 abbrev pub lost_line : Lines
-lost_line = lines_of (entry 0 (front_frame A) ∷ []) (entry 0 (front_frame B) ∷ []) 1 1 false false
+lost_line = lines_of (entry 0 (front_frame A) ∷ []) (entry 0 (front_frame B) ∷ []) 1 1 false false false false
     (logged_for Both (entry 0 (front_frame A)) ∷ [])
 
 abbrev pub front_entry : Entry
@@ -205,7 +205,7 @@ other_line = lines_by ((0, other_frame) ∷ [])
 
 -- both networks failed before they accepted a frame
 abbrev pub failed_line : Lines
-failed_line = lines_of [] [] 1 1 false false []
+failed_line = lines_of [] [] 1 1 false false false false []
 
 -- The law for the message after `earlier` others, where `many` were accepted, and a poll at `now` follows the start at
 -- time 0, with no lateness. Each premise with flag `true` holds, each other one fails, and so does the conclusion.

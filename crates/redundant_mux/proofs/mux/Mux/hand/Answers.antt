@@ -8,7 +8,8 @@ use Rattle.redundant_mux.proofs.mux.Mux.hand.Goals as goal
 left : (g : Given.Over) (c : goal.After-result-1 g)
     → IsMirrored (lines_of (g.A.Network.handed c.hand_to.new.network) (g.B.Network.handed c.hand_to-2.new.network)
     (g.A.Network.failures c.hand_to.new.network) (g.B.Network.failures c.hand_to-2.new.network)
-    c.hand_to.new.stands c.hand_to-2.new.stands c.note.new.trail.logged)
+    c.hand_to.new.stands c.hand_to-2.new.stands (g.A.Network.failing c.hand_to.new.network)
+    (g.B.Network.failing c.hand_to-2.new.network) c.note.new.trail.logged)
 left g c =
     let for_a = ap (entry c.args.at) c.requires in
     let a = rw (c.carries_a-named_a.ensures, c.deref-2.ensures.0) at c.hand_to.ensures.handing in

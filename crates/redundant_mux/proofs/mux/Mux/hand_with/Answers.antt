@@ -10,7 +10,8 @@ use Rattle.redundant_mux.proofs.mux.Mux.hand_with.Goals as goal
 left : (g : Given.Over) (c : goal.After-result-1 g)
     → IsMirrored (lines_of (g.A.Network.handed c.hand_to.new.network) (g.B.Network.handed c.hand_with.new.network)
     (g.A.Network.failures c.hand_to.new.network) (g.B.Network.failures c.hand_with.new.network)
-    c.hand_to.new.stands c.hand_with.new.stands c.note.new.trail.logged)
+    c.hand_to.new.stands c.hand_with.new.stands (g.A.Network.failing c.hand_to.new.network)
+    (g.B.Network.failing c.hand_with.new.network) c.note.new.trail.logged)
 left g c =
     let handed = entry c.args.at c.args.frame.now.value.items in
     let a : Handing (carries_a c.args.networks) handed c.self.inside.standing.a c.hand_to.new.stands
