@@ -7,7 +7,7 @@ The program, and the examples for C, C++, CMake and Python must print what the p
 C++ also with the address and the undefined behaviour sanitizer, and all again in a root that has the system's programs and
 the folder, and neither this tree nor the toolchain. The headers must compile without a warning in each version of C and
 C++. The man page and the completions must have each word of the program's help. It uses `CC` or `cc`. What needs a program
-that is missing, or root, is skipped and named. The last line is 'N passed, M failed'.
+that is missing, or root, is named and counted as skipped. The last line is 'N passed, M failed' or 'N passed, M failed, K skipped'.
 """
 import os
 import re
@@ -68,7 +68,7 @@ class Tried:
     def lacks(self, what, program):
         """Returns whether a program is missing, and prints that."""
         if program is None:
-            print(f"no {what}: skipped", flush=True)
+            self.tries.skip(f"no {what}")
         return program is None
 
 
@@ -96,7 +96,7 @@ def try_headers(tried):
     ways = [("afdx_judge.h", name, "c", it) for name in ("gcc", "clang") for it in ("c99", "c11", "c17")]
     ways += [(header, name, "c++", it) for header in ("afdx_judge.h", "afdx.hpp") for name in ("g++", "clang++") for it in ("c++11", "c++17", "c++20")]
     for header, name, language, version in ways:
-        if shutil.which(name):
+        if not tried.lacks(name, shutil.which(name)):
             source = f"{tried.room}/empty/header.c"
             with open(source, "w", encoding="utf-8") as file:
                 file.write(f"#include <{header}>\n#include <{header}>\nint main(void) {{ return AFDX_OK; }}\n")
@@ -256,7 +256,7 @@ def try_python(tried):
     quiet = {"PIP_ROOT_USER_ACTION": "ignore", "PIP_DISABLE_PIP_VERSION_CHECK": "1"}
     pip = tried.ran([sys.executable, "-m", "pip", "install", "--quiet", "--no-index", "--target", target, *wheel], **quiet)
     if pip.returncode and "No module named pip" in pip.stderr:
-        print("no pip: skipped", flush=True)
+        tried.tries.skip("no pip")
         return
     tried.show("pip install", pip)
     tried.show("Python, installed by pip", tried.ran([sys.executable, "-B", program, tried.config], PYTHONPATH=target), ONE_FRAME)
@@ -303,7 +303,7 @@ def try_wire(tried):
     if tried.lacks("root, ip, unshare and nsenter", os.geteuid() == 0 and all(map(shutil.which, ("ip", "unshare", "nsenter"))) or None):
         return
     if tried.ran(["unshare", "--net", "ip", "link", "add", "one", "type", "veth", "peer", "name", "two"]).returncode:
-        print("no veth pairs: skipped", flush=True)
+        tried.tries.skip("no veth pairs")
         return
     wire = tried.ran(["bash", f"{tried.examples}/c/wire.sh", "20"])
     tried.tries.show("wire.sh 20", [] if wire.returncode == 0 else [wire.stdout[-1000:] + wire.stderr[-1000:]])
@@ -342,7 +342,7 @@ def try_alone(tried):
     if tried.lacks("root and unshare", os.geteuid() == 0 and shutil.which("unshare") or None):
         return
     if tried.ran(["unshare", "--mount", "true"]).returncode or not os.path.islink("/bin"):
-        print("no mount namespace, or no merged /usr: skipped", flush=True)
+        tried.tries.skip("no mount namespace, or no merged /usr")
         return
     ways = 5 if os.path.exists("/usr/bin/c++") else 4
     tried.show(f"{ways} ways in a root of its own", tried.ran(words), f"{ONE_FRAME * ways}alone\n")

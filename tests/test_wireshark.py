@@ -1,7 +1,7 @@
 #!/usr/bin/env python3
 """Tests bindings/afdx.lua by tshark on a capture of the program, as it is and with a fault planted in it, with and
-without a plan and frame check sequences. Each fault has its own expert info and no other. Without tshark nothing is
-tried, which it says. The last line is 'N passed, M failed'."""
+without a plan and frame check sequences. Each fault has its own expert info and no other. Without tshark all is
+skipped. The last line is 'N passed, M failed' or 'N passed, M failed, K skipped'."""
 import shutil
 import struct
 import subprocess
@@ -12,7 +12,7 @@ from collections.abc import Callable
 
 # (no compiled copy is left beside the scripts)
 sys.dont_write_bytecode = True
-from trying import ROOT, text_of
+from trying import ROOT, Tries, text_of
 
 HEADER = 92
 # Wireshark's own notes on a time to live of 1 and on the byte after the padding, which the guide says how to silence.
@@ -155,10 +155,10 @@ PLANS: list[tuple[str, str, Callable[[list[Packet]], None] | None, int, str]] = 
 
 
 def main() -> int:
+    tries = Tries()
     if not shutil.which("tshark"):
-        print("tshark isn't here: the dissector isn't tried\n1 passed, 0 failed")
-        return 0
-    passed = failed = 0
+        tries.skip("no tshark")
+        return tries.end()
     with tempfile.TemporaryDirectory() as room:
         with open(f"{room}/script.txt", "w", encoding="utf-8") as file:
             # (message 300 is of 18 bytes, whose frame has 61)
@@ -187,10 +187,8 @@ def main() -> int:
         notes = found(None, *QUIET, shown='_ws.expert.severity > "Comment"')
         results.append(("Wireshark's own notes", notes == [], notes))
         for name, is_well, notes in results:
-            print(f"{name}: {'ok' if is_well else f'FAILED: {notes[:5]}'}")
-            passed, failed = passed + is_well, failed + (not is_well)
-    print(f"{passed} passed, {failed} failed")
-    return 1 if failed else 0
+            tries.show(name, [] if is_well else notes[:5] or ["no notes"])
+    return tries.end()
 
 
 if __name__ == "__main__":

@@ -94,10 +94,15 @@ def started(program, words, timeout=60, **how):
 
 
 class Tries:
-    """Counts what was tried, and how often it was as it has to be."""
+    """Counts what was tried, how often it was as it has to be, and what couldn't be tried here."""
 
     def __init__(self):
-        self.passed, self.failed = 0, 0
+        self.passed, self.failed, self.skipped = 0, 0, 0
+
+    def skip(self, why):
+        """Counts a test that can't run here, and prints why."""
+        print(f"{why}: skipped", flush=True)
+        self.skipped += 1
 
     def show(self, name, faults=(), more=""):
         """Prints a try with the first of its faults, of which there are none if all is as it has to be."""
@@ -116,5 +121,6 @@ class Tries:
 
     def end(self):
         """Prints the counts, and returns the exit status."""
-        print(f"{self.passed} passed, {self.failed} failed")
-        return 1 if self.failed or not self.passed else 0
+        more = f", {self.skipped} skipped" if self.skipped else ""
+        print(f"{self.passed} passed, {self.failed} failed{more}")
+        return 1 if self.failed or not self.passed + self.skipped else 0

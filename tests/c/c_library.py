@@ -102,7 +102,7 @@ def try_header(tries, room):
     ways = [(compiler(), ["-std=c99"]), (compiler("CXX", ("c++", "g++", "clang++")), ["-x", "c++", "-std=c++11"])]
     for program, flags in ways:
         if program is None:
-            print("no C++ compiler: the header isn't tried with one", flush=True)
+            tries.skip("no C++ compiler")
             continue
         made = ran([program, *flags, "-pedantic-errors", *WARNINGS, f"-I{CRATE}", "-fsyntax-only", source])
         tries.show(f"the header, {' '.join(flags)}", [made.stderr] if made.returncode else [])

@@ -365,8 +365,8 @@ def main() -> int:
         if has_tools and subprocess.run(veth, capture_output=True, check=False).returncode == 0:
             millis = sys.argv[2] if sys.argv[2:] else "3000"
             return subprocess.run(["unshare", "--net", sys.executable, "-B", __file__, "--inside", program, millis], check=False).returncode
-        print("no root, ip, unshare or veth pairs: what networks get is skipped", flush=True)
         tries = trying.Tries()
+        tries.skip("no root, ip, unshare or veth pairs")
         for name, faults in try_words(program):
             tries.show(name, faults)
         return tries.end()
