@@ -1,6 +1,6 @@
 #!/usr/bin/env python3
 """Tests bindings/afdx and the test bench as `install/install.sh` installs them into a folder of their own. The last
-line is 'N passed, M failed'."""
+line is 'N passed, M failed' or 'N passed, M failed, K skipped'."""
 import os
 import random
 import re
@@ -15,26 +15,20 @@ import time
 from collections.abc import Iterator
 from contextlib import contextmanager, suppress
 from pathlib import Path
+from unittest import SkipTest
 
-ROOT = os.path.dirname(os.path.dirname(os.path.abspath(__file__)))
+sys.dont_write_bytecode = True
+from trying import DEMO, ROOT, Tries, check, text_of
 
 PREFIX = tempfile.TemporaryDirectory(prefix="afdx-python-")
 PYTHON = f"{PREFIX.name}/lib/python"
 
-sys.dont_write_bytecode = True
 os.environ.pop("AFDX_LIBRARY", None)
 subprocess.run(["bash", f"{ROOT}/install/install.sh", "--built", PREFIX.name], check=True)
 sys.path[:0] = [PYTHON, f"{ROOT}/tests/judge", f"{ROOT}/tests/run"]
 import afdx
 from afdx import A, B, EndSystem
 
-
-def text_of(path: str) -> str:
-    with open(f"{ROOT}/{path}", encoding="utf-8") as file:
-        return file.read()
-
-
-DEMO = text_of("examples/c/demo.toml")
 SECOND = DEMO[DEMO.index("[[port]]") :].replace("id = 10", "id = 11").replace("1000", "1001")
 
 
@@ -57,7 +51,7 @@ def raises(error: type[Exception], call, *words) -> str:
     except error as raised:
         RAISED.add(type(raised).__name__)
         if isinstance(raised, afdx.AfdxError):
-            assert str(raised).startswith(f"{type(raised).__doc__}"), raised
+            check(str(raised).startswith(f"{type(raised).__doc__}"), raised)
         return str(raised)
     raise AssertionError(f"{call} didn't raise {error.__name__}")
 
@@ -79,8 +73,8 @@ def first_message() -> None:
     with EndSystem(DEMO) as it, it.port(10) as port:
         port.send(b"\x01")
         lines = [f"{'AB'[network]} 0 {frame.hex()}\n" for network, frame in it.poll(0)]
-        assert "".join(lines) == text_of("crates/afdx_bench/stdout"), lines
-        assert port.accepted == 1 and it.counts(1) == (1, 60, 1, 0)
+        check("".join(lines) == text_of("crates/afdx_bench/stdout"), lines)
+        check(port.accepted == 1 and it.counts(1) == (1, 60, 1, 0))
 
 
 def names() -> None:
@@ -94,7 +88,7 @@ def names() -> None:
         if not is_other and name not in ("OK", "A", "B", "A_STANDS", "B_STANDS", "GREATEST_FRAME", "MOST_FRAMES"):
             words = name.removeprefix("CONFIG_").split("_")
             wanted["OutOfMemory" if name == "MEMORY" else "".join(it.capitalize() for it in words)] = int(number)
-    assert found == wanted, set(found.items()) ^ set(wanted.items())
+    check(found == wanted, set(found.items()) ^ set(wanted.items()))
 
 
 def configurations() -> None:
@@ -108,15 +102,15 @@ def configurations() -> None:
     ]:
         text = (DEMO + SECOND).replace(old, new, 1)
         told = raises(error, EndSystem, text)
-        assert told == f"{error.__doc__}\n{afdx.explain(text)}".rstrip("\n") and f"\n{error.number} {error.__name__}: " in told, told
+        check(told == f"{error.__doc__}\n{afdx.explain(text)}".rstrip("\n") and f"\n{error.number} {error.__name__}: " in told, told)
     raises(afdx.SharedUnicast, EndSystem, SHARED)
-    assert afdx.explain(DEMO) == "no faults\n"
+    check(afdx.explain(DEMO) == "no faults\n")
     wanted = "1 fault\n5 OutOfRange: vl 1 (id 1), lmax is 63: 64 to 1518\n"
-    assert afdx.explain(DEMO.replace("1518", "63")) == wanted
+    check(afdx.explain(DEMO.replace("1518", "63")) == wanted)
     lines = afdx.explain("".join(f"k{k} = 1\n" for k in range(1002)) + DEMO).splitlines()
-    assert (len(lines), lines[0], lines[-1]) == (1002, "1002 faults", "and 2 more")
+    check((len(lines), lines[0], lines[-1]) == (1002, "1002 faults", "and 2 more"))
     with no_more_memory():
-        assert raises(afdx.OutOfMemory, EndSystem, GREAT) == "An allocation failed."
+        check(raises(afdx.OutOfMemory, EndSystem, GREAT) == "An allocation failed.")
 
 
 def answers() -> None:
@@ -138,27 +132,27 @@ def answers() -> None:
     raises(afdx.NoLink, it.counts, 2)
     for call, words in ((it.fail, (2,)), (it.frames, (2,)), (it.release, (2, 0))):
         raises(afdx.NoNetwork, call, *words)
-    assert it.close(1, 0) == 2
+    check(it.close(1, 0) == 2)
     raises(afdx.Closed, port.send, b"3")
     raises(afdx.NotGathered, lambda: it.is_done)
     raises(afdx.PortMissing, it.gather)
     (frame,) = it.poll(5).a
     raises(afdx.TimeBack, it.poll, 4)
-    assert it.frame(A, 0) == it.frame(A, 0, 60) == frame
+    check(it.frame(A, 0) == it.frame(A, 0, 60) == frame)
     raises(afdx.SmallBuffer, it.frame, A, 0, 59)
     raises(afdx.NoFrame, it.frame, B, 1)
     raises(afdx.NoFrame, it.release, B, 1)
-    assert it.release(B, 0) == afdx.Released(1, 0, 0) and it.release(A, 0).number == frame[-1]
+    check(it.release(B, 0) == afdx.Released(1, 0, 0) and it.release(A, 0).number == frame[-1])
     for call, words in ((it.port, (65546,)), (it.poll, (-1,)), (it.fail, (256,)), (it.close, (1, 256)), (it.counts, (-1,))):
         raises(OverflowError, call, *words)
     port.give_back()
     raises(afdx.NotHeld, port.send, b"3")
     it.gather()
     raises(afdx.Gathered, it.port, 10)
-    assert not it.is_done
+    check(not it.is_done)
     it.fail(A)
     it.fail(B)
-    assert not it.poll(1005).a_is_up
+    check(not it.poll(1005).a_is_up)
     raises(afdx.BothDown, it.poll, 2005)
     it.free()
     raises(afdx.NotHeld, it.poll, 3005)
@@ -173,8 +167,8 @@ def judging() -> None:
             found = afdx.judge(case.plan, *case.captures, **case.options._asdict())
         except afdx.BadCapture as error:
             found, captured = error.findings, str(error).splitlines()[1:]
-        assert [f"{it}\n" for it in found] == [it.line() for it in case.found], case.name
-        assert captured == [re.sub(r", \d+ of other interfaces", "", line) for line in case.captured], case.name
+        check([f"{it}\n" for it in found] == [it.line() for it in case.found], case.name)
+        check(captured == [re.sub(r", \d+ of other interfaces", "", line) for line in case.captured], case.name)
     with EndSystem(DEMO) as it, it.port(10) as port:
         port.send(b"1")
         frames = [(0, frame) for frame in it.poll(0).a]
@@ -184,14 +178,14 @@ def judging() -> None:
     with tempfile.TemporaryDirectory() as room:
         for name, data in (("plan", DEMO.encode()), ("capture", sent)):
             Path(room, name).write_bytes(data)
-        assert afdx.judge(Path(room, "plan"), Path(room, "capture")) == afdx.judge(bytearray(DEMO.encode()), memoryview(sent)) == []
+        check(afdx.judge(Path(room, "plan"), Path(room, "capture")) == afdx.judge(bytearray(DEMO.encode()), memoryview(sent)) == [])
         raises(FileNotFoundError, afdx.judge, DEMO, Path(room, "none"))
     found = afdx.judge(DEMO, late)
-    assert found == [("Missing", "", 1, A, 0, 1, 0, 0), ("Number", "", 2, A, 10**9, 1, 0, 1)], found
-    assert [f"{it}" for it in found] == ["1 A 0.000000000 vl 1 Missing: seen 0", "2 A 1.000000000 vl 1 Number: seen 0, wanted 1"]
+    check(found == [("Missing", "", 1, A, 0, 1, 0, 0), ("Number", "", 2, A, 10**9, 1, 0, 1)], found)
+    check([f"{it}" for it in found] == ["1 A 0.000000000 vl 1 Missing: seen 0", "2 A 1.000000000 vl 1 Number: seen 0, wanted 1"])
     told = raises(afdx.Toml, afdx.judge, "[", sent)
-    assert told == f"{afdx.Toml.__doc__}\n{afdx.explain('[')}".rstrip("\n"), told
-    assert raises(afdx.BadCapture, afdx.judge, DEMO, sent, b"").endswith("\ncapture 1: 1 packets\ncapture 2: 0 packets, cut off at byte 0")
+    check(told == f"{afdx.Toml.__doc__}\n{afdx.explain('[')}".rstrip("\n"), told)
+    check(raises(afdx.BadCapture, afdx.judge, DEMO, sent, b"").endswith("\ncapture 1: 1 packets\ncapture 2: 0 packets, cut off at byte 0"))
     for wrong in ({"jitter": -1}, {"skew": 1 << 64}):
         raises(OverflowError, lambda wrong=wrong: afdx.judge(DEMO, sent, **wrong))
     raises(TypeError, afdx.judge, DEMO, "capture.pcap")
@@ -206,16 +200,16 @@ def bytes_like() -> None:
     alike = [message, bytearray(message), memoryview(message), memoryview(message * 2)[:100], memoryview(message).cast("I"),
              memoryview(bytes(it for byte in message for it in (byte, 0)))[::2]]
     for text in (DEMO.encode(), bytearray(DEMO.encode()), memoryview(DEMO.encode())):
-        assert afdx.explain(text) == "no faults\n"
+        check(afdx.explain(text) == "no faults\n")
         with EndSystem(text) as it, it.port(10) as port:
             for k, data in enumerate(alike):
                 port.send(data)
                 (frame,) = it.poll(1000 * k).a
-                assert frame[42:142] == message, data
+                check(frame[42:142] == message, data)
             for wrong in ("text", 5, None, [1, 2]):
                 raises(TypeError, port.send, wrong)
                 raises(TypeError, port.try_send, wrong)
-            assert port.accepted == len(alike)
+            check(port.accepted == len(alike))
     for wrong in (5, None, [1, 2]):
         raises(TypeError, EndSystem, wrong)
 
@@ -223,52 +217,57 @@ def bytes_like() -> None:
 def tries() -> None:
     """`try_send` returns whether there was room, and raises what isn't about room."""
     with EndSystem(DEMO) as it, it.port(10) as port:
-        assert [port.try_send(b"1") for _ in range(4)] == [True, True, False, False] and port.accepted == 2
+        check([port.try_send(b"1") for _ in range(4)] == [True, True, False, False] and port.accepted == 2)
         it.poll(0)
-        assert port.try_send(bytearray(b"2")) is True and port.try_send(b"3") is False
+        check(port.try_send(bytearray(b"2")) is True and port.try_send(b"3") is False)
         raises(afdx.Empty, port.try_send, b"")
         raises(afdx.TooLong, port.try_send, bytes(8193))
         it.close(1, 0)
         raises(afdx.Closed, port.try_send, b"4")
-        assert port.accepted == 3
+        check(port.accepted == 3)
 
 
 def version() -> None:
     """The version is the header's, and what is exported is there."""
-    assert f'"{afdx.__version__}"' in text_of("crates/afdx/afdx.h") and afdx.library_version() == afdx.__version__
-    assert all(hasattr(afdx, name) for name in afdx.__all__) and len({*afdx.__all__}) == len(afdx.__all__)
+    check(f'"{afdx.__version__}"' in text_of("crates/afdx/afdx.h") and afdx.library_version() == afdx.__version__)
+    check(all(hasattr(afdx, name) for name in afdx.__all__) and len({*afdx.__all__}) == len(afdx.__all__))
 
 
-def typed() -> None:
-    """The package and the examples are clean under `mypy --strict` and rated over 9.5 by pylint, where these are installed."""
-    examples = f"{PREFIX.name}/share/afdx/examples/python"
-    with tempfile.TemporaryDirectory() as room:
-        sources = ["afdx", f"{examples}/main.py", f"{examples}/bench.py"]
-        for name, words in (("mypy", ["--strict", "--cache-dir", room, *sources]),
-                            ("pylint", ["--fail-under=9.5", "--max-line-length=140", *sources])):
-            if not shutil.which(name):
-                print(f"no {name}: skipped")
-                continue
-            ran = subprocess.run([name, *words], cwd=PYTHON, capture_output=True, text=True, check=False)
-            assert ran.returncode == 0, ran.stdout[-2000:] + ran.stderr[-2000:]
+def read_by(*words: str) -> None:
+    """A program that reads Python finds nothing wrong with the package and the examples."""
+    if not shutil.which(words[0]):
+        raise SkipTest(f"no {words[0]}")
+    sources = ["afdx", *(f"{PREFIX.name}/share/afdx/examples/python/{name}.py" for name in ("main", "bench"))]
+    ran = subprocess.run([*words, *sources], cwd=PYTHON, capture_output=True, text=True, check=False)
+    check(ran.returncode == 0, ran.stdout[-2000:] + ran.stderr[-2000:])
+
+
+def mypy() -> None:
+    """The package and the examples are clean under `mypy --strict`."""
+    read_by("mypy", "--strict", "--cache-dir", os.devnull)
+
+
+def pylint() -> None:
+    """The package and the examples are rated over 9.5 by pylint."""
+    read_by("pylint", "--fail-under=9.5", "--max-line-length=140")
 
 
 def lists() -> None:
     """The ports, the virtual links, and when the next of them is due."""
     with EndSystem(SHARED.replace("10.0.0.1", "10.0.0.2", 1)) as it, it.port(11) as port:
-        assert it.ports == [10, 11] and it.links == [1, 2]
-        assert it.next_due is None
+        check(it.ports == [10, 11] and it.links == [1, 2])
+        check(it.next_due is None)
         port.send(b"1")
         (frame,) = it.poll(5).b
-        assert it.next_due == 1005 and it.frames(B) == [it.frame(B, 0)] == [frame]
-        assert not it.poll(1004).a and it.next_due == 1005
+        check(it.next_due == 1005 and it.frames(B) == [it.frame(B, 0)] == [frame])
+        check(not it.poll(1004).a and it.next_due == 1005)
 
 
 def all_raised() -> None:
     """The tests before have raised each exception but one."""
     tables = (afdx.CONFIG_ERRORS, afdx.SEND_ERRORS, afdx.POLL_ERRORS, afdx.JUDGE_ERRORS, afdx.MISUSES)
     unmet = {error.__name__ for table in tables for error in table.values()} - RAISED
-    assert unmet == {"Exhausted"}, unmet
+    check(unmet == {"Exhausted"}, unmet)
 
 
 def threads() -> None:
@@ -290,7 +289,7 @@ def threads() -> None:
             for now in range(0, 10**9, 1000):
                 for frame in it.poll(now).b:
                     source = int.from_bytes(frame[34:36], "big")
-                    assert int.from_bytes(frame[42:44], "big") == came[source], source
+                    check(int.from_bytes(frame[42:44], "big") == came[source], source)
                     came[source] += 1
                 total = it.close(1, 0) if total < 0 and sum(came.values()) >= closed_at else total
                 if sum(came.values()) == total:
@@ -298,21 +297,21 @@ def threads() -> None:
                 time.sleep(0)
             for worker in workers:
                 worker.join()
-            assert closed_at <= total <= most and it.close(1, 0) == total
-            assert {source: port.accepted for source, port in ports.items()} == came
+            check(closed_at <= total <= most and it.close(1, 0) == total)
+            check({source: port.accepted for source, port in ports.items()} == came)
 
 
 def driven_runs() -> None:
     """Random runs over random plans, with networks that fail, and plans of every size answer as the model says."""
     import driven
     done = [driven.run(seed) for seed in range(400)]
-    assert 50 < sum(done) < 350, sum(done)
+    check(50 < sum(done) < 350, sum(done))
     for ports in range(1, 257):
         it = driven.Driven(driven.size(ports), random.Random(ports))
         for port in it.ports:
             it.send(port, b"\7")
         it.at(0)
-        assert it.drain(1000, 256), ports
+        check(it.drain(1000, 256), ports)
 
 
 def bench() -> None:
@@ -323,9 +322,9 @@ def bench() -> None:
         program = f"{PREFIX.name}/share/afdx/examples/python/bench.py"
         words = [sys.executable, "-B", program, f"{room}/plan.toml", f"{room}/frames.pcapng", "10", "11"]
         ran = subprocess.run(words, capture_output=True, text=True, check=True, env={**os.environ, "PYTHONPATH": PYTHON})
-        assert ran.stdout == "link 1 on A: last number 234\nlink 1 on B: last number 234\n", ran.stdout
+        check(ran.stdout == "link 1 on A: last number 234\nlink 1 on B: last number 234\n", ran.stdout)
         read = subprocess.run([sys.executable, "-B", f"{ROOT}/tests/pcapng.py", f"{room}/frames.pcapng"], capture_output=True, text=True, check=False)
-        assert read.returncode == 0 and read.stdout.endswith("2004 passed, 0 failed\n"), read.stdout[-200:]
+        check(read.returncode == 0 and read.stdout.endswith("2004 passed, 0 failed\n"), read.stdout[-200:])
 
 
 def speed() -> None:
@@ -337,21 +336,21 @@ def speed() -> None:
             it.poll(1000 * k)
         took = time.monotonic() - begun
         print(f"100,000 messages of 100 bytes: {took:.1f} s")
-        assert took < 10, took
+        check(took < 10, took)
 
 
 def main() -> int:
-    passed = failed = 0
-    for test in (first_message, names, configurations, answers, judging, lists, all_raised, bytes_like, tries, version, typed, threads, driven_runs, bench, speed):
+    done = Tries()
+    for test in (first_message, names, configurations, answers, judging, lists, all_raised, bytes_like, tries, version, mypy, pylint, threads, driven_runs,
+                 bench, speed):
         try:
             test()
-            passed += 1
-            print(f"{test.__name__}: ok")
+            done.show(test.__name__)
+        except SkipTest as why:
+            done.skip(f"{why}")
         except Exception as error:  # noqa: BLE001 (a test may fail in any way)
-            failed += 1
-            print(f"{test.__name__}: FAILED: {error!r}")
-    print(f"{passed} passed, {failed} failed")
-    return 1 if failed else 0
+            done.show(test.__name__, [repr(error)])
+    return done.end()
 
 
 if __name__ == "__main__":

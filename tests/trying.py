@@ -93,6 +93,12 @@ def started(program, words, timeout=60, **how):
     return subprocess.run([name, *words], executable=program, timeout=timeout, check=False, **how)
 
 
+def check(is_well, told=""):
+    """Raises an error if a condition doesn't hold. An `assert` of Python's is dropped by `python3 -O`."""
+    if not is_well:
+        raise AssertionError(told)
+
+
 class Tries:
     """Counts what was tried, how often it was as it has to be, and what couldn't be tried here."""
 

@@ -16,6 +16,12 @@ def block(kind: int, body: bytes) -> bytes:
     return struct.pack("<I", kind) + length + body + length
 
 
+def want(is_well: bool, told: str) -> None:
+    """Ends the bench with a message if a condition doesn't hold."""
+    if not is_well:
+        sys.exit(told)
+
+
 def main(plan: str, capture: str, *ports: str) -> None:
     with open(plan, encoding="utf-8") as file:
         text = file.read()
@@ -33,10 +39,10 @@ def main(plan: str, capture: str, *ports: str) -> None:
                 link, number = int.from_bytes(frame[4:6], "big"), frame[-1]
                 if (network, link) in last:
                     before, at = last[network, link]
-                    assert number == before % 255 + 1, f"link {link}: number {number} after {before}"
-                    assert now - at >= gaps[link], f"link {link}: {now - at} microseconds after the last frame"
+                    want(number == before % 255 + 1, f"link {link}: number {number} after {before}")
+                    want(now - at >= gaps[link], f"link {link}: {now - at} microseconds after the last frame")
                 else:
-                    assert number == 0, f"link {link}: the first number is {number}"
+                    want(number == 0, f"link {link}: the first number is {number}")
                 last[network, link] = number, now
                 out.write(block(6, struct.pack("<IIIII", network, now >> 32, now & 0xFFFFFFFF, len(frame), len(frame)) + frame))
     for (network, link), (number, _) in sorted(last.items()):

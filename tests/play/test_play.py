@@ -75,7 +75,7 @@ class Receiver:
             with open(ipv6, "w", encoding="ascii") as file:
                 file.write("1")
         subprocess.run(["ip", "link", "set", f"wire{name}", "up"], check=True)
-        assert self.process.stdout.readline() == "listening\n"
+        trying.check(self.process.stdout.readline() == "listening\n")
 
     def take(self) -> dict:
         """What came since the last time."""
@@ -105,7 +105,7 @@ class Played:
                        for name in NETWORKS}
         with open("frames.pcapng", "rb") as file:
             capture = pcapng.Capture(file.read())
-        assert [it.resolution for it in capture.interfaces] == [9, 9]
+        trying.check([it.resolution for it in capture.interfaces] == [9, 9])
         self.captured = {name: [(it.moment, it.data.hex()) for it in capture.packets if it.name == name] for name in NETWORKS}
         late = re.search(r"greatest (\d+)", self.ran.stdout)
         self.late = 1000 * int(late[1]) if late else BUSY
@@ -117,7 +117,7 @@ class Played:
         words = ["judge", "plan.toml", "frames.pcapng", "--jitter", str(self.late // 1000), "--skew", str(self.skew // 1000)]
         out = subprocess.run([self.bench, *words], capture_output=True, text=True, check=False).stdout
         line = re.search(r"(?m)^(?:no findings|\d+ findings?: (.*))$", out)
-        assert line, out
+        trying.check(line, out)
         return Counter({kind: int(count) for kind, count in re.findall(r"(\w+) (\d+)", line[1] or "")})
 
     def differences(self, wanted: dict[str, list[str]]) -> list[str]:

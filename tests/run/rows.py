@@ -3,7 +3,7 @@ import re
 from collections.abc import Iterable, Iterator
 from typing import NamedTuple
 
-from trying import DEMO, ONE_FRAME, text_of
+from trying import DEMO, ONE_FRAME, check, text_of
 
 # A message of one byte: the time of its frame, its identification, and the byte.
 OneByte = tuple[int, int, int]
@@ -168,7 +168,7 @@ def datagrams() -> Iterator[Row]:
 def long_messages() -> Iterator[Row]:
     """A message that fills one frame, and one that takes two, of which the first has the checksum of both."""
     out = packet_frames("450005db000000000111c8300a000101e0e0000103e807d005c70000" + "aa" * 1471)
-    assert len(out) == 2 * (len("A 0 ") + 2 * 1514 + 1)
+    check(len(out) == 2 * (len("A 0 ") + 2 * 1514 + 1))
     yield row("1,471 bytes", DEMO, f"send 10 {'aa' * 1471}|at 0|", out, 1)
     second = "4500001c000000b80111cd370a000101e0e00001aaaaaaaaaaaaaaaa"
     for checksum, plan in (("0000", DEMO), ("5219", "version = 2\n" + demo("max = 8192|checksum = 'udp'"))):
