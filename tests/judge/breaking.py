@@ -6,6 +6,7 @@ from typing import NamedTuple
 from captures import Packet
 from model import NETWORKS, Table, complement
 from recordings import MICRO, Recording, by_time, half, put, rewritten, summed
+from trying import check
 
 # A finding that has to come: its kind and rule, and the packet.
 Wanted = tuple[str, str, Packet]
@@ -238,7 +239,7 @@ def of_no_port(ground: Ground) -> Planted:
         lambda it: put(it, 36, b"\0\0"),
         lambda it: summed(put(it, 29, bytes([min({*range(33)} - parts) % 32]))) if len(parts) < 32 else put(it, 36, b"\0\0"),
     ))
-    assert change(data) != data
+    check(change(data) != data)
     return ground.planted("Port", "", ground.rewrite(vl, k, change))
 
 

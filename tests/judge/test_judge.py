@@ -45,6 +45,8 @@ class Counts(NamedTuple):
     damaged: int
 
 
+# How many random recordings may have no place for a fault.
+TURNS = 100
 FEW, ALL = Counts(200, 8, 100, 800), Counts(10_000, 300, 10_000, 100_000)
 Verdict = tuple[int, str, str]
 
@@ -115,7 +117,7 @@ def planted(case: tuple[int, int]) -> list[str]:
     """What is wrong with the verdict on one fault of a kind, in a random recording: every third one is another maker's."""
     kind, seed = case
     options = Options(arinc=seed % 3 == 0)
-    for turn in itertools.count():
+    for turn in range(TURNS):
         rng = random.Random(f"{kind} {seed} {turn}")
         try:
             it = breaking.PLANTS[kind](breaking.Ground(rng, recorded(rng), options.arinc))
@@ -124,7 +126,7 @@ def planted(case: tuple[int, int]) -> list[str]:
         captures = files_of(it.packets, rng)
         wanted = [(kind, rule, number_of(it.packets, packet, len(captures)), packet.network) for kind, rule, packet in it.wanted]
         return faults_of(f"{KINDS[kind]} {seed}", text_of(it.plan, rng), captures, options, wanted)
-    return []
+    return [f"{KINDS[kind]} {seed}: none of {TURNS} recordings has a place for the fault"]
 
 
 def late(seed: int) -> list[str]:
