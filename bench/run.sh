@@ -7,7 +7,7 @@
 #
 # It proves and builds the library where it is missing, as in a fresh clone. With --few, as in the test command, it
 # measures each work once, with and without --duties, which shows that the bench works and that all make the same frames;
-# its last line counts, lwIP as skipped if it is missing. With --duties the transmitter in C has the library's duties too
+# its last line counts; without lwIP that is skipped. With --duties the transmitter in C has the library's duties too
 # (hand.h): what is left is the cost of how the library does them. With --against it compares the library with an older
 # one, in turn.
 set -eu
@@ -46,7 +46,9 @@ elif [ "${1-}" = --few ]; then
     flags=(-DDUTIES)
     build "$library" "$room/duties"
     "$room/duties" 1
-    [ "${#lwip[@]}" -gt 0 ] && echo "2 passed, 0 failed" || echo "2 passed, 0 failed, 1 skipped"
+    more=
+    [ "${#lwip[@]}" -gt 0 ] || { echo "no lwIP: skipped" && more=", 1 skipped"; }
+    echo "2 passed, 0 failed$more"
 else
     "$room/bench" "${1-11}"
 fi
