@@ -13,7 +13,7 @@ use std::sync::Arc;
 
 /// A queue for `capacity` messages, 1 to 256: its receiver, and `ports` senders with the indexes 0,
 /// 1 and so on, in order. Each sender may request `calls` slots, 1 to 2^40. Allocates all memory
-/// that the queue ever needs besides its messages; if an allocation fails, takes_out what it had.
+/// that the queue ever needs besides its messages; if an allocation fails, frees what it had.
 pub fn make(
     alloc: Global,
     capacity: usize,
@@ -39,7 +39,7 @@ pub fn make(
 }
 
 /// A queue for `capacity` messages, 1 to 256, without a sender. Allocates all memory that the queue
-/// ever needs besides its messages; if an allocation fails, takes_out what it had.
+/// ever needs besides its messages; if an allocation fails, frees what it had.
 pub fn open_queue(alloc: Global, capacity: usize) -> Result<Receiver, AllocError>
     requires some { 1 ≤ capacity }
     requires capacity { capacity ≤ 256 }
