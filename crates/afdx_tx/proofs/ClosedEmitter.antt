@@ -57,11 +57,6 @@ pub answered_queues : {E : Type 0} (answer : Result ℕ E) (old : Tx) (vl sub : 
     → IfOk answer (λ (total : ℕ). ClosesTx old vl sub total new) → queues_in new.links ≡ queues_in old.links
 answered_queues answer old vl sub new unchanged closed = grind (arith, queues_same, closes_links)
 
--- A closed sub-VL has its total.
-pub closes_total : (old : Tx) (vl sub total : ℕ) (new : Tx) (c : ClosesTx old vl sub total new)
-    → total_in new.links c.place sub ≡ Some total
-closes_total old vl sub total new c = grind arith
-
 -- The total of a sub-VL is the number of its accepted messages once the ports are gathered.
 pub total_whole : (old : Tx) (ports : List PortView) (new : Tx) (k s total : ℕ) → IsGatheredTx old ports new
     → total_in old.links k s ≡ Some total → length (accepted_in new.links k s) ≡ total

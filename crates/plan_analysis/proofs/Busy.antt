@@ -10,7 +10,6 @@ use Rattle.std.proofs.lemmas.Nat.{le-div, mul-le}
 use Rattle.std.proofs.Math.Nat.{div-le_self, div-mul-le_self, div-zero}
 use native.Mathlib.Nat.{mul-suc}
 use Rattle.plan_analysis.specs.declared.traffic.Flow.{Flow}
-use Rattle.std.proofs.lemmas.List.{length-map}
 use Rattle.std.proofs.Common.{Option, subst}
 use Rattle.afdx_plan.specs.Config.{Plan, IsPlan}
 use Rattle.afdx_plan.specs.Plan.{IsPort}
@@ -228,12 +227,6 @@ good_senders plan senders valid of k d lt =
       port = all_of_map IsPort (λ (s : Sender). s.port) senders ports k d lt;
       period = of.periods k d lt;
     }
-
-pub few_senders : (plan : Plan) (senders : List Sender) → IsPlan plan → AreSendersOf plan senders → length senders ≤ 256
-few_senders plan senders valid of =
-    let count = length-map senders (λ (s : Sender). s.port) in
-    let same = ap length of.ports in
-    omega (arith, valid.ports.1)
 
 -- one flow more is covered
 pub cover_more : (round : ℕ) (flows : List Flow) (busy old own new many : ℕ) (e : Flow) → many < length flows
