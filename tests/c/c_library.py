@@ -8,7 +8,7 @@ Of what `rt ci` has left it takes the libraries of the crates and the program `a
 once more. With --built it takes the library that is there. The tests of the calls (`c_calls.c`, `owners.c`, `threads.c`, `lines.c`, `judging.c`) and the
 example are compiled with all warnings as errors, as they are and with the sanitizers of addresses, leaks and undefined
 behaviour. What the example prints with `--dump` has to be what `afdx_bench run` prints. The last line is 'N passed, M
-failed', and the exit status 0 exactly if nothing failed.
+failed', with ', 1 skipped' if there is no C++ compiler, and the exit status 0 exactly if nothing failed.
 """
 import os
 import re

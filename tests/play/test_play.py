@@ -5,8 +5,9 @@ and what `afdx_bench judge` finds of its captures.
     python3 tests/play/test_play.py [PLAYER [MILLIS]]
 
 It runs the player and the bench beside it that `install/install.sh --built` installs, in a network namespace of its own,
-with the receivers of each network in another. Without root or veth pairs only the player's words are tried. MILLIS is how
-long the run of twelve links takes. The last line is 'N passed, M failed'.
+with the receivers of each network in another. Without root or veth pairs only the player's words are tried, and the rest
+counts as skipped. MILLIS is how long the run of twelve links takes. The last line is 'N passed, M failed', or has
+', K skipped' after that.
 """
 import itertools
 import json
