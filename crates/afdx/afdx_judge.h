@@ -132,7 +132,7 @@ static inline const char *afdx_finding_name(const afdx_finding *finding) {
         "Frame TotalLength", "Frame Fragment", "Frame Protocol", "Frame HeaderSum", "Frame SourceAddress",
         "Frame DestinationAddress", "Frame Padding"};
     static const char *const of_fragment[] = {"Fragment Offset", "Fragment Identification", "Fragment Addresses",
-        "Fragment Length"};
+        "Fragment Length", "Fragment Repeated"};
     static const char *const of_message[] = {"Message UdpLength", "Message Size", "Message UdpChecksum"};
     size_t kind = finding->kind, rule = (size_t)finding->rule - 1;
     if (kind == AFDX_FINDING_FRAME && rule < sizeof of_frame / sizeof *of_frame) return of_frame[rule];

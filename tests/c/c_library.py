@@ -16,6 +16,7 @@ import subprocess
 import sys
 import tempfile
 from glob import glob
+from itertools import zip_longest
 
 # (no compiled copy is left beside the scripts)
 sys.dont_write_bytecode = True
@@ -146,6 +147,38 @@ def try_judging(tries, room, name):
     tries.show(f"{name}: recordings", faults[:5])
 
 
+def in_python(names, room):
+    """The names of findings by the Python package, over a shared library of its own."""
+    os.environ["AFDX_LIBRARY"] = f"{room}/libafdx.so"
+    archives = [LIBRARY, f"{kit()}/c/liblibc_c.a"]
+    made = ran([compiler() or "cc", "-shared", "-Wl,--whole-archive", *archives, "-Wl,--no-whole-archive", "-o", os.environ["AFDX_LIBRARY"]])
+    if made.returncode:
+        raise RuntimeError(made.stderr)
+    sys.path.append(f"{ROOT}/bindings")
+    from afdx._findings import finding_of
+    from afdx._library import FindingRow
+    found = [finding_of(FindingRow(kind=kind, rule=rule)) for kind, rule in names]
+    return [f"{it.kind} {it.rule}".strip() for it in found]
+
+
+def try_findings(tries, room):
+    """Each kind of findings and each rule has the judge's own name in C, C++ and Python, and no other number has one."""
+    lists = dict(re.findall(r"(?ms)^pub enum (\w+) \{\n(.*?)^\}", text_of("crates/judge/src/finding.rt")))
+    names = {}
+    for k, (kind, of) in enumerate(re.findall(r"(?m)^    (\w+)(?:\((\w+)\))?,$", lists["Kind"]), 1):
+        rules = re.findall(r"(?m)^    (\w+),$", lists.get(of, ""))
+        names |= {(k, 0): kind, **{(k, rule): f"{kind} {name}" for rule, name in enumerate(rules, 1)}}
+    of_all = [names.get((k >> 8, k & 255), names.get((k >> 8, 0), "unknown finding")) for k in range(65_536)]
+    for language, program in (("c", compiler()), ("c++", compiler("CXX", ("c++", "g++", "clang++")))):
+        if program is not None:
+            made = ran([program, *WARNINGS, f"-I{CRATE}", "-x", language, f"{ROOT}/tests/c/findings.c", "-o", f"{room}/findings"])
+            told = [] if made.returncode else ran([f"{room}/findings"]).stdout.splitlines()
+            rows = enumerate(zip_longest(told, of_all))
+            wrong = [f"kind {k >> 8} rule {k & 255}: {it} for {wanted}" for k, (it, wanted) in rows if it != wanted]
+            tries.show(f"{len(names)} names of findings, {language}", [made.stderr] * (made.returncode != 0) + wrong)
+    tries.attempt("names of findings, Python", lambda: ([] if in_python(names, room) == [*names.values()] else [f"{in_python(names, room)}"], ""))
+
+
 def script_of(words, last):
     """The script of what the example sends by these words, with a poll each 1,000 microseconds up to the last."""
     lines = []
@@ -200,6 +233,7 @@ def main():
             try_calls(tries, room, name, f"tests/c/{name}.c", [])
             try_calls(tries, room, f"{name}-sanitized", f"tests/c/{name}.c", SANITIZER)
         try_judging(tries, room, "judging")
+        try_findings(tries, room)
         for name, flags in (("example", ["-Wconversion"]), ("example-sanitized", SANITIZER)):
             program = compiled(tries, room, name, f"{EXAMPLE}/example.c", flags)
             if program is None:
