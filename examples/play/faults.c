@@ -1,40 +1,47 @@
 /* The faults on purpose of afdx_play. They change frames after the library has made them. */
 #include "play.h"
 
+#include <ctype.h>
+#include <errno.h>
 #include <stdlib.h>
 #include <string.h>
 
 /* The words of a fault, how many numbers follow its network, the base of the second, and its greatest value. */
 static const struct form {
     const char *word;
-    int numbers;
-    const char *base;
+    int numbers, base;
     uint64_t most;
 } forms[] = {
-    [LOSE] = {"lose", 1, "", 0},
-    [REPEAT] = {"repeat", 1, "", 0},
-    [SWAP] = {"swap", 2, "%lu", UINT32_MAX},
-    [NUMBER] = {"number", 2, "%lu", UINT8_MAX},
-    [EARLY] = {"early", 2, "%lu", UINT32_MAX},
-    [FLIP] = {"flip", 2, "%lx", AFDX_GREATEST_FRAME - 1},
-    [DOWN] = {"down", 1, "", 0},
+    [LOSE] = {"lose", 1, 0, 0},
+    [REPEAT] = {"repeat", 1, 0, 0},
+    [SWAP] = {"swap", 2, 10, UINT32_MAX},
+    [NUMBER] = {"number", 2, 10, UINT8_MAX},
+    [EARLY] = {"early", 2, 10, UINT32_MAX},
+    [FLIP] = {"flip", 2, 16, AFDX_GREATEST_FRAME - 1},
+    [DOWN] = {"down", 1, 0, 0},
 };
 
+/* Reads a number without a sign, after spaces. Returns what follows, or NULL if there is none of 64 bits. */
+static const char *read_number(const char *text, int base, uint64_t *value) {
+    char *end = NULL;
+    while (*text == ' ') text++;
+    if (!isalnum((unsigned char)*text)) return NULL;
+    errno = 0;
+    *value = strtoull(text, &end, base);
+    return end != text && errno == 0 ? end : NULL;
+}
+
 bool read_fault(struct faults *faults, const char *text) {
-    char word[8] = "", network = '?', rest;
-    unsigned long frame = 0, value = 0;
+    char word[8] = "", network = '?';
+    uint64_t frame = 0, value = 0;
     int end = 0;
-    if (faults->count == MOST_FAULTS || sscanf(text, "%7s %c %lu%n", word, &network, &frame, &end) != 3) return false;
-    for (size_t kind = 0; kind < sizeof forms / sizeof *forms; kind++) {
+    if (faults->count == MOST_FAULTS || sscanf(text, "%7s %c%n", word, &network, &end) != 2) return false;
+    const char *rest = read_number(text + end, 10, &frame);
+    for (size_t kind = 0; kind < sizeof forms / sizeof *forms && rest != NULL; kind++) {
         const struct form *form = &forms[kind];
         if (strcmp(word, form->word) != 0) continue;
-        if (form->numbers == 2) {
-            char pattern[16];
-            snprintf(pattern, sizeof pattern, " %s %%c", form->base);
-            if (sscanf(text + end, pattern, &value, &rest) != 1) return false;
-        } else if (sscanf(text + end, " %c", &rest) == 1) {
-            return false;
-        }
+        if (form->numbers == 2) rest = read_number(rest, form->base, &value);
+        if (rest == NULL || rest[strspn(rest, " ")] != '\0') return false;
         if ((network != 'A' && network != 'B') || frame == 0 || value > form->most || (kind == SWAP && value <= frame)) return false;
         faults->list[faults->count++] = (struct fault){
             .kind = (enum fault_kind)kind, .network = network == 'A' ? AFDX_A : AFDX_B, .frame = frame, .value = value, .text = text};
@@ -60,26 +67,42 @@ void learn(struct faults *faults, uint8_t network, uint64_t number, const struct
     }
 }
 
-/* Puts the bytes of another frame in place of a frame's. */
-static void put(struct frame *frame, const struct frame *other) {
+uint64_t exchange(const struct faults *faults, uint8_t network, uint64_t place, struct frame *frame) {
+    const struct frame *other = NULL;
+    for (size_t k = faults->count; k > 0; k--) {
+        const struct fault *fault = &faults->list[k - 1];
+        bool is_own = fault->frame == place;
+        if (fault->kind != SWAP || fault->network != network || !fault->is_known || (!is_own && fault->value != place)) continue;
+        place = is_own ? fault->value : fault->frame;
+        other = is_own ? &fault->other : &fault->own;
+        frame->faults |= 1U << (k - 1);
+    }
+    if (other == NULL) return place;
     frame->length = other->length;
     memcpy(frame->bytes, other->bytes, other->length);
+    return place;
 }
 
-int alter(const struct faults *faults, uint8_t network, uint64_t number, struct frame *frame) {
+int alter(const struct faults *faults, uint8_t network, uint64_t place, uint64_t number, struct frame *frame) {
     int times = 1;
+    uint32_t lost = 0, made = frame->faults;
     for (size_t k = 0; k < faults->count; k++) {
         const struct fault *fault = &faults->list[k];
         if (fault->network != network) continue;
-        bool is_own = fault->frame == number;
-        if (fault->kind == DOWN && number >= fault->frame) times = 0;
-        if (is_own && (fault->kind == LOSE || (fault->kind == EARLY && fault->done))) times = 0;
+        bool is_own = fault->frame == number, is_made = is_own && (fault->kind == REPEAT || fault->kind == NUMBER);
+        bool is_after = place >= fault->frame || number >= fault->frame;
+        if ((fault->kind == LOSE && is_own) || (fault->kind == DOWN && is_after)) lost |= 1U << k;
+        if (is_own && fault->kind == EARLY && fault->done) times = 0;
         if (is_own && fault->kind == REPEAT && times > 0) times = 2;
         if (is_own && fault->kind == NUMBER) frame->bytes[frame->length - 1] = (uint8_t)fault->value;
-        if (is_own && fault->kind == FLIP && fault->value < frame->length) frame->bytes[fault->value] ^= UINT8_MAX;
-        if (is_own && fault->kind == SWAP && fault->is_known) put(frame, &fault->other);
-        if (fault->kind == SWAP && fault->is_known && fault->value == number) put(frame, &fault->own);
+        if (is_own && fault->kind == FLIP && fault->value < frame->length) {
+            frame->bytes[fault->value] ^= UINT8_MAX;
+            is_made = true;
+        }
+        if (is_made) made |= 1U << k;
     }
+    if (lost != 0) times = 0;
+    frame->faults = times == 0 ? lost : made;
     return times;
 }
 

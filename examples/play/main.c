@@ -53,12 +53,10 @@ struct play {
     size_t polls, refused;
 };
 
-static volatile sig_atomic_t is_stopped;
+/* The number of the signal that stops the run, or 0. */
+static volatile sig_atomic_t stopped_by;
 
-static void stop(int signal_number) {
-    (void)signal_number;
-    is_stopped = 1;
-}
+static void stop(int signal_number) { stopped_by = signal_number; }
 
 /* Reads the words. Returns -1, or how the player ends at once. */
 static int read_words(int argc, char **argv, struct words *words) {
@@ -104,8 +102,8 @@ static uint64_t nanos_of(const struct play *play, uint64_t at) {
 static bool sleep_until(const struct play *play, uint64_t nanos) {
     uint64_t until = play->begun + nanos;
     struct timespec time = {.tv_sec = (time_t)(until / 1000000000), .tv_nsec = (long)(until % 1000000000)};
-    while (!is_stopped && clock_nanosleep(CLOCK_MONOTONIC, TIMER_ABSTIME, &time, NULL) == EINTR) continue;
-    return !is_stopped;
+    while (stopped_by == 0 && clock_nanosleep(CLOCK_MONOTONIC, TIMER_ABSTIME, &time, NULL) == EINTR) continue;
+    return stopped_by == 0;
 }
 
 /* Sends the frames that are sent early, of those that come before a time. */
@@ -114,8 +112,12 @@ static void send_early(struct play *play, uint64_t before) {
     while ((early = next_early(&play->words.faults)) != NULL) {
         uint64_t at = early->own.at < early->value ? 0 : early->own.at - early->value;
         if (at > before || !sleep_until(play, nanos_of(play, at))) return;
-        transmit(&play->networks[early->network], &early->own, 1, &play->capture, play->offset);
+        struct frame frames[2] = {early->own};
+        frames[0].faults = 1U << (early - play->words.faults.list);
+        int times = alter(&play->words.faults, early->network, early->frame, early->frame, &frames[0]);
+        frames[1] = frames[0];
         early->done = true;
+        transmit(&play->networks[early->network], frames, (size_t)times, &play->capture, play->offset);
     }
 }
 
@@ -127,7 +129,10 @@ static size_t take_frames(struct play *play, struct network *network, uint64_t a
         struct frame *frame = &frames[count];
         if (afdx_frame(&play->tx.end_system, network->which, k, frame->bytes, sizeof frame->bytes, &frame->length) != AFDX_OK) return count;
         frame->at = at;
-        int times = alter(&play->words.faults, network->which, ++network->made, frame);
+        frame->faults = 0;
+        uint64_t place = ++network->made, number = exchange(&play->words.faults, network->which, place, frame);
+        int times = alter(&play->words.faults, network->which, place, number, frame);
+        if (times == 0) network->faults |= frame->faults;
         if (times == 2) frames[count + 1] = *frame;
         count += (size_t)times;
     }
@@ -256,12 +261,12 @@ static int run(struct play *play) {
     play->begun = nanos_now();
     play->offset = (uint64_t)day.tv_sec * 1000000000 + (uint64_t)day.tv_nsec - play->begun;
     play->begun += 10000000; /* (the first poll's time has to come) */
-    for (size_t k = 0; k < play->script.count && !is_stopped; k++) {
+    for (size_t k = 0; k < play->script.count && stopped_by == 0; k++) {
         int ends = obey(play, &play->script.commands[k]);
         if (ends != 0) return ends;
     }
-    if (!is_stopped) send_early(play, UINT64_MAX);
-    return 0;
+    send_early(play, UINT64_MAX);
+    return stopped_by == 0 ? 0 : ENDS_STOPPED + stopped_by;
 }
 
 static int by_size(const void *one, const void *other) {
@@ -272,6 +277,18 @@ static int by_size(const void *one, const void *other) {
 /* The lateness of the poll of this rank, in microseconds, rounded up. */
 static uint64_t late_micros(const struct play *play, size_t rank) {
     return play->polls == 0 ? 0 : (play->late[rank < play->polls ? rank : play->polls - 1] + 999) / 1000;
+}
+
+/* Prints the faults that came true, or those that didn't. */
+static void tell_faults(const struct play *play, bool came_true, const char *front) {
+    const char *before = front;
+    for (size_t k = 0; k < play->words.faults.count; k++) {
+        const struct fault *fault = &play->words.faults.list[k];
+        if ((play->networks[fault->network].faults >> k & 1) != came_true) continue;
+        printf("%s %s", before, fault->text);
+        before = ",";
+    }
+    if (before != front) printf("\n");
 }
 
 /* Prints what was sent, and how late. */
@@ -290,9 +307,8 @@ static void tell(struct play *play) {
     printf("lines refused %zu\n", play->refused);
     printf("polls %zu, late in microseconds: half %" PRIu64 ", 99.99 %% %" PRIu64 ", greatest %" PRIu64 "\n", play->polls,
            late_micros(play, play->polls / 2), late_micros(play, play->polls - play->polls / 10000 - 1), late_micros(play, play->polls));
-    if (play->words.faults.count > 0) printf("faults on purpose, after the library:");
-    for (size_t k = 0; k < play->words.faults.count; k++) printf("%s %s", k > 0 ? "," : "", play->words.faults.list[k].text);
-    if (play->words.faults.count > 0) printf("\n");
+    tell_faults(play, true, "faults on purpose, after the library:");
+    tell_faults(play, false, "faults that weren't made:");
 }
 
 static void let_go(struct play *play) {

@@ -7,8 +7,8 @@
 #include <stdbool.h>
 #include <stdio.h>
 
-/* How the player ends: as `afdx_bench run` does. */
-enum { ENDS_WELL = 0, ENDS_UNREAD = 2, ENDS_REFUSED = 3, ENDS_BROKEN = 4 };
+/* How the player ends: as `afdx_bench run` does, or with 128 and the number of the signal that stopped it. */
+enum { ENDS_WELL = 0, ENDS_UNREAD = 2, ENDS_REFUSED = 3, ENDS_BROKEN = 4, ENDS_STOPPED = 128 };
 
 /* A line of the script that has an effect. */
 struct command {
@@ -56,6 +56,7 @@ uint8_t send_by(struct tx *tx, const struct command *command);
 /* A frame, with the time of its poll. */
 struct frame {
     uint64_t at;
+    uint32_t faults; /* a bit for each fault that changes it */
     size_t length;
     uint8_t bytes[AFDX_GREATEST_FRAME];
 };
@@ -89,8 +90,12 @@ bool has_to_rehearse(const struct faults *faults);
 /* Keeps a frame that a fault has to know. */
 void learn(struct faults *faults, uint8_t network, uint64_t number, const struct frame *frame);
 
-/* Changes frame `number` of a network as the faults say. Returns how many times it is sent: 0, 1 or 2. */
-int alter(const struct faults *faults, uint8_t network, uint64_t number, struct frame *frame);
+/* Puts the frame that swaps send in this place in place of the frame that is there. Returns its number. */
+uint64_t exchange(const struct faults *faults, uint8_t network, uint64_t place, struct frame *frame);
+
+/* Changes frame `number` of a network, which is sent in this place, as the other faults say. Returns how many times it is
+   sent: 0, 1 or 2. Of a frame that isn't sent, `faults` has those that keep it back. */
+int alter(const struct faults *faults, uint8_t network, uint64_t place, uint64_t number, struct frame *frame);
 
 /* The next fault that sends a frame early, or NULL. */
 struct fault *next_early(struct faults *faults);
@@ -113,6 +118,7 @@ struct network {
     int socket;
     bool failed;
     uint64_t made, taken;
+    uint32_t faults; /* a bit for each fault that came true */
 };
 
 /* Nanoseconds of the monotonic clock. */

@@ -54,7 +54,10 @@ void transmit(struct network *network, struct frame *frames, size_t count, struc
             return;
         }
         network->taken += (uint64_t)took;
-        for (int k = 0; k < took; k++, from++) add_packet(capture, network->which, now, frames[from].bytes, frames[from].length);
+        for (int k = 0; k < took; k++, from++) {
+            network->faults |= frames[from].faults;
+            add_packet(capture, network->which, now, frames[from].bytes, frames[from].length);
+        }
     }
 }
 

@@ -1,4 +1,5 @@
-"""The receiving end of one network, in a network namespace of its own: what packet and UDP sockets of the kernel get.
+"""The receiving end of one network, in a network namespace of its own: what packet and UDP sockets of the kernel get. `Receiver`
+runs it.
 
     receiving.py INTERFACE LINK:UDP_PORT..
 
@@ -74,6 +75,36 @@ def messages_of(one: socket.socket) -> list[str]:
             messages.append(one.recv(65536, socket.MSG_DONTWAIT).hex())
         except BlockingIOError:
             return messages
+
+
+class Receiver:
+    """The receivers of a network, in a namespace of their own."""
+
+    def __init__(self, name: str, links: int) -> None:
+        words = [f"{k}:{2000 + k}" for k in range(1, links + 1)]
+        command = ["unshare", "--net", sys.executable, "-B", os.path.abspath(__file__), f"peer{name}", *words]
+        self.process = subprocess.Popen(command, stdin=subprocess.PIPE, stdout=subprocess.PIPE, text=True)
+        while os.readlink(f"/proc/{self.process.pid}/ns/net") == os.readlink("/proc/self/ns/net"):
+            time.sleep(0.01)
+        for line in (f"link add name wire{name} type veth peer name peer{name}", f"link set peer{name} netns {self.process.pid}"):
+            subprocess.run(["ip", *line.split()], check=True)
+        ipv6 = f"/proc/sys/net/ipv6/conf/wire{name}/disable_ipv6"
+        if os.path.exists(ipv6):
+            with open(ipv6, "w", encoding="ascii") as file:
+                file.write("1")
+        subprocess.run(["ip", "link", "set", f"wire{name}", "up"], check=True)
+        if self.process.stdout.readline() != "listening\n":
+            raise RuntimeError(f"the receivers of network {name} don't listen")
+
+    def take(self) -> dict:
+        """What came since the last time."""
+        self.process.stdin.write("take\n")
+        self.process.stdin.flush()
+        return json.loads(self.process.stdout.readline())
+
+    def end(self) -> None:
+        """Ends the receivers."""
+        self.process.communicate()
 
 
 def main(interface: str, *words: str) -> None:

@@ -10,11 +10,11 @@ counts as skipped. MILLIS is how long the run of twelve links takes. The last li
 ', K skipped' after that.
 """
 import itertools
-import json
 import os
 import random
 import re
 import shutil
+import signal
 import subprocess
 import sys
 import tempfile
@@ -25,10 +25,11 @@ from collections.abc import Iterator
 HERE = os.path.dirname(os.path.abspath(__file__))
 ROOT = os.path.dirname(os.path.dirname(HERE))
 sys.dont_write_bytecode = True
-sys.path[:0] = [f"{ROOT}/tests", f"{ROOT}/tests/run"]
+sys.path[:0] = [f"{ROOT}/tests", f"{ROOT}/tests/run", HERE]
 import model  # noqa: E402
 import pcapng  # noqa: E402
 import trying  # noqa: E402
+from receiving import Receiver  # noqa: E402
 
 NETWORKS = "AB"
 BAG = 1_000_000
@@ -60,44 +61,23 @@ def script_of(links: int, millis: int, seed: int, gap: int = 1) -> str:
     return "\n".join([*lines, "send 99 00", "close 1 0", ""])
 
 
-class Receiver:
-    """The receivers of a network, in a namespace of their own."""
-
-    def __init__(self, name: str, links: int) -> None:
-        words = [f"{k}:{2000 + k}" for k in range(1, links + 1)]
-        command = ["unshare", "--net", sys.executable, "-B", f"{HERE}/receiving.py", f"peer{name}", *words]
-        self.process = subprocess.Popen(command, stdin=subprocess.PIPE, stdout=subprocess.PIPE, text=True)
-        while os.readlink(f"/proc/{self.process.pid}/ns/net") == os.readlink("/proc/self/ns/net"):
-            time.sleep(0.01)
-        for line in (f"link add name wire{name} type veth peer name peer{name}", f"link set peer{name} netns {self.process.pid}"):
-            subprocess.run(["ip", *line.split()], check=True)
-        ipv6 = f"/proc/sys/net/ipv6/conf/wire{name}/disable_ipv6"
-        if os.path.exists(ipv6):
-            with open(ipv6, "w", encoding="ascii") as file:
-                file.write("1")
-        subprocess.run(["ip", "link", "set", f"wire{name}", "up"], check=True)
-        trying.check(self.process.stdout.readline() == "listening\n")
-
-    def take(self) -> dict:
-        """What came since the last time."""
-        self.process.stdin.write("take\n")
-        self.process.stdin.flush()
-        return json.loads(self.process.stdout.readline())
-
-    def end(self) -> None:
-        """Ends the receivers."""
-        self.process.communicate()
+def stopped(command: list[str], by: int) -> subprocess.CompletedProcess:
+    """A run that a signal stops after half a second."""
+    process = subprocess.Popen(command, stdout=subprocess.PIPE, stderr=subprocess.PIPE, text=True)
+    time.sleep(0.5)
+    process.send_signal(by)
+    return subprocess.CompletedProcess(command, process.wait(10), *process.communicate())
 
 
 class Played:
     """A run of the player: how it ended, what came on each network, and its capture."""
 
-    def __init__(self, rig, plan: str, script: str, *words: str) -> None:
+    def __init__(self, rig, plan: str, script: str, *words: str, stop: int = 0) -> None:
         for name, text in (("plan.toml", plan), ("script.txt", script)):
             with open(name, "w", encoding="utf-8") as file:
                 file.write(text)
         command = [rig.program, "plan.toml", "script.txt", "wireA", "wireB", "--capture", "frames.pcapng", *words]
-        self.ran = subprocess.run(command, capture_output=True, text=True, timeout=120, check=False)
+        self.ran = stopped(command, stop) if stop else subprocess.run(command, capture_output=True, text=True, timeout=120, check=False)
         time.sleep(0.3)
         self.came = {name: receiver.take() for name, receiver in rig.receivers.items()}
         status, out, error = model.run(plan, script.encode())
@@ -258,6 +238,42 @@ def try_fault(rig, text: str) -> tuple[list[str], str]:
     return faults + misjudged(played, text), ""
 
 
+def try_more(rig, came_true: list[str], others: list[str]) -> tuple[list[str], str]:
+    """A run with faults on purpose, some of which don't come true: frames are changed by those that do, and swapped as they are
+    then. The last lines name both."""
+    played = Played(rig, plan_of(1), script_of(1, 60, 7), *(it for text in others + came_true for it in ("--fault", text)))
+    wanted = all_of(played)
+    for word, network, *more in sorted((text.split() for text in came_true), key=lambda words: words[0] == "swap"):
+        wanted[network] = changed(wanted[network], word, int(more[0]), *more[1:])
+    fronts = (("faults on purpose, after the library:", came_true), ("faults that weren't made:", others))
+    last = "".join(f"{front} {', '.join(texts)}\n" for front, texts in fronts if texts)
+    is_told = "".join(played.ran.stdout.partition("faults ")[1:]) == last
+    return played.differences(wanted) + played.said() + ([] if is_told else [played.ran.stdout[-200:]]), ""
+
+
+MORE = [
+    ([], ["lose A 999999"]),
+    (["lose A 10"], ["lose B 999999", "flip A 20 5e9", "swap A 5 999999", "early B 999999 800"]),
+    (["down A 20"], ["early A 25 800"]),
+    (["lose A 12"], ["early A 12 300", "repeat A 12", "number A 12 200"]),
+    (["number A 5 200", "swap A 5 6"], []),
+    (["swap A 5 6", "flip A 6 1a", "number A 6 7"], []),
+    (["swap A 5 6", "swap A 6 7"], []),
+    (["early A 12 300", "number A 12 200"], []),
+]
+
+
+def try_stop(rig, by: int) -> tuple[list[str], str]:
+    """A run that a signal stops prints its last lines, ends with 128 and the signal's number, and keeps what it captured. The
+    fault of a line that it didn't reach isn't told."""
+    played = Played(rig, plan_of(1), f"{script_of(1, 2000, 8)}at x\n", stop=by)
+    frames, captured = all_of(played)["A"], [data for _, data in played.captured["A"]]
+    is_cut = captured == frames[: len(captured)] == [data for _, data in played.came["A"]["frames"]] and 0 < len(captured) < len(frames) - 500
+    is_told = re.fullmatch(r"(line .*\n)*link .*\n(network .*\n){2}lines refused .*\npolls .*\n", played.ran.stdout)
+    is_well = is_cut and is_told and (played.ran.returncode, played.ran.stderr) == (128 + by, "")
+    return [] if is_well else [f"{played.ran}, {len(captured)} frames of {len(frames)}"], ""
+
+
 FAULTS = ["lose A 10", "lose B 1", "repeat B 7", "swap A 5 6", "number A 9 200", "early A 12 300", "flip B 20 1a", "down A 30", "down B 1"]
 
 
@@ -310,7 +326,8 @@ def try_words(program: str) -> Iterator[tuple[str, list[str]]]:
             (["demo.toml", "short.txt", "nowhere", "lo"], 4, "write failed\nnowhere: No such device"),
             (["demo.toml", *rest, "--capture", "short.txt"], 4, "write failed\nshort.txt: the command reads")]
     bad = ["", "lose", "lose A", "lose C 1", "lose A 0", "lose A 1 2", "lose A x", "swap A 6 5", "swap A 5", "number A 1 256", "flip A 1 zz",
-           "flip A 1 5ea", "early A 1", "down A 1 1", "frob A 1"]
+           "flip A 1 5ea", "early A 1", "down A 1 1", "frob A 1", "lose A -1", "lose A +1", "lose A 18446744073709551616", "swap A 1 -1",
+           "number A 1 -1", "flip A 1 -1"]
     rows += [(["demo.toml", *rest, "--fault", it], 2, "--fault") for it in bad]
     rows += [(["demo.toml", *rest, "--speed", it], 2, "--speed") for it in ("", "0", "x", "1001", "2x", "-1", "nan")]
     rows += [(["demo.toml", *rest, it], 2, it) for it in ("--speed", "--fault", "--capture")]
@@ -343,6 +360,10 @@ def inside(program: str, millis: int) -> int:
         tries.attempt(f"{millis} ms of twelve links", lambda: try_clean(played))
         for text in FAULTS:
             tries.attempt(f"--fault '{text}'", lambda text=text: try_fault(rig, text))
+        for row in MORE:
+            tries.attempt(f"faults {row}", lambda row=row: try_more(rig, *row))
+        for by in (signal.SIGINT, signal.SIGTERM):
+            tries.attempt(f"stopped by {by.name}", lambda by=by: try_stop(rig, by))
         tries.attempt("an interface that is down", lambda: try_down(rig))
         tries.attempt("--speed 4", lambda: try_speed(rig))
         tries.attempt("ends", lambda: try_ends(rig))
