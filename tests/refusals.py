@@ -6,8 +6,9 @@
 It runs what `rt ci` has built, the programs `probes`, which has a case for each call that may want memory, and
 `afdx_bench` as each compiler makes them, with `tests/refuse.c` preloaded: a run for each request for memory or for a
 thread, which is refused, until a run makes fewer requests. Each run has to end as is promised, with no signal. Likewise
-each write of the program fails once, and the program may try no other after it. The last line is 'N passed, M failed',
-and the exit status 0 exactly if nothing failed.
+each write of the program fails once, and the program may try no other after it. Each run has to free all its memory, and
+for 10,000 messages more it makes few requests but one for each. The last line is 'N passed, M failed', and the exit status
+0 exactly if nothing failed.
 """
 import os
 import signal
@@ -28,17 +29,19 @@ LIMIT = 20_000
 
 
 class Ran:
-    """How a run ended, what it wrote, how many requests it made, and whether one of them was refused."""
+    """How a run ended, what it wrote, how many requests it made, whether one of them was refused, and how many blocks of memory
+    it didn't free."""
 
-    def __init__(self, status, out, err, requests, number):
+    def __init__(self, status, out, err, requests, left, number):
         self.status, self.out, self.err = status, out, err
-        self.requests, self.is_refused = requests, requests >= number
+        self.requests, self.is_refused, self.left = requests, requests >= number, left
 
     def ended(self, status, out, err=""):
         return (self.status, self.out, self.err) == (status, out, err)
 
     def __str__(self):
-        return f"status {self.status}, {self.requests} requests, standard output {self.out!r}, standard error {self.err!r}"
+        counts = f"{self.requests} requests, {self.left} blocks left"
+        return f"status {self.status}, {counts}, standard output {self.out!r}, standard error {self.err!r}"
 
 
 class Bench:
@@ -56,15 +59,17 @@ class Bench:
         """Runs a program, of which `many` requests from this number on are refused; 0: all.
         `more` has what else its environment has."""
         with tempfile.NamedTemporaryFile(dir=self.room) as count:
-            count.write(bytes(8))
+            count.write(bytes(16))
             count.flush()
             refuse = {"REFUSE_FROM": str(number), "REFUSE_MANY": str(many), "REFUSE_COUNT": count.name}
+            # (or else the C library keeps a block of each thread that has ended)
+            refuse["GLIBC_TUNABLES"] = "glibc.pthread.stack_cache_size=0"
             how = {"cwd": self.room, "env": {"LD_PRELOAD": self.library, **refuse, **more}, "input": given}
             ran = started(program, words, capture_output=True, **how)
             count.seek(0)
-            (requests,) = struct.unpack("=Q", count.read(8))
+            requests, left = struct.unpack("=Qq", count.read(16))
         out, err = ran.stdout.decode(errors="replace"), ran.stderr.decode(errors="replace")
-        return Ran(ran.returncode, out, err, requests, number)
+        return Ran(ran.returncode, out, err, requests, left, number)
 
 
 def sweep(bench, program, case):
@@ -84,7 +89,8 @@ def tried_case(bench, program, case):
     faults, ways = [], {}
     for number, ran in enumerate(sweep(bench, program, case), 1):
         way = case.way(ran)
-        if way is None:
+        # (a storm that has no memory ends before its threads do)
+        if way is None or (ran.left and (way, case.words[0]) != ("out of memory", "storm")):
             faults.append(f"request {number} refused: {ran}")
         ways[way] = ways.get(way, 0) + 1
     if not ran.requests:
@@ -115,11 +121,24 @@ def tried_writes(bench, program, words):
     for number in range(1, LIMIT):
         ran = bench.run(program, words, b"", number, 1, REFUSE_WRITES="1")
         if not ran.is_refused:
-            faults += [] if ran.status == 0 and not ran.err else [f"no write was refused: {ran}"]
+            faults += [] if ran.status == 0 and not ran.err and not ran.left else [f"no write was refused: {ran}"]
             return faults if number > 1 else ["nothing was written"], f"{number - 1} refused"
-        if ran.requests != number or (ran.status, ran.err) != (4, "write failed\n"):
+        if ran.requests != number or (ran.status, ran.err, ran.left) != (4, "write failed\n", 0):
             faults.append(f"write {number} refused: {ran}")
     raise RuntimeError(f"over {LIMIT} writes")
+
+
+def tried_growth(bench, program):
+    """A run and a storm of 10,000 messages more make a request for each, and few for lists of frames, which grow by doubling."""
+    def ran(count):
+        script = "".join(f"send 10 01\nat {1000 * place}\n" for place in range(count))
+        storm = ["storm", "plan.toml", "--messages", str(count), "--turns", "1000000000"]
+        return [bench.run(program, words, given, 0, 0) for words, given in (([], script.encode()), (storm, b""))]
+
+    pairs = [*zip(ran(10_000), ran(20_000))]
+    more = [twice.requests - once.requests - 10_000 for once, twice in pairs]
+    is_well = all(0 <= it <= 8 for it in more) and not any(ran.status for pair in pairs for ran in pair)
+    return [] if is_well else [f"requests for lists: {more}, {[ran.err for pair in pairs for ran in pair]}"], ""
 
 
 def main():
@@ -131,6 +150,7 @@ def main():
                 for case in cases:
                     tries.attempt(f"{case.name} by {build}", lambda: tried_case(bench, program, case))
         for build, program in built("afdx_bench").items():
+            tries.attempt(f"10,000 messages more by {build}", lambda: tried_growth(bench, program))
             for words in CLOSED:
                 tries.attempt(f"{' '.join(words)} into a closed pipe by {build}", lambda: tried_closed(bench, program, words))
             for words in WRITTEN:

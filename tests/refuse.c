@@ -2,7 +2,8 @@
  *
  * REFUSE_FROM  the number, counted from 1, of the first request that is refused; 0 refuses none
  * REFUSE_MANY  how many requests are refused from there on; 0 refuses all
- * REFUSE_COUNT a file of eight bytes, in which the number of requests is kept while the program runs
+ * REFUSE_COUNT a file of 16 bytes, in which the number of requests is kept while the program runs, and then how many
+ *              blocks of memory it has
  * REFUSE_WRITES if it is set, the requests that are counted and refused are the writes of the program, to all
  *              but standard error: no room is left for one
  *
@@ -23,8 +24,10 @@
 extern void *__libc_malloc(size_t);
 extern void *__libc_calloc(size_t, size_t);
 extern void *__libc_realloc(void *, size_t);
+extern void __libc_free(void *);
 
 static _Atomic uint64_t *requests;
+static _Atomic uint64_t *blocks;
 static uint64_t from;
 static uint64_t many;
 static int of_writes;
@@ -47,7 +50,7 @@ __attribute__((constructor)) static void begin(void) {
     if (file < 0) {
         _exit(99);
     }
-    void *page = mmap(NULL, sizeof *requests, PROT_READ | PROT_WRITE, MAP_SHARED, file, 0);
+    void *page = mmap(NULL, 2 * sizeof *requests, PROT_READ | PROT_WRITE, MAP_SHARED, file, 0);
     close(file);
     if (page == MAP_FAILED) {
         _exit(99);
@@ -61,6 +64,15 @@ __attribute__((constructor)) static void begin(void) {
         _exit(99);
     }
     requests = page;
+    blocks = requests + 1;
+}
+
+/* Counts a block that was given. */
+static void *counted(void *block) {
+    if (blocks && block) {
+        atomic_fetch_add(blocks, 1);
+    }
+    return block;
 }
 
 /* Whether one request more, which is counted, is refused. */
@@ -86,15 +98,26 @@ ssize_t write(int file, const void *bytes, size_t size) {
 }
 
 void *malloc(size_t size) {
-    return is_refused() ? NULL : __libc_malloc(size);
+    return is_refused() ? NULL : counted(__libc_malloc(size));
 }
 
 void *calloc(size_t count, size_t size) {
-    return is_refused() ? NULL : __libc_calloc(count, size);
+    return is_refused() ? NULL : counted(__libc_calloc(count, size));
 }
 
 void *realloc(void *old, size_t size) {
-    return is_refused() ? NULL : __libc_realloc(old, size);
+    if (is_refused()) {
+        return NULL;
+    }
+    void *block = __libc_realloc(old, size);
+    return old ? block : counted(block);
+}
+
+void free(void *block) {
+    if (blocks && block) {
+        atomic_fetch_sub(blocks, 1);
+    }
+    __libc_free(block);
 }
 
 int pthread_create(pthread_t *made, const pthread_attr_t *how, void *(*run)(void *), void *with) {
