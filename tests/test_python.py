@@ -2,7 +2,6 @@
 """Tests bindings/afdx and the test bench as `install/install.sh` installs them into a folder of their own. The last
 line is 'N passed, M failed' or 'N passed, M failed, K skipped'."""
 import os
-import random
 import re
 import resource
 import shutil
@@ -306,12 +305,7 @@ def driven_runs() -> None:
     import driven
     done = [driven.run(seed) for seed in range(400)]
     check(50 < sum(done) < 350, sum(done))
-    for ports in range(1, 257):
-        it = driven.Driven(driven.size(ports), random.Random(ports))
-        for port in it.ports:
-            it.send(port, b"\7")
-        it.at(0)
-        check(it.drain(1000, 256), ports)
+    driven.sizes()
 
 
 def bench() -> None:

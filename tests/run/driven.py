@@ -1,6 +1,7 @@
 """An end system by its calls, next to the model: each call has to answer as the model says, with networks that fail, links on
 one network, closes and drains. `tests/test_python.py` runs it."""
 import random
+import struct
 
 import model
 from test_run import random_line, random_plan, text_of
@@ -17,40 +18,50 @@ def said(call, *words) -> str:
     return ""
 
 
+def hold(is_well: bool, *more: object) -> None:
+    """Raises an error, unless what has to hold does. (An assert would vanish under -O.)"""
+    if not is_well:
+        raise AssertionError(*more)
+
+
 class Driven(model.EndSystem):
     """The model and an end system of one plan, whose ports are all taken."""
 
     def __init__(self, plan: model.Table, rng: random.Random) -> None:
         super().__init__(plan)
-        self.it = afdx.EndSystem(text_of(plan, rng))
+        self.text = text_of(plan, rng)
+        self.it = afdx.EndSystem(self.text)
         self.out = {number: self.it.port(number) for number in self.ports}
         self.accepted = dict.fromkeys(self.ports, 0)
+        self.recorded: dict[str, list[tuple[int, bytes]]] = {name: [] for name in model.NETWORKS}
 
     def send(self, number: int, message: bytes) -> str:
         wanted = super().send(number, message)
         if number in self.out:
             told = said(self.out[number].send, message)
             self.accepted[number] += not told
-            assert (told, self.out[number].accepted) == (wanted, self.accepted[number]), (number, told, wanted)
+            hold((told, self.out[number].accepted) == (wanted, self.accepted[number]), number, told, wanted)
         return wanted
 
     def at(self, moment: int) -> str:
         wanted, polled = super().at(moment), []
         told = said(lambda: polled.append(self.it.poll(moment)))
-        assert told == wanted, (moment, told, wanted)
-        assert told or polled == [afdx.Poll(*self.made.values(), *self.up.values())], (moment, polled, self.made, self.up)
+        hold(told == wanted, moment, told, wanted)
+        for name, frames in self.made.items():
+            self.recorded[name] += [(moment, frame) for frame in frames if not told]
+        hold(told or polled == [afdx.Poll(*self.made.values(), *self.up.values())], moment, polled, self.made, self.up)
         for vl in self.links:
             # (of the network that has more of its frames)
-            counts = max(self.counted[vl, "A"], self.counted[vl, "B"], key=lambda of: of[0])
-            assert self.it.counts(vl) == counts, (moment, vl, self.it.counts(vl), counts)
+            counts, found = max(self.counted[vl, "A"], self.counted[vl, "B"], key=lambda of: of[0]), self.it.counts(vl)
+            hold(found == counts, moment, vl, found, counts)
         due = min((link.due for link in self.links.values() if link.due > self.now and self.carriers(link)), default=afdx.NEVER)
-        assert self.it.next_due == (due if due < afdx.NEVER else None), (moment, self.it.next_due, due)
+        hold(self.it.next_due == (due if due < afdx.NEVER else None), moment, self.it.next_due, due)
         return wanted
 
     def close(self, vl: int, sub: int) -> str:
         wanted, totals = super().close(vl, sub), []
         told = said(lambda: totals.append(self.it.close(vl, sub)))
-        assert (told or f"closed {totals[0]}") == wanted, (vl, sub, told, totals, wanted)
+        hold((told or f"closed {totals[0]}") == wanted, vl, sub, told, totals, wanted)
         return wanted
 
     def fail(self, name: str) -> None:
@@ -69,11 +80,11 @@ class Driven(model.EndSystem):
         self.it.gather()
         self.out.clear()
         for _ in range(polls):
-            assert self.it.is_done == self.is_done()
+            hold(self.it.is_done == self.is_done())
             if self.is_done():
                 break
             self.at(min(self.now + step, afdx.NEVER))
-        assert self.it.is_done == self.is_done()
+        hold(self.it.is_done == self.is_done())
         return self.is_done()
 
 
@@ -96,10 +107,31 @@ def run(seed: int) -> bool:
 
 def size(ports: int) -> model.Table:
     """A plan by its number of ports. Those of 1 to 256 have all numbers of links, 1 to 64, all numbers of sub-VLs and all
-    capacities."""
-    links = ports % 64 + 1
-    # (a sub-VL has at most 64 ports)
-    sub_vls = max((ports - 1) // 64 % 4, ports % 4) + 1
-    vl = [{"id": k, "bag_ms": 1, "lmax": 64, "sub_vls": sub_vls, "capacity": 257 - ports} for k in range(links)]
-    port = [{"id": k, "vl": k % links, "sub": k // links % sub_vls, "partition": 0, "kind": "queuing", "source": k + 1} for k in range(ports)]
+    capacities. Of 64, 160 and 256 each sub-VL of the last link has up to 64; the greatest has the most of all."""
+    links, is_packed = (ports - 1) % 64 + 1, ports % 96 == 64
+    sub_vls, capacity = max((ports - 1) // 64, ports % 4) + 1, 256 - ports if ports % 2 else ports
+    vl = [{"id": k, "bag_ms": 1, "lmax": 1518, "sub_vls": sub_vls, "capacity": capacity} for k in range(links)]
+    at = [(links - 1, k // 64) if is_packed else (k % links, k // links % sub_vls) for k in range(ports)]
+    port = [{"id": k, "vl": link, "sub": sub, "partition": 0, "kind": "queuing", "source": k + 1} for k, (link, sub) in enumerate(at)]
     return {"end_system": {"id": 1}, "vl": vl, "port": [table | {"destination": 2000, "max": 8192} for table in port]}
+
+
+def capture(packets: list[tuple[int, bytes]]) -> bytes:
+    """A capture of packets with their times in microseconds."""
+    heads = (struct.pack("<IIII", *divmod(at, 10**6), len(data), len(data)) + data for at, data in packets)
+    return struct.pack("<IHHIIII", 0xA1B2C3D4, 2, 4, 0, 0, 65_535, 1) + b"".join(heads)
+
+
+def sizes() -> None:
+    """Runs over plans of all sizes, with messages of each length. The judge finds nothing in their recordings, and something in
+    each of 120,000 packets of 160 bytes."""
+    lengths = [*range(8192, 0, -1)]
+    for ports in range(1, 257):
+        it = Driven(size(ports), random.Random(ports))
+        # (of the greatest plan all queues with ports are filled)
+        for number in [*it.ports] * (5 if ports == 256 else 1):
+            it.send(number, bytes(lengths.pop() if lengths else 8192 if number == 255 else 1))
+        it.at(0)
+        hold(it.drain(1000, 2000), ports)
+        hold(not afdx.judge(it.text, *map(capture, it.recorded.values())), ports)
+    hold(len(afdx.judge(it.text, capture([(0, bytes(160))] * 120_000))) == 120_000)
