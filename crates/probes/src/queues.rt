@@ -82,18 +82,21 @@ fn close_in_pause(
     );
 }
 
-/// Makes a queue of one place whose sender may call twice, and one of two places, and uses them.
+/// Makes a queue of one place whose sender may call twice, and one of two places, and uses them; and the greatest queue.
 pub fn use_queues(rt: &HostRuntime) -> Ended {
     let alloc = rt.alloc();
     let (mut letters, mut others) = (make_letters(alloc, 5, 1)?, make_letters(alloc, 2, 1)?);
-    let (Ok((mut receiver, mut senders)), Ok((mut other, mut its))) = (
+    let (Ok((mut receiver, mut senders)), Ok((mut other, mut its)), Ok((greatest, most))) = (
         make(alloc, 1, 1, 2),
         make(alloc, 2, 1, 8),
+        make(alloc, 256, 64, 1),
     ) else {
         return Err(Trouble::Refused);
     };
     fill(rt, &mut letters, &mut receiver, &mut senders[0]);
     gather(rt, receiver, senders);
     close_in_pause(rt, &mut others, &mut other, &mut its[0]);
+    line(rt, format_args!("the greatest has {} senders", most.len()));
+    drop((greatest, most));
     Ok(())
 }
