@@ -5,6 +5,7 @@ import struct
 
 import model
 from test_run import random_line, random_plan, text_of
+from trying import check
 
 import afdx
 
@@ -16,12 +17,6 @@ def said(call, *words) -> str:
     except afdx.AfdxError as error:
         return f"refused {type(error).__name__}"
     return ""
-
-
-def hold(is_well: bool, *more: object) -> None:
-    """Raises an error, unless what has to hold does. (An assert would vanish under -O.)"""
-    if not is_well:
-        raise AssertionError(*more)
 
 
 class Driven(model.EndSystem):
@@ -40,28 +35,28 @@ class Driven(model.EndSystem):
         if number in self.out:
             told = said(self.out[number].send, message)
             self.accepted[number] += not told
-            hold((told, self.out[number].accepted) == (wanted, self.accepted[number]), number, told, wanted)
+            check((told, self.out[number].accepted) == (wanted, self.accepted[number]), (number, told, wanted))
         return wanted
 
     def at(self, moment: int) -> str:
         wanted, polled = super().at(moment), []
         told = said(lambda: polled.append(self.it.poll(moment)))
-        hold(told == wanted, moment, told, wanted)
+        check(told == wanted, (moment, told, wanted))
         for name, frames in self.made.items():
             self.recorded[name] += [(moment, frame) for frame in frames if not told]
-        hold(told or polled == [afdx.Poll(*self.made.values(), *self.up.values())], moment, polled, self.made, self.up)
+        check(told or polled == [afdx.Poll(*self.made.values(), *self.up.values())], (moment, polled, self.made, self.up))
         for vl in self.links:
             # (of the network that has more of its frames)
             counts, found = max(self.counted[vl, "A"], self.counted[vl, "B"], key=lambda of: of[0]), self.it.counts(vl)
-            hold(found == counts, moment, vl, found, counts)
+            check(found == counts, (moment, vl, found, counts))
         due = min((link.due for link in self.links.values() if link.due > self.now and self.carriers(link)), default=afdx.NEVER)
-        hold(self.it.next_due == (due if due < afdx.NEVER else None), moment, self.it.next_due, due)
+        check(self.it.next_due == (due if due < afdx.NEVER else None), (moment, self.it.next_due, due))
         return wanted
 
     def close(self, vl: int, sub: int) -> str:
         wanted, totals = super().close(vl, sub), []
         told = said(lambda: totals.append(self.it.close(vl, sub)))
-        hold((told or f"closed {totals[0]}") == wanted, vl, sub, told, totals, wanted)
+        check((told or f"closed {totals[0]}") == wanted, (vl, sub, told, totals, wanted))
         return wanted
 
     def fail(self, name: str) -> None:
@@ -80,11 +75,11 @@ class Driven(model.EndSystem):
         self.it.gather()
         self.out.clear()
         for _ in range(polls):
-            hold(self.it.is_done == self.is_done())
+            check(self.it.is_done == self.is_done())
             if self.is_done():
                 break
             self.at(min(self.now + step, afdx.NEVER))
-        hold(self.it.is_done == self.is_done())
+        check(self.it.is_done == self.is_done())
         return self.is_done()
 
 
@@ -132,6 +127,6 @@ def sizes() -> None:
         for number in [*it.ports] * (5 if ports == 256 else 1):
             it.send(number, bytes(lengths.pop() if lengths else 8192 if number == 255 else 1))
         it.at(0)
-        hold(it.drain(1000, 2000), ports)
-        hold(not afdx.judge(it.text, *map(capture, it.recorded.values())), ports)
-    hold(len(afdx.judge(it.text, capture([(0, bytes(160))] * 120_000))) == 120_000)
+        check(it.drain(1000, 2000), ports)
+        check(not afdx.judge(it.text, *map(capture, it.recorded.values())), ports)
+    check(len(afdx.judge(it.text, capture([(0, bytes(160))] * 120_000))) == 120_000)

@@ -4,9 +4,9 @@ ghost use Rattle.redundant_mux.specs.Lines.{entries_of};
 
 use crate::rig::*;
 use crate::testing::*;
-use afdx_frame::vl_of;
+use afdx_frame::{Frame, vl_of};
 use afdx_plan::{Networks, VlId};
-use redundant_mux::{HandFault, Network, Trail};
+use redundant_mux::{HandFault, Mux, Network, Trail};
 use std::sync::Arc;
 use std::sync::atomic::{AtomicU64, Ordering};
 
@@ -103,4 +103,15 @@ fn at_one_time_each_frame_goes_to_a_and_then_to_b(rt: HostRuntime) {
     assert_row(&rt, draining.network_a(), &FOR_A);
     assert_row(&rt, draining.network_b(), &FOR_B);
     drop((draining, places));
+}
+
+#[test]
+fn a_frame_without_its_buffer_goes_to_a_and_then_to_b(rt: HostRuntime) {
+    let places = Arc::new(rt.alloc(), AtomicU64::new(0)).expect(&rt, "memory");
+    let mut mux = Mux::new(make_network(&rt, &places), make_network(&rt, &places));
+    assert!(rt; mux.hand(0, &Frame::new(), Networks::Both).is_ok());
+    let (a, b) = mux.into_networks();
+    assert_same(&rt, a.taken.first().copied(), Some((0, 0, None)));
+    assert_same(&rt, b.taken.first().copied(), Some((1, 0, None)));
+    drop(places);
 }
