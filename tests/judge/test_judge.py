@@ -15,13 +15,11 @@ import subprocess
 import sys
 import tempfile
 import zlib
-from collections.abc import Callable, Iterable, Iterator
-from concurrent.futures import ProcessPoolExecutor
+from collections.abc import Iterator
 from typing import NamedTuple
 
 HERE = os.path.dirname(os.path.abspath(__file__))
 ROOT = os.path.dirname(os.path.dirname(HERE))
-PROGRAM = f"{ROOT}/crates/afdx_bench/out/afdx_bench"
 sys.dont_write_bytecode = True
 sys.path[:0] = [f"{ROOT}/tests", HERE, f"{ROOT}/tests/run", f"{ROOT}/tests/explain"]
 import breaking  # noqa: E402
@@ -32,7 +30,8 @@ import trying  # noqa: E402
 import verdict  # noqa: E402
 from captures import PLAIN, Packet, Reader, random_form, written  # noqa: E402
 from planting import text_of  # noqa: E402
-from recordings import MICRO, by_time, recorded, rewritten  # noqa: E402
+from recordings import by_time, recorded, rewritten  # noqa: E402
+from trials import PROGRAM, changed, faults_of, files_of, run_judge, tried  # noqa: E402
 from verdict import KINDS, Options  # noqa: E402
 
 
@@ -48,51 +47,6 @@ class Counts(NamedTuple):
 # How many random recordings may have no place for a fault.
 TURNS = 100
 FEW, ALL = Counts(200, 8, 100, 800), Counts(10_000, 300, 10_000, 100_000)
-Verdict = tuple[int, str, str]
-
-
-def run_judge(plan: str, captures: list[bytes], options: Options, is_piped: bool = False) -> Verdict:
-    """Runs the program on a plan and captures, in files of this process's own. Returns its status and what it prints."""
-    names = [f"{os.getpid()}-{kind}" for kind in ("plan", *range(len(captures)))]
-    for name, data in zip(names, (plan.encode(), *captures), strict=True):
-        with open(name, "wb") as file:
-            file.write(data)
-    how = {"input": captures[0]} if is_piped else {"stdin": subprocess.DEVNULL}
-    words = [PROGRAM, "judge", names[0], *(["/dev/stdin"] if is_piped else names[1:]), *options.words()]
-    done = subprocess.run(words, capture_output=True, check=False, timeout=60, **how)
-    return done.returncode, done.stdout.decode(), done.stderr.decode()
-
-
-def faults_of(
-    name: str, plan: str, captures: list[bytes], options: Options, wanted: list | None = None, is_piped: bool = False
-) -> list[str]:
-    """What is wrong with a verdict, beside the model's; and with the findings, if some are wanted: kind, rule, number of the
-    packet and network."""
-    status, out, found = verdict.judged(plan, captures, options, is_piped)
-    told, faults = run_judge(plan, captures, options, is_piped), []
-    if told != (status, out, ""):
-        pairs = itertools.zip_longest(told[1].splitlines(), out.splitlines())
-        line = next((f"\n    {is_}\nfor {to_be}" for is_, to_be in pairs if is_ != to_be), "")
-        faults.append(f"{name}, {options}: {told[0]}, {told[2]!r} for {status}{line}\nover the plan\n{plan[:900]}")
-    findings = [(it.kind, it.rule, it.packet, it.network) for it in found]
-    if wanted is not None and findings != wanted:
-        faults.append(f"{name}: {findings[:5]} for {wanted}")
-    return faults
-
-
-def tried(task: Callable[..., list[str]], cases: Iterable) -> list[str]:
-    """What is wrong in cases, which other processes try."""
-    with ProcessPoolExecutor(len(os.sched_getaffinity(0))) as pool:
-        return [fault for found in pool.map(task, cases, chunksize=8) for fault in found]
-
-
-def files_of(packets: list[Packet], rng: random.Random, plain: bool = False) -> list[bytes]:
-    """Packets as one capture or as two."""
-    if plain:
-        return [written(packets, PLAIN, rng)]
-    if rng.random() < 0.6:
-        return [written(packets, random_form(rng, 2), rng)]
-    return [written([it for it in packets if it.network == net], random_form(rng, 1), rng, net) for net in "AB"]
 
 
 def number_of(packets: list[Packet], packet: Packet, files: int) -> int:
@@ -184,31 +138,6 @@ def lost(seed: int) -> list[str]:
     kinds = sorted(it.kind for it in found)
     is_well = kinds in ([], ["Missing"], ["Number"], ["Missing", "Number"])
     return faults_of(f"lost {seed}", plan, captures, options) + ([] if is_well else [f"lost {seed}: {kinds}"])
-
-
-def changed(packets: list[Packet], rng: random.Random) -> None:
-    """Changes packets in one way."""
-    at = rng.randrange(len(packets))
-    it, turn = packets[at], rng.randrange(9)
-    if turn == 0:
-        del packets[at]
-    elif turn == 1:
-        packets.insert(rng.randrange(len(packets)), it)
-    elif turn == 2:
-        other = rng.randrange(len(packets))
-        packets[at], packets[other] = packets[other], it
-    elif turn == 3:
-        packets[at] = it._replace(at=max(0, it.at + MICRO * rng.choice((-20_000, -999, -1, 1, 999, 20_000))))
-    elif turn == 4:
-        packets[at] = it._replace(network="B" if it.network == "A" else "A")
-    elif turn == 5:
-        packets[at] = it._replace(data=it.data[: rng.randrange(len(it.data) + 1)])
-    elif turn == 6 and it.data:
-        packets[at] = breaking.moved(it, it.data[:-1] + bytes([(it.data[-1] + rng.choice((1, 254))) % 256]))
-    elif it.data:
-        place = rng.choice((rng.randrange(len(it.data)), rng.randrange(min(len(it.data), 48))))
-        data = breaking.put(it.data, place, bytes([it.data[place] ^ 1 << rng.randrange(8)]))
-        packets[at] = breaking.moved(it, breaking.summed(data) if turn == 7 and len(data) > 34 else data)
 
 
 def mixed(seed: int) -> list[str]:
