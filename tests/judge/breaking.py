@@ -42,10 +42,11 @@ class Ground:
     """A recording in which a fault is planted, with `arinc` one of another maker's. An event is a frame of a link, by its
     packets on the networks that carry it."""
 
-    def __init__(self, rng: random.Random, recording: Recording, arinc: bool = False) -> None:
+    def __init__(self, rng: random.Random, recording: Recording, arinc: bool = False, seed: int = 0) -> None:
         self.frames = [Frame(it.data) for it in recording.packets]
         recording = rewritten(rng, recording) if arinc else recording
         self.rng, self.plan, self.packets, self.arinc = rng, recording.plan, list(recording.packets), arinc
+        self.seed = seed
         self.links = {link["id"]: link for link in self.plan["vl"]}
         streams: dict[int, dict[str, list[int]]] = {vl: {} for vl in self.links}
         for place, it in enumerate(self.packets):
@@ -118,6 +119,8 @@ BREAKS: dict[str, Callable[[bytes], bytes]] = {
     "Version": lambda it: put(it, 14, b"\x46"),
     "TotalLength": lambda it: put(it, 16, b"\x08\0"),
     "Fragment": lambda it: put(it, 20, b"\x1f\xff"),
+    "Fragment, by DF": lambda it: summed(put(it, 20, bytes([it[20] | 0x40]))),
+    "Fragment, by the reserved flag": lambda it: summed(put(it, 20, bytes([it[20] | 0x80]))),
     "Protocol": lambda it: put(it, 23, b"\6"),
     "HeaderSum": lambda it: put(it, 24, (half(it, 24) ^ 1).to_bytes(2, "big")),
     "SourceAddress": lambda it: summed(put(it, 29, b"\x20")),
@@ -132,7 +135,12 @@ def broken(ground: Ground) -> Planted:
     """One more packet, which isn't a frame of the layout."""
     rng = ground.rng
     own = [] if ground.arinc else [*OWN, "Padding"]
-    rule = rng.choice([*BREAKS, "Snapped", *own])
+    rules = [*BREAKS, "Snapped", "Time", *own]
+    # (each third seed is of another maker, and has each rule in turn; so have the others)
+    rule = rules[(ground.seed // 3 + 7 * (ground.seed % 3)) % len(rules)]
+    if rule == "Time":
+        place, it = ground.any_packet(lambda it: it.network == "A")
+        return ground.inserted("Frame", rule, place, it._replace(at=None))
     if rule == "Snapped":
         place, it = ground.any_packet()
         return ground.inserted("Frame", rule, place, it._replace(data=it.data[: rng.randrange(len(it.data))]))
@@ -142,7 +150,7 @@ def broken(ground: Ground) -> Planted:
         return ground.inserted("Frame", rule, place, moved(it, put(it.data, at, b"\1")))
     place, it = ground.any_packet()
     change = BREAKS[rule] if rule not in own or rng.random() < 0.5 else OWN[rule]
-    return ground.inserted("Frame", rule, place, moved(it, change(it.data)))
+    return ground.inserted("Frame", rule.split(",")[0], place, moved(it, change(it.data)))
 
 
 def of_another(ground: Ground) -> Planted:

@@ -234,9 +234,9 @@ def section(form: Form, names: str, rng: random.Random) -> bytes:
 
 
 def written(packets: list[Packet], form: Form, rng: random.Random, names: str = "AB") -> bytes:
-    """A capture of packets, each of which has a time."""
+    """A capture of packets. One without a time is a simple packet block, of the first interface."""
     order, scale = form.order, 10**form.resolution
-    if not form.is_blocks:
+    if not form.is_blocks and all(it.at is not None for it in packets):
         magic = {6: 0xA1B2C3D4, 9: 0xA1B23C4D}[form.resolution]
         parts = [struct.pack(order + "IHHiIII", magic, 2, 4, 0, 0, 262_144, 1)]
         for it in packets:
@@ -248,6 +248,9 @@ def written(packets: list[Packet], form: Form, rng: random.Random, names: str = 
         if form.is_mixed and rng.random() < 0.05:
             other = block(order, rng.choice((4, 5, 10, 0x80000001)), rng.randbytes(4 * rng.randrange(9)))
             parts.append(other if rng.random() < 0.7 else section(form, names, rng))
+        if it.at is None:
+            parts.append(block(order, SIMPLE, struct.pack(order + "I", it.original) + it.data + bytes(-len(it.data) % 4)))
+            continue
         ticks = it.at * scale // SECOND
         front = struct.pack(order + "IIIII", names.index(it.network), ticks >> 32, ticks & 0xFFFFFFFF, len(it.data), it.original)
         more = option(order, 2, bytes(4)) + option(order, 0, b"") if form.is_mixed and rng.random() < 0.2 else b""

@@ -74,7 +74,7 @@ def planted(case: tuple[int, int]) -> list[str]:
     for turn in range(TURNS):
         rng = random.Random(f"{kind} {seed} {turn}")
         try:
-            it = breaking.PLANTS[kind](breaking.Ground(rng, recorded(rng), options.arinc))
+            it = breaking.PLANTS[kind](breaking.Ground(rng, recorded(rng), options.arinc, seed))
         except breaking.Unfit:
             continue
         captures = files_of(it.packets, rng)
@@ -280,8 +280,9 @@ def main() -> int:
         name = f"{counts.runs} random scripts over random plans: nothing is found"
         tries.attempt(name, lambda: (tried(clean_run, test_run.random_runs(counts.runs)), ""))
         for kind, word in enumerate(KINDS):
-            cases = [(kind, seed) for seed in range(counts.planted)]
-            tries.attempt(f"{counts.planted} times {word} alone", lambda cases=cases: (tried(planted, cases), ""))
+            # (so each rule of the layout is broken)
+            cases = [(kind, seed) for seed in range(counts.planted * (1 if kind else 8))]
+            tries.attempt(f"{len(cases)} times {word} alone", lambda cases=cases: (tried(planted, cases), ""))
         for task in (late, checked, of_another_maker, lost, unmerged, mixed):
             tries.attempt(f"{task.__name__}, {counts.mixed} times", lambda task=task: (tried(task, range(counts.mixed)), ""))
         tries.attempt("each prefix of a capture", lambda: (tried(prefix, prefixes(4 if counts is FEW else 60)), ""))

@@ -46,7 +46,7 @@ def layout_fault(frame: bytes, arinc: bool) -> tuple[str, str] | None:
         return "Length", differ(len(frame), min(max(len(frame), 60), 1514))
     total, word = half(frame, 16), half(frame, 20)
     offset = 8 * (word & 0x1FFF)
-    is_long = total >= 21 and len(frame) == max(60, 15 + total) and not (word >= 0x2000 and (total - 20) % 8)
+    is_long = total >= 21 and len(frame) == max(60, 15 + total) and not (word & 0x2000 and (total - 20) % 8)
     is_address = frame[26] == 10 and frame[27:29] == frame[9:11] and frame[29] < 32
     is_destination = frame[30] == 10 or frame[30:34] == b"\xe0\xe0" + frame[4:6]
     rules = {

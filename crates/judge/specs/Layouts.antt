@@ -41,7 +41,7 @@ has_version arinc f = has_byte f 14 69 && (arinc || has_byte f 15 0)
 -- some bytes of a piece, the frame's length, and of a piece that more follow whole units of 8 bytes
 abbrev pub has_total : List ℕ → Bool
 has_total f = nat_le 21 (total_length f) && nat_eq (length f) (framed (total_length f))
-    && (nat_lt (fragment_field f) more_fragments || nat_eq ((total_length f - 20) % 8) 0)
+    && (nat_lt (fragment_field f % 16384) more_fragments || nat_eq ((total_length f - 20) % 8) 0)
 
 -- no flag but more fragments, and the piece ends within the greatest datagram
 abbrev pub has_fragment : List ℕ → Bool

@@ -64,7 +64,9 @@ fn has_total(b: &[u8]) -> bool
     ensures { result ≡ has_total b.now }
 {
     let total = word_at(b, 16) as usize;
-    total >= 21 && b.len() == framed(total) && (word_at(b, 20) < 0x2000 || (total - 20) % 8 == 0)
+    total >= 21
+        && b.len() == framed(total)
+        && (word_at(b, 20) % 0x4000 < 0x2000 || (total - 20) % 8 == 0)
 }
 
 /// Whether the flags are those of the profile, and the piece ends within a datagram.

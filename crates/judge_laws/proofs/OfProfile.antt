@@ -16,7 +16,7 @@ unfolding address_broken
 address_rules f = grind (arith, nat_tests)
 
 total_from : (f : List ℕ) → has_total f ≡ true → (21 ≤ total_length f) × (length f ≡ max 60 (15 + total_length f))
-    × (more_fragments ≤ fragment_field f → (total_length f - 20) % 8 ≡ 0)
+    × (more_fragments ≤ fragment_field f % 16384 → (total_length f - 20) % 8 ≡ 0)
 total_from f e = grind (arith, nat_tests)
 
 kept_of : (kept : Bool) (rule : Layout) (byte : ℕ) → unless_kept kept rule byte ≡ None → kept ≡ true
