@@ -25,11 +25,8 @@ port 10: link 1 sub 0, partition 1, queuing, 1000 to 2000, max 8192, multicast
 jitter 163040 ns, limit 500000
 """
 # What `judge` prints of a text that is no capture.
-JUDGED = """no findings
+JUDGED = """nothing judged: capture 1 isn't a capture of Ethernet frames
 capture 1: 0 packets, malformed at byte 0: Format
- link net      frames         bytes    messages      bag-ns   least-gap-ns     lead-ns
-    1   A           0             0           0     1000000              -           -
-    1   B           0             0           0     1000000              -           -
 """
 HELP = """\
 A transmitting AFDX end system. Without words it runs a script from standard input.

@@ -24,8 +24,9 @@ class Case(NamedTuple):
 
 def case_of(name: str, plan: str, captures: list[bytes], options: verdict.Options) -> Case:
     """A case with what the model says of it."""
-    _, out, found = verdict.judged(plan, captures, options)
-    captured = [line for line in out.splitlines() if line.startswith("capture ")]
+    _, _, found = verdict.judged(plan, captures, options)
+    readers = enumerate(map(verdict.Reader, captures), 1)
+    captured = [verdict.read_line(place, reader, len(captures) == 1).strip() for place, reader in readers]
     is_whole = not any("cut off" in line or "malformed" in line for line in captured)
     return Case(name, plan, captures, options, found, [] if is_whole else captured)
 

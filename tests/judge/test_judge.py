@@ -23,6 +23,7 @@ ROOT = os.path.dirname(os.path.dirname(HERE))
 sys.dont_write_bytecode = True
 sys.path[:0] = [f"{ROOT}/tests", HERE, f"{ROOT}/tests/run", f"{ROOT}/tests/explain"]
 import breaking  # noqa: E402
+import edges  # noqa: E402
 import refusals  # noqa: E402
 import refusals_wanted  # noqa: E402
 import test_run  # noqa: E402
@@ -215,7 +216,8 @@ def guide() -> list[str]:
         packets = Reader(file.read()).packets
     del packets[3]
     told = run_judge(plan, [written(packets, PLAIN, random.Random(0))], Options(skew=100))
-    return [] if told == (2, wanted, "") else [f"{told} for {wanted}"]
+    is_well = told == (2, wanted, "") and trying.JUDGED in pages["judge"]
+    return [] if is_well else [f"{told} for {wanted}, or another text of no capture than {trying.JUDGED}"]
 
 
 def page(seed: int) -> list[str]:
@@ -288,6 +290,8 @@ def main() -> int:
         tries.attempt("each prefix of a capture", lambda: (tried(prefix, prefixes(4 if counts is FEW else 60)), ""))
         tries.attempt(f"{counts.damaged} damaged captures", lambda: (tried(damaged, range(counts.damaged)), ""))
         tries.attempt("40 pages", lambda: (tried(page, range(40)), ""))
+        for task in (edges.unwritten, edges.no_capture):
+            tries.attempt(task.__name__, lambda task=task: (task(), ""))
         tries.attempt("the example of the guide", lambda: (guide(), ""))
         tries.attempt("more findings than lines", lambda: (crowd(), ""))
         tries.attempt("refused memory and writes", lambda: (refused(), ""))

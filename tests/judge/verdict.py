@@ -221,6 +221,10 @@ def judged(plan: str, captures: list[bytes], options: Options, is_piped: bool = 
         judge.take(number, network, packet)
     judge.end()
     found = judge.findings
+    for place, reader in enumerate(readers, 1):
+        if reader.end.fault and not reader.packets:
+            told = f"nothing judged: capture {place} isn't a capture of Ethernet frames\n"
+            return 2, told + read_line(place, reader, len(readers) == 1), found
     text = "".join(it.line() for it in found[:PRINTED])
     text += f"and {len(found) - PRINTED} more\n" if len(found) > PRINTED else ""
     counts = [(kind, sum(it.kind == kind for it in found)) for kind in KINDS]

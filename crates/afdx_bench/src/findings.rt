@@ -61,16 +61,22 @@ const NAMES: [&str; KINDS] = [
     "Message", "Turn", "Twin", "Missing",
 ];
 
-/// How many findings of each kind there are. Counts stop at their greatest value. `Display` prints the line of them.
+/// How many findings of each kind there are. Counts stop at their greatest value. `Display` prints the line of them, or
+/// that nothing was judged.
 #[derive(Drop)]
 pub struct Tally {
     counts: [u64; KINDS],
+    /// The number of a file that is no capture, so that nothing was judged.
+    pub no_capture: Option<u8>,
 }
 
 impl Tally {
     /// The tally of no finding.
     pub fn new() -> Tally {
-        Tally { counts: [0; KINDS] }
+        Tally {
+            counts: [0; KINDS],
+            no_capture: None,
+        }
     }
 
     /// Counts a finding.
@@ -93,6 +99,12 @@ impl Tally {
 
 impl fmt::Display for Tally {
     fn fmt<W: fmt::Write>(&self, f: &mut fmt::Formatter<W>) -> fmt::Result {
+        if let Some(file) = self.no_capture {
+            return write!(
+                f,
+                "nothing judged: capture {file} isn't a capture of Ethernet frames"
+            );
+        }
         let total = self.total();
         match total {
             0 => return f.write_str("no findings"),

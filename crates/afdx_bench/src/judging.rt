@@ -2,12 +2,14 @@
 use crate::files::{buffered, create, open, open_given, open_plan};
 use crate::hearing::{Hearing, write_page};
 use crate::source::{Part, Source};
-use crate::stop::Stop;
+use crate::stop::{Cause, Stop};
 use afdx_frame::Net;
 use judge::Options;
 use plan_report::{Case, End};
+use std::alloc::Global;
 use std::fs::File;
 use std::io::Write;
+use tx_script::RunFault;
 
 /// Writes what is wrong with a recording of a plan's end system: findings, how many there are, what was read, and a row
 /// for each link and network; and after that the page to its file. With a second capture, the first is of network A and
@@ -32,11 +34,8 @@ pub fn judge_files<'a, W: Write>(
     };
     let mut hearing = Hearing::new(alloc, plan, options)?;
     let is_whole = hear(rt, case, first, second, &mut hearing, writer)?;
-    hearing.write_summary(writer)?;
-    if let Some(page) = page {
-        let mut output = buffered(alloc, page)?;
-        write_page(&mut output, &hearing, case.skew)?;
-        output.flush()?;
+    if let (Some(page), Some(path)) = (page, &case.html) {
+        save_page(alloc, page, path.as_str(), &hearing, case.skew)?;
     }
     if is_whole && hearing.tally.total() == 0 {
         Ok(End::Told)
@@ -45,7 +44,24 @@ pub fn judge_files<'a, W: Write>(
     }
 }
 
-/// Has the captures heard, and writes what was found and read. Returns whether each was read to its end.
+/// Writes the page to its file.
+fn save_page<'a>(
+    alloc: Global,
+    page: File,
+    path: &'a str,
+    hearing: &Hearing,
+    skew: u64,
+) -> Result<(), Stop<'a>> {
+    let mut output = buffered(alloc, page)?;
+    let written = match write_page(&mut output, hearing, skew) {
+        Ok(()) => output.flush(),
+        Err(error) => Err(error),
+    };
+    written.map_err(|error| Stop::by_file(RunFault::Write, path, Cause::System(error)))
+}
+
+/// Has the captures heard, and writes what was found and read. Returns whether each was read to its end. If one is no
+/// capture, writes which and why, and none is heard.
 fn hear<'a, W: Write>(
     rt: &HostRuntime,
     case: &'a Case,
@@ -55,18 +71,40 @@ fn hear<'a, W: Write>(
     writer: &mut W,
 ) -> Result<bool, Stop<'a>> {
     let (mut a, mut b) = sources(rt, case, first, second)?;
+    a.read_until(None, hearing, writer)?;
+    if let Some(b) = &mut b {
+        b.read_until(None, hearing, writer)?;
+    }
+    if let Some((number, source)) = no_capture(&a, &b) {
+        hearing.tally.no_capture = Some(number);
+        let tally = &hearing.tally;
+        writeln!(writer, "{tally}\ncapture {number}: {source}")?;
+        return Ok(false);
+    }
     match &mut b {
         Some(b) => read_merged(&mut a, b, hearing, writer)?,
-        None => a.read_until(u128::MAX, hearing, writer)?,
+        None => a.read_until(Some(u128::MAX), hearing, writer)?,
     }
     hearing.write_findings(writer)?;
     writeln!(writer, "capture 1: {a}")?;
-    match &b {
-        Some(b) if case.other.is_some() => {
-            writeln!(writer, "capture 2: {b}")?;
-            Ok(a.is_whole() && b.is_whole())
-        }
-        _ => Ok(a.is_whole()),
+    let mut is_whole = a.is_whole();
+    if let (Some(b), Some(_)) = (&b, &case.other) {
+        writeln!(writer, "capture 2: {b}")?;
+        is_whole = is_whole && b.is_whole();
+    }
+    hearing.write_summary(writer)?;
+    Ok(is_whole)
+}
+
+/// The first source that is no capture, and the number of its file.
+fn no_capture<'b, 'a>(
+    a: &'b Source<'a>,
+    b: &'b Option<Source<'a>>,
+) -> Option<(u8, &'b Source<'a>)> {
+    match b {
+        _ if !a.is_capture() => Some((1, a)),
+        Some(b) if !b.is_capture() => Some((2, b)),
+        _ => None,
     }
 }
 
@@ -102,12 +140,12 @@ fn read_merged<'a, W: Write>(
     writer: &mut W,
 ) -> Result<(), Stop<'a>> {
     for _ in 0..u64::MAX {
-        a.read_until(b.next().unwrap_or(u128::MAX), hearing, writer)?;
+        a.read_until(Some(b.next().unwrap_or(u128::MAX)), hearing, writer)?;
         let until = match a.next() {
             Some(at) => at.saturating_sub(1),
             None => u128::MAX,
         };
-        b.read_until(until, hearing, writer)?;
+        b.read_until(Some(until), hearing, writer)?;
         if a.next().is_none() && b.next().is_none() {
             return Ok(());
         }

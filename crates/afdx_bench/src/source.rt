@@ -91,10 +91,11 @@ impl<'a> Source<'a> {
         }
     }
 
-    /// Has its packets heard up to the first one of a time after `until`, which comes next.
+    /// Has its packets heard up to the first one of a time after `until`, which comes next; without a time, up to the
+    /// first one.
     pub fn read_until<W: Write>(
         &mut self,
-        until: u128,
+        until: Option<u128>,
         hearing: &mut Hearing,
         writer: &mut W,
     ) -> Result<(), Stop<'a>> {
@@ -105,7 +106,8 @@ impl<'a> Source<'a> {
                     if let Some(packet) = step.packet {
                         let net = self.part.heard(packet.network);
                         let at = packet.at.unwrap_or(0);
-                        if net.is_some() && at > until {
+                        let is_later = !matches!(until, Some(time) if at <= time);
+                        if net.is_some() && is_later {
                             self.next = at;
                             return Ok(());
                         }
@@ -155,6 +157,11 @@ impl<'a> Source<'a> {
     /// Whether it was read to its end.
     pub fn is_whole(&self) -> bool {
         self.ending() == End::Whole
+    }
+
+    /// Whether it is a capture: it has a packet, or was read to its end.
+    pub fn is_capture(&self) -> bool {
+        self.ended.is_none() || self.packets > 0 || self.is_whole()
     }
 }
 
