@@ -1,15 +1,22 @@
-"""Tests `afdx_bench judge` at its edges: files that are no captures, and pages that can't be written."""
+"""Tests `afdx_bench judge` at its edges: pages, files that are no captures, long captures and blocks, pipes."""
+import fcntl
+import os
 import random
 import re
 import subprocess
+import termios
+import time
+from fractions import Fraction
 
 import breaking
+import picture
 import trials
 import trying
-from captures import PLAIN, written
+import verdict
+from captures import LONGEST, PLAIN, Packet, random_form, written
 from planting import text_of
-from recordings import recorded
-from trials import faults_of, files_of, run_judge
+from recordings import MICRO, recorded
+from trials import changed, faults_of, files_of, run_judge, tried
 from verdict import Options
 
 
@@ -17,6 +24,39 @@ def page_in(name: str) -> str:
     """The page in a file."""
     with open(name, encoding="utf-8") as file:
         return file.read()
+
+
+def bar(scale: int, limit: int, value: str) -> list[tuple[str, Fraction, Fraction]]:
+    """The bar of a time in nanoseconds, which is at most full."""
+    part = min(scale, int(value)) if value.isdigit() else 0
+    return picture.parts([Fraction(part)], Fraction(limit), Fraction(scale))
+
+
+def page(seed: int) -> list[str]:
+    """What is wrong with the page of a recording: its title, its verdict, its cells and its bars, by the rows and the line of
+    findings."""
+    rng = random.Random(f"page {seed}")
+    recording, options = recorded(rng, 12), Options(skew=rng.choice((10_000, 6_000, 250_000)))
+    packets = list(recording.packets)
+    changed(packets, rng)
+    plan, capture, name = text_of(recording.plan, rng), written(packets, PLAIN, rng), f"{os.getpid()}-page"
+    told, wanted = run_judge(plan, [capture], options, more=["--html", name]), verdict.judged(plan, [capture], options)
+    *_, rows = wanted[1].partition("lead-ns\n")
+    cells = [row.split() for row in rows.splitlines()]
+    both = {vl: lead for vl, _, *_, lead in cells if sum(row[0] == vl for row in cells) == 2}
+    text, scale = page_in(name), 1000 * options.skew
+    shown, title = picture.Page(text), f"Recording of end system {recording.plan['end_system']['id']}"
+    gaps = [picture.plain(row[0], row[1], f"{row[6]} ns") for row in cells]
+    bars = [[bar(2 * int(row[5]), int(row[5]), row[6])] for row in cells]
+    faults = [*picture.table_faults(shown, "gaps", ["link", "network", "least gap", ""], gaps, bars)]
+    leads = [picture.plain(vl, f"{lead} ns") for vl, lead in both.items()]
+    bars = [[bar(scale, scale, lead)] for lead in both.values()]
+    faults += picture.table_faults(shown, "leads", ["link", "lead", ""], leads, bars)
+    titles = [re.sub("<.*?>", "", it) for it in re.findall(r"<(?:title|h1)>.*</(?:title|h1)>", text)]
+    said = re.findall(r'<p id="verdict">(.*)</p>', text)
+    is_well = titles == [title, title] and said == re.findall(r"(?m)^no findings$|^\d+ findings?: .*", wanted[1])
+    faults += [] if is_well and told == (*wanted[:2], "") else [f"{titles} {said} {told} for {title} and {wanted}"]
+    return [f"page {seed}: {fault}" for fault in faults]
 
 
 def unwritten() -> list[str]:
@@ -55,3 +95,68 @@ def no_capture() -> list[str]:
             if status != 2 or "findings" in out or said != out.splitlines()[:1] or not out.startswith("nothing judged: "):
                 faults.append(f"{data[:9]!r}: {status}, {said} and {out}")
     return faults + faults_of("no packets", plan, [written([], PLAIN, rng)], none, [])
+
+
+def long() -> list[str]:
+    """What is wrong with the verdict on 200,000 packets of one link, whose numbers go on with another one than the next from
+    packet 150,001 on."""
+    first, packets = bytes.fromhex(trying.ONE_FRAME.split()[2]), []
+    for place in range(100_000):
+        number = place + (place >= 75_000)
+        ident = (4 * place % 65_536).to_bytes(2, "big")
+        data = breaking.summed(breaking.put(first[:-1], 18, ident)) + bytes([(number - 1) % 255 + 1 if number else 0])
+        twin = breaking.put(data, 11, b"\x40")
+        packets += [Packet(net, 1000 * MICRO * place, len(it), it) for net, it in (("A", data), ("B", twin))]
+    # (75,000 is 30 more than a multiple of 255; the model would take a minute)
+    wanted = "".join(f"{150_001 + k} {net} 75.000000000 vl 1 Number: seen 31, wanted 30\n" for k, net in enumerate("AB"))
+    wanted += "2 findings: Number 2\ncapture 1: 200000 packets\n"
+    wanted += " link net      frames         bytes    messages      bag-ns   least-gap-ns     lead-ns\n"
+    wanted += "".join(f"    1   {net}      100000       6000000      100000     1000000        1000000           0\n" for net in "AB")
+    told = run_judge(trying.DEMO, [written(packets, PLAIN, random.Random(0))], Options())
+    return [] if told == (2, wanted, "") else [f"{told} for {wanted}"]
+
+
+def great() -> list[str]:
+    """What is wrong with the verdicts on captures with a block or a record of up to 1 MiB, and of more."""
+    rng, faults = random.Random(11), []
+    recording = recorded(rng, 12)
+    plan, at = text_of(recording.plan, rng), len(recording.packets) // 2
+    for size in (65_536, LONGEST - 32, LONGEST - 31, LONGEST - 16, LONGEST - 15):
+        packets = list(recording.packets)
+        packets[at:at] = [breaking.moved(packets[at], rng.randbytes(size))] * 3
+        faults += faults_of(f"a block of {size}", plan, [written(packets, PLAIN, rng)], Options())
+        pair = [written([it for it in packets if it.network == net], PLAIN._replace(is_blocks=False), rng) for net in "AB"]
+        faults += faults_of(f"a record of {size}", plan, pair, Options())
+    return faults
+
+
+def in_pieces(seed: int) -> list[str]:
+    """What is wrong with the verdict on a capture that comes through a pipe in pieces, while signals interrupt each read that
+    waits: nothing is found."""
+    rng, name = random.Random(f"pieces {seed}"), f"{os.getpid()}-piped"
+    recording = recorded(rng, 8)
+    plan, data = text_of(recording.plan, rng), written(recording.packets, random_form(rng, 2), rng)
+    with open(name, "w", encoding="utf-8") as file:
+        file.write(plan)
+    how = {"stdin": subprocess.PIPE, "stdout": subprocess.PIPE, "stderr": subprocess.STDOUT, "bufsize": 0}
+    env = {"LD_PRELOAD": os.path.abspath("interrupt.so")}
+    with subprocess.Popen([trials.PROGRAM, "judge", name, "/dev/stdin"], env=env, **how) as process:
+        rest = data
+        while rest:
+            size = rng.choice((1, 11, 40, 900))
+            process.stdin.write(rest[:size])
+            rest = rest[size:]
+            # (once it has read all of the pipe, it waits for more)
+            while process.poll() is None and fcntl.ioctl(process.stdin, termios.FIONREAD, bytes(4)) != bytes(4):
+                time.sleep(0.001)
+            time.sleep(0.003)
+        told = process.communicate(timeout=60)[0].decode()
+    wanted = verdict.judged(plan, [data], Options(), True)[1]
+    return [] if (process.returncode, told) == (0, wanted) else [f"pieces {seed}: {told} for {wanted}"]
+
+
+def interrupted() -> list[str]:
+    """What is wrong with the verdicts on captures that come in pieces."""
+    words = ["-O2", "-shared", "-fPIC", "-o", "interrupt.so", f"{trying.ROOT}/tests/judge/interrupt.c"]
+    subprocess.run([trying.compiler() or "cc", *words], check=True)
+    return tried(in_pieces, range(24))

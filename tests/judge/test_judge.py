@@ -21,7 +21,7 @@ from typing import NamedTuple
 HERE = os.path.dirname(os.path.abspath(__file__))
 ROOT = os.path.dirname(os.path.dirname(HERE))
 sys.dont_write_bytecode = True
-sys.path[:0] = [f"{ROOT}/tests", HERE, f"{ROOT}/tests/run", f"{ROOT}/tests/explain"]
+sys.path[:0] = [f"{ROOT}/tests", HERE, f"{ROOT}/tests/run", f"{ROOT}/tests/explain", f"{ROOT}/tests/report"]
 import breaking  # noqa: E402
 import edges  # noqa: E402
 import refusals  # noqa: E402
@@ -220,31 +220,6 @@ def guide() -> list[str]:
     return [] if is_well else [f"{told} for {wanted}, or another text of no capture than {trying.JUDGED}"]
 
 
-def page(seed: int) -> list[str]:
-    """What is wrong with the page of a recording: its cells are those of the rows and of the line of findings."""
-    rng = random.Random(f"page {seed}")
-    recording = recorded(rng, 12)
-    names, packets = [f"{os.getpid()}-{kind}" for kind in ("page", "plan", "capture")], list(recording.packets)
-    changed(packets, rng)
-    plan, capture = text_of(recording.plan, rng), written(packets, PLAIN, rng)
-    for name, data in zip(names[1:], (plan.encode(), capture), strict=True):
-        with open(name, "wb") as file:
-            file.write(data)
-    done = subprocess.run([PROGRAM, "judge", *names[1:], "--html", names[0]], capture_output=True, check=False, timeout=60)
-    with open(names[0], encoding="utf-8") as file:
-        text = file.read()
-    out = verdict.judged(plan, [capture], Options())[1]
-    *_, rows = out.partition("lead-ns\n")
-    cells = [row.split() for row in rows.splitlines()]
-    both = {vl: lead for vl, _, *_, lead in cells if sum(row[0] == vl for row in cells) == 2}
-    gaps = re.findall(r'<tr><td>(\d+)</td><td>([AB])</td><td>(\d+|-) ns</td><td class="bar"><svg.*?</svg></td></tr>', text)
-    leads = re.findall(r'<tr><td>(\d+)</td><td>(\d+|-) ns</td><td class="bar"><svg.*?</svg></td></tr>', text)
-    told = re.findall(r'<p id="verdict">(.*)</p>', text)
-    is_well = gaps == [(row[0], row[1], row[6]) for row in cells] and dict(leads) == both
-    is_well = is_well and told == re.findall(r"(?m)^no findings$|^\d+ findings?: .*", out)
-    return [] if is_well and done.stdout.decode() == out else [f"page {seed}: {gaps} {leads} {told} for\n{out}"]
-
-
 def crowd() -> list[str]:
     """What is wrong with a verdict of more findings than are printed."""
     faults = []
@@ -289,8 +264,8 @@ def main() -> int:
             tries.attempt(f"{task.__name__}, {counts.mixed} times", lambda task=task: (tried(task, range(counts.mixed)), ""))
         tries.attempt("each prefix of a capture", lambda: (tried(prefix, prefixes(4 if counts is FEW else 60)), ""))
         tries.attempt(f"{counts.damaged} damaged captures", lambda: (tried(damaged, range(counts.damaged)), ""))
-        tries.attempt("40 pages", lambda: (tried(page, range(40)), ""))
-        for task in (edges.unwritten, edges.no_capture):
+        tries.attempt("40 pages", lambda: (tried(edges.page, range(40)), ""))
+        for task in (edges.unwritten, edges.no_capture, edges.long, edges.great, edges.interrupted):
             tries.attempt(task.__name__, lambda task=task: (task(), ""))
         tries.attempt("the example of the guide", lambda: (guide(), ""))
         tries.attempt("more findings than lines", lambda: (crowd(), ""))
