@@ -282,12 +282,12 @@ def traffic_faults(seed: int) -> Iterator[str]:
 
 def traffic_text_faults() -> Iterator[str]:
     """What is wrong with the reports of traffic texts that have faults."""
-    for given, faults in traffic.FAULTS.items():
+    for given, faults in [*traffic.FAULTS.items(), *traffic.crowds()]:
         save("traffic.csv", given)
         done = report(DEMO, "--traffic", "traffic.csv", "--csv", "unmade.csv")
-        head = f"{len(faults)} fault{'s' * (len(faults) > 1)} of the traffic"
-        if (done.returncode, done.stdout, done.stderr) != (2, "\n".join([head, *faults, ""]), "") or os.path.exists("unmade.csv"):
-            yield f"{done} for {given!r}"
+        head, more = f"{len(faults)} fault{'s' * (len(faults) > 1)} of the traffic", [f"and {len(faults) - 1000} more"] * (len(faults) > 1000)
+        if (done.returncode, done.stdout, done.stderr) != (2, "\n".join([head, *faults[:1000], *more, ""]), "") or os.path.exists("unmade.csv"):
+            yield f"{str(done)[:1000]} for {given[:1000]!r}"
     save("traffic.csv", traffic.PORTS)
     for name in ("traffic.csv", "plan.toml"):
         done = report(DEMO, "--traffic", "traffic.csv", "--csv", name)

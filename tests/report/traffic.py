@@ -18,7 +18,8 @@ FAULTS = {
     "name\n": ["line 1, port: the column is missing"],
     "port,period\n10,5\n": ["line 1: column 2 is none of port, name, period_us and deadline_us"],
     "port,port\n": ["line 1, port: the column occurs twice"],
-    "Port\n": ["line 1: column 1 is none of port, name, period_us and deadline_us", "line 1, port: the column is missing"],
+    "Port\n": ["line 1: column 1 is none of port, name, period_us and deadline_us"],
+    "port" + ",x" * 100_000 + "\nx\n": ["line 1: column 2 is none of port, name, period_us and deadline_us"],
     PORTS + "10,a,1\n": ["line 2: the row has 3 fields, and the header 4"],
     PORTS + "x,a,1,1\n": ["line 2, port: 0 to 65535 is wanted"],
     PORTS + "65536,a,1,1\n": ["line 2, port: 0 to 65535 is wanted"],
@@ -34,6 +35,15 @@ FAULTS = {
         "line 2, name: at most 64 bytes of text without control characters are wanted", "line 4, port: 0 to 65535 is wanted"
     ],
 }
+
+
+def crowds() -> Iterator[tuple[str, list[str]]]:
+    """Traffic texts with as many faults as are printed, with one more and with many more, of one and of several in a row,
+    and all faults of each."""
+    for count in (1000, 1001, 20_000):
+        yield PORTS + "x,,,\n" * count, [f"line {k + 2}, port: 0 to 65535 is wanted" for k in range(count)]
+    kinds = [*(f"{column}: 1 to {LIMIT} is wanted" for column in ("period_us", "deadline_us")), "port: the plan has no port 9"]
+    yield PORTS + "9,,0,0\n" * 5000, [f"line {k + 2}, {kind}" for k in range(5000) for kind in kinds]
 
 
 def busy_rounds(flows: list[tuple[int, int]], turn: int) -> int | None:

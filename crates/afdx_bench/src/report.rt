@@ -72,13 +72,17 @@ fn traffic_of<'a>(
     }
 }
 
-/// Writes the faults of a traffic file.
+/// Writes how many faults a traffic file has, the first of them, and how many others there are.
 fn tell<W: Write>(traffic: &Traffic, writer: &mut W) -> io::Result<End> {
-    let count = traffic.faults.len();
+    let count = traffic.count;
     let faults = if count == 1 { "fault" } else { "faults" };
     writeln!(writer, "{count} {faults} of the traffic")?;
     for fault in traffic.faults.iter() {
         writeln!(writer, "{fault}")?;
+    }
+    let more = count.saturating_sub(traffic.faults.len());
+    if more > 0 {
+        writeln!(writer, "and {more} more")?;
     }
     Ok(End::FaultsTold)
 }

@@ -12,7 +12,7 @@ pub const PERIOD_LIMIT: u64 = 1_000_000_000_000;
 /// The most bytes of a name.
 const NAME_LIMIT: usize = 64;
 
-/// The most faults that are found.
+/// The most faults that are kept.
 const FAULTS_LIMIT: usize = 1_000;
 
 /// The columns of a traffic text, by their names in its header.
@@ -32,7 +32,10 @@ pub struct Demand {
 #[derive(Drop)]
 pub struct Traffic {
     pub demands: Vec<Demand>,
+    /// The first 1,000 faults.
     pub faults: Vec<TrafficFault>,
+    /// The number of all faults.
+    pub count: usize,
 }
 
 /// A fault of a traffic text: its line from 1, the name of its column, if it is of one that has a name, and what is
@@ -89,18 +92,19 @@ pub fn no_traffic(alloc: Global, config: &Config) -> Result<Traffic, AllocError>
     Ok(Traffic {
         demands,
         faults: Vec::new(alloc),
+        count: 0,
     })
 }
 
-/// Reads the traffic of a plan: a header, and a row for each port. A faulty header is the last row that is
-/// read. Fails only if an allocation fails.
+/// Reads the traffic of a plan: a header, and a row for each port. A header has one fault at most, and a faulty one is
+/// the last row that is read. Fails only if an allocation fails.
 pub fn read_traffic(alloc: Global, config: &Config, text: &[u8]) -> Result<Traffic, AllocError> {
     let mut reading = Reading {
         config,
         traffic: no_traffic(alloc, config)?,
         line: 1,
         places: [None; 4],
-        count: None,
+        width: None,
     };
     reading.read(alloc, text)?;
     Ok(reading.traffic)
@@ -112,13 +116,13 @@ struct Reading<'a> {
     config: &'a Config,
     traffic: Traffic,
     line: u64,
-    // the place of each column, and how many fields a row has, once the header is read
+    // the place of each column, and how many fields a row has, once a header without a fault is read
     places: [Option<usize>; 4],
-    count: Option<usize>,
+    width: Option<usize>,
 }
 
 impl Reading<'_> {
-    /// Reads a text. A fault of the header ends it, and so does the last fault that is kept.
+    /// Reads a text. A fault of the header ends it.
     fn read(&mut self, alloc: Global, text: &[u8]) -> Result<(), AllocError> {
         let rows = ReaderBuilder::new()
             .has_headers(false)
@@ -129,49 +133,46 @@ impl Reading<'_> {
                 return Err(AllocError);
             };
             self.line = row.position().map_or(0, |at| at.line());
-            let most = match self.count {
-                None => {
-                    self.head(&row)?;
-                    1
-                }
-                Some(wanted) => {
-                    self.row(alloc, wanted, &row)?;
-                    FAULTS_LIMIT
-                }
-            };
-            if self.traffic.faults.len() >= most {
+            match self.width {
+                Some(wanted) => self.row(alloc, wanted, &row)?,
+                None => self.head(&row)?,
+            }
+            if self.width.is_none() {
                 return Ok(());
             }
         }
-        if self.count.is_none() {
+        if self.width.is_none() {
             self.add(None, Wrong::NoHeader)?;
         }
         Ok(())
     }
 
-    /// Adds a fault of the row.
+    /// Counts a fault of the row, and keeps it if it is one of the first.
     fn add(&mut self, column: Option<&'static str>, wrong: Wrong) -> Result<(), AllocError> {
-        let fault = TrafficFault(self.line, column, wrong);
-        self.traffic.faults.push(fault)?;
+        let traffic = &mut self.traffic;
+        traffic.count = traffic.count.saturating_add(1);
+        if traffic.faults.len() < FAULTS_LIMIT {
+            traffic.faults.push(TrafficFault(self.line, column, wrong))?;
+        }
         Ok(())
     }
 
-    /// Reads the header.
+    /// Reads the header, up to its first fault.
     fn head(&mut self, row: &ByteRecord) -> Result<(), AllocError> {
-        self.count = Some(row.len());
         for place in 0..row.len() {
             let field = row.get(place).unwrap_or(b"");
             match COLUMNS.iter().position(|name| name.as_bytes() == field) {
-                None => self.add(None, Wrong::UnknownColumn(place as u64 + 1))?,
+                None => return self.add(None, Wrong::UnknownColumn(place as u64 + 1)),
                 Some(column) if self.places[column].is_some() => {
-                    self.add(Some(COLUMNS[column]), Wrong::SecondColumn)?;
+                    return self.add(Some(COLUMNS[column]), Wrong::SecondColumn);
                 }
                 Some(column) => self.places[column] = Some(place),
             }
         }
         if self.places[0].is_none() {
-            self.add(Some("port"), Wrong::NoColumn)?;
+            return self.add(Some("port"), Wrong::NoColumn);
         }
+        self.width = Some(row.len());
         Ok(())
     }
 
