@@ -52,6 +52,7 @@ VERSION = re.search('AFDX_VERSION "(.*)"', text_of("crates/afdx/afdx.h"))[1]
 BAD_BAG = "configuration refused: 6 BadBag\n"
 # The second line of some failures.
 NOT_THERE, UNREAD = "No such file or directory (os error 2)\n", "it can't be read, or has more than 16 MiB\n"
+NO_ROOM, WRITTEN = "No space left on device (os error 28)\n", "the command already writes this file, so name another\n"
 SEE_EXPLAIN = "wrong.toml: for all faults and their places, run `afdx_bench explain wrong.toml`\n"
 EXPLAIN, ANALYSE, ANALYSIS = ["explain", "demo.toml"], ["report", "demo.toml"], ANALYSES[DEMO, 0]
 EXPLAINED = "1 fault\nwrong.toml:6: 6 BadBag: vl 1 (id 1), bag_ms is 3: 1, 2, 4, 8, 16, 32, 64 or 128\n"
@@ -104,6 +105,10 @@ ROWS = [
     (["report", "none.toml", "--html", "unmade"], 4, "", f"read failed\nnone.toml: {NOT_THERE}"),
     ([*ANALYSE, "--html", "nowhere/unmade"], 4, "", f"write failed\nnowhere/unmade: {NOT_THERE}"),
     ([*ANALYSE, "--html", "./demo.toml"], 4, "", "write failed\n./demo.toml: the command reads this file, so name another\n"),
+    ([*ANALYSE, "--html", "made.html", "--csv", "./made.html"], 4, "", f"write failed\n./made.html: {WRITTEN}"),
+    ([*ANALYSE, "--html", "/dev/full"], 4, "", f"write failed\n/dev/full: {NO_ROOM}"),
+    ([*ANALYSE, "--csv", "/dev/full"], 4, "", f"write failed\n/dev/full: {NO_ROOM}"),
+    ([*RUN, "--capture", "/dev/full"], 4, ONE_FRAME, "write failed\n"),
 ]
 
 # What a terminal is shown of a failure whose text is one line elsewhere: that line, and the file, why, and what next.
@@ -126,6 +131,7 @@ TERMINAL = [
     (["run", "demo.toml", "lines.txt"], 2, "script refused: too many lines\n", "lines.txt: a script has at most 1000000 lines\n"),
     ([*RUN, "--capture", "nowhere/unmade"], 4, "write failed\n", f"nowhere/unmade: {NOT_THERE}"),
     ([*RUN, "--capture", "short.txt"], 4, "write failed\n", "short.txt: the command reads this file, so name another\n"),
+    ([*RUN, "--capture", "/dev/full"], 4, "write failed\n", f"/dev/full: {NO_ROOM}"),
     (["storm", "none.toml", *STORM[2:]], 4, "read failed\n", f"none.toml: {NOT_THERE}"),
     (["storm", "wrong.toml", *STORM[2:]], 2, BAD_BAG, SEE_EXPLAIN),
     (SHORT_MAX, 2, "storm refused: a port's max is below 6\n", "small.toml: give each port a max of 6 or more\n"),

@@ -10,6 +10,7 @@ each write of the program fails once, and the program may try no other after it.
 for 10,000 messages more it makes few requests but one for each. The last line is 'N passed, M failed', and the exit status
 0 exactly if nothing failed.
 """
+import errno
 import os
 import signal
 import struct
@@ -17,6 +18,7 @@ import subprocess
 import sys
 import tempfile
 from concurrent.futures import ThreadPoolExecutor
+from itertools import pairwise
 
 # (no compiled copy is left beside the scripts)
 sys.dont_write_bytecode = True
@@ -116,14 +118,20 @@ def tried_closed(bench, program, words):
 
 
 def tried_writes(bench, program, words):
-    """Runs of a command, in each of which one write fails: it tries no write after that."""
-    faults = []
+    """Runs of a command, in each of which one write fails: it tries no write after that, and names the file of `--html` or
+    `--csv` that it writes then."""
+    files = [file for word, file in pairwise(words) if word in ("--html", "--csv")]
+    why = f"{os.strerror(errno.ENOSPC)} (os error {errno.ENOSPC})"
+    ends = {"write failed\n", *(f"write failed\n{file}: {why}\n" for file in files)}
+    faults, ended = [], set()
     for number in range(1, LIMIT):
         ran = bench.run(program, words, b"", number, 1, REFUSE_WRITES="1")
         if not ran.is_refused:
             faults += [] if ran.status == 0 and not ran.err and not ran.left else [f"no write was refused: {ran}"]
+            faults += [f"no run ended so: {end}" for end in ends - ended]
             return faults if number > 1 else ["nothing was written"], f"{number - 1} refused"
-        if ran.requests != number or (ran.status, ran.err, ran.left) != (4, "write failed\n", 0):
+        ended.add(ran.err)
+        if (ran.requests, ran.status, ran.left) != (number, 4, 0) or ran.err not in ends:
             faults.append(f"write {number} refused: {ran}")
     raise RuntimeError(f"over {LIMIT} writes")
 

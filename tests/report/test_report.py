@@ -34,6 +34,7 @@ from trying import DEMO, text_of  # noqa: E402
 
 
 VERSION = re.search('AFDX_VERSION "(.*)"', text_of("crates/afdx/afdx.h"))[1]
+FOLDER = "a folder whose name is longer than that of the plan"
 # Names of a plan's file and dates, some with what HTML gives a meaning.
 NAMES = ("plan.toml", "a&b <c>.toml", "'\"Ä.toml")
 DATES = (None, "2026-11-28 06:25 UTC", "<script>&amp;\"'</script>")
@@ -295,6 +296,32 @@ def traffic_text_faults() -> Iterator[str]:
             yield f"rows in the place of {name}: {done}"
 
 
+def file_faults() -> Iterator[str]:
+    """What is wrong with the files of a report of which one can't be made or written, and with two names of one file. The
+    page is written first, and rows never take its place."""
+    twice, old = "write failed\n{}: the command already writes this file, so name another\n", "old"
+    for there, page, rows, told, left in [
+        (False, "nowhere/x", "made", "write failed\nnowhere/x: No such file or directory (os error 2)\n", None),
+        (False, "made", "nowhere/x", "write failed\nnowhere/x: No such file or directory (os error 2)\n", "page"),
+        (False, "made", "/dev/full", "write failed\n/dev/full: No space left on device (os error 28)\n", "page"),
+        (False, "/dev/full", "made", "write failed\n/dev/full: No space left on device (os error 28)\n", None),
+        *((False, one, other, twice.format(other), "page") for one, other in (("made", "made"), ("./made", "soft"), ("soft", "made"))),
+        *((True, one, other, twice.format(other), old) for one, other in (("made", "made"), ("hard", f"{FOLDER}/../made"), ("made", "soft"))),
+    ]:
+        for name in ("made", "hard", "soft"):
+            if os.path.lexists(name):
+                os.remove(name)
+        os.symlink("made", "soft")
+        if there:
+            save("made", old)
+            os.link("made", "hard")
+        done = report(DEMO, "--html", page, "--csv", rows)
+        text = open("made", encoding="utf-8").read() if os.path.exists("made") else None
+        is_page = text is not None and text.startswith("<!DOCTYPE html>") and text.endswith("</html>\n")
+        if (done.returncode, done.stdout, done.stderr, "page" if is_page else text) != (4, "", told, left):
+            yield f"{done}, and left is {text and text[:40]!r}"
+
+
 def refusal_faults(text: str, *more: str) -> Iterator[str]:
     """What is wrong with runs of a report in each of which an allocation or a write fails, or whose standard output is a
     closed pipe."""
@@ -332,6 +359,7 @@ def main() -> int:
         "refused memory and writes, with a page": lambda: refusal_faults(DEMO, "--html", "page.html"),
         "the greatest plan with its periods": lambda: traffic_rows(*greatest_traffic()),
         "traffic with faults": traffic_text_faults,
+        "files that can't be made, and one file named twice": file_faults,
         "refused memory and writes, with traffic": lambda: refusal_faults(DEMO, "--traffic", "demo.csv", "--csv", "rows.csv"),
         f"{plans // 5} plans of several links": lambda: (fault for seed in range(plans // 5) for fault in wide_faults(seed)),
         f"{plans} waits by traffic": lambda: (fault for seed in range(plans) for fault in traffic_faults(seed)),
@@ -340,6 +368,7 @@ def main() -> int:
     failed = 0
     with tempfile.TemporaryDirectory() as folder:
         os.chdir(folder)
+        os.mkdir(FOLDER)
         save("demo.csv", traffic.PORTS + "10,engine,1000000,5\n")
         for name, faults in tries.items():
             found = list(faults())

@@ -3,7 +3,7 @@ use crate::stop::{Cause, Stop, of_file};
 use afdx_plan::Config;
 use plan_report::{Halting, read_plan};
 use std::alloc::{AllocError, Global};
-use std::fs::{self, File};
+use std::fs::{self, File, Metadata};
 use std::io::{self, BufWriter};
 use std::os::fd::AsRawFd;
 use std::os::unix::fs::MetadataExt;
@@ -68,6 +68,32 @@ pub fn create<'a>(
     }
 }
 
+/// Returns Write, blamed on the second path, if both paths lead to one file, under any names: the second would replace
+/// what the first was written with.
+pub fn differ<'a>(
+    rt: &HostRuntime,
+    first: &Option<String>,
+    second: &'a Option<String>,
+) -> Result<(), Stop<'a>> {
+    let (Some(first), Some(second)) = (first, second) else {
+        return Ok(());
+    };
+    match (
+        fs::metadata(rt, first.as_str()),
+        fs::metadata(rt, second.as_str()),
+    ) {
+        (Ok(found), Ok(other)) if is_same(&found, &other) => {
+            Err(Stop::by_file(RunFault::Write, second.as_str(), Cause::Twice))
+        }
+        _ => Ok(()),
+    }
+}
+
+/// Blames an error of a file that is written on its path.
+pub fn written<'a>(done: io::Result<()>, path: &'a str) -> Result<(), Stop<'a>> {
+    done.map_err(|error| failed(error, RunFault::Write, path))
+}
+
 /// A buffer of a file that is written.
 pub fn buffered(alloc: Global, file: File) -> Result<BufWriter<Halting<File>>, AllocError> {
     let buffer = BufWriter::with_capacity(alloc, BUFFER, Halting::new(file));
@@ -82,13 +108,17 @@ fn failed(error: io::Error, fault: RunFault, path: &str) -> Stop<'_> {
     }
 }
 
-/// Whether a path leads to one of some open files: both have the same number on the same device.
+/// Returns whether two files are one: both have the same number on the same device.
+fn is_same(one: &Metadata, other: &Metadata) -> bool {
+    one.dev() == other.dev() && one.ino() == other.ino()
+}
+
+/// Returns whether a path leads to one of some open files.
 fn is_any(rt: &HostRuntime, path: &str, files: &[&File]) -> io::Result<bool> {
     match fs::metadata(rt, path) {
         Ok(found) => {
             for file in files {
-                let other = file.metadata()?;
-                if found.dev() == other.dev() && found.ino() == other.ino() {
+                if is_same(&found, &file.metadata()?) {
                     return Ok(true);
                 }
             }

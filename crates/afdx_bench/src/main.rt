@@ -15,7 +15,7 @@ mod stop;
 
 use afdx_plan::{Config, demo_config};
 use capture::write_capture;
-use files::{buffered, create, open, open_plan, stand_in};
+use files::{buffered, create, open, open_plan, stand_in, written};
 use judging::judge_files;
 use plan_report::{
     End, Failure, Halting, Words, check, read_words, status_of, tell_faults, tell_words,
@@ -49,15 +49,15 @@ fn run_files<'a, W: Write>(
     let alloc = rt.alloc();
     let (text, config) = open_plan(rt, config)?;
     let script = open(rt, path)?;
-    let Some(file) = create(rt, capture, &[&text, &script])? else {
+    let (Some(name), Some(file)) = (capture, create(rt, capture, &[&text, &script])?) else {
         return end_of(run_script(alloc, config, script, writer), path);
     };
     let mut output = buffered(alloc, file)?;
     match play_script(alloc, config, script, writer) {
         Played::Whole { ended, a, b } => {
             writer.flush()?;
-            write_capture(&mut output, &a, &b)?;
-            output.flush()?;
+            written(write_capture(&mut output, &a, &b), name.as_str())?;
+            written(output.flush(), name.as_str())?;
             end_of(ended, path)
         }
         Played::Broken(fault) => end_of(Err(fault), path),

@@ -1,20 +1,19 @@
 //! The command `report`.
 ghost use Rattle.std.specs.Prelude.{◌≤◌};
 
-use crate::files::{buffered, create, open, open_given};
+use crate::files::{buffered, create, differ, open, open_given, written};
 use crate::stop::{Cause, Stop, of_file};
 use afdx_plan::Config;
 use csv::{ErrorKind, WriterBuilder};
 use plan_analysis::{LATENESS_LIMIT, analyze, traffic_waits};
 use plan_report::{
-    Asked, Assessment, Digested, End, Failure, Traffic, no_traffic, read_digested, read_text,
-    read_traffic, senders_of, write_analysis, write_page, write_rows, write_traffic, write_verdict,
+    Asked, Assessment, Digested, End, Traffic, no_traffic, read_digested, read_text, read_traffic,
+    senders_of, write_analysis, write_page, write_rows, write_traffic, write_verdict,
 };
-use std::alloc::Global;
+use std::alloc::{AllocError, Global};
 use std::fs::File;
 use std::io::{self, Write};
 use std::path::Path;
-use tx_script::RunFault;
 
 /// Writes the verdict, the loads, the jitter and the longest waits of a configuration; and before that the page and the
 /// rows to their files. If the traffic has faults, writes these alone.
@@ -38,11 +37,14 @@ pub fn report<'a, W: Write>(
     let waits = traffic_waits(alloc, &plan.config, lateness, senders.as_slice())?;
     let assessment = Assessment::new(alloc, &analysis, &traffic, waits.as_slice())?;
     let read = [&text, file.as_ref().unwrap_or(&text)];
-    if let Some(page) = create(rt, &asked.html, &read)? {
-        save_page(alloc, page, asked, &plan, &assessment)?;
+    differ(rt, &asked.html, &asked.csv)?;
+    if let (Some(path), Some(page)) = (&asked.html, create(rt, &asked.html, &read)?) {
+        let done = save_page(alloc, page, asked, &plan, &assessment);
+        written(done, path.as_str())?;
+        differ(rt, &asked.html, &asked.csv)?;
     }
-    if let Some(rows) = create(rt, &asked.csv, &read)? {
-        save_rows(alloc, rows, &assessment)?;
+    if let (Some(path), Some(rows)) = (&asked.csv, create(rt, &asked.csv, &read)?) {
+        written(save_rows(alloc, rows, &assessment), path.as_str())?;
     }
     write_verdict(writer, &assessment)?;
     write_analysis(writer, &analysis)?;
@@ -88,28 +90,25 @@ fn tell<W: Write>(traffic: &Traffic, writer: &mut W) -> io::Result<End> {
 }
 
 /// Writes the page of a report to a file.
-fn save_page<'a>(
+fn save_page(
     alloc: Global,
     page: File,
-    asked: &'a Asked,
+    asked: &Asked,
     plan: &Digested,
     assessment: &Assessment<'_>,
-) -> Result<(), Stop<'a>> {
+) -> io::Result<()> {
     let path = asked.config.as_str();
     let file = Path::new(path).file_name().unwrap_or(path);
     let mut output = buffered(alloc, page)?;
     write_page(&mut output, plan, assessment, file, &asked.date)?;
-    Ok(output.flush()?)
+    output.flush()
 }
 
 /// Writes the rows of the ports to a file.
-fn save_rows<'a>(alloc: Global, rows: File, assessment: &Assessment<'_>) -> Result<(), Stop<'a>> {
+fn save_rows(alloc: Global, rows: File, assessment: &Assessment<'_>) -> io::Result<()> {
     let mut output = WriterBuilder::new().from_writer(buffered(alloc, rows)?);
-    match write_rows(&mut output, assessment) {
-        Ok(()) => Ok(()),
-        Err(error) => match error.into_kind() {
-            ErrorKind::OutOfMemory => Err(Stop::from(Failure::Run(RunFault::Memory))),
-            _ => Err(Stop::from(Failure::Run(RunFault::Write))),
-        },
-    }
+    write_rows(&mut output, assessment).map_err(|error| match error.into_kind() {
+        ErrorKind::Io(error) => error,
+        _ => io::Error::from(AllocError),
+    })
 }

@@ -11,6 +11,8 @@ pub enum Cause {
     System(io::Error),
     /// It is to be written, and is one of the files that are read.
     Same,
+    /// It is to be written, and another word names it for that too.
+    Twice,
     /// It is open, and can't be read.
     Unread,
     /// It is open, and can't be read, or is too long for a plan.
@@ -67,6 +69,9 @@ impl<'a> Stop<'a> {
                 Some((path, Cause::System(error))) => eprintln!(rt; "{path}: {error}"),
                 Some((path, Cause::Same)) => {
                     eprintln!(rt; "{path}: the command reads this file, so name another")
+                }
+                Some((path, Cause::Twice)) => {
+                    eprintln!(rt; "{path}: the command already writes this file, so name another")
                 }
                 Some((path, Cause::Unread)) => eprintln!(rt; "{path}: it can't be read"),
                 Some((path, Cause::UnreadPlan)) => {
