@@ -50,7 +50,7 @@ def shown(program, folder):
     # (the pages show the lines of A, from which those of B differ in byte 11)
     others = re.sub("(?m)^A (.* .{22})20", r"B \g<1>40", transcript.partition("\n")[2])
     yield "run", ran("run", "plan.toml", "script.txt", "--capture", "run.pcapng"), transcript + others
-    verdict = "loads within limits, jitter within limits, deadlines kept"
+    verdict = "loads within limits, jitter within limits, deadlines kept of accepted messages; queues aren't judged"
     yield "report", ran("report", "plan.toml", "--traffic", "traffic.csv").partition("\n")[0], verdict
     yield "storm", ran("storm", "plan.toml", "--messages", "1000", "--turns", "1000000000"), storm
     with open(f"{folder}/run.pcapng", "rb") as file:

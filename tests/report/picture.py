@@ -374,6 +374,8 @@ def faults_of(text: str, source: Source) -> Iterator[str]:
     yield from (f"the page has {what}" for what in page.elsewhere)
     if re.findall(r"\d[\d,]*\s\S+", page.prose) != PROSE:
         yield f"the prose is {page.prose}"
+    if source.has_traffic != ("if two messages of a port are at least its period apart. Queues aren't judged" in page.prose):
+        yield f"the premise of the wait by traffic is {not source.has_traffic}: {page.prose}"
     if page.parts != ["thead", "tbody"] * 3:
         yield f"the tables have {page.parts}"
     for check in (network_faults, wait_faults, line_faults, link_faults, flow_faults):

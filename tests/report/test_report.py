@@ -222,7 +222,8 @@ def traffic_rows(text: str, demands: dict[int, tuple], given: str, lateness: int
     done = report(text, "--lateness", str(lateness), "--traffic", "traffic.csv", "--csv", "rows.csv", "--strict")
     rows = traffic.rows_of(plan, demands, wanted(plan, lateness), lateness)
     given_to, missed = [row for row in rows if row[11]], [row for row in rows if row[11] == "yes"]
-    ends = f"missed: {len(missed)} of {len(given_to)}" if missed else "kept" if given_to else "not given"
+    kept = "kept of accepted messages; queues aren't judged"
+    ends = f"missed: {len(missed)} of {len(given_to)}" if missed else kept if given_to else "not given"
     first = done.stdout.splitlines()[0] if done.stdout else ""
     if not first.endswith(f", deadlines {ends}") or done.returncode != (2 if missed or "exceeded" in first else 0):
         yield f"{done.returncode} {first}, and {ends} is wanted; {done.stderr}"

@@ -16,7 +16,8 @@ pub struct Sender {
     pub period: Option<u64>,
 }
 
-/// What a port hands over: at most a message of this many fragments each period, in microseconds.
+/// What a port hands over: messages of at most this many fragments, two of them at least the period apart, in
+/// microseconds.
 #[derive(Clone, Copy, Debug, PartialEq, Eq)]
 pub(crate) struct Flow {
     pub fragments: u64,

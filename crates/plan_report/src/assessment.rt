@@ -97,7 +97,9 @@ impl fmt::Display for Sentence {
             Sentence::Limit(what, true) => write!(f, "{what} exceeded"),
             Sentence::Limit(what, false) => write!(f, "{what} within limits"),
             Sentence::Deadlines(0, _) => f.write_str("deadlines not given"),
-            Sentence::Deadlines(_, 0) => f.write_str("deadlines kept"),
+            Sentence::Deadlines(_, 0) => {
+                f.write_str("deadlines kept of accepted messages; queues aren't judged")
+            }
             Sentence::Deadlines(of, missed) => write!(f, "deadlines missed: {missed} of {of}"),
         }
     }

@@ -85,7 +85,7 @@ const WORDS: [Word; 18] = [
         "report",
         "traffic",
         Kind::Text("file"),
-        "The periods and deadlines of the ports, from a CSV file",
+        "The periods and deadlines of the ports, from a CSV file: two messages of a port are at least its period apart",
     ),
     Word(
         "report",

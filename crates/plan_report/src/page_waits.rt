@@ -11,24 +11,30 @@ const PRECISION: u32 = 16;
 /// The most labels of an axis.
 const LABELS: u64 = 4;
 
+/// The premise of the waits by traffic, and what isn't judged.
+const PREMISE: &str =
+    " The wait by traffic holds if two messages of a port are at least its period apart. Queues \
+    aren't judged: a message that a full queue refuses has no wait.";
+
 /// Writes the table of the ports: the columns of a traffic text only if there is one.
 pub(crate) fn write_waits<W: Write>(writer: &mut W, assessment: &Assessment<'_>) -> io::Result<()> {
     let scale = Scale::of(assessment);
     let decades = scale.decades;
-    let (class, name, columns) = if assessment.has_traffic() {
+    let (premise, class, name, columns) = if assessment.has_traffic() {
         (
+            PREMISE,
             "with",
             "<th class=\"name\">name",
             "<th>period<th>deadline<th>wait by queue<th>by traffic<th>slack",
         )
     } else {
-        ("without", "", "<th>wait")
+        ("", "without", "", "<th>wait")
     };
     writeln!(
         writer,
         "<h2>Waits</h2>\n<p>The longest time from the acceptance of a message to the release of its last \
         fragment, whatever the other ports send, while polls come and no sender is stopped in the middle of \
-        a send. The scale is logarithmic. The light end of a bar is what traffic takes off the wait by the \
+        a send.{premise} The scale is logarithmic. The light end of a bar is what traffic takes off the wait by the \
         queue; the mark is the deadline.</p>\n\
         <table id=\"ports\" class=\"{class}\" style=\"--decades:{decades}\">\n\
         <thead><tr><th>port{name}<th>link<th>sub-VL<th>fragments<th>messages/<wbr>s{columns}\
