@@ -14,6 +14,7 @@ import re
 import subprocess
 import sys
 import tempfile
+import termios
 import time
 import tty
 
@@ -329,14 +330,29 @@ def own_files(room):
     room.want((room.read("demo.toml"), room.read("short.txt")) == (DEMO.encode(), SCRIPT.encode()), "a file was changed")
 
 
-def on_terminal(room, words):
-    """A run whose standard error is a terminal: its status, its standard output, and what the terminal was shown."""
+def is_at_work(process, seconds):
+    """Whether a process has taken less than so many seconds of a processor, and its first thread isn't the only one left."""
+    with open(f"/proc/{process.pid}/stat", encoding="utf-8") as stat:
+        words = stat.read().rpartition(")")[2].split()
+    taken = (int(words[11]) + int(words[12])) / os.sysconf("SC_CLK_TCK")
+    return taken < seconds and (taken < 0.1 or words[17] != "1")
+
+
+def on_terminal(room, words, stopped=0):
+    """A run whose standard error is a terminal: its status, its standard output, and what the terminal was shown. A
+    terminal that is stopped takes nothing until the run has worked for so many seconds, or has one thread left."""
     terminal, theirs = pty.openpty()
     tty.setraw(theirs)
+    if stopped:
+        termios.tcflow(theirs, termios.TCOOFF)
     name = os.path.basename(room.program).partition(".")[0]
     how = {"executable": room.program, "cwd": room.folder, "stdin": subprocess.DEVNULL, "stdout": subprocess.PIPE}
     shown = b""
     with subprocess.Popen([name, *words], stderr=theirs, **how) as process:
+        until = time.monotonic() + 60
+        while stopped and is_at_work(process, stopped) and time.monotonic() < until:
+            time.sleep(0.05)
+        termios.tcflow(theirs, termios.TCOON)
         os.close(theirs)
         try:
             while part := os.read(terminal, 65536):
@@ -367,6 +383,16 @@ def progress(room):
     room.want(on_terminal(room, STORM) == (0, totals(2), b""), "a short storm on a terminal")
 
 
+def many_turns(room):
+    """A worker of a storm tries far more than a million times if that is allowed, as while the poller waits for its
+    terminal; with a million it gives up."""
+    room.write("one.toml", DEMO.replace("capacity = 2", "capacity = 1"))
+    for turns, stopped, wanted in ((1_000_000_000, 3, (0, totals(60_000))), (1_000_000, 30, (5, ""))):
+        status, out, shown = on_terminal(room, ["storm", "one.toml", "--messages", "60000", "--turns", str(turns)], stopped)
+        # (a storm of a tenth of a second doesn't meet its terminal)
+        room.want((status, out) == wanted or not shown, f"{turns} turns: {status}, {out!r}, {shown[-100:]}")
+
+
 def second_lines(room):
     """On a terminal a failure has a second line: the file, why, and what to do next."""
     for words, status, first, second in TERMINAL:
@@ -379,7 +405,7 @@ def second_lines(room):
         room.want((ended, shown.decode()) == (2, f"script line {line}: {fault}\n{name}:{line}: {told}\n"), f"{name}: {ended}, {shown}")
 
 
-CASES = [rows, standard_input, numbers, closed_streams, full_output, long_lines, great_plans, captures, own_files, progress, second_lines]
+CASES = [rows, standard_input, numbers, closed_streams, full_output, long_lines, great_plans, captures, own_files, progress, many_turns, second_lines]
 
 
 def tried(case, program):

@@ -225,6 +225,14 @@ def crowds() -> Iterable[tuple]:
         yield text, (), "\n".join([f"{count} faults", *lines[:1000], *more, ""])
 
 
+def late_lines() -> list[str]:
+    """What is wrong with the lines that are told of faults far down in a text, and of the last that are printed."""
+    text = trying.DEMO + "\n" * (9_500 - trying.DEMO.count("\n")) + "".join(f"k{k} = {k}\n" for k in range(1000, 2001))
+    told, place = ran("explain", text.encode()).stdout.decode(), f"plan-{threading.get_ident()}.toml"
+    lines = [f"{place}:{8_501 + k}: 3 UnknownKey: port 1 (id 10), k{k} is {k}: the keys are {PORT_KEYS}" for k in range(1000, 2000)]
+    return [] if told == "\n".join(["1001 faults", *lines, "and 1 more", ""]) else [f"{told[:500]} .. {told[-500:]}"]
+
+
 def keys() -> Iterable[tuple]:
     """Texts in which one key of a table is missing, of another kind, out of its range, or at one of its ends."""
     rng = random.Random(2)
@@ -316,6 +324,7 @@ def main() -> int:
         tries.show("the documented keys", documented())
         tries.show("each number", all_faults(numbers()))
         tries.show("more faults than lines", all_faults(crowds()))
+        tries.show("lines past 9,999", late_lines())
         tries.show("each key", all_faults(keys()))
         tries.show("few changes", all_faults(few_changes()))
         tries.show("each byte replaced", all_faults((text,) for text in changes.replaced()))

@@ -143,6 +143,11 @@ def micros(text: str) -> str:
     return time(1000 * int(text)) if text else "\u2013"
 
 
+def safe(text: str) -> str:
+    """A text whose control characters are replaced."""
+    return re.sub(r"[\0-\x1f\x7f-\x9f]", "\ufffd", text)
+
+
 def percent(part: int, whole: int) -> str:
     """A coordinate."""
     return f"{part * 10_000 // whole / 100:.2f}%"
@@ -376,6 +381,9 @@ def faults_of(text: str, source: Source) -> Iterator[str]:
         yield f"the prose is {page.prose}"
     if source.has_traffic != ("if two messages of a port are at least its period apart. Queues aren't judged" in page.prose):
         yield f"the premise of the wait by traffic is {not source.has_traffic}: {page.prose}"
+    title = f"End system {source.plan['end_system']['id']}: {source.file}"
+    if html.unescape(re.findall("<title>(.*)</title>", text)[0]) != title or safe(text.replace("\n", "")) != text.replace("\n", ""):
+        yield f"the page isn't titled {title}, or has control characters"
     if page.parts != ["thead", "tbody"] * 3:
         yield f"the tables have {page.parts}"
     for check in (network_faults, wait_faults, line_faults, link_faults, flow_faults):

@@ -34,10 +34,10 @@ from trying import DEMO, text_of  # noqa: E402
 
 
 VERSION = re.search('AFDX_VERSION "(.*)"', text_of("crates/afdx/afdx.h"))[1]
+# Names of a plan's file and dates, some with what HTML gives a meaning or with control characters; and a long path.
 FOLDER = "a folder whose name is longer than that of the plan"
-# Names of a plan's file and dates, some with what HTML gives a meaning.
-NAMES = ("plan.toml", "a&b <c>.toml", "'\"Ä.toml")
-DATES = (None, "2026-11-28 06:25 UTC", "<script>&amp;\"'</script>")
+NAMES = ("plan.toml", "a&b <c>.toml", "'\"Ä.toml", f"{FOLDER}/plan.toml", "\x01a\x1b[31m\x7f\x9b.toml")
+DATES = (None, "2026-11-28 06:25 UTC", "<script>&amp;\"'</script>", "a\x07\x1b[2J\x7f\x80")
 
 
 def ran(command: str, text: str, *words: str, name: str = "plan.toml") -> subprocess.CompletedProcess[str]:
@@ -124,7 +124,8 @@ def page_faults(text: str, demands: dict[int, tuple], given: str, lateness: int)
         return
     plan, tables = tomllib.loads(text), wanted(tomllib.loads(text), lateness)
     rows, verdict = traffic.rows_of(plan, demands, tables, lateness), done.stdout.splitlines()[0]
-    source = picture.Source(plan, lateness, bool(demands), tables, rows, verdict, file, text, VERSION, date)
+    name, date = picture.safe(os.path.basename(file)), date and picture.safe(date)
+    source = picture.Source(plan, lateness, bool(demands), tables, rows, verdict, name, text, VERSION, date)
     yield from picture.faults_of(pages[0], source)
 
 
@@ -210,8 +211,8 @@ def wait_faults(seed: int) -> Iterator[str]:
 
 
 def save(name: str, text: str) -> None:
-    """Writes a text as it is."""
-    with open(name, "w", encoding="utf-8", newline="") as file:
+    """Writes a text as it is. A lone surrogate is a byte that isn't UTF-8."""
+    with open(name, "w", encoding="utf-8", errors="surrogateescape", newline="") as file:
         file.write(text)
 
 

@@ -29,8 +29,11 @@ FAULTS = {
     PORTS + "10,a,0,0\n": ["line 2, period_us: 1 to 1000000000000 is wanted", "line 2, deadline_us: 1 to 1000000000000 is wanted"],
     PORTS + f"10,a,{LIMIT + 1},1.5\n": ["line 2, period_us: 1 to 1000000000000 is wanted", "line 2, deadline_us: 1 to 1000000000000 is wanted"],
     PORTS + "10,a,-1,+1\n": ["line 2, period_us: 1 to 1000000000000 is wanted", "line 2, deadline_us: 1 to 1000000000000 is wanted"],
-    PORTS + "10,a\x07,1,1\n": ["line 2, name: at most 64 bytes of text without control characters are wanted"],
-    PORTS + f"10,{'a' * 65},1,1\n": ["line 2, name: at most 64 bytes of text without control characters are wanted"],
+    # (the last two are a byte that isn't UTF-8, and a name that is one byte too long)
+    **{
+        PORTS + f"10,{name},1,1\n": ["line 2, name: at most 64 bytes of text without control characters are wanted"]
+        for name in ("\0", "a\x07", "\x1b[2J", "\x1fa", "a\x7fb", "\x80", "a\x9b", "\udcff", "a" * 65)
+    },
     PORTS + '10,"a\nb",1,1\nx,,,\n': [
         "line 2, name: at most 64 bytes of text without control characters are wanted", "line 4, port: 0 to 65535 is wanted"
     ],
@@ -98,7 +101,7 @@ def random_demands(rng: random.Random, plan: Plan, every: bool) -> dict[int, tup
     for port in plan["port"]:
         if every or rng.random() < 0.9:
             bag = 1000 * links[port["vl"]]["bag_ms"]
-            period = rng.choice((rng.randint(1, 400 * bag), rng.randint(20, 400) * bag, bag * rng.randint(1, 64), LIMIT))
+            period = rng.choice((rng.randint(1, 400 * bag), rng.randint(20, 400) * bag, bag * rng.randint(1, 64), LIMIT, 2**32 + rng.randrange(9)))
             name = rng.choice(("", "engine", "left wing", "Ä, \"7\""))
             demands[port["id"]] = (name, period, rng.choice((None, 1, LIMIT, rng.randint(1, 500 * bag))))
     return demands
