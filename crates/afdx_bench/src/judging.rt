@@ -1,15 +1,14 @@
 //! The command `judge`.
-use crate::files::{buffered, create, open, open_given, open_plan};
+use crate::files::{buffered, create, open, open_given, open_plan, written};
 use crate::hearing::{Hearing, write_page};
 use crate::source::{Part, Source};
-use crate::stop::{Cause, Stop};
+use crate::stop::Stop;
 use afdx_frame::Net;
 use judge::Options;
 use plan_report::{Case, End};
 use std::alloc::Global;
 use std::fs::File;
-use std::io::Write;
-use tx_script::RunFault;
+use std::io::{self, Write};
 
 /// Writes what is wrong with a recording of a plan's end system: findings, how many there are, what was read, and a row
 /// for each link and network; and after that the page to its file. With a second capture, the first is of network A and
@@ -35,7 +34,7 @@ pub fn judge_files<'a, W: Write>(
     let mut hearing = Hearing::new(alloc, plan, options)?;
     let is_whole = hear(rt, case, first, second, &mut hearing, writer)?;
     if let (Some(page), Some(path)) = (page, &case.html) {
-        save_page(alloc, page, path.as_str(), &hearing, case.skew)?;
+        written(save_page(alloc, page, &hearing, case.skew), path.as_str())?;
     }
     if is_whole && hearing.tally.total() == 0 {
         Ok(End::Told)
@@ -45,19 +44,10 @@ pub fn judge_files<'a, W: Write>(
 }
 
 /// Writes the page to its file.
-fn save_page<'a>(
-    alloc: Global,
-    page: File,
-    path: &'a str,
-    hearing: &Hearing,
-    skew: u64,
-) -> Result<(), Stop<'a>> {
+fn save_page(alloc: Global, page: File, hearing: &Hearing, skew: u64) -> io::Result<()> {
     let mut output = buffered(alloc, page)?;
-    let written = match write_page(&mut output, hearing, skew) {
-        Ok(()) => output.flush(),
-        Err(error) => Err(error),
-    };
-    written.map_err(|error| Stop::by_file(RunFault::Write, path, Cause::System(error)))
+    write_page(&mut output, hearing, skew)?;
+    output.flush()
 }
 
 /// Has the captures heard, and writes what was found and read. Returns whether each was read to its end. If one is no
