@@ -1,6 +1,10 @@
 -- The ports in an end system are those of its emitter.
 use Rattle.afdx_handle.proofs.Names.{ℕ, ◌≡◌, length, sym, subst, Some, true, false, eqb-true, All-push, All-head, All, IsPermutation, get_or, swap_remove, Tx, PortView, IsPortOfTx, LacksPlace, IsGatheredTx, EndView, has_id, IsEndSystem, TakesPort, position}
 use Rattle.std.proofs.Common.{List, [], ◌∷◌, ◌++◌, refl}
+use Rattle.afdx_frame.specs.declared.net.Net.{Net}
+use Rattle.afdx_frame.specs.declared.net.Net.TheVariants.{A, B}
+use Rattle.redundant_mux.specs.Lines.{with_failing}
+use Rattle.redundant_mux.proofs.MirroredLines.{mirrored_failing}
 use Rattle.std.proofs.lemmas.List.Quantifiers.{position-Some}
 use Rattle.std.proofs.lemmas.List.Sorted.{All-permutation, IsPermutation-swap_remove}
 
@@ -9,6 +13,22 @@ pub gathered_whole : (it : EndView) (new : Tx) → IsGatheredTx it.tx it.ports n
 gathered_whole it new gathered lacks =
     let own = gathered.own lacks.0 lacks.1 in
     lacks.2 (record { port = own.port; inside = own.inside; at = own.at })
+
+-- One of the networks was made to fail.
+pub failing_kept : (net : Net) (it : EndView) → IsEndSystem it
+    → IsEndSystem (record it { tx = record it.tx { lines = with_failing net it.tx.lines } })
+failing_kept A it kept = record {
+  mirrored = mirrored_failing it.tx.lines true it.tx.lines.b_failing kept.mirrored;
+  own = kept.own;
+  made_a = kept.made_a;
+  made_b = kept.made_b;
+}
+failing_kept B it kept = record {
+  mirrored = mirrored_failing it.tx.lines it.tx.lines.a_failing true kept.mirrored;
+  own = kept.own;
+  made_a = kept.made_a;
+  made_b = kept.made_b;
+}
 
 -- One port more.
 pub gives_kept : (it : EndView) (new : List PortView) (room : ℕ) (port : PortView) → IsEndSystem it
