@@ -65,16 +65,16 @@ fragments_more (first ∷ later) end_system room net place sent =
     grind (arith, fragments_more later end_system room net (suc place) sent, append_assoc)
 
 -- All pieces are left of a cut that has given none.
-pub pieces_whole : (room : ℕ) (port : PortPlan) (place : ℕ) (bytes : List ℕ) (capacity : ℕ)
-    → pieces_left room (uncut port place bytes capacity) ≡ pieces_from 0 (cutting room (8 + length bytes))
+pub pieces_whole : (room : ℕ) (port : PortPlan) (place : ℕ) (bytes : List ℕ)
+    → pieces_left room (uncut port place bytes) ≡ pieces_from 0 (cutting room (8 + length bytes))
 unfolding pieces_left
-pieces_whole room port place bytes capacity = grind arith
+pieces_whole room port place bytes = grind arith
 
 -- All fragments are left of a cut that has given none.
-pub cut_whole : (end_system room : ℕ) (net : Net) (place capacity : ℕ) (sent : Sent)
-    → fragments_left end_system room net (uncut sent.port place sent.bytes capacity) ≡ fragments_at end_system room net place sent
+pub cut_whole : (end_system room : ℕ) (net : Net) (place : ℕ) (sent : Sent)
+    → fragments_left end_system room net (uncut sent.port place sent.bytes) ≡ fragments_at end_system room net place sent
 unfolding fragments_at pieces_left
-cut_whole end_system room net place capacity sent = grind arith
+cut_whole end_system room net place sent = grind arith
 
 -- A frame without its sequence number.
 blanked_push : (front : List ℕ) (number : ℕ) → blanked (front ++ number ∷ []) ≡ front

@@ -93,7 +93,6 @@ cut_from given = record {
   port = demo_port;
   place = 0;
   bytes = long_sent.bytes;
-  capacity = 41;
   start = given;
 }
 

@@ -1,5 +1,5 @@
 //! A message, cut into frames, one piece per call.
-ghost use Rattle.std.specs.Prelude.{◌≡◌, ℕ, ◌+◌, ◌≤◌, ◌<◌, ◌-◌, ◌↔◌, length, [], ◌∷◌, List, IsTrue, true, false, MatchOption, vec_len, vec_capacity};
+ghost use Rattle.std.specs.Prelude.{◌≡◌, ℕ, ◌+◌, ◌≤◌, ◌<◌, ◌-◌, ◌↔◌, length, [], ◌∷◌, List, IsTrue, true, false, MatchOption, vec_len};
 ghost use Rattle.afdx_plan.specs.Plan.{IsPort, SendsOver, room_of};
 ghost use Rattle.afdx_frame.specs.Frame.{frame_of, greatest_message, greatest_datagram};
 ghost use Rattle.afdx_frame.specs.Header.{IsFrameOf};
@@ -13,15 +13,13 @@ use crate::piece::Piece;
 use crate::template::Template;
 use crate::write::write_frame;
 use afdx_plan::{LinkPlan, PortPlan};
-use std::alloc::Global;
 use std::marker::Model;
 
-/// A message at a place of its sub-VL, given frame by frame by the template of its port, which is
-/// lent at each call. The datagram's bytes before `start` were given. No call allocates, and the
-/// message's list doesn't grow.
+/// What is left of a message at a place of its sub-VL, given frame by frame. Its bytes, and the
+/// template of its port, are lent at each call. The datagram's bytes before `start` were given. No
+/// call allocates.
 #[derive(Drop)]
 pub struct Rest {
-    bytes: Vec<u8>,
     place: u64,
     start: usize,
     // The length of the datagram.
@@ -29,37 +27,37 @@ pub struct Rest {
 }
 
 impl Model for Rest {
-    ghost use Rattle.std.specs.Prelude.{◌≡◌, ◌+◌, length, vec_capacity};
     ghost use Rattle.afdx_frame.specs.Cutting.{Remains, IsCut};
 
     ghost Value = { Remains };
 
     ghost view = { λ r. record {
       place = r.place;
-      bytes = r.bytes.items;
-      capacity = vec_capacity r.bytes;
       start = r.start;
+      end = r.end;
     } };
 
-    ghost invariant = { λ r. IsCut r.bytes.items r.start × (r.end ≡ 8 + length r.bytes.items) };
+    ghost invariant = { λ r. IsCut r.end r.start };
 }
 
 /// A message of a port at a place of its sub-VL, given frame by frame.
 #[derive(Drop)]
 pub struct Cut {
     port: PortPlan,
+    bytes: Vec<u8>,
     rest: Rest,
 }
 
 impl Model for Cut {
+    ghost use Rattle.std.specs.Prelude.{◌≡◌, ◌+◌, length};
     ghost use Rattle.afdx_plan.specs.Plan.{IsPort};
     ghost use Rattle.afdx_frame.specs.Cutting.{Cutting, cut_of};
 
     ghost Value = { Cutting };
 
-    ghost view = { λ c. cut_of c.port c.rest };
+    ghost view = { λ c. cut_of c.port c.bytes.items c.rest };
 
-    ghost invariant = { λ c. IsPort c.port };
+    ghost invariant = { λ c. IsPort c.port × (c.rest.end ≡ 8 + length c.bytes.items) };
 }
 
 /// The next piece, if there is one. If the rest doesn't fit into the room, the piece is the
@@ -91,66 +89,38 @@ fn next_piece(room: usize, len: usize, start: usize) -> Option<Piece>
 }
 
 impl Rest {
-    /// A message of 1 to 8,192 bytes, of which nothing was given. `place` counts the accepted
-    /// messages of the sub-VL from 0.
-    pub fn new(bytes: Vec<u8>, place: u64) -> Rest
-        requires some { 1 ≤ vec_len bytes }
-        requires most { vec_len bytes ≤ greatest_message }
-        ensures { result ≡ whole place bytes.items (vec_capacity bytes) }
+    /// A message of this length, 1 to 8,192 bytes, of which nothing was given. `place` counts the
+    /// accepted messages of the sub-VL from 0.
+    pub fn new(len: usize, place: u64) -> Rest
+        requires some { 1 ≤ len }
+        requires most { len ≤ greatest_message }
+        ensures { result ≡ whole place len }
     {
-        let end = 8 + bytes.len();
         Rest {
-            bytes,
             place,
             start: 0,
-            end,
+            end: 8 + len,
         }
     }
 
     /// No message: all pieces were given.
     #[tactic(auto, using(crate::proofs::CuttingLemmas::left_none))]
-    pub fn none(alloc: Global) -> Rest
-        ensures free { result.capacity ≡ 0 }
-        ensures none { (port : _) (room : ℕ) → pieces_left room (cut_of port result) ≡ [] }
+    pub fn none() -> Rest
+        ensures empty { result.end ≡ 8 }
+        ensures none { (port : _) (room : ℕ) → pieces_left room (cut_of port [] result) ≡ [] }
     {
         Rest {
-            bytes: Vec::new(alloc),
             place: 0,
             start: 8,
             end: 8,
         }
     }
 
-    /// Another message in place of this one, as `new`.
-    pub fn restart(&mut self, bytes: Vec<u8>, place: u64)
-        requires some { 1 ≤ vec_len bytes }
-        requires most { vec_len bytes ≤ greatest_message }
-        ensures { self.new ≡ whole place bytes.items (vec_capacity bytes) }
-    {
-        self.end = 8 + bytes.len();
-        self.bytes = bytes;
-        self.place = place;
-        self.start = 0;
-    }
-
-    /// Frees the message's memory, once all pieces were given. None is left afterwards.
-    #[tactic(auto, using(crate::proofs::CuttingLemmas::left_none))]
-    pub fn release(&mut self)
-        requires done { (port : _) (room : ℕ) → pieces_left room (cut_of port self.old) ≡ [] }
-        ensures free { self.new.capacity ≡ 0 }
-        ensures none { (port : _) (room : ℕ) → pieces_left room (cut_of port self.new) ≡ [] }
-    {
-        let alloc = *self.bytes.allocator();
-        self.bytes = Vec::new(alloc);
-        self.start = 8;
-        self.end = 8;
-    }
-
     /// Whether all pieces were given.
     #[tactic(auto, using(crate::proofs::CuttingLemmas::left_none, crate::proofs::CuttingLemmas::left_only))]
     pub fn is_done(&self) -> bool
-        ensures { (port : _) (room : ℕ) →
-            IsTrue result ↔ (pieces_left room (cut_of port self.now) ≡ []) }
+        ensures { (port : _) (bytes : List ℕ) (room : ℕ) → self.now.end ≡ 8 + length bytes →
+            IsTrue result ↔ (pieces_left room (cut_of port bytes self.now) ≡ []) }
     {
         self.start == self.end
     }
@@ -160,29 +130,30 @@ impl Rest {
     /// buffer and the message are unchanged.
     pub fn write_next(
         &mut self,
+        bytes: &[u8],
         template: &Template,
         link: &LinkPlan,
         number: u8,
         net: Net,
         out: &mut FrameBuffer,
     ) -> bool
-        requires { SendsOver template.now.port link.now }
+        requires over { SendsOver template.now.port link.now }
+        requires message { self.old.end ≡ 8 + length bytes.now }
         ensures frame { TakesFirst
             (λ piece frame. frame.items ≡ frame_of
-            template.now.end_system template.now.port self.old.bytes self.old.place piece net number)
-            (pieces_left (room_of link.now.lmax) (cut_of template.now.port self.old))
+            template.now.end_system template.now.port bytes.now self.old.place piece net number)
+            (pieces_left (room_of link.now.lmax) (cut_of template.now.port bytes.now self.old))
             (written result out.new)
-            (pieces_left (room_of link.now.lmax) (cut_of template.now.port self.new)) }
-        ensures same { SameMessage (cut_of template.now.port self.old) (cut_of template.now.port self.new) }
-        ensures memory { self.new.capacity ≡ self.old.capacity }
+            (pieces_left (room_of link.now.lmax) (cut_of template.now.port bytes.now self.new)) }
+        ensures same { (self.new.place ≡ self.old.place) × (self.new.end ≡ self.old.end) }
         ensures fragments { MatchOption (written result out.new)
             (fragments_left template.now.end_system (room_of link.now.lmax) net
-            (cut_of template.now.port self.old) ≡ [])
+            (cut_of template.now.port bytes.now self.old) ≡ [])
             (λ frame. fragments_left template.now.end_system (room_of link.now.lmax) net
-            (cut_of template.now.port self.old)
+            (cut_of template.now.port bytes.now self.old)
             ≡ blanked frame.items
             ∷ fragments_left template.now.end_system (room_of link.now.lmax) net
-            (cut_of template.now.port self.new)) }
+            (cut_of template.now.port bytes.now self.new)) }
         ensures header { result ≡ true →
             IsFrameOf template.now.port.vl.0 template.now.port.sub number net out.new.items }
         ensures none { result ≡ false → out.new ≡ out.old }
@@ -191,7 +162,7 @@ impl Rest {
         let Some(piece) = next_piece(room, self.end, self.start) else {
             return false;
         };
-        write_frame(out, template, &self.bytes, self.place, piece, net, number);
+        write_frame(out, template, bytes, self.place, piece, net, number);
         self.start += piece.len;
         true
     }
@@ -208,7 +179,6 @@ impl Cut {
         ensures message { (result.port ≡ port.now)
             × (result.place ≡ place)
             × (result.bytes ≡ bytes.items) }
-        ensures memory { result.capacity ≡ vec_capacity bytes }
         ensures pieces { (room : ℕ) →
             pieces_left room result ≡ pieces_from 0 (cutting room (8 + length bytes.items)) }
         ensures fragments { (end_system room : ℕ) (net : Network) →
@@ -216,9 +186,11 @@ impl Cut {
             ≡ fragments_at end_system room net place
             (record { port = port.now; bytes = bytes.items }) }
     {
+        let rest = Rest::new(bytes.len(), place);
         Cut {
             port: *port,
-            rest: Rest::new(bytes, place),
+            bytes,
+            rest,
         }
     }
 
@@ -246,7 +218,6 @@ impl Cut {
             result
             (pieces_left (room_of link.now.lmax) self.new) }
         ensures same { SameMessage self.old self.new }
-        ensures memory { self.new.capacity ≡ self.old.capacity }
         ensures fragments { MatchOption result
             (fragments_left end_system (room_of link.now.lmax) net self.old ≡ [])
             (λ frame. fragments_left end_system (room_of link.now.lmax) net self.old
@@ -257,7 +228,7 @@ impl Cut {
         let mut frame = FrameBuffer::new();
         if !self
             .rest
-            .write_next(&template, link, number, net, &mut frame)
+            .write_next(&self.bytes, &template, link, number, net, &mut frame)
         {
             return None;
         }

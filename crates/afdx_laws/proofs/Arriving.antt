@@ -1,9 +1,5 @@
 -- The receiver has the first of the accepted messages.
-use Rattle.afdx_laws.proofs.Names.{◌≡◌, ℕ, ◌%◌, ◌≤◌, nat_eq, List, ◌++◌, length, map, take, drop, refl, ap, sym, ◌∙◌, arith, All, append_assoc, map-append}
-use Rattle.afdx_laws.proofs.Names.{take-append-drop, length-map, length-append, take-take, take-map, map-map, All-filter, All-map, All-take, Net, A}
-use Rattle.afdx_laws.proofs.Names.{datagram, twin_of, word_at, Sent, blanked, fragments, those_with, IsPrefixOf, with_append, begin, received, carried}
-use Rattle.afdx_laws.proofs.Names.{sub_in, number_in, IsLong, most_carried, next_alone, frames_at, of_sub, sent_from, HasByte, HasUpTo, fragment_in}
-use Rattle.afdx_laws.proofs.Names.{messages_in, IsSent, IsSending, AreFirst, MessagesArrive, DespiteLoss}
+use Rattle.afdx_laws.proofs.Names.{◌≡◌, ℕ, ◌%◌, ◌≤◌, nat_eq, List, ◌++◌, length, map, take, drop, refl, ap, sym, ◌∙◌, arith, All, append_assoc, map-append, take-append-drop, length-map, length-append, take-take, take-map, map-map, All-filter, All-map, All-take, Net, A, datagram, twin_of, word_at, Sent, blanked, fragments, those_with, IsPrefixOf, with_append, begin, received, carried, sub_in, number_in, IsLong, most_carried, next_alone, frames_at, of_sub, sent_from, HasByte, HasUpTo, fragment_in, messages_in, IsSent, IsSending, AreFirst, MessagesArrive, DespiteLoss}
 use Rattle.afdx_laws.proofs.Receiving.{exactly_once_holds}
 use Rattle.afdx_laws.proofs.Losing.{loss_masked_holds}
 use Rattle.afdx_laws.proofs.ListLemmas.{append_same, map_same}

@@ -1,8 +1,5 @@
 -- The longer list is the stream sent to a network: what was transmitted arrives, also despite losses.
-use Rattle.afdx_laws.proofs.Names.{◌≡◌, ℕ, suc, ◌≤◌, ◌<◌, inl, inr, List, [], ◌∷◌, ◌++◌, length, map, take, drop, refl, arith, All}
-use Rattle.afdx_laws.proofs.Names.{cases_lt, append_assoc, map-append, take-append-drop, map-map, Net, A, B, twin_of, Sent, twin_twice}
-use Rattle.afdx_laws.proofs.Names.{IsPrefixOf, carried, AreCarried, IsSent, IsLinkOf, IsSending, IsOfNet, IsHanded, AreHanded, AreCarriedOf, longer}
-use Rattle.afdx_laws.proofs.Names.{HandedArrive, HandedDespiteLoss}
+use Rattle.afdx_laws.proofs.Names.{◌≡◌, ℕ, suc, ◌≤◌, ◌<◌, inl, inr, List, [], ◌∷◌, ◌++◌, length, map, take, drop, refl, arith, All, cases_lt, append_assoc, map-append, take-append-drop, map-map, Net, A, B, twin_of, Sent, twin_twice, IsPrefixOf, carried, AreCarried, IsSent, IsLinkOf, IsSending, IsOfNet, IsHanded, AreHanded, AreCarriedOf, longer, HandedArrive, HandedDespiteLoss}
 use Rattle.afdx_laws.proofs.ListLemmas.{cons_same}
 use Rattle.afdx_laws.proofs.Arriving.{messages_arrive_holds, despite_loss_holds}
 

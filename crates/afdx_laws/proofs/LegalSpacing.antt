@@ -1,9 +1,5 @@
 -- Each link of a plan keeps its gap and its greatest frame, by what was transmitted legally: no fragment is greater.
-use Rattle.afdx_laws.proofs.Names.{ℕ, suc, ◌+◌, ◌≤◌, inl, inr, List, [], ◌∷◌, length, map, get_or, arith, ◌≡◌, ◌<◌, Bool, true, nat_eq, refl, All, filter}
-use Rattle.afdx_laws.proofs.Names.{cases_Bool, eq-eqb, length-append, length-take, All-cons, All-append, All-filter, All-from_recursion, All-head}
-use Rattle.afdx_laws.proofs.Names.{All-map, All-tail, filter_passes, Plan, IsPlan, link_plan_at, IsPort, room_of, Net, Piece, cutting}
-use Rattle.afdx_laws.proofs.Names.{pieces_from, Sent, fragments_from, blanked, unnumbered, link_in, sub_in, IsPiece, length-frame, Entry, link_stream, unnumbered_fragments}
-use Rattle.afdx_laws.proofs.Names.{Accepted, IsKnown, AreKnown, IsLegalOn, IsQueued, known_all, IsLong, IsSent, IsUpTo, id_at, LegalPasses, fragments_at}
+use Rattle.afdx_laws.proofs.Names.{ℕ, suc, ◌+◌, ◌≤◌, inl, inr, List, [], ◌∷◌, length, map, get_or, arith, ◌≡◌, ◌<◌, Bool, true, nat_eq, refl, All, filter, cases_Bool, eq-eqb, length-append, length-take, All-cons, All-append, All-filter, All-from_recursion, All-head, All-map, All-tail, filter_passes, Plan, IsPlan, link_plan_at, IsPort, room_of, Net, Piece, cutting, pieces_from, Sent, fragments_from, blanked, unnumbered, link_in, sub_in, IsPiece, length-frame, Entry, link_stream, unnumbered_fragments, Accepted, IsKnown, AreKnown, IsLegalOn, IsQueued, known_all, IsLong, IsSent, IsUpTo, id_at, LegalPasses, fragments_at}
 use Rattle.afdx_laws.proofs.ListLemmas.{all_front}
 use Rattle.afdx_laws.proofs.Reading.{cutting_lies, from_start}
 use Rattle.afdx_laws.proofs.LegalLinks.{link_is}

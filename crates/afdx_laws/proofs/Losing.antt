@@ -1,9 +1,5 @@
 -- The whole network makes good what the other one loses.
-use Rattle.afdx_laws.proofs.Names.{◌&&◌, ◌≡◌, ℕ, suc, ◌+◌, ◌-◌, ◌≤◌, ◌<◌, ◌⊎◌, inl, inr, Bool, true, false, cond, max, List, [], ◌∷◌, ◌++◌, length, map, take}
-use Rattle.afdx_laws.proofs.Names.{refl, ◌∙◌, arith, None, cases_Bool, and_parts, append-nil, get_or-map, length-map}
-use Rattle.afdx_laws.proofs.Names.{sequence_number, Net, A, twin_of, State, other, begin, is_valid, is_ahead, received, carried}
-use Rattle.afdx_laws.proofs.Names.{with_seen, with_accepted, seen_on, number_in, same_net, AreWithin, StartsFirst, AreClose, BeginsFirst, frame_at, LossMasked}
-use Rattle.afdx_laws.proofs.Names.{FirstComes, MaskedFromFirst, NumbersClash}
+use Rattle.afdx_laws.proofs.Names.{◌&&◌, ◌≡◌, ℕ, suc, ◌+◌, ◌-◌, ◌≤◌, ◌<◌, ◌⊎◌, inl, inr, Bool, true, false, cond, max, List, [], ◌∷◌, ◌++◌, length, map, take, refl, ◌∙◌, arith, None, cases_Bool, and_parts, append-nil, get_or-map, length-map, sequence_number, Net, A, twin_of, State, other, begin, is_valid, is_ahead, received, carried, with_seen, with_accepted, seen_on, number_in, same_net, AreWithin, StartsFirst, AreClose, BeginsFirst, frame_at, LossMasked, FirstComes, MaskedFromFirst, NumbersClash}
 use Rattle.afdx_laws.proofs.ListLemmas.{last, valid_next, old_is_ahead, differ}
 use Rattle.afdx_laws.proofs.Receiving.{IsPlaced, grows, placed}
 

@@ -1,14 +1,11 @@
 -- The names of other crates, and of this one's definitions, that the proofs here use.
-pub use Rattle.std.proofs.Common.{Bool, List, [], ap, arith, cond, drop, eqb, false, get_or, inl, inr, length, map, max, nat_eq, nat_le, nat_lt, not, refl}
-pub use Rattle.std.proofs.Common.{rules, subst, suc, sym, take, true, zero, ℕ, ◌%◌, ◌&&◌, ◌*◌, ◌++◌, ◌+◌, ◌-◌, ◌<◌, ◌||◌, ◌∙◌, ◌∷◌, ◌≡◌, ◌≢◌, ◌≤◌, ◌⊎◌}
+pub use Rattle.std.proofs.Common.{Bool, List, [], ap, arith, cond, drop, eqb, false, get_or, inl, inr, length, map, max, nat_eq, nat_le, nat_lt, not, refl, rules, subst, suc, sym, take, true, zero, ℕ, ◌%◌, ◌&&◌, ◌*◌, ◌++◌, ◌+◌, ◌-◌, ◌<◌, ◌||◌, ◌∙◌, ◌∷◌, ◌≡◌, ◌≢◌, ◌≤◌, ◌⊎◌}
 pub use Rattle.std.proofs.Math.Seq.{take-append_seam}
 pub use Rattle.std.proofs.lemmas.Bool.{and_parts, cases_Bool, cases_eq, cases_lt, eq-eqb, eqb-true, false≢true, le-leb, le-ltb, lt-ltb, ne_eqb}
 pub use Rattle.std.proofs.lemmas.Bool.Decides.{nat_tests}
 pub use Rattle.std.proofs.lemmas.Grind.{common_steps}
-pub use Rattle.std.proofs.lemmas.List.{append-nil, append_assoc, drop_all, drop_at, drop_more, get_or-map}
-pub use Rattle.std.proofs.lemmas.List.{length-append, length-drop, length-map, length-take, map-append, set-set, take-append-drop, take-map, take-take, take_all, take_more}
-pub use Rattle.std.proofs.lemmas.List.Elements.{All-append, All-cons, All-filter, All-from_recursion, All-head, All-map, All-nil, All-tail, All-take, All-weaker}
-pub use Rattle.std.proofs.lemmas.List.Elements.{filter_passes}
+pub use Rattle.std.proofs.lemmas.List.{append-nil, append_assoc, drop_all, drop_at, drop_more, get_or-map, length-append, length-drop, length-map, length-take, map-append, set-set, take-append-drop, take-map, take-take, take_all, take_more}
+pub use Rattle.std.proofs.lemmas.List.Elements.{All-append, All-cons, All-filter, All-from_recursion, All-head, All-map, All-nil, All-tail, All-take, All-weaker, filter_passes}
 pub use Rattle.std.proofs.lemmas.List.Sums.{count_by-le-length, length-filter, sum_by-cons}
 pub use Rattle.std.proofs.lemmas.Nat.{le-div, mul-le}
 pub use Rattle.std.proofs.lemmas.Simd.{map-map}
@@ -42,20 +39,10 @@ pub use Rattle.afdx_legal.proofs.StreamLemmas.{known_all, numbered_at, numbered_
 pub use Rattle.afdx_legal.specs.Accepted.{IsAllowed, IsQueued, messages_of}
 pub use Rattle.afdx_legal.specs.Legal.{Accepted, AreKnown, AreTwins, IsKnown, IsLegal, IsLegalOn, is_on_both, on_both}
 pub use Rattle.afdx_legal.specs.Streams.{own_stream, IsNumbered, IsPrefixOf, IsSpaced, entry_number, link_stream, stamp_of, sub_stream, those_with, told, unnumbered_fragments}
-pub use Rattle.afdx_laws.specs.Buffers.{FirstIsGiven, HandedNeedOne, HasUpTo, HoldsAFrame, HoldsOne, IsOneEnough, LegalNeedOne, LegalNeedOneDespite}
-pub use Rattle.afdx_laws.specs.Buffers.{NeedsInTurn, NeedsOrder, OneBuffer, buffers_after, piece, two_begun, two_datagrams}
-pub use Rattle.afdx_laws.specs.Delivery.{AreCarriedOf, AreFirst, AreGiven, AreHanded, DespiteLoss, HandedArrive}
-pub use Rattle.afdx_laws.specs.Delivery.{HandedDespiteLoss, HasByte, InOrder, IsHanded, IsLinkOf, IsOfNet, IsSending}
-pub use Rattle.afdx_laws.specs.Delivery.{IsSent, MessagesArrive, delivered, fragment_in, kept_in, keyed, longer, messages_in, of_sub, sent_from, with_buffer}
-pub use Rattle.afdx_laws.specs.Loss.{AreClose, AreWithin, BeginsFirst, FirstComes, LossMasked, MaskedFromFirst}
-pub use Rattle.afdx_laws.specs.Loss.{NumbersClash, StartsFirst, frame_at, frames_at, next_alone, same_net}
-pub use Rattle.afdx_laws.specs.Plans.{AllOnBoth, IsHandedOver, IsOn, IsOnBoth, LegalArrive, LegalDespiteLoss}
-pub use Rattle.afdx_laws.specs.Plans.{LegalPasses, OneNetworkArrives, OwnListsArrive, all_from, frames_of, handed_to, id_at, longer_of, piece_room}
-pub use Rattle.afdx_laws.specs.Policer.{Account, AreBetween, AreOnTime, Arrival, Charge, IsOnItsWay, IsOnTime, IsUpTo}
-pub use Rattle.afdx_laws.specs.Policer.{NeedsTheGreatest, NoMorePasses, NoneDropped, Passage, Rule, StreamPasses}
-pub use Rattle.afdx_laws.specs.Policer.{arrival, by_bytes, by_frames, cost, filled, full, limit, paid, passed, price, rule_around}
-pub use Rattle.afdx_laws.specs.Receiver.{AreCarried, ExactlyOnce, IsLong, IsNear, IsStream, State, Tolerance, ahead}
-pub use Rattle.afdx_laws.specs.Receiver.{begin, carried, is_accepted, is_ahead, is_valid, most_carried, next_number, other, received, seen_on, with_accepted, with_seen}
-pub use Rattle.afdx_laws.specs.WorkedDelivery.{AcceptsEachOnce, BeginsOnBoth, ComesDespiteLoss, MasksOneLoss, NeedsALag, NeedsAStream, NeedsAWholeNetwork}
-pub use Rattle.afdx_laws.specs.WorkedDelivery.{NeedsHanding, NeedsNumbers, NeedsOneWhole, NeedsTheFirst, OneMessageArrives, bare_frame, bare_stream}
-pub use Rattle.afdx_laws.specs.WorkedDelivery.{both_frames, far_behind, four_arrivals, one_accepted, plain_receiver, same_twice, second_lost, wide_receiver}
+pub use Rattle.afdx_laws.specs.Buffers.{FirstIsGiven, HandedNeedOne, HasUpTo, HoldsAFrame, HoldsOne, IsOneEnough, LegalNeedOne, LegalNeedOneDespite, NeedsInTurn, NeedsOrder, OneBuffer, buffers_after, piece, two_begun, two_datagrams}
+pub use Rattle.afdx_laws.specs.Delivery.{AreCarriedOf, AreFirst, AreGiven, AreHanded, DespiteLoss, HandedArrive, HandedDespiteLoss, HasByte, InOrder, IsHanded, IsLinkOf, IsOfNet, IsSending, IsSent, MessagesArrive, delivered, fragment_in, kept_in, keyed, longer, messages_in, of_sub, sent_from, with_buffer}
+pub use Rattle.afdx_laws.specs.Loss.{AreClose, AreWithin, BeginsFirst, FirstComes, LossMasked, MaskedFromFirst, NumbersClash, StartsFirst, frame_at, frames_at, next_alone, same_net}
+pub use Rattle.afdx_laws.specs.Plans.{AllOnBoth, IsHandedOver, IsOn, IsOnBoth, LegalArrive, LegalDespiteLoss, LegalPasses, OneNetworkArrives, OwnListsArrive, all_from, frames_of, handed_to, id_at, longer_of, piece_room}
+pub use Rattle.afdx_laws.specs.Policer.{Account, AreBetween, AreOnTime, Arrival, Charge, IsOnItsWay, IsOnTime, IsUpTo, NeedsTheGreatest, NoMorePasses, NoneDropped, Passage, Rule, StreamPasses, arrival, by_bytes, by_frames, cost, filled, full, limit, paid, passed, price, rule_around}
+pub use Rattle.afdx_laws.specs.Receiver.{AreCarried, ExactlyOnce, IsLong, IsNear, IsStream, State, Tolerance, ahead, begin, carried, is_accepted, is_ahead, is_valid, most_carried, next_number, other, received, seen_on, with_accepted, with_seen}
+pub use Rattle.afdx_laws.specs.WorkedDelivery.{AcceptsEachOnce, BeginsOnBoth, ComesDespiteLoss, MasksOneLoss, NeedsALag, NeedsAStream, NeedsAWholeNetwork, NeedsHanding, NeedsNumbers, NeedsOneWhole, NeedsTheFirst, OneMessageArrives, bare_frame, bare_stream, both_frames, far_behind, four_arrivals, one_accepted, plain_receiver, same_twice, second_lost, wide_receiver}

@@ -1,7 +1,5 @@
 -- The next fragment of a message comes within a round of the sub-VLs.
-use Rattle.afdx_laws.proofs.Names.{◌≡◌, ◌≢◌, ℕ, zero, suc, ◌+◌, ◌*◌, ◌≤◌, ◌<◌, true, false, eqb, List, [], ◌∷◌, ◌++◌, length, map, refl, subst}
-use Rattle.afdx_laws.proofs.Names.{arith, All, AllByRecursion, IsDistinct, list_any, nat_tests, ne_eqb, length-map}
-use Rattle.afdx_laws.proofs.Names.{link_plan_at, bag_micros, LinkPlan, sub_in, Entry, sub_stream, link_stream, id_at}
+use Rattle.afdx_laws.proofs.Names.{◌≡◌, ◌≢◌, ℕ, zero, suc, ◌+◌, ◌*◌, ◌≤◌, ◌<◌, true, false, eqb, List, [], ◌∷◌, ◌++◌, length, map, refl, subst, arith, All, AllByRecursion, IsDistinct, list_any, nat_tests, ne_eqb, length-map, link_plan_at, bag_micros, LinkPlan, sub_in, Entry, sub_stream, link_stream, id_at}
 use Rattle.std.proofs.lemmas.Map.Keys.{IsDistinct-cons, IsDistinct-from_apart}
 use Rattle.std.proofs.lemmas.Map.Steps.{length-le_from_distinct_below}
 use Rattle.afdx_legal.specs.Streams.{before_next, IsFollowedInTurn, TakesTurns}

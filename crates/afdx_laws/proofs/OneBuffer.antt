@@ -1,9 +1,5 @@
 -- One buffer for each sub-VL is enough for fragments in order, and so for what a receiver accepts.
-use Rattle.afdx_laws.proofs.Names.{◌≡◌, ℕ, suc, ◌≤◌, List, [], ◌∷◌, length, refl, ap, ◌∙◌, arith, All, Option, None, nat_tests, length-take}
-use Rattle.afdx_laws.proofs.Names.{All-append, All-map, identification, Piece, cutting, pieces_from, Fragment, Buffer, put, end_of}
-use Rattle.afdx_laws.proofs.Names.{datagram_in, fragment_of, fragments_of, empty, with_buffer, kept_in, keyed, sent_from, of_sub, buffers_after, HasUpTo}
-use Rattle.afdx_laws.proofs.Names.{OneBuffer, map, take, Net, A, twin_of, Sent, fragment_in, IsSending, longer, id_at, piece_room, longer_of, IsOneEnough}
-use Rattle.afdx_laws.proofs.Names.{HandedNeedOne, LegalNeedOne, LegalNeedOneDespite}
+use Rattle.afdx_laws.proofs.Names.{◌≡◌, ℕ, suc, ◌≤◌, List, [], ◌∷◌, length, refl, ap, ◌∙◌, arith, All, Option, None, nat_tests, length-take, All-append, All-map, identification, Piece, cutting, pieces_from, Fragment, Buffer, put, end_of, datagram_in, fragment_of, fragments_of, empty, with_buffer, kept_in, keyed, sent_from, of_sub, buffers_after, HasUpTo, OneBuffer, map, take, Net, A, twin_of, Sent, fragment_in, IsSending, longer, id_at, piece_room, longer_of, IsOneEnough, HandedNeedOne, LegalNeedOne, LegalNeedOneDespite}
 use Rattle.afdx_laws.proofs.ListLemmas.{all_front}
 use Rattle.afdx_laws.proofs.Reading.{cutting_lies}
 use Rattle.afdx_laws.proofs.InOrder.{apart, reassembles}

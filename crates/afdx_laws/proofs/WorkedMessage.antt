@@ -1,11 +1,5 @@
 -- The worked delivery, the worked runs of a receiver and the worked losses, by computation.
-use Rattle.afdx_laws.proofs.Names.{◌≡◌, ◌≤◌, ◌<◌, List, [], ◌∷◌, length, map, take, ◌+◌, ℕ, false, nat_eq, refl, arith, max, Bool, true, not, ◌&&◌, ◌||◌}
-use Rattle.afdx_laws.proofs.Names.{nat_lt, nat_le, cond, and_parts, slice_index, length-append, length-take, length-map, Net}
-use Rattle.afdx_laws.proofs.Names.{A, B, Sent, fragments, sub_in, twin_of, those_with, carried, other, IsNear, IsStream, AreCarried, AreWithin}
-use Rattle.afdx_laws.proofs.Names.{StartsFirst, AreClose, same_net, IsSending, AreFirst, AreHanded, one_accepted, both_frames, four_arrivals, OneMessageArrives}
-use Rattle.afdx_laws.proofs.Names.{NeedsHanding, bare_frame, bare_stream, same_twice, far_behind, wide_receiver, AcceptsEachOnce, NeedsNumbers, NeedsALag}
-use Rattle.afdx_laws.proofs.Names.{NeedsAStream, second_lost, MasksOneLoss, NeedsTheFirst, BeginsOnBoth, ComesDespiteLoss, NeedsAWholeNetwork, NeedsOneWhole}
-use Rattle.afdx_laws.proofs.Names.{checksum, cutting, addresses, header_front, internet_header, link_header, udp_header, datagram, unnumbered, fragments_at}
+use Rattle.afdx_laws.proofs.Names.{◌≡◌, ◌≤◌, ◌<◌, List, [], ◌∷◌, length, map, take, ◌+◌, ℕ, false, nat_eq, refl, arith, max, Bool, true, not, ◌&&◌, ◌||◌, nat_lt, nat_le, cond, and_parts, slice_index, length-append, length-take, length-map, Net, A, B, Sent, fragments, sub_in, twin_of, those_with, carried, other, IsNear, IsStream, AreCarried, AreWithin, StartsFirst, AreClose, same_net, IsSending, AreFirst, AreHanded, one_accepted, both_frames, four_arrivals, OneMessageArrives, NeedsHanding, bare_frame, bare_stream, same_twice, far_behind, wide_receiver, AcceptsEachOnce, NeedsNumbers, NeedsALag, NeedsAStream, second_lost, MasksOneLoss, NeedsTheFirst, BeginsOnBoth, ComesDespiteLoss, NeedsAWholeNetwork, NeedsOneWhole, checksum, cutting, addresses, header_front, internet_header, link_header, udp_header, datagram, unnumbered, fragments_at}
 use Rattle.afdx_laws.proofs.ListLemmas.{other_length, fails_by, needs_each}
 use Rattle.afdx_laws.proofs.Receiving.{exactly_once_holds}
 use Rattle.afdx_laws.proofs.Arriving.{messages_arrive_holds, despite_loss_holds}

@@ -1,7 +1,5 @@
 -- The worked reassembly and its buffers, by computation.
-use Rattle.afdx_laws.proofs.Names.{ℕ, false, [], ◌∷◌, refl, arith, ◌≡◌, inl, inr, sym, true, All, Some, cases_eq, Buffer, empty}
-use Rattle.afdx_laws.proofs.Names.{HasByte, buffers_after, HoldsOne, HasUpTo, checksum, cutting, addresses, header_front, internet_header, link_header}
-use Rattle.afdx_laws.proofs.Names.{udp_header, datagram, unnumbered, two_datagrams, piece, FirstIsGiven, NeedsOrder, two_begun, NeedsInTurn, HoldsAFrame}
+use Rattle.afdx_laws.proofs.Names.{ℕ, false, [], ◌∷◌, refl, arith, ◌≡◌, inl, inr, sym, true, All, Some, cases_eq, Buffer, empty, HasByte, buffers_after, HoldsOne, HasUpTo, checksum, cutting, addresses, header_front, internet_header, link_header, udp_header, datagram, unnumbered, two_datagrams, piece, FirstIsGiven, NeedsOrder, two_begun, NeedsInTurn, HoldsAFrame}
 use Rattle.afdx_laws.proofs.ListLemmas.{fails_by}
 
 two_some : All HasByte two_datagrams

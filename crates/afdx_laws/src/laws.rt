@@ -17,8 +17,7 @@ ghost use Rattle.afdx_laws.specs.Receiver.{ExactlyOnce};
 ghost use Rattle.afdx_laws.specs.NextFragment.{NextInARound, NextInPlan, NextInTime, LieTwoGapsApart};
 ghost use Rattle.afdx_laws.specs.Plans.{OneNetworkArrives, LegalArrive, LegalDespiteLoss, OwnListsArrive, AllOnBoth};
 ghost use Rattle.afdx_laws.specs.Skew.{SkewIsFit, SkewIsNear, BearsUnder254, ComesInTime};
-ghost use Rattle.afdx_laws.specs.WorkedDelivery.{OneMessageArrives, NeedsHanding, AcceptsEachOnce, NeedsNumbers, NeedsBeginnings, NeedsALag, NeedsAStream, ClashesPast254};
-ghost use Rattle.afdx_laws.specs.WorkedDelivery.{MasksOneLoss, NeedsTheFirst, BeginsOnBoth, ComesDespiteLoss, NeedsAWholeNetwork, HandedDespiteOneLoss, NeedsOneWhole};
+ghost use Rattle.afdx_laws.specs.WorkedDelivery.{OneMessageArrives, NeedsHanding, AcceptsEachOnce, NeedsNumbers, NeedsBeginnings, NeedsALag, NeedsAStream, ClashesPast254, MasksOneLoss, NeedsTheFirst, BeginsOnBoth, ComesDespiteLoss, NeedsAWholeNetwork, HandedDespiteOneLoss, NeedsOneWhole};
 ghost use Rattle.afdx_laws.specs.WorkedPlan.{AreTwinsOfOne, ComesFromOne, OneIsLegal, NeedsLegal, LegalDespiteOneLoss, NeedsClose, OneIsWhole, NeedsAll};
 
 /// A receiver accepts each frame of a link exactly once and in order, as far as one of the networks carried them, from

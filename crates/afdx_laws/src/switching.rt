@@ -3,8 +3,7 @@
 //! Each law assumes that the switch works as specs/ defines it, and that frames are delayed by at most the stated
 //! jitter. No law covers the queues of the switch.
 ghost use Rattle.afdx_laws.specs.Plans.{LegalPasses};
-ghost use Rattle.afdx_laws.specs.Policer.{EarlyDropped, NoMorePasses, NoneDropped, StreamPasses, PolicesThree};
-ghost use Rattle.afdx_laws.specs.Policer.{SpendsAll, NeedsRisingMoments, DropsTheEarly, PassesTwo, NeedsTheGap, NeedsTheGreatest, NeedsTheJitter};
+ghost use Rattle.afdx_laws.specs.Policer.{EarlyDropped, NoMorePasses, NoneDropped, StreamPasses, PolicesThree, SpendsAll, NeedsRisingMoments, DropsTheEarly, PassesTwo, NeedsTheGap, NeedsTheGreatest, NeedsTheJitter};
 ghost use Rattle.afdx_laws.specs.WorkedPlan.{PassesAGapApart};
 
 /// A switch that polices a link by its gap, its greatest frame and a jitter, by bytes or by frames, drops no frame of a

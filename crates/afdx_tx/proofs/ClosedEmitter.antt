@@ -1,5 +1,5 @@
 -- An emitter with one closed sub-VL is still sound, and the total is what it accepted.
-use Rattle.afdx_tx.proofs.Names.{ℕ, ◌≡◌, ◌<◌, ◌≤◌, List, length, set, arith, subst, Result, OnErr, IfOk, cases_lt, length-set, get_or_past, Plan, IsPlan, link_plan_at, queue_of, Held, LinkState, held_at, link_at, no_link, ClosesLink, Tx, queues_in, LacksSub, ClosesTx, Some, length-map, total_in, PortView, accepted_in, IsGatheredTx}
+use Rattle.afdx_tx.proofs.Names.{ℕ, ◌≡◌, ◌<◌, ◌≤◌, List, length, set, arith, subst, Result, OnErr, IfOk, cases_lt, length-set, get_or_past, Plan, IsPlan, link_plan_at, queue_of, Held, LinkState, held_at, link_at, no_link, ClosesLink, Tx, queues_in, LacksSub, ClosesTx, Some, length-map, total_in, PortView, accepted_in, IsGatheredTx, AreReceiving, IsReceiving, Seen, receiving, gathered}
 use Rattle.afdx_tx.proofs.SoundEmitter.{alike_queues}
 use Rattle.afdx_tx.proofs.KeptLinks.{KeepsSub, KeepLinks, one_link, one_count, one_each}
 
@@ -33,8 +33,17 @@ links_closed old place sub total new c within = record {
 pub closed_kept : (old new : List LinkState) → ClosedLinks old new → KeepLinks old new
 closed_kept old new c = grind arith
 
+-- The ports of each queue may still send.
+pub closed_receiving : (old new : List LinkState) → ClosedLinks old new → AreReceiving old → AreReceiving new
+closed_receiving old new c are k s within below = named _ _ (c.each k s).name (are k s (omega (arith, c.count)) (omega (arith, c.subs k)))
+  where
+    named : (old new : Seen) → queue_of new ≡ queue_of old → IsReceiving old → IsReceiving new
+    named (receiving r) (receiving q) same is = tt
+    named (receiving r) (gathered g) same is = grind arith
+    named (gathered g) new same is = absurd is
+
 -- The queues have the same identities.
-queues_same : (old new : List LinkState) → ClosedLinks old new → queues_in new ≡ queues_in old
+pub queues_same : (old new : List LinkState) → ClosedLinks old new → queues_in new ≡ queues_in old
 queues_same old new c = grind (arith, alike_queues)
 
 -- A found link lacks this sub-VL, and no other link has its identifier.

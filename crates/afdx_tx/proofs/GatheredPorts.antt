@@ -1,7 +1,6 @@
 -- The accepted messages of each port that was gathered.
-use Rattle.afdx_tx.proofs.PortMessages.{own_messages}
+use Rattle.afdx_tx.proofs.PortMessages.{own_messages, port_within}
 use Rattle.afdx_tx.proofs.Names.{ℕ, ◌≡◌, ◌<◌, List, length, arith, ap, ◌∙◌, subst, Contains, All-contains, PortPlan, Plan, IsPlan, port_plan_at, link_place, part_of, brought_by, known_of, LinkState, held_at, link_at, back_of, Lines, Tx, AreLinksOf, HaveOwnItems, AllWaitUntil, IsSound, queues_in, PortView, BelongsTo, AreOpenedWith, HasPlace, HasEveryPlace, index_of, AreGathered, OnlyTakeBack, IsTakenBack, GathersLinks, GathersPorts, IsGatheredTx, HasOwnPart, held_for, Published, Reaches}
-use Rattle.afdx_tx.proofs.PortMessages.{port_within}
 use Rattle.afdx_tx.proofs.KeptLinks.{kept_sound}
 
 -- Each queue is gathered.

@@ -9,8 +9,7 @@ pub use Rattle.afdx_legal.proofs.StreamLemmas.{known_all, with_append, with_map}
 pub use Rattle.afdx_legal.specs.Counting.{counts_in}
 pub use Rattle.afdx_legal.specs.Accepted.{IsAllDone, IsLinkDone, IsReleased, Owes}
 pub use Rattle.afdx_legal.specs.Legal.{Accepted, AreKnown, AreTwins, IsKnown, IsLegal, IsLegalOn, is_on_both, on_both}
-pub use Rattle.afdx_legal.specs.Streams.{AreOwnStreams, longer, own_stream}
-pub use Rattle.afdx_legal.specs.Streams.{IsNumbered, IsPrefixOf, IsSpaced, entry_number, latest, link_stream, stamp_of, sub_stream, told, unnumbered_fragments}
+pub use Rattle.afdx_legal.specs.Streams.{AreOwnStreams, longer, own_stream, IsNumbered, IsPrefixOf, IsSpaced, entry_number, latest, link_stream, stamp_of, sub_stream, told, unnumbered_fragments}
 pub use Rattle.afdx_plan.specs.Config.{HasLink, IsPlan, Plan, link_plan_at, port_plan_at, link_place}
 pub use Rattle.afdx_plan.specs.Plan.{IsPort, SendsOver, bag_micros, room_of}
 pub use Rattle.afdx_plan.specs.declared.port_plan.VlId.{VlId}
@@ -20,29 +19,20 @@ pub use Rattle.afdx_plan.specs.declared.port_plan.PortPlan.{PortPlan}
 pub use Rattle.afdx_tx.specs.Calls.{ClosesTx, LacksSub, IsFirstDue, NoneDueBefore, OneDueAt, earlier, Publishes, PublishesCounts, Reaches}
 pub use Rattle.afdx_tx.specs.Run.{AreGathered, Drains, DrainsAt, IsDrained, accepted_by, accepted_in, accepted_view, pace_in, IsRun, IsTurn, IsTurnAt}
 pub use Rattle.afdx_tx.specs.DrainEnds.{AreApartBy, AreDrained, DrainEnds, DrainsOne, no_lines, one_line, owed, owed_at, stream_at}
-pub use Rattle.afdx_tx.specs.Emitter.{AreApart, AreCarried, AreFreshLinks, AreKept, AreLinks, AreLinksOf, AreOpenedLinks, AreOpenedSubs, AreReceiving}
-pub use Rattle.afdx_tx.specs.Emitter.{AllWaitUntil, AreServedBy, AreWhole, HaveOwnItems, IsOpenedLink, IsOpenedSub, IsSamePlan, IsSound, Tx, held_queue, link_queues}
-pub use Rattle.afdx_tx.specs.Emitter.{plan_of_link, plans, ports_of_sub, queues_in, taken_in, total_in}
+pub use Rattle.afdx_tx.specs.Emitter.{AreApart, AreCarried, AreFreshLinks, AreKept, AreLinks, AreLinksOf, AreOpenedLinks, AreOpenedSubs, AreReceiving, AllWaitUntil, AreServedBy, AreWhole, HaveOwnItems, IsOpenedLink, IsOpenedSub, IsSamePlan, IsSound, Tx, held_queue, link_queues, greatest_of, plan_of_link, plans, ports_of_sub, queues_in, taken_in, total_in}
 pub use Rattle.afdx_tx.specs.Gathering.{AreFull, GathersLinks, GathersPorts, HasOwnPart, IsGatheredLink, IsGatheredTx, IsTakenBack, OnlyTakeBack, OnlyTakesBack, held_for}
 pub use Rattle.afdx_tx.specs.Ports.{AreOpenedWith, BelongsTo, HasEveryPlace, HasOwnMessages, HasPlace, IsFreshPort, IsFreshSender, PortView, index_of, queue_at, queue_for}
 pub use Rattle.afdx_tx.specs.Report.{IsTold, release_of, turn_release}
 pub use Rattle.afdx_tx.specs.Phases.{Conforms, IsPolling, IsSteady, TellsAllDone}
 pub use Rattle.afdx_tx.specs.declared.report.Release.{Release}
-pub use Rattle.redundant_mux.proofs.MirroredLines.{both_none, both_on, stood_before}
-pub use Rattle.redundant_mux.proofs.MirroredLines.{entries_append, fresh_in_step, fresh_lines, fresh_log, log_more, log_same, mirrored_failing}
+pub use Rattle.redundant_mux.proofs.MirroredLines.{both_none, both_on, stood_before, entries_append, fresh_in_step, fresh_lines, fresh_log, log_more, log_same, mirrored_failing}
 pub use Rattle.redundant_mux.specs.Lines.{Entry, entry, BothEndure, IsMirrored, Keeps, Lines, any_up, Logged, entries_of, logged_for, names, only, sent_to, side, with_failing}
 unfoldable pub use Rattle.redundant_mux.specs.Lines.{log}
 pub use Rattle.status_board.specs.Views.{NoFieldFalls, zeros, Published, last_of, published, with_entry}
-pub use Rattle.std.proofs.Common.{Bool, Err, IfOk, List, None, Ok, OnErr, Option, Result, Some, [], add-one, add-zero, ap, arith, below_more, cond, drop}
-pub use Rattle.std.proofs.Common.{drop-cons, eqb, false, filter, get_or, inl, inr, length, map, map-id, min, nat_eq, refl, rules, set, subst, suc, sym, take}
-pub use Rattle.std.proofs.Common.{true, unwrap_or, zero, zero-le, ℕ, ⊎_elim, ◌&&◌, ◌++◌, ◌+◌, ◌-◌, ◌<◌, ◌^◌, ◌||◌, ◌∙◌, ◌∷◌, ◌≡◌, ◌≢◌, ◌≤◌, ◌⊎◌}
-pub use Rattle.std.proofs.lemmas.Bool.{and_from, and_left, and_parts, and_right, both_ways, cases_Bool, cases_eq, cases_lt, eq-eqb, eqb-true}
-pub use Rattle.std.proofs.lemmas.Bool.{false_from_ne_true, le-leb, le-ltb, lt-ltb, ne_eqb}
-pub use Rattle.std.proofs.lemmas.List.{append-nil, append_assoc, ext_get_or, get_or-map, get_or-set_other, get_or-set_same, get_or_append_left, get_or_at}
-pub use Rattle.std.proofs.lemmas.List.{get_or_default, get_or_past, get_or_push, length-append, length-map, length-set, length_push, map-append}
-pub use Rattle.std.proofs.lemmas.List.{nil_from_length, set-get_or, take-append-drop, take-append-le, take-map, take_all, with_items_is}
-pub use Rattle.std.proofs.lemmas.List.Elements.{All-contains, All-contains_itself, All-filter, All-head, All-map, All-nil, All-push, All-tail, All-weaker}
-pub use Rattle.std.proofs.lemmas.List.Elements.{Contains-append_left, Contains-push, filter-append, filter_passes}
+pub use Rattle.std.proofs.Common.{Bool, Err, IfOk, List, None, Ok, OnErr, Option, Result, Some, [], add-one, add-zero, ap, arith, below_more, cond, drop, drop-cons, eqb, false, filter, get_or, inl, inr, length, map, map-id, min, nat_eq, refl, rules, set, subst, suc, sym, take, true, unwrap_or, zero, zero-le, ℕ, ⊎_elim, ◌&&◌, ◌++◌, ◌+◌, ◌-◌, ◌<◌, ◌^◌, ◌||◌, ◌∙◌, ◌∷◌, ◌≡◌, ◌≢◌, ◌≤◌, ◌⊎◌}
+pub use Rattle.std.proofs.lemmas.Bool.{and_from, and_left, and_parts, and_right, both_ways, cases_Bool, cases_eq, cases_lt, eq-eqb, eqb-true, false_from_ne_true, le-leb, le-ltb, lt-ltb, ne_eqb}
+pub use Rattle.std.proofs.lemmas.List.{append-nil, append_assoc, ext_get_or, get_or-map, get_or-set_other, get_or-set_same, get_or_append_left, get_or_at, get_or_default, get_or_past, get_or_push, length-append, length-map, length-set, length_push, map-append, nil_from_length, set-get_or, take-append-drop, take-append-le, take-map, take_all, with_items_is}
+pub use Rattle.std.proofs.lemmas.List.Elements.{All-cons, All-contains, All-contains_itself, All-filter, All-head, All-map, All-nil, All-push, All-tail, All-weaker, Contains-append_left, Contains-push, filter-append, filter_passes}
 pub use Rattle.std.specs.List.{AllPairs, position, position_or_len}
 pub use Rattle.std.specs.Prelude.{All, Contains, MatchOption, OnOk, ◌==◌}
 pub use Rattle.std.specs.Vec.{with_items}
@@ -52,13 +42,10 @@ pub use Rattle.vl_link.proofs.Choosing.{each_set}
 pub use Rattle.vl_link.proofs.LinkTurn.{HasItems, IsOwn, Turned, kept_stream, kept_turn, link_turn, other_stream}
 pub use Rattle.vl_link.proofs.QueueLooks.{items_taken, same_name, same_total}
 pub use Rattle.vl_link.proofs.TurnLaws.{choice_below, turn_endures, turn_seen, turns_endure, turns_push, turns_seen}
-pub use Rattle.vl_link.specs.Calls.{Closes, ClosesLink, ClosesSub, BecomesDue, RestsUntil, StaysAsIs, BecomesWhole, GathersLink}
+pub use Rattle.vl_link.specs.Calls.{Closes, ClosesLink, ClosesSub, BecomesDue, RestsUntil, StaysAsIs, BecomesWhole, GathersLink, LacksSender, LinkMakesSender, LinkTakesBack, MakesSender, SubMakesSender, TakesBack, back_of}
 pub use Rattle.vl_link.specs.Kept.{IsBehind, IsKept, IsLinkTied, IsTied}
-pub use Rattle.vl_link.specs.Calls.{LacksSender, LinkMakesSender, LinkTakesBack, MakesSender, SubMakesSender, TakesBack, back_of}
-pub use Rattle.vl_link.specs.Links.{Asks, Follows, HasOwnItems, Held, IsLinkOfPlan, IsSameLink, IsSameSub, LinkState, Serves, held_at, held_view, link_at}
-pub use Rattle.vl_link.specs.Links.{no_link, no_link_plan, nothing_held, pace_of, sent_by, sent_of, sub_fragments, taken_by}
-pub use Rattle.vl_link.specs.Seen.{Finds, FindsNothing, IsKnownWhole, IsReceiving, IsSameQueue, Seen, TellsDrained, gathered, known_of, ports_of, queue_of}
-pub use Rattle.vl_link.specs.Seen.{receiving, taken_of, total_of}
+pub use Rattle.vl_link.specs.Links.{Asks, Follows, HasOwnItems, Held, IsLinkOfPlan, IsSameLink, IsSameSub, LinkState, Serves, held_at, held_view, link_at, no_link, no_link_plan, nothing_held, pace_of, sent_by, sent_of, sub_fragments, taken_by}
+pub use Rattle.vl_link.specs.Seen.{Finds, FindsNothing, IsKnownWhole, IsReceiving, IsSameQueue, Seen, TellsDrained, gathered, known_of, ports_of, queue_of, receiving, taken_of, total_of}
 pub use Rattle.vl_link.specs.Turn.{AreTurns, is_lost, may_release}
 pub use Rattle.vl_link.specs.declared.served.Served.{Served}
 pub use Rattle.vl_link.specs.declared.served.Served.TheVariants.{Lost, Nothing, Released}

@@ -1,8 +1,10 @@
 -- New links, while the senders of their ports are made, and an emitter before its first call.
-use Rattle.afdx_tx.proofs.Names.{ℕ, ◌≡◌, ◌+◌, ◌<◌, List, [], ◌∷◌, ◌++◌, length, take, get_or, set, arith, refl, ap, ◌∙◌, below_more, Option, None, and_right, ne_eqb, length-append, get_or_append_left, get_or_push, length-set, LinkPlan, PortPlan, Plan, IsPlan, link_plan_at, port_plan_at, link_place, most_calls, QueueName, SenderView, SubVl, queue_of, Held, LinkState, held_at, link_at, nothing_held, no_link, LacksSender, LinkMakesSender, ports_of_sub, held_queue, link_queues, queues_in, IsOpenedSub, AreOpenedSubs, IsOpenedLink, AreOpenedLinks, queue_at, IsFreshPort, each_set, both_ways, ext_get_or, fresh_lines, fresh_log, fresh_in_step, no_link_plan, AreFreshLinks, plans, IsSound}
+use Rattle.afdx_tx.proofs.Names.{ℕ, ◌≤◌, true, subst, All, All-head, All-tail, All-filter, All-cons, IsPort, greatest_of, ◌≡◌, ◌+◌, ◌<◌, List, [], ◌∷◌, ◌++◌, length, take, get_or, set, arith, refl, ap, ◌∙◌, below_more, Option, None, and_right, ne_eqb, length-append, get_or_append_left, get_or_push, length-set, LinkPlan, PortPlan, Plan, IsPlan, link_plan_at, port_plan_at, link_place, most_calls, QueueName, SenderView, SubVl, queue_of, Held, LinkState, held_at, link_at, nothing_held, no_link, LacksSender, LinkMakesSender, ports_of_sub, held_queue, link_queues, queues_in, IsOpenedSub, AreOpenedSubs, IsOpenedLink, AreOpenedLinks, queue_at, IsFreshPort, each_set, both_ways, ext_get_or, fresh_lines, fresh_log, fresh_in_step, no_link_plan, AreFreshLinks, plans, IsSound}
 use Rattle.std.proofs.Math.ListN.{get_or-map}
+use Rattle.std.specs.Prelude.{max, fold}
 use Rattle.afdx_tx.proofs.KeptLinks.{one_count, one_each}
-use Rattle.afdx_tx.proofs.PortLink.{few_ports, IsAt, seats, seats_within, seat_at, others_at}
+use Rattle.afdx_tx.proofs.PortLink.{few_ports, IsAt, seats, seats_more, seats_within, on_own, on_sub_vl, seat_at, others_at}
+use Rattle.afdx_tx.proofs.PortMessages.{place_in}
 use Rattle.afdx_tx.proofs.SoundEmitter.{alike_queues}
 use Rattle.afdx_tx.proofs.PollTurns.{plan_at_is, plans_length}
 
@@ -115,3 +117,42 @@ fresh_sound config links valid f =
       whole = grind arith;
       items = grind arith;
     }
+
+-- The greatest length of a message is reached from one length on, and by each port.
+greatest_from : (start : ℕ) (ports : List PortPlan) → let most = fold (λ most (port : PortPlan). max most port.max) start ports in
+    (start ≤ most) × All (λ (port : PortPlan). port.max ≤ most) ports
+greatest_from start [] = grind arith
+greatest_from start (port ∷ ports) =
+    let rest = greatest_from (max start port.max) ports in
+    let most = fold (λ most (port : PortPlan). max most port.max) (max start port.max) ports in (
+      omega (arith, rest.0),
+      All-cons (λ (port : PortPlan). port.max ≤ most) port ports (omega (arith, rest.0)) rest.1,
+    )
+
+-- It is at most 8,192 bytes.
+greatest_le : (start : ℕ) (ports : List PortPlan) → start ≤ 8192 → All IsPort ports
+    → fold (λ most (port : PortPlan). max most port.max) start ports ≤ 8192
+greatest_le start [] few each = few
+greatest_le start (port ∷ ports) few each = let first = (All-head IsPort port ports each).max.1 in
+    greatest_le (max start port.max) ports (omega arith) (All-tail IsPort port ports each)
+
+pub greatest_few : (ports : List PortPlan) (vl sub : ℕ) → All IsPort ports → greatest_of (ports_of_sub ports vl sub) ≤ 8192
+greatest_few ports vl sub each =
+    greatest_le 0 (ports_of_sub ports vl sub) (omega arith) (All-filter (on_sub_vl vl sub) IsPort ports each)
+
+-- It is no less than the greatest message of each.
+greatest_at : (ports : List PortPlan) (place vl sub : ℕ) → place < length ports → on_sub_vl vl sub (port_plan_at ports place) ≡ true
+    → (port_plan_at ports place).max ≤ greatest_of (ports_of_sub ports vl sub)
+greatest_at ports place vl sub lt on =
+    let seat = rw on at (seats_more ports place vl sub lt) in
+    let within : seats ports place vl sub < length (ports_of_sub ports vl sub) = omega (arith, seat, seats_within ports (place + 1) vl sub) in
+    subst (λ (port : PortPlan). port.max ≤ greatest_of (ports_of_sub ports vl sub)) (place_in (on_sub_vl vl sub) ports place _ lt on)
+    ((greatest_from 0 (ports_of_sub ports vl sub)).1 (seats ports place vl sub) _ within)
+
+-- The queue of a new port has room for its greatest message.
+pub roomy : (config : Plan) (queues : List (List (Option QueueName))) (place : ℕ) (plan : PortPlan) (sender : SenderView)
+    → place < length config.ports → plan ≡ port_plan_at config.ports place
+    → IsFreshPort config queues place (record { place = place; plan = plan; sender = sender }) → plan.max ≤ sender.most
+roomy config queues place plan sender within is fresh =
+    let fits = greatest_at config.ports place plan.vl.0 plan.sub within (on_own (port_plan_at config.ports place) plan.vl.0 plan.sub (grind arith) (grind arith)) in
+    grind arith

@@ -1,10 +1,12 @@
 -- No accepted message is longer than its port may send.
-use Rattle.afdx_tx.proofs.Names.{ℕ, ◌≡◌, ◌<◌, ◌≤◌, arith, List, [], ◌∷◌, Bool, true, false, length, get_or, nat_eq, refl, sym, All, get_or_default, All-nil, All-head, All-tail, Plan, IsPlan, link_plan_at, port_plan_at, link_place, PortPlan, Sent, accepted_in, Tx, IsGatheredTx, PortView, AreOpenedWith}
+use Rattle.afdx_tx.proofs.Names.{ℕ, ◌≡◌, ◌<◌, ◌≤◌, arith, List, [], ◌∷◌, Bool, true, false, length, get_or, nat_eq, refl, sym, All, get_or_default, All-nil, All-head, All-tail, Plan, IsPlan, link_plan_at, port_plan_at, link_place, PortPlan, Sent, accepted_in, Tx, IsGatheredTx, PortView, AreOpenedWith, AreGathered, GathersPorts, HasEveryPlace, IsSound, LinkState}
 use Rattle.std.specs.Prelude.{if◌then◌else◌}
 use Rattle.std.proofs.lemmas.List.Elements.{All-cons}
 use Rattle.afdx_legal.specs.Accepted.{IsQueued, AreQueued, AreAllowed, messages_of}
 use Rattle.afdx_tx.specs.Ports.{MaySend}
+use Rattle.afdx_tx.proofs.GatheredPorts.{all_gathered, gathers_sound, gathers_tx}
 use Rattle.afdx_tx.proofs.PortLink.{link_within}
+use Rattle.afdx_tx.proofs.PortMessages.{accepted_allowed}
 
 -- the link of a message's port is the one that it was accepted over
 pub own_link : (plan : Plan) (k s : ℕ) (sent : Sent) → IsPlan plan → k < length plan.links → IsQueued plan k s sent
@@ -50,4 +52,24 @@ gathered_allowed old new ports valid opened g queued k s inside below i d lt =
     record {
       queued = of;
       most = (rw (link, sub) at (own_fit old new ports of.port.0 opened g of.port.1)) i d lt (sym same);
+    }
+
+-- After gathering, the emitter is sound, and its accepted messages are those of its ports, which may send them.
+pub record GathersAll (old : Tx) (ports : List PortView) (links : List LinkState) : Type 0 where
+  pub sound : IsSound old.plan links old.lines old.moment
+  pub gathered : IsGatheredTx old ports (record old { links = links })
+  pub whole : AreGathered links
+  pub allowed : AreAllowed old.plan (accepted_in links)
+
+pub gathers_all : (old : Tx) (ports : List PortView) (links : List LinkState) → GathersPorts old.plan old.links ports links
+    → IsSound old.plan old.links old.lines old.moment → AreOpenedWith old ports → HasEveryPlace (length old.plan.ports) ports
+    → GathersAll old ports links
+gathers_all old ports links g was opened every =
+    let sound = gathers_sound _ _ _ _ _ _ g was in
+    let new : Tx = record old { links = links } in
+    let own = gathers_tx old new ports g refl was sound opened every in record {
+      sound = sound;
+      gathered = own;
+      whole = all_gathered _ _ g.gathers;
+      allowed = gathered_allowed old new ports sound.valid opened own (accepted_allowed _ _ sound.of_plan sound.items);
     }

@@ -67,7 +67,7 @@ module _ (config : Plan) (links : List LinkState) (of : AreLinksOf config links)
 
 -- An element that passes a test has as its index in the filter the number of earlier ones that
 -- pass.
-place_in : {X : Type 0} (on : X → Bool) (xs : List X) (place : ℕ) (d : X) → place < length xs → on (get_or xs place d) ≡ true
+pub place_in : {X : Type 0} (on : X → Bool) (xs : List X) (place : ℕ) (d : X) → place < length xs → on (get_or xs place d) ≡ true
     → get_or (filter on xs) (length (filter on (take place xs))) d ≡ get_or xs place d
 place_in on xs place d lt e =
     let front = filter on (take place xs) in

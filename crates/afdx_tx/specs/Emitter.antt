@@ -1,5 +1,5 @@
 -- An emitter, as contracts see it.
-use Rattle.std.specs.Prelude.{ℕ, ◌≡◌, ◌<◌, ◌≤◌, ◌&&◌, List, [], length, map, filter, true, false, nat_eq, Option, None, All}
+use Rattle.std.specs.Prelude.{ℕ, ◌≡◌, ◌<◌, ◌≤◌, ◌&&◌, max, fold, List, [], length, map, filter, true, false, nat_eq, Option, None, All}
 use Rattle.afdx_plan.specs.Config.{Plan, link_plan_at, IsPlan}
 use Rattle.afdx_plan.specs.Plan.{bag_micros, sequence_number}
 use Rattle.afdx_plan.specs.declared.link_plan.LinkPlan.{LinkPlan}
@@ -49,6 +49,10 @@ abbrev pub ports_of_sub : List PortPlan → ℕ → ℕ → List PortPlan
 ports_of_sub ports vl sub =
     filter (λ (port : PortPlan). nat_eq port.vl.0 vl && nat_eq port.sub sub) ports
 
+-- the greatest length of a message of these ports, or 0
+abbrev pub greatest_of : List PortPlan → ℕ
+greatest_of ports = fold (λ most (port : PortPlan). max most port.max) 0 ports
+
 -- the links are those of the plan, in its order, and so are the ports of their sub-VLs
 pub record AreLinksOf (config : Plan) (links : List LinkState) : Type 0 where
   pub each_plan : plans links ≡ config.links
@@ -65,7 +69,7 @@ pub record IsOpenedSub (own : SubVl) (ports : List PortPlan) (senders : ℕ) (he
   pub ports_are : held.ports ≡ ports
   pub left : held.left ≡ []
   pub queue : QueueName
-  pub seen : held.seen ≡ receiving (new_receiver queue own.link.capacity senders)
+  pub seen : held.seen ≡ receiving (new_receiver queue own.link.capacity (greatest_of ports) senders)
 
 -- the first `many` sub-VLs of a new link, with senders for these first ports
 pub record AreOpenedSubs (end_system : ℕ) (ports first : List PortPlan) (link : LinkPlan)

@@ -8,7 +8,7 @@ use Rattle.subvl_queue.specs.declared.refused.Why.{Why}
 use Rattle.subvl_queue.specs.declared.refused.Why.TheVariants.{Closed as QueueClosed, Exhausted as QueueExhausted, Full as QueueFull}
 use Rattle.afdx_tx.specs.declared.fault.Refusal.{Refusal}
 use Rattle.afdx_tx.specs.declared.fault.Refusal.TheVariants.{Empty, TooLong, Closed, Exhausted, Full}
-use Rattle.afdx_tx.specs.Emitter.{Tx, queues_in, ports_of_sub}
+use Rattle.afdx_tx.specs.Emitter.{Tx, queues_in, greatest_of, ports_of_sub}
 
 -- A port: its place in the configuration, its entry there, and its sender.
 pub record PortView : Type 0 where
@@ -74,10 +74,10 @@ abbrev pub AreOpenedWith : Tx → List PortView → Type 0
 AreOpenedWith tx ports = All (IsPortOfTx tx) ports
 
 -- a new sender of the queue, with this index
-pub record IsFreshSender (queue : Option QueueName) (capacity index : ℕ)
+pub record IsFreshSender (queue : Option QueueName) (capacity most index : ℕ)
     (sender : SenderView) : Type 0 where
   pub of : queue ≡ Some sender.queue
-  pub is : sender ≡ new_sender sender.queue capacity most_calls index
+  pub is : sender ≡ new_sender sender.queue capacity most most_calls index
 
 -- the port at this place, new
 pub record IsFreshPort (config : Plan) (queues : List (List (Option QueueName)))
@@ -86,6 +86,7 @@ pub record IsFreshPort (config : Plan) (queues : List (List (Option QueueName)))
   pub plan : port.plan ≡ port_plan_at config.ports place
   pub sender : IsFreshSender (queue_for config queues port.plan)
       (link_plan_at config.links (link_place config port.plan)).capacity
+      (greatest_of (ports_of_sub config.ports port.plan.vl.0 port.plan.sub))
       (index_of config.ports place) port.sender
 
 -- the ports of a configuration, new, in its order

@@ -1,6 +1,7 @@
 //! The emitter after its ports were taken back: it transmits what is left.
 use crate::emitter::Emitter;
 use crate::phase::Drain;
+use crate::turns::all_done;
 use redundant_mux::Network;
 use status_board::{Counts, Monitor, laws};
 use std::sync::Wait;
@@ -24,7 +25,7 @@ impl<A: Network + Drop, B: Network + Drop> Emitter<A, B, Drain> {
             (accepted_in self.now.links) (log self.now.lines) }
         ensures conforms { Conforms self.now }
     {
-        self.inner.is_done()
+        all_done(&self.links)
     }
 
     /// Reads the link at a place of the configuration by the emitter's monitor, as `Monitor::read`
@@ -40,6 +41,6 @@ impl<A: Network + Drop, B: Network + Drop> Emitter<A, B, Drain> {
         ensures links { links_of monitor.new ≡ links_of monitor.old }
         ensures last { result ≡ last_of self.old.board link }
     {
-        laws::read_last(rt, &mut self.inner.board, monitor, link)
+        laws::read_last(rt, &mut self.board, monitor, link)
     }
 }

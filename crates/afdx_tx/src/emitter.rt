@@ -1,42 +1,68 @@
-//! The emitter while its ports send.
+//! The emitter, while its ports send and after they were taken back.
 use crate::draining::Draining;
 use crate::fault::{NoSuchSub, PollFault};
-use crate::gather::has_every_place;
+use crate::gather::{gather_links, has_every_place};
 use crate::phase::{Phase, Sending};
 use crate::port::TxPort;
 use crate::report::Report;
-use crate::transmitter::{Transmitter, Unreported};
-use afdx_frame::Net;
-use afdx_plan::{Config, VlId};
+use crate::routing::link_of_sub;
+use crate::turns::{Notes, Unreported, all_done, first_due, publish_all, serve_all};
+use afdx_frame::{FrameBuffer, Net};
+use afdx_plan::{Config, Networks, VlId};
 use arrayvec::ArrayVec;
-use redundant_mux::{Failable, Network, Standing};
-use status_board::Counts;
+use redundant_mux::{Failable, Mux, Network, Standing};
+use status_board::{Board, Counts};
+use std::boxed::BoxedSlice;
 use std::marker::{Model, PhantomData};
 use std::sync::Wait;
+use vl_link::Link;
 
 /// Transmits the messages of its ports on two networks. Contracts see its plan, its links, the
 /// frames that the networks accepted, the time of the last poll, and what was published.
 #[derive(Drop)]
 pub struct Emitter<A: Network + Drop, B: Network + Drop, P: Phase = Sending> {
-    pub(crate) inner: Transmitter<A, B>,
-    pub(crate) phase: PhantomData<P>,
+    config: Config,
+    pub(crate) links: BoxedSlice<Link>,
+    // No link is due before this time.
+    earliest: u64,
+    mux: Mux<A, B>,
+    // The buffer of the next frame.
+    frame: Box<FrameBuffer>,
+    moment: u64,
+    pub(crate) board: Board,
+    // The list of the ports that were gathered, which is empty then: it is freed at the end.
+    emptied: Option<Vec<TxPort>>,
+    phase: PhantomData<P>,
 }
 
 impl<A: Network + Drop, B: Network + Drop, P: Phase> Model for Emitter<A, B, P> {
-    ghost use Rattle.afdx_tx.specs.Emitter.{Tx};
+    ghost use Rattle.std.specs.Box.{boxed_slice_items};
+    ghost use Rattle.std.specs.Prelude.{length};
+    ghost use Rattle.afdx_tx.specs.Emitter.{AllWaitUntil, Tx, IsSound};
+    ghost use Rattle.afdx_tx.specs.Calls.{Reaches};
     ghost use Rattle.afdx_tx.specs.Phases.{IsInPhase};
 
     ghost Value = { Tx };
 
-    ghost view = { λ e. e.inner };
+    ghost view = { λ e. record {
+      plan = e.config;
+      links = boxed_slice_items e.links;
+      lines = e.mux;
+      moment = e.moment;
+      board = e.board;
+    } };
 
-    ghost invariant = { λ e. IsInPhase P.gathered e.inner.plan e.inner.links };
+    ghost invariant = { λ e. IsSound e.config (boxed_slice_items e.links) e.mux e.moment
+        × Reaches (boxed_slice_items e.links) e.board
+        × AllWaitUntil e.earliest (boxed_slice_items e.links) (length (boxed_slice_items e.links))
+        × IsInPhase P.gathered e.config (boxed_slice_items e.links) };
 }
 
 impl<A: Network + Drop, B: Network + Drop, P: Phase> Emitter<A, B, P> {
-    ghost use Rattle.std.specs.Prelude.{◌≡◌, ◌≤◌, ◌↔◌, false, IsErr, OnErr, OnOk, IfOk};
+    ghost use Rattle.std.specs.Prelude.{◌≡◌, ◌≤◌, ◌↔◌, List, [], length, false, IsErr, OnErr, OnOk, IfOk};
     ghost use Rattle.redundant_mux.specs.Lines.{is_alive};
-    ghost use Rattle.afdx_tx.specs.Report.{Polls, PollsUnreported};
+    ghost use Rattle.afdx_tx.specs.declared.report.Release.{Release};
+    ghost use Rattle.afdx_tx.specs.Report.{IsTold, Polls, PollsUnreported};
     ghost use Rattle.afdx_tx.specs.Phases.{Conforms, AreOfPorts, Runs, StaysLawful};
     ghost use Rattle.afdx_tx.specs.Calls.{Publishes, ShowsCounts, TellsNextDue};
 
@@ -44,14 +70,14 @@ impl<A: Network + Drop, B: Network + Drop, P: Phase> Emitter<A, B, P> {
     pub fn config(&self) -> &Config
         ensures { result.now ≡ self.now.plan }
     {
-        &self.inner.config
+        &self.config
     }
 
     /// The time of the last poll that didn't return `BothDown`, in microseconds, and 0 at first.
     pub fn now(&self) -> u64
         ensures { result ≡ self.now.moment }
     {
-        self.inner.moment
+        self.moment
     }
 
     /// Network A.
@@ -59,7 +85,7 @@ impl<A: Network + Drop, B: Network + Drop, P: Phase> Emitter<A, B, P> {
         ensures handed { A.handed result.now ≡ self.now.lines.a }
         ensures failures { A.failures result.now ≡ self.now.lines.a_failures }
     {
-        self.inner.mux.network_a()
+        self.mux.network_a()
     }
 
     /// Network B.
@@ -67,7 +93,7 @@ impl<A: Network + Drop, B: Network + Drop, P: Phase> Emitter<A, B, P> {
         ensures handed { B.handed result.now ≡ self.now.lines.b }
         ensures failures { B.failures result.now ≡ self.now.lines.b_failures }
     {
-        self.inner.mux.network_b()
+        self.mux.network_b()
     }
 
     /// The counts of a link, by its identifier, as `publish` would publish them now: the frames of
@@ -78,7 +104,8 @@ impl<A: Network + Drop, B: Network + Drop, P: Phase> Emitter<A, B, P> {
     pub fn counts(&self, vl: VlId) -> Option<Counts>
         ensures { ShowsCounts self.now vl.0 result }
     {
-        self.inner.counts(vl)
+        let place = self.config.link_index(vl)?;
+        Some(self.links[place].counts())
     }
 
     /// The first time after the last poll, in microseconds, at which a link becomes due that wasn't
@@ -89,11 +116,10 @@ impl<A: Network + Drop, B: Network + Drop, P: Phase> Emitter<A, B, P> {
     pub fn next_due(&self) -> Option<u64>
         ensures { TellsNextDue self.now result }
     {
-        self.inner.next_due()
+        first_due(&self.links, &self.mux, self.moment)
     }
 
     /// Returns the two networks.
-    #[tactic(auto, using(crate::proofs::Conforming::of_ports))]
     pub fn into_networks(self) -> (A, B)
         ensures a { A.handed result.0 ≡ self.lines.a }
         ensures b { B.handed result.1 ≡ self.lines.b }
@@ -102,8 +128,34 @@ impl<A: Network + Drop, B: Network + Drop, P: Phase> Emitter<A, B, P> {
         ensures conforms { Conforms self }
         ensures allowed { AreOfPorts P.gathered self }
     {
-        let Emitter { inner, phase: _ } = self;
-        inner.into_networks()
+        let Emitter { mux, .. } = self;
+        mux.into_networks()
+    }
+
+    // Gives each link its turn. Which networks are up is asked afterwards: returned from here, it would pass through
+    // memory.
+    fn turn<N: Notes>(&mut self, now: u64, notes: &mut N) -> Result<(), PollFault>
+        requires later { self.old.moment ≤ now }
+        requires none { N.noted notes.old [] }
+        ensures both_down { IsErr result ↔ (is_alive self.old.lines ≡ false) }
+        ensures unchanged { OnErr result (self.new ≡ self.old) }
+        ensures lawful { StaysLawful P.gathered self.old self.new }
+        ensures moment { OnOk result (self.new.moment ≡ now) }
+        ensures told { OnOk result ((released : List Release) × N.noted notes.new released
+            × (length released ≤ 64) × IsTold now released self.old.lines self.new.lines) }
+        ensures run { OnOk result (Runs P.gathered now self.old self.new) }
+    {
+        if !self.mux.any_up(Networks::Both) {
+            return Err(PollFault::BothDown);
+        }
+        self.moment = now;
+        if now < self.earliest {
+            return Ok(());
+        }
+        self.earliest = serve_all(&mut self.links, &mut self.frame, &mut self.mux, now, notes);
+        // For its contract, which the invariant needs: the frames of both networks still mirror the log.
+        let _standing = self.mux.standing();
+        Ok(())
     }
 
     /// Gives each link its turn at `now`, in microseconds, in the order of the configuration. A due
@@ -121,10 +173,10 @@ impl<A: Network + Drop, B: Network + Drop, P: Phase> Emitter<A, B, P> {
         ensures run { OnOk result (Runs P.gathered now self.old self.new) }
     {
         let mut released = ArrayVec::new();
-        self.inner.poll(now, &mut released)?;
+        self.turn(now, &mut released)?;
         Ok(Report {
             released,
-            standing: self.inner.mux.standing(),
+            standing: self.mux.standing(),
         })
     }
 
@@ -138,8 +190,8 @@ impl<A: Network + Drop, B: Network + Drop, P: Phase> Emitter<A, B, P> {
         ensures told { IfOk result (λ standing. PollsUnreported now self.old standing self.new) }
         ensures run { OnOk result (Runs P.gathered now self.old self.new) }
     {
-        self.inner.poll(now, &mut Unreported)?;
-        Ok(self.inner.mux.standing())
+        self.turn(now, &mut Unreported)?;
+        Ok(self.mux.standing())
     }
 
     /// Publishes the counts of each link, once, in the order of the configuration: those of the
@@ -148,7 +200,7 @@ impl<A: Network + Drop, B: Network + Drop, P: Phase> Emitter<A, B, P> {
     pub fn publish<R: Wait>(&mut self, rt: &R)
         ensures { Publishes self.old self.new }
     {
-        self.inner.publish(rt);
+        publish_all(rt, &self.links, &mut self.board);
     }
 }
 
@@ -160,19 +212,55 @@ impl<A: Failable + Drop, B: Failable + Drop, P: Phase> Emitter<A, B, P> {
     pub fn fail(&mut self, net: Net)
         ensures { self.new ≡ record self.old { lines = with_failing net self.old.lines } }
     {
-        self.inner.fail(net);
+        self.mux.fail(net);
     }
 }
 
 impl<A: Network + Drop, B: Network + Drop> Emitter<A, B> {
-    ghost use Rattle.std.specs.Prelude.{◌≡◌, ◌↔◌, length, IsErr, OnErr, IfOk, IfErr};
+    ghost use Rattle.std.specs.Prelude.{◌≡◌, ◌↔◌, ℕ, [], length, IsErr, OnErr, IfOk, IfErr};
+    ghost use Rattle.status_board.specs.Views.{published};
+    ghost use Rattle.afdx_plan.specs.Config.{IsPlan};
     ghost use Rattle.afdx_legal.specs.Accepted.{AreAllowed};
     ghost use Rattle.afdx_tx.specs.Run.{accepted_in};
-    ghost use Rattle.afdx_tx.specs.Emitter.{queues_in};
+    ghost use Rattle.afdx_tx.specs.Emitter.{IsFreshTx, AreFreshLinks, queues_in};
     ghost use Rattle.afdx_tx.specs.Phases.{Conforms};
     ghost use Rattle.afdx_tx.specs.Ports.{AreOpenedWith, LacksPlace};
     ghost use Rattle.afdx_tx.specs.Gathering.{IsGatheredTx};
     ghost use Rattle.afdx_tx.specs.Calls.{LacksSub, ClosesTx};
+
+    // Over new links of a configuration, a buffer, networks that have accepted no frame, and an empty board.
+    pub(crate) fn over(
+        config: Config,
+        links: Vec<Link>,
+        frame: Box<FrameBuffer>,
+        a: A,
+        b: B,
+        board: Board,
+    ) -> Emitter<A, B>
+        requires valid { IsPlan config }
+        requires fresh { AreFreshLinks config links.items }
+        requires a_empty { A.handed a ≡ [] }
+        requires b_empty { B.handed b ≡ [] }
+        requires a_new { A.failures a ≡ 0 }
+        requires b_new { B.failures b ≡ 0 }
+        requires board { length board ≡ length config.links }
+        requires unpublished { (link : ℕ) → (published board link).history ≡ [] }
+        ensures fresh { IsFreshTx config result }
+        ensures links { result.links ≡ links.items }
+        ensures board { result.board ≡ board }
+    {
+        Emitter {
+            config,
+            links: links.into_boxed_slice(),
+            earliest: 0,
+            mux: Mux::new(a, b),
+            frame,
+            moment: 0,
+            board,
+            emptied: None,
+            phase: PhantomData,
+        }
+    }
 
     /// Closes a sub-VL, by its link and its index there, and returns the number of accepted
     /// messages. None is accepted from then on: each later close returns the same number, and
@@ -188,13 +276,19 @@ impl<A: Network + Drop, B: Network + Drop> Emitter<A, B> {
         ensures moment { self.new.moment ≡ self.old.moment }
         ensures queues { queues_in self.new.links ≡ queues_in self.old.links }
     {
-        self.inner.close(vl, sub)
+        match link_of_sub(&self.config, vl, sub) {
+            None => Err(NoSuchSub),
+            Some(place) => Ok(self.links[place].close(sub)),
+        }
     }
 
     /// Takes back all ports, in any order, and starts draining: all accepted messages are then
     /// known, and can be transmitted. Fails exactly if the list lacks a port of the configuration,
     /// and then returns both unchanged. Never waits, and allocates nothing.
-    pub fn gather(self, ports: Vec<TxPort>) -> Result<Draining<A, B>, (Emitter<A, B>, Vec<TxPort>)>
+    pub fn gather(
+        self,
+        mut ports: Vec<TxPort>,
+    ) -> Result<Draining<A, B>, (Emitter<A, B>, Vec<TxPort>)>
         requires opened { AreOpenedWith self ports.items }
         ensures gathered { IfOk result (λ draining. IsGatheredTx self ports.items draining) }
         ensures conforms { IfOk result Conforms }
@@ -204,16 +298,29 @@ impl<A: Network + Drop, B: Network + Drop> Emitter<A, B> {
         ensures ports_back { IfErr result (λ back. back.1 ≡ ports) }
         ensures missing { IfErr result (λ _. LacksPlace (length self.plan.ports) ports.items) }
     {
-        if !has_every_place(ports.as_slice(), self.config().ports().len()) {
+        if !has_every_place(ports.as_slice(), self.config.ports().len()) {
             return Err((self, ports));
         }
         let Emitter {
-            mut inner,
-            phase: _,
+            config,
+            mut links,
+            earliest,
+            mux,
+            frame,
+            moment,
+            board,
+            ..
         } = self;
-        inner.gather(ports);
+        gather_links(&config, &mut links, &mut ports);
         Ok(Emitter {
-            inner,
+            config,
+            links,
+            earliest,
+            mux,
+            frame,
+            moment,
+            board,
+            emptied: Some(ports),
             phase: PhantomData,
         })
     }

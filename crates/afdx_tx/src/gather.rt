@@ -34,14 +34,14 @@ pub fn has_every_place(ports: &[TxPort], many: usize) -> bool
     true
 }
 
-// Returns each port's sender to the queue of its sub-VL.
-fn take_back_all(config: &Config, links: &mut [Link], ports: Vec<TxPort>)
+// Returns each port's sender to the queue of its sub-VL, and leaves the list empty.
+fn take_back_all(config: &Config, links: &mut [Link], ports: &mut Vec<TxPort>)
     requires of_plan { AreLinksOf config.now links.old }
-    requires opened { All (BelongsTo config.now (queues_in links.old)) ports.items }
+    requires opened { All (BelongsTo config.now (queues_in links.old)) ports.old.items }
     ensures same { OnlyTakeBack links.old links.new }
-    ensures back { All (IsTakenBack config.now links.new) ports.items }
+    ensures back { All (IsTakenBack config.now links.new) ports.old.items }
 {
-    for port in ports {
+    for port in ports.drain(..) {
         let plan = port_at(config, port.place());
         let link = link_of(config, &plan);
         links[link].take_back(plan.sub, port.into_sender());
@@ -58,14 +58,14 @@ fn gather_all(links: &mut [Link])
     }
 }
 
-/// Takes back all ports of a configuration, and brings the ends of each sub-VL's queue together.
-pub fn gather_links(config: &Config, links: &mut [Link], ports: Vec<TxPort>)
+/// Takes back all ports of a configuration out of the list, and brings the ends of each sub-VL's queue together.
+pub fn gather_links(config: &Config, links: &mut [Link], ports: &mut Vec<TxPort>)
     requires valid { IsPlan config.now }
     requires of_plan { AreLinksOf config.now links.old }
     requires receiving { AreReceiving links.old }
-    requires opened { All (BelongsTo config.now (queues_in links.old)) ports.items }
-    requires every { HasEveryPlace (length config.now.ports) ports.items }
-    ensures { GathersPorts config.now links.old ports.items links.new }
+    requires opened { All (BelongsTo config.now (queues_in links.old)) ports.old.items }
+    requires every { HasEveryPlace (length config.now.ports) ports.old.items }
+    ensures { GathersPorts config.now links.old ports.old.items links.new }
 {
     take_back_all(config, links, ports);
     gather_all(links);

@@ -12,7 +12,7 @@ mod phase;
 mod port;
 mod report;
 mod routing;
-mod transmitter;
+mod turns;
 
 pub use draining::Draining;
 pub use emitter::Emitter;

@@ -1,8 +1,8 @@
 //! Opening an emitter.
-ghost use Rattle.std.specs.Prelude.{◌≡◌, ◌<◌, ◌&&◌, [], length, nat_eq, All, IfOk, IfErr};
+ghost use Rattle.std.specs.Prelude.{◌≡◌, ◌<◌, ◌≤◌, ◌&&◌, [], length, nat_eq, All, IfOk, IfErr};
 ghost use Rattle.afdx_plan.specs.Config.{IsPlan};
 ghost use Rattle.afdx_plan.specs.Plan.{IsLink, IsPort};
-ghost use Rattle.afdx_tx.specs.Emitter.{IsOpenedSub, IsOpenedLink, AreOpenedLinks, AreFreshLinks, IsFreshTx, ports_of_sub, queues_in};
+ghost use Rattle.afdx_tx.specs.Emitter.{IsOpenedSub, IsOpenedLink, AreOpenedLinks, AreFreshLinks, IsFreshTx, greatest_of, ports_of_sub, queues_in};
 ghost use Rattle.afdx_tx.specs.Ports.{ArePortsOf, AreFreshPorts, AreOpenedWith};
 ghost use Rattle.vl_link.specs.Kept.{AreOfEndSystem, plans_of};
 ghost use Rattle.status_board.specs.Views.{links_of, AreNew};
@@ -11,14 +11,12 @@ use crate::emitter::Emitter;
 use crate::fault::OpenFault;
 use crate::port::TxPort;
 use crate::routing::{link_of, port_at};
-use crate::transmitter::Transmitter;
 use afdx_frame::{FrameBuffer, Template};
 use afdx_plan::{Config, LinkPlan, PortPlan};
 use redundant_mux::Network;
 use status_board::{Board, Monitor, open_board};
 use std::alloc::{AllocError, Global};
-use std::marker::PhantomData;
-use subvl_queue::open_queue;
+use subvl_queue::{Room, open_queue};
 use vl_link::{Link, Sub, SubVl};
 
 /// The number of slot requests of a port: 2^40.
@@ -48,6 +46,17 @@ fn templates_of(alloc: Global, ports: &[PortPlan], of: &SubVl) -> Result<Vec<Tem
     Ok(own)
 }
 
+/// Returns the greatest length of a message of a sub-VL's ports, or 0 if it has no port.
+#[tactic(auto, using(crate::proofs::OpenedPorts::greatest_few))]
+fn greatest_message(ports: &[PortPlan], of: &SubVl) -> usize
+    requires { All IsPort ports.now }
+    ensures value { result ≡ greatest_of (ports_of_sub ports.now of.now.link.id.0 of.now.sub) }
+    ensures few { result ≤ 8192 }
+{
+    let own = ports.iter().filter(|port| is_port_of(port, of));
+    own.map(|port| port.max).max().unwrap_or(0)
+}
+
 /// A sub-VL of a configuration, without senders.
 #[tactic(auto, using(crate::proofs::PortLink::own_ports))]
 fn open_sub(alloc: Global, config: &Config, of: SubVl) -> Result<Sub, AllocError>
@@ -57,8 +66,10 @@ fn open_sub(alloc: Global, config: &Config, of: SubVl) -> Result<Sub, AllocError
         (λ sub. IsOpenedSub of (ports_of_sub config.now.ports of.link.id.0 of.sub) 0 sub) }
 {
     let ports = templates_of(alloc, config.ports(), &of)?;
-    let receiver = open_queue(alloc, of.link.capacity)?;
-    Ok(Sub::new(of, ports, receiver))
+    let most = greatest_message(config.ports(), &of);
+    let receiver = open_queue(alloc, of.link.capacity, most, ports.len())?;
+    let room = Room::new(alloc, most)?;
+    Ok(Sub::new(of, ports, receiver, room))
 }
 
 /// A link of a configuration, without senders.
@@ -104,7 +115,7 @@ fn open_ports(alloc: Global, config: &Config, links: &mut [Link]) -> Result<Vec<
     for place in 0..config.ports().len() {
         let plan = port_at(config, place);
         let link = link_of(config, &plan);
-        let sender = links[link].new_sender(plan.sub, CALLS)?;
+        let sender = links[link].new_sender(alloc, plan.sub, CALLS)?;
         ports.push(TxPort::new(plan, place, sender))?;
     }
     Ok(ports)
@@ -157,9 +168,8 @@ pub fn open_tx<A: Network + Drop, B: Network + Drop>(
     let parts = open_parts(alloc, &config);
     match (parts, Box::new(alloc, FrameBuffer::new())) {
         (Ok((links, ports, board, monitor)), Ok(frame)) => {
-            let inner = Transmitter::over(config, links, frame, a, b, board);
-            let phase = PhantomData;
-            Ok((Emitter { inner, phase }, ports, monitor))
+            let emitter = Emitter::over(config, links, frame, a, b, board);
+            Ok((emitter, ports, monitor))
         }
         _ => Err(OpenFault { config, a, b }),
     }

@@ -1,11 +1,11 @@
 //! A port, for a thread of its own.
-ghost use Rattle.std.specs.Prelude.{◌≡◌, length};
+ghost use Rattle.std.specs.Prelude.{◌≡◌};
 ghost use Rattle.afdx_tx.specs.Ports.{refusal_of};
 
 use crate::fault::{Refusal, SendFault};
 use afdx_plan::{PortId, PortPlan};
 use std::marker::Model;
-use subvl_queue::{Refused, Sender, Why};
+use subvl_queue::{Sender, Why};
 
 /// A port of an emitter, which may be moved to another thread. Contracts see its place in the
 /// configuration, its entry there, and its sender with the port's accepted messages.
@@ -17,7 +17,7 @@ pub struct TxPort {
 }
 
 impl Model for TxPort {
-    ghost use Rattle.std.specs.Prelude.{length, All};
+    ghost use Rattle.std.specs.Prelude.{◌≤◌, length, All};
     ghost use Rattle.afdx_plan.specs.Plan.{IsPort};
     ghost use Rattle.afdx_tx.specs.Ports.{PortView, MaySend};
 
@@ -29,11 +29,12 @@ impl Model for TxPort {
       sender = p.sender;
     } };
 
-    ghost invariant = { λ p. IsPort p.plan × All (λ m. MaySend p.plan (length m)) p.sender.own };
+    ghost invariant = { λ p. IsPort p.plan × (p.plan.max ≤ p.sender.most)
+        × All (λ m. MaySend p.plan (length m)) p.sender.own };
 }
 
 impl TxPort {
-    ghost use Rattle.std.specs.Prelude.{◌≡◌, ◌<◌, [], length, IfOk, IfErr};
+    ghost use Rattle.std.specs.Prelude.{◌≡◌, ◌<◌, ◌≤◌, [], length, IfOk, IfErr};
     ghost use Rattle.afdx_plan.specs.Plan.{IsPort};
     ghost use Rattle.afdx_tx.specs.Ports.{PortView, MaySend, HasOwnMessages, Accepts, Refuses, length_refusal};
 
@@ -41,6 +42,7 @@ impl TxPort {
     pub(crate) fn new(plan: PortPlan, place: usize, sender: Sender) -> TxPort
         requires port { IsPort plan }
         requires fresh { sender.own ≡ [] }
+        requires room { plan.max ≤ sender.most }
         ensures { result ≡ record {
           place = place;
           plan = plan;
@@ -104,10 +106,22 @@ impl TxPort {
         sender
     }
 
-    /// Puts a message at the end of the queue of its sub-VL. Returns it with the reason if it is
-    /// empty, is over the port's greatest message, or its queue refuses it. A refusal by length
-    /// changes nothing; one by the queue only what the port has used and found. Never waits, and
-    /// allocates nothing.
+    /// Copies a message to the end of the queue of its sub-VL. Returns the reason if it is empty, is
+    /// over the port's greatest message, or its queue refuses it. A refusal by length changes
+    /// nothing; one by the queue only what the port has used and found. Never waits, and allocates
+    /// nothing.
+    #[inline(always)]
+    pub fn send_slice(&mut self, bytes: &[u8]) -> Result<(), Refusal>
+        ensures accepted { IfOk result (λ _. Accepts self.old bytes.now self.new) }
+        ensures sendable { IfOk result (λ _. MaySend self.old.plan (length bytes.now)) }
+        ensures open { IfOk result (λ _. self.old.sender.asks < self.old.sender.calls) }
+        ensures refused { IfErr result (λ why. Refuses self.old (length bytes.now) why self.new) }
+    {
+        self.send_slice_with(bytes, || {})
+    }
+
+    /// As `send_slice`, and returns a message that is refused. One that is accepted is copied, and
+    /// its list freed.
     #[inline(always)]
     pub fn send(&mut self, bytes: Vec<u8>) -> Result<(), SendFault>
         ensures accepted { IfOk result (λ _. Accepts self.old bytes.items self.new) }
@@ -122,7 +136,6 @@ impl TxPort {
 
     /// As `send`. If the message is accepted, `pause` runs before the message can be taken; if it
     /// is refused, `pause` doesn't run.
-    #[tactic(auto, using(std::proofs::lemmas::Grind::common_steps))]
     pub fn send_with<F: FnOnce()>(&mut self, bytes: Vec<u8>, pause: F) -> Result<(), SendFault>
     where
         F: Drop,
@@ -135,28 +148,42 @@ impl TxPort {
         ensures refused { IfErr result
             (λ fault. Refuses self.old (length bytes.items) fault.why self.new) }
     {
+        match self.send_slice_with(&bytes, pause) {
+            Ok(()) => Ok(()),
+            Err(why) => Err(SendFault { why, bytes }),
+        }
+    }
+
+    // As `send_slice`, with a pause as in `send_with`.
+    #[tactic(auto, using(std::proofs::lemmas::Grind::common_steps))]
+    #[inline(always)]
+    fn send_slice_with<F: FnOnce()>(&mut self, bytes: &[u8], pause: F) -> Result<(), Refusal>
+    where
+        F: Drop,
+        requires { F.pre pause }
+        ensures accepted { IfOk result (λ _. Accepts self.old bytes.now self.new) }
+        ensures sendable { IfOk result (λ _. MaySend self.old.plan (length bytes.now)) }
+        ensures open { IfOk result (λ _. self.old.sender.asks < self.old.sender.calls) }
+        ensures paused { IfOk result (λ _. F.post pause tt) }
+        ensures refused { IfErr result (λ why. Refuses self.old (length bytes.now) why self.new) }
+    {
         if let Some(why) = self.length_refusal(bytes.len()) {
-            return Err(SendFault { why, bytes });
+            return Err(why);
         }
         match self.sender.send_with(bytes, pause) {
             Ok(()) => Ok(()),
-            Err(refused) => Err(handed_back(refused)),
+            Err(why) => Err(refusal(why)),
         }
     }
 }
 
-// The fault for a message that a queue refused.
-fn handed_back(refused: Refused) -> SendFault
-    ensures why { result.why ≡ refusal_of refused.why }
-    ensures bytes { result.bytes.items ≡ refused.bytes.items }
+// The port's reason for the queue's.
+fn refusal(why: Why) -> Refusal
+    ensures { result ≡ refusal_of why }
 {
-    let why = match refused.why {
+    match why {
         Why::Closed => Refusal::Closed,
         Why::Exhausted => Refusal::Exhausted,
         Why::Full => Refusal::Full,
-    };
-    SendFault {
-        why,
-        bytes: refused.bytes,
     }
 }

@@ -284,7 +284,7 @@ sub_of link sub port left queue = record {
 
 -- a queue that was not polled
 abbrev pub fresh : ReceiverView
-fresh = new_receiver no_cell 1 1
+fresh = new_receiver no_cell 1 8192 1
 
 abbrev pub long_sub : List (List ℕ) → Held
 long_sub left = sub_of three_link 0 demo_port left (after_take fresh (0, bytes_41))

@@ -32,16 +32,14 @@ fn make_message(alloc: Global, port: PortId, call: u32) -> Result<Vec<u8>, Alloc
 
 /// Sends a message, again and again if it is refused, as by a full queue. Each send is a turn.
 #[tactic(auto, using(std::proofs::Common::arith))]
-fn send_on(port: &mut TxPort, bytes: Vec<u8>, turns: &mut u64) -> Result<(), Stop>
-    ensures sent { OnOk result (named port.new ≡ with_more port.old (bytes.items ∷ [])) }
+fn send_on(port: &mut TxPort, bytes: &[u8], turns: &mut u64) -> Result<(), Stop>
+    ensures sent { OnOk result (named port.new ≡ with_more port.old (bytes.now ∷ [])) }
     ensures asks { asked_after turns.new port.new ≤ asked_after turns.old port.old }
 {
-    let mut bytes = bytes;
     while *turns > 0 {
         *turns -= 1;
-        match port.send(bytes) {
-            Ok(()) => return Ok(()),
-            Err(refused) => bytes = refused.bytes,
+        if port.send_slice(bytes).is_ok() {
+            return Ok(());
         }
         thread::yield_now();
     }
@@ -67,7 +65,7 @@ pub(crate) fn work<G: Gate>(
             return Err(Stop::Turns);
         }
         let message = make_message(alloc, port.id(), call)?;
-        send_on(port, message, &mut turns)?;
+        send_on(port, &message, &mut turns)?;
         gate.answered(worker, call);
     }
     Ok(())

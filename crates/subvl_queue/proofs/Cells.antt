@@ -1,5 +1,5 @@
 -- How the rule is kept when one cell and one seat change.
-use Rattle.subvl_queue.proofs.Names.{◌≡◌, ◌≢◌, ℕ, zero, suc, ◌+◌, ◌%◌, ◌<◌, ◌≤◌, ◌⊎◌, Bool, List, [], ◌∷◌, length, get_or, set, sym, refl, ◌∙◌, arith, length-set, get_or-set_other, some, Option, add-mod_right, ℕ_discrete, get_elem?, State, at_set, set_else, set_here, View, Role, Spent, Stage, Drew, Holding, owned, total, in_room, budget, shut_bit, Gone, Collects, Busy, Phase, free, writing, full, reading, Cell, holder, InPhase, CellOk, Has, Knows, Fits, Queue}
+use Rattle.subvl_queue.proofs.Names.{◌≡◌, ◌≢◌, ℕ, zero, suc, ◌+◌, ◌%◌, ◌<◌, ◌≤◌, ◌⊎◌, Bool, List, [], ◌∷◌, length, get_or, set, sym, refl, ◌∙◌, arith, length-set, get_or-set_other, some, Option, add-mod_right, ℕ_discrete, get_elem?, State, at_set, at_snoc, ◌++◌, ⊎_elim, subst, set_else, set_here, View, Role, Spent, Stage, Drew, Holding, owned, total, in_room, budget, shut_bit, Gone, Collects, Busy, Phase, free, writing, full, reading, Cell, holder, InPhase, CellOk, Has, Knows, Fits, Queue, AreGood}
 use Rattle.subvl_queue.proofs.Totals.{sums}
 use Rattle.subvl_queue.proofs.Names.{false, hand_of, found_of, wait_of, budget}
 use mathlib.Core.Path.{Path}
@@ -31,11 +31,11 @@ Next n i a a' = (a' ≡ a) ⊎ ((a' ≡ suc a) × (a % n ≡ i))
 next : (n i a a' q : ℕ) → Next n i a a' → q % n ≢ i → (a ≤ a') × (a ≤ q → a' ≤ q) × (q ≡ a → q ≡ a')
 next n i a a' q h other = grind arith
 
-abbrev pub St : Type 0 → Type 0
-St T = State (Option (ℕ × T)) (View T)
+abbrev pub St : (T S : Type 0) → Type 0
+St T S = State S (View T)
 
 abbrev pub Homes : Type 0 → Type 0
-Homes T = List (maybe.Option (Option (ℕ × T)))
+Homes S = List (maybe.Option S)
 
 abbrev pub Longer : {X : Type 0} → List X → List X → Type 0
 Longer {X} log log' = (p : ℕ) (x : X) → get_elem? log p ≡ some x → get_elem? log' p ≡ some x
@@ -45,18 +45,18 @@ placed [] j a e = grind arith
 placed (y ∷ ys) zero a e = omega arith
 placed (y ∷ ys) (suc j) a e = let z = placed ys j a e in omega arith
 
-module _ {T : Type 0} where
-  phase_stays : (t t' : ℕ) (log log' : List (ℕ × T)) (homes homes' : Homes T) (j p : ℕ) → length log ≤ length log'
+module _ {T S : Type 0} (boxed : Option (ℕ × T) → S) where
+  phase_stays : (t t' : ℕ) (log log' : List (ℕ × T)) (homes homes' : Homes S) (j p : ℕ) → length log ≤ length log'
       → (length log ≤ p → length log' ≤ p) → (t ≤ p → t' ≤ p) → (p ≡ t → p ≡ t')
-      → Longer log log' → get_elem? homes' j ≡ get_elem? homes j → (ph : Phase) → InPhase t log homes j p ph → InPhase t' log' homes' j p ph
+      → Longer log log' → get_elem? homes' j ≡ get_elem? homes j → (ph : Phase) → InPhase boxed t log homes j p ph → InPhase boxed t' log' homes' j p ph
   phase_stays t t' log log' homes homes' j p a c d f more same free k = (c k.0, same ∙ k.1)
   phase_stays t t' log log' homes homes' j p a c d f more same (writing o) k = grind arith
   phase_stays t t' log log' homes homes' j p a c d f more same full k = let l = k.1 in (d k.0, omega arith, (k.2.0, more p k.2.0 k.2.1, same ∙ k.2.2))
   phase_stays t t' log log' homes homes' j p a c d f more same (reading o) k = grind arith
 
-  cell_stays : (n i t t' : ℕ) (log log' : List (ℕ × T)) (words words' : List ℕ) (homes homes' : Homes T) (j : ℕ) (c : Cell) → j ≢ i
+  cell_stays : (n i t t' : ℕ) (log log' : List (ℕ × T)) (words words' : List ℕ) (homes homes' : Homes S) (j : ℕ) (c : Cell) → j ≢ i
       → Next n i t t' → Next n i (length log) (length log') → Longer log log' → get_or words' (j + 2) 0 ≡ get_or words (j + 2) 0
-      → get_elem? homes' j ≡ get_elem? homes j → CellOk n t log words homes j c → CellOk n t' log' words' homes' j c
+      → get_elem? homes' j ≡ get_elem? homes j → CellOk boxed n t log words homes j c → CellOk boxed n t' log' words' homes' j c
   cell_stays n i t t' log log' words words' homes homes' j c other freed long more word home k =
       let apart : (q : ℕ) → q % n ≡ j → q % n ≢ i = grind arith in
       record {
@@ -67,6 +67,7 @@ module _ {T : Type 0} where
         phase = grind (arith, phase_stays);
       }
 
+module _ {T : Type 0} where
   has_stays : (log log' : List (ℕ × T)) (c c' : Cell) (ph : Phase) (at : ℕ) (item : Option (ℕ × T)) → Longer log log' → Path Cell c' c
       → Has log c ph at item → Has log' c' ph at item
   has_stays log log' c c' ph at item more same k = (same ∙ k.0, (k.1.0, k.1.1, more at k.1.0 k.1.2))
@@ -80,7 +81,14 @@ module _ {T : Type 0} where
       (has_stays log log' c c' (reading j) at item more (grind arith) k.0, k.1 ∙ sym (keep k.0.0))
   knows_stays t t' log log' j c c' at item more same keep st k = tt
 
-  module _ (s : St T) (r : Queue s) where
+module _ {T : Type 0} (Good : T → Type 0) where
+  -- One good message more.
+  pub good_more : (log : List (ℕ × T)) (x : ℕ × T) → AreGood Good log → Good x.1 → AreGood Good (log ++ x ∷ [])
+  good_more log x old new p y e = ⊎_elim (λ (h : get_elem? log p ≡ some y). old p y h)
+      (λ (h : x ≡ y). subst (λ (z : ℕ × T). Good z.1) h new) (at_snoc log x y p e)
+
+module _ {T S : Type 0} {boxed : Option (ℕ × T) → S} {Good : T → Type 0} where
+  module _ (s : St T S) (r : Queue boxed Good s) where
     abbrev n : ℕ
     n = length s.homes
 
@@ -137,7 +145,7 @@ module _ {T : Type 0} where
       pub knew : Knows r.freed r.log id (r.cells (w.at % n)) w.at w.item w.stage
 
     pub quiet : (words' : List ℕ) (id late' : ℕ) (closed' : Bool) (v w : View T) → Quiet words' id late' closed' v w
-        → Queue record { words = words'; homes = s.homes; views = set s.views id w }
+        → Queue boxed Good record { words = words'; homes = s.homes; views = set s.views id w }
     quiet words' id late' closed' v w q =
         let seats : length (set s.views id w) ≡ length s.views = length-set s.views id w in
         let sum = sums s.views id v w v.stage v.role w.role q.at refl refl refl in
@@ -157,7 +165,7 @@ module _ {T : Type 0} where
         }
 
     -- a step that changes one cell, and the view of the seat that takes it
-    pub record Move (k x i id freed' : ℕ) (log' : List (ℕ × T)) (c' : Cell) (home : maybe.Option (Option (ℕ × T))) (v w : View T) : Type 0 where
+    pub record Move (k x i id freed' : ℕ) (log' : List (ℕ × T)) (c' : Cell) (home : maybe.Option S) (v w : View T) : Type 0 where
       pub at : get_elem? s.views id ≡ some v
       pub near : i < n
       pub role : w.role ≡ v.role
@@ -175,7 +183,7 @@ module _ {T : Type 0} where
       pub keep : id ≢ 0 → freed' ≡ r.freed
       pub more : Longer r.log log'
       pub apart : (j : ℕ) → j ≢ i → j + 2 ≢ k
-      pub here : CellOk n freed' log' (set s.words k x) (set s.homes i home) i c'
+      pub here : CellOk boxed n freed' log' (set s.words k x) (set s.homes i home) i c'
       pub loose : (j : ℕ) → j ≢ id → holder (r.cells i).1 ≢ suc j
       pub mine : (j : ℕ) → holder c'.1 ≡ suc j → (j ≡ id) × Busy w.stage × (w.at ≡ c'.0)
       pub single : (q : ℕ) → q < n → q ≢ i → holder (r.cells q).1 ≢ suc id
@@ -183,11 +191,11 @@ module _ {T : Type 0} where
       pub knew : Knows freed' log' id (put r.cells i c' (w.at % n)) w.at w.item w.stage
       pub others : (j : ℕ) (d : View T) → j ≢ id → get_elem? s.views j ≡ some d → Fits (length s.views) freed' log' j d d.role
 
-    pub moved : (k x i id freed' : ℕ) (log' : List (ℕ × T)) (c' : Cell) (home : maybe.Option (Option (ℕ × T))) (v w : View T)
-        → Move k x i id freed' log' c' home v w → Queue record { words = set s.words k x; homes = set s.homes i home; views = set s.views id w }
-    moved k x i id freed' log' c' home v w m =
+    pub moved : (k x i id freed' : ℕ) (log' : List (ℕ × T)) (c' : Cell) (home : maybe.Option S) (v w : View T)
+        → AreGood Good log' → Move k x i id freed' log' c' home v w → Queue boxed Good record { words = set s.words k x; homes = set s.homes i home; views = set s.views id w }
+    moved k x i id freed' log' c' home v w all_good m =
         let words' : List ℕ = set s.words k x in let cells' : ℕ → Cell = put r.cells i c' in let views' : List (View T) = set s.views id w in
-        let homes' : Homes T = set s.homes i home in
+        let homes' : Homes S = set s.homes i home in
         let seats : length views' ≡ length s.views = length-set s.views id w in let as_long : length homes' ≡ n = length-set s.homes i home in
         let sum = sums s.views id v w v.stage v.role w.role m.at refl refl refl in
         record {
@@ -203,8 +211,9 @@ module _ {T : Type 0} where
             behind = m.behind;
             tail_is = m.tail;
             none_late = r.none_late;
-            each_cell = rw as_long (λ j l. at_put r.cells i c' (CellOk n freed' log' words' homes') j m.here (λ other.
-                cell_stays n i r.freed freed' r.log log' s.words words' s.homes homes' j (r.cells j) other m.moves m.adds m.more
+            good = all_good;
+            each_cell = rw as_long (λ j l. at_put r.cells i c' (CellOk boxed n freed' log' words' homes') j m.here (λ other.
+                cell_stays boxed n i r.freed freed' r.log log' s.words words' s.homes homes' j (r.cells j) other m.moves m.adds m.more
                 (get_or-set_other s.words k (j + 2) x 0 (m.apart j other)) (set_else s.homes i j home other) (r.each_cell j l)));
           };
           few_seats = omega arith;

@@ -5,3 +5,4 @@ pub mod Parts
 pub mod Moves
 pub mod Seats
 pub mod Senders
+pub mod Rooms

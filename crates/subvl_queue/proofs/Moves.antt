@@ -1,27 +1,56 @@
 -- Each step keeps the rule.
-use Rattle.subvl_queue.proofs.Names.{◌≡◌, ◌≢◌, ℕ, zero, suc, ◌+◌, ◌-◌, ◌*◌, ◌^◌, ◌%◌, ◌<◌, ◌≤◌, ◌⊎◌, Bool, true, false, List, [], ◌∷◌, ◌++◌, length, get_or, set, sym, refl, ap, ◌∙◌, subst, ⊎_elim, arith, mod-lt, length-set, length-append, get_or-set_other, get_or-set_same, lt_of_not-le, cases_Bool, none, some, add-mod_right, ℕ_discrete, dec_le, get_elem?, Option, Some, None, IfSome, bit_or, take-append-le, step, Act, keeps, takes, gives, Valid, carried_after, stepped, Allows, set_here, at_last, at_longer, one_turn, View, Sender, Receiver, Stage, Idle, Asked, Refused, Drew, Late, Holding, total, hand_of, found_of, wait_of, shut_bit, in_hand, in_room, waiting, Gone, Whole, Collects, Busy, Phase, free, writing, full, reading, holder, shown, InPhase, Knows, Fits, Queue, Seated, with_ask, idle, drawn, with_look, holding, freed_of, lated, with_glance, with_total, with_all, reserves, unreserves, claims, publishes, finds_ready, takes_out, finds_closed, closes, gathers}
+use Rattle.subvl_queue.proofs.Names.{◌≡◌, ◌≢◌, ℕ, zero, suc, ◌+◌, ◌-◌, ◌*◌, ◌^◌, ◌%◌, ◌<◌, ◌≤◌, ◌⊎◌, Bool, true, false, List, [], ◌∷◌, ◌++◌, length, get_or, set, sym, refl, ap, ◌∙◌, subst, ⊎_elim, arith, mod-lt, length-set, length-append, get_or-set_other, get_or-set_same, lt_of_not-le, cases_Bool, none, some, add-mod_right, ℕ_discrete, dec_le, get_elem?, Option, Some, None, IfSome, bit_or, take-append-le, step, Act, keeps, takes, gives, Valid, carried_after, stepped, Allows, set_here, at_last, at_longer, one_turn, View, Sender, Receiver, Stage, Idle, Asked, Refused, Drew, Late, Holding, total, hand_of, found_of, wait_of, shut_bit, in_hand, in_room, waiting, Gone, Whole, Busy, Phase, free, writing, full, reading, holder, shown, InPhase, Knows, Fits, Queue, Seated, with_ask, idle, drawn, with_look, holding, freed_of, lated, with_glance, with_total, with_all, reserves, unreserves, claims, publishes, finds_ready, takes_out, finds_closed, closes, gathers}
 use mathlib.Core.Logic.{dite}
 use lib.Seq.{set-get_or}
 use Rattle.subvl_queue.proofs.Totals.{sums, hands_small, total_le}
 use Rattle.subvl_queue.proofs.Parts.{owned_mine, owned_other, owned_at, take_next}
 use lib.Bits.{or_shifted_r}
-use Rattle.subvl_queue.proofs.Cells.{put, St, Homes, put_here, knows, fits, holds_none, holds_one, placed, quiet, moved}
+use Rattle.subvl_queue.proofs.Cells.{put, St, Homes, put_here, knows, fits, good_more, holds_none, holds_one, placed, quiet, moved}
 
 pub calm_at : (st st' : Stage) → st ≡ st' → (Busy st' → ⊥) → Busy st → ⊥
 calm_at st st' e h b = h (subst Busy e b)
 
+abbrev Goes : {T S : Type 0} → (Option (ℕ × T) → S) → (T → Type 0) → St T S → ℕ → ℕ → Seated T S → (ℕ → Seated T S → Type 0) → ℕ → Type 0
+Goes {T} {S} boxed Good s k id me then x = (w : View T) × (a : Act S) × Valid s.homes me.1 a × Queue boxed Good (stepped s k x id me.1 w a)
+    × then (get_or s.words k 0) (w, carried_after me.1 a)
+
+module _ {T S : Type 0} (boxed : Option (ℕ × T) → S) where
+  -- The slot of the next place is free.
+  is_free : (t m F : ℕ) (log : List (ℕ × T)) (homes : Homes S) (i q : ℕ) → length log ≡ t → F ≤ t → t < F + m → q < F + m → t % m ≡ q % m
+      → (ph : Phase) → InPhase boxed F log homes i q ph
+      → (ph ≡ free) × (get_elem? homes i ≡ some (some (boxed None))) × (t ≡ q)
+  is_free t m F log homes i q long a b c lies ph k = grind (arith, one_turn)
+
+  -- The cell of the next place, if its word says that it is ready.
+  is_ready : (m F : ℕ) (log : List (ℕ × T)) (homes : Homes S) (i q : ℕ) → 0 < m → q < F + m → (ph : Phase) → (ph ≡ reading 0 → ⊥)
+      → shown m q ph ≡ suc F → InPhase boxed F log homes i q ph
+      → (ph ≡ full) × (q ≡ F) × (q < length log) × ((x : ℕ × T) × (get_elem? log q ≡ some x) × (get_elem? homes i ≡ some (some (boxed (Some x)))))
+  is_ready m F log homes i q pos early free idle_cell e k = grind arith
+  is_ready m F log homes i q pos early (writing j) idle_cell e k = grind arith
+  is_ready m F log homes i q pos early full idle_cell e k = grind arith
+  is_ready m F log homes i q pos early (reading j) idle_cell e k = grind arith
+
+  -- If no seat holds a slot, a drawn next place is ready.
+  surely : (m F y : ℕ) (log : List (ℕ × T)) (homes : Homes S) (i q : ℕ) → F % m ≡ q % m → q < F + m → F < length log → (ph : Phase)
+      → ((j : ℕ) → holder ph ≡ suc j → ⊥) → y ≡ shown m q ph → InPhase boxed F log homes i q ph → y ≡ suc F
+  surely m F y log homes i q lies early below free calm e k = grind (arith, one_turn)
+  surely m F y log homes i q lies early below (writing j) calm e k = absurd (calm j refl)
+  surely m F y log homes i q lies early below full calm e k = grind (arith, one_turn)
+  surely m F y log homes i q lies early below (reading j) calm e k = absurd (calm j refl)
+
 module _ {T : Type 0} where
-  abbrev Goes : St T → ℕ → ℕ → Seated T → (ℕ → Seated T → Type 0) → ℕ → Type 0
-  Goes s k id me then x = (w : View T) × (a : Act (Option (ℕ × T))) × Valid s.homes me.1 a × Queue (stepped s k x id me.1 w a)
-      × then (get_or s.words k 0) (w, carried_after me.1 a)
+  if_whole : (log : List (ℕ × T)) (views : List (View T)) (F : List (ℕ × T) → Type 0) → (o : Option (List (ℕ × T))) → Whole log views o
+      → (((j : ℕ) → Gone views (suc j)) → F log) → IfSome o F
+  if_whole log views F o k h = grind arith
 
+module _ {T S : Type 0} {boxed : Option (ℕ × T) → S} {Good : T → Type 0} where
   -- A step that only reads a word.
-  reads : (s : St T) (k id : ℕ) (w : View T) → Queue record { words = s.words; homes = s.homes; views = set s.views id w }
-      → Queue record { words = set s.words k (get_or s.words k 0); homes = s.homes; views = set s.views id w }
-  reads s k id w = subst (λ (ws : List ℕ). Queue record { words = ws; homes = s.homes; views = set s.views id w }) (sym (set-get_or s.words k 0))
+  reads : (s : St T S) (k id : ℕ) (w : View T) → Queue boxed Good record { words = s.words; homes = s.homes; views = set s.views id w }
+      → Queue boxed Good record { words = set s.words k (get_or s.words k 0); homes = s.homes; views = set s.views id w }
+  reads s k id w = subst (λ (ws : List ℕ). Queue boxed Good record { words = ws; homes = s.homes; views = set s.views id w }) (sym (set-get_or s.words k 0))
 
-  pub reserves_ok : (n id : ℕ) (me : Seated T) → me.0.role ≡ Sender → me.0.stage ≡ Idle → me.0.asks < 2 ^ 40
-      → Allows Queue n id me 0 (λ x. (x + (2 ^ 64 - 1)) % 2 ^ 64) (reserves (step n 0 1 0 none) me)
+  pub reserves_ok : (n id : ℕ) (me : Seated T S) → me.0.role ≡ Sender → me.0.stage ≡ Idle → me.0.asks < 2 ^ 40
+      → Allows (Queue boxed Good) n id me 0 (λ x. (x + (2 ^ 64 - 1)) % 2 ^ 64) (reserves (step n 0 1 0 none) me)
   reserves_ok n id me is was few s r wide at small = go (dec_le (suc (2 ^ 32)) (get_or s.words 0 0))
     where
       held : ℕ
@@ -29,7 +58,7 @@ module _ {T : Type 0} where
 
       went : (st : Stage) → hand_of st ≡ 1 → wait_of st ≡ 1 → Knows r.freed r.log id (r.cells (me.0.at % length s.homes)) me.0.at me.0.item st
           → length r.log + total in_room s.views + found_of st ≤ r.freed + length s.homes
-          → Queue (stepped s 0 ((get_or s.words 0 0 + (2 ^ 64 - 1)) % 2 ^ 64) id me.1 (with_ask me.0 st held) keeps)
+          → Queue boxed Good (stepped s 0 ((get_or s.words 0 0 + (2 ^ 64 - 1)) % 2 ^ 64) id me.1 (with_ask me.0 st held) keeps)
       went st hand wait knew within =
           let x : ℕ = get_or s.words 0 0 in
           let x' : ℕ = (x + (2 ^ 64 - 1)) % 2 ^ 64 in
@@ -38,39 +67,33 @@ module _ {T : Type 0} where
           quiet s r (set s.words 0 x') id r.late r.closed me.0 (with_ask me.0 st held) (grind (arith, fits, length-set, get_or-set_other))
 
       go : Dec (suc (2 ^ 32) ≤ get_or s.words 0 0)
-          → Goes s 0 id me (reserves (step n 0 1 0 none) me) ((get_or s.words 0 0 + (2 ^ 64 - 1)) % 2 ^ 64)
+          → Goes boxed Good s 0 id me (reserves (step n 0 1 0 none) me) ((get_or s.words 0 0 + (2 ^ 64 - 1)) % 2 ^ 64)
       go (yes d) = (with_ask me.0 Asked held, keeps, tt, went Asked refl refl tt (grind (arith, total_le)), grind arith)
       go (no d) = (with_ask me.0 Refused held, keeps, tt, went Refused refl refl tt (omega arith), grind arith)
 
   -- A slot request without room, or with a late place, is given back.
-  pub unreserves_ok : (n id : ℕ) (me : Seated T) → me.0.role ≡ Sender → (me.0.stage ≡ Refused) ⊎ (me.0.stage ≡ Late)
-      → Allows Queue n id me 0 (λ x. (x + 1) % 2 ^ 64) (unreserves (step n 0 1 0 none) me)
+  pub unreserves_ok : (n id : ℕ) (me : Seated T S) → me.0.role ≡ Sender → (me.0.stage ≡ Refused) ⊎ (me.0.stage ≡ Late)
+      → Allows (Queue boxed Good) n id me 0 (λ x. (x + 1) % 2 ^ 64) (unreserves (step n 0 1 0 none) me)
   unreserves_ok n id me is was s r wide at small =
       (idle me.0, keeps, tt, ⊎_elim (λ e. given Refused e refl (λ z. z)) (λ e. given Late e refl (λ z. z)) was, (refl, refl))
     where
       given : (st : Stage) → me.0.stage ≡ st → hand_of st ≡ 1 → (Busy st → ⊥)
-          → Queue (stepped s 0 ((get_or s.words 0 0 + 1) % 2 ^ 64) id me.1 (idle me.0) keeps)
+          → Queue boxed Good (stepped s 0 ((get_or s.words 0 0 + 1) % 2 ^ 64) id me.1 (idle me.0) keeps)
       given st e hand calm =
           let x' : ℕ = (get_or s.words 0 0 + 1) % 2 ^ 64 in
           let now = get_or-set_same s.words 0 x' 0 (omega arith) in
           quiet s r (set s.words 0 x') id r.late r.closed me.0 (idle me.0) (grind (arith, fits, length-set, get_or-set_other))
 
-  -- The slot of the next place is free.
-  is_free : (t m F : ℕ) (log : List (ℕ × T)) (homes : Homes T) (i q : ℕ) → length log ≡ t → F ≤ t → t < F + m → q < F + m → t % m ≡ q % m
-      → (ph : Phase) → InPhase F log homes i q ph
-      → (ph ≡ free) × (get_elem? homes i ≡ some (some None)) × (t ≡ q)
-  is_free t m F log homes i q long a b c lies ph k = grind (arith, one_turn)
-
-  pub few_drawn : (s : St T) (r : Queue s) → length r.log + r.late + total waiting s.views ≤ 64 * 2 ^ 40
+  pub few_drawn : (s : St T S) (r : Queue boxed Good s) → length r.log + r.late + total waiting s.views ≤ 64 * 2 ^ 40
   few_drawn s r = grind (arith, total_le)
 
   -- Drawing a place: for the message, or a late one if the queue is closed.
-  pub claims_ok : (said : Option (ℕ × T)) (x : ℕ × T) (n id : ℕ) (me : Seated T) → said ≡ Some x → x.0 ≡ me.0.port → me.0.role ≡ Sender
+  pub claims_ok : (said : Option (ℕ × T)) (x : ℕ × T) (n id : ℕ) (me : Seated T S) → said ≡ Some x → x.0 ≡ me.0.port → Good x.1 → me.0.role ≡ Sender
       → me.0.stage ≡ Asked → me.1 ≡ []
-      → Allows Queue n id me 1 (λ y. (y + 1) % 2 ^ 64) (claims said (step n 1 1 0 none) me)
-  claims_ok said x n id me says mine is was bare s r wide at small = ⊎_elim too_late accepted (cases_Bool r.closed)
+      → Allows (Queue boxed Good) n id me 1 (λ y. (y + 1) % 2 ^ 64) (claims boxed said (step n 1 1 0 none) me)
+  claims_ok said x n id me says mine good is was bare s r wide at small = ⊎_elim too_late accepted (cases_Bool r.closed)
     where
-      accepted : r.closed ≡ false → Goes s 1 id me (claims said (step n 1 1 0 none) me) ((get_or s.words 1 0 + 1) % 2 ^ 64)
+      accepted : r.closed ≡ false → Goes boxed Good s 1 id me (claims boxed said (step n 1 1 0 none) me) ((get_or s.words 1 0 + 1) % 2 ^ 64)
       accepted shut =
           let y : ℕ = get_or s.words 1 0 in
           let y' : ℕ = (y + 1) % 2 ^ 64 in
@@ -83,21 +106,22 @@ module _ {T : Type 0} where
           let sum = sums s.views id me.0 w Asked Sender Sender at was is is in
           let near : i < m = mod-lt L r.some_slot in
           let ok = r.each_cell i near in
-          let fr = is_free L m F r.log s.homes i (r.cells i).0 refl r.behind (omega arith) ok.early (sym ok.lies) (r.cells i).1 ok.phase in
+          let fr = is_free boxed L m F r.log s.homes i (r.cells i).0 refl r.behind (omega arith) ok.early (sym ok.lies) (r.cells i).1 ok.phase in
           let knew : Knows F log' id (put r.cells i (L, writing id) i) L (Some x) Drew =
           (put_here r.cells i (L, writing id), (x, refl, at_last r.log x L refl)) in
           let others : (j : ℕ) (d : View T) → j ≢ id → get_elem? s.views j ≡ some d → Fits (length s.views) F log' j d d.role =
           grind (arith, fits, owned_other, take-append-le) in
           let more = at_longer r.log (x ∷ []) in
+          let all_good = good_more Good r.log x r.good good in
           let now = get_or-set_same s.words 1 y' 0 (omega arith) in (
             w,
-            takes i None,
+            takes i (boxed None),
             fr.1,
-            moved s r 1 y' i id F log' (L, writing id) none me.0 w (grind (arith, get_or-set_other, holds_none, owned_mine, owned_other, placed)),
+            moved s r 1 y' i id F log' (L, writing id) none me.0 w all_good (grind (arith, get_or-set_other, holds_none s r id me.0 at, owned_mine, owned_other, placed)),
             ((λ _. (x, says, grind arith, grind arith)), λ big. absurd (omega arith)),
           )
 
-      too_late : r.closed ≡ true → Goes s 1 id me (claims said (step n 1 1 0 none) me) ((get_or s.words 1 0 + 1) % 2 ^ 64)
+      too_late : r.closed ≡ true → Goes boxed Good s 1 id me (claims boxed said (step n 1 1 0 none) me) ((get_or s.words 1 0 + 1) % 2 ^ 64)
       too_late shut =
           let y : ℕ = get_or s.words 1 0 in
           let y' : ℕ = (y + 1) % 2 ^ 64 in
@@ -110,54 +134,33 @@ module _ {T : Type 0} where
             grind arith,
           )
 
-  pub publishes_ok : (n id : ℕ) (me : Seated T) (k new : ℕ) → me.0.role ≡ Sender → me.0.stage ≡ Drew → me.1 ≡ (me.0.at % n, me.0.item) ∷ []
+  pub publishes_ok : (n id : ℕ) (me : Seated T S) (k new : ℕ) → me.0.role ≡ Sender → me.0.stage ≡ Drew → me.1 ≡ (me.0.at % n, boxed me.0.item) ∷ []
       → k ≡ me.0.at % n + 2 → new ≡ me.0.at + 1
-      → Allows Queue n id me k (λ _. new) (λ _ m. publishes (step n k new 0 none) me new m)
+      → Allows (Queue boxed Good) n id me k (λ _. new) (λ _ m. publishes (step n k new 0 none) me new m)
   publishes_ok n id me k new is was has word next s r wide at small =
       let F : ℕ = r.freed in let p : ℕ = me.0.at in let i : ℕ = p % length s.homes in
       let kn = knows s r id me.0 Drew at was in
       let slot : p % n ≡ i = grind arith in
       let w = idle me.0 in
-      let there : (x : ℕ × T) × (get_elem? r.log p ≡ some x) × (get_elem? (set s.homes i (some me.0.item)) i ≡ some (some (Some x))) =
+      let there : (x : ℕ × T) × (get_elem? r.log p ≡ some x) × (get_elem? (set s.homes i (some (boxed me.0.item))) i ≡ some (some (boxed (Some x)))) =
       (kn.1.0, kn.1.2, grind (arith, set_here)) in
-      subst (λ (cs : List (ℕ × Option (ℕ × T))). Goes s k id (me.0, cs) (λ _ u. publishes (step n k new 0 none) (me.0, cs) new u) new)
-      (sym (has ∙ ap (λ (z : ℕ). (z, me.0.item) ∷ []) slot)) (
+      subst (λ (cs : List (ℕ × S)). Goes boxed Good s k id (me.0, cs) (λ _ u. publishes (step n k new 0 none) (me.0, cs) new u) new)
+      (sym (has ∙ ap (λ (z : ℕ). (z, boxed me.0.item) ∷ []) slot)) (
         w,
         gives,
         tt,
-        moved s r k new i id F r.log (p, full) (some me.0.item) me.0 w (grind (arith, get_or-set_other, get_or-set_same, holds_one)),
+        moved s r k new i id F r.log (p, full) (some (boxed me.0.item)) me.0 w r.good (grind (arith, get_or-set_other, get_or-set_same, holds_one s r id me.0 at)),
         (refl, refl),
       )
 
-  -- The cell of the next place, if its word says that it is ready.
-  is_ready : (m F : ℕ) (log : List (ℕ × T)) (homes : Homes T) (i q : ℕ) → 0 < m → q < F + m → (ph : Phase) → (ph ≡ reading 0 → ⊥)
-      → shown m q ph ≡ suc F → InPhase F log homes i q ph
-      → (ph ≡ full) × (q ≡ F) × (q < length log) × ((x : ℕ × T) × (get_elem? log q ≡ some x) × (get_elem? homes i ≡ some (some (Some x))))
-  is_ready m F log homes i q pos early free idle_cell e k = grind arith
-  is_ready m F log homes i q pos early (writing j) idle_cell e k = grind arith
-  is_ready m F log homes i q pos early full idle_cell e k = grind arith
-  is_ready m F log homes i q pos early (reading j) idle_cell e k = grind arith
-
-  if_whole : (log : List (ℕ × T)) (views : List (View T)) (F : List (ℕ × T) → Type 0) → (o : Option (List (ℕ × T))) → Whole log views o
-      → (((j : ℕ) → Gone views (suc j)) → F log) → IfSome o F
-  if_whole log views F o k h = grind arith
-
-  -- If no seat holds a slot, a drawn next place is ready.
-  surely : (m F y : ℕ) (log : List (ℕ × T)) (homes : Homes T) (i q : ℕ) → F % m ≡ q % m → q < F + m → F < length log → (ph : Phase)
-      → ((j : ℕ) → holder ph ≡ suc j → ⊥) → y ≡ shown m q ph → InPhase F log homes i q ph → y ≡ suc F
-  surely m F y log homes i q lies early below free calm e k = grind (arith, one_turn)
-  surely m F y log homes i q lies early below (writing j) calm e k = absurd (calm j refl)
-  surely m F y log homes i q lies early below full calm e k = grind (arith, one_turn)
-  surely m F y log homes i q lies early below (reading j) calm e k = absurd (calm j refl)
-
-  none_busy : (s : St T) (r : Queue s) (v : View T) → get_elem? s.views 0 ≡ some v → (Busy v.stage → ⊥) → ((j : ℕ) → Gone s.views (suc j)) → (i j : ℕ)
+  none_busy : (s : St T S) (r : Queue boxed Good s) (v : View T) → get_elem? s.views 0 ≡ some v → (Busy v.stage → ⊥) → ((j : ℕ) → Gone s.views (suc j)) → (i j : ℕ)
       → i < length s.homes → holder (r.cells i).1 ≡ suc j → ⊥
   none_busy s r v at calm gone i zero near held = holds_none s r 0 v at calm i near held
   none_busy s r v at calm gone i (suc j) near held = let b = r.busy i (suc j) near held in
       grind arith
 
-  pub finds_ready_ok : (n id : ℕ) (me : Seated T) (k p : ℕ) → me.0.role ≡ Receiver → me.0.stage ≡ Idle → me.1 ≡ [] → p ≡ length me.0.taken → k ≡ p % n + 2
-      → Allows Queue n id me k (λ x. x) (finds_ready p (step n k 0 0 none) me)
+  pub finds_ready_ok : (n id : ℕ) (me : Seated T S) (k p : ℕ) → me.0.role ≡ Receiver → me.0.stage ≡ Idle → me.1 ≡ [] → p ≡ length me.0.taken → k ≡ p % n + 2
+      → Allows (Queue boxed Good) n id me k (λ x. x) (finds_ready boxed Good p (step n k 0 0 none) me)
   finds_ready_ok n id me k p is was bare count word s r wide at small =
       let m : ℕ = length s.homes in let L : ℕ = length r.log in let F : ℕ = r.freed in let i : ℕ = p % m in
       let near = mod-lt p r.some_slot in
@@ -171,7 +174,7 @@ module _ {T : Type 0} where
       let at0 = ap (get_elem? s.views) (sym f.0) ∙ at in
       let gath = r.gathered me.0 at0 in
       dite (ℕ_discrete y (suc p))
-      (λ hit. let rd = is_ready m F r.log s.homes i q r.some_slot ok.early (r.cells i).1
+      (λ hit. let rd = is_ready boxed m F r.log s.homes i q r.some_slot ok.early (r.cells i).1
       (λ e. holds_none s r id me.0 at calm i near (ap holder e ∙ ap suc (sym f.0))) (sym shows ∙ hit ∙ ap suc pF) ok.phase in
       let x = rd.3.0 in
       let w = holding me.0 p x in
@@ -180,9 +183,9 @@ module _ {T : Type 0} where
       let logged : get_elem? r.log p ≡ some x = grind arith in
       let knew : Knows F r.log id (put r.cells i (p, reading id) i) p (Some x) Holding = ((put_here r.cells i (p, reading id), (x, refl, logged)), pF) in (
         w,
-        takes i (Some x),
+        takes i (boxed (Some x)),
         rd.3.2,
-        moved s r k y i id F r.log (p, reading id) none me.0 w (grind (arith, get_or-set_other, get_or-set_same, holds_none)),
+        moved s r k y i id F r.log (p, reading id) none me.0 w r.good (grind (arith, get_or-set_other, get_or-set_same, holds_none s r id me.0 at)),
         (
           (λ _. (
             x,
@@ -194,6 +197,7 @@ module _ {T : Type 0} where
                 below = grind arith;
                 listed = grind arith;
               },
+              r.good p x logged,
               grind arith,
             ),
           )),
@@ -210,14 +214,14 @@ module _ {T : Type 0} where
           λ _. (
             grind arith,
             if_whole r.log s.views (λ l. length l ≤ p) me.0.all gath.2 (λ gone. let past = lt_of_not-le (λ (below : suc p ≤ L).
-                miss (surely m F y r.log s.homes i q (grind arith) ok.early (omega arith) (r.cells i).1
+                miss (surely boxed m F y r.log s.homes i q (grind arith) ok.early (omega arith) (r.cells i).1
                 (λ j e. none_busy s r me.0 at0 calm gone i j near e) shows ok.phase ∙ ap suc (sym pF))) in omega arith),
           ),
         ),
       ))
 
-  pub takes_out_ok : (n id : ℕ) (me : Seated T) → me.0.role ≡ Receiver → me.0.stage ≡ Holding → me.1 ≡ (me.0.at % n, None) ∷ []
-      → Allows Queue n id me 0 (λ y. (y + 1) % 2 ^ 64) (takes_out (step n 0 1 0 none) me)
+  pub takes_out_ok : (n id : ℕ) (me : Seated T S) → me.0.role ≡ Receiver → me.0.stage ≡ Holding → me.1 ≡ (me.0.at % n, boxed None) ∷ []
+      → Allows (Queue boxed Good) n id me 0 (λ y. (y + 1) % 2 ^ 64) (takes_out (step n 0 1 0 none) me)
   takes_out_ok n id me is was has s r wide at small =
       let m : ℕ = length s.homes in let F : ℕ = r.freed in let p : ℕ = me.0.at in let i : ℕ = p % m in
       let kn = knows s r id me.0 Holding at was in
@@ -229,30 +233,30 @@ module _ {T : Type 0} where
       let next = take_next r.log F x logged in
       let now = get_or-set_same s.words 0 y' 0 (omega arith) in
       let count = length-append me.0.taken (x ∷ []) in
-      subst (λ (cs : List (ℕ × Option (ℕ × T))). Goes s 0 id (me.0, cs) (takes_out (step n 0 1 0 none) (me.0, cs)) y') {x = (i, None) ∷ []}
+      subst (λ (cs : List (ℕ × S)). Goes boxed Good s 0 id (me.0, cs) (takes_out (step n 0 1 0 none) (me.0, cs)) y') {x = (i, boxed None) ∷ []}
       (grind arith) (
         w,
         gives,
         tt,
-        moved s r 0 y' i id (suc F) r.log (p + m, free) (some None) me.0 w (grind (arith, get_or-set_other, set_here, holds_one, add-mod_right)),
+        moved s r 0 y' i id (suc F) r.log (p + m, free) (some (boxed None)) me.0 w r.good (grind (arith, get_or-set_other, set_here, holds_one s r id me.0 at, add-mod_right)),
         (refl, (x, kn.0.1.1, refl)),
       )
 
   -- A load of the tail, to see whether the queue is closed.
-  pub finds_closed_ok : (n id : ℕ) (me : Seated T) → me.0.role ≡ Sender → me.0.stage ≡ Idle
-      → Allows Queue n id me 1 (λ x. x) (finds_closed (step n 1 0 0 none) me)
+  pub finds_closed_ok : (n id : ℕ) (me : Seated T S) → me.0.role ≡ Sender → me.0.stage ≡ Idle
+      → Allows (Queue boxed Good) n id me 1 (λ x. x) (finds_closed (step n 1 0 0 none) me)
   finds_closed_ok n id me is was s r wide at small = go (dec_le (2 ^ 63) (get_or s.words 1 0))
     where
-      went : (b : Bool) → Queue (stepped s 1 (get_or s.words 1 0) id me.1 (with_glance me.0 b) keeps)
+      went : (b : Bool) → Queue boxed Good (stepped s 1 (get_or s.words 1 0) id me.1 (with_glance me.0 b) keeps)
       went b = reads s 1 id (with_glance me.0 b) (quiet s r s.words id r.late r.closed me.0 (with_glance me.0 b) (grind (arith, fits)))
 
-      go : Dec (2 ^ 63 ≤ get_or s.words 1 0) → Goes s 1 id me (finds_closed (step n 1 0 0 none) me) (get_or s.words 1 0)
+      go : Dec (2 ^ 63 ≤ get_or s.words 1 0) → Goes boxed Good s 1 id me (finds_closed (step n 1 0 0 none) me) (get_or s.words 1 0)
       go (yes d) = (with_glance me.0 true, keeps, tt, went true, grind arith)
       go (no d) = (with_glance me.0 false, keeps, tt, went false, grind arith)
 
   -- The first close.
-  pub closes_ok : (n id : ℕ) (me : Seated T) → me.0.role ≡ Receiver → me.0.stage ≡ Idle → me.0.total ≡ None
-      → Allows Queue n id me 1 (λ y. bit_or y (2 ^ 63)) (closes (step n 1 (2 ^ 63) 0 none) me)
+  pub closes_ok : (n id : ℕ) (me : Seated T S) → me.0.role ≡ Receiver → me.0.stage ≡ Idle → me.0.total ≡ None
+      → Allows (Queue boxed Good) n id me 1 (λ y. bit_or y (2 ^ 63)) (closes (step n 1 (2 ^ 63) 0 none) me)
   closes_ok n id me is was none' s r wide at small =
       let y : ℕ = get_or s.words 1 0 in
       let y' : ℕ = bit_or y (2 ^ 63) in
@@ -267,9 +271,9 @@ module _ {T : Type 0} where
       )
 
   -- Once every sender has joined, the receiver has the log itself.
-  pub gathers_ok : (n id : ℕ) (me : Seated T) → me.0.role ≡ Receiver → me.0.stage ≡ Idle
+  pub gathers_ok : (n id : ℕ) (me : Seated T S) → me.0.role ≡ Receiver → me.0.stage ≡ Idle
       → ((k : ℕ) → k < me.0.made → (i : ℕ) × (l : List (ℕ × T)) × (get_elem? me.0.joined i ≡ some (k, l)))
-      → Allows Queue n id me 1 (λ x. x) (gathers (step n 1 0 0 none) me)
+      → Allows (Queue boxed Good) n id me 1 (λ x. x) (gathers Good (step n 1 0 0 none) me)
   gathers_ok n id me is was every s r wide at small =
       let f = fits s r id me.0 Receiver at is in
       let g = r.gathered me.0 (grind arith) in

@@ -8,17 +8,17 @@ pub use Rattle.std.proofs.Common.{zero, zero-add, ℕ, ⊎_elim, ◌%◌, ◌*�
 pub use Rattle.std.proofs.lemmas.Bool.{cases_Bool, eqb-false, eqb-true, ltb-false, ltb-true}
 pub use Rattle.std.proofs.lemmas.List.{get_or_append_left, get_or_push, map-append, map-id, take-append-drop, take-append-le}
 pub use Rattle.std.proofs.lemmas.List.Elements.{All-cons, All-nil, Contains-append_right}
-pub use Rattle.std.specs.Prelude.{Contains, IfSome, Option, bit_or}
-pub use Rattle.subvl_queue.specs.Views.{IsGathered, brought_back, brought_of, items_of, own_of, places_of, whole}
-pub use Rattle.subvl_queue.specs.Messages.{AreItems, IsItem, part_of}
-pub use Rattle.subvl_queue.specs.Queue.{Busy, Cell, CellOk, Collects, Fits, Gone, Has, InPhase, Joined, Knows, Phase, Queue, Totals, Whole, asks_of, budget}
+pub use Rattle.std.specs.Prelude.{Contains, IfNone, IfSome, Option, bit_or}
+pub use Rattle.subvl_queue.specs.Views.{IsGathered, brought_back, brought_of, own_of, places_of, whole}
+pub use Rattle.subvl_queue.specs.Messages.{AreItems, IsItem, IsMessage, part_of}
+pub use Rattle.subvl_queue.specs.Queue.{AreGood, Busy, Cell, CellOk, Collects, Fits, Gone, Has, InPhase, Joined, Knows, Phase, Queue, Totals, Whole, asks_of, budget}
 pub use Rattle.subvl_queue.specs.Queue.{budget_of, found_of, free, full, hand_of, holder, in_hand, in_room, owned, reading, shown, shut_bit, total, wait_of, waiting, writing}
 pub use Rattle.subvl_queue.specs.Steps.{Finds, IsLog, IsNext, Misses, Seated, reserves, closes, drawn, claims, first_view, freed_of, takes_out, gathers, unreserves}
 pub use Rattle.subvl_queue.specs.Steps.{finds_closed, holding, idle, lated, finds_ready, new_seat, one_made, publishes, spent_view, with_all, with_ask, with_glance}
 pub use Rattle.subvl_queue.specs.Steps.{with_joined, with_look, with_total}
 pub use Rattle.subvl_queue.specs.Views.{AreBack, Brought, HasEvery, HasPort, IsBack, IsWhole, LacksOne, ReceiverView, SenderView, StandAt, TellsLeft}
 pub use Rattle.subvl_queue.specs.Views.{accepted_of, brought_by, brought_by_all, new_receiver, new_sender, one_more, taken_back}
-pub use Rattle.subvl_queue.specs.declared.item.Message.{Message}
+pub use Rattle.subvl_queue.specs.Room.{RoomView, bytes_of, item_of, port_of, room_with}
 pub use Rattle.subvl_queue.specs.declared.rule.Role.{Role}
 pub use Rattle.subvl_queue.specs.declared.rule.Role.TheVariants.{Receiver, Sender, Spent}
 pub use Rattle.subvl_queue.specs.declared.rule.Stage.{Stage}

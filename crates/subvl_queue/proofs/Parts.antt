@@ -1,5 +1,5 @@
 -- The messages of one port in a list, and their places.
-use Rattle.subvl_queue.proofs.Names.{◌≡◌, ◌≢◌, ℕ, zero, suc, ◌+◌, ◌-◌, ◌==◌, ◌<◌, ◌≤◌, if◌then◌else◌, List, [], ◌∷◌, ◌++◌, length, map, take, drop, get_or, Bool, true, eqb, cond, sym, refl, ap, ◌∙◌, subst, arith, ne_eqb, lt_of_not-le, some, some-injective, some-ne-none, get_elem?, eqb-true, All-cons, All-nil, Message, items_of, own_of, places_of, IsItem, AreItems, part_of, owned, StandAt, TellsLeft}
+use Rattle.subvl_queue.proofs.Names.{◌≡◌, ◌≢◌, ℕ, zero, suc, ◌+◌, ◌-◌, ◌==◌, ◌<◌, ◌≤◌, if◌then◌else◌, List, [], ◌∷◌, ◌++◌, length, map, take, drop, get_or, Bool, true, eqb, cond, sym, refl, ap, ◌∙◌, subst, arith, ne_eqb, lt_of_not-le, some, some-injective, some-ne-none, get_elem?, eqb-true, All-cons, All-nil, AreGood, IsMessage, own_of, places_of, IsItem, AreItems, part_of, owned, StandAt, TellsLeft}
 
 cond_append : {A : Type 0} (b : Bool) (x : A) (l r : List A) → cond b (x ∷ (l ++ r)) (l ++ r) ≡ cond b (x ∷ l) l ++ r
 cond_append b x l r = grind arith
@@ -36,11 +36,11 @@ take_next (x ∷ xs) zero a e = λ k. sym (some-injective x a e) k ∷ []
 take_next (x ∷ xs) (suc i) a e = ap (λ l. x ∷ l) (take_next xs i a e)
 
 -- The part of a port, by the messages' bytes.
-pub part_is : (k n : ℕ) (l : List (ℕ × Message)) → own_of (owned k n l) ≡ part_of k (items_of l)
+pub part_is : (k n : ℕ) (l : List (ℕ × List ℕ)) → own_of (owned k n l) ≡ part_of k l
 part_is k n [] = refl
 part_is k n (x ∷ l) =
-    map_cond (λ (y : ℕ × Message). y.1.bytes.items) (eqb x.0 k) (n, x.1) (owned k (suc n) l)
-    ∙ ap (λ (p : List (List ℕ)). cond (eqb x.0 k) (x.1.bytes.items ∷ p) p) (part_is k (suc n) l)
+    map_cond (λ (y : ℕ × List ℕ). y.1) (eqb x.0 k) (n, x.1) (owned k (suc n) l)
+    ∙ ap (λ (p : List (List ℕ)). cond (eqb x.0 k) (x.1 ∷ p) p) (part_is k (suc n) l)
 
 -- the places of a port's messages in a list whose first place is n
 abbrev places_from : (n port : ℕ) → List (ℕ × List ℕ) → List ℕ
@@ -48,10 +48,10 @@ places_from n port [] = []
 places_from n port (item ∷ items) =
     if item.0 == port then n ∷ places_from (suc n) port items else places_from (suc n) port items
 
-pub places_are : (k n : ℕ) (l : List (ℕ × Message)) → places_of (owned k n l) ≡ places_from n k (items_of l)
+pub places_are : (k n : ℕ) (l : List (ℕ × List ℕ)) → places_of (owned k n l) ≡ places_from n k l
 places_are k n [] = refl
 places_are k n (x ∷ l) =
-    map_cond (λ (y : ℕ × Message). y.0) (eqb x.0 k) (n, x.1) (owned k (suc n) l)
+    map_cond (λ (y : ℕ × List ℕ). y.0) (eqb x.0 k) (n, x.1) (owned k (suc n) l)
     ∙ ap (λ (p : List ℕ). cond (eqb x.0 k) (n ∷ p) p) (places_are k (suc n) l)
 
 record StandFrom (n : ℕ) (list : List (ℕ × List ℕ)) (port : ℕ) (own : List (List ℕ)) (places : List ℕ) : Type 0 where
@@ -76,21 +76,21 @@ stand_at list port own places is at = subst (λ (y : List (List ℕ) × List ℕ
     (let h = stand_from 0 port list in grind arith)
 
 -- If no other port has a message, all messages are of these ports.
-pub are_items : (ports n : ℕ) (l : List (ℕ × Message)) → ((k : ℕ) → ports ≤ k → owned k n l ≡ []) → AreItems ports (items_of l)
-are_items ports n [] h = All-nil (IsItem ports)
-are_items ports n (x ∷ l) h =
-    let first : IsItem ports (x.0, x.1.bytes.items) =
-    record { port = lt_of_not-le (λ le. (rest_none x.0 n x l (h x.0 le)).0 refl); message = x.1.sound } in
-    All-cons (IsItem ports) (x.0, x.1.bytes.items) (items_of l) first (are_items ports (suc n) l (λ k le. (rest_none k n x l (h k le)).1))
+pub are_items : (ports n : ℕ) (l : List (ℕ × List ℕ)) → ((k : ℕ) → ports ≤ k → owned k n l ≡ []) → AreGood IsMessage l → AreItems ports l
+are_items ports n [] h good = All-nil (IsItem ports)
+are_items ports n (x ∷ l) h good =
+    let first : IsItem ports x =
+    record { port = lt_of_not-le (λ le. (rest_none x.0 n x l (h x.0 le)).0 refl); message = good 0 x refl } in
+    All-cons (IsItem ports) x l first (are_items ports (suc n) l (λ k le. (rest_none k n x l (h k le)).1) (λ p y e. good (suc p) y e))
 
 same_next : (n m : ℕ) → (n == m) ≡ (suc n == suc m)
 same_next n m = grind (arith, ne_eqb)
 
 -- The total says whether a message is left.
-pub tells : (n total : ℕ) (l : List (ℕ × Message)) → n ≤ total → total ≡ length l → TellsLeft (n == total) (items_of (drop n l))
-tells zero total [] le is = grind arith
-tells zero total (x ∷ l) le is = grind arith
-tells (suc n) total [] le is = absurd (omega arith)
-tells (suc n) zero (x ∷ l) le is = absurd (omega arith)
-tells (suc n) (suc total) (x ∷ l) le is = subst (λ (b : Bool). TellsLeft b (items_of (drop n l))) (same_next n total)
-    (tells n total l (omega arith) (omega arith))
+pub tells : (n total : ℕ) (l : List (ℕ × List ℕ)) → n ≤ total → total ≡ length l → AreGood IsMessage l → TellsLeft (n == total) (drop n l)
+tells zero total [] le is good = grind arith
+tells zero total (x ∷ l) le is good = let first = good 0 x refl in grind arith
+tells (suc n) total [] le is good = absurd (omega arith)
+tells (suc n) zero (x ∷ l) le is good = absurd (omega arith)
+tells (suc n) (suc total) (x ∷ l) le is good = subst (λ (b : Bool). TellsLeft b (drop n l)) (same_next n total)
+    (tells n total l (omega arith) (omega arith) (λ p y e. good (suc p) y e))

@@ -17,15 +17,15 @@ each_two : {A : Type 0} (l : List A) (i k : ℕ) (a b : A) (F : ℕ → A → Ty
 each_two l i k a b F at_k at_i other = each_after (set l i a) k b F at_k (λ j c not e.
     each_after l i a (λ q y. q ≢ k → F q y) (λ _. at_i) (grind arith) j c e not)
 
-module _ {T : Type 0} where
-  blank : (n i : ℕ) → i < n → get_elem? (map some (replicate {A = Option (ℕ × T)} n None)) i ≡ some (some None)
-  blank zero i near = absurd (omega arith)
-  blank (suc n) zero near = refl
-  blank (suc n) (suc i) near = blank n i (omega arith)
+blank : {S : Type 0} (e : S) (n i : ℕ) → i < n → get_elem? (map some (replicate n e)) i ≡ some (some e)
+blank e zero i near = absurd (omega arith)
+blank e (suc n) zero near = refl
+blank e (suc n) (suc i) near = blank e n i (omega arith)
 
+module _ {T S : Type 0} {boxed : Option (ℕ × T) → S} {Good : T → Type 0} where
   pub starts_ok : (ws : List ℕ) (c : ℕ) → 0 < c → c ≤ 256 → length ws ≡ c + 2 → get_or ws 0 0 ≡ 2 ^ 32 + c → get_or ws 1 0 ≡ 0
-      → ((i : ℕ) → i < c → get_or ws (i + 2) 0 ≡ 0) → Queue (opening ws (replicate {A = Option (ℕ × T)} c None) first_view)
-  starts_ok ws c pos few wide room tail ready = let homes = map some (replicate {A = Option (ℕ × T)} c None) in
+      → ((i : ℕ) → i < c → get_or ws (i + 2) 0 ≡ 0) → Queue boxed Good (opening ws (replicate c (boxed None)) first_view)
+  starts_ok ws c pos few wide room tail ready = let homes = map some (replicate c (boxed None)) in
       let n : ℕ = length homes in let is : n ≡ c = grind (arith, length-map, length-replicate) in record {
         slots = record {
           log = [];
@@ -40,6 +40,7 @@ module _ {T : Type 0} where
           tail_is = tail;
           none_late = λ _. refl;
           each_cell = grind (arith, blank);
+          good = grind arith;
         };
         few_seats = omega arith;
         within = omega arith;
@@ -54,7 +55,7 @@ module _ {T : Type 0} where
       }
 
   pub splits_ok : (id : ℕ) (v : View T) → v.role ≡ Receiver → v.stage ≡ Idle → v.made < 64 → v.joined ≡ [] → v.all ≡ None
-      → Splits Queue id v (one_made v) (new_seat v.made)
+      → Splits (Queue boxed Good) id v (one_made v) (new_seat v.made)
   splits_ok id v is was few none_joined none_all s r at =
       let l = one_made v in
       let k = new_seat {T = T} v.made in
@@ -88,7 +89,7 @@ module _ {T : Type 0} where
       }
 
   pub joins_ok : (id : ℕ) (v : View T) (other : ℕ) (w : View T) → v.role ≡ Receiver → v.stage ≡ Idle → v.all ≡ None → w.role ≡ Sender → w.stage ≡ Idle
-      → Joins Queue id v other w (with_joined v w) spent_view
+      → Joins (Queue boxed Good) id v other w (with_joined v w) spent_view
   joins_ok id v other w is was none_all sends rests s r at two at' =
       let u : View T = with_joined v w in
       let vs = set s.views id u in

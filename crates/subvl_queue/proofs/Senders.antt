@@ -1,5 +1,5 @@
 -- The senders in a list, and what the receiver has of them.
-use Rattle.subvl_queue.proofs.Names.{◌≡◌, ℕ, zero, suc, ◌+◌, ◌<◌, ◌≤◌, List, [], ◌∷◌, ◌++◌, length, take, drop, get_or, sym, refl, ap, ◌∙◌, arith, length-append, take-append-drop, map-append, Contains-append_right, map, Contains, Some, IfSome, drop_at, some, get_elem?, Message, View, items_of, own_of, places_of, IsGathered, whole, brought_of, brought_back, owned, IsLog, with_all, holding, freed_of, SenderView, Brought, HasPort, HasEvery, IsBack, AreBack, IsWhole, brought_by, brought_by_all}
+use Rattle.subvl_queue.proofs.Names.{◌≡◌, ℕ, zero, suc, ◌+◌, ◌<◌, ◌≤◌, List, [], ◌∷◌, ◌++◌, length, take, drop, get_or, sym, refl, ap, ◌∙◌, arith, length-append, take-append-drop, Contains-append_right, map, Contains, Some, None, false, Option, IfSome, IfNone, IsNext, with_look, drop_at, some, get_elem?, IsMessage, View, own_of, places_of, IsGathered, whole, brought_of, brought_back, owned, IsLog, with_all, holding, freed_of, SenderView, Brought, HasPort, HasEvery, IsBack, AreBack, IsWhole, brought_by, brought_by_all}
 use Rattle.subvl_queue.proofs.Parts.{part_is, places_are, take_next, stand_at}
 
 -- If none was found, no sender of the port is in the list.
@@ -9,15 +9,15 @@ none_there [] n p le away h = omega arith
 none_there (s ∷ ss) n p le away h = let lt = h.1 in away h.0 s (omega arith) (h.2 s)
 
 -- The index of a joined list.
-found : (joined : List (ℕ × List (ℕ × Message))) (b : Brought) (k : ℕ) → k < length (map brought_of joined) → get_or (map brought_of joined) k b ≡ b
-    → (i : ℕ) × (p : ℕ) × (l : List (ℕ × Message)) × (get_elem? joined i ≡ some (p, l)) × (brought_of (p, l) ≡ b)
+found : (joined : List (ℕ × List (ℕ × List ℕ))) (b : Brought) (k : ℕ) → k < length (map brought_of joined) → get_or (map brought_of joined) k b ≡ b
+    → (i : ℕ) × (p : ℕ) × (l : List (ℕ × List ℕ)) × (get_elem? joined i ≡ some (p, l)) × (brought_of (p, l) ≡ b)
 found [] b k lt e = absurd (omega arith)
 found (x ∷ xs) b zero lt e = (zero, x.0, x.1, refl, e)
 found (x ∷ xs) b (suc k) lt e = let r = found xs b k (omega arith) e in (suc r.0, r.1, r.2, r.3, r.4)
 
 -- The sender of a port that is back has joined.
-pub joined_for : (v : View Message) (ports : ℕ) → AreBack ports (brought_back v) → (k : ℕ) → k < ports
-    → (i : ℕ) × (l : List (ℕ × Message)) × (get_elem? v.joined i ≡ some (k, l))
+pub joined_for : (v : View (List ℕ)) (ports : ℕ) → AreBack ports (brought_back v) → (k : ℕ) → k < ports
+    → (i : ℕ) × (l : List (ℕ × List ℕ)) × (get_elem? v.joined i ≡ some (k, l))
 joined_for v ports every k lt = let there = every k lt in grind (arith, found)
 
 -- A sender in the list brings the part of its port.
@@ -46,47 +46,54 @@ whole_by before last ports l every known = record {
 }
 
 -- If nothing was brought, no sender has joined.
-pub none_joined : (v : View Message) → brought_back v ≡ [] → v.joined ≡ []
+pub none_joined : (v : View (List ℕ)) → brought_back v ≡ [] → v.joined ≡ []
 none_joined v none = elim v.joined as (λ l. map brought_of l ≡ [] → l ≡ []) [ [] ↦ λ e. refl | x ∷ xs ↦ λ e. absurd (cc) ] none
 
 -- The log is whole: it has exactly the own lists of the senders that are back.
-pub is_whole : (slots ports : ℕ) (v : View Message) (l : List (ℕ × Message)) → AreBack ports (brought_back v) → IsLog slots v l → v.made ≡ ports
-    → IsWhole ports (brought_back v) (items_of l)
+pub is_whole : (slots ports : ℕ) (v : View (List ℕ)) (l : List (ℕ × List ℕ)) → AreBack ports (brought_back v) → IsLog IsMessage slots v l → v.made ≡ ports
+    → IsWhole ports (brought_back v) l
 is_whole slots ports v l every log made =
     let at : (b : Brought) → Contains (brought_back v) b → (own_of (owned b.port 0 l) ≡ b.own) × (places_of (owned b.port 0 l) ≡ b.places) =
     grind (arith, found) in
     record {
       every = every;
       parts = λ b inside. sym (part_is b.port 0 l) ∙ (at b inside).0;
-      places = λ b inside. stand_at (items_of l) b.port b.own b.places (sym (part_is b.port 0 l) ∙ (at b inside).0)
+      places = λ b inside. stand_at l b.port b.own b.places (sym (part_is b.port 0 l) ∙ (at b inside).0)
           (sym (places_are b.port 0 l) ∙ (at b inside).1);
       no_more = λ p le. sym (part_is p 0 l) ∙ ap own_of (log.no_more p (grind arith));
     }
 
 -- The log is the messages taken and the messages left.
-pub accepted_is : (slots n : ℕ) (v w : View Message) (l : List (ℕ × Message)) → IsLog slots v l → n ≡ length v.taken → w ≡ with_all v l
-    → items_of l ≡ items_of w.taken ++ items_of (drop n (whole w))
+pub accepted_is : (slots n : ℕ) (v w : View (List ℕ)) (l : List (ℕ × List ℕ)) → IsLog IsMessage slots v l → n ≡ length v.taken → w ≡ with_all v l
+    → l ≡ w.taken ++ drop n (whole w)
 accepted_is slots n v w l log counted is = sym (
-    ap (λ (u : View Message). items_of u.taken ++ items_of (drop n (whole u))) is
-    ∙ sym (grind (arith, map-append))
-    ∙ ap (λ (z : List (ℕ × Message)). items_of (z ++ drop n l)) (log.begins ∙ ap (λ (m : ℕ). take m l) (sym counted))
-    ∙ ap items_of (take-append-drop n l))
+    ap (λ (u : View (List ℕ)). u.taken ++ drop n (whole u)) is
+    ∙ ap (λ (z : List (ℕ × List ℕ)). z ++ drop n l) (log.begins ∙ ap (λ (m : ℕ). take m l) (sym counted))
+    ∙ take-append-drop n l)
 
 -- The next message of the list.
-pub next_listed : (taken : ℕ) (v : View Message) (x : ℕ × Message) → v.all ≡ Some (whole v)
+pub next_listed : (taken : ℕ) (v : View (List ℕ)) (x : ℕ × List ℕ) → v.all ≡ Some (whole v)
     → IfSome v.all (λ l. (taken < length l) × (get_elem? l taken ≡ some x)) → (taken < length (whole v)) × (get_elem? (whole v) taken ≡ some x)
 next_listed taken v x e = grind arith
 
 -- After the next message was taken, the list is still gathered.
-pub goes_on : (taken next total : ℕ) (v w : View Message) (x : ℕ × Message) → IsGathered taken total v → w ≡ freed_of (holding v taken x) x
+pub goes_on : (taken next total : ℕ) (v w : View (List ℕ)) (x : ℕ × List ℕ) → IsGathered taken total v → w ≡ freed_of (holding v taken x) x
     → (taken < length (whole v)) × (get_elem? (whole v) taken ≡ some x) → next ≡ taken + 1 → IsGathered next total w
 goes_on taken next total v w x old is at more =
     let suc_is : suc taken ≡ next = omega arith in
     grind (arith, take_next, length-append)
 
+-- After a poll the list is still gathered.
+pub goes_on_by : (taken next total : ℕ) (v w : View (List ℕ)) (found : Option (ℕ × List ℕ)) → IsGathered taken total v
+    → IfSome found (λ x. w ≡ freed_of (holding v taken x) x) → IfSome found (λ x. IsNext v taken x) → IfSome found (λ _. next ≡ taken + 1)
+    → IfNone found (w ≡ with_look v false) → IfNone found (next ≡ taken) → IsGathered next total w
+goes_on_by taken next total v w None old at listed more none same = grind arith
+goes_on_by taken next total v w (Some x) old at listed more none same =
+    goes_on taken next total v w x old at (next_listed taken v x old.all listed.listed) more
+
 -- The taken message was the first of those left.
-pub leaves : (taken next : ℕ) (v w : View Message) (x : ℕ × Message) → w ≡ freed_of (holding v taken x) x → get_elem? (whole v) taken ≡ some x
-    → next ≡ taken + 1 → items_of (drop taken (whole v)) ≡ (x.0, x.1.bytes.items) ∷ items_of (drop next (whole w))
+pub leaves : (taken next : ℕ) (v w : View (List ℕ)) (x : ℕ × List ℕ) → w ≡ freed_of (holding v taken x) x → get_elem? (whole v) taken ≡ some x
+    → next ≡ taken + 1 → drop taken (whole v) ≡ x ∷ drop next (whole w)
 leaves taken next v w x is at more =
     let suc_is : suc taken ≡ next = omega arith in
     grind (arith, drop_at)

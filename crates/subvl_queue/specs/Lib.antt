@@ -1,4 +1,5 @@
 pub mod Messages
 pub mod Queue
+pub mod Room
 pub mod Steps
 pub mod Views

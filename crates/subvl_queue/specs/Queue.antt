@@ -104,22 +104,6 @@ module _ {T : Type 0} where
   abbrev pub budget : View T → ℕ
   budget v = budget_of v.asks v.made v.role
 
-  module _ (freed : ℕ) (log : List (ℕ × T)) (homes : List (maybe.Option (Option (ℕ × T)))) (i p : ℕ) where
-    abbrev pub InPhase : Phase → Type 0
-    InPhase free = (length log ≤ p) × (get_elem? homes i ≡ some (some None))
-    InPhase (writing j) = (freed ≤ p) × (p < length log)
-    InPhase full = (freed ≤ p) × (p < length log)
-        × ((x : ℕ × T) × (get_elem? log p ≡ some x) × (get_elem? homes i ≡ some (some (Some x))))
-    InPhase (reading j) = (p ≡ freed) × (p < length log) × (j ≡ 0)
-
-  pub record CellOk (n freed : ℕ) (log : List (ℕ × T)) (words : List ℕ) (homes : List (maybe.Option (Option (ℕ × T))))
-      (i : ℕ) (c : Cell) : Type 0 where
-    pub shows : slice_index_or words (i + 2) 0 ≡ shown n c.0 c.1
-    pub lies : c.0 % n ≡ i
-    pub early : c.0 < freed + n
-    pub late : length log ≤ c.0 + n
-    pub phase : InPhase freed log homes i c.0 c.1
-
   -- the slot that a seat holds, of the place `at`, with the item accepted there
   abbrev pub Has : List (ℕ × T) → Cell → Phase → ℕ → Option (ℕ × T) → Type 0
   Has log c phase at item = (c ≡ (at, phase)) × ((x : ℕ × T) × (item ≡ Some x) × (get_elem? log at ≡ some x))
@@ -152,8 +136,31 @@ module _ {T : Type 0} where
   abbrev pub Collects : Bool → List (ℕ × T) → List (View T) → View T → Type 0
   Collects closed log views u = Totals closed (length log) u.total × Joined log views u.joined × Whole log views u.all
 
+-- each message of the list is good
+abbrev pub AreGood : {T : Type 0} → (T → Type 0) → List (ℕ × T) → Type 0
+AreGood {T} Good l = (p : ℕ) (x : ℕ × T) → get_elem? l p ≡ some x → Good x.1
+
+-- `boxed` is what a slot at home holds, with an item or without
+module _ {T S : Type 0} (boxed : Option (ℕ × T) → S) where
+  module _ (freed : ℕ) (log : List (ℕ × T)) (homes : List (maybe.Option S)) (i p : ℕ) where
+    abbrev pub InPhase : Phase → Type 0
+    InPhase free = (length log ≤ p) × (get_elem? homes i ≡ some (some (boxed None)))
+    InPhase (writing j) = (freed ≤ p) × (p < length log)
+    InPhase full = (freed ≤ p) × (p < length log)
+        × ((x : ℕ × T) × (get_elem? log p ≡ some x) × (get_elem? homes i ≡ some (some (boxed (Some x)))))
+    InPhase (reading j) = (p ≡ freed) × (p < length log) × (j ≡ 0)
+
+  pub record CellOk (n freed : ℕ) (log : List (ℕ × T)) (words : List ℕ) (homes : List (maybe.Option S))
+      (i : ℕ) (c : Cell) : Type 0 where
+    pub shows : slice_index_or words (i + 2) 0 ≡ shown n c.0 c.1
+    pub lies : c.0 % n ≡ i
+    pub early : c.0 < freed + n
+    pub late : length log ≤ c.0 + n
+    pub phase : InPhase freed log homes i c.0 c.1
+
+module _ {T S : Type 0} (boxed : Option (ℕ × T) → S) (Good : T → Type 0) where
   -- the part of the rule that names no seat
-  pub record Slots (words : List ℕ) (homes : List (maybe.Option (Option (ℕ × T)))) : Type 0 where
+  pub record Slots (words : List ℕ) (homes : List (maybe.Option S)) : Type 0 where
     pub log : List (ℕ × T)
     pub freed : ℕ
     -- the number of places drawn after the close
@@ -166,9 +173,10 @@ module _ {T : Type 0} where
     pub behind : freed ≤ length log
     pub tail_is : slice_index_or words 1 0 ≡ length log + late + shut_bit closed
     pub none_late : closed ≡ false → late ≡ 0
-    pub each_cell : (i : ℕ) → i < length homes → CellOk (length homes) freed log words homes i (cells i)
+    pub each_cell : (i : ℕ) → i < length homes → CellOk boxed (length homes) freed log words homes i (cells i)
+    pub good : AreGood Good log
 
-  pub record Queue (s : State (Option (ℕ × T)) (View T)) : Type 0 where
+  pub record Queue (s : State S (View T)) : Type 0 where
     pub slots : Slots s.words s.homes
     pub open slots use *
     pub few_seats : length s.views ≤ 65
@@ -188,12 +196,12 @@ module _ {T : Type 0} where
         (v : View T) × (get_elem? s.views j ≡ some v) × Busy v.stage × (v.at ≡ (cells i).0)
 
 -- the seat belongs to this table
-abbrev pub IsAtTable : {T : Type 0} → TableId → Seat (Option (ℕ × T)) (View T) → Type 0
+abbrev pub IsAtTable : {T S : Type 0} → TableId → Seat S (View T) → Type 0
 IsAtTable z seat = seat.table_id ≡ z
 
 -- the seat belongs to this table, in this role, between calls: it holds no slot, and no slot
 -- request is under way
-abbrev pub RestsAs : {T : Type 0} → TableId → Role → Seat (Option (ℕ × T)) (View T) → Type 0
+abbrev pub RestsAs : {T S : Type 0} → TableId → Role → Seat S (View T) → Type 0
 RestsAs z role seat = IsAtTable z seat × (seat.me.1 ≡ []) × (seat.me.0.role ≡ role) × (seat.me.0.stage ≡ Idle)
 
 -- the slot of a place, of so many slots

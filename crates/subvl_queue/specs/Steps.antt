@@ -3,7 +3,7 @@ use Rattle.std.specs.Prelude.{◌≡◌, ◌≢◌, ℕ, suc, ◌+◌, ◌%◌, 
 use mathlib.Core.Option.{some}
 use lib.ListN.{get_elem?}
 use Rattle.atomic_table.specs.Table.{Me, Step}
-use Rattle.subvl_queue.specs.Queue.{owned}
+use Rattle.subvl_queue.specs.Queue.{owned, AreGood}
 use Rattle.subvl_queue.specs.declared.rule.View.{View}
 use Rattle.subvl_queue.specs.declared.refused.Why.{Why}
 use Rattle.subvl_queue.specs.declared.refused.Why.TheVariants.{Closed, Exhausted, Full}
@@ -12,8 +12,8 @@ use Rattle.subvl_queue.specs.declared.rule.Role.TheVariants.{Sender, Receiver, S
 use Rattle.subvl_queue.specs.declared.rule.Stage.{Stage}
 use Rattle.subvl_queue.specs.declared.rule.Stage.TheVariants.{Idle, Asked, Refused, Drew, Late, Holding}
 
-abbrev pub Seated : Type 0 → Type 0
-Seated T = Me (Option (ℕ × T)) (View T)
+abbrev pub Seated : (T S : Type 0) → Type 0
+Seated T S = Me S (View T)
 
 module _ {T : Type 0} where
   -- a seat in this role, with this port, before its first step
@@ -86,24 +86,6 @@ module _ {T : Type 0} where
   abbrev pub freed_of : View T → ℕ × T → View T
   freed_of v x = record v { stage = Idle; taken = v.taken ++ x ∷ [] }
 
-  -- A slot request reads 2 ^ 32 and the capacity, less the held messages and the slot requests under way; `load` is
-  -- the number of these. It finds room exactly if the word read is over 2 ^ 32.
-  abbrev pub reserves : Step (Option (ℕ × T)) → Seated T → ℕ → Seated T → Type 0
-  reserves st m r m' = (m'.1 ≡ m.1) × (r + m'.0.load ≡ 2 ^ 32 + st.slots)
-      × (2 ^ 32 < r → m'.0 ≡ with_ask m.0 Asked m'.0.load) × (r ≤ 2 ^ 32 → m'.0 ≡ with_ask m.0 Refused m'.0.load)
-
-  abbrev pub unreserves : Step (Option (ℕ × T)) → Seated T → ℕ → Seated T → Type 0
-  unreserves st m r m' = (m'.1 ≡ m.1) × (m'.0 ≡ idle m.0)
-
-  -- bit 63 of the word read says that the queue is closed
-  abbrev pub claims : Option (ℕ × T) → Step (Option (ℕ × T)) → Seated T → ℕ → Seated T → Type 0
-  claims said st m r m' =
-      (r < 2 ^ 63 → (x : ℕ × T) × (said ≡ Some x) × (m'.0 ≡ drawn m.0 r x) × (m'.1 ≡ (r % st.slots, None) ∷ []))
-      × (2 ^ 63 ≤ r → (m'.0 ≡ lated m.0) × (m'.1 ≡ []))
-
-  abbrev pub publishes : Step (Option (ℕ × T)) → Seated T → ℕ → Seated T → Type 0
-  publishes st m r m' = (m'.1 ≡ []) × (m'.0 ≡ idle m.0)
-
   -- the message x is at place p, the next after those taken
   pub record IsNext (v : View T) (p : ℕ) (x : ℕ × T) : Type 0 where
     pub few : p < 2 ^ 46
@@ -112,28 +94,8 @@ module _ {T : Type 0} where
     pub below : IfSome v.total (λ t. p < t)
     pub listed : IfSome v.all (λ l. (p < length l) × (get_elem? l p ≡ some x))
 
-  -- the message x is ready at place p, and its slot is taken
-  abbrev pub Finds : (slots p : ℕ) → Seated T → Seated T → ℕ × T → Type 0
-  Finds slots p m m' x = IsNext m.0 p x × (m' ≡ (holding m.0 p x, (p % slots, Some x) ∷ []))
-
-  -- nothing is ready at place p
-  abbrev pub Misses : ℕ → Seated T → Seated T → Type 0
-  Misses p m m' = (m' ≡ (with_look m.0 false, [])) × IfSome m.0.all (λ l. length l ≤ p)
-
-  abbrev pub finds_ready : ℕ → Step (Option (ℕ × T)) → Seated T → ℕ → Seated T → Type 0
-  finds_ready p st m r m' = (r ≡ suc p → (x : ℕ × T) × Finds st.slots p m m' x) × (r ≢ suc p → Misses p m m')
-
-  abbrev pub takes_out : Step (Option (ℕ × T)) → Seated T → ℕ → Seated T → Type 0
-  takes_out st m r m' = (m'.1 ≡ []) × ((x : ℕ × T) × (m.0.item ≡ Some x) × (m'.0 ≡ freed_of m.0 x))
-
-  abbrev pub finds_closed : Step (Option (ℕ × T)) → Seated T → ℕ → Seated T → Type 0
-  finds_closed st m r m' = (m'.1 ≡ m.1) × (r < 2 ^ 63 → m'.0 ≡ with_glance m.0 false) × (2 ^ 63 ≤ r → m'.0 ≡ with_glance m.0 true)
-
-  abbrev pub closes : Step (Option (ℕ × T)) → Seated T → ℕ → Seated T → Type 0
-  closes st m r m' = (m'.1 ≡ m.1) × (r < 2 ^ 63) × (length m.0.taken ≤ r) × (m'.0 ≡ with_total m.0 r)
-
   -- once every sender has joined, l is the list of all accepted messages, in agreement with the receiver's view
-  pub record IsLog (slots : ℕ) (v : View T) (l : List (ℕ × T)) : Type 0 where
+  pub record IsLog (Good : T → Type 0) (slots : ℕ) (v : View T) (l : List (ℕ × T)) : Type 0 where
     pub begins : v.taken ≡ take (length v.taken) l
     pub behind : length v.taken ≤ length l
     pub within : length l ≤ length v.taken + slots
@@ -141,11 +103,7 @@ module _ {T : Type 0} where
     pub parts : (i k : ℕ) (own : List (ℕ × T)) → get_elem? v.joined i ≡ some (k, own) → own ≡ owned k 0 l
     pub no_more : (k : ℕ) → v.made ≤ k → owned k 0 l ≡ []
     pub total_is : (t : ℕ) → v.total ≡ Some t → t ≡ length l
-
-  -- the receiver gets the log; if the queue was open, the word read is its length
-  abbrev pub gathers : Step (Option (ℕ × T)) → Seated T → ℕ → Seated T → Type 0
-  gathers st m r m' = (m'.1 ≡ m.1)
-      × ((l : List (ℕ × T)) × (m'.0 ≡ with_all m.0 l) × IsLog st.slots m.0 l × (m.0.total ≡ None → r ≡ length l))
+    pub good : AreGood Good l
 
   -- the view after a slot request that found room
   abbrev pub asked_with_room : View T → ℕ → View T
@@ -157,3 +115,48 @@ module _ {T : Type 0} where
       ⊎ ((v.asks < calls) × (w.load < capacity) × (w ≡ idle (lated (asked_with_room v w.load))))
   RefusedBy calls capacity v w Exhausted = (w ≡ with_glance v false) × (v.asks ≡ calls)
   RefusedBy calls capacity v w Full = (v.asks < calls) × (capacity ≤ w.load) × (w ≡ idle (with_ask (with_glance v false) Refused w.load))
+
+-- The outcome of each step. `boxed` is what a slot at home holds, with an item or without.
+module _ {T S : Type 0} where
+  -- A slot request reads 2 ^ 32 and the capacity, less the held messages and the slot requests under way; `load` is
+  -- the number of these. It finds room exactly if the word read is over 2 ^ 32.
+  abbrev pub reserves : Step S → Seated T S → ℕ → Seated T S → Type 0
+  reserves st m r m' = (m'.1 ≡ m.1) × (r + m'.0.load ≡ 2 ^ 32 + st.slots)
+      × (2 ^ 32 < r → m'.0 ≡ with_ask m.0 Asked m'.0.load) × (r ≤ 2 ^ 32 → m'.0 ≡ with_ask m.0 Refused m'.0.load)
+
+  abbrev pub unreserves : Step S → Seated T S → ℕ → Seated T S → Type 0
+  unreserves st m r m' = (m'.1 ≡ m.1) × (m'.0 ≡ idle m.0)
+
+  -- bit 63 of the word read says that the queue is closed
+  abbrev pub claims : (Option (ℕ × T) → S) → Option (ℕ × T) → Step S → Seated T S → ℕ → Seated T S → Type 0
+  claims boxed said st m r m' =
+      (r < 2 ^ 63 → (x : ℕ × T) × (said ≡ Some x) × (m'.0 ≡ drawn m.0 r x) × (m'.1 ≡ (r % st.slots, boxed None) ∷ []))
+      × (2 ^ 63 ≤ r → (m'.0 ≡ lated m.0) × (m'.1 ≡ []))
+
+  abbrev pub publishes : Step S → Seated T S → ℕ → Seated T S → Type 0
+  publishes st m r m' = (m'.1 ≡ []) × (m'.0 ≡ idle m.0)
+
+  -- the message x is ready at place p, and its slot is taken
+  abbrev pub Finds : (Option (ℕ × T) → S) → (T → Type 0) → (slots p : ℕ) → Seated T S → Seated T S → ℕ × T → Type 0
+  Finds boxed Good slots p m m' x = IsNext m.0 p x × Good x.1 × (m' ≡ (holding m.0 p x, (p % slots, boxed (Some x)) ∷ []))
+
+  -- nothing is ready at place p
+  abbrev pub Misses : ℕ → Seated T S → Seated T S → Type 0
+  Misses p m m' = (m' ≡ (with_look m.0 false, [])) × IfSome m.0.all (λ l. length l ≤ p)
+
+  abbrev pub finds_ready : (Option (ℕ × T) → S) → (T → Type 0) → ℕ → Step S → Seated T S → ℕ → Seated T S → Type 0
+  finds_ready boxed Good p st m r m' = (r ≡ suc p → (x : ℕ × T) × Finds boxed Good st.slots p m m' x) × (r ≢ suc p → Misses p m m')
+
+  abbrev pub takes_out : Step S → Seated T S → ℕ → Seated T S → Type 0
+  takes_out st m r m' = (m'.1 ≡ []) × ((x : ℕ × T) × (m.0.item ≡ Some x) × (m'.0 ≡ freed_of m.0 x))
+
+  abbrev pub finds_closed : Step S → Seated T S → ℕ → Seated T S → Type 0
+  finds_closed st m r m' = (m'.1 ≡ m.1) × (r < 2 ^ 63 → m'.0 ≡ with_glance m.0 false) × (2 ^ 63 ≤ r → m'.0 ≡ with_glance m.0 true)
+
+  abbrev pub closes : Step S → Seated T S → ℕ → Seated T S → Type 0
+  closes st m r m' = (m'.1 ≡ m.1) × (r < 2 ^ 63) × (length m.0.taken ≤ r) × (m'.0 ≡ with_total m.0 r)
+
+  -- the receiver gets the log; if the queue was open, the word read is its length
+  abbrev pub gathers : (T → Type 0) → Step S → Seated T S → ℕ → Seated T S → Type 0
+  gathers Good st m r m' = (m'.1 ≡ m.1)
+      × ((l : List (ℕ × T)) × (m'.0 ≡ with_all m.0 l) × IsLog Good st.slots m.0 l × (m.0.total ≡ None → r ≡ length l))

@@ -4,20 +4,21 @@ use Rattle.atomic_table.specs.Seated.{TableId}
 use Rattle.subvl_queue.specs.declared.refused.Why.{Why}
 use Rattle.subvl_queue.specs.declared.refused.Why.TheVariants.{Closed, Exhausted, Full}
 use Rattle.subvl_queue.specs.Messages.{IsMessage, part_of}
-use Rattle.subvl_queue.specs.declared.item.Message.{Message}
+use Rattle.subvl_queue.specs.Queue.{AreGood}
 use Rattle.subvl_queue.specs.declared.rule.View.{View}
 
 -- the identity of a queue; callers only compare it
 abbrev pub QueueName : Type 0
 QueueName = TableId
 
--- A sender. `asks` is the number of its slot requests, at most `calls`; `load` is the number of
--- held messages and slot requests under way that the last one found. `glances` is how often it
--- checked whether the queue is closed, and `shut` what it found last. `own` has its accepted
--- messages in order, and `places` their places among all accepted messages.
+-- A sender. `most` is the greatest length of a message. `asks` is the number of its slot requests, at most `calls`;
+-- `load` is the number of held messages and slot requests under way that the last one found. `glances` is how often it
+-- checked whether the queue is closed, and `shut` what it found last. `own` has its accepted messages in order, and
+-- `places` their places among all accepted messages.
 pub record SenderView : Type 0 where
   pub queue : QueueName
   pub capacity : ℕ
+  pub most : ℕ
   pub port : ℕ
   pub calls : ℕ
   pub asks : ℕ
@@ -33,12 +34,14 @@ pub record Brought : Type 0 where
   pub own : List (List ℕ)
   pub places : List ℕ
 
--- A receiver. `ports` is the number of its queue's senders; `looks` is how often it polled the queue, and `found`
--- whether the last poll found a message. `taken` has the messages taken, in order, `total` the number of accepted
--- messages once the queue is closed, and `back` what the senders brought that were taken back.
+-- A receiver. `most` is the greatest length of a message, and `ports` the number of its queue's senders. `looks` is how
+-- often it polled the queue, and `found` whether the last poll found a message. `taken` has the messages taken, in
+-- order, `total` the number of accepted messages once the queue is closed, and `back` what the senders brought that
+-- were taken back.
 pub record ReceiverView : Type 0 where
   pub queue : QueueName
   pub capacity : ℕ
+  pub most : ℕ
   pub ports : ℕ
   pub looks : ℕ
   pub found : Bool
@@ -46,17 +49,20 @@ pub record ReceiverView : Type 0 where
   pub total : Option ℕ
   pub back : List Brought
 
--- all ends together: the messages taken, and those accepted and not taken yet
+-- all ends together: the greatest length of a message, the number of senders, the messages taken, and those accepted
+-- and not taken yet
 pub record GatheredView : Type 0 where
+  pub most : ℕ
   pub ports : ℕ
   pub taken : List (ℕ × List ℕ)
   pub left : List (ℕ × List ℕ)
 
 -- a sender before its first slot request
-abbrev pub new_sender : (queue : QueueName) (capacity calls port : ℕ) → SenderView
-new_sender queue capacity calls port = record {
+abbrev pub new_sender : (queue : QueueName) (capacity most calls port : ℕ) → SenderView
+new_sender queue capacity most calls port = record {
   queue = queue;
   capacity = capacity;
+  most = most;
   port = port;
   calls = calls;
   asks = 0;
@@ -68,10 +74,11 @@ new_sender queue capacity calls port = record {
 }
 
 -- a receiver before its first poll
-abbrev pub new_receiver : (queue : QueueName) (capacity ports : ℕ) → ReceiverView
-new_receiver queue capacity ports = record {
+abbrev pub new_receiver : (queue : QueueName) (capacity most ports : ℕ) → ReceiverView
+new_receiver queue capacity most ports = record {
   queue = queue;
   capacity = capacity;
+  most = most;
   ports = ports;
   looks = 0;
   found = false;
@@ -188,24 +195,20 @@ TellsLeft true left = left ≡ []
 TellsLeft false [] = ⊥
 TellsLeft false (item ∷ items) = IsMessage item.1
 
--- each message as its port and its bytes
-abbrev pub items_of : List (ℕ × Message) → List (ℕ × List ℕ)
-items_of = map (λ x. (x.0, x.1.bytes.items))
-
 -- the messages of a sender's list, without their places
-abbrev pub own_of : List (ℕ × Message) → List (List ℕ)
-own_of = map (λ x. x.1.bytes.items)
+abbrev pub own_of : List (ℕ × List ℕ) → List (List ℕ)
+own_of = map (λ x. x.1)
 
 -- the places of a sender's list
-abbrev pub places_of : List (ℕ × Message) → List ℕ
+abbrev pub places_of : List (ℕ × List ℕ) → List ℕ
 places_of = map (λ x. x.0)
 
 -- what a sender brought, by its joined list
-abbrev pub brought_of : ℕ × List (ℕ × Message) → Brought
+abbrev pub brought_of : ℕ × List (ℕ × List ℕ) → Brought
 brought_of b = record { port = b.0; own = own_of b.1; places = places_of b.1 }
 
 -- what the joined senders brought
-abbrev pub brought_back : View Message → List Brought
+abbrev pub brought_back : View (List ℕ) → List Brought
 brought_back v = map brought_of v.joined
 
 -- the gathered list, if there is one
@@ -217,10 +220,11 @@ abbrev pub whole : {T : Type 0} → View T → List (ℕ × T)
 whole v = listed v.all
 
 -- with all ends together, the messages taken are the beginning of all accepted messages
-pub record IsGathered {T : Type 0} (taken total : ℕ) (knows : View T) : Type 0 where
+pub record IsGathered (taken total : ℕ) (knows : View (List ℕ)) : Type 0 where
   pub all : knows.all ≡ Some (whole knows)
   pub begins : knows.taken ≡ take taken (whole knows)
   pub counted : taken ≡ length knows.taken
   pub total_is : total ≡ length (whole knows)
   pub behind : taken ≤ total
   pub few : total ≤ 2 ^ 46
+  pub good : AreGood IsMessage (whole knows)

@@ -1,13 +1,14 @@
 //! All ends of a queue together.
-ghost use Rattle.std.specs.Prelude.{◌≡◌, ◌^◌, ◌<◌, ◌≤◌, [], ◌∷◌, ◌++◌, take, drop, length, Some, IfSome, IfNone};
+ghost use Rattle.std.specs.Prelude.{◌≡◌, ◌^◌, ◌<◌, ◌≤◌, [], ◌∷◌, ◌++◌, take, drop, length, None, IfSome, IfNone, is_some};
 ghost use Rattle.subvl_queue.specs.declared.rule.Role.TheVariants.{Receiver as AsReceiver};
 ghost use Rattle.subvl_queue.specs.Messages.{IsMessage};
 ghost use Rattle.subvl_queue.specs.Queue.{RestsAs};
-ghost use Rattle.subvl_queue.specs.Views.{items_of, IsGathered, whole, TellsLeft};
+ghost use Rattle.subvl_queue.specs.Room.{room_with};
+ghost use Rattle.subvl_queue.specs.Views.{IsGathered, whole, TellsLeft};
 
-use crate::item::Item;
 use crate::receiver::fetch;
 use crate::ring::{Knowing, Ring};
+use crate::room::Room;
 use std::marker::Model;
 use std::sync::Arc;
 
@@ -21,20 +22,23 @@ pub struct Gathered {
     // The slot of the next place.
     pub(crate) slot: usize,
     pub(crate) total: u64,
+    // The senders' rooms.
+    pub(crate) _spares: Vec<Room>,
 }
 
 impl Model for Gathered {
     ghost use Rattle.std.specs.Prelude.{drop};
     ghost use Rattle.subvl_queue.specs.declared.rule.Role.TheVariants.{Receiver as AsReceiver};
     ghost use Rattle.subvl_queue.specs.Queue.{RestsAs, IsSlotOf};
-    ghost use Rattle.subvl_queue.specs.Views.{items_of, IsGathered, whole, GatheredView};
+    ghost use Rattle.subvl_queue.specs.Views.{IsGathered, whole, GatheredView};
 
     ghost Value = { GatheredView };
 
     ghost view = { λ g. record {
+      most = g.ring.value.most;
       ports = g.seat.me.0.made;
-      taken = items_of g.seat.me.0.taken;
-      left = items_of (drop g.taken (whole g.seat.me.0));
+      taken = g.seat.me.0.taken;
+      left = drop g.taken (whole g.seat.me.0);
     } };
 
     ghost invariant = { λ g. RestsAs g.ring.value.table.shared.table_id AsReceiver g.seat
@@ -42,23 +46,29 @@ impl Model for Gathered {
 }
 
 impl Gathered {
-    /// Takes the next accepted message, or returns `None` exactly if all were taken.
+    /// Exchanges an empty room for the one with the next accepted message, or changes nothing exactly if all were
+    /// taken. Returns whether there was a message.
     #[tactic(auto, using(crate::proofs::Senders::leaves))]
-    pub fn take(&mut self) -> Option<Item>
-        ensures none { IfNone result (self.old.left ≡ []) }
-        ensures unchanged { IfNone result (self.new ≡ self.old) }
-        ensures some { IfSome result (λ item. self.old.left ≡ item ∷ self.new.left) }
-        ensures taken { IfSome result (λ item. self.new.taken ≡ self.old.taken ++ item ∷ []) }
-        ensures ports { self.new.ports ≡ self.old.ports }
-        ensures port { IfSome result (λ item. item.0 < self.old.ports) }
-        ensures message { IfSome result (λ item. IsMessage item.1) }
+    pub fn take(&mut self, room: &mut Room) -> bool
+        requires empty { room.old ≡ room_with self.old.most None }
+        ensures most { room.new.most ≡ self.old.most }
+        ensures told { result ≡ is_some room.new.item }
+        ensures none { IfNone room.new.item (self.old.left ≡ []) }
+        ensures unchanged { IfNone room.new.item (self.new ≡ self.old) }
+        ensures some { IfSome room.new.item (λ item. self.old.left ≡ item ∷ self.new.left) }
+        ensures taken { IfSome room.new.item (λ item. self.new.taken ≡ self.old.taken ++ item ∷ []) }
+        ensures same { (self.new.most ≡ self.old.most) × (self.new.ports ≡ self.old.ports) }
+        ensures port { IfSome room.new.item (λ item. item.0 < self.old.ports) }
+        ensures message { IfSome room.new.item (λ item. IsMessage item.1) }
         ensures few { length self.new.taken ≤ 2 ^ 46 }
     {
-        let (port, message) = fetch(&self.ring, &mut self.seat, &mut self.taken, &mut self.slot)?;
-        Some(Item {
-            port: port as u8,
-            bytes: message.bytes,
-        })
+        fetch(
+            &self.ring,
+            &mut self.seat,
+            &mut self.taken,
+            &mut self.slot,
+            room,
+        )
     }
 
     /// Whether all accepted messages were taken.

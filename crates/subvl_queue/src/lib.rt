@@ -4,17 +4,17 @@
 
 mod gathered;
 mod gathering;
-mod item;
 mod making;
 mod receiver;
 mod refused;
 mod ring;
+mod room;
 mod rule;
 mod sender;
 
 pub use gathered::Gathered;
-pub use item::Item;
 pub use making::{make, open_queue};
 pub use receiver::Receiver;
-pub use refused::{Refused, Why};
+pub use refused::Why;
+pub use room::Room;
 pub use sender::Sender;

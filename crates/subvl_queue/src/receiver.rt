@@ -1,44 +1,62 @@
 //! The receiving end of a queue.
-ghost use Rattle.std.specs.Prelude.{◌≡◌, ◌+◌, ◌^◌, ◌<◌, ◌≤◌, [], length, IfOk, IfErr, IfSome, IfNone, None, Some, false};
+ghost use Rattle.std.specs.Prelude.{◌≡◌, ◌+◌, ◌^◌, ◌<◌, ◌≤◌, [], length, IfOk, IfErr, IfSome, IfNone, None, false, is_some};
 ghost use Rattle.subvl_queue.specs.declared.rule.Role.TheVariants.{Receiver as AsReceiver};
 ghost use Rattle.subvl_queue.specs.Messages.{IsMessage, AreItems};
+ghost use Rattle.subvl_queue.specs.Room.{room_with};
 ghost use Rattle.subvl_queue.specs.Queue.{IsAtTable, RestsAs, IsSlotOf};
 ghost use Rattle.subvl_queue.specs.Steps.{IsNext, with_look, freed_of, holding};
 ghost use Rattle.subvl_queue.specs.Views.{new_receiver, new_sender, one_more, after_take, looked, closed, taken_back, accepted_of, brought_by_all, AreBack, LacksOne, AreOf, IsWhole};
 
 use crate::gathered::Gathered;
 use crate::gathering::{has_every, take_all_back};
-use crate::item::Item;
-use crate::ring::{Knowing, Parcel, Ring};
+use crate::ring::{Knowing, Ring};
+use crate::room::Room;
 use crate::sender::Sender;
-use std::alloc::AllocError;
-use std::marker::Model;
+use std::alloc::{AllocError, Global};
+use std::marker::{Brand, Model};
 use std::sync::Arc;
 
 /// The steps of one take.
 #[tactic(auto, using(std::proofs::Common::arith))]
-pub fn fetch(ring: &Ring, seat: &mut Knowing, taken: &mut u64, slot: &mut usize) -> Option<Parcel>
+pub fn fetch(
+    ring: &Ring,
+    seat: &mut Knowing,
+    taken: &mut u64,
+    slot: &mut usize,
+    room: &mut Room,
+) -> bool
     requires seat { RestsAs ring.now.table.shared.table_id AsReceiver seat.old }
     requires taken { (taken.old ≡ length seat.old.me.0.taken) × (taken.old ≤ 2 ^ 46) }
     requires slot { IsSlotOf ring.now.capacity taken.old slot.old }
+    requires room { room.old ≡ room_with ring.now.most None }
     ensures seat { IsAtTable ring.now.table.shared.table_id seat.new × (seat.new.me.1 ≡ []) }
-    ensures some { IfSome result
+    ensures told { result ≡ is_some room.new.item }
+    ensures most { room.new.most ≡ ring.now.most }
+    ensures some { IfSome room.new.item
         (λ x. seat.new.me.0 ≡ freed_of (holding seat.old.me.0 taken.old x) x) }
-    ensures next { IfSome result (λ x. IsNext seat.old.me.0 taken.old x) }
-    ensures counted { IfSome result (λ _. taken.new ≡ taken.old + 1) }
-    ensures none { IfNone result (seat.new.me.0 ≡ with_look seat.old.me.0 false) }
-    ensures unchanged { IfNone result (taken.new ≡ taken.old) }
-    ensures ended { IfNone result (IfSome seat.old.me.0.all (λ l. length l ≤ taken.old)) }
+    ensures next { IfSome room.new.item (λ x. IsNext seat.old.me.0 taken.old x) }
+    ensures message { IfSome room.new.item (λ x. IsMessage x.1) }
+    ensures counted { IfSome room.new.item (λ _. taken.new ≡ taken.old + 1) }
+    ensures none { IfNone room.new.item (seat.new.me.0 ≡ with_look seat.old.me.0 false) }
+    ensures unchanged { IfNone room.new.item (taken.new ≡ taken.old) }
+    ensures ended { IfNone room.new.item (IfSome seat.old.me.0.all (λ l. length l ≤ taken.old)) }
     ensures slot { IsSlotOf ring.now.capacity taken.new slot.new }
 {
     let place = *taken;
-    if !ring.is_ready(seat, place, *slot) {
-        return None;
+    if !ring.is_ready::<Brand>(seat, place, *slot) {
+        return false;
     }
-    let parcel = ring.take(seat, *slot);
+    ring.take(seat, *slot, room);
     *taken += 1;
     *slot = ring.slot_after(*slot);
-    Some(parcel)
+    true
+}
+
+// Keeps a room, in a list with room for those of the senders that the queue was opened for.
+fn keep(spares: &mut Vec<Room>, spare: Room) {
+    if spares.len() < spares.capacity() {
+        spares.push_reserved(spare);
+    }
 }
 
 /// The receiver of a queue. Contracts see its queue with its capacity, the number of senders, how
@@ -53,23 +71,26 @@ pub struct Receiver {
     pub(crate) slot: usize,
     pub(crate) ports: usize,
     pub(crate) total: Option<u64>,
+    // Of the senders that are back, so that taking one back frees nothing.
+    pub(crate) spares: Vec<Room>,
 }
 
 impl Model for Receiver {
     ghost use Rattle.std.specs.Prelude.{◌≡◌, ◌^◌, ◌≤◌, [], length, None, IfSome};
     ghost use Rattle.subvl_queue.specs.declared.rule.Role.TheVariants.{Receiver as AsReceiver};
     ghost use Rattle.subvl_queue.specs.Queue.{RestsAs, IsSlotOf};
-    ghost use Rattle.subvl_queue.specs.Views.{items_of, brought_back, ReceiverView};
+    ghost use Rattle.subvl_queue.specs.Views.{brought_back, ReceiverView};
 
     ghost Value = { ReceiverView };
 
     ghost view = { λ r. record {
       queue = r.seat.table_id;
       capacity = r.ring.value.capacity;
+      most = r.ring.value.most;
       ports = r.ports;
       looks = r.seat.me.0.looks;
       found = r.seat.me.0.found;
-      taken = items_of r.seat.me.0.taken;
+      taken = r.seat.me.0.taken;
       total = r.total;
       back = brought_back r.seat.me.0;
     } };
@@ -85,15 +106,16 @@ impl Receiver {
     /// queue has at most 64 senders, and makes none once one was taken back. If an allocation
     /// fails, nothing changes.
     #[tactic(auto, using(crate::proofs::Senders::none_joined))]
-    pub fn new_sender(&mut self, calls: u64) -> Result<Sender, AllocError>
+    pub fn new_sender(&mut self, alloc: Global, calls: u64) -> Result<Sender, AllocError>
         requires few { self.old.ports < 64 }
         requires none_back { self.old.back ≡ [] }
         requires calls { calls ≤ 2 ^ 40 }
         ensures sender { IfOk result (λ sender. sender ≡
-            new_sender self.old.queue self.old.capacity calls self.old.ports) }
+            new_sender self.old.queue self.old.capacity self.old.most calls self.old.ports) }
         ensures one_more { IfOk result (λ _. self.new ≡ one_more self.old) }
         ensures unchanged { IfErr result (λ _. self.new ≡ self.old) }
     {
+        let spare = Room::new(alloc, self.ring.most)?;
         let ring = Arc::try_clone(&self.ring)?;
         let seat = self.ring.make_sender(&mut self.seat);
         let port = self.ports as u8;
@@ -107,23 +129,30 @@ impl Receiver {
             accepted: 0,
             place: 0,
             slot: 0,
+            spare,
         })
     }
 
-    /// Takes the message of the next place, if it is ready. Counts as a poll either way.
-    pub fn take(&mut self) -> Option<Item>
-        ensures none { IfNone result (self.new ≡ looked self.old) }
-        ensures some { IfSome result (λ item. self.new ≡ after_take self.old item) }
-        ensures port { IfSome result (λ item. item.0 < self.old.ports) }
-        ensures message { IfSome result (λ item. IsMessage item.1) }
+    /// Exchanges an empty room for the one with the message of the next place, if it is ready. Counts as a poll either
+    /// way. Returns whether there was a message.
+    pub fn take(&mut self, room: &mut Room) -> bool
+        requires empty { room.old ≡ room_with self.old.most None }
+        ensures most { room.new.most ≡ self.old.most }
+        ensures told { result ≡ is_some room.new.item }
+        ensures none { IfNone room.new.item (self.new ≡ looked self.old) }
+        ensures some { IfSome room.new.item (λ item. self.new ≡ after_take self.old item) }
+        ensures port { IfSome room.new.item (λ item. item.0 < self.old.ports) }
+        ensures message { IfSome room.new.item (λ item. IsMessage item.1) }
         ensures few { length self.new.taken ≤ 2 ^ 46 }
         ensures within { IfSome self.old.total (λ t. length self.new.taken ≤ t) }
     {
-        let (port, message) = fetch(&self.ring, &mut self.seat, &mut self.taken, &mut self.slot)?;
-        Some(Item {
-            port: port as u8,
-            bytes: message.bytes,
-        })
+        fetch(
+            &self.ring,
+            &mut self.seat,
+            &mut self.taken,
+            &mut self.slot,
+            room,
+        )
     }
 
     /// Closes the queue, and returns the number of accepted messages. No message is accepted from
@@ -148,12 +177,14 @@ impl Receiver {
         ensures { self.new ≡ taken_back self.old sender }
     {
         self.ring.take_in(&mut self.seat, sender.seat);
+        keep(&mut self.spares, sender.spare);
     }
 
     /// Brings all ends of the queue together, once each sender is back. From then on the accepted
     /// messages are known whole.
     pub fn into_gathered(self) -> Gathered
         requires every { AreBack self.ports self.back }
+        ensures most { result.most ≡ self.most }
         ensures taken { result.taken ≡ self.taken }
         ensures ports { result.ports ≡ self.ports }
         ensures whole { IsWhole self.ports self.back (accepted_of result) }
@@ -169,6 +200,7 @@ impl Receiver {
             taken,
             slot,
             total,
+            spares,
         } = self;
         let drawn = ring.gather(&mut seat);
         let total = match total {
@@ -181,6 +213,7 @@ impl Receiver {
             taken,
             slot,
             total,
+            _spares: spares,
         }
     }
 
@@ -188,6 +221,7 @@ impl Receiver {
     /// accepted messages are known whole. If a sender is missing, returns both unchanged.
     pub fn gather(self, senders: Vec<Sender>) -> Result<Gathered, (Receiver, Vec<Sender>)>
         requires together { AreOf self.queue senders.items }
+        ensures most { IfOk result (λ g. g.most ≡ self.most) }
         ensures taken { IfOk result (λ g. g.taken ≡ self.taken) }
         ensures ports { IfOk result (λ g. g.ports ≡ self.ports) }
         ensures whole { IfOk result (λ g.

@@ -15,10 +15,3 @@ pub enum Why {
     #[error("Full")]
     Full = 3,
 }
-
-/// A refused message, and why. The accepted messages are unchanged.
-#[derive(Debug, Drop)]
-pub struct Refused {
-    pub why: Why,
-    pub bytes: Vec<u8>,
-}

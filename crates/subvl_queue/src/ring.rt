@@ -4,16 +4,19 @@ ghost use mathlib.Core.Option.{some};
 ghost use lib.ListN.{get_elem?};
 ghost use Rattle.subvl_queue.specs.declared.rule.Role.TheVariants.{Sender, Receiver};
 ghost use Rattle.subvl_queue.specs.declared.rule.Stage.TheVariants.{Idle, Asked, Refused, Drew, Late, Holding};
+ghost use Rattle.subvl_queue.specs.Messages.{IsMessage, most_bytes};
+ghost use Rattle.subvl_queue.specs.Room.{room_with};
 ghost use Rattle.subvl_queue.specs.Queue.{IsAtTable, RestsAs, IsSlotOf};
 ghost use Rattle.subvl_queue.specs.Steps.{new_seat, Finds, Misses, IsLog, with_ask, idle, drawn, lated, with_glance, with_total, one_made, with_joined, with_all, freed_of};
 
-use crate::item::Message;
+use crate::room::Room;
 use crate::rule::{
-    Claim, Close, Gather, IsClosed, IsReady, Make, Publish, Reserve, Rule, Said, Take, TakeIn,
-    Unreserve, View,
+    Claim, Close, Gather, IsClosed, IsReady, Known, Make, Publish, Reserve, Rule, Said, Take,
+    TakeIn, Unreserve,
 };
 use atomic_table::{Seat, Table};
 use std::alloc::Global;
+use std::mem::swap;
 
 /// The index of the word of the room.
 pub const ROOM: usize = 0;
@@ -30,22 +33,19 @@ pub const NO_ROOM: u64 = 1 << 32;
 /// The bit of TAIL that says that the queue is closed.
 pub const CLOSED: u64 = 1 << 63;
 
-/// A message and the index of its sender, a whole word so that no move of it has odd bytes.
-pub type Parcel = (u64, Message);
-
-/// A slot of the table.
-pub type Slot = Option<Parcel>;
-
 /// A seat at the table, and what it knows.
-pub type Knowing = Seat<Slot, View<Message>>;
+pub type Knowing = Seat<Room, Known>;
 
 /// The table of a queue.
 #[derive(Drop)]
 pub struct Ring {
     // First, so that it is in the same line of the cache as the table's pointers.
     pub capacity: usize,
-    pub table: Table<Slot, View<Message>, (), Rule, Global>,
+    // How many bytes each slot has room for.
+    pub most: usize,
+    pub table: Table<Room, Known, usize, Rule, Global>,
     ghost sized: { (table.shared.table_id.words ≡ capacity + 2) × (table.shared.table_id.slots ≡ capacity) × (0 < capacity) },
+    ghost roomy: { (table.shared.key ≡ most) × (most ≤ most_bytes) },
 }
 
 impl Ring {
@@ -75,15 +75,24 @@ impl Ring {
         self.table.shared.fetch_add::<Unreserve>(seat, ROOM, 1);
     }
 
-    /// Claims a place for the parcel, which is accepted there unless the queue is closed. Its slot is
-    /// then the seat's.
-    pub fn claim<W: Said<Parcel>>(&self, seat: &mut Knowing, parcel: &Parcel) -> u64
-        requires said { (W.item ≡ Some parcel.now) × (parcel.now.0 ≡ seat.old.me.0.port) }
+    /// Claims a place for a port's message, which the room has and which is accepted there unless the
+    /// queue is closed. Its slot, which is empty, is then the seat's.
+    pub fn claim<W: Said>(
+        &self,
+        seat: &mut Knowing,
+        _room: &Room,
+        _port: usize,
+        _bytes: &[u8],
+    ) -> u64
+        requires copied { _room.now ≡ room_with self.now.most (Some (_port, _bytes.now)) }
+        requires said { (W.item ≡ Some (_port, _bytes.now)) × (_port ≡ seat.old.me.0.port) }
+        requires most { W.most ≡ self.now.most }
+        requires message { IsMessage _bytes.now }
         requires seat { IsAtTable self.now.table.shared.table_id seat.old × (seat.old.me.1 ≡ []) }
         requires view { (seat.old.me.0.role ≡ Sender) × (seat.old.me.0.stage ≡ Asked) }
         ensures seat { IsAtTable self.now.table.shared.table_id seat.new }
         ensures drawn { result < 2 ^ 63 → seat.new.me ≡
-            (drawn seat.old.me.0 result parcel.now, (result % self.now.capacity, None) ∷ []) }
+            (drawn seat.old.me.0 result (_port, _bytes.now), (result % self.now.capacity, room_with self.now.most None) ∷ []) }
         ensures late { 2 ^ 63 ≤ result → seat.new.me ≡ (lated seat.old.me.0, []) }
     {
         self.table.shared.fetch_add::<Claim<W>>(seat, TAIL, 1)
@@ -124,20 +133,19 @@ impl Ring {
         if slot + 1 < capacity { slot + 1 } else { 0 }
     }
 
-    /// Puts the parcel into the slot of its place, and publishes it.
-    pub fn publish(&self, seat: &mut Knowing, place: u64, slot: usize, parcel: Parcel)
+    /// Exchanges the empty room in the slot of the place for the one with its message, and publishes
+    /// the place.
+    pub fn publish(&self, seat: &mut Knowing, place: u64, slot: usize, spare: &mut Room)
         requires seat { IsAtTable self.now.table.shared.table_id seat.old × (place < 2 ^ 63) }
-        requires held { seat.old.me.1 ≡ (place % self.now.capacity, None) ∷ [] }
+        requires held { seat.old.me.1 ≡ (place % self.now.capacity, room_with self.now.most None) ∷ [] }
         requires slot { IsSlotOf self.now.capacity place slot }
         requires view { (seat.old.me.0.role ≡ Sender) × (seat.old.me.0.stage ≡ Drew) }
-        requires item { (seat.old.me.0.at ≡ place) × (seat.old.me.0.item ≡ Some parcel) }
+        requires item { (seat.old.me.0.at ≡ place) × (spare.old ≡ room_with self.now.most seat.old.me.0.item) }
         ensures seat { IsAtTable self.now.table.shared.table_id seat.new }
         ensures view { seat.new.me ≡ (idle seat.old.me.0, []) }
+        ensures room { spare.new ≡ room_with self.now.most None }
     {
-        match self.table.shared.exchange(seat, slot, Some(parcel)) {
-            None => {}
-            Some(_) => unreachable!(),
-        }
+        swap(seat.slot_mut(&self.table.shared, slot), spare);
         self.table
             .shared
             .store::<Publish>(seat, READY + slot, place + 1);
@@ -145,30 +153,32 @@ impl Ring {
 
     /// Whether the place after those taken is published. If so, its slot is then the seat's.
     #[tactic(auto, using(crate::proofs::Moves::finds_ready_ok))]
-    pub fn is_ready(&self, seat: &mut Knowing, place: u64, slot: usize) -> bool
+    pub fn is_ready<W: Said>(&self, seat: &mut Knowing, place: u64, slot: usize) -> bool
+        requires most { W.most ≡ self.now.most }
         requires seat { RestsAs self.now.table.shared.table_id Receiver seat.old }
         requires slot { (slot ≡ place % self.now.capacity) × (slot < self.now.capacity) }
         requires place { (place ≡ length seat.old.me.0.taken) × (place < 2 ^ 63) }
         ensures seat { IsAtTable self.now.table.shared.table_id seat.new }
-        ensures found { IsTrue result → (x : _) × Finds self.now.capacity place seat.old.me seat.new.me x }
+        ensures found { IsTrue result → (x : _) × Finds (room_with self.now.most) IsMessage self.now.capacity place seat.old.me seat.new.me x }
         ensures none { result ≡ false → Misses place seat.old.me seat.new.me }
     {
-        self.table.shared.load::<IsReady>(seat, READY + slot) == place + 1
+        self.table.shared.load::<IsReady<W>>(seat, READY + slot) == place + 1
     }
 
-    /// Takes the parcel out of the slot of the place, and gives the slot back.
-    pub fn take(&self, seat: &mut Knowing, slot: usize) -> Parcel
+    /// Exchanges the room in the slot of the place, which has a message, for one without, and gives
+    /// the slot back.
+    pub fn take(&self, seat: &mut Knowing, slot: usize, room: &mut Room)
         requires seat { IsAtTable self.now.table.shared.table_id seat.old }
-        requires slot { (x : _) × (seat.old.me.1 ≡ (slot, Some x) ∷ []) × (seat.old.me.0.item ≡ Some x) }
+        requires room { room.old ≡ room_with self.now.most None }
+        requires slot { (x : _) × (seat.old.me.1 ≡ (slot, room_with self.now.most (Some x)) ∷ []) × (seat.old.me.0.item ≡ Some x) }
         requires view { (seat.old.me.0.role ≡ Receiver) × (seat.old.me.0.stage ≡ Holding) }
         requires place { seat.old.me.0.at % self.now.capacity ≡ slot }
         ensures seat { IsAtTable self.now.table.shared.table_id seat.new }
-        ensures item { seat.old.me.0.item ≡ Some result }
-        ensures view { seat.new.me ≡ (freed_of seat.old.me.0 result, []) }
+        ensures room { room.new ≡ room_with self.now.most seat.old.me.0.item }
+        ensures view { (x : _) × (seat.old.me.0.item ≡ Some x) × (seat.new.me ≡ (freed_of seat.old.me.0 x, [])) }
     {
-        let parcel = self.table.shared.exchange(seat, slot, None).unwrap();
+        swap(seat.slot_mut(&self.table.shared, slot), room);
         self.table.shared.fetch_add::<Take>(seat, ROOM, 1);
-        parcel
     }
 
     /// Whether the queue is closed.
@@ -200,7 +210,7 @@ impl Ring {
             (i : ℕ) × (l : _) × (get_elem? seat.old.me.0.joined i ≡ some (k, l)) }
         ensures seat { IsAtTable self.now.table.shared.table_id seat.new × (seat.new.me.1 ≡ []) }
         ensures log { (l : _) × (seat.new.me.0 ≡ with_all seat.old.me.0 l)
-            × IsLog self.now.capacity seat.old.me.0 l × (seat.old.me.0.total ≡ None → result ≡ length l) }
+            × IsLog IsMessage self.now.capacity seat.old.me.0 l × (seat.old.me.0.total ≡ None → result ≡ length l) }
     {
         self.table.shared.load::<Gather>(seat, TAIL)
     }

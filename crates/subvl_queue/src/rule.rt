@@ -1,9 +1,12 @@
 //! The rule, what a seat at the table knows, and the outcome of each step. No value of these types
 //! is made.
-ghost use Rattle.std.specs.Prelude.{Option, None, length};
+ghost use Rattle.std.specs.Prelude.{ℕ, List, Option, None, length};
+ghost use Rattle.subvl_queue.specs.Messages.{IsMessage};
 ghost use Rattle.subvl_queue.specs.Queue.{Queue};
+ghost use Rattle.subvl_queue.specs.Room.{room_with};
 ghost use Rattle.subvl_queue.specs.Steps.{first_view, new_seat, spent_view, reserves, unreserves, claims, publishes, finds_ready, takes_out, finds_closed, closes, gathers, one_made, with_joined};
 
+use crate::room::Room;
 use atomic_table::{Join, Play, Split, TableRule};
 use std::collections::LinkedList;
 use std::marker::{Brand, PhantomData};
@@ -46,32 +49,43 @@ pub struct View<T> {
     pub all: Option<LinkedList<(u64, T)>>,
 }
 
+/// The bytes of a message.
+pub type Text = LinkedList<u8>;
+
+/// What a seat knows.
+pub type Known = View<Text>;
+
+// The table is told how many bytes each slot has room for.
 pub struct Rule;
 
-impl<T> TableRule<Option<(u64, T)>, View<T>, ()> for Rule {
-    ghost holds = { λ _. Queue };
+impl TableRule<Room, Known, usize> for Rule {
+    ghost holds = { λ most. Queue (room_with most) IsMessage };
 
     ghost first = { λ _. first_view };
 }
 
-// What a send will write, for the proof alone.
-pub(crate) trait Said<X> {
-    ghost item: { Option X };
+// How many bytes a slot has room for, and what a send will write, for the proof alone.
+pub(crate) trait Said {
+    ghost most: { ℕ };
+
+    ghost item: { Option (ℕ × List ℕ) };
 }
 
-impl<X> Said<X> for Brand {
+impl Said for Brand {
+    ghost most = { 0 };
+
     ghost item = { None };
 }
 
 pub(crate) struct Reserve;
 
-impl<T> Play<Option<(u64, T)>, View<T>> for Reserve {
+impl Play<Room, Known> for Reserve {
     ghost then = { reserves };
 }
 
 pub(crate) struct Unreserve;
 
-impl<T> Play<Option<(u64, T)>, View<T>> for Unreserve {
+impl Play<Room, Known> for Unreserve {
     ghost then = { unreserves };
 }
 
@@ -79,49 +93,51 @@ pub(crate) struct Claim<W> {
     marker: PhantomData<W>,
 }
 
-impl<T, W: Said<(u64, T)>> Play<Option<(u64, T)>, View<T>> for Claim<W> {
-    ghost then = { claims W.item };
+impl<W: Said> Play<Room, Known> for Claim<W> {
+    ghost then = { claims (room_with W.most) W.item };
 }
 
 pub(crate) struct Publish;
 
-impl<T> Play<Option<(u64, T)>, View<T>> for Publish {
+impl Play<Room, Known> for Publish {
     ghost then = { publishes };
 }
 
-pub(crate) struct IsReady;
+pub(crate) struct IsReady<W> {
+    marker: PhantomData<W>,
+}
 
-impl<T> Play<Option<(u64, T)>, View<T>> for IsReady {
-    ghost then = { λ st m r n. finds_ready (length m.0.taken) st m r n };
+impl<W: Said> Play<Room, Known> for IsReady<W> {
+    ghost then = { λ st m r n. finds_ready (room_with W.most) IsMessage (length m.0.taken) st m r n };
 }
 
 pub(crate) struct Take;
 
-impl<T> Play<Option<(u64, T)>, View<T>> for Take {
+impl Play<Room, Known> for Take {
     ghost then = { takes_out };
 }
 
 pub(crate) struct IsClosed;
 
-impl<T> Play<Option<(u64, T)>, View<T>> for IsClosed {
+impl Play<Room, Known> for IsClosed {
     ghost then = { finds_closed };
 }
 
 pub(crate) struct Close;
 
-impl<T> Play<Option<(u64, T)>, View<T>> for Close {
+impl Play<Room, Known> for Close {
     ghost then = { closes };
 }
 
 pub(crate) struct Gather;
 
-impl<T> Play<Option<(u64, T)>, View<T>> for Gather {
-    ghost then = { gathers };
+impl Play<Room, Known> for Gather {
+    ghost then = { gathers IsMessage };
 }
 
 pub(crate) struct Make;
 
-impl<T> Split<View<T>> for Make {
+impl Split<Known> for Make {
     ghost left = { one_made };
 
     ghost right = { λ v. new_seat v.made };
@@ -129,7 +145,7 @@ impl<T> Split<View<T>> for Make {
 
 pub(crate) struct TakeIn;
 
-impl<T> Join<View<T>> for TakeIn {
+impl Join<Known> for TakeIn {
     ghost both = { with_joined };
 
     ghost spent = { spent_view };

@@ -1,36 +1,46 @@
 //! The sending ends of a queue.
-ghost use Rattle.std.specs.Prelude.{◌≡◌, ◌%◌, ◌^◌, ◌<◌, ◌≤◌, [], ◌∷◌, length, IfOk, IfErr, None};
+ghost use Rattle.std.specs.Prelude.{◌≡◌, ◌≢◌, ◌%◌, ◌^◌, ◌<◌, ◌≤◌, [], ◌∷◌, length, IfOk, IfErr, None, Some};
 ghost use Rattle.subvl_queue.specs.declared.rule.Role.TheVariants.{Sender as AsSender};
-ghost use Rattle.subvl_queue.specs.Messages.{most_bytes};
+ghost use Rattle.subvl_queue.specs.Messages.{IsMessage};
+ghost use Rattle.subvl_queue.specs.Room.{room_with};
 ghost use Rattle.subvl_queue.specs.Queue.{IsAtTable, RestsAs};
+ghost use Rattle.subvl_queue.specs.declared.refused.Why.TheVariants.{Closed};
 ghost use Rattle.subvl_queue.specs.Steps.{new_seat, drawn, asked_with_room, RefusedBy};
 ghost use Rattle.subvl_queue.specs.Views.{own_of, places_of, new_sender, IsPlaced, IsRefused};
 
-use crate::item::Message;
-use crate::refused::{Refused, Why};
-use crate::ring::{CLOSED, Knowing, Parcel, Ring};
+use crate::refused::Why;
+use crate::ring::{CLOSED, Knowing, Ring};
+use crate::room::Room;
 use std::marker::{Brand, Model};
 use std::sync::Arc;
 
-// The steps of a send up to its place: check for a close, reserve a slot, claim a place.
+// The steps of a send up to its place: check for a close, reserve a slot, copy the message into the
+// sender's room, claim a place.
 #[inline(always)]
 fn claim_place(
     ring: &Ring,
     seat: &mut Knowing,
     asks: &mut u64,
     calls: u64,
-    parcel: &Parcel,
+    room: &mut Room,
+    port: usize,
+    bytes: &[u8],
 ) -> Result<u64, Why>
     requires seat { RestsAs ring.now.table.shared.table_id AsSender seat.old }
-    requires port { parcel.now.0 ≡ seat.old.me.0.port }
+    requires port { port ≡ seat.old.me.0.port }
+    requires message { IsMessage bytes.now × (length bytes.now ≤ ring.now.most) }
+    requires size { room.old.most ≡ ring.now.most }
     requires asks { seat.old.me.0.asks ≡ asks.old }
     requires calls { (asks.old ≤ calls) × (calls ≤ 2 ^ 40) }
     ensures seat { IsAtTable ring.now.table.shared.table_id seat.new }
     ensures asks { (seat.new.me.0.asks ≡ asks.new) × (asks.new ≤ calls) }
-    ensures room { IfOk result (λ _. (seat.old.me.0.asks < calls) × (seat.new.me.0.load < ring.now.capacity)) }
+    ensures found { IfOk result (λ _. (seat.old.me.0.asks < calls) × (seat.new.me.0.load < ring.now.capacity)) }
     ensures place { IfOk result (λ place. place < 2 ^ 63) }
     ensures drawn { IfOk result (λ place. seat.new.me ≡
-        (drawn (asked_with_room seat.old.me.0 seat.new.me.0.load) place parcel.now, (place % ring.now.capacity, None) ∷ [])) }
+        (drawn (asked_with_room seat.old.me.0 seat.new.me.0.load) place (port, bytes.now), (place % ring.now.capacity, room_with ring.now.most None) ∷ [])) }
+    ensures size { room.new.most ≡ ring.now.most }
+    ensures copied { IfOk result (λ _. room.new ≡ room_with ring.now.most (Some (port, bytes.now))) }
+    ensures uncopied { IfErr result (λ why. why ≢ Closed → room.new ≡ room.old) }
     ensures free { IfErr result (λ _. seat.new.me.1 ≡ []) }
     ensures refused { IfErr result (λ why. RefusedBy calls ring.now.capacity seat.old.me.0 seat.new.me.0 why) }
 {
@@ -45,7 +55,8 @@ fn claim_place(
         ring.unreserve(seat);
         return Err(Why::Full);
     }
-    let place = ring.claim::<Brand>(seat, parcel);
+    room.fill(port, bytes);
+    let place = ring.claim::<Brand>(seat, room, port, bytes);
     if place >= CLOSED {
         ring.unreserve(seat);
         return Err(Why::Closed);
@@ -67,6 +78,8 @@ pub struct Sender {
     // The last place, or 0, and its slot.
     pub(crate) place: u64,
     pub(crate) slot: usize,
+    // The message of a send is copied into it before the place is claimed.
+    pub(crate) spare: Room,
 }
 
 impl Model for Sender {
@@ -80,6 +93,7 @@ impl Model for Sender {
     ghost view = { λ s. record {
       queue = s.seat.table_id;
       capacity = s.ring.value.capacity;
+      most = s.ring.value.most;
       port = s.port;
       calls = s.calls;
       asks = s.asks;
@@ -93,55 +107,54 @@ impl Model for Sender {
     ghost invariant = { λ s. RestsAs s.ring.value.table.shared.table_id AsSender s.seat
         × (s.seat.me.0.port ≡ s.port) × (s.seat.me.0.asks ≡ s.asks) × (s.asks ≤ s.calls) × (s.calls ≤ 2 ^ 40)
         × (s.accepted ≡ length s.seat.me.0.own) × (s.accepted ≤ s.asks)
-        × IsSlotOf s.ring.value.capacity s.place s.slot };
+        × IsSlotOf s.ring.value.capacity s.place s.slot × (s.spare.most ≡ s.ring.value.most) };
 }
 
 impl Sender {
-    /// Accepts a message of 1 to 8,192 bytes at the next place of the queue, or returns it with the
-    /// reason.
+    /// Copies a message of at least 1 byte, and at most its queue's greatest length, to the next
+    /// place of the queue, or returns the reason that it isn't accepted. Allocates nothing.
     #[inline(always)]
-    pub fn send(&mut self, bytes: Vec<u8>) -> Result<(), Refused>
-        requires some { 1 ≤ length bytes.items }
-        requires most { length bytes.items ≤ most_bytes }
-        ensures ok { IfOk result (λ _. IsPlaced self.old bytes.items self.new) }
-        ensures back { IfErr result (λ e. e.bytes.items ≡ bytes.items) }
-        ensures refused { IfErr result (λ e. IsRefused self.old e.why self.new) }
+    pub fn send_slice(&mut self, bytes: &[u8]) -> Result<(), Why>
+        requires some { 1 ≤ length bytes.now }
+        requires most { length bytes.now ≤ self.old.most }
+        ensures ok { IfOk result (λ _. IsPlaced self.old bytes.now self.new) }
+        ensures refused { IfErr result (λ why. IsRefused self.old why self.new) }
     {
         self.send_with(bytes, || {})
     }
 
-    /// As `send`. If the message is accepted, `pause` runs before the message is ready to be taken;
+    /// As `send_slice`. If the message is accepted, `pause` runs before the message is ready to be taken;
     /// if it is refused, `pause` doesn't run.
     #[inline(always)]
-    pub fn send_with<F: FnOnce()>(&mut self, bytes: Vec<u8>, pause: F) -> Result<(), Refused>
+    pub fn send_with<F: FnOnce()>(&mut self, bytes: &[u8], pause: F) -> Result<(), Why>
     where
         F: Drop,
-        requires some { 1 ≤ length bytes.items }
-        requires most { length bytes.items ≤ most_bytes }
+        requires some { 1 ≤ length bytes.now }
+        requires most { length bytes.now ≤ self.old.most }
         requires pause { F.pre pause }
-        ensures ok { IfOk result (λ _. IsPlaced self.old bytes.items self.new) }
+        ensures ok { IfOk result (λ _. IsPlaced self.old bytes.now self.new) }
         ensures paused { IfOk result (λ _. F.post pause tt) }
-        ensures back { IfErr result (λ e. e.bytes.items ≡ bytes.items) }
-        ensures refused { IfErr result (λ e. IsRefused self.old e.why self.new) }
+        ensures refused { IfErr result (λ why. IsRefused self.old why self.new) }
     {
         // Read before the steps on the ring, which no later read overtakes.
         let (ring, earlier, slot): (&Ring, u64, usize) = (&self.ring, self.place, self.slot);
-        let parcel = (u64::from(self.port), Message { bytes });
-        match claim_place(ring, &mut self.seat, &mut self.asks, self.calls, &parcel) {
-            Ok(place) => {
-                pause();
-                let slot = ring.slot_from(place, earlier, slot);
-                ring.publish(&mut self.seat, place, slot, parcel);
-                self.place = place;
-                self.slot = slot;
-                self.accepted += 1;
-                Ok(())
-            }
-            Err(why) => Err(Refused {
-                why,
-                bytes: parcel.1.bytes,
-            }),
-        }
+        let port = usize::from(self.port);
+        let place = claim_place(
+            ring,
+            &mut self.seat,
+            &mut self.asks,
+            self.calls,
+            &mut self.spare,
+            port,
+            bytes,
+        )?;
+        pause();
+        let slot = ring.slot_from(place, earlier, slot);
+        ring.publish(&mut self.seat, place, slot, &mut self.spare);
+        self.place = place;
+        self.slot = slot;
+        self.accepted += 1;
+        Ok(())
     }
 
     /// Its index among the queue's senders.

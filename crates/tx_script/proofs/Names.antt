@@ -28,9 +28,7 @@ pub use Rattle.script_text.specs.declared.faults.RunFault.{RunFault}
 pub use Rattle.script_text.specs.declared.line.Line.{Line}
 pub use Rattle.script_text.specs.declared.line.Line.TheVariants.{Close, Send}
 pub use Rattle.script_text.specs.declared.notes.Outcome.{Outcome}
-pub use Rattle.std.proofs.Common.{Bool, Err, List, None, Ok, OnErr, OnOk, Option, Result, Some, [], ap, append-nil, append_assoc, arith, false, get_or}
-pub use Rattle.std.proofs.Common.{if◌then◌else◌, inl, inr, length, nat_eq, nat_lt, refl, set, subst, suc, sym, true, zero, ℕ, ⊎_elim, ◌*◌, ◌++◌, ◌+◌, ◌-◌, ◌<◌}
-pub use Rattle.std.proofs.Common.{◌==◌, ◌∙◌, ◌∷◌, ◌≡◌, ◌≢◌, ◌≤◌}
+pub use Rattle.std.proofs.Common.{Bool, Err, List, None, Ok, OnErr, OnOk, Option, Result, Some, [], ap, append-nil, append_assoc, arith, false, get_or, if◌then◌else◌, inl, inr, length, nat_eq, nat_lt, refl, set, subst, suc, sym, true, zero, ℕ, ⊎_elim, ◌*◌, ◌++◌, ◌+◌, ◌-◌, ◌<◌, ◌==◌, ◌∙◌, ◌∷◌, ◌≡◌, ◌≢◌, ◌≤◌}
 pub use Rattle.std.proofs.KnownBytes.{Appends-nil, Appends-trans}
 pub use Rattle.std.proofs.lemmas.Bool.{and_parts, cases_eq, cases_lt, eq-eqb, eqb-true, false≢true, le-ltb, ne_eqb}
 pub use Rattle.std.proofs.lemmas.List.{get_or_append_left, get_or_default, get_or_past, length-append, length-map, length-set, map-append}
@@ -42,12 +40,9 @@ pub use Rattle.std.specs.Io.KnownBytes.{Appends}
 pub use Rattle.std.specs.Prelude.{All, IfSome}
 pub use Rattle.subvl_queue.specs.Messages.{most_calls}
 pub use Rattle.subvl_queue.specs.Views.{IsRefused, SenderView}
-pub use Rattle.tx_script.specs.AtBench.{AreTold, AtBench, ClosesOnly, HaveAsked, HaveSent, IsAtHand, IsFreshBench, IsGathered, IsPlannedLink, Matches}
-pub use Rattle.tx_script.specs.AtBench.{MatchesTx, Obeys, ObeysAt, OnlyTakes, Sends, TellsTotal, progress_of}
+pub use Rattle.tx_script.specs.AtBench.{AreTold, AtBench, ClosesOnly, HaveAsked, HaveSent, IsAtHand, IsFreshBench, IsGathered, IsPlannedLink, Matches, MatchesTx, Obeys, ObeysAt, OnlyTakes, Sends, TellsTotal, progress_of}
 pub use Rattle.tx_script.specs.EndSystem.{EndSystem, HasPolled, HasTurnAt, Progress, SendsFrame, no_progress, progress_view, started}
-pub use Rattle.tx_script.specs.Play.{Answer, AnsweredLine, AreTotals, ClosesAt, FindsFirst, IsTotal, Messages, Play, accepted_among, added, closed_at, closes}
-pub use Rattle.tx_script.specs.Play.{fills, found, is_on, leaves, link_of, outcome_of, passed_on, place_of, play, queued, script_refusal, takes, tells, told_by}
-pub use Rattle.tx_script.specs.Play.{transcript, with_messages}
+pub use Rattle.tx_script.specs.Play.{Answer, AnsweredLine, AreTotals, ClosesAt, FindsFirst, IsTotal, Messages, Play, accepted_among, added, closed_at, closes, fills, found, is_on, leaves, link_of, outcome_of, passed_on, place_of, play, queued, script_refusal, takes, tells, told_by, transcript, with_messages}
 pub use Rattle.tx_script.specs.Run.{AreRun, Ends, HasPlayed, IsWhole, Leaves, Plays, left_after}
 pub use Rattle.tx_script.specs.Running.{EndsEarly, Finishes, Halted, HandsOver, ReadsLine, Running, SaysLine, Stops}
 pub use Rattle.tx_script.specs.declared.played.Played.{Played}
@@ -56,8 +51,7 @@ pub use Rattle.vl_link.proofs.Choosing.{each_set}
 pub use Rattle.vl_link.proofs.QueueLooks.{taken_finds}
 pub use Rattle.vl_link.proofs.TurnLaws.{choice_other, turn_seen, turns_each, turns_seen}
 pub use Rattle.vl_link.specs.Calls.{BecomesWhole, Closes}
-pub use Rattle.vl_link.specs.Links.{GivesFrame, Held, IsSameLink, LinkState, Starts, held_at, held_view, link_at, no_link, nothing_held, sent_by, sent_of}
-pub use Rattle.vl_link.specs.Links.{taken_by}
+pub use Rattle.vl_link.specs.Links.{GivesFrame, Held, IsSameLink, LinkState, Starts, held_at, held_view, link_at, no_link, nothing_held, sent_by, sent_of, taken_by}
 pub use Rattle.vl_link.specs.Seen.{Seen, gathered, known_of, receiving, taken_of, total_of}
 pub use Rattle.vl_link.specs.Turn.{AreTurns, IsChoice, Turn}
 pub use Rattle.vl_link.specs.declared.served.Served.{Served}

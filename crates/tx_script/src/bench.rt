@@ -86,9 +86,9 @@ fn send_message(port: &mut TxPort, message: Message) -> Outcome
     requires asks { port.old.sender.asks ≤ LINES_LIMIT }
     ensures { Sends port.old message port.new result }
 {
-    match port.send(message.into_vec()) {
+    match port.send_slice(message.as_slice()) {
         Ok(()) => Outcome::Accepted,
-        Err(fault) => Outcome::Refused(refused_for(fault.why)),
+        Err(why) => Outcome::Refused(refused_for(why)),
     }
 }
 

@@ -10,26 +10,21 @@ pub use Rattle.afdx_frame.specs.Header.{IsFrameOf, link_in, sub_in}
 pub use Rattle.afdx_frame.specs.declared.net.Net.TheVariants.{A}
 pub use Rattle.afdx_legal.proofs.StreamLemmas.{due_apart, latest_push, numbered_push, spaced_push, with_push_in, with_push_out}
 pub use Rattle.afdx_legal.specs.Counting.{counts_in, ends_message, messages_ended, moment_after}
-pub use Rattle.afdx_legal.specs.Streams.{IsApart, IsNumbered, IsPrefixOf, IsSpaced, entry_number, latest, link_stream, stamp_of, sub_stream, told}
-pub use Rattle.afdx_legal.specs.Streams.{TakesTurns, before_next, more_in}
+pub use Rattle.afdx_legal.specs.Streams.{IsApart, IsNumbered, IsPrefixOf, IsSpaced, entry_number, latest, link_stream, stamp_of, sub_stream, told, TakesTurns, before_next, more_in}
 pub use Rattle.afdx_plan.specs.Plan.{sequence_number, room_of, step_of}
 pub use Rattle.afdx_plan.specs.declared.link_plan.LinkPlan.{LinkPlan}
 pub use Rattle.afdx_plan.specs.declared.port_plan.PortPlan.{PortPlan}
 pub use Rattle.redundant_mux.proofs.MirroredLines.{log_more, log_same}
 pub use Rattle.redundant_mux.specs.Lines.{Entry, entry, BothEndure, Lines, log, any_up}
-pub use Rattle.std.proofs.Common.{Bool, List, None, Option, Some, [], ap, arith, below_more, cond, eqb, false, filter, get_or, inl, inr, length, map, nat_le}
-pub use Rattle.std.proofs.Common.{not, refl, rules, set, subst, suc, sym, true, zero, ℕ, ⊎_elim, ◌%◌, ◌&&◌, ◌++◌, ◌+◌, ◌-◌, ◌<◌, ◌∙◌, ◌∷◌, ◌≡◌, ◌≢◌, ◌≤◌, ◌⊎◌}
+pub use Rattle.std.proofs.Common.{Bool, List, None, Option, Some, [], ap, arith, below_more, cond, eqb, false, filter, get_or, inl, inr, length, map, nat_le, not, refl, rules, set, subst, suc, sym, true, zero, ℕ, ⊎_elim, ◌%◌, ◌&&◌, ◌++◌, ◌+◌, ◌-◌, ◌<◌, ◌∙◌, ◌∷◌, ◌≡◌, ◌≢◌, ◌≤◌, ◌⊎◌}
 pub use Rattle.std.proofs.lemmas.Bool.{and_parts, and_right, both_ways, cases_Bool, cases_eq, cases_lt, eq-eqb, lt-leb, ne_eqb}
-pub use Rattle.std.proofs.lemmas.List.{append-nil, append_assoc, get_or-set_other, get_or-set_same, get_or-take, get_or_append_left, get_or_default}
-pub use Rattle.std.proofs.lemmas.List.{get_or_read, length-append, length-map, length-set, length-take, length_push, map-append, with_items_is}
+pub use Rattle.std.proofs.lemmas.List.{append-nil, append_assoc, get_or-set_other, get_or-set_same, get_or-take, get_or_append_left, get_or_default, get_or_read, length-append, length-map, length-set, length-take, length_push, map-append, with_items_is}
 pub use Rattle.std.proofs.lemmas.List.Elements.{All-head, All-map, All-push, All-tail, All-weaker, filter-append}
 pub use Rattle.std.proofs.lemmas.List.Sums.{sum_by-append, sum_by-cons}
 pub use Rattle.std.specs.Prelude.{All, count_by}
 pub use Rattle.vl_link.specs.Kept.{IsKept, IsLinkTied, IsTied, ShowsChoices, begun_after, begun_by, none_begun, shown_choice, IsPortOf, IsSub, plans_of, seen_of}
 pub use Rattle.vl_link.specs.Calls.{AreFullSubs, BecomesWhole, GathersSub, IsFullSub}
-pub use Rattle.vl_link.specs.Links.{AreSameSubs, AreSubsOf, Asks, Follows, Gives, GivesFrame, GoesOn, HasOwnItems, Held, IsLinkOfPlan, IsPicked, IsSameLink}
-pub use Rattle.vl_link.specs.Links.{IsSameSub, LinkState, PassedOver, Passes, Serves, Starts, held_at, held_view, left_of, message_fragments}
-pub use Rattle.vl_link.specs.Links.{nothing_held, pace_of, sent_of, sub_fragments, taken_by}
+pub use Rattle.vl_link.specs.Links.{AreSameSubs, AreSubsOf, Asks, Follows, Gives, GivesFrame, GoesOn, HasOwnItems, Held, IsLinkOfPlan, IsPicked, IsSameLink, IsSameSub, LinkState, PassedOver, Passes, Serves, Starts, held_at, held_view, left_of, message_fragments, nothing_held, pace_of, sent_of, sub_fragments, taken_by}
 pub use Rattle.vl_link.specs.Seen.{Finds, FindsNothing, IsReceiving, IsSameQueue, Seen, gathered, known_of, ports_of, queue_of, receiving, taken_of, total_of}
 pub use Rattle.vl_link.specs.Turn.{AreTurns, IsChoice, Loses, NoneHas, Releases, Turn, TurnView, is_lost, may_release}
 pub use Rattle.vl_link.specs.declared.served.Served.{Served}

@@ -68,7 +68,7 @@ TellsLinkDone false link = (link.lost ≡ true) ⊎ HasSubLeft link.subs
 -- the queue has one more sender, with the next index and this limit of calls
 abbrev pub MakesSender : (old : Seen) (calls : ℕ) → SenderView → (new : Seen) → Type 0
 MakesSender (receiving old) calls sender new =
-    (sender ≡ new_sender old.queue old.capacity calls old.ports) × (new ≡ receiving (one_more old))
+    (sender ≡ new_sender old.queue old.capacity old.most calls old.ports) × (new ≡ receiving (one_more old))
 MakesSender (gathered old) calls sender new = ⊥
 
 -- the queue has fewer than 64 senders, and none is back
@@ -115,7 +115,7 @@ pub record LinkTakesBack (old : LinkState) (sub : ℕ) (sender : SenderView) (ne
 -- is of one of its ports, and if the queue was closed, their number is its total.
 abbrev pub BecomesWhole : (old new : Seen) → Type 0
 BecomesWhole (receiving old) (gathered new) =
-    (new.taken ≡ old.taken) × (new.ports ≡ old.ports) × AreItems old.ports (accepted_of new)
+    (new.most ≡ old.most) × (new.taken ≡ old.taken) × (new.ports ≡ old.ports) × AreItems old.ports (accepted_of new)
     × IfSome old.total (λ total. total ≡ length (accepted_of new))
 BecomesWhole (receiving old) (receiving new) = ⊥
 BecomesWhole (gathered old) (receiving new) = ⊥

@@ -1,5 +1,5 @@
 -- The invariants of a sub-VL and of a link, and the choices that the link's stream shows.
-use Rattle.std.specs.Prelude.{ℕ, Bool, true, false, nat_eq, if◌then◌else◌, Option, Some, List, [], ◌∷◌, ◌≡◌, ◌<◌, ◌++◌, None, ◌≤◌, ◌%◌, length, map, All}
+use Rattle.std.specs.Prelude.{ℕ, Bool, true, false, nat_eq, if◌then◌else◌, Option, Some, List, [], ◌∷◌, ◌≡◌, ◌<◌, ◌+◌, ◌++◌, None, ◌≤◌, ◌%◌, length, map, All}
 use Rattle.afdx_frame.specs.Header.{sub_in}
 use Rattle.redundant_mux.specs.Lines.{Entry, log}
 use Rattle.vl_shaper.specs.Pace.{Choice, IsChosen, turn_of}
@@ -17,7 +17,8 @@ use Rattle.afdx_frame.specs.Template.{Origin}
 use Rattle.vl_link.specs.declared.sub.SubVl.{SubVl}
 use Rattle.vl_link.specs.declared.queue.Queue.{Queue}
 use Rattle.vl_link.specs.declared.queue.Queue.TheVariants.{Receiving, Gathered, Empty}
-use Rattle.vl_link.specs.Seen.{Seen, receiving, gathered, nothing_seen, taken_of, ports_of}
+use Rattle.vl_link.specs.Seen.{Seen, receiving, gathered, nothing_seen, taken_of, most_of, ports_of}
+use Rattle.subvl_queue.specs.Room.{RoomView, bytes_of, port_of}
 
 -- the sub-VLs with a begun message that has more fragments to come: none at first
 abbrev pub none_begun : ℕ → Bool
@@ -103,20 +104,22 @@ abbrev pub AreOfEndSystem : ℕ → List Origin → Type 0
 AreOfEndSystem end_system origins = All (λ (of : Origin). of.end_system ≡ end_system) origins
 
 -- what remains of a message of one of these ports
-abbrev pub cut_among : List PortPlan → ℕ → Remains → Cutting
-cut_among ports port rest = cut_of (port_plan_at ports port) rest
+abbrev pub cut_among : List PortPlan → Option (ℕ × List ℕ) → Remains → Cutting
+cut_among ports item rest = cut_of (port_plan_at ports (port_of item)) (bytes_of item) rest
 
--- What remains of the message being sent is of one of the ports. With the last fragment its memory was freed.
-pub record IsRestOf (owner : SubVl) (ports : List PortPlan) (port : ℕ) (rest : Remains) : Type 0 where
-  pub within : (left_of owner (cut_among ports port rest) ≡ [] → ⊥) → port < length ports
-  pub free : left_of owner (cut_among ports port rest) ≡ [] → rest.capacity ≡ 0
+-- What remains of the message being sent is of one of the ports. With the last fragment its room was emptied.
+pub record IsRestOf (owner : SubVl) (ports : List PortPlan) (item : Option (ℕ × List ℕ)) (rest : Remains) : Type 0 where
+  pub size : rest.end ≡ 8 + length (bytes_of item)
+  pub within : (left_of owner (cut_among ports item rest) ≡ [] → ⊥) → port_of item < length ports
+  pub idle : left_of owner (cut_among ports item rest) ≡ [] → item ≡ None
 
 -- The ports are of this sub-VL, and the queue has no more senders than ports. The place of the next
 -- message is the number of messages taken modulo 16,384.
-pub record IsSub (owner : SubVl) (ports : List PortPlan) (port : ℕ) (rest : Remains)
+pub record IsSub (owner : SubVl) (ports : List PortPlan) (room : RoomView) (rest : Remains)
     (seen : Seen) (next : ℕ) : Type 0 where
   pub link : IsLink owner.link
   pub senders : All (IsPortOf owner) ports
   pub count : ports_of seen ≤ length ports
-  pub rest_is : IsRestOf owner ports port rest
+  pub most : room.most ≡ most_of seen
+  pub rest_is : IsRestOf owner ports room.item rest
   pub place : next ≡ length (taken_of seen) % 16384

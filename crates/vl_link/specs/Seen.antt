@@ -12,6 +12,11 @@ abbrev pub taken_of : Seen → List (ℕ × List ℕ)
 taken_of (receiving r) = r.taken
 taken_of (gathered g) = g.taken
 
+-- the greatest length of a message
+abbrev pub most_of : Seen → ℕ
+most_of (receiving r) = r.most
+most_of (gathered g) = g.most
+
 -- the number of the queue's ports
 abbrev pub ports_of : Seen → ℕ
 ports_of (receiving r) = r.ports
@@ -39,7 +44,7 @@ IsKnownWhole (gathered g) = Unit {0}
 
 -- all ends of a queue without ports
 abbrev pub nothing_seen : Seen
-nothing_seen = gathered (record { ports = 0; taken = []; left = [] })
+nothing_seen = gathered (record { most = 0; ports = 0; taken = []; left = [] })
 
 -- a poll that finds nothing ready; if the messages are known whole, none is left
 abbrev pub FindsNothing : (old new : Seen) → Type 0
@@ -53,6 +58,7 @@ Finds (gathered old) message new =
     (more : List (ℕ × List ℕ))
     × (old.left ≡ message ∷ more)
     × (new ≡ gathered (record {
+      most = old.most;
       ports = old.ports;
       taken = old.taken ++ message ∷ [];
       left = more;
@@ -69,10 +75,10 @@ TellsDrained false (gathered g) = g.left ≡ [] → ⊥
 -- messages are known whole, they are the same.
 abbrev pub IsSameQueue : (old new : Seen) → Type 0
 IsSameQueue (receiving old) (receiving new) =
-    (new.queue ≡ old.queue) × (new.capacity ≡ old.capacity) × (new.ports ≡ old.ports)
-    × (new.total ≡ old.total)
+    (new.queue ≡ old.queue) × (new.capacity ≡ old.capacity) × (new.most ≡ old.most)
+    × (new.ports ≡ old.ports) × (new.total ≡ old.total)
 IsSameQueue (gathered old) (gathered new) =
-    (new.ports ≡ old.ports) × (accepted_of new ≡ accepted_of old)
+    (new.most ≡ old.most) × (new.ports ≡ old.ports) × (accepted_of new ≡ accepted_of old)
 IsSameQueue (receiving old) (gathered new) = ⊥
 IsSameQueue (gathered old) (receiving new) = ⊥
 

@@ -14,7 +14,7 @@ use afdx_frame::FrameBuffer;
 use afdx_plan::{LinkPlan, VlId};
 use redundant_mux::{Mux, Network};
 use status_board::Counts;
-use std::alloc::AllocError;
+use std::alloc::{AllocError, Global};
 use std::boxed::BoxedSlice;
 use std::marker::Model;
 use subvl_queue::Sender;
@@ -288,14 +288,14 @@ impl Link {
     /// Makes the sender of the next port of a sub-VL, for at most `calls` calls. If an allocation
     /// fails, nothing changes.
     #[tactic(auto, using(std::proofs::lemmas::Grind::common_steps))]
-    pub fn new_sender(&mut self, sub: u8, calls: u64) -> Result<Sender, AllocError>
+    pub fn new_sender(&mut self, alloc: Global, sub: u8, calls: u64) -> Result<Sender, AllocError>
         requires within { sub < length self.old.subs }
         requires lacks { LacksSender (held_at self.old.subs sub) }
         requires calls { calls ≤ most_calls }
         ensures sender { IfOk result (λ sender. LinkMakesSender self.old sub calls sender self.new) }
         ensures unchanged { IfErr result (λ _. self.new ≡ self.old) }
     {
-        self.subs[sub as usize].new_sender(calls)
+        self.subs[sub as usize].new_sender(alloc, calls)
     }
 
     /// Takes a sender of a sub-VL's queue back.

@@ -1,5 +1,5 @@
 //! The taking end of a sub-VL's queue, before and after its ports are gathered.
-use subvl_queue::{Gathered, Item, Receiver};
+use subvl_queue::{Gathered, Receiver, Room};
 
 /// The taking end of a queue: a receiver, or all ends.
 #[derive(Drop)]
@@ -12,21 +12,27 @@ pub enum Queue {
 }
 
 impl Queue {
-    ghost use Rattle.std.specs.Prelude.{IfSome, IfNone};
+    ghost use Rattle.std.specs.Prelude.{◌≡◌, None, IfSome, IfNone, is_some};
     ghost use Rattle.subvl_queue.specs.Messages.{IsItem};
-    ghost use Rattle.vl_link.specs.Seen.{ports_of, FindsNothing, Finds, TellsDrained};
+    ghost use Rattle.subvl_queue.specs.Room.{room_with};
+    ghost use Rattle.vl_link.specs.Seen.{most_of, ports_of, FindsNothing, Finds, TellsDrained};
     ghost use Rattle.vl_link.specs.Kept.{seen_of};
 
-    /// Takes the next message, if one is ready. Never waits.
-    pub fn take(&mut self) -> Option<Item>
-        ensures none { IfNone result (FindsNothing (seen_of self.old) (seen_of self.new)) }
-        ensures some { IfSome result (λ item. Finds (seen_of self.old) item (seen_of self.new)) }
-        ensures item { IfSome result (IsItem (ports_of (seen_of self.old))) }
+    /// Exchanges an empty room for the one with the next message, if it is ready. Returns whether
+    /// it was. Never waits.
+    pub fn take(&mut self, room: &mut Room) -> bool
+        requires empty { room.old ≡ room_with (most_of (seen_of self.old)) None }
+        ensures most { room.new.most ≡ most_of (seen_of self.old) }
+        ensures told { result ≡ is_some room.new.item }
+        ensures none { IfNone room.new.item (FindsNothing (seen_of self.old) (seen_of self.new)) }
+        ensures some { IfSome room.new.item
+            (λ item. Finds (seen_of self.old) item (seen_of self.new)) }
+        ensures item { IfSome room.new.item (IsItem (ports_of (seen_of self.old))) }
     {
         match self {
-            Queue::Receiving(receiver) => receiver.take(),
-            Queue::Gathered(all) => all.take(),
-            Queue::Empty => None,
+            Queue::Receiving(receiver) => receiver.take(room),
+            Queue::Gathered(all) => all.take(room),
+            Queue::Empty => false,
         }
     }
 

@@ -1,5 +1,5 @@
 //! A sub-VL: its queue, and the message being sent.
-ghost use Rattle.std.specs.Prelude.{◌≡◌, ◌≢◌, ◌≤◌, [], ◌∷◌, length, All, Some, IfOk, IfErr};
+ghost use Rattle.std.specs.Prelude.{◌≡◌, ◌≢◌, ◌≤◌, [], ◌∷◌, length, All, None, Some, IfOk, IfErr};
 ghost use Rattle.afdx_plan.specs.Plan.{IsLink};
 ghost use Rattle.afdx_frame.specs.declared.net.Net.TheVariants.{A as ForA};
 ghost use Rattle.afdx_frame.specs.Fragments.{blanked};
@@ -8,20 +8,20 @@ ghost use Rattle.afdx_frame.specs.Header.{IsFrameOf};
 use crate::queue::Queue;
 use afdx_frame::{FrameBuffer, Net, Rest, Template};
 use afdx_plan::LinkPlan;
-use std::alloc::AllocError;
+use std::alloc::{AllocError, Global};
 use std::boxed::BoxedSlice;
 use std::marker::Model;
 use std::mem::replace;
-use subvl_queue::{Item, Receiver, Sender};
+use subvl_queue::{Receiver, Room, Sender};
 
 /// A sub-VL. Contracts see its ports, the fragments left of the message being sent, and its queue.
 #[derive(Drop)]
 pub struct Sub {
     // What a turn reads is side by side.
     queue: Queue,
-    // What is left of the message being sent, and the index of its port.
+    // What is left of the message being sent, and the room that it is in, which is empty if none is.
     rest: Rest,
-    port: u8,
+    room: Room,
     // The place of the next message, modulo 16,384.
     place: u16,
     // In the order of the configuration. A message's port is an index into them.
@@ -39,11 +39,11 @@ impl Model for Sub {
     ghost view = { λ s. record {
       of = s.of;
       ports = plans_of (boxed_slice_items s.ports);
-      left = left_of s.of (cut_among (plans_of (boxed_slice_items s.ports)) s.port s.rest);
+      left = left_of s.of (cut_among (plans_of (boxed_slice_items s.ports)) s.room.item s.rest);
       seen = seen_of s.queue;
     } };
 
-    ghost invariant = { λ s. IsSub s.of (plans_of (boxed_slice_items s.ports)) s.port s.rest (seen_of s.queue) s.place
+    ghost invariant = { λ s. IsSub s.of (plans_of (boxed_slice_items s.ports)) s.room s.rest (seen_of s.queue) s.place
         × AreOfEndSystem s.of.end_system (boxed_slice_items s.ports) };
 }
 
@@ -53,16 +53,18 @@ impl Sub {
     ghost use Rattle.vl_link.specs.Calls.{TellsSubDone, IsFullSub, GathersSub, LacksSender, SubMakesSender, SubTakesBack, ClosesSub};
     ghost use Rattle.vl_link.specs.Kept.{IsPortOf, AreOfEndSystem, plans_of};
     ghost use Rattle.subvl_queue.specs.Messages.{most_calls};
+    ghost use Rattle.subvl_queue.specs.Room.{room_with};
     ghost use Rattle.vl_link.specs.Seen.{IsReceiving, queue_of};
 
     /// A sub-VL of the ports of these templates, over a queue with no more senders than ports, which has taken
-    /// nothing.
-    pub fn new(of: SubVl, ports: Vec<Template>, receiver: Receiver) -> Sub
+    /// nothing, and an empty room of its size.
+    pub fn new(of: SubVl, ports: Vec<Template>, receiver: Receiver, room: Room) -> Sub
         requires link { IsLink of.link }
         requires end_system { AreOfEndSystem of.end_system ports.items }
         requires ports { All (IsPortOf of) (plans_of ports.items) }
         requires count { receiver.ports ≤ length ports.items }
         requires fresh { receiver.taken ≡ [] }
+        requires room { room ≡ room_with receiver.most None }
         ensures { result ≡ record {
           of = of;
           ports = plans_of ports.items;
@@ -70,11 +72,10 @@ impl Sub {
           seen = receiving receiver;
         } }
     {
-        let rest = Rest::none(*ports.allocator());
         Sub {
             queue: Queue::Receiving(receiver),
-            rest,
-            port: 0,
+            rest: Rest::none(),
+            room,
             place: 0,
             ports: ports.into_boxed_slice(),
             of,
@@ -89,16 +90,12 @@ impl Sub {
         if !self.rest.is_done() {
             return true;
         }
-        match self.queue.take() {
-            None => false,
-            Some(item) => {
-                let Item { port, bytes } = item;
-                self.rest.restart(bytes, u64::from(self.place));
-                self.port = port;
-                self.place = (self.place + 1) % 16384;
-                true
-            }
+        if !self.queue.take(&mut self.room) {
+            return false;
         }
+        self.rest = Rest::new(self.room.len(), u64::from(self.place));
+        self.place = (self.place + 1) % 16384;
+        true
     }
 
     /// Whether no message is being sent, and it is known that none is left in the queue.
@@ -116,15 +113,20 @@ impl Sub {
         ensures frame { IsFrameOf self.old.of.link.id.0 self.old.of.sub number ForA out.new.items }
         ensures same { self.new ≡ record self.old { left = self.new.left } }
     {
-        let template = &self.ports[usize::from(self.port)];
-        if !self
-            .rest
-            .write_next(template, &self.of.link, number, Net::A, out)
-        {
+        let template = &self.ports[self.room.port()];
+        if !self.rest.write_next(
+            self.room.bytes(),
+            template,
+            &self.of.link,
+            number,
+            Net::A,
+            out,
+        ) {
             unreachable!()
         }
         if self.rest.is_done() {
-            self.rest.release();
+            self.rest = Rest::none();
+            self.room.clear();
         }
     }
 
@@ -142,14 +144,14 @@ impl Sub {
 
     /// Makes the sender of its next port, for at most `calls` calls. If an allocation fails,
     /// nothing changes.
-    pub fn new_sender(&mut self, calls: u64) -> Result<Sender, AllocError>
+    pub fn new_sender(&mut self, alloc: Global, calls: u64) -> Result<Sender, AllocError>
         requires lacks { LacksSender self.old }
         requires calls { calls ≤ most_calls }
         ensures sender { IfOk result (λ sender. SubMakesSender self.old calls sender self.new) }
         ensures unchanged { IfErr result (λ _. self.new ≡ self.old) }
     {
         match &mut self.queue {
-            Queue::Receiving(receiver) => receiver.new_sender(calls),
+            Queue::Receiving(receiver) => receiver.new_sender(alloc, calls),
             _ => unreachable!(),
         }
     }

@@ -1,17 +1,16 @@
-use Rattle.afdx_tx.proofs.Names.{rules, map-id, ◌≡◌, ◌<◌, length, get_or, set, arith, get_or_default, All-push, All-weaker, link_at, no_link, queues_in, BelongsTo, IsTakenBack}
-use Rattle.std.proofs.lemmas.Iterator.Adapters.{YieldsList-from_vec}
+use Rattle.afdx_tx.proofs.Names.{map-id, ◌≡◌, ◌<◌, length, get_or, set, arith, get_or_default, All-push, All-weaker, take_all, link_at, no_link, queues_in, BelongsTo, IsTakenBack}
 use Rattle.std.proofs.lemmas.Iterator.Consumers.{YieldsList-end, YieldsList-turn}
 use Rattle.afdx_tx.proofs.SoundEmitter.{count_is}
 use Rattle.afdx_tx.proofs.OpenedPorts.{queue_at_is}
 use Rattle.afdx_tx.proofs.PortMessages.{sub_within}
-use Rattle.afdx_tx.proofs.TakenBack.{take_one, stays_back, comes_back}
+use Rattle.afdx_tx.proofs.TakenBack.{take_one, stays_back, comes_back, drains_all}
 use Rattle.afdx_tx.proofs.gather.take_back_all.Goals.{After-place, After-into_sender}
 use Rattle.afdx_tx.proofs.gather.take_back_all.Goals as goal
 
 -- The returned port was opened with the links.
 own : (c : After-place) → BelongsTo c.args.config.now (queues_in c.args.links.now) c.in-Some.port
 own c =
-    let turn = YieldsList-turn (YieldsList-from_vec {s = c.into_iter-port-iterator.result} c.args.ports.items (search rules) (search rules))
+    let turn = YieldsList-turn (drains_all {s = c.into_iter-port-iterator.result} c.args.ports.now.items (grind (arith, take_all)))
     c.loop-port.yielded c.loop-port.port-iterator c.loop-port.yielded_by c.next.result c.next.new.self c.in-Some.port c.in-Some.is c.next.ensures.steps in
     grind arith
 
@@ -56,6 +55,6 @@ loop-port-preserved c =
 
 pub returns-clause-back : goal.returns-clause-back
 returns-clause-back c =
-    let all = YieldsList-end (YieldsList-from_vec {s = c.into_iter-port-iterator.result} c.args.ports.items (search rules) (search rules))
+    let all = YieldsList-end (drains_all {s = c.into_iter-port-iterator.result} c.args.ports.now.items (grind (arith, take_all)))
     c.loop-port.yielded c.loop-port.port-iterator c.loop-port.yielded_by c.next.result c.next.new.self c.in-None.is c.next.ensures.steps in
     rw (← all.0, map-id) c.loop-port.invariant.back

@@ -4,7 +4,6 @@ use Rattle.storm.proofs.worker.send_on.Given as goal
 abbrev pub invariant-loop-turns : goal.invariant-loop-turns
 invariant-loop-turns l = record {
   port : named l.port ≡ named l.fn.port;
-  bytes : l.bytes.items ≡ l.fn.bytes.items;
   asks : asked_after l.turns l.port ≤ asked_after l.fn.turns l.fn.port;
 }
 

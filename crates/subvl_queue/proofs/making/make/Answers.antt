@@ -1,4 +1,5 @@
 use Rattle.subvl_queue.proofs.Names.{rules, ◌≡◌, ℕ, ◌+◌, ◌<◌, List, [], ◌∷◌, ◌++◌, length, get_or, ◌∙◌, ap, arith, get_or_append_left, get_or_push, new_sender, one_more}
+use Rattle.subvl_queue.specs.Messages.{most_bytes}
 use Rattle.subvl_queue.proofs.making.make.Goals as goal
 
 -- One more row of a table.
@@ -16,7 +17,7 @@ loop-port-preserved c =
       count = grind arith;
       len = search rules;
       room = search rules;
-      senders = rw c.push_reserved.ensures.items (λ k d lt. next_row xs _ d (new_sender c.in_ok-receiver.receiver.queue c.args.capacity c.args.calls) _
+      senders = rw c.push_reserved.ensures.items (λ k d lt. next_row xs _ d (new_sender c.in_ok-receiver.receiver.queue c.args.capacity most_bytes c.args.calls) _
           old.count (grind arith)
           (λ j near. old.senders j d near) k lt);
     }

@@ -21,9 +21,9 @@ returns-clause-fragments c =
 
 pub returns-clause-header : goal.returns-clause-header
 returns-clause-header c =
-    let within : c.in-Some.piece.start + c.in-Some.piece.len ≤ 8 + length c.deref.result.now = search (rules, arith) in
+    let within : c.in-Some.piece.start + c.in-Some.piece.len ≤ 8 + length c.args.bytes.now = search (rules, arith) in
     let says : IsFrameOf c.args.template.now.port.vl.0 c.args.template.now.port.sub c.args.number c.args.net c.write_frame.new.out.items =
     rw c.write_frame.ensures.frame
-    (header_says c.args.template.now.end_system c.args.template.now.port c.deref.result.now c.self.inside.place c.in-Some.piece
+    (header_says c.args.template.now.end_system c.args.template.now.port c.args.bytes.now c.self.inside.place c.in-Some.piece
     c.args.net c.args.number c.write_frame.ensures.port within) in
     grind arith

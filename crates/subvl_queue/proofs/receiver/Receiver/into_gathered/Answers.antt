@@ -24,4 +24,4 @@ returns-clause-items c =
     let log = c.gather-drawn.ensures.log in
     let accepted = accepted_is _ c.self.inside.taken c.self.inside.seat.me.0 c.gather-drawn.new.seat.me.0 log.0 log.2 kept.3 log.1 in
     subst (λ (y : ℕ × List (ℕ × List ℕ)). AreItems y.0 y.1) (grind arith)
-    (are_items c.self.inside.ports 0 log.0 (grind arith))
+    (are_items c.self.inside.ports 0 log.0 (grind arith) log.2.good)

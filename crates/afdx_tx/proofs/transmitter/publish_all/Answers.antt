@@ -1,8 +1,0 @@
-use Rattle.status_board.proofs.Histories.{falls_not_same}
-use Rattle.status_board.proofs.Histories.{last_or-push}
-use Rattle.afdx_tx.proofs.Names.{link_at}
-use Rattle.afdx_tx.proofs.Names.{arith}
-use Rattle.afdx_tx.proofs.transmitter.publish_all.Goals as goal
-
-pub returns-clause-reaches : goal.returns-clause-reaches
-returns-clause-reaches g c = grind (arith, last_or-push, link_at, falls_not_same)
