@@ -1,18 +1,12 @@
 -- Findings added one after the other.
-use Rattle.std.proofs.lemmas.Grind.{flat_map-append}
+use Rattle.std.proofs.lemmas.Grind.{flat_map-append, common_steps}
 use Rattle.std.proofs.lemmas.List.{take_more, length-take}
-use Rattle.afdx_config.proofs.Names.{◌≡◌, ℕ, ◌+◌, ◌<◌, List, [], ◌∷◌, ◌++◌, length, get_or, refl, ap, sym, map, append_assoc, option_map_or}
-use Rattle.afdx_config.proofs.Names.{append-nil, take, arith, Adds, flat_map, flat_map-map, table_view, string_bytes}
-use Rattle.afdx_config.proofs.Names.{keys_of, String, Global, LinkRow, PortRow, Bool, cells_of, Place, Link, Port, Top, EndSystem, Field, Finding, key_finding, each_row}
-use Rattle.afdx_config.proofs.Names.{field_of, IsDocument, Document, data_of, document_fields, end_fields, link_fields}
-use Rattle.afdx_config.proofs.Names.{port_fields, fields_in, field_fault, key_fault, is_version_2, map-map, BTreeMap, Value}
+use Rattle.afdx_config.proofs.Names.{◌≡◌, ℕ, ◌+◌, ◌<◌, List, [], ◌∷◌, ◌++◌, length, get_or, refl, ap, sym, map, append_assoc, option_map_or, append-nil, take, arith, Adds, flat_map, flat_map-map, table_view, string_bytes, keys_of, String, Global, LinkRow, PortRow, Bool, cells_of, Place, Link, Port, Top, EndSystem, Field, Finding, key_finding, each_row, field_of, IsDocument, Document, data_of, document_fields, end_fields, link_fields, port_fields, fields_in, field_fault, key_fault, is_version_2, map-map, BTreeMap, Value, None}
 use Rattle.afdx_config.specs.declared.format.Field.{Field as Key}
 use Rattle.afdx_config.specs.declared.findings.Found.{Found as Kept}
-use Rattle.afdx_config.proofs.Names.{None}
 use Rattle.afdx_config.specs.Cells.{link_row, port_row}
 use Rattle.afdx_config.specs.Findings.{table_findings, value_findings}
 use Rattle.afdx_config.proofs.SectionLemmas.{Found, keys_are, option_maps}
-use Rattle.std.proofs.lemmas.Grind.{common_steps}
 use Rattle.std.proofs.lemmas.Bool.Decides.{nat_tests}
 
 -- one after the other

@@ -1,9 +1,5 @@
 -- The first finding has the fault of the least number, and so has the text.
-use Rattle.afdx_config.proofs.Names.{◌≡◌, ◌≢◌, ℕ, ◌<◌, ◌≤◌, List, [], ◌∷◌, ◌++◌, length, true, false, Some, None, refl, ap, subst, ◌∙◌, arith}
-use Rattle.afdx_config.proofs.Names.{eq-eqb, list_any, same_Some, Result, Ok, Err, IfOk, IfErr, Members, map, nat_tests}
-use Rattle.afdx_config.proofs.Names.{fault_number, cells_of, ConfigFault, Memory}
-use Rattle.afdx_config.proofs.Names.{Plan, plan_of, shows, Reads, HasFault, IsLeastFault, IsPlanOf, Finding, finding_of}
-use Rattle.afdx_config.proofs.Names.{findings, has, FirstIsAnswered}
+use Rattle.afdx_config.proofs.Names.{◌≡◌, ◌≢◌, ℕ, ◌<◌, ◌≤◌, List, [], ◌∷◌, ◌++◌, length, true, false, Some, None, refl, ap, subst, ◌∙◌, arith, eq-eqb, list_any, same_Some, Result, Ok, Err, IfOk, IfErr, Members, map, nat_tests, fault_number, cells_of, ConfigFault, Memory, Plan, plan_of, shows, Reads, HasFault, IsLeastFault, IsPlanOf, Finding, finding_of, findings, has, FirstIsAnswered}
 use Rattle.afdx_config.specs.Findings.{by_fault, number_of, plan_findings, value_findings}
 use Rattle.afdx_config.specs.Seen.{Holds, IsOrdered, fault_of}
 use Rattle.afdx_config.specs.declared.findings.Found.{Found as Kept}

@@ -1,22 +1,15 @@
 -- A document whose values have no fault has the faults of its plan.
 use Rattle.std.proofs.Math.Path.{fun_ext}
-use Rattle.afdx_config.proofs.Names.{◌≡◌, List, [], ◌∷◌, ◌||◌, Bool, true, false, map, length-map, find, Option, Some, None, refl, ap, sym, ◌∙◌}
-use Rattle.afdx_config.proofs.Names.{AllByRecursion, list_any, has_pair, Members, ConfigFault, LinkPlan, PortPlan, LinkRow, PortRow, Plan, Cells}
-use Rattle.afdx_config.proofs.Names.{cells_of, cells_show, plan_of, option_map, ◌==◌, Rule, PlanRule, links_clash, ports_clash, port_misfits, link_count, port_count, sub_is_packed, breaks, sides, parts_of, NoLink, NoSub, TooLong, link_whole, port_whole}
-use Rattle.afdx_config.proofs.Names.{is_misfit, plan_rules}
+use Rattle.afdx_config.proofs.Names.{◌≡◌, List, [], ◌∷◌, ◌||◌, Bool, true, false, map, length-map, find, Option, Some, None, refl, ap, sym, ◌∙◌, AllByRecursion, list_any, has_pair, Members, ConfigFault, LinkPlan, PortPlan, LinkRow, PortRow, Plan, Cells, cells_of, cells_show, plan_of, option_map, ◌==◌, Rule, PlanRule, links_clash, ports_clash, port_misfits, link_count, port_count, sub_is_packed, breaks, sides, parts_of, NoLink, NoSub, TooLong, link_whole, port_whole, is_misfit, plan_rules, is_row_of, Top, Link, Port, document_fields, link_fields, port_fields, fields_in, is_version_2, IsSoundTable, plan_shows, is_sampling, nat_lt, nat_le, option_map_or, ◌&&◌, is_none, both, ◌-◌, RulesAgree, Finding, eq-eqb, fault_number, findings, has}
 use Rattle.std.proofs.lemmas.Bool.{or_parts}
-use Rattle.afdx_config.proofs.Names.{is_row_of, Top, Link, Port, document_fields, link_fields, port_fields, fields_in, is_version_2}
-use Rattle.afdx_config.proofs.Names.{IsSoundTable, plan_shows, is_sampling, nat_lt, nat_le, option_map_or, ◌&&◌, is_none}
-use Rattle.afdx_config.proofs.Names.{both, ◌-◌, RulesAgree}
 use Rattle.afdx_config.specs.Cells.{link_row, port_row}
 use Rattle.afdx_config.specs.PlanOf.{link_of, port_of}
 use Rattle.afdx_config.specs.Findings.{value_findings}
 use Rattle.afdx_config.proofs.SectionLemmas.{list_any_map, find_map, option_maps}
 use Rattle.std.proofs.lemmas.List.Folds.{fold-map}
-use Rattle.afdx_plan.specs.PlanFaults.{least_plan_fault}
+use Rattle.afdx_plan.proofs.PlanLemmas.{Unbroken}
 use Rattle.afdx_config.proofs.FirstLemmas.{no_value}
 use Rattle.afdx_config.proofs.ShownLemmas.{any_no, faults_are_found}
-use Rattle.afdx_config.proofs.Names.{Finding, eq-eqb, fault_number, findings, has}
 use Rattle.afdx_config.proofs.SoundLemmas.{none, table_sound, rows_sound}
 use Rattle.std.proofs.Common.{arith}
 use Rattle.std.proofs.lemmas.Bool.Decides.{nat_tests}
@@ -105,15 +98,13 @@ rules_agree doc free fault =
 -- if no fault is shown, no rule is broken
 no_rule : (plan : Plan) (some : List PlanRule)
     → ((f : ConfigFault) → list_any (λ (r : PlanRule). fault_number f == fault_number r.fault
-    && breaks (parts_of plan.links plan.ports) r.forbids) some ≡ false)
-    → find (λ (r : PlanRule). breaks (parts_of plan.links plan.ports) r.forbids) some ≡ None
-no_rule plan [] lacks = refl
+    && breaks (parts_of plan.links plan.ports) r.forbids) some ≡ false) → Unbroken plan some
+no_rule plan [] lacks = tt
 no_rule plan (r ∷ rest) lacks =
-    let first : breaks (parts_of plan.links plan.ports) r.forbids ≡ false =
-    let number = eq-eqb (fault_number r.fault) (fault_number r.fault) refl in (or_parts _ _ (rw number at (lacks r.fault))).0 in
-    rw first (no_rule plan rest (λ f. (or_parts _ _ (lacks f)).1))
+    let number = eq-eqb (fault_number r.fault) (fault_number r.fault) refl in
+    ((or_parts _ _ (rw number at (lacks r.fault))).0, no_rule plan rest (λ f. (or_parts _ _ (lacks f)).1))
 
--- the plan of a document without findings is not refused
-pub fine : (doc : Members) (plan : Plan) → findings doc ≡ [] → plan ≡ plan_of doc → least_plan_fault plan.links plan.ports ≡ None
-fine doc plan free is = rw is (ap (option_map (λ (r : PlanRule). r.fault)) (no_rule (plan_of doc) plan_rules (λ f.
-    sym (rules_agree doc (λ g. ap (list_any (has g)) (no_value doc free)) f) ∙ faults_are_found doc f ∙ ap (list_any (has f)) free)))
+-- the plan of a document without findings breaks no rule
+pub fine : (doc : Members) (plan : Plan) → findings doc ≡ [] → plan ≡ plan_of doc → Unbroken plan plan_rules
+fine doc plan free is = rw is (no_rule (plan_of doc) plan_rules (λ f.
+    sym (rules_agree doc (λ g. ap (list_any (has g)) (no_value doc free)) f) ∙ faults_are_found doc f ∙ ap (list_any (has f)) free))

@@ -1,13 +1,9 @@
 -- The tables and keys of a document, in the code and in the specification.
-use Rattle.afdx_config.proofs.Names.{◌≡◌, ℕ, Bool, ◌||◌, is_none, List, [], ◌∷◌, String, Global, string_bytes}
-use Rattle.afdx_config.proofs.Names.{refl, ap, ◌-◌, false, map, length, take, Option, Some, None, option_map, Bor}
-use Rattle.afdx_config.proofs.Names.{BTreeMap, cons_option, filter_map, list_any, as_table, view, items_view, members_view, member_keys, tables_among, has_other_item}
-use Rattle.afdx_config.proofs.Names.{take-map, length-map, option_map_or, fields_in, field_of, keys_of, Value, find, arith, cond, is_some, nat_tests, not, ◌∙◌}
+use Rattle.afdx_config.proofs.Names.{◌≡◌, ℕ, Bool, ◌||◌, is_none, List, [], ◌∷◌, String, Global, string_bytes, refl, ap, ◌-◌, false, map, length, take, Option, Some, None, option_map, Bor, BTreeMap, cons_option, filter_map, list_any, as_table, view, items_view, members_view, member_keys, tables_among, has_other_item, take-map, length-map, option_map_or, fields_in, field_of, keys_of, Value, find, arith, cond, is_some, nat_tests, not, ◌∙◌, Field, Ordering, Data, bytes_eq-Decides, is_eq-slice_cmp, is_eq, slice_cmp, nat_cmp, get_member, is_key_of, common_steps, true, get_or, ◌<◌, suc, zero, or-true}
 use Rattle.std.proofs.lemmas.List.Sums.{sum_by-cons}
 use Rattle.std.specs.List.{count_by}
 use Rattle.std.specs.Prelude.{nat_eq}
 use Rattle.afdx_config.specs.declared.format.Field.{Field as Written}
-use Rattle.afdx_config.proofs.Names.{Field, Ordering, Data, bytes_eq-Decides, is_eq-slice_cmp, is_eq, slice_cmp, nat_cmp, get_member, is_key_of, common_steps, true, get_or, ◌<◌, suc, zero, or-true, arith, nat_tests}
 use Rattle.afdx_config.specs.Tables.{lacks_all}
 use Rattle.afdx_config.specs.Cells.{port_row}
 use Rattle.afdx_config.specs.Format.{port_fields}

@@ -3,16 +3,7 @@ use Rattle.std.proofs.lemmas.List.Sums.{sum_by-append, sum_by-cons}
 use Rattle.std.proofs.Math.Seq.{take-append_seam}
 use Rattle.afdx_config.proofs.SectionLemmas.{none_counted, none_on}
 use Rattle.std.proofs.Common.{length-append}
-use Rattle.afdx_config.proofs.Names.{◌≡◌, ℕ, ◌+◌, ◌-◌, ◌<◌, ◌≤◌, List, [], ◌∷◌, ◌++◌, length, take, Bool, true, false, ◌||◌, ◌&&◌, cond, append_assoc, count_by, eqb-true, eq-eqb, or-true, nat_eq, nat_le, lit≤}
-use Rattle.afdx_config.proofs.Names.{Option, Some, None, refl, ap, sym, ◌∙◌, arith}
-use Rattle.afdx_config.proofs.Names.{◌==◌, and_parts, nat_tests, or-false, and-true, and-false, and-or_distrib_left, nat_lt, list_any-append, position}
-use Rattle.afdx_config.proofs.Names.{position_from, list_any, then_some, position_from-zero, AllByRecursion, not}
-use Rattle.afdx_config.proofs.Names.{Data, Members, get_member, fault_number, has_pair, ConfigFault, Toml}
-use Rattle.afdx_config.proofs.Names.{UnknownKey, Place, Top, Link, Port, Field, flat_map, PlanRule, Rule, links_clash, ports_clash, port_misfits, link_count, port_count, sub_is_packed, breaks, sides, is_misfit, plan_rules, rules, rule_findings}
-use Rattle.afdx_config.proofs.Names.{shows, tells, values_show, Finding, found, has, one_if, key_finding, member_keys, each_row}
-use Rattle.afdx_config.proofs.Names.{pair_finding, pair_findings, is_past_limit, misfit_finding, crowd_finding}
-use Rattle.afdx_config.proofs.Names.{Cells, cells_show, both, on_sub_of, is_packed, PortRow}
-use Rattle.afdx_config.proofs.Names.{field_fault, key_fault, is_key_of, fault_in, fault_under, IfSome, FaultsAreFound}
+use Rattle.afdx_config.proofs.Names.{◌≡◌, ℕ, ◌+◌, ◌-◌, ◌<◌, ◌≤◌, List, [], ◌∷◌, ◌++◌, length, take, Bool, true, false, ◌||◌, ◌&&◌, cond, append_assoc, count_by, eqb-true, eq-eqb, or-true, nat_eq, nat_le, lit≤, Option, Some, None, refl, ap, sym, ◌∙◌, arith, ◌==◌, and_parts, nat_tests, or-false, and-true, and-false, and-or_distrib_left, nat_lt, list_any-append, position, position_from, list_any, then_some, position_from-zero, AllByRecursion, not, Data, Members, get_member, fault_number, has_pair, ConfigFault, Toml, UnknownKey, Place, Top, Link, Port, Field, flat_map, PlanRule, Rule, links_clash, ports_clash, port_misfits, link_count, port_count, sub_is_packed, breaks, sides, is_misfit, plan_rules, rules, rule_findings, shows, tells, values_show, Finding, found, has, one_if, key_finding, member_keys, each_row, pair_finding, pair_findings, is_past_limit, misfit_finding, crowd_finding, Cells, cells_show, both, on_sub_of, is_packed, PortRow, field_fault, key_fault, is_key_of, fault_in, fault_under, IfSome, FaultsAreFound}
 use Rattle.afdx_config.specs.Findings.{plan_findings, table_findings, value_findings}
 use Rattle.afdx_config.proofs.AddLemmas.{each_row-map}
 use Rattle.afdx_config.proofs.OrderLemmas.{any_by_fault, r_append, r_map}

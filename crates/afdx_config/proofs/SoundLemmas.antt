@@ -1,11 +1,5 @@
 -- A document whose values have no fault has tables without faults.
-use Rattle.afdx_config.proofs.Names.{◌≡◌, ◌+◌, codes, Bool, false, List, [], ◌∷◌, ◌++◌, map, Option}
-use Rattle.afdx_config.proofs.Names.{None, ℕ, refl}
-use Rattle.afdx_config.proofs.Names.{AllByRecursion, recursion_from_All, flat_map, option_map_or}
-use Rattle.afdx_config.proofs.Names.{Members, table_view, ConfigFault, Field}
-use Rattle.afdx_config.proofs.Names.{fields_in, link_of, port_of, plan_of, field_fault}
-use Rattle.afdx_config.proofs.Names.{IsDocument, IsSoundTable, Document, data_of, map-map, LinkPlan, PortPlan}
-use Rattle.afdx_config.proofs.Names.{Place, key_finding, each_row}
+use Rattle.afdx_config.proofs.Names.{◌≡◌, ◌+◌, codes, Bool, false, List, [], ◌∷◌, ◌++◌, map, Option, None, ℕ, refl, AllByRecursion, recursion_from_All, flat_map, option_map_or, Members, table_view, ConfigFault, Field, fields_in, link_of, port_of, plan_of, field_fault, IsDocument, IsSoundTable, Document, data_of, map-map, LinkPlan, PortPlan, Place, key_finding, each_row}
 use Rattle.afdx_config.specs.Format.{id_range}
 use Rattle.afdx_config.specs.Tables.{number_in}
 use Rattle.afdx_config.specs.Findings.{table_findings}

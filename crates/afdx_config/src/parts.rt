@@ -1,5 +1,5 @@
 //! Parts of plans from tables.
-ghost use Rattle.std.specs.Prelude.{◌≡◌, codes, map, IfOk, All};
+ghost use Rattle.std.specs.Prelude.{◌≡◌, ◌<◌, codes, map, IfOk, All};
 ghost use Rattle.std.specs.Option.{option_map_or};
 ghost use Rattle.toml.specs.View.{table_view};
 ghost use Rattle.afdx_plan.specs.Plan.{IsLink, IsPort};
@@ -99,6 +99,7 @@ fn port_plans(alloc: Global, tables: &[&Table]) -> Result<Vec<PortPlan>, AllocEr
 pub(crate) fn parts_of(alloc: Global, document: &Document<'_>) -> Result<Parts, AllocError>
     requires { IsDocument document.now }
     ensures value { IfOk result (λ parts. plan_in parts ≡ plan_of (data_of document.now)) }
+    ensures end_system { IfOk result (λ parts. parts.end_system < 65536) }
     ensures links { IfOk result (λ parts. All IsLink parts.links.items) }
     ensures ports { IfOk result (λ parts. All IsPort parts.ports.items) }
 {

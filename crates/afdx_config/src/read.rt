@@ -38,8 +38,7 @@ fn least_fault(alloc: Global, document: &Document<'_>) -> Result<Option<ConfigFa
     Ok(first_of(&found))
 }
 
-/// Converts a document. The time of `Config::new` grows as the square of the number of tables; a document
-/// without faults has few.
+/// Converts a document without faults to its plan.
 fn read_document(alloc: Global, document: &Document<'_>) -> Result<Config, ConfigFault>
     requires { IsDocument document.now }
     ensures no_fault { IfOk result (λ _. findings (data_of document.now) ≡ []) }
@@ -56,10 +55,7 @@ fn read_document(alloc: Global, document: &Document<'_>) -> Result<Config, Confi
     let Ok(parts) = parts_of(alloc, document) else {
         return Err(ConfigFault::Memory);
     };
-    match Config::new(parts.end_system, parts.links, parts.ports) {
-        Ok(config) => Ok(config),
-        Err(_) => unreachable!(),
-    }
+    Ok(Config::new(parts.end_system, parts.links, parts.ports))
 }
 
 /// Reads a configuration from a TOML text. Returns its plan, or the fault of the least number that the

@@ -1,9 +1,9 @@
 -- A plan is valid exactly if it has no fault. Flows of a valid plan are distinct.
 use Rattle.std.proofs.Common.{◌≡◌, ℕ, suc, zero, ◌-◌, ◌<◌, ◌≤◌, inl, inr, ◌⊎◌, Bool, true, false, cond, List, [], ◌∷◌, length, get_or, Option, Some, None, refl, ap, sym, ◌∙◌, arith, eq-eqb, subst, ◌/◌, ◌%◌}
-use Rattle.std.specs.Prelude.{◌&&◌, ◌==◌, option_map, nat_lt, nat_eq, find, count_by, is_none, All, Contains, IfSome}
+use Rattle.std.specs.Prelude.{◌&&◌, ◌==◌, nat_lt, nat_eq, find, count_by, is_none, All, Contains, IfSome}
 use Rattle.std.specs.List.{list_any, AllByRecursion}
 use Rattle.std.proofs.Math.Bool.{and-false}
-use Rattle.std.proofs.lemmas.Bool.{or_parts, ltb-false, ne_eqb, false_from_ne_true, cases_Bool, cases_eq, cases_lt, not-false, or_from, le-ltb}
+use Rattle.std.proofs.lemmas.Bool.{or_parts, ltb-false, false_from_ne_true, cases_Bool, cases_eq, or_from, le-ltb}
 use Rattle.std.proofs.lemmas.List.{get_or_default}
 use Rattle.std.proofs.lemmas.List.Elements.{All-contains, Contains-get_or}
 use Rattle.std.proofs.lemmas.List.Folds.{Any-from_list_any, list_any_at, list_any_none}
@@ -18,7 +18,7 @@ use Rattle.afdx_plan.specs.declared.port_plan.PortPlan.{PortPlan}
 use Rattle.afdx_plan.specs.Address.{destination_of}
 use Rattle.afdx_plan.specs.Plan.{IsLink, IsPort, IsUnicast}
 use Rattle.afdx_plan.specs.Config.{Plan, IsPlan, HasLink, AreSameFlow, link_plan_at, port_plan_at, ports_on, FlowsApart}
-use Rattle.afdx_plan.specs.PlanFaults.{fault_number, has_pair, same_link, same_port, is_row_of, misfits, same_flow, share_unicast, are_one_destination, is_no_count, is_packed, least_plan_fault, link_whole, port_whole, PlanRule, plan_rules, breaks, parts_of, ValidPlansShowNoFault}
+use Rattle.afdx_plan.specs.PlanFaults.{fault_number, has_pair, same_link, same_port, is_row_of, misfits, same_flow, share_unicast, are_one_destination, is_no_count, is_packed, link_whole, port_whole, PlanRule, plan_rules, breaks, parts_of, ValidPlansShowNoFault}
 use Rattle.afdx_plan.specs.declared.rows.Misfit.TheVariants.{NoLink, NoSub, TooLong}
 use Rattle.afdx_plan.specs.declared.fault.ConfigFault.{ConfigFault}
 
@@ -195,18 +195,11 @@ counts most n h = grind (arith, nat_tests)
 abbrev pub Unbroken : Plan → List PlanRule → Type 0
 Unbroken plan some = AllByRecursion (λ r. breaks (parts_of plan.links plan.ports) r.forbids ≡ false) some
 
--- if the search for a rule that is broken finds none, none is
-none_found : (plan : Plan) (some : List PlanRule)
-    → option_map (λ (r : PlanRule). r.fault) (find (λ (r : PlanRule). breaks (parts_of plan.links plan.ports) r.forbids) some) ≡ None → Unbroken plan some
-none_found plan [] none = tt
-none_found plan (r ∷ rest) none = grind (arith, nat_tests, parts_of, (none_found plan rest))
-
 -- the plan is valid: fault by fault
 pub valid : (plan : Plan) → plan.end_system < 65536 → All IsLink plan.links → All IsPort plan.ports
-    → least_plan_fault plan.links plan.ports ≡ None → IsPlan plan
-valid plan fits_end each_link each_port none =
-    let (duplicate_vl, (duplicate_port, (no_link, (no_sub, (long, (flow, (shared_address, (link_count, (port_count, (crowd, _)))))))))) =
-    none_found plan plan_rules none in
+    → Unbroken plan plan_rules → IsPlan plan
+valid plan fits_end each_link each_port
+    (duplicate_vl, (duplicate_port, (no_link, (no_sub, (long, (flow, (shared_address, (link_count, (port_count, (crowd, _)))))))))) =
     record {
       end_system = fits_end;
       links = counts 64 (length plan.links) link_count;
@@ -278,7 +271,7 @@ long_one : (plan : Plan) (port : PortPlan) → IsPlan plan → Contains plan.por
 long_one plan port is member has =
     let found = linked plan port has in
     let here = link_plan_at plan.links found.at in
-    let there = Contains-get_or plan.links found.at _ found.within in
+    let there : Contains plan.links here = Contains-get_or plan.links found.at (link_plan_at [] 0) found.within in
     grind (arith, nat_tests, is.sampling port here member there, named port here found.passes)
 
 -- ports of one flow agree

@@ -1,13 +1,11 @@
 -- The numbers of the faults, and the faults of plans.
-use Rattle.std.specs.Prelude.{◌≡◌, ℕ, ◌-◌, codes, List, [], ◌∷◌, length, count_by, Bool, true, false, ◌||◌, ◌&&◌, ◌==◌, not, is_none, is_some, nat_eq, nat_lt, nat_le, bytes_eq, Option, Some, None, find, option_map}
+use Rattle.std.specs.Prelude.{◌≡◌, ℕ, ◌-◌, codes, List, [], ◌∷◌, length, count_by, Bool, true, false, ◌||◌, ◌&&◌, ◌==◌, not, is_none, is_some, nat_eq, nat_lt, nat_le, bytes_eq, Option, Some, None, find}
 use Rattle.std.specs.List.{list_any}
 use Rattle.std.specs.Option.{option_map_or}
 use Rattle.afdx_plan.specs.declared.link_plan.LinkPlan.{LinkPlan}
 use Rattle.afdx_plan.specs.declared.port_plan.PortPlan.{PortPlan}
 use Rattle.afdx_plan.specs.declared.port_plan.Kind.{Kind}
 use Rattle.afdx_plan.specs.declared.port_plan.Kind.TheVariants.{Sampling, Queuing}
-use Rattle.afdx_plan.specs.declared.plan_faults.Clash.{Clash}
-use Rattle.afdx_plan.specs.declared.plan_faults.Clash.TheVariants.{Identifier, Flow, Address}
 use Rattle.afdx_plan.specs.declared.rows.LinkRow.{LinkRow}
 use Rattle.afdx_plan.specs.declared.rows.PortRow.{PortRow}
 use Rattle.afdx_plan.specs.declared.rows.Misfit.{Misfit}
@@ -78,12 +76,6 @@ abbrev pub share_unicast : PortRow → PortRow → Bool
 share_unicast a b = both (λ x y. not (x == y)) a.vl b.vl
     && both nat_eq a.partition b.partition
     && both are_one_address a.unicast b.unicast
-
--- two ports agree in a value that must differ
-abbrev pub clashes : Clash → PortRow → PortRow → Bool
-clashes Identifier = same_port
-clashes Flow = same_flow
-clashes Address = share_unicast
 
 -- the link has the identifier that the port names
 abbrev pub is_row_of : PortRow → LinkRow → Bool
@@ -205,11 +197,6 @@ parts_of virtual_links senders = record {
 -- a plan has a fault
 abbrev pub plan_shows : ConfigFault → Plan → Bool
 plan_shows fault plan = parts_show (parts_of plan.links plan.ports) fault
-
--- the fault of the least number that links and ports have
-abbrev pub least_plan_fault : List LinkPlan → List PortPlan → Option ConfigFault
-least_plan_fault links ports =
-    option_map (λ (r : PlanRule). r.fault) (find (λ (r : PlanRule). breaks (parts_of links ports) r.forbids) plan_rules)
 
 -- a valid plan has none of the faults of plans
 abbrev pub ValidPlansShowNoFault : Type 0

@@ -1,12 +1,9 @@
 //! A valid plan, the greatest numbers of one, and its jitter.
-ghost use Rattle.std.specs.Prelude.{◌≡◌, ◌==◌, All, position, IfOk, IfErr, None, Some};
+ghost use Rattle.std.specs.Prelude.{◌≡◌, ◌==◌, All, position};
 ghost use Rattle.afdx_plan.specs.Config.{IsPlan, plan_of_parts};
 ghost use Rattle.afdx_plan.specs.Plan.{IsLink, IsPort, jitter_of};
-ghost use Rattle.afdx_plan.specs.PlanFaults.{least_plan_fault};
 
-use crate::fault::ConfigFault;
 use crate::link_plan::LinkPlan;
-use crate::plan_faults::plan_fault;
 use crate::port_plan::{PortId, PortPlan, VlId};
 use std::marker::Model;
 
@@ -29,30 +26,10 @@ impl Model for Config {
 }
 
 impl Config {
-    /// Makes a plan of its parts. Fails with the fault of the least number that they have.
-    pub fn new(
-        end_system: u16,
-        links: Vec<LinkPlan>,
-        ports: Vec<PortPlan>,
-    ) -> Result<Config, ConfigFault>
-        requires links { All IsLink links.items }
-        requires ports { All IsPort ports.items }
-        ensures plan { IfOk result (λ config.
-            config ≡ plan_of_parts end_system links.items ports.items) }
-        ensures no_fault { IfOk result (λ _. least_plan_fault links.items ports.items ≡ None) }
-        ensures fault { IfErr result (λ least.
-            least_plan_fault links.items ports.items ≡ Some least) }
-    {
-        match plan_fault(links.as_slice(), ports.as_slice()) {
-            Some(fault) => Err(fault),
-            None => Ok(Config::of(end_system, links, ports)),
-        }
-    }
-
-    /// Makes a plan of parts that are known to be valid.
-    pub(crate) fn of(end_system: u16, links: Vec<LinkPlan>, ports: Vec<PortPlan>) -> Config
+    /// Makes a plan of valid parts.
+    pub fn new(end_system: u16, links: Vec<LinkPlan>, ports: Vec<PortPlan>) -> Config
         requires { IsPlan (plan_of_parts end_system links.items ports.items) }
-        ensures { result ≡ plan_of_parts end_system links.items ports.items }
+        ensures plan { result ≡ plan_of_parts end_system links.items ports.items }
     {
         Config {
             end_system,

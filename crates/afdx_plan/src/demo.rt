@@ -16,7 +16,7 @@ pub fn demo_config(alloc: Global) -> Result<Config, ConfigFault>
 {
     let links = Vec::from_array(alloc, [demo_link()]).map_err(|_| ConfigFault::Memory)?;
     let ports = Vec::from_array(alloc, [demo_port()]).map_err(|_| ConfigFault::Memory)?;
-    Ok(Config::of(1, links, ports))
+    Ok(Config::new(1, links, ports))
 }
 
 /// The link of the demonstration configuration.

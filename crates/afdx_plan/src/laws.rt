@@ -12,7 +12,7 @@ pub fn flows_apart(config: &Config)
     let _ports = config.ports();
 }
 
-/// A valid plan has none of the faults of plans. `Config::new` has the converse: it accepts parts without a fault.
+/// A valid plan has none of the faults of plans.
 #[tactic(auto, using(crate::proofs::PlanLemmas::faultless))]
 pub fn valid_plans_show_no_fault()
     ensures { ValidPlansShowNoFault }

@@ -6,7 +6,6 @@ mod demo;
 mod fault;
 pub mod laws;
 mod link_plan;
-mod plan_faults;
 mod port_plan;
 mod rows;
 
