@@ -88,13 +88,15 @@ struct hand *hand_open(uint16_t end_system, unsigned links, unsigned lmax, unsig
         link->id = (uint16_t)(k + 1);
         link->room = lmax - 39;
         link->gap = 1000;
-        open_queue(&link->queue, capacity);
+        open_queue(&link->queue, capacity, max);
     }
     for (unsigned k = 0; k < ports; k++) {
         it->port[k] = (struct port){.link = k % links, .max = max, .sender = {.most = (uint64_t)1 << 40}};
         write_head(&it->port[k], end_system, it->link[k % links].id, 1000 + k);
     }
 #ifdef DUTIES
+    for (unsigned k = 0; k < links; k++) it->link[k].cut.bytes = malloc(max);
+    for (unsigned k = 0; k < ports; k++) it->port[k].sender.spare.bytes = malloc(max);
     it->out[0].stands = it->out[1].stands = true;
 #endif
     return it;
@@ -102,11 +104,14 @@ struct hand *hand_open(uint16_t end_system, unsigned links, unsigned lmax, unsig
 
 void hand_free(struct hand *it) {
     for (unsigned k = 0; k < it->links; k++) {
+#ifndef DUTIES
         struct item item;
         while (pop(&it->link[k].queue, &item)) free(item.bytes);
+#endif
         free(it->link[k].cut.bytes);
         free_queue(&it->link[k].queue);
     }
+    for (unsigned k = 0; k < it->ports; k++) free(it->port[k].sender.spare.bytes);
     free(it);
 }
 
@@ -114,12 +119,7 @@ int hand_send(struct hand *it, unsigned port, const uint8_t *message, size_t len
     struct port *from = &it->port[port];
     if (length == 0) return HAND_EMPTY;
     if (length > from->max) return HAND_TOO_LONG;
-    uint8_t *bytes = malloc(length);
-    if (!bytes) return HAND_FULL;
-    memcpy(bytes, message, length);
-    if (push(&it->link[from->link].queue, &from->sender, (struct item){bytes, length, port})) return HAND_OK;
-    free(bytes);
-    return HAND_FULL;
+    return push(&it->link[from->link].queue, &from->sender, port, message, length) ? HAND_OK : HAND_FULL;
 }
 
 /* Writes the next piece of the link's message as a frame for network A, and returns the frame's length. */
@@ -159,15 +159,18 @@ static void end_turn(struct link *link, uint64_t now) {
     link->last = now;
     link->served = true;
     if (link->sent == link->total) {
+#ifndef DUTIES
         free(link->cut.bytes);
         link->cut.bytes = NULL;
+#endif
+        link->cut.length = 0;
         link->place++;
     }
 }
 
 /* Whether a message of the link is being sent, after a look into its queue if none was. */
 static bool has_message(struct link *link) {
-    if (link->cut.bytes) return true;
+    if (link->cut.length) return true;
     if (!pop(&link->queue, &link->cut)) return false;
     link->total = 8 + link->cut.length;
     link->sent = 0;

@@ -2,7 +2,7 @@
    same frames of the same messages at the same times, over bounded queues that any number of threads may send to; the
    headers of a port are made once, as the library's are. It checks only what it has to: no configuration text, no
    closing, no networks that fail, no gathering. Built with DUTIES it does in each call what the library owes there:
-   queues that close and whose room is known before a place is drawn, a number of sends that ends, networks that are
+   queues that close, whose slots own rooms and whose room is known before a place is drawn, a number of sends that ends, networks that are
    lent a frame and may fail, counts of each link, and times that don't go back. Each of its polls looks at each link;
    the library's look at none before one may be due. */
 #ifndef HAND_H

@@ -7,8 +7,10 @@
 #include <stddef.h>
 #include <stdint.h>
 #include <stdlib.h>
+#include <string.h>
 
-/* A message in a queue. */
+/* A message in a queue. With DUTIES its bytes are in a room that a slot, a sender or the receiver owns, and that has no message
+   while `length` is 0; otherwise they are a block of its own. */
 struct item {
     uint8_t *bytes;
     size_t length;
@@ -16,16 +18,23 @@ struct item {
 };
 
 /* What a sender of a queue knows with DUTIES: how often it may ask for a slot and has asked, how many of its messages were
-   accepted, and its last place and slot. */
+   accepted, its last place and slot, and its spare room. */
 struct sender {
     uint64_t most, asked, accepted, place, slot;
+    struct item spare;
 };
 
 #ifdef DUTIES
-/* A bounded queue as the library's, in which nothing is accepted after a close, and a sender that stops holds back its own
-   queue alone. `room` is over NO_ROOM by the number of free slots, the upper bit of `tail` says that the queue is closed,
+/* A bounded queue as the library's, in which nothing is accepted after a close, a sender that stops holds back its own
+   queue alone, and each slot owns a room for the greatest message. `room` is over NO_ROOM by the number of free slots, the upper bit of `tail` says that the queue is closed,
    and ready[k] is one more than the place that is ready in slot k. */
 #define NO_ROOM ((uint64_t)1 << 32)
+
+static void swap_items(struct item *one, struct item *other) {
+    struct item item = *one;
+    *one = *other;
+    *other = item;
+}
 
 struct queue {
     _Atomic uint64_t room, tail, *ready;
@@ -33,25 +42,30 @@ struct queue {
     uint64_t capacity, taken, slot;
 };
 
-static void open_queue(struct queue *queue, unsigned capacity) {
+static void open_queue(struct queue *queue, unsigned capacity, size_t greatest) {
     *queue = (struct queue){.capacity = capacity};
     queue->slots = calloc(capacity, sizeof *queue->slots);
+    for (unsigned k = 0; k < capacity; k++) queue->slots[k].bytes = malloc(greatest);
     queue->ready = calloc(capacity, sizeof *queue->ready);
     atomic_init(&queue->room, NO_ROOM + capacity);
 }
 
 static void free_queue(struct queue *queue) {
+    for (uint64_t k = 0; k < queue->capacity; k++) free(queue->slots[k].bytes);
     free(queue->slots);
     free((void *)queue->ready);
 }
 
-static bool push(struct queue *queue, struct sender *sender, struct item item) {
+static bool push(struct queue *queue, struct sender *sender, unsigned port, const uint8_t *message, size_t length) {
     if (atomic_load(&queue->tail) >> 63 || sender->asked == sender->most) return false;
     sender->asked++;
     if (atomic_fetch_sub(&queue->room, 1) <= NO_ROOM) {
         atomic_fetch_add(&queue->room, 1);
         return false;
     }
+    memcpy(sender->spare.bytes, message, length);
+    sender->spare.length = length;
+    sender->spare.port = port;
     uint64_t place = atomic_fetch_add(&queue->tail, 1);
     if (place >> 63) {
         atomic_fetch_add(&queue->room, 1);
@@ -63,8 +77,8 @@ static bool push(struct queue *queue, struct sender *sender, struct item item) {
     } else if (slot >= queue->capacity) {
         slot -= queue->capacity;
     }
-    if (queue->slots[slot].bytes) abort();
-    queue->slots[slot] = item;
+    if (queue->slots[slot].length) abort();
+    swap_items(&queue->slots[slot], &sender->spare);
     atomic_store(&queue->ready[slot], place + 1);
     sender->place = place;
     sender->slot = slot;
@@ -72,10 +86,10 @@ static bool push(struct queue *queue, struct sender *sender, struct item item) {
     return true;
 }
 
+/* Exchanges an empty room for the one of the next message. */
 static bool pop(struct queue *queue, struct item *item) {
     if (atomic_load(&queue->ready[queue->slot]) != queue->taken + 1) return false;
-    *item = queue->slots[queue->slot];
-    queue->slots[queue->slot] = (struct item){NULL, 0, 0};
+    swap_items(&queue->slots[queue->slot], item);
     atomic_fetch_add(&queue->room, 1);
     queue->taken++;
     queue->slot = queue->slot + 1 < queue->capacity ? queue->slot + 1 : 0;
@@ -96,7 +110,8 @@ struct queue {
     uint64_t capacity, lap;
 };
 
-static void open_queue(struct queue *queue, unsigned capacity) {
+static void open_queue(struct queue *queue, unsigned capacity, size_t greatest) {
+    (void)greatest;
     queue->capacity = capacity;
     for (queue->lap = 1; queue->lap <= capacity; queue->lap *= 2) {}
     queue->slots = calloc(capacity, sizeof *queue->slots);
@@ -107,8 +122,7 @@ static void free_queue(struct queue *queue) {
     free(queue->slots);
 }
 
-static bool push(struct queue *queue, struct sender *sender, struct item item) {
-    (void)sender;
+static bool push_item(struct queue *queue, struct item item) {
     uint64_t tail = atomic_load_explicit(&queue->tail, memory_order_relaxed);
     for (;;) {
         uint64_t index = tail & (queue->lap - 1), next = index + 1 < queue->capacity ? tail + 1 : (tail & ~(queue->lap - 1)) + queue->lap;
@@ -128,6 +142,16 @@ static bool push(struct queue *queue, struct sender *sender, struct item item) {
             tail = atomic_load_explicit(&queue->tail, memory_order_relaxed);
         }
     }
+}
+
+static bool push(struct queue *queue, struct sender *sender, unsigned port, const uint8_t *message, size_t length) {
+    (void)sender;
+    uint8_t *bytes = malloc(length);
+    if (!bytes) return false;
+    memcpy(bytes, message, length);
+    if (push_item(queue, (struct item){bytes, length, port})) return true;
+    free(bytes);
+    return false;
 }
 
 static bool pop(struct queue *queue, struct item *item) {

@@ -209,7 +209,7 @@ inline std::vector<afdx_finding> judge(const std::string &plan, const std::strin
    gather then: give it back instead. */
 class Port {
 public:
-    /* Copies a message in. Throws SendError or OutOfMemory. After Full poll, then try again: each Full uses one of the
+    /* Copies a message in. Throws SendError. After Full poll, then try again: each Full uses one of the
        port's 2^40 slot requests. */
     void send(const std::uint8_t *message, std::size_t length) {
         detail::want(try_send(message, length), AFDX_CALL_SEND);
@@ -253,7 +253,7 @@ public:
         detail::want(afdx_open(handle_.get(), bytes, text.size()), AFDX_CALL_OPEN);
     }
 
-    /* Takes the port with an identifier. Throws Misuse (NoPort if there is none or it is out, Gathered) or OutOfMemory. */
+    /* Takes the port with an identifier. Throws Misuse (NoPort if there is none or it is out, Gathered). */
     Port port(std::uint16_t id) {
         Port port;
         detail::want(afdx_port_of(handle_.get(), id, port.handle_.get()));

@@ -137,7 +137,8 @@ def tried_writes(bench, program, words):
 
 
 def tried_growth(bench, program):
-    """A run and a storm of 10,000 messages more make a request for each, and few for lists of frames, which grow by doubling."""
+    """A run and a storm of 10,000 messages more make a request for each, which is for the line's message or the worker's, and
+    none to send it, and few for lists of frames, which grow by doubling."""
     def ran(count):
         script = "".join(f"send 10 01\nat {1000 * place}\n" for place in range(count))
         storm = ["storm", "plan.toml", "--messages", str(count), "--turns", "1000000000"]

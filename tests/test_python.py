@@ -226,6 +226,16 @@ def tries() -> None:
         check(port.accepted == 3)
 
 
+def no_memory() -> None:
+    """A send needs none: a queue takes as many messages of 8,192 bytes as it has places when none is left."""
+    check(afdx.OutOfMemory not in {*afdx.SEND_ERRORS.values(), *afdx.POLL_ERRORS.values()})
+    with EndSystem(DEMO.replace("capacity = 2", "capacity = 256")) as it, it.port(10) as port:
+        message = bytes(8192)
+        with no_more_memory():
+            sent = [port.try_send(message) for _ in range(257)]
+        check(sent == [True] * 256 + [False] and port.accepted == 256)
+
+
 def version() -> None:
     """The version is the header's, and what is exported is there."""
     check(f'"{afdx.__version__}"' in text_of("crates/afdx/afdx.h") and afdx.library_version() == afdx.__version__)
@@ -335,8 +345,8 @@ def speed() -> None:
 
 def main() -> int:
     done = Tries()
-    for test in (first_message, names, configurations, answers, judging, lists, all_raised, bytes_like, tries, version, mypy, pylint, threads, driven_runs,
-                 bench, speed):
+    for test in (first_message, names, configurations, answers, judging, lists, all_raised, bytes_like, tries, no_memory, version,
+                 mypy, pylint, threads, driven_runs, bench, speed):
         try:
             test()
             done.show(test.__name__)

@@ -160,8 +160,8 @@ class Port:
         self.id, self._home = id, home
 
     def send(self, message: BytesLike) -> None:
-        """Sends a message of 1 byte up to the port's greatest. Raises `Empty`, `TooLong`, `Closed`, `Exhausted`, `Full`
-        (poll, then try again) or `OutOfMemory`."""
+        """Sends a message of 1 byte up to the port's greatest. Raises `Empty`, `TooLong`, `Closed`, `Exhausted` or `Full`
+        (poll, then try again)."""
         want(self._sent(message), SEND_ERRORS)
 
     def try_send(self, message: BytesLike) -> bool:
@@ -215,8 +215,7 @@ class EndSystem:
         self._lengths = (c_size_t * MOST_FRAMES)()
 
     def port(self, id: int) -> Port:
-        """Takes the port with an identifier. Raises `NoPort` if there is none or it is out, `Gathered` after `gather`, or
-        `OutOfMemory`."""
+        """Takes the port with an identifier. Raises `NoPort` if there is none or it is out, `Gathered` after `gather`."""
         return Port(self, id)
 
     def poll(self, now: int) -> Poll:

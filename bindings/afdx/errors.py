@@ -265,10 +265,11 @@ class BadCapture(JudgeError):
 Errors = dict[int, type[AfdxError]]
 
 
-def _errors(kind: type[AfdxError]) -> Errors:
-    errors: list[type[AfdxError]] = [OutOfMemory, *kind.__subclasses__()]
+def _errors(kind: type[AfdxError], *more: type[AfdxError]) -> Errors:
+    errors: list[type[AfdxError]] = [*more, *kind.__subclasses__()]
     return {error.number: error for error in errors}
 
 
-CONFIG_ERRORS, SEND_ERRORS, POLL_ERRORS = map(_errors, (ConfigError, SendError, PollError))
-JUDGE_ERRORS, MISUSES = _errors(JudgeError), _errors(Misuse)
+# A send and a poll allocate nothing.
+SEND_ERRORS, POLL_ERRORS = _errors(SendError), _errors(PollError)
+CONFIG_ERRORS, JUDGE_ERRORS, MISUSES = (_errors(kind, OutOfMemory) for kind in (ConfigError, JudgeError, Misuse))

@@ -123,7 +123,7 @@ enum {
     AFDX_MEMORY = 15 /**< an allocation failed */
 };
 
-/** Why afdx_send refuses a message. AFDX_MEMORY: the copy could not be allocated. */
+/** Why afdx_send refuses a message. */
 enum { AFDX_EMPTY = 1, AFDX_TOO_LONG = 2, AFDX_CLOSED = 3, AFDX_EXHAUSTED = 4, AFDX_FULL = 5 };
 
 /** Why a line of a script is refused, in the order in which they are returned: LONG, WORD, NUMBER, HEX, EXTRA. */
@@ -156,8 +156,8 @@ enum {
     AFDX_BAD_CAPTURE = 45   /**< of afdx_judge.h: a capture is cut off or malformed */
 };
 
-/** Opens an end system from the text of a configuration, `length` bytes, which are copied. Allocates all memory that
-   polling, closing and gathering need.
+/** Opens an end system from the text of a configuration, `length` bytes, which are copied. Allocates all memory of the
+   end system and its ports: no later call on these allocates, and none frees but afdx_free and afdx_free_port.
    @param out the handle to fill
    @param text the text, UTF-8
    @param length its length in bytes
@@ -178,12 +178,12 @@ uint8_t afdx_open(afdx_end_system *out, const uint8_t *text, size_t length);
    the buffer, and its front was written. So NULL and 0 give the length. */
 uint8_t afdx_explain(const uint8_t *text, size_t length, uint8_t *buffer, size_t size, size_t *written);
 
-/** Takes the port with an identifier, once. It may be moved to a thread of its own.
+/** Takes the port with an identifier, once. It may be moved to a thread of its own. Allocates nothing.
    @param it the end system
    @param id the identifier of the port
    @param out the handle to fill
    @return AFDX_OK. Refused: AFDX_HELD (of `out`), AFDX_NOT_HELD, AFDX_WRONG_HANDLE, AFDX_GATHERED, AFDX_NO_PORT,
-   AFDX_MEMORY (the port can be taken later). */
+   AFDX_MEMORY (never seen: afdx_open took what a port needs). */
 uint8_t afdx_port_of(afdx_end_system *it, uint16_t id, afdx_port *out);
 
 /** The identifiers of all ports, in the order of the configuration, whether or not a port
@@ -205,15 +205,13 @@ uint8_t afdx_ports(const afdx_end_system *it, uint16_t *ids, size_t room, size_t
 uint8_t afdx_links(const afdx_end_system *it, uint16_t *ids, size_t room, size_t *count);
 
 /** Copies a message in, at the end of the queue of the port's sub-VL. Called by the thread that has the port. Never
-   waits, unless malloc does: the copy comes from malloc, and a later afdx_poll frees it, so either may meet a lock
-   of the allocator.
+   waits, and allocates nothing: the copy goes to memory that afdx_open took.
    @param port the port
    @param message the message
    @param length its length in bytes
-   @return AFDX_OK. Refused: AFDX_NOT_HELD, AFDX_WRONG_HANDLE; AFDX_EMPTY, AFDX_TOO_LONG, by the length alone,
-   before anything is allocated or copied; AFDX_MEMORY, also of a queue that is closed or full; AFDX_CLOSED,
-   AFDX_EXHAUSTED (the port has used its 2^40 slot requests, one for each send that finds its queue open),
-   AFDX_FULL: try again after a poll. A refused message isn't queued, but each AFDX_FULL uses a slot request. */
+   @return AFDX_OK. Refused: AFDX_NOT_HELD, AFDX_WRONG_HANDLE; AFDX_EMPTY, AFDX_TOO_LONG, by the length alone;
+   AFDX_CLOSED, AFDX_EXHAUSTED (the port has used its 2^40 slot requests, one for each send that finds its queue
+   open), AFDX_FULL: try again after a poll. A refused message isn't queued, but each AFDX_FULL uses a slot request. */
 uint8_t afdx_send(afdx_port *port, const uint8_t *message, size_t length);
 
 /** Writes the number of a port's accepted messages. Called by the thread that has the port.
@@ -224,7 +222,7 @@ uint8_t afdx_accepted(const afdx_port *port, uint64_t *count);
 
 /** Gives each virtual link its turn at `now`, in microseconds: one that is due and has something to send makes
    exactly one frame. Writes which networks are up afterwards. The frames of the poll before are gone. Called by one
-   thread at a time, as all calls on an end system. Never waits (but see afdx_send), and allocates nothing.
+   thread at a time, as all calls on an end system. Never waits, and neither allocates nor frees memory.
    @param it the end system
    @param now the time in microseconds
    @param standing the networks that are up: AFDX_A_STANDS, AFDX_B_STANDS

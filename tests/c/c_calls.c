@@ -188,9 +188,6 @@ static void check_send(void) {
     CHECK(send_bytes(&all.ports[0], 8193) == AFDX_TOO_LONG && send_bytes(&all.ports[1], 41) == AFDX_TOO_LONG);
     CHECK(send_bytes(&all.ports[0], 1) == 0 && send_bytes(&all.ports[0], 8192) == 0);
     CHECK(send_bytes(&all.ports[0], 1) == AFDX_FULL && accepted(&all.ports[0]) == 2);
-    refused_in = 0;
-    CHECK(send_bytes(&all.ports[0], 1) == AFDX_MEMORY);
-    refused_in = -1;
     closes(9, 0, AFDX_NO_SUB, 7);
     closes(1, 1, AFDX_NO_SUB, 7);
     closes(2, 2, AFDX_NO_SUB, 7);
@@ -204,21 +201,18 @@ static void check_send(void) {
     polls(0, 2, 1);
 }
 
-/* Polls; the copy that afdx_send makes is freed by the poll that transmits its last fragment. */
+/* Polls, at the time of the last one and at the last time of all. */
 static void check_poll(void) {
     uint8_t standing = 7;
     CHECK(frames(&all.it, AFDX_A) == 0 && frames(&all.it, AFDX_B) == 0);
     polls(0, 0, 0);
     CHECK(send_bytes(&all.ports[0], 1) == 0 && send_bytes(&all.ports[0], 2) == 0);
-    size_t sent = blocks;
     polls(5, 1, 1);
     CHECK(afdx_poll(&all.it, 4, &standing) == AFDX_TIME_BACK && standing == 7);
     CHECK(frames(&all.it, AFDX_A) == 1 && frames(&all.it, AFDX_B) == 1);
     polls(5, 0, 0);
     polls(1004, 0, 0);
-    CHECK(blocks == sent - 1);
     polls(1005, 1, 1);
-    CHECK(blocks == sent - 2);
     CHECK(send_bytes(&all.ports[0], 3) == 0);
     polls(UINT64_MAX, 1, 1);
     CHECK(afdx_poll(&all.it, 0, &standing) == AFDX_TIME_BACK);
@@ -335,7 +329,7 @@ static void check_orphans(void) {
     polls(0, 0, 0);
 }
 
-/* Each request for memory refused in turn: opening, taking a port, sending. All is given back. */
+/* Each request for memory of opening refused in turn. No other call requests any. All is given back. */
 static void check_memory(void) {
     size_t before = blocks;
     long refusals;
@@ -348,19 +342,11 @@ static void check_memory(void) {
         CHECK(answer == AFDX_MEMORY && !all.it.held && blocks == before);
     }
     CHECK(refusals > 10);
-    size_t open_blocks = blocks;
-    refused_in = 0;
-    CHECK(afdx_port_of(&all.it, 10, &all.ports[0]) == AFDX_MEMORY && !all.ports[0].held && blocks == open_blocks);
-    refused_in = 1;
-    CHECK(afdx_port_of(&all.it, 10, &all.ports[0]) == 0);
-    refused_in = 0;
-    CHECK(send_bytes(&all.ports[0], 0) == AFDX_EMPTY && send_bytes(&all.ports[0], 8193) == AFDX_TOO_LONG);
-    CHECK(send_bytes(&all.ports[0], 100) == AFDX_MEMORY);
-    refused_in = -1;
-    CHECK(accepted(&all.ports[0]) == 0);
     size_t asked = requests;
-    CHECK(send_bytes(&all.ports[0], 100) == 0 && requests == asked + 1);
-    asked = requests;
+    refused_in = 0;
+    CHECK(afdx_port_of(&all.it, 10, &all.ports[0]) == 0);
+    CHECK(send_bytes(&all.ports[0], 0) == AFDX_EMPTY && send_bytes(&all.ports[0], 8193) == AFDX_TOO_LONG);
+    CHECK(send_bytes(&all.ports[0], 100) == 0 && accepted(&all.ports[0]) == 1);
     uint8_t frame[1514], done = 0;
     size_t length = 0;
     polls(0, 1, 1);
@@ -369,6 +355,7 @@ static void check_memory(void) {
     CHECK(afdx_give_back(&all.it, &all.ports[0]) == 0 && afdx_gather(&all.it) == 0);
     CHECK(poll(&all.it, 1000) == 3 && afdx_is_done(&all.it, &done) == 0 && done == 1);
     CHECK(requests == asked);
+    refused_in = -1;
     CHECK(afdx_free(&all.it) == 0 && blocks == before);
 }
 

@@ -1,17 +1,21 @@
 #!/usr/bin/env python3
 """Tries the C library as C sees it: the header, each call, and the example.
 
-    python3 tests/c/c_library.py [--built]
+    python3 tests/c/c_library.py [--built] [--full]
 
 Of what `rt ci` has left it takes the libraries of the crates and the program `afdx_bench`, and it takes a C compiler:
-`CC`, or `cc`. It builds the C library first, which `rt ci` only proves, as `rt lib` does but without proving all below it
-once more. With --built it takes the library that is there. The tests of the calls (`c_calls.c`, `owners.c`, `threads.c`, `lines.c`, `judging.c`) and the
-example are compiled with all warnings as errors, as they are and with the sanitizers of addresses, leaks and undefined
-behaviour. What the example prints with `--dump` has to be what `afdx_bench run` prints. The last line is 'N passed, M
-failed', with ', 1 skipped' if there is no C++ compiler, and the exit status 0 exactly if nothing failed.
+`CC`, or `cc`. It builds the C library first, which `rt ci` only proves, as `rt lib` does but without proving all below
+it once more. With --built it takes the library that is there. The tests of the calls (`c_calls.c`, `owners.c`,
+`memory.c`, `threads.c`, `lines.c`, `judging.c`) and the example are compiled with all warnings as errors, as they are
+and with the sanitizers of addresses, leaks and undefined behaviour. If `tools/unproved.py` made the library, sanitizers
+see its own accesses too, and `threads.c` runs with the sanitizer of threads. That test sends a million messages, but
+20,000 with sanitizers and under valgrind; with --full a million there too. What the example prints with `--dump` has to
+be what `afdx_bench run` prints. The last line is 'N passed, M failed', with ', K skipped' if a tool is missing, and the
+exit status 0 exactly if nothing failed.
 """
 import os
 import re
+import shutil
 import subprocess
 import sys
 import tempfile
@@ -33,6 +37,10 @@ EXAMPLE = f"{ROOT}/examples/c"
 WARNINGS = ["-Wall", "-Wextra", "-Werror", "-Wpedantic", "-g", "-O2"]
 WRAPPED = ["-Wl,--wrap=malloc", "-Wl,--wrap=realloc", "-Wl,--wrap=free"]
 SANITIZER = ["-fsanitize=address,undefined", "-fno-sanitize-recover"]
+THREADS = ["-fsanitize=thread", "-DHAS_NO_TSAN_MEMCPY"]
+VALGRIND = ["valgrind", "-q", "--fair-sched=yes", "--leak-check=full", "--show-leak-kinds=all", "--error-exitcode=9"]
+# How many messages threads send together with the sanitizers and under valgrind.
+FEW = [] if "--full" in sys.argv else ["20000"]
 
 # What the example is to send: a configuration, and the words for its ports. All messages have room before the first poll.
 SENDING = [
@@ -89,7 +97,9 @@ def is_built(tries):
 def compiled(tries, room, name, source, flags):
     """The path of a program, compiled with these flags; `None` if the compiler refused it."""
     path = f"{room}/{name}"
-    archives = [LIBRARY, f"{kit()}/c/liblibc_c.a", "-lpthread"]
+    kinds = [it for flag in flags for it in re.findall(r"^-fsanitize=(\w+)", flag)]
+    sanitized = f"{LIBRARY[:-2]}-{kinds[0]}.a" if kinds else ""
+    archives = [sanitized if os.path.isfile(sanitized) else LIBRARY, f"{kit()}/c/liblibc_c.a", "-lpthread"]
     made = ran([compiler() or "cc", "-std=gnu11", *WARNINGS, *flags, f"-I{CRATE}", source, *archives, "-o", path])
     tries.show(f"compiling {name}", [made.stderr] if made.returncode else [])
     return None if made.returncode else path
@@ -109,15 +119,37 @@ def try_header(tries, room):
         tries.show(f"the header, {' '.join(flags)}", [made.stderr] if made.returncode else [])
 
 
-def try_calls(tries, room, name, source, flags):
+def try_calls(tries, room, name, source, flags, words=()):
     """Tests of the calls, whose last line counts them."""
     path = compiled(tries, room, name, f"{ROOT}/{source}", [*WRAPPED, *flags])
-    if path is None:
-        return
-    calls = ran([path], room)
+    if path is not None:
+        try_counted(tries, room, name, [path, *words])
+
+
+def try_counted(tries, room, name, words):
+    """A program whose last line counts what it tested."""
+    calls = ran(words, room, 3600)
     counts = re.fullmatch(r"([1-9]\d*) passed, 0 failed", calls.stdout.strip().rpartition("\n")[2])
     is_well = counts is not None and calls.returncode == 0 and not calls.stderr
     tries.show(f"{name}: {counts[0] if counts else 'no counts'}", [] if is_well else [said(calls)])
+
+
+def try_memory(tries, room):
+    """The memory that `afdx_bench report` prints of a plan is what the library takes."""
+    plans = re.findall(r"(?m)^plan (\d+): (\d+ bytes)$", ran([f"{room}/memory", room], room).stdout)
+    told = [ran([BENCH, "report", f"{room}/{plan}.toml"], room) for plan, _ in plans]
+    faults = [said(it) for it, (_, held) in zip(told, plans) if not re.search(f"(?m)^memory {held}(, |$)", it.stdout)]
+    tries.show(f"the memory of {len(plans)} plans by the bench", faults[:5] if plans else ["no plans"])
+
+
+def try_threads(tries, room):
+    """Threads that send, under valgrind, and with the sanitizer of threads if the library has it."""
+    if shutil.which(VALGRIND[0]):
+        try_counted(tries, room, "threads under valgrind", [*VALGRIND, f"{room}/threads", *FEW])
+    else:
+        tries.skip("no valgrind")
+    if os.path.isfile(f"{LIBRARY[:-2]}-thread.a"):
+        try_calls(tries, room, "threads-of-threads", "tests/c/threads.c", THREADS, FEW)
 
 
 def finding_lines(case, room, program):
@@ -229,9 +261,11 @@ def main():
         try_header(tries, room)
         if "--built" not in sys.argv and not is_built(tries):
             return tries.end()
-        for name in ("c_calls", "owners", "threads", "lines", "judging"):
+        for name in ("c_calls", "owners", "memory", "threads", "lines", "judging"):
             try_calls(tries, room, name, f"tests/c/{name}.c", [])
-            try_calls(tries, room, f"{name}-sanitized", f"tests/c/{name}.c", SANITIZER)
+            try_calls(tries, room, f"{name}-sanitized", f"tests/c/{name}.c", SANITIZER, FEW if name == "threads" else ())
+        try_threads(tries, room)
+        try_memory(tries, room)
         try_judging(tries, room, "judging")
         try_findings(tries, room)
         for name, flags in (("example", ["-Wconversion"]), ("example-sanitized", SANITIZER)):

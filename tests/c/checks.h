@@ -22,9 +22,9 @@ static int end_of_checks(void) {
     return failed != 0;
 }
 
-/* Memory: how many requests were made, the blocks and bytes in use, the most bytes that were, and how many requests more
-   until one fails (none if negative). Allocations call `__wrap_malloc` and its kin by the linker's --wrap. */
-static _Atomic size_t requests, blocks, bytes, most;
+/* Memory: how many requests were made, and blocks freed, the blocks and bytes in use, the most bytes that were, and how many
+   requests more until one fails (none if negative). Allocations call `__wrap_malloc` and its kin by the linker's --wrap. */
+static _Atomic size_t requests, frees, blocks, bytes, most;
 static _Atomic long refused_in = -1;
 
 enum { HEAD = 16 };
@@ -56,6 +56,7 @@ void __wrap_free(void *block) {
     memcpy(&before, (unsigned char *)block - HEAD, sizeof before);
     bytes -= before;
     blocks--;
+    frees++;
     __real_free((unsigned char *)block - HEAD);
 }
 

@@ -1,7 +1,6 @@
-/* Tests calls of afdx.h with two end systems side by side, no bytes, lists and the allocator: a port can be given back only
-   to its own end system, NULL is legal for 0 bytes, all frames of a poll at once are those of the calls for one, the time
-   until which a poller may sleep is one at which a link becomes due, what is const isn't written, an explanation is cut
-   to its buffer, and an end system allocates as much memory as docs/guide/c.md says.
+/* Tests calls of afdx.h with two end systems side by side, no bytes and lists: a port can be given back only to its own end
+   system, NULL is legal for 0 bytes, all frames of a poll at once are those of the calls for one, the time until which a
+   poller may sleep is one at which a link becomes due, what is const isn't written, and an explanation is cut to its buffer.
 
    tests/c/c_library.py builds and runs it. */
 #include "afdx.h"
@@ -256,44 +255,6 @@ static void check_explain(void) {
                      "or inline table\n");
 }
 
-/* The bytes that an end system holds from afdx_open to afdx_free: docs/guide/c.md has this formula. */
-static size_t formula(size_t links, size_t sub_vls, size_t capacity, size_t each) {
-    size_t ports = links * sub_vls * each;
-    return 199633 + 280 * links + 24 * (links < 4 ? 4 : links) + 176 * ports + 32 * (ports < 4 ? 4 : ports)
-        + links * sub_vls * (272 + 48 * capacity);
-}
-
-/* What is held beyond that for a moment while an end system is opened. */
-static size_t passing(size_t links) { return links > 55 ? 8 * (links - 55) : 0; }
-
-static void check_memory(void) {
-    static const int rows[][4] = {{1, 1, 1, 1}, {1, 1, 2, 1}, {1, 1, 1, 2}, {1, 2, 1, 1},
-                                  {2, 1, 1, 1}, {64, 4, 256, 1}, {8, 2, 10, 4}, {1, 1, 256, 64}, {5, 3, 7, 5}};
-    for (size_t k = 0; k < sizeof rows / sizeof *rows; k++) {
-        const int *row = rows[k];
-        afdx_end_system it = {0};
-        afdx_port port = {0};
-        uint8_t standing, frame[AFDX_GREATEST_FRAME], message[8192] = {1};
-        size_t length = 0, wanted = formula((size_t)row[0], (size_t)row[1], (size_t)row[2], (size_t)row[3]);
-        const char *text = plan(row[0], row[1], row[2], row[3]);
-        most = bytes;
-        open_plan(&it, text);
-        CHECK(bytes == wanted);
-        CHECK(most == wanted + passing((size_t)row[0]) || most < 60 * strlen(text));
-        CHECK(afdx_port_of(&it, 0, &port) == AFDX_OK && bytes == wanted + 112);
-        CHECK(afdx_send(&port, message, sizeof message) == AFDX_OK && bytes == wanted + 112 + sizeof message);
-        /* no allocation from here on; the message's block is freed with the sixth fragment, its last */
-        size_t asked = requests;
-        for (uint64_t now = 0; now < 10000; now += 1000) {
-            CHECK(afdx_poll(&it, now, &standing) == AFDX_OK);
-            CHECK(bytes == wanted + 112 + (now < 5000 ? sizeof message : 0));
-        }
-        CHECK(afdx_frame(&it, AFDX_A, 0, frame, sizeof frame, &length) == AFDX_NO_FRAME);
-        CHECK(afdx_give_back(&it, &port) == AFDX_OK && afdx_gather(&it) == AFDX_OK && requests == asked);
-        CHECK(afdx_free(&it) == AFDX_OK && blocks == 0 && bytes == 0);
-    }
-}
-
 int main(void) {
     check_owners();
     check_null();
@@ -302,6 +263,5 @@ int main(void) {
     check_next_due();
     check_const();
     check_explain();
-    check_memory();
     return end_of_checks();
 }

@@ -1,15 +1,15 @@
 //! What a handle holds, for the calls. Each borrows the content of its handle. No `&` to what owns memory can be
 //! taken from C, so each takes its handles by `&mut`; those that `afdx.h` declares with `const` write nothing there.
 
-// The answer of `$answer` over the place of the end system in a handle. Otherwise `WRONG_HANDLE` if it holds a port,
-// and `NOT_HELD` if it holds nothing.
+// The answer of `$answer` over the place of the end system in a handle, and the boxes beside it. Otherwise
+// `WRONG_HANDLE` if it holds a port, and `NOT_HELD` if it holds nothing.
 macro_rules! at_end {
-    ($handle:expr, $inside:ident => $answer:expr) => {{
+    ($handle:expr, $inside:ident, $boxes:ident => $answer:expr) => {{
         if $handle.is_empty() {
             return NOT_HELD;
         }
         match $handle.kept.get_mut() {
-            Home::EndSystem($inside) => $answer,
+            Home::EndSystem($inside, $boxes) => $answer,
             Home::Port(_) => WRONG_HANDLE,
             Home::Nothing => NOT_HELD,
         }
@@ -19,7 +19,7 @@ macro_rules! at_end {
 // The same over the end system itself.
 macro_rules! with_end {
     ($handle:expr, $end:ident => $answer:expr) => {
-        at_end!($handle, inside => match &mut **inside {
+        at_end!($handle, inside, _boxes => match &mut **inside {
             Some($end) => $answer,
             None => NOT_HELD,
         })
@@ -38,7 +38,7 @@ macro_rules! with_port {
                 let $port = &mut own.port;
                 $answer
             }
-            Home::EndSystem(inside) if inside.is_some() => WRONG_HANDLE,
+            Home::EndSystem(inside, _boxes) if inside.is_some() => WRONG_HANDLE,
             _ => NOT_HELD,
         }
     }};

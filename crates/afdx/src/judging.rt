@@ -1,9 +1,6 @@
 //! The calls that judge recordings.
-ghost use Rattle.std.specs.Prelude.{◌≡◌, ◌≢◌, true, false, [], length};
-ghost use Rattle.afdx_config.specs.Faults.{IsLeastFault};
-ghost use Rattle.afdx_plan.specs.declared.fault.ConfigFault.{ConfigFault};
-ghost use Rattle.afdx_plan.specs.declared.fault.ConfigFault.TheVariants.{Memory};
-ghost use Rattle.afdx_plan.specs.PlanFaults.{fault_number};
+ghost use Rattle.std.specs.Prelude.{◌≡◌, true, false, [], length};
+ghost use Rattle.afdx_handle.specs.Calls.{IsFaultNumber};
 ghost use Rattle.afdx_handle.specs.Judged.{IsJudged, IsRefused, answer_of};
 
 use afdx_handle::{FindingRow, JudgeOptions, Judged, judge_into};
@@ -22,8 +19,7 @@ pub extern "C" fn afdx_judge(
     ensures judged { ¬ IsRefused result →
         IsJudged text.now options.now false capture.now [] rows.old rows.new judged.new }
     ensures answers { ¬ IsRefused result → result ≡ answer_of judged.new (length rows.old) }
-    ensures fault { IsRefused result → (fault : ConfigFault) × (result ≡ fault_number fault)
-        × (fault ≢ Memory → IsLeastFault text.now fault) }
+    ensures fault { IsRefused result → IsFaultNumber text.now result }
     ensures unwritten { IsRefused result → (rows.new ≡ rows.old) × (judged.new ≡ judged.old) }
 {
     judge_into(alloc, text, options, false, capture, &[], rows, judged)
@@ -43,8 +39,7 @@ pub extern "C" fn afdx_judge_pair(
     ensures judged { ¬ IsRefused result →
         IsJudged text.now options.now true a.now b.now rows.old rows.new judged.new }
     ensures answers { ¬ IsRefused result → result ≡ answer_of judged.new (length rows.old) }
-    ensures fault { IsRefused result → (fault : ConfigFault) × (result ≡ fault_number fault)
-        × (fault ≢ Memory → IsLeastFault text.now fault) }
+    ensures fault { IsRefused result → IsFaultNumber text.now result }
     ensures unwritten { IsRefused result → (rows.new ≡ rows.old) × (judged.new ≡ judged.old) }
 {
     judge_into(alloc, text, options, true, a, b, rows, judged)

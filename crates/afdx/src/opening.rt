@@ -1,21 +1,20 @@
 //! The calls that open, gather and free an end system, and that pass its ports.
 ghost use Rattle.std.specs.Prelude.{◌≡◌, ◌≢◌, ◌⊎◌, ◌↔◌, ◌<◌, ◌≤◌, [], ◌∷◌, None, Some, IsSome, IsNone, true, false, length, drop, position};
-ghost use Rattle.afdx_config.specs.Faults.{IsLeastFault};
-ghost use Rattle.afdx_plan.specs.declared.fault.ConfigFault.{ConfigFault};
-ghost use Rattle.afdx_plan.specs.declared.fault.ConfigFault.TheVariants.{Memory};
-ghost use Rattle.afdx_plan.specs.PlanFaults.{fault_number};
 ghost use Rattle.afdx_tx.specs.Ports.{PortView, IsPortOfTx, LacksPlace};
+ghost use Rattle.afdx_handle.specs.Calls.{ChangesEnd, IsFaultNumber};
 ghost use Rattle.afdx_handle.specs.Numbers.{IsOneOf};
 ghost use Rattle.afdx_handle.specs.EndSystem.{EndView, has_id, GathersEnd, GivesBack, TakesPort, IsOpened};
 ghost use Rattle.afdx_handle.specs.Listing.{IsExplainedIn};
 ghost use Rattle.afdx_handle.specs.Held.{end_of, port_of, port_block, HoldsNothing, HoldsOne, HoldsEnd, HoldsPort, HoldsSame, EndDoes};
 
 use crate::content::{at_end, with_end, with_port};
+use afdx_config::explain;
 use afdx_handle::answer::{
     DONE, GATHERED, HELD, MEMORY, NO_PORT, NOT_HELD, PORT_MISSING, SMALL_BUFFER, WRONG_HANDLE,
 };
 use afdx_handle::{
-    Handle, Home, Marked, Opening, explain_into, gather, give_to, is_nothing, open_home, take_port,
+    Handle, Home, Marked, Opening, gather, give_to, is_nothing, keep_box, open_home, take_port,
+    write_front,
 };
 use std::alloc::Global;
 use std::mem;
@@ -26,8 +25,7 @@ pub extern "C" fn afdx_open(alloc: Global, out: &mut Opening, text: &[u8]) -> u8
     ensures held { (result ≡ HELD) ↔ IsSome out.old.handle.kept.home }
     ensures opened { result ≡ DONE → HoldsEnd out.new.handle.kept.home (IsOpened text.now) }
     ensures marked { result ≡ DONE → HoldsEnd out.new.handle.kept.home (λ end. out.new.mark ≡ end.block) }
-    ensures fault { result ≢ DONE → result ≢ HELD → (fault : ConfigFault) × (result ≡ fault_number fault)
-        × (fault ≢ Memory → IsLeastFault text.now fault) }
+    ensures fault { result ≢ DONE → result ≢ HELD → IsFaultNumber text.now result }
     ensures refused { result ≢ DONE → (out.new.handle.kept.home ≡ out.old.handle.kept.home)
         × (out.new.mark ≡ out.old.mark) }
 {
@@ -58,12 +56,18 @@ pub extern "C" fn afdx_explain(
     ensures small { result ≡ SMALL_BUFFER → length buffer.old < size.new }
     ensures unwritten { result ≡ MEMORY → (buffer.new ≡ buffer.old) × (size.new ≡ size.old) }
 {
-    explain_into(alloc, text, buffer, size)
+    match explain(alloc, text) {
+        Ok(told) => {
+            *size = told.text.len();
+            write_front(buffer, told.text.as_slice())
+        }
+        Err(_) => MEMORY,
+    }
 }
 
 /// Takes the port with an identifier, once.
 #[unsafe(no_mangle)]
-pub extern "C" fn afdx_port_of(alloc: Global, it: &mut Marked, id: u16, out: &mut Marked) -> u8
+pub extern "C" fn afdx_port_of(it: &mut Marked, id: u16, out: &mut Marked) -> u8
     ensures answers { IsOneOf result (DONE ∷ HELD ∷ NOT_HELD ∷ WRONG_HANDLE ∷ GATHERED ∷ NO_PORT ∷ MEMORY ∷ []) }
     ensures held { (result ≡ HELD) ↔ IsSome out.old.handle.kept.home }
     ensures not_held { (result ≡ NOT_HELD) ↔ (IsNone out.old.handle.kept.home × HoldsNothing it.old.handle.kept.home) }
@@ -86,13 +90,18 @@ pub extern "C" fn afdx_port_of(alloc: Global, it: &mut Marked, id: u16, out: &mu
     if !out.handle.is_empty() {
         return HELD;
     }
-    with_end!(it.handle, end_system => match take_port(alloc, end_system, id) {
-        Ok(port) => {
-            out.handle.put(port);
-            out.mark = it.mark;
-            DONE
+    at_end!(it.handle, inside, boxes => {
+        let Some(end_system) = &mut **inside else {
+            return NOT_HELD;
+        };
+        match take_port(end_system, boxes, id) {
+            Ok(port) => {
+                out.handle.put(port);
+                out.mark = it.mark;
+                DONE
+            }
+            Err(number) => number,
         }
-        Err(number) => number,
     })
 }
 
@@ -128,32 +137,32 @@ pub extern "C" fn afdx_give_back(it: &mut Marked, port: &mut Marked) -> u8
     }
     let theirs = port.handle.kept.get_mut();
     let answer = match it.handle.kept.get_mut() {
-        Home::EndSystem(inside) => match &mut **inside {
+        Home::EndSystem(inside, _boxes) => match &mut **inside {
             Some(end_system) => give_to(end_system, theirs, own),
             None => NOT_HELD,
         },
         Home::Port(_) if !is_nothing(theirs) => WRONG_HANDLE,
         _ => NOT_HELD,
     };
-    if answer == DONE {
-        drop(port.handle.take());
+    if answer != DONE {
+        return answer;
     }
-    answer
+    if let Some(home) = port.handle.take() {
+        keep_box(it.handle.kept.get_mut(), home);
+    }
+    DONE
 }
 
 /// Starts draining. All ports are in the end system.
 #[unsafe(no_mangle)]
 pub extern "C" fn afdx_gather(alloc: Global, it: &mut Handle) -> u8
-    ensures answers { IsOneOf result (DONE ∷ NOT_HELD ∷ WRONG_HANDLE ∷ GATHERED ∷ PORT_MISSING ∷ []) }
-    ensures not_held { (result ≡ NOT_HELD) ↔ HoldsNothing it.old.kept.home }
-    ensures wrong_handle { (result ≡ WRONG_HANDLE) ↔ IsSome (port_of it.old.kept.home) }
+    ensures changes { ChangesEnd it.old.kept.home it.new.kept.home (GATHERED ∷ PORT_MISSING ∷ []) result }
     ensures gathered { (result ≡ GATHERED) ↔ HoldsEnd it.old.kept.home (λ end. end.gathered ≡ true) }
     ensures missing { (result ≡ PORT_MISSING) ↔ HoldsEnd it.old.kept.home (λ end.
         (end.gathered ≡ false) × LacksPlace (length end.tx.plan.ports) end.ports) }
     ensures gathers { result ≡ DONE → EndDoes it.old.kept.home it.new.kept.home GathersEnd }
-    ensures refused { result ≢ DONE → HoldsSame it.old.kept.home it.new.kept.home }
 {
-    at_end!(it, inside => {
+    at_end!(it, inside, _boxes => {
         let Some(end_system) = mem::replace(&mut **inside, None) else {
             return NOT_HELD;
         };
@@ -166,11 +175,8 @@ pub extern "C" fn afdx_gather(alloc: Global, it: &mut Handle) -> u8
 /// Frees an end system.
 #[unsafe(no_mangle)]
 pub extern "C" fn afdx_free(it: &mut Handle) -> u8
-    ensures answers { IsOneOf result (DONE ∷ NOT_HELD ∷ WRONG_HANDLE ∷ []) }
-    ensures not_held { (result ≡ NOT_HELD) ↔ HoldsNothing it.old.kept.home }
-    ensures wrong_handle { (result ≡ WRONG_HANDLE) ↔ IsSome (port_of it.old.kept.home) }
+    ensures changes { ChangesEnd it.old.kept.home it.new.kept.home [] result }
     ensures freed { result ≡ DONE → IsNone it.new.kept.home }
-    ensures refused { result ≢ DONE → HoldsSame it.old.kept.home it.new.kept.home }
 {
     let answer = with_end!(it, _end => DONE);
     if answer == DONE {

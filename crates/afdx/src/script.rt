@@ -8,7 +8,8 @@ ghost use Rattle.afdx_handle.specs.Numbers.{IsOneOf};
 ghost use Rattle.afdx_handle.specs.Script.{laid_out, message_in};
 
 use afdx_handle::answer::{DONE, MEMORY, SMALL_BUFFER};
-use afdx_handle::{ScriptLine, VERSION, read_script_line};
+use afdx_handle::{ScriptLine, VERSION, laid_out, write_message};
+use script_text::{LineFault, read_line};
 use std::alloc::Global;
 
 /// The version of the library, as a number.
@@ -19,7 +20,9 @@ pub extern "C" fn afdx_version_number() -> u32
     VERSION
 }
 
-/// Reads a line of a script: writes what it says, and the message of a send into a buffer.
+/// Reads a line of a script, given without its end: writes what it says, and the message of a send into a buffer. On
+/// `SMALL_BUFFER`, if the message is longer than the buffer, writes no message. Returns the number of the line's first
+/// fault, or `MEMORY`, if an allocation fails; then writes nothing.
 #[unsafe(no_mangle)]
 pub extern "C" fn afdx_script_line(
     alloc: Global,
@@ -37,5 +40,12 @@ pub extern "C" fn afdx_script_line(
     ensures unwritten { result ≢ DONE → buffer.new ≡ buffer.old }
     ensures unsaid { result ≢ DONE → result ≢ SMALL_BUFFER → out.new ≡ out.old }
 {
-    read_script_line(alloc, line, out, buffer)
+    match read_line(alloc, line) {
+        Ok(said) => {
+            *out = laid_out(&said);
+            write_message(&said, buffer)
+        }
+        Err(LineFault::Memory) => MEMORY,
+        Err(fault) => fault.number(),
+    }
 }

@@ -16,8 +16,7 @@ pub use Rattle.core.proofs.alloc.Calls.{Goes-blank, handle_tells, token}
 pub use Rattle.core.proofs.mem.Facts.{says_two}
 unfoldable pub use Rattle.redundant_mux.specs.Lines.{log}
 pub use Rattle.redundant_mux.specs.Lines.{Endures, Keeps, Lines}
-pub use Rattle.std.proofs.Common.{Bool, Some, ap, append_assoc, arith, drop-cons, false, inl, inr, length, length-take-le, map, position, rules, set, subst, suc, sym, take, true, vec_capacity, zero}
-pub use Rattle.std.proofs.Common.{ℕ, ◌*◌, ◌+◌, ◌-◌, ◌<◌, ◌∙◌, ◌≡◌, ◌≤◌, MutBor}
+pub use Rattle.std.proofs.Common.{Bool, Some, ap, append_assoc, arith, drop-cons, false, inl, inr, length, length-take-le, map, position, rules, set, subst, suc, sym, take, true, vec_capacity, zero, ℕ, ◌*◌, ◌+◌, ◌-◌, ◌<◌, ◌∙◌, ◌≡◌, ◌≤◌, MutBor}
 pub use Rattle.std.proofs.lemmas.Bool.{cases_Bool, eqb-true}
 pub use Rattle.std.proofs.lemmas.List.{append-nil, drop-drop, length-map, map-append, map_more}
 pub use Rattle.std.proofs.lemmas.List.Elements.{All-head, All-push, filter-append}
@@ -62,8 +61,7 @@ pub use mir.Syntax.{Args, a_type, dcons, dnil, named}
 pub use mir.Val.{Val, WT, has_ty, of_list, vptr, vstruct}
 pub use prog.Wp.{WpFn}
 pub use types.ByLocal.{alloc_all, env, free_all, get, get_in, lands_as, lands_last, look_at, pass_all, sets, through, sets_last}
-pub use types.Kit.{ !, Item, at_ret, await, done, drop, feq_i, feq_l, fjoin, fpack, fpick, fsplit, join, later, move, pick, qed, raw, rewrite, some, split, split3, suffices, use1, ‵, ◌$◌, ◌∵◌, ◌⊛◌}
-pub use types.Kit.{prop, regoal, keep, fsplit3, fjoin3, frame, group, use0}
+pub use types.Kit.{ !, Item, at_ret, await, done, drop, feq_i, feq_l, fjoin, fpack, fpick, fsplit, join, later, move, pick, qed, raw, rewrite, some, split, split3, suffices, use1, ‵, ◌$◌, ◌∵◌, ◌⊛◌, prop, regoal, keep, fsplit3, fjoin3, frame, group, use0}
 pub use types.Logic.{sem}
 pub use types.Part.{agg, sub, whole, look_in}
 pub use types.Run.{and_then, blocks, enter, exec, first, fld, no_more, of_opd, returns, stop, addr, load}

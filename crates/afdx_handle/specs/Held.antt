@@ -4,30 +4,30 @@ use Rattle.afdx_tx.specs.Ports.{PortView}
 use denote.RawPtr.{Ptr}
 use Rattle.afdx_handle.specs.EndSystem.{EndView}
 use Rattle.afdx_handle.specs.declared.home.Home.{Home}
+use Rattle.afdx_handle.specs.declared.home.Home as is
 use Rattle.std.specs.Borrow.{Lends, MutBor, Fml}
 use Rattle.afdx_handle.specs.declared.seal.Sealed.{Sealed}
 use Rattle.afdx_handle.specs.contracts.home.Home.{the_row as home_row}
 use Rattle.afdx_handle.specs.contracts.seal.Sealed.{the_row}
-use Rattle.afdx_handle.specs.declared.home.Home.TheVariants as is
 
 -- the end system, if it holds one
 abbrev pub end_of : Option Home → Option EndView
 end_of None = None
-end_of (Some (is.EndSystem it)) = it.value
+end_of (Some (is.EndSystem' it shape boxes)) = it.value
 end_of (Some (is.Port port)) = None
 end_of (Some is.Nothing) = None
 
 -- the port, if it holds one
 abbrev pub port_of : Option Home → Option PortView
 port_of None = None
-port_of (Some (is.EndSystem it)) = None
+port_of (Some (is.EndSystem' it shape boxes)) = None
 port_of (Some (is.Port own)) = Some own.port
 port_of (Some is.Nothing) = None
 
 -- the address of the block of the end system that its port was taken from, if it holds a port
 abbrev pub port_block : Option Home → Option Ptr
 port_block None = None
-port_block (Some (is.EndSystem it)) = None
+port_block (Some (is.EndSystem' it shape boxes)) = None
 port_block (Some (is.Port own)) = Some own.block
 port_block (Some is.Nothing) = None
 

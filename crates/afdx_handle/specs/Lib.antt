@@ -1,3 +1,4 @@
+pub mod Calls
 pub mod EndSystem
 pub mod Held
 pub mod Judged

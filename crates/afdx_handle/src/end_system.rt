@@ -2,17 +2,14 @@
 ghost use Rattle.std.specs.Prelude.{◌≡◌, ℕ, length};
 
 use crate::answer::{
-    BOTH_DOWN, DONE, GATHERED, NO_FRAME, NO_LINK, NO_SUB, NOT_GATHERED, SMALL_BUFFER, TIME_BACK,
-    standing_bits,
+    BOTH_DOWN, DONE, GATHERED, NO_SUB, NOT_GATHERED, SMALL_BUFFER, TIME_BACK, standing_bits,
 };
 use crate::block::Block;
-use crate::listing::{put_at, write_link_ids, write_port_ids};
-use crate::release::{FrameRelease, release_of};
+use crate::listing::put_at;
 use crate::stage::Stage;
 use afdx_frame::Net;
 use afdx_plan::VlId;
 use afdx_tx::TxPort;
-use status_board::Counts;
 use std::alloc::Global;
 use std::marker::Model;
 use std::sync::Arc;
@@ -42,17 +39,12 @@ impl Model for EndSystem {
 }
 
 impl EndSystem {
-    ghost use Rattle.std.specs.Prelude.{◌≡◌, ◌≢◌, ◌<◌, ◌≤◌, ◌+◌, ◌++◌, ◌⊎◌, ◌↔◌, false, true, length, drop, IsErr, IfErr, IfOk};
+    ghost use Rattle.std.specs.Prelude.{◌≡◌, ◌≢◌, ◌<◌, ◌≤◌, ◌+◌, ◌⊎◌, ◌↔◌, false, true, length};
     ghost use Rattle.redundant_mux.specs.Lines.{is_alive};
     ghost use Rattle.afdx_tx.specs.Calls.{LacksSub};
-    ghost use Rattle.afdx_tx.specs.Emitter.{LacksLink};
-    ghost use Rattle.afdx_legal.specs.Counting.{counts_in};
-    ghost use Rattle.afdx_legal.specs.Streams.{own_stream};
     ghost use Rattle.afdx_handle.specs.Numbers.{line_of, standing_bits};
-    ghost use Rattle.afdx_handle.specs.Release.{IsReleaseOf};
-    ghost use Rattle.afdx_handle.specs.Polling.{IsNextDue};
     ghost use Rattle.afdx_handle.specs.EndSystem.{PollsEnd, ClosesEnd, FailsEnd, before_of, made_for, made_at, IsAllSent};
-    ghost use Rattle.afdx_handle.specs.Listing.{with_front, port_ids, link_ids, all_made, bytes_of, lengths_of};
+    ghost use Rattle.afdx_handle.specs.Listing.{with_front, all_made, bytes_of, lengths_of};
     ghost use Rattle.std.specs.List.{concat};
 
     /// Gives each link its turn at `now`, in microseconds, and writes the networks that are up
@@ -105,69 +97,8 @@ impl EndSystem {
         end.saturating_sub(first) as usize
     }
 
-    /// Copies frame `k`, from 0, that the last poll made for a network into a buffer, and writes
-    /// its length. Writes nothing on `NO_FRAME`, if the poll made fewer frames, and on
-    /// `SMALL_BUFFER`, if the frame is longer than the buffer.
-    pub fn frame(&self, net: Net, k: usize, buffer: &mut [u8], size: &mut usize) -> u8
-        ensures answers { (result ≡ DONE) ⊎ ((result ≡ NO_FRAME) ⊎ (result ≡ SMALL_BUFFER)) }
-        ensures no_frame { (result ≡ NO_FRAME) ↔ (made_for net self.now ≤ k) }
-        ensures small { (result ≡ SMALL_BUFFER) ↔
-            ((k < made_for net self.now) × (length buffer.old < length (made_at net k self.now))) }
-        ensures copied { result ≡ DONE → buffer.new ≡
-            made_at net k self.now ++ drop (length (made_at net k self.now)) buffer.old }
-        ensures size { result ≡ DONE → size.new ≡ length (made_at net k self.now) }
-        ensures unwritten { result ≢ DONE → (buffer.new ≡ buffer.old) × (size.new ≡ size.old) }
-    {
-        if k >= self.frames(net) {
-            return NO_FRAME;
-        }
-        let bytes = self.made(net, k);
-        if buffer.len() < bytes.len() {
-            return SMALL_BUFFER;
-        }
-        buffer[..bytes.len()].copy_from_slice(bytes);
-        *size = bytes.len();
-        DONE
-    }
-
-    /// Writes the identifiers of the ports, in the order of the configuration, and their number. On
-    /// `SMALL_BUFFER`, if there is room for fewer, writes only the number.
-    pub fn port_ids(&self, ids: &mut [u16], count: &mut usize) -> u8
-        ensures answers { (result ≡ DONE) ⊎ (result ≡ SMALL_BUFFER) }
-        ensures small { (result ≡ SMALL_BUFFER) ↔ (length ids.old < length (port_ids self.now)) }
-        ensures listed { result ≡ DONE → ids.new ≡ with_front (port_ids self.now) ids.old }
-        ensures count { count.new ≡ length (port_ids self.now) }
-        ensures unwritten { result ≢ DONE → ids.new ≡ ids.old }
-    {
-        let ports = self.stage.config().ports();
-        *count = ports.len();
-        if ids.len() < ports.len() {
-            return SMALL_BUFFER;
-        }
-        write_port_ids(ports, ids);
-        DONE
-    }
-
-    /// Writes the identifiers of the links, in the order of the configuration, and their number. On
-    /// `SMALL_BUFFER`, if there is room for fewer, writes only the number.
-    pub fn link_ids(&self, ids: &mut [u16], count: &mut usize) -> u8
-        ensures answers { (result ≡ DONE) ⊎ (result ≡ SMALL_BUFFER) }
-        ensures small { (result ≡ SMALL_BUFFER) ↔ (length ids.old < length (link_ids self.now)) }
-        ensures listed { result ≡ DONE → ids.new ≡ with_front (link_ids self.now) ids.old }
-        ensures count { count.new ≡ length (link_ids self.now) }
-        ensures unwritten { result ≢ DONE → ids.new ≡ ids.old }
-    {
-        let links = self.stage.config().links();
-        *count = links.len();
-        if ids.len() < links.len() {
-            return SMALL_BUFFER;
-        }
-        write_link_ids(links, ids);
-        DONE
-    }
-
     /// Frame `k`, from 0, that the last poll made for a network.
-    fn made(&self, net: Net, k: usize) -> &[u8]
+    pub fn made(&self, net: Net, k: usize) -> &[u8]
         requires { k < made_for net self.now }
         ensures frame { result.now ≡ made_at net k self.now }
         ensures most { length result.now ≤ 1514 }
@@ -177,21 +108,6 @@ impl EndSystem {
             unreachable!();
         };
         kept.frame.as_slice()
-    }
-
-    /// Writes the link, the sub-VL and the number of frame `k`, from 0, that the last poll made for a network. Writes
-    /// nothing on `NO_FRAME`, if the poll made fewer frames.
-    pub fn release(&self, net: Net, k: usize, out: &mut FrameRelease) -> u8
-        ensures answers { (result ≡ DONE) ⊎ (result ≡ NO_FRAME) }
-        ensures no_frame { (result ≡ NO_FRAME) ↔ (made_for net self.now ≤ k) }
-        ensures released { result ≡ DONE → IsReleaseOf (made_at net k self.now) out.new }
-        ensures unwritten { result ≢ DONE → out.new ≡ out.old }
-    {
-        if k >= self.frames(net) {
-            return NO_FRAME;
-        }
-        *out = release_of(self.made(net, k));
-        DONE
     }
 
     /// The length in all of the frames that the last poll made for a network.
@@ -239,29 +155,11 @@ impl EndSystem {
         DONE
     }
 
-    /// The first time after the last poll, in microseconds, at which a link may release a frame and
-    /// couldn't then, or the greatest number if there is none.
-    pub fn next_due(&self) -> u64
-        ensures { IsNextDue self.now.tx result }
-    {
-        self.stage.next_due().unwrap_or(u64::MAX)
-    }
-
     /// Makes a network fail at each later frame. It stays up until then.
     pub fn fail(&mut self, net: Net)
         ensures { FailsEnd net self.old self.new }
     {
         self.stage.fail(net);
-    }
-
-    /// The counts of a link, by its identifier.
-    pub fn counts(&self, vl: u16) -> Result<Counts, u8>
-        ensures no_link { IsErr result ↔ LacksLink self.now.tx.plan vl }
-        ensures number { IfErr result (λ number. number ≡ NO_LINK) }
-        ensures counts { IfOk result (λ counts.
-            counts ≡ counts_in (own_stream vl self.now.tx.lines.a self.now.tx.lines.b)) }
-    {
-        self.stage.counts(VlId(vl)).ok_or(NO_LINK)
     }
 
     /// Closes a sub-VL, by its link and its index there, and writes the number of accepted messages. `GATHERED` if the

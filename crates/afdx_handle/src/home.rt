@@ -12,9 +12,10 @@ pub struct OwnPort {
 
 /// The content of a handle: an end system, a port, or nothing while the content changes its kind. An end system is in a
 /// block of its own, so that the block of a port is small. It is taken out of the block while its ports are gathered.
+/// Beside it are empty boxes, one for each port that is in it.
 #[derive(Drop)]
 pub enum Home {
-    EndSystem(Box<Option<EndSystem>>),
+    EndSystem(Box<Option<EndSystem>>, Vec<Box<Home>>),
     Port(OwnPort),
     Nothing,
 }

@@ -1,9 +1,7 @@
 //! The findings of recordings, written for C.
 ghost use Rattle.std.specs.Prelude.{◌≡◌, ◌≢◌, length};
-ghost use Rattle.afdx_config.specs.Faults.{IsLeastFault};
-ghost use Rattle.afdx_plan.specs.declared.fault.ConfigFault.{ConfigFault};
-ghost use Rattle.afdx_plan.specs.PlanFaults.{fault_number};
 ghost use Rattle.capture.specs.Recording.{recording_of};
+ghost use Rattle.afdx_handle.specs.Calls.{IsFaultNumber};
 ghost use Rattle.afdx_handle.specs.Judged.{IsJudged, Judges, IsRefused, answer_of};
 
 use crate::answer::{BAD_CAPTURE, DONE, MEMORY, SMALL_BUFFER};
@@ -82,8 +80,7 @@ pub fn judge_into(
     ensures judged { ¬ IsRefused result →
         IsJudged text.now options.now alone a.now b.now rows.old rows.new judged.new }
     ensures answers { ¬ IsRefused result → result ≡ answer_of judged.new (length rows.old) }
-    ensures fault { IsRefused result → (fault : ConfigFault) × (result ≡ fault_number fault)
-        × (fault ≢ ConfigFault.Memory → IsLeastFault text.now fault) }
+    ensures fault { IsRefused result → IsFaultNumber text.now result }
     ensures unwritten { IsRefused result → (rows.new ≡ rows.old) × (judged.new ≡ judged.old) }
 {
     let plan = match read_config(alloc, text) {

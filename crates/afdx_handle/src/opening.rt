@@ -1,20 +1,20 @@
 //! The text of a configuration: an end system of it, or its faults explained to C.
-ghost use Rattle.std.specs.Prelude.{◌≡◌, ◌≢◌, ◌⊎◌, ◌<◌, ◌≤◌, [], ◌∷◌, length, take, Some, IfOk, IfErr};
+ghost use Rattle.std.specs.Prelude.{◌≡◌, ◌≢◌, ◌<◌, ◌≤◌, [], ◌∷◌, length, take, Some, IfOk, IfErr};
 ghost use Rattle.afdx_config.specs.Faults.{IsLeastFault};
 ghost use Rattle.afdx_handle.specs.EndSystem.{IsOpened};
 ghost use Rattle.afdx_handle.specs.Held.{HoldsEnd};
-ghost use Rattle.afdx_handle.specs.Listing.{IsExplainedIn, with_front};
+ghost use Rattle.afdx_handle.specs.Listing.{with_front};
 ghost use Rattle.afdx_handle.specs.Numbers.{IsOneOf};
 
-use crate::answer::{DONE, MEMORY, SMALL_BUFFER};
+use crate::answer::{DONE, SMALL_BUFFER};
 use crate::block::Block;
 use crate::end_system::EndSystem;
 use crate::home::Home;
 use crate::stage::Stage;
-use afdx_config::{ConfigFault, explain, read_config};
+use afdx_config::{ConfigFault, read_config};
 use afdx_tx::open_tx;
 use redundant_mux::Outbox;
-use std::alloc::Global;
+use std::alloc::{AllocError, Global};
 
 /// An end system of a configuration, with all its ports. Allocates all memory that polling, closing and gathering need.
 /// Fails with the fault of the least number, or with `Memory` if an allocation fails.
@@ -39,6 +39,20 @@ fn open_end(alloc: Global, text: &[u8]) -> Result<EndSystem, ConfigFault>
     })
 }
 
+/// Empty boxes for so many ports.
+fn empty_boxes(alloc: Global, ports: usize) -> Result<Vec<Box<Home>>, AllocError>
+    ensures { IfOk result (λ boxes. length boxes.items ≡ ports) }
+{
+    let mut boxes = Vec::with_capacity(alloc, ports)?;
+    for _port in 0..ports {
+        let Some(home) = Box::new(alloc, Home::Nothing).ok() else {
+            return Err(AllocError);
+        };
+        boxes.push_reserved(home);
+    }
+    Ok(boxes)
+}
+
 /// The content of a handle of an end system of a configuration, and the mark of the end system.
 /// Fails as `open_end` does.
 pub fn open_home(alloc: Global, text: &[u8]) -> Result<(Box<Home>, *const u8), ConfigFault>
@@ -48,17 +62,20 @@ pub fn open_home(alloc: Global, text: &[u8]) -> Result<(Box<Home>, *const u8), C
 {
     let end_system = open_end(alloc, text)?;
     let mark = end_system.block.address();
+    let Ok(boxes) = empty_boxes(alloc, end_system.ports.len()) else {
+        return Err(ConfigFault::Memory);
+    };
     let Some(boxed) = Box::new(alloc, Some(end_system)).ok() else {
         return Err(ConfigFault::Memory);
     };
-    match Box::new(alloc, Home::EndSystem(boxed)).ok() {
+    match Box::new(alloc, Home::EndSystem(boxed, boxes)).ok() {
         Some(home) => Ok((home, mark)),
         None => Err(ConfigFault::Memory),
     }
 }
 
 /// Writes as much of a text as fits into the buffer.
-fn write_front(buffer: &mut [u8], text: &[u8]) -> u8
+pub fn write_front(buffer: &mut [u8], text: &[u8]) -> u8
     ensures answers { IsOneOf result (DONE ∷ SMALL_BUFFER ∷ []) }
     ensures whole { result ≡ DONE → length text.now ≤ length buffer.old }
     ensures small { result ≡ SMALL_BUFFER → length buffer.old < length text.now }
@@ -70,22 +87,5 @@ fn write_front(buffer: &mut [u8], text: &[u8]) -> u8
         SMALL_BUFFER
     } else {
         DONE
-    }
-}
-
-/// Writes the explanation of a configuration's text into a buffer, and its length.
-pub fn explain_into(alloc: Global, text: &[u8], buffer: &mut [u8], size: &mut usize) -> u8
-    ensures answers { IsOneOf result (DONE ∷ MEMORY ∷ SMALL_BUFFER ∷ []) }
-    ensures explained { result ≢ MEMORY → IsExplainedIn text.now buffer.old buffer.new size.new }
-    ensures whole { result ≡ DONE → size.new ≤ length buffer.old }
-    ensures small { result ≡ SMALL_BUFFER → length buffer.old < size.new }
-    ensures unwritten { result ≡ MEMORY → (buffer.new ≡ buffer.old) × (size.new ≡ size.old) }
-{
-    match explain(alloc, text) {
-        Ok(told) => {
-            *size = told.text.len();
-            write_front(buffer, told.text.as_slice())
-        }
-        Err(_) => MEMORY,
     }
 }

@@ -1,54 +1,17 @@
-//! The ports of an end system: sending a message, and taking ports out, giving them back and gathering them.
-ghost use Rattle.std.specs.Prelude.{◌≡◌, ◌≢◌, ◌≤◌, ◌<◌, ◌⊎◌, ◌↔◌, ◌++◌, [], ◌∷◌, Option, Some, None, true, false, length, position, IfOk, IfErr, OnOk, OnErr, IsSome, MatchBool};
-ghost use Rattle.afdx_tx.specs.Ports.{PortView, MaySend, Accepts, Refuses, IsPortOfTx, LacksPlace};
-ghost use Rattle.afdx_tx.specs.declared.fault.Refusal.{Refusal};
+//! The ports of an end system: taking them out, giving them back and gathering them.
+ghost use Rattle.std.specs.Prelude.{◌≡◌, ◌≢◌, ◌<◌, ◌⊎◌, ◌↔◌, [], ◌∷◌, Option, Some, None, true, false, length, position, IfOk, IfErr, OnOk, OnErr, IsSome, MatchBool};
+ghost use Rattle.afdx_tx.specs.Ports.{PortView, IsPortOfTx, LacksPlace};
 ghost use Rattle.afdx_handle.specs.EndSystem.{has_id, TakesPort, GivesBack, GathersEnd};
-ghost use Rattle.afdx_handle.specs.Held.{end_of, port_of, port_block, HoldsNothing, HoldsOne, HoldsPort};
-ghost use Rattle.afdx_handle.specs.Numbers.{IsOneOf, refusal_number};
+ghost use Rattle.afdx_handle.specs.Held.{end_of, port_of, port_block, HoldsNothing, HoldsOne, HoldsPort, HoldsSame};
+ghost use Rattle.afdx_handle.specs.Numbers.{IsOneOf};
 
-use crate::answer::{
-    DONE, GATHERED, MEMORY, NO_PORT, NOT_HELD, PORT_MISSING, WRONG_HANDLE, refusal_number,
-};
+use crate::answer::{DONE, GATHERED, MEMORY, NO_PORT, NOT_HELD, PORT_MISSING, WRONG_HANDLE};
 use crate::end_system::EndSystem;
 use crate::home::{Home, OwnPort};
 use crate::stage::Stage;
 use afdx_tx::TxPort;
-use std::alloc::{AllocError, Global};
+use std::alloc::Global;
 use std::mem;
-
-/// A copy of a message. A short one is copied byte by byte, which is quicker than a call.
-fn copy_of(alloc: Global, message: &[u8]) -> Result<Vec<u8>, AllocError>
-    ensures { IfOk result (λ copy. copy.items ≡ message.now) }
-{
-    if message.len() < 32 {
-        return message.to_vec(alloc);
-    }
-    let mut copy = Vec::with_capacity(alloc, message.len())?;
-    copy.extend_from_slice(message)?;
-    Ok(copy)
-}
-
-/// Copies a message in, if the port may send one of its length. Returns the number of the refusal, or
-/// `MEMORY` if the copy can't be allocated; then the port is unchanged.
-pub fn send(alloc: Global, port: &mut TxPort, message: &[u8]) -> u8
-    ensures answers { (result ≤ 5) ⊎ (result ≡ MEMORY) }
-    ensures accepted { result ≡ DONE → Accepts port.old message.now port.new }
-    ensures refused { (why : Refusal) → result ≡ refusal_number why
-        → Refuses port.old (length message.now) why port.new }
-    ensures memory { result ≡ MEMORY → port.new ≡ port.old }
-    ensures fits { result ≡ MEMORY → MaySend port.old.plan (length message.now) }
-{
-    if let Some(why) = port.length_refusal(message.len()) {
-        return refusal_number(why);
-    }
-    let Ok(copy) = copy_of(alloc, message) else {
-        return MEMORY;
-    };
-    match port.send(copy) {
-        Ok(()) => DONE,
-        Err(fault) => refusal_number(fault.why),
-    }
-}
 
 /// The index of the port with this identifier, if it is in the list.
 fn position_of(ports: &[TxPort], id: u16) -> Option<usize>
@@ -63,23 +26,6 @@ fn take_at(it: &mut EndSystem, id: u16, at: usize) -> TxPort
     ensures { TakesPort it.old id result it.new }
 {
     it.ports.swap_remove(at)
-}
-
-/// Whether a port can be put back: `GATHERED` if the ports were gathered, `NO_PORT` if its mark is of
-/// another end system, or if every port is already back.
-fn room_for(it: &EndSystem, own: bool) -> u8
-    ensures answers { (result ≡ DONE) ⊎ ((result ≡ GATHERED) ⊎ (result ≡ NO_PORT)) }
-    ensures gathered { (result ≡ GATHERED) ↔ (it.now.gathered ≡ true) }
-    ensures no_port { (result ≡ NO_PORT) ↔
-        ((it.now.gathered ≡ false) × ((own ≡ false) ⊎ (it.now.room ≡ length it.now.ports))) }
-{
-    if let Stage::Draining(_) = &it.stage {
-        return GATHERED;
-    }
-    if !own || it.ports.len() == it.ports.capacity() {
-        return NO_PORT;
-    }
-    DONE
 }
 
 /// Puts a port back. Allocates nothing.
@@ -125,9 +71,10 @@ pub fn gather(alloc: Global, it: EndSystem) -> (EndSystem, u8)
     (it, answer)
 }
 
-/// Takes out the port with this identifier, in a box that is allocated first. `GATHERED` if the ports were gathered,
-/// `NO_PORT` if no such port is in the end system, `MEMORY` if an allocation fails; then nothing changes.
-pub fn take_port(alloc: Global, it: &mut EndSystem, id: u16) -> Result<Box<Home>, u8>
+/// Takes out the port with this identifier, in one of the empty boxes. `GATHERED` if the ports were gathered, `NO_PORT`
+/// if no such port is in the end system, `MEMORY` if there is no box or no more owner; then nothing changes. Allocates
+/// nothing.
+pub fn take_port(it: &mut EndSystem, boxes: &mut Vec<Box<Home>>, id: u16) -> Result<Box<Home>, u8>
     ensures numbers { IfErr result (λ number. (number ≡ GATHERED) ⊎ ((number ≡ NO_PORT) ⊎ (number ≡ MEMORY))) }
     ensures gathered { IfErr result (λ number. (number ≡ GATHERED) ↔ (it.old.gathered ≡ true)) }
     ensures no_port { IfErr result (λ number. (number ≡ NO_PORT) ↔
@@ -144,10 +91,10 @@ pub fn take_port(alloc: Global, it: &mut EndSystem, id: u16) -> Result<Box<Home>
     let Some(at) = position_of(&it.ports, id) else {
         return Err(NO_PORT);
     };
-    let Some(mut home) = Box::new(alloc, Home::Nothing).ok() else {
+    let Ok(block) = it.block.another_owner() else {
         return Err(MEMORY);
     };
-    let Ok(block) = it.block.another_owner() else {
+    let Some(mut home) = boxes.pop() else {
         return Err(MEMORY);
     };
     let port = take_at(it, id, at);
@@ -156,19 +103,31 @@ pub fn take_port(alloc: Global, it: &mut EndSystem, id: u16) -> Result<Box<Home>
     Ok(home)
 }
 
+/// Keeps an empty box beside an end system, for a port that is taken out later.
+pub fn keep_box(it: &mut Home, empty: Box<Home>)
+    ensures { HoldsSame (Some it.old) (Some it.new) }
+{
+    if let Home::EndSystem(_inside, boxes) = it {
+        if boxes.len() < boxes.capacity() {
+            boxes.push_reserved(empty);
+        }
+    }
+}
+
 /// Whether the home is empty.
 pub fn is_nothing(home: &Home) -> bool
     ensures { MatchBool result (HoldsNothing (Some home.now)) (HoldsOne (Some home.now)) }
 {
     match home {
-        Home::EndSystem(inside) => inside.is_none(),
+        Home::EndSystem(inside, _boxes) => inside.is_none(),
         Home::Port(_) => false,
         Home::Nothing => true,
     }
 }
 
 /// Puts the port in `theirs` back into the end system, and leaves `theirs` empty. `NOT_HELD` if `theirs` is empty,
-/// `WRONG_HANDLE` if it is an end system, and the numbers of `room_for`; then nothing changes. Allocates nothing.
+/// `WRONG_HANDLE` if it is an end system, `GATHERED` if the ports were gathered, and `NO_PORT` if its mark is another
+/// end system's, or if every port is already back; then nothing changes. Allocates nothing.
 pub fn give_to(it: &mut EndSystem, theirs: &mut Home, own: bool) -> u8
     requires own { (port : PortView) → port_of (Some theirs.old) ≡ Some port → own ≡ true
         → it.old.gathered ≡ false → IsPortOfTx it.old.tx port }
@@ -187,13 +146,16 @@ pub fn give_to(it: &mut EndSystem, theirs: &mut Home, own: bool) -> u8
     let Home::Port(_) = theirs else {
         return WRONG_HANDLE;
     };
-    let answer = room_for(it, own);
-    if answer != DONE {
-        return answer;
+    if let Stage::Draining(_) = &it.stage {
+        return GATHERED;
     }
-    let Home::Port(OwnPort { port, block }) = mem::replace(theirs, Home::Nothing) else {
+    if !own || it.ports.len() == it.ports.capacity() {
+        return NO_PORT;
+    }
+    let Home::Port(taken) = mem::replace(theirs, Home::Nothing) else {
         unreachable!();
     };
+    let OwnPort { port, block } = taken;
     drop(block);
     give_back(it, port);
     DONE

@@ -28,7 +28,7 @@ fn word_at(bytes: &[u8], i: u8) -> u16
 }
 
 /// The release of a frame.
-pub(crate) fn release_of(frame: &[u8]) -> FrameRelease
+pub fn release_of(frame: &[u8]) -> FrameRelease
     ensures { IsReleaseOf frame.now result }
 {
     FrameRelease {

@@ -1,16 +1,12 @@
 //! What a line of a script says, in the layout of C.
-ghost use Rattle.std.specs.Prelude.{◌≡◌, ◌≢◌, ◌⊎◌, ◌<◌, ◌≤◌, [], ◌∷◌, length};
-ghost use Rattle.script_text.specs.Faults.{IsFaultless, IsFirstFault, line_fault_number};
-ghost use Rattle.script_text.specs.Meaning.{meaning_of};
-ghost use Rattle.script_text.specs.declared.faults.LineFault.{LineFault};
+ghost use Rattle.std.specs.Prelude.{◌≡◌, ◌≢◌, ◌<◌, [], ◌∷◌, length};
 ghost use Rattle.afdx_handle.specs.Listing.{with_front};
 ghost use Rattle.afdx_handle.specs.Numbers.{IsOneOf};
 ghost use Rattle.afdx_handle.specs.Script.{laid_out, message_in};
 
-use crate::answer::{DONE, MEMORY, SMALL_BUFFER};
+use crate::answer::{DONE, SMALL_BUFFER};
 use crate::listing::put_at;
-use script_text::{Line, LineFault, read_line};
-use std::alloc::Global;
+use script_text::Line;
 
 /// The version of the library: 10,000 times its first number, 100 times its second, and its third.
 pub const VERSION: u32 = 10_000;
@@ -38,7 +34,7 @@ fn message_in(said: &Line) -> &[u8]
 }
 
 /// What a line says, in the layout of C.
-fn laid_out(said: &Line) -> ScriptLine
+pub fn laid_out(said: &Line) -> ScriptLine
     ensures { result ≡ laid_out said.now }
 {
     let nothing = ScriptLine {
@@ -71,7 +67,7 @@ fn laid_out(said: &Line) -> ScriptLine
 }
 
 /// Writes the message of a line over the front of a buffer, if there is room.
-fn write_message(said: &Line, buffer: &mut [u8]) -> u8
+pub fn write_message(said: &Line, buffer: &mut [u8]) -> u8
     ensures answers { IsOneOf result (DONE ∷ SMALL_BUFFER ∷ []) }
     ensures written { result ≡ DONE → buffer.new ≡ with_front (message_in said.now) buffer.old }
     ensures small { result ≡ SMALL_BUFFER → length buffer.old < length (message_in said.now) }
@@ -83,28 +79,4 @@ fn write_message(said: &Line, buffer: &mut [u8]) -> u8
     }
     put_at(buffer, 0, message);
     DONE
-}
-
-/// Reads a line of a script, given without its end: writes what it says, and the message of a send into a buffer. On
-/// `SMALL_BUFFER`, if the message is longer than the buffer, writes no message. The number of the line's first fault, or
-/// `MEMORY`, if an allocation fails; then writes nothing.
-pub fn read_script_line(alloc: Global, line: &[u8], out: &mut ScriptLine, buffer: &mut [u8]) -> u8
-    ensures answers { (result ≤ 5) ⊎ IsOneOf result (MEMORY ∷ SMALL_BUFFER ∷ []) }
-    ensures said { (result ≡ DONE) ⊎ (result ≡ SMALL_BUFFER) → out.new ≡ laid_out (meaning_of line.now) }
-    ensures faultless { (result ≡ DONE) ⊎ (result ≡ SMALL_BUFFER) → IsFaultless line.now }
-    ensures message { result ≡ DONE → buffer.new ≡ with_front (message_in (meaning_of line.now)) buffer.old }
-    ensures small { result ≡ SMALL_BUFFER → length buffer.old < length (message_in (meaning_of line.now)) }
-    ensures fault { 1 ≤ result → result ≤ 5 →
-        (fault : LineFault) × (result ≡ line_fault_number fault) × IsFirstFault line.now fault }
-    ensures unwritten { result ≢ DONE → buffer.new ≡ buffer.old }
-    ensures unsaid { result ≢ DONE → result ≢ SMALL_BUFFER → out.new ≡ out.old }
-{
-    match read_line(alloc, line) {
-        Ok(said) => {
-            *out = laid_out(&said);
-            write_message(&said, buffer)
-        }
-        Err(LineFault::Memory) => MEMORY,
-        Err(fault) => fault.number(),
-    }
 }

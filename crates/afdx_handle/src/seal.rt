@@ -2,6 +2,8 @@
 ghost use Rattle.std.specs.Prelude.{◌≡◌, Option, Some, None, IsSome};
 ghost use Rattle.afdx_handle.specs.declared.home.Home.{Home};
 ghost use Rattle.afdx_handle.specs.Sealed.{sealed_owns};
+ghost use Rattle.afdx_handle.specs.contracts.home.Home.{the_row as home_row};
+ghost use Rattle.std.specs.Coded.{coded_option};
 
 mod parts;
 
@@ -16,7 +18,7 @@ use std::marker::Model;
 pub struct Sealed {
     ptr: *mut u8,
     alloc: Global,
-    pub ghost home: { Option Home },
+    pub ghost home: { Option Home } by { coded_option home_row.coded },
 }
 
 impl Model for Sealed {

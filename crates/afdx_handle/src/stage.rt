@@ -14,6 +14,16 @@ pub enum Stage {
     Draining(Draining<Outbox<LastTime>, Outbox<LastTime>>),
 }
 
+// The answer of `$answer` over the emitter of a stage, which both phases have.
+macro_rules! in_phase {
+    ($stage:expr, $it:ident => $answer:expr) => {
+        match $stage {
+            Stage::Sending($it) => $answer,
+            Stage::Draining($it) => $answer,
+        }
+    };
+}
+
 impl Stage {
     ghost use Rattle.std.specs.Prelude.{◌≡◌, ◌≤◌, ◌↔◌, false, true, IsErr, OnErr, OnOk, IfOk, IsNone, IfSome};
     ghost use Rattle.redundant_mux.specs.Lines.{is_alive, with_failing};
@@ -30,21 +40,16 @@ impl Stage {
     pub fn now(&self) -> u64
         ensures { result ≡ (tx_of self.now).moment }
     {
-        match self {
-            Stage::Sending(emitter) => emitter.now(),
-            Stage::Draining(draining) => draining.now(),
-        }
+        in_phase!(self, it => it.now())
     }
 
     /// A network.
     pub fn network(&self, net: Net) -> &Outbox<LastTime>
         ensures { result.now.handed ≡ line_of net (tx_of self.now).lines }
     {
-        match (self, net) {
-            (Stage::Sending(emitter), Net::A) => emitter.network_a(),
-            (Stage::Sending(emitter), Net::B) => emitter.network_b(),
-            (Stage::Draining(draining), Net::A) => draining.network_a(),
-            (Stage::Draining(draining), Net::B) => draining.network_b(),
+        match net {
+            Net::A => in_phase!(self, it => it.network_a()),
+            Net::B => in_phase!(self, it => it.network_b()),
         }
     }
 
@@ -53,30 +58,21 @@ impl Stage {
         ensures tx { tx_of self.new ≡ record (tx_of self.old) { lines = with_failing net (tx_of self.old).lines } }
         ensures stage { is_gathered self.new ≡ is_gathered self.old }
     {
-        match self {
-            Stage::Sending(emitter) => emitter.fail(net),
-            Stage::Draining(draining) => draining.fail(net),
-        }
+        in_phase!(self, it => it.fail(net))
     }
 
     /// The configuration.
     pub fn config(&self) -> &Config
         ensures { result.now ≡ (tx_of self.now).plan }
     {
-        match self {
-            Stage::Sending(emitter) => emitter.config(),
-            Stage::Draining(draining) => draining.config(),
-        }
+        in_phase!(self, it => it.config())
     }
 
     /// The first time after the last poll at which a link may release a frame and couldn't then.
     pub fn next_due(&self) -> Option<u64>
         ensures { TellsNextDue (tx_of self.now) result }
     {
-        match self {
-            Stage::Sending(emitter) => emitter.next_due(),
-            Stage::Draining(draining) => draining.next_due(),
-        }
+        in_phase!(self, it => it.next_due())
     }
 
     /// The counts of a link, by its identifier.
@@ -85,10 +81,7 @@ impl Stage {
         ensures counts { IfSome result (λ counts.
             counts ≡ counts_in (own_stream vl.0 (tx_of self.now).lines.a (tx_of self.now).lines.b)) }
     {
-        match self {
-            Stage::Sending(emitter) => emitter.counts(vl),
-            Stage::Draining(draining) => draining.counts(vl),
-        }
+        in_phase!(self, it => it.counts(vl))
     }
 
     /// Gives each link its turn at `now`, in microseconds, and returns which networks are up. An error changes
@@ -102,9 +95,6 @@ impl Stage {
         ensures told { IfOk result (λ standing. PollsUnreported now (tx_of self.old) standing (tx_of self.new)) }
         ensures run { OnOk result (Runs (is_gathered self.old) now (tx_of self.old) (tx_of self.new)) }
     {
-        match self {
-            Stage::Sending(emitter) => Ok(emitter.poll_unreported(now)?),
-            Stage::Draining(draining) => Ok(draining.poll_unreported(now)?),
-        }
+        in_phase!(self, it => Ok(it.poll_unreported(now)?))
     }
 }

@@ -29,8 +29,7 @@ fn one_message_from_its_port_to_both_networks(rt: HostRuntime) -> Result<(), Fai
     let opened = open_tx(alloc, demo_config(alloc)?, a, b).ok();
     let (mut emitter, mut ports, mut monitor) = opened.expect(&rt, "memory");
     for port in ports.iter_mut() {
-        let message = b"hello".as_slice().to_vec(alloc).expect(&rt, "memory");
-        assert!(rt; port.send(message).is_ok());
+        assert!(rt; port.send_slice(b"hello").is_ok());
     }
     let report = emitter.poll(0).expect(&rt, "a network that is up");
     emitter.publish(&rt);

@@ -93,9 +93,8 @@ pub fn assert_polled(rt: &impl Abort, answer: Result<Report, PollFault>, wanted:
 impl<N: Network + Drop> Rig<N> {
     /// The port at a place sends a message, which is accepted.
     pub fn send(&mut self, rt: &impl Host, at: usize, bytes: &[u8]) {
-        let message = bytes.to_vec(rt.alloc()).expect(rt, "memory");
         assert!(rt; at < self.ports.len());
-        assert!(rt; self.ports[at].send(message).is_ok());
+        assert!(rt; self.ports[at].send_slice(bytes).is_ok());
     }
 
     /// Polls, at a time that isn't before the last one.

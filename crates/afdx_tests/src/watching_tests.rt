@@ -65,8 +65,7 @@ fn send_and_publish(
     ports: &mut [TxPort],
 ) {
     for port in ports.iter_mut() {
-        let message = vec![in rt.alloc(); 7u8].expect(rt, "memory");
-        assert!(rt; port.send(message).is_ok());
+        assert!(rt; port.send_slice(&[7]).is_ok());
     }
     let now = tx.now().saturating_add(GAP);
     let report = tx.poll(now).expect(rt, "both networks are up");
