@@ -12,7 +12,7 @@ complete -c afdx_bench -n '__fish_seen_subcommand_from run' -l capture -r -F -d 
 complete -c afdx_bench -n '__fish_seen_subcommand_from report' -l lateness -x -d 'How late polls come at most'
 complete -c afdx_bench -n '__fish_seen_subcommand_from report' -l html -r -F -d 'Also writes the report as a page'
 complete -c afdx_bench -n '__fish_seen_subcommand_from report' -l traffic -r -F -d 'The periods and deadlines of the ports'
-complete -c afdx_bench -n '__fish_seen_subcommand_from report' -l csv -r -F -d 'Also writes a row for each port'
+complete -c afdx_bench -n '__fish_seen_subcommand_from report' -l csv -r -F -d 'Also writes a row for each port and each sub-VL'
 complete -c afdx_bench -n '__fish_seen_subcommand_from report' -l date -x -d 'The date that the page names'
 complete -c afdx_bench -n '__fish_seen_subcommand_from report' -l strict -d 'Ends with status 2 if a limit or a deadline is missed'
 complete -c afdx_bench -n '__fish_seen_subcommand_from judge' -l jitter -x -d 'How much closer than a BAG frames may come'

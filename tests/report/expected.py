@@ -48,7 +48,33 @@ def wanted(plan: Plan, lateness: int) -> Tables:
         wait = used * (link["capacity"] * most - 1 + own) * (1000 * link["bag_ms"] + lateness)
         often = decimal(10**6 // (link["bag_ms"] * own), 3)
         tables["ports"].append([*(str(port[key]) for key in ("id", "vl", "sub")), str(own), str(wait), often])
-    return tables
+    return tables | {"memory": memory_rows(plan)}
+
+
+def memory_rows(plan: Plan) -> list[list[str]]:
+    """The rows of the sub-VLs, each with the bytes that it holds."""
+    rows = []
+    for link in plan["vl"]:
+        for sub in range(link["sub_vls"]):
+            sizes = [port["max"] for port in plan["port"] if (port["vl"], port["sub"]) == (link["id"], sub)]
+            capacity, ports, greatest = link["capacity"], len(sizes), max(sizes, default=0)
+            held = 320 + 48 * capacity + (capacity + 1 + ports) * greatest
+            rows.append([str(number) for number in (link["id"], sub, capacity, ports, greatest, held)])
+    return rows
+
+
+def memory_of(plan: Plan) -> int:
+    """The bytes of an end system, by the formula of docs/guide/c.md."""
+    links, ports = len(plan["vl"]), len(plan["port"])
+    own = 199705 + 280 * links + 24 * max(4, links) + 416 * ports + 32 * max(4, ports)
+    return own + sum(int(row[-1]) for row in memory_rows(plan))
+
+
+def heaviest(plan: Plan) -> list[list[str]]:
+    """The rows of the sub-VLs that hold the most, if the end system holds 64 MiB or more."""
+    rows = memory_rows(plan)
+    most = max(int(row[-1]) for row in rows)
+    return [row for row in rows if int(row[-1]) == most and memory_of(plan) >= 64 * 2**20]
 
 
 def jitter_of(plan: Plan) -> int:

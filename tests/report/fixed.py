@@ -66,6 +66,9 @@ network    load-kbit/s  share-%  exceeded  jitter-ns
       B      12304.000    12.31        no     163040
  port  link sub fragments        wait-us   messages/s
    10     1   0         6          17000      166.666
+ link sub capacity ports greatest         bytes
+    1   0        2     1     8192         33184
+memory 233809 bytes
 """,
     (UNEQUAL, 250): """\
 loads within limits, jitter within limits, deadlines not given
@@ -82,6 +85,13 @@ network    load-kbit/s  share-%  exceeded  jitter-ns
    11     1   0         7         121500       71.428
    12     1   3         2          31500      250.000
    13     2   0         2         384750        3.906
+ link sub capacity ports greatest         bytes
+    1   0        3     2     1000          6464
+    1   1        3     0        0           464
+    1   2        3     0        0           464
+    1   3        3     1      200          1464
+    2   0        1     1       41           491
+memory 211500 bytes
 """,
 }
 

@@ -12,6 +12,8 @@ from decimal import Decimal, localcontext
 from fractions import Fraction
 from itertools import accumulate, pairwise
 
+from expected import heaviest, memory_of
+
 Plan = dict
 # Of a link's load, in bits per second, and of a jitter, in nanoseconds: the marks.
 RATE, JITTER = 10**8, 500_000
@@ -108,7 +110,7 @@ class Page(html.parser.HTMLParser):
         if self.within == "style":
             self.style += data
         elif self.within == "p":
-            self.prose += data
+            self.prose += data + "\n"
         elif self.within == "text":
             self.drawing.texts.append(data.strip())
         elif self.within == "h2":
@@ -233,6 +235,16 @@ def link_faults(page: Page, source: Source) -> Iterator[str]:
         bars.append([[("track", Fraction(), Fraction(1)), ("one", Fraction(), Fraction(row[5]) * 1000 / whole)]])
     head = ["link", "BAG", "Lmax bytes", "sub-VLs", "on", "load kbit/s", "share %", "jitter", ""]
     yield from table_faults(page, "links", head, rows, bars)
+
+
+def memory_faults(page: Page, source: Source) -> Iterator[str]:
+    """What is wrong with the table of the sub-VLs, and with the note on much memory."""
+    rows = [plain(*row[:4], *(grouped(int(it)) for it in row[4:])) for row in source.tables["memory"]]
+    rows.append(plain("end system", *["\u2013"] * 4, grouped(memory_of(source.plan))))
+    yield from table_faults(page, "memory", ["link", "sub-VL", "capacity", "ports", "greatest", "bytes"], rows, [])
+    notes = [f"link {row[0]} sub-VL {row[1]}" for row in heaviest(source.plan)] or [None]
+    if page.named.get("heaviest") not in notes:
+        yield f"the note on memory names {page.named.get('heaviest')}"
 
 
 def wait_faults(page: Page, source: Source) -> Iterator[str]:
@@ -377,16 +389,16 @@ def faults_of(text: str, source: Source) -> Iterator[str]:
     if {key: page.named.get(key) for key in (*named, "date") if key in page.named} != named:
         yield f"the page names {page.named}, and {named} is wanted"
     yield from (f"the page has {what}" for what in page.elsewhere)
-    if re.findall(r"\d[\d,]*\s\S+", page.prose) != PROSE:
+    if re.findall(r"\d[\d,]*\s\S+", page.prose) != PROSE + ["64\u00a0MiB"] * bool(heaviest(source.plan)):
         yield f"the prose is {page.prose}"
     if source.has_traffic != ("if two messages of a port are at least its period apart. Queues aren't judged" in page.prose):
         yield f"the premise of the wait by traffic is {not source.has_traffic}: {page.prose}"
     title = f"End system {source.plan['end_system']['id']}: {source.file}"
     if html.unescape(re.findall("<title>(.*)</title>", text)[0]) != title or safe(text.replace("\n", "")) != text.replace("\n", ""):
         yield f"the page isn't titled {title}, or has control characters"
-    if page.parts != ["thead", "tbody"] * 3:
+    if page.parts != ["thead", "tbody"] * 4:
         yield f"the tables have {page.parts}"
-    for check in (network_faults, wait_faults, line_faults, link_faults, flow_faults):
+    for check in (network_faults, wait_faults, line_faults, link_faults, memory_faults, flow_faults):
         yield from check(page, source)
     for kind in ("track", "one", "two", "mark"):
         color = re.search(rf"\.{kind}{{fill:var\(--(\w+)\)", page.style)

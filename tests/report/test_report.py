@@ -29,7 +29,7 @@ import picture  # noqa: E402
 import refusals  # noqa: E402
 import refusals_wanted  # noqa: E402
 import traffic  # noqa: E402
-from expected import Plan, Tables, check_of, jitter_of, pieces, wanted  # noqa: E402
+from expected import Plan, Tables, check_of, heaviest, jitter_of, memory_of, pieces, wanted  # noqa: E402
 from trying import DEMO, text_of  # noqa: E402
 
 
@@ -72,9 +72,9 @@ def tables_of(text: str) -> Tables:
     for line in text.splitlines():
         words = line.split()
         if words[0] in heads:
-            name = "traffic" if "period-us" in words else heads[words[0]]
+            name = "traffic" if "period-us" in words else "memory" if "bytes" in words else heads[words[0]]
             tables[name] = []
-        elif name and words[0] != "jitter":
+        elif name and words[0] not in ("jitter", "memory"):
             tables[name].append(words)
     return tables
 
@@ -91,6 +91,9 @@ def faults_of(text: str, lateness: int) -> Iterator[str]:
     line = f"jitter {jitter} ns of 500000" + (", exceeded" if jitter > 500_000 else "")
     if line not in done.stdout.splitlines():
         yield f"no line {line}"
+    notes = [f", 64 MiB or more: link {row[0]} sub {row[1]} holds the most" for row in heaviest(plan)] or [""]
+    if done.stdout.splitlines()[-1] not in [f"memory {memory_of(plan)} bytes{note}" for note in notes]:
+        yield f"last line {done.stdout.splitlines()[-1]}, and {memory_of(plan)} bytes are wanted, {notes}"
     exceeded = any(row[3] == "yes" for row in wanted(plan, lateness)["networks"])
     kept = {False: "within limits", True: "exceeded"}
     verdict = f"loads {kept[exceeded]}, jitter {kept[jitter > 500_000]}, deadlines not given"
@@ -230,8 +233,11 @@ def traffic_rows(text: str, demands: dict[int, tuple], given: str, lateness: int
         yield f"{done.returncode} {first}, and {ends} is wanted; {done.stderr}"
         return
     with open("rows.csv", encoding="utf-8", newline="") as file:
-        written = list(csv.reader(file))[1:]
-    yield from (f"CSV: {is_} for {to_be}" for is_, to_be in zip(written, rows, strict=True) if is_ != to_be)
+        head, *written = csv.reader(file)
+    sheet = traffic.sheet_of(rows, wanted(plan, lateness)["memory"], memory_of(plan))
+    if len(written) != len(sheet) or head != traffic.HEAD:
+        yield f"CSV: {len(written)} rows for {len(sheet)}, head {head}"
+    yield from (f"CSV: {is_} for {to_be}" for is_, to_be in zip(written, sheet, strict=False) if is_ != to_be)
     shown = tables_of(done.stdout)["traffic"]
     yield from (f"text: {is_} for {to_be}" for is_, to_be in zip(shown, map(traffic.text_row, rows), strict=True) if is_ != to_be)
     yield from page_faults(text, demands, given, lateness)

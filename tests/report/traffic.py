@@ -10,6 +10,9 @@ from fractions import Fraction
 Plan = dict
 PORTS = "port,name,period_us,deadline_us\n"
 LIMIT = 1_000_000_000_000
+# The columns of the CSV file: those of a port, and after them those of a sub-VL.
+HEAD = "port name link sub_vl fragments period_us deadline_us wait_queue_us wait_traffic_us holds slack_us".split()
+HEAD += ["missed", "capacity", "ports", "greatest", "bytes"]
 
 # Traffic texts of the demonstration, whose one port is 10, and the faults that are printed of them.
 FAULTS = {
@@ -87,6 +90,12 @@ def rows_of(plan: Plan, demands: dict[int, tuple], tables: dict, lateness: int) 
         numbers = ["" if number is None else str(number) for number in (period, deadline, queue, wait)]
         rows.append([row[0], name, row[1], row[2], row[3], *numbers, "queue" if least == queue else "traffic", *end])
     return rows
+
+
+def sheet_of(rows: list[list[str]], subs: list[list[str]], total: int) -> list[list[str]]:
+    """All rows of a CSV file: those of the ports, those of the sub-VLs, and the bytes of the end system."""
+    ports = [[*row, "", "", "", ""] for row in rows]
+    return [*ports, *(["", "", *sub[:2], *[""] * 8, *sub[2:]] for sub in subs), [*[""] * 15, str(total)]]
 
 
 def text_row(row: list[str]) -> list[str]:

@@ -1,5 +1,5 @@
 -- What ports with periods hand over, the longest busy time of their sub-VL, and the times at which waits are greatest.
-use Rattle.std.proofs.Common.{ℕ, zero, suc, ◌≡◌, ◌+◌, ◌-◌, ◌*◌, ◌/◌, ◌<◌, ◌≤◌, List, [], ◌∷◌, length, get_or, arith, refl, ap, ◌∙◌, sym, inl, inr, ◌⊎◌, max, below_more, ◌++◌, map}
+use Rattle.std.proofs.Common.{ℕ, zero, suc, ◌≡◌, ◌+◌, ◌-◌, ◌*◌, ◌/◌, ◌<◌, ◌≤◌, List, [], ◌∷◌, length, get_or, arith, refl, ap, ◌∙◌, sym, inl, inr, ◌⊎◌, max, below_more, ◌++◌, map, Option, subst}
 use Rattle.std.proofs.lemmas.List.{get_or_append_left, get_or_default, get_or_push}
 use Rattle.std.specs.Prelude.{All}
 use Rattle.std.specs.Int.{div_ceil}
@@ -10,7 +10,6 @@ use Rattle.std.proofs.lemmas.Nat.{le-div, mul-le}
 use Rattle.std.proofs.Math.Nat.{div-le_self, div-mul-le_self, div-zero}
 use native.Mathlib.Nat.{mul-suc}
 use Rattle.plan_analysis.specs.declared.traffic.Flow.{Flow}
-use Rattle.std.proofs.Common.{Option, subst}
 use Rattle.afdx_plan.specs.Config.{Plan, IsPlan}
 use Rattle.afdx_plan.specs.Plan.{IsPort}
 use Rattle.plan_analysis.specs.KeptPeriods.{IsBusyUntil, MeetsByTraffic, WaitsByTraffic}

@@ -1,1 +1,2 @@
 pub mod Busy
+pub mod Rooms

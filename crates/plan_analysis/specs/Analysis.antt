@@ -10,6 +10,7 @@ use Rattle.plan_analysis.specs.declared.analysis.NetworkName.{NetworkName}
 use Rattle.plan_analysis.specs.declared.analysis.NetworkName.TheVariants.{A, B}
 use Rattle.plan_analysis.specs.declared.analysis.NetworkRow.{NetworkRow}
 use Rattle.plan_analysis.specs.declared.analysis.PortRow.{PortRow}
+use Rattle.plan_analysis.specs.Memory.{IsMemoryOf}
 use Rattle.plan_analysis.specs.Load.{window_bits, line_bits, bit_rate, share, is_over, carries}
 use Rattle.plan_analysis.specs.Wait.{link_of, port_pieces, worst_wait, sustained}
 
@@ -56,3 +57,4 @@ pub record IsAnalysisOf (plan : Plan) (late : ℕ) (analysis : Analysis) : Type 
   pub network_b : analysis.network_b ≡ network_row B plan.links
   pub jitter : analysis.jitter ≡ jitter_of plan.links
   pub ports : analysis.ports.items ≡ map (port_row late plan) plan.ports
+  pub memory : IsMemoryOf plan analysis.memory

@@ -8,6 +8,7 @@ use crate::fragments::{message_wait, most_pieces, port_pieces, sustained, used_s
 use crate::load::{
     bit_rate, is_over, link_jitter, network_bits, network_jitter, share, window_bits,
 };
+use crate::memory::{Memory, memory_of};
 use afdx_plan::{Config, LinkPlan, PortId, PortPlan, VlId, jitter_ns};
 use std::alloc::{AllocError, Global};
 
@@ -23,6 +24,7 @@ pub struct Analysis {
     // in nanoseconds
     pub jitter: u64,
     pub ports: Vec<PortRow>,
+    pub memory: Memory,
 }
 
 /// Analyzes a plan whose polls come at most `lateness` microseconds late. Fails only if an allocation
@@ -41,6 +43,7 @@ pub fn analyze(alloc: Global, config: &Config, lateness: u64) -> Result<Analysis
         network_b: network_row(NetworkName::B, config.links()),
         jitter: jitter_ns(config),
         ports,
+        memory: memory_of(alloc, config)?,
     })
 }
 

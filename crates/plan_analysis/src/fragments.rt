@@ -1,8 +1,7 @@
 //! The number of fragments of a message, and its longest wait.
 ghost use Rattle.std.specs.Prelude.{◌≡◌, ◌+◌, ◌*◌, ◌≤◌, All};
 ghost use Rattle.afdx_plan.specs.Plan.{IsLink, IsPort};
-ghost use Rattle.plan_analysis.specs.Wait.{port_pieces as pieces_of_port, most_pieces as most_pieces_of, pieces_on as pieces_of_sub, is_on as is_on_sub, has_port as has_port_on, used_sub_vls as used_by_ports};
-ghost use Rattle.plan_analysis.specs.Wait.{message_wait as wait_of_message, sustained as sustained_by};
+ghost use Rattle.plan_analysis.specs.Wait.{port_pieces as pieces_of_port, most_pieces as most_pieces_of, pieces_on as pieces_of_sub, is_on as is_on_sub, has_port as has_port_on, used_sub_vls as used_by_ports, message_wait as wait_of_message, sustained as sustained_by};
 
 use afdx_plan::{LinkPlan, PortPlan};
 

@@ -1,11 +1,12 @@
-//! Analyzes the plan of an end system: load and jitter of its links, load of each network, and the
-//! longest wait of a message of each port.
+//! Analyzes the plan of an end system: load and jitter of its links, load of each network, the
+//! longest wait of a message of each port, and the memory of each sub-VL.
 #![tactic(auto)]
 
 mod analysis;
 mod fragments;
 pub mod laws;
 mod load;
+mod memory;
 mod traffic;
 
 pub use analysis::{
@@ -13,4 +14,5 @@ pub use analysis::{
 };
 pub use fragments::used_sub_vls;
 pub use load::{OWN_JITTER, carries};
+pub use memory::{LARGE_MEMORY, Memory, SubRow};
 pub use traffic::{Sender, traffic_waits};

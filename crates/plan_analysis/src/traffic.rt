@@ -1,8 +1,7 @@
 //! The longest wait of a message if each port of its sub-VL keeps a period.
 ghost use Rattle.std.specs.Prelude.{◌≡◌, ◌+◌, ◌*◌, ◌≤◌, ◌<◌, ℕ, All, IfOk, IfSome, IfNone, length, option_map};
 ghost use Rattle.afdx_plan.specs.Plan.{IsLink};
-ghost use Rattle.plan_analysis.specs.Traffic.{arrived as arrived_by, wait_at as wait_at_time, IsBusyTime, IsWaitByTraffic, IsWaitOf, busy_limit};
-ghost use Rattle.plan_analysis.specs.Traffic.{IsFlow, AreFlowsOf, AreSendersOf, AreWaitsOf, HasGoodPeriod, IsWaitWithin, round_of as round_of_link};
+ghost use Rattle.plan_analysis.specs.Traffic.{arrived as arrived_by, wait_at as wait_at_time, IsBusyTime, IsWaitByTraffic, IsWaitOf, busy_limit, IsFlow, AreFlowsOf, AreSendersOf, AreWaitsOf, HasGoodPeriod, IsWaitWithin, round_of as round_of_link};
 
 use crate::analysis::{LATENESS_LIMIT, link_of};
 use crate::fragments::{is_on, port_pieces, used_sub_vls};

@@ -1,17 +1,18 @@
--- The text of an analysis: a table for the links, one for the networks and one for the ports.
-use Rattle.std.specs.Prelude.{codes, ℕ, ◌/◌, ◌%◌, List, [], ◌∷◌, ◌++◌, Bool, nat_lt, if◌then◌else◌, flat_map, decimal}
+-- The text of an analysis: a table for the links, one for the networks, one for the ports and one for the sub-VLs.
+use Rattle.std.specs.Prelude.{codes, ℕ, ◌/◌, ◌%◌, List, [], ◌∷◌, ◌++◌, Bool, Option, Some, None, if◌then◌else◌, flat_map, decimal}
 use Rattle.std.specs.Fmt.{styled_decimal, format_spec}
 use Rattle.afdx_plan.specs.Plan.{bag_ms}
 use Rattle.afdx_plan.specs.declared.link_plan.LinkPlan.{LinkPlan}
 use Rattle.afdx_plan.specs.declared.link_plan.Networks.{Networks}
 use Rattle.afdx_plan.specs.declared.link_plan.Networks.TheVariants.{Both, OnlyA, OnlyB}
-use Rattle.plan_analysis.specs.declared.analysis.TheConstants.{JITTER_LIMIT}
+use Rattle.plan_report.specs.Report.{jitter_line}
 use Rattle.plan_analysis.specs.declared.analysis.Analysis.{Analysis}
 use Rattle.plan_analysis.specs.declared.analysis.LinkRow.{LinkRow}
 use Rattle.plan_analysis.specs.declared.analysis.NetworkName.{NetworkName}
 use Rattle.plan_analysis.specs.declared.analysis.NetworkName.TheVariants.{A, B}
 use Rattle.plan_analysis.specs.declared.analysis.NetworkRow.{NetworkRow}
 use Rattle.plan_analysis.specs.declared.analysis.PortRow.{PortRow}
+use Rattle.plan_analysis.specs.declared.memory.SubRow.{SubRow}
 
 -- a number at the right end of a column of `width` characters, as `{n:>width}` prints it
 abbrev pub right : ℕ → ℕ → List ℕ
@@ -54,11 +55,6 @@ unfoldable pub link_line : LinkRow → List ℕ
 link_line row = link_cells row.plan ++ thousandths 11 row.load ++ hundredths 6 row.share
     ++ right 11 row.jitter ++ 10 ∷ []
 
--- the jitter of all links, its limit, and whether it is exceeded
-unfoldable pub jitter_line : ℕ → List ℕ
-jitter_line jitter = codes "jitter " ++ decimal jitter ++ codes " ns of " ++ decimal JITTER_LIMIT
-    ++ (if nat_lt JITTER_LIMIT jitter then codes ", exceeded" ++ 10 ∷ [] else 10 ∷ [])
-
 -- the column heads of the networks
 unfoldable pub networks_head : List ℕ
 networks_head = codes "network    load-kbit/s  share-%  exceeded  jitter-ns" ++ 10 ∷ []
@@ -91,7 +87,7 @@ port_line row = port_cells row ++ right 10 row.fragments ++ right 15 row.wait ++
 
 -- the table of the links, with the jitter of all of them
 unfoldable pub links_table : List LinkRow → ℕ → List ℕ
-links_table rows jitter = links_head ++ flat_map link_line rows ++ jitter_line jitter
+links_table rows jitter = links_head ++ flat_map link_line rows ++ jitter_line (codes " ns of ") jitter
 
 -- the table of the networks
 unfoldable pub networks_table : NetworkRow → NetworkRow → List ℕ
@@ -101,9 +97,29 @@ networks_table a b = networks_head ++ network_line a ++ network_line b
 unfoldable pub ports_table : List PortRow → List ℕ
 ports_table rows = ports_head ++ flat_map port_line rows
 
+-- the column heads of the sub-VLs
+unfoldable pub memory_head : List ℕ
+memory_head = codes " link sub capacity ports greatest         bytes" ++ 10 ∷ []
+
+-- the row of a sub-VL
+unfoldable pub sub_line : SubRow → List ℕ
+sub_line row = right 5 row.vl.0 ++ right 4 row.sub ++ right 9 row.capacity ++ right 6 row.ports ++ right 9 row.greatest
+    ++ right 14 row.bytes ++ 10 ∷ []
+
+-- the memory of the whole end system, and a sub-VL that holds the most if that is large
+unfoldable pub total_line : ℕ → Option SubRow → List ℕ
+total_line bytes None = codes "memory " ++ decimal bytes ++ codes " bytes" ++ 10 ∷ []
+total_line bytes (Some row) = codes "memory " ++ decimal bytes ++ codes " bytes, 64 MiB or more: link "
+    ++ decimal row.vl.0 ++ codes " sub " ++ decimal row.sub ++ codes " holds the most" ++ 10 ∷ []
+
+-- the table of the sub-VLs, with the memory of the whole end system
+unfoldable pub memory_table : List SubRow → ℕ → Option SubRow → List ℕ
+memory_table rows bytes large = memory_head ++ flat_map sub_line rows ++ total_line bytes large
+
 -- the whole text
 unfoldable pub text_of : Analysis → List ℕ
 text_of analysis = head_line analysis.end_system analysis.lateness
     ++ links_table analysis.links.items analysis.jitter
     ++ networks_table analysis.network_a analysis.network_b
     ++ ports_table analysis.ports.items
+    ++ memory_table analysis.memory.subs.items analysis.memory.bytes analysis.memory.large

@@ -67,12 +67,12 @@ unfoldable pub port_line : PortPlan → List ℕ
 port_line port = way_text port ++ flow_text port ++ codes ", " ++ destination_text port.unicast
     ++ checksum_text port.checksum ++ 10 ∷ []
 
--- the jitter in nanoseconds, its limit, and whether it is exceeded
-unfoldable pub jitter_line : ℕ → List ℕ
-jitter_line jitter = codes "jitter " ++ decimal jitter ++ codes " ns, limit " ++ decimal JITTER_LIMIT
+-- the jitter in nanoseconds, some words, its limit, and whether it is exceeded
+unfoldable pub jitter_line : List ℕ → ℕ → List ℕ
+jitter_line words jitter = codes "jitter " ++ decimal jitter ++ words ++ decimal JITTER_LIMIT
     ++ (if nat_lt JITTER_LIMIT jitter then codes ", exceeded" ++ 10 ∷ [] else 10 ∷ [])
 
 -- the whole report
 unfoldable pub report_of : Plan → List ℕ
 report_of plan = end_system_line plan.end_system ++ flat_map link_line plan.links
-    ++ flat_map port_line plan.ports ++ jitter_line (jitter_of plan.links)
+    ++ flat_map port_line plan.ports ++ jitter_line (codes " ns, limit ") (jitter_of plan.links)

@@ -1,15 +1,15 @@
 //! The text of an analysis.
 ghost use Rattle.std.specs.Prelude.{◌≡◌, OnOk, flat_map};
 ghost use Rattle.std.specs.Io.KnownBytes.{Appends};
-ghost use Rattle.plan_report.specs.AnalysisText.{head_line, links_head, link_line, jitter_line, network_line, ports_head, port_line, links_table, networks_table, ports_table, text_of};
-ghost use Rattle.plan_report.specs.AnalysisText.{networks_cell as cell_of_networks, network_name as name_of_network, exceeded_cell as cell_of_exceeded};
+ghost use Rattle.plan_report.specs.AnalysisText.{head_line, links_head, link_line, network_line, ports_head, port_line, sub_line, total_line, links_table, networks_table, ports_table, memory_head, memory_table, text_of, networks_cell as cell_of_networks, network_name as name_of_network, exceeded_cell as cell_of_exceeded};
 
-use crate::numbers::{Load, Rate, Share};
+use crate::numbers::{Hundredths, Thousandths};
+use crate::report::write_jitter;
 use afdx_plan::Networks;
-use plan_analysis::{Analysis, JITTER_LIMIT, LinkRow, NetworkName, NetworkRow, PortRow};
+use plan_analysis::{Analysis, LinkRow, NetworkName, NetworkRow, PortRow, SubRow};
 use std::io::{self, Write};
 
-/// Writes an analysis as text: one table each for links, networks and ports. Each row is a line of
+/// Writes an analysis as text: one table each for links, networks, ports and sub-VLs. Each row is a line of
 /// words, so a script can split it.
 #[tactic(auto, unfolding(crate::specs::AnalysisText::text_of))]
 pub fn write_analysis<W: Write>(writer: &mut W, analysis: &Analysis) -> io::Result<()>
@@ -19,7 +19,9 @@ pub fn write_analysis<W: Write>(writer: &mut W, analysis: &Analysis) -> io::Resu
     write_head(writer, analysis.end_system, analysis.lateness)?;
     write_links_table(writer, analysis.links.as_slice(), analysis.jitter)?;
     write_networks_table(writer, &analysis.network_a, &analysis.network_b)?;
-    write_ports_table(writer, analysis.ports.as_slice())
+    write_ports_table(writer, analysis.ports.as_slice())?;
+    let memory = &analysis.memory;
+    write_memory_table(writer, memory.subs.as_slice(), memory.bytes, &memory.large)
 }
 
 #[tactic(auto, unfolding(crate::specs::AnalysisText::links_table))]
@@ -29,7 +31,7 @@ fn write_links_table<W: Write>(writer: &mut W, links: &[LinkRow], jitter: u64) -
 {
     write_links_head(writer)?;
     write_links(writer, links)?;
-    write_jitter(writer, jitter)
+    write_jitter(writer, " ns of ", jitter)
 }
 
 #[tactic(auto, unfolding(crate::specs::AnalysisText::networks_table, crate::specs::AnalysisText::networks_head))]
@@ -49,6 +51,21 @@ fn write_ports_table<W: Write>(writer: &mut W, ports: &[PortRow]) -> io::Result<
 {
     write_ports_head(writer)?;
     write_ports(writer, ports)
+}
+
+#[tactic(auto, unfolding(crate::specs::AnalysisText::memory_table))]
+fn write_memory_table<W: Write>(
+    writer: &mut W,
+    subs: &[SubRow],
+    bytes: u64,
+    large: &Option<SubRow>,
+) -> io::Result<()>
+    ensures { OnOk result (Appends (W.contents writer.old) (W.contents writer.new)
+        (memory_table subs.now bytes large.now)) }
+{
+    write_memory_head(writer)?;
+    write_subs(writer, subs)?;
+    write_total(writer, bytes, large)
 }
 
 #[tactic(auto, unfolding(crate::specs::AnalysisText::head_line))]
@@ -90,8 +107,8 @@ fn write_link<W: Write>(writer: &mut W, row: &LinkRow) -> io::Result<()>
     let lmax = row.plan.lmax.bytes();
     let subs = row.plan.sub_vls;
     let networks = networks_cell(row.plan.networks);
-    let load = Load(row.load);
-    let share = Share(row.share);
+    let load = Thousandths(row.load, Some(11));
+    let share = Hundredths(row.share, Some(6));
     let jitter = row.jitter;
     writeln!(
         writer,
@@ -109,27 +126,14 @@ pub(crate) fn networks_cell(networks: Networks) -> &'static str
     }
 }
 
-#[tactic(auto, unfolding(crate::specs::AnalysisText::jitter_line))]
-fn write_jitter<W: Write>(writer: &mut W, jitter: u64) -> io::Result<()>
-    ensures { OnOk result (Appends (W.contents writer.old) (W.contents writer.new)
-        (jitter_line jitter)) }
-{
-    let exceeded = if jitter > JITTER_LIMIT {
-        ", exceeded"
-    } else {
-        ""
-    };
-    writeln!(writer, "jitter {jitter} ns of {JITTER_LIMIT}{exceeded}")
-}
-
 #[tactic(auto, unfolding(crate::specs::AnalysisText::network_line))]
 fn write_network<W: Write>(writer: &mut W, row: &NetworkRow) -> io::Result<()>
     ensures { OnOk result (Appends (W.contents writer.old) (W.contents writer.new)
         (network_line row.now)) }
 {
     let name = network_name(row.name);
-    let load = Load(row.load);
-    let share = Share(row.share);
+    let load = Thousandths(row.load, Some(11));
+    let share = Hundredths(row.share, Some(6));
     let exceeded = exceeded_cell(row.exceeded);
     let jitter = row.jitter;
     writeln!(writer, "{name}{load}{share}{exceeded}{jitter:>11}")
@@ -178,9 +182,62 @@ fn write_port<W: Write>(writer: &mut W, row: &PortRow) -> io::Result<()>
     let sub = row.sub;
     let fragments = row.fragments;
     let wait = row.wait;
-    let rate = Rate(row.sustained);
+    let rate = Thousandths(row.sustained, Some(9));
     writeln!(
         writer,
         "{id:>5}{link:>6}{sub:>4}{fragments:>10}{wait:>15}{rate}"
     )
+}
+
+#[tactic(auto, unfolding(crate::specs::AnalysisText::memory_head))]
+fn write_memory_head<W: Write>(writer: &mut W) -> io::Result<()>
+    ensures { OnOk result (Appends (W.contents writer.old) (W.contents writer.new)
+        memory_head) }
+{
+    writer.write_all(b" link sub capacity ports greatest         bytes\n")
+}
+
+fn write_subs<W: Write>(writer: &mut W, subs: &[SubRow]) -> io::Result<()>
+    ensures { OnOk result (Appends (W.contents writer.old) (W.contents writer.new)
+        (flat_map sub_line subs.now)) }
+{
+    for sub in subs {
+        write_sub(writer, sub)?;
+    }
+    Ok(())
+}
+
+#[tactic(auto, unfolding(crate::specs::AnalysisText::sub_line))]
+fn write_sub<W: Write>(writer: &mut W, row: &SubRow) -> io::Result<()>
+    ensures { OnOk result (Appends (W.contents writer.old) (W.contents writer.new)
+        (sub_line row.now)) }
+{
+    let link = row.vl.0;
+    let sub = row.sub;
+    let capacity = row.capacity;
+    let ports = row.ports;
+    let greatest = row.greatest;
+    let bytes = row.bytes;
+    writeln!(
+        writer,
+        "{link:>5}{sub:>4}{capacity:>9}{ports:>6}{greatest:>9}{bytes:>14}"
+    )
+}
+
+#[tactic(auto, unfolding(crate::specs::AnalysisText::total_line))]
+fn write_total<W: Write>(writer: &mut W, bytes: u64, large: &Option<SubRow>) -> io::Result<()>
+    ensures { OnOk result (Appends (W.contents writer.old) (W.contents writer.new)
+        (total_line bytes large.now)) }
+{
+    match large {
+        Some(row) => {
+            let link = row.vl.0;
+            let sub = row.sub;
+            writeln!(
+                writer,
+                "memory {bytes} bytes, 64 MiB or more: link {link} sub {sub} holds the most"
+            )
+        }
+        None => writeln!(writer, "memory {bytes} bytes"),
+    }
 }

@@ -8,7 +8,7 @@ use crate::html::Cell;
 use crate::traffic::{Demand, Traffic};
 use afdx_plan::Config;
 use csv::{Error, Writer};
-use plan_analysis::{Analysis, JITTER_LIMIT, PortRow, Sender};
+use plan_analysis::{Analysis, JITTER_LIMIT, PortRow, Sender, SubRow};
 use std::alloc::{AllocError, Global};
 use std::fmt::{self, InlineText};
 use std::io::{self, Write};
@@ -224,9 +224,11 @@ fn missed(row: &Row<'_>, without: &'static str) -> &'static str {
 
 /// The header of the rows for a spreadsheet.
 const HEADER: &str =
-    "port,name,link,sub_vl,fragments,period_us,deadline_us,wait_queue_us,wait_traffic_us,holds,slack_us,missed";
+    "port,name,link,sub_vl,fragments,period_us,deadline_us,wait_queue_us,wait_traffic_us,holds,\
+    slack_us,missed,capacity,ports,greatest,bytes";
 
-/// Writes the rows of the ports for a spreadsheet, with a header.
+/// Writes the rows for a spreadsheet, with a header: those of the ports, those of the sub-VLs, and the memory of the
+/// whole end system. A field that a row lacks is empty.
 pub fn write_rows<W: Write + Drop>(
     out: &mut Writer<W>,
     assessment: &Assessment<'_>,
@@ -237,8 +239,17 @@ pub fn write_rows<W: Write + Drop>(
     out.end_record()?;
     for row in assessment.rows.iter() {
         write_fields(out, row)?;
+        skip(out, 4)?;
         out.end_record()?;
     }
+    let memory = &assessment.analysis.memory;
+    for row in memory.subs.iter() {
+        write_sub(out, row)?;
+        out.end_record()?;
+    }
+    skip(out, 15)?;
+    put(out, memory.bytes)?;
+    out.end_record()?;
     out.flush()
 }
 
@@ -255,6 +266,26 @@ fn write_fields<W: Write + Drop>(out: &mut Writer<W>, row: &Row<'_>) -> Result<(
     put(out, row.bound())?;
     put(out, Cell(row.slack(), ""))?;
     put(out, missed(row, ""))
+}
+
+/// Writes the fields of a sub-VL.
+fn write_sub<W: Write + Drop>(out: &mut Writer<W>, row: &SubRow) -> Result<(), Error> {
+    skip(out, 2)?;
+    put(out, row.vl.0)?;
+    put(out, row.sub)?;
+    skip(out, 8)?;
+    put(out, row.capacity)?;
+    put(out, row.ports)?;
+    put(out, row.greatest)?;
+    put(out, row.bytes)
+}
+
+/// Writes empty fields.
+fn skip<W: Write + Drop>(out: &mut Writer<W>, fields: usize) -> Result<(), Error> {
+    for _field in 0..fields {
+        put(out, "")?;
+    }
+    Ok(())
 }
 
 /// Writes a field, of at most 24 bytes.

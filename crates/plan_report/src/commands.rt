@@ -91,7 +91,7 @@ const WORDS: [Word; 18] = [
         "report",
         "csv",
         Kind::Text("file"),
-        "Also writes a row for each port to a CSV file",
+        "Also writes a row for each port and each sub-VL to a CSV file",
     ),
     Word(
         "report",

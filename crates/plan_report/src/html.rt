@@ -1,5 +1,6 @@
 //! Texts and numbers of the page, and its bars as SVG.
-use std::fmt::{self, InlineText};
+use crate::numbers::Grouped;
+use std::fmt;
 use std::io::{self, Write};
 
 /// The width of a drawing.
@@ -30,50 +31,6 @@ impl fmt::Display for Escaped<'_> {
         }
         Ok(())
     }
-}
-
-/// A number whose digits are grouped by three.
-#[derive(Drop)]
-pub(crate) struct Grouped(pub(crate) u64);
-
-impl fmt::Display for Grouped {
-    fn fmt<W: fmt::Write>(&self, f: &mut fmt::Formatter<W>) -> fmt::Result {
-        let text = InlineText::<24>::of(self.0);
-        let mut left = text.as_str().len();
-        for digit in text.as_str().chars() {
-            f.write_char(digit)?;
-            left = left.saturating_sub(1);
-            if left > 0 && left % 3 == 0 {
-                f.write_char(',')?;
-            }
-        }
-        Ok(())
-    }
-}
-
-/// A number of thousandths, with its decimal point.
-#[derive(Drop)]
-pub(crate) struct Thousandths(pub(crate) u64);
-
-impl fmt::Display for Thousandths {
-    fn fmt<W: fmt::Write>(&self, f: &mut fmt::Formatter<W>) -> fmt::Result {
-        write!(f, "{}.{:03}", Grouped(self.0 / 1_000), self.0 % 1_000)
-    }
-}
-
-/// A number of hundredths, with its decimal point.
-#[derive(Drop)]
-pub(crate) struct Hundredths(pub(crate) u64);
-
-impl fmt::Display for Hundredths {
-    fn fmt<W: fmt::Write>(&self, f: &mut fmt::Formatter<W>) -> fmt::Result {
-        write!(f, "{}.{:02}", Grouped(self.0 / 100), self.0 % 100)
-    }
-}
-
-/// A part of a whole in percent.
-pub(crate) fn percent(part: u64, whole: u64) -> Hundredths {
-    Hundredths(part.saturating_mul(10_000) / whole.max(1))
 }
 
 /// A time in nanoseconds, printed in the greatest unit of which it has one.

@@ -3,7 +3,7 @@ use crate::assessment::Assessment;
 use crate::commands::VERSION;
 use crate::flow::write_flow;
 use crate::html::{Escaped, Time};
-use crate::page_loads::{write_links, write_networks};
+use crate::page_loads::{write_links, write_memory, write_networks};
 use crate::page_waits::write_waits;
 use crate::reading::Digested;
 use crate::time_line::write_time_line;
@@ -31,6 +31,7 @@ pub fn write_page<W: Write>(
     write_waits(writer, assessment)?;
     write_time_line(writer, config, assessment)?;
     write_links(writer, assessment.analysis.links.as_slice())?;
+    write_memory(writer, &assessment.analysis.memory)?;
     write_flow(writer, config)?;
     writer.write_all(b"</body>\n</html>\n")
 }
@@ -124,6 +125,7 @@ th,td{border:0;padding:.1rem;white-space:normal;overflow-wrap:anywhere}tr{displa
 .bar{grid-column:1/-1;width:auto}.name{min-width:0;max-width:none}th:empty{display:none}
 #networks tr{grid-template-columns:2fr 3fr 2fr 3fr}#networks td:nth-child(4){order:1}#networks td:last-child{order:2}
 #gaps tr,#leads tr{grid-template-columns:repeat(3,1fr)}
+#memory tr{grid-template-columns:repeat(6,1fr)}
 #links tr{grid-template-columns:9fr 11fr 9fr 7fr 7fr 18fr 9fr 16fr}
 .without tr{grid-template-columns:5fr 5fr 5fr 8fr 8fr 9fr}.with tr{grid-template-columns:repeat(4,minmax(0,1fr))}
 .with td:first-child,.with th:first-child,.with .name,.with td:nth-child(11),.with th:nth-child(11){grid-row:1}

@@ -1,8 +1,9 @@
-//! The tables of the networks and of the links of a page, with bars of loads and jitter.
+//! The tables of the networks and of the links of a page, with bars of loads and jitter, and that of the sub-VLs.
 use crate::analysis_text::{network_name, networks_cell};
-use crate::html::{DRAWING, Grouped, Hundredths, Parts, Rect, Thousandths, Time, WIDTH, place};
+use crate::html::{DRAWING, Parts, Rect, Time, WIDTH, place};
+use crate::numbers::{Grouped, Hundredths, Thousandths};
 use plan_analysis::{
-    Analysis, JITTER_LIMIT, LinkRow, NetworkName, NetworkRow, OWN_JITTER, carries,
+    Analysis, JITTER_LIMIT, LinkRow, Memory, NetworkName, NetworkRow, OWN_JITTER, carries,
 };
 use std::io::{self, Write};
 
@@ -44,7 +45,7 @@ fn write_network<W: Write>(
     row: &NetworkRow,
 ) -> io::Result<()> {
     let name = network_name(row.name).trim();
-    let (load, share) = (Thousandths(row.load), Hundredths(row.share));
+    let (load, share) = (Thousandths(row.load, None), Hundredths(row.share, None));
     let over = over(row.exceeded);
     write!(
         writer,
@@ -101,7 +102,7 @@ fn write_link<W: Write>(writer: &mut W, row: &LinkRow) -> io::Result<()> {
     let gap = Time::of_micros(plan.bag.micros());
     let lmax = Grouped(plan.lmax.bytes() as u64);
     let networks = networks_cell(plan.networks).trim();
-    let (load, share) = (Thousandths(row.load), Hundredths(row.share));
+    let (load, share) = (Thousandths(row.load, None), Hundredths(row.share, None));
     let jitter = Time(row.jitter);
     let track = Rect("track", 0, WIDTH);
     let bar = Rect(
@@ -113,5 +114,37 @@ fn write_link<W: Write>(writer: &mut W, row: &LinkRow) -> io::Result<()> {
         writer,
         "<tr><td>{id}<td>{gap}<td>{lmax}<td>{subs}<td>{networks}<td>{load}<td>{share}<td>{jitter}\
         <td class=\"bar\">{DRAWING}{track}{bar}</svg>"
+    )
+}
+
+/// Writes the table of the sub-VLs, with the memory of the whole end system.
+pub(crate) fn write_memory<W: Write>(writer: &mut W, memory: &Memory) -> io::Result<()> {
+    writer.write_all(
+        b"<h2>Memory</h2>\n<p>The bytes that the end system holds. Each place of a queue has room for the greatest \
+        message of its sub-VL, as have the message in transmission and each port.",
+    )?;
+    if let Some(row) = &memory.large {
+        let (link, sub) = (row.vl.0, row.sub);
+        write!(
+            writer,
+            " The end system holds 64&nbsp;MiB or more: <b id=\"heaviest\">link {link} sub-VL {sub}</b> holds the most."
+        )?;
+    }
+    writer.write_all(
+        b"</p>\n<table id=\"memory\">\n<thead><tr><th>link<th>sub-VL<th>capacity<th>ports<th>greatest<th>bytes\n\
+        <tbody>\n",
+    )?;
+    for row in memory.subs.iter() {
+        let (link, sub, capacity, ports) = (row.vl.0, row.sub, row.capacity, row.ports);
+        let (greatest, bytes) = (Grouped(row.greatest), Grouped(row.bytes));
+        writeln!(
+            writer,
+            "<tr><td>{link}<td>{sub}<td>{capacity}<td>{ports}<td>{greatest}<td>{bytes}"
+        )?;
+    }
+    let bytes = Grouped(memory.bytes);
+    writeln!(
+        writer,
+        "<tr><td>end system<td>–<td>–<td>–<td>–<td>{bytes}\n</table>"
     )
 }

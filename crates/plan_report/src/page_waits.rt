@@ -1,6 +1,7 @@
 //! The table of the ports of a page, with bars of their waits on a logarithmic scale.
 use crate::assessment::{Assessment, Row};
-use crate::html::{DRAWING, Escaped, Rect, Thousandths, Time, WIDTH, mark, micros, percent};
+use crate::html::{DRAWING, Escaped, Rect, Time, WIDTH, mark, micros};
+use crate::numbers::{Thousandths, percent};
 use crate::page_loads::over;
 use std::fmt;
 use std::io::{self, Write};
@@ -77,7 +78,7 @@ fn write_port<W: Write>(
         write!(writer, "<td class=\"name\">{name}")?;
     }
     let (link, sub, fragments) = (port.vl.0, port.sub, port.fragments);
-    let rate = Thousandths(port.sustained);
+    let rate = Thousandths(port.sustained, None);
     write!(writer, "<td>{link}<td>{sub}<td>{fragments}<td>{rate}")?;
     if has_traffic {
         write_times(writer, row)?;

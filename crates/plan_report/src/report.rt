@@ -1,8 +1,7 @@
 //! The report of `check` on a plan.
 ghost use Rattle.std.specs.Prelude.{◌≡◌, OnOk, flat_map};
 ghost use Rattle.std.specs.Io.KnownBytes.{Appends};
-ghost use Rattle.plan_report.specs.Report.{kind_name as name_of_kind, checksum_text as text_of_checksum, networks_text as text_of_networks};
-ghost use Rattle.plan_report.specs.Report.{end_system_line, jitter_line, report_of, link_line, way_text, flow_text, port_line};
+ghost use Rattle.plan_report.specs.Report.{kind_name as name_of_kind, checksum_text as text_of_checksum, networks_text as text_of_networks, end_system_line, jitter_line, report_of, link_line, way_text, flow_text, port_line};
 
 use afdx_plan::{Config, Kind, LinkPlan, Networks, PortPlan, UdpSum, jitter_ns};
 use plan_analysis::JITTER_LIMIT;
@@ -20,7 +19,7 @@ pub fn write_report<W: Write>(writer: &mut W, config: &Config) -> io::Result<()>
     write_end_system(writer, config.end_system())?;
     write_links(writer, config.links())?;
     write_ports(writer, config.ports())?;
-    write_jitter(writer, jitter_ns(config))
+    write_jitter(writer, " ns, limit ", jitter_ns(config))
 }
 
 #[tactic(auto, unfolding(crate::specs::Report::end_system_line))]
@@ -153,15 +152,16 @@ fn checksum_text(checksum: UdpSum) -> &'static str
     }
 }
 
+/// Writes the line of the jitter, with words before its limit.
 #[tactic(auto, unfolding(crate::specs::Report::jitter_line))]
-fn write_jitter<W: Write>(writer: &mut W, jitter: u64) -> io::Result<()>
+pub(crate) fn write_jitter<W: Write>(writer: &mut W, words: &str, jitter: u64) -> io::Result<()>
     ensures { OnOk result (Appends (W.contents writer.old) (W.contents writer.new)
-        (jitter_line jitter)) }
+        (jitter_line words.now jitter)) }
 {
     let exceeded = if jitter > JITTER_LIMIT {
         ", exceeded"
     } else {
         ""
     };
-    writeln!(writer, "jitter {jitter} ns, limit {JITTER_LIMIT}{exceeded}")
+    writeln!(writer, "jitter {jitter}{words}{JITTER_LIMIT}{exceeded}")
 }

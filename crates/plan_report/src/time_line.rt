@@ -1,6 +1,7 @@
 //! The picture of a longest wait: the turns of a link, from the acceptance of a message to its last fragment.
 use crate::assessment::{Assessment, Row};
-use crate::html::{DRAWING, Escaped, Grouped, Rect, Time, WIDTH, percent};
+use crate::html::{DRAWING, Escaped, Rect, Time, WIDTH};
+use crate::numbers::{Grouped, percent};
 use crate::traffic::PERIOD_LIMIT;
 use afdx_plan::Config;
 use plan_analysis::used_sub_vls;
