@@ -41,7 +41,8 @@ struct words {
     struct faults faults;
 };
 
-/* A run: the time of its start, and how late each poll's frames were sent, in nanoseconds. */
+/* A run: the time of its start, and how late each poll's frames were sent, in nanoseconds. Frames that a fault sends early
+ * count with the poll after them. */
 struct play {
     struct tx tx;
     struct script script;
@@ -106,6 +107,12 @@ static bool sleep_until(const struct play *play, uint64_t nanos) {
     return stopped_by == 0;
 }
 
+/* Notes that frames of the next poll, or early ones before it, have been sent, which were due at a script's time. */
+static void note_lateness(struct play *play, uint64_t at) {
+    uint64_t now = nanos_now(), due = play->begun + nanos_of(play, at), *late = &play->late[play->polls];
+    if (now > due && now - due > *late) *late = now - due;
+}
+
 /* Sends the frames that are sent early, of those that come before a time. */
 static void send_early(struct play *play, uint64_t before) {
     struct fault *early;
@@ -118,6 +125,7 @@ static void send_early(struct play *play, uint64_t before) {
         frames[1] = frames[0];
         early->done = true;
         transmit(&play->networks[early->network], frames, (size_t)times, &play->capture, play->offset);
+        note_lateness(play, at);
     }
 }
 
@@ -156,8 +164,8 @@ static uint8_t poll_at(struct play *play, uint64_t at) {
         transmit(network, frames[n], count, &play->capture, play->offset);
         if (network->failed) afdx_fail(&play->tx.end_system, network->which);
     }
-    uint64_t now = nanos_now(), due = play->begun + nanos_of(play, at);
-    play->late[play->polls++] = now > due ? now - due : 0;
+    note_lateness(play, at);
+    play->polls++;
     return AFDX_OK;
 }
 
@@ -170,10 +178,6 @@ static int obey(struct play *play, const struct command *command) {
     if (says->kind == AFDX_SAYS_AT) answer = poll_at(play, says->at);
     if (says->kind == AFDX_SAYS_CLOSE) answer = afdx_close(&play->tx.end_system, says->id, says->sub, &total);
     if (says->kind == AFDX_SAYS_AT && answer == AFDX_BOTH_DOWN) return ENDS_BROKEN;
-    if (answer == AFDX_MEMORY) {
-        fprintf(stderr, "out of memory\n");
-        return ENDS_BROKEN;
-    }
     if (answer != AFDX_OK) {
         printf("line %zu: refused %s\n", command->line, short_name(says->kind == AFDX_SAYS_SEND ? AFDX_CALL_SEND : AFDX_CALL_OTHER, answer));
         play->refused++;
@@ -192,7 +196,7 @@ static int rehearse(struct play *play, const uint8_t *text, size_t length) {
     for (size_t k = 0; k < play->script.count && !failed; k++) {
         const struct command *command = &play->script.commands[k];
         uint8_t standing = 0;
-        if (command->says.kind == AFDX_SAYS_SEND && send_by(&tx, command) == AFDX_MEMORY) failed = ENDS_BROKEN;
+        if (command->says.kind == AFDX_SAYS_SEND) (void)send_by(&tx, command);
         if (command->says.kind == AFDX_SAYS_CLOSE) afdx_close(&tx.end_system, command->says.id, command->says.sub, &total);
         if (command->says.kind != AFDX_SAYS_AT || afdx_poll(&tx.end_system, command->says.at, &standing) != AFDX_OK) continue;
         frame.at = command->says.at;
