@@ -43,7 +43,7 @@ def shown(program, folder):
 
     quick, wanted, *_ = blocks("README.md")
     yield "README.md", ran(input=re.search("'(.*)'", quick)[1].encode().decode("unicode_escape")), wanted
-    script, transcript, faults, traffic, storm, *_ = blocks("docs/guide/program.md")
+    script, transcript, faults, memory, traffic, storm, *_ = blocks("docs/guide/program.md")
     plan = blocks("docs/guide/configuration.md")[0]
     for name, text in {"plan.toml": plan, "script.txt": script, "traffic.csv": traffic}.items():
         write(name, text.encode())
@@ -52,6 +52,7 @@ def shown(program, folder):
     yield "run", ran("run", "plan.toml", "script.txt", "--capture", "run.pcapng"), transcript + others
     verdict = "loads within limits, jitter within limits, deadlines kept of accepted messages; queues aren't judged"
     yield "report", ran("report", "plan.toml", "--traffic", "traffic.csv").partition("\n")[0], verdict
+    yield "report, memory", ran("report", "plan.toml")[-len(memory) :], memory
     yield "storm", ran("storm", "plan.toml", "--messages", "1000", "--turns", "1000000000"), storm
     with open(f"{folder}/run.pcapng", "rb") as file:
         write("run.pcapng", without_packet(file.read(), 4))

@@ -1,7 +1,5 @@
 -- The names of other crates, and of this one's definitions, that the proofs here use.
-pub use Rattle.std.proofs.Common.{Bool, Err, List, None, Ok, Option, Result, Some, ap, append-nil, append_assoc, arith, drop, eq-eqb, eqb, false, length}
-pub use Rattle.std.proofs.Common.{length-append, length-drop, map, refl, suc, sym, take, true, zero, [], ℕ, ◌%◌, ◌*◌, ◌++◌, ◌+◌, ◌-◌, ◌/◌, ◌<◌, ◌^◌, ◌∙◌, ◌∷◌}
-pub use Rattle.std.proofs.Common.{◌≡◌, ◌≤◌}
+pub use Rattle.std.proofs.Common.{Bool, Err, List, None, Ok, Option, Result, Some, ap, append-nil, append_assoc, arith, drop, eq-eqb, eqb, false, length, length-append, length-drop, map, refl, suc, sym, take, true, zero, [], ℕ, ◌%◌, ◌*◌, ◌++◌, ◌+◌, ◌-◌, ◌/◌, ◌<◌, ◌^◌, ◌∙◌, ◌∷◌, ◌≡◌, ◌≤◌}
 pub use Rattle.std.proofs.Math.Nat.{div-eq_of_lt, pow-le-pow_right}
 pub use Rattle.std.proofs.Math.Seq.{drop-append_seam, take-append_seam}
 pub use Rattle.std.proofs.lemmas.Bool.{le-ltb, ltb-false, ltb-true, ne_eqb}
@@ -22,8 +20,7 @@ unfoldable pub use Rattle.capture.specs.Interfaces.{first_option, time_of, with_
 pub use Rattle.capture.specs.Order.{Captured, IsInTime, RiseFrom, before_others, captured_moments, moments, next_net, on}
 unfoldable pub use Rattle.capture.specs.Order.{in_order}
 pub use Rattle.capture.specs.ReadBack.{Fits, ReadsBack, packet_for, packets_on}
-pub use Rattle.capture.specs.Recording.{Content, Moved, Progress, Recorded, Recording, at_start, content, ended, moved, no_packet, or_stop, read_capture}
-pub use Rattle.capture.specs.Recording.{read_from, recorded, recorded_if, then_read, with_bytes, with_packet}
+pub use Rattle.capture.specs.Recording.{Content, Moved, Progress, Recorded, Recording, at_start, content, ended, moved, no_packet, or_stop, read_capture, read_from, recorded, recorded_if, then_read, with_bytes, with_packet}
 unfoldable pub use Rattle.capture.specs.Recording.{block_content, body_of, content_of, enhanced, interface_content, next, read_within, section_content}
 pub use Rattle.capture.specs.Streaming.{IsRoomEnough, StepsOn, StopsThere}
 pub use Rattle.capture.specs.Units.{number_at, section_type}

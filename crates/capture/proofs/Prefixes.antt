@@ -1,7 +1,5 @@
 -- A step reads no byte past its unit, so it is the same whatever follows the bytes that it was given.
-use Rattle.capture.proofs.Names.{Big, Block, Blocks, Bool, Err, Format, Header, List, Little, More, Moved, Ok, Order, Progress, Record, Records, Result, Section, Stop, Unknown, arith, big_from-append, content_of, drop, drop-append-le}
-use Rattle.capture.proofs.Names.{false, header_unit, le-ltb, length, length-append, length-drop, little_from-append, ltb-false, moved, nat_lt, next, number_at, or_stop, refl, section_unit, size_of, take, take-append-le, true, unit_of}
-use Rattle.capture.proofs.Names.{with_bytes, ℕ, ◌++◌, ◌+◌, ◌>>=◌, ◌≡◌, ◌≤◌}
+use Rattle.capture.proofs.Names.{Big, Block, Blocks, Bool, Err, Format, Header, List, Little, More, Moved, Ok, Order, Progress, Record, Records, Result, Section, Stop, Unknown, arith, big_from-append, content_of, drop, drop-append-le, false, header_unit, le-ltb, length, length-append, length-drop, little_from-append, ltb-false, moved, nat_lt, next, number_at, or_stop, refl, section_unit, size_of, take, take-append-le, true, unit_of, with_bytes, ℕ, ◌++◌, ◌+◌, ◌>>=◌, ◌≡◌, ◌≤◌}
 use Rattle.capture.specs.declared.unit.Unit.{Unit as CaptureUnit}
 
 -- a number that is within the bytes

@@ -1,8 +1,5 @@
 -- What was written is read back.
-use Rattle.capture.proofs.Names.{A, All, All-head, All-tail, B, Blocks, Captured, Content, Entry, Fits, List, Little, Ok, Progress, ReadsBack, Recorded, Some, Whole, ap, append_assoc, arith, at_start, block_content, block_size, body_of}
-use Rattle.capture.proofs.Names.{codes, content, content_of, drop_all, first_option, half, header_blocks, in_order, interface_block, interface_content, interface_of, length, map, moved, next, no_packet, packet_block, packet_blocks}
-use Rattle.capture.proofs.Names.{packet_body, packet_for, packets_on, read_capture, read_from, read_within, refl, section_block, section_content, section_unit, size_of, sym, unit_of, with_option, with_options, with_packet, word, [], ℕ}
-use Rattle.capture.proofs.Names.{◌++◌, ◌+◌, ◌∙◌, ◌∷◌, ◌≡◌}
+use Rattle.capture.proofs.Names.{A, All, All-head, All-tail, B, Blocks, Captured, Content, Entry, Fits, List, Little, Ok, Progress, ReadsBack, Recorded, Some, Whole, ap, append_assoc, arith, at_start, block_content, block_size, body_of, codes, content, content_of, drop_all, first_option, half, header_blocks, in_order, interface_block, interface_content, interface_of, length, map, moved, next, no_packet, packet_block, packet_blocks, packet_body, packet_for, packets_on, read_capture, read_from, read_within, refl, section_block, section_content, section_unit, size_of, sym, unit_of, with_option, with_options, with_packet, word, [], ℕ, ◌++◌, ◌+◌, ◌∙◌, ◌∷◌, ◌≡◌}
 use Rattle.capture.proofs.Orders.{Merges, none, next_a, next_b, order_merges}
 use Rattle.capture.proofs.Packets.{length-packet_body}
 use Rattle.capture.proofs.Steps.{steps_on}

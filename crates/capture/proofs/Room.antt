@@ -1,6 +1,5 @@
 -- A window as long as the longest unit is never too short.
-use Rattle.capture.proofs.Names.{Block, Bool, Err, Fault, GREATEST_UNIT, Header, IsRoomEnough, List, Malformed, More, Moved, Ok, Record, Result, Section, Stop, arith, block_size, content_of, false, length, ltb-true, moved, nat_lt, next}
-use Rattle.capture.proofs.Names.{or_stop, record_size, refl, size_of, take, true, unit_of, with_bytes, ℕ, ◌<◌, ◌>>=◌, ◌≡◌, ◌≤◌}
+use Rattle.capture.proofs.Names.{Block, Bool, Err, Fault, GREATEST_UNIT, Header, IsRoomEnough, List, Malformed, More, Moved, Ok, Record, Result, Section, Stop, arith, block_size, content_of, false, length, ltb-true, moved, nat_lt, next, or_stop, record_size, refl, size_of, take, true, unit_of, with_bytes, ℕ, ◌<◌, ◌>>=◌, ◌≡◌, ◌≤◌}
 use Rattle.capture.proofs.Prefixes.{from_size, from_unit}
 use Rattle.capture.specs.declared.unit.Unit.{Unit as CaptureUnit}
 

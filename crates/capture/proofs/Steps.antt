@@ -1,7 +1,5 @@
 -- Reading on from a step.
-use Rattle.capture.proofs.Names.{Block, Bool, Err, Fault, Header, List, Malformed, More, Moved, Ok, Progress, Record, Result, Section, StepsOn, Stop, StopsThere, ap, arith, block_size, content_of, drop, drop-append-le, false, length}
-use Rattle.capture.proofs.Names.{length-append, length-drop, ltb-false, moved, nat_lt, next, or_stop, read_within, record_size, refl, size_of, suc, take, then_read, true, unit_of, with_bytes, with_packet, zero, ℕ, ◌++◌, ◌+◌, ◌<◌, ◌>>=◌}
-use Rattle.capture.proofs.Names.{◌∙◌, ◌≡◌, ◌≤◌}
+use Rattle.capture.proofs.Names.{Block, Bool, Err, Fault, Header, List, Malformed, More, Moved, Ok, Progress, Record, Result, Section, StepsOn, Stop, StopsThere, ap, arith, block_size, content_of, drop, drop-append-le, false, length, length-append, length-drop, ltb-false, moved, nat_lt, next, or_stop, read_within, record_size, refl, size_of, suc, take, then_read, true, unit_of, with_bytes, with_packet, zero, ℕ, ◌++◌, ◌+◌, ◌<◌, ◌>>=◌, ◌∙◌, ◌≡◌, ◌≤◌}
 use Rattle.capture.proofs.Prefixes.{next-append, from_size, from_unit}
 use Rattle.capture.specs.declared.unit.Unit.{Unit as CaptureUnit}
 

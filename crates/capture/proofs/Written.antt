@@ -1,7 +1,5 @@
 -- The blocks that are written, as a reading takes them.
-use Rattle.capture.proofs.Names.{A, B, Block, Blocks, Entry, Fits, GREATEST_UNIT, Interface, List, Little, Net, Ok, Progress, Some, ap, append-nil, arith, block, block_content, block_size, body_of, content_of, drop, drop-append_seam}
-use Rattle.capture.proofs.Names.{drop-drop, enhanced, eq-eqb, filled, interface_of, known, le-ltb, length, length-append, little_number-reads_back, moved, network_of, next, number_at, or_stop, packet_body, packet_for, refl, section_type}
-use Rattle.capture.proofs.Names.{size_of, slice_range, sym, take-append_seam, take_all, time_of, unit_of, word, [], ℕ, ◌%◌, ◌*◌, ◌++◌, ◌+◌, ◌-◌, ◌/◌, ◌<◌, ◌>>=◌, ◌^◌, ◌∙◌, ◌∷◌, ◌≡◌, ◌≤◌}
+use Rattle.capture.proofs.Names.{A, B, Block, Blocks, Entry, Fits, GREATEST_UNIT, Interface, List, Little, Net, Ok, Progress, Some, ap, append-nil, arith, block, block_content, block_size, body_of, content_of, drop, drop-append_seam, drop-drop, enhanced, eq-eqb, filled, interface_of, known, le-ltb, length, length-append, little_number-reads_back, moved, network_of, next, number_at, or_stop, packet_body, packet_for, refl, section_type, size_of, slice_range, sym, take-append_seam, take_all, time_of, unit_of, word, [], ℕ, ◌%◌, ◌*◌, ◌++◌, ◌+◌, ◌-◌, ◌/◌, ◌<◌, ◌>>=◌, ◌^◌, ◌∙◌, ◌∷◌, ◌≡◌, ◌≤◌}
 use Rattle.capture.proofs.Packets.{length-packet_body}
 
 -- a reading in a little-endian section

@@ -1,8 +1,6 @@
 -- The twins of a link on both networks, where both got all and the recording is in the order of time: the frames that wait
 -- are those by which one network leads, and each finds its twin.
-use Rattle.judge_laws.proofs.Names.{A, All, All-cons, All-nil, All-push, All-tail, All-weaker, AllZip, B, Entry, List, Nearness, Net, None, Option, Pairing, Tag, Wait, ap, append_assoc, arith, cases_Bool, entry, eq-eqb, false}
-use Rattle.judge_laws.proofs.Names.{filter, find, get_or, get_or-append-add, get_or-append_seam, get_or-map, get_or_append_left, get_or_default, is_lost, is_passed, is_twin, kept, left_waiting, length, length-append, length-map}
-use Rattle.judge_laws.proofs.Names.{length-twin, map, nat_tests, number_in, pairing_with, refl, same_net, side, sym, true, twin_number, ℕ, [], ◌*◌, ◌++◌, ◌+◌, ◌<◌, ◌∙◌, ◌∷◌, ◌≡◌, ◌≤◌, ◌⊎◌}
+use Rattle.judge_laws.proofs.Names.{A, All, All-cons, All-nil, All-push, All-tail, All-weaker, AllZip, B, Entry, List, Nearness, Net, None, Option, Pairing, Tag, Wait, ap, append_assoc, arith, cases_Bool, entry, eq-eqb, false, filter, find, get_or, get_or-append-add, get_or-append_seam, get_or-map, get_or_append_left, get_or_default, is_lost, is_passed, is_twin, kept, left_waiting, length, length-append, length-map, length-twin, map, nat_tests, number_in, pairing_with, refl, same_net, side, sym, true, twin_number, ℕ, [], ◌*◌, ◌++◌, ◌+◌, ◌<◌, ◌∙◌, ◌∷◌, ◌≡◌, ◌≤◌, ◌⊎◌}
 use Rattle.judge_laws.proofs.Copies.{IsStream, far, own_at}
 use Rattle.judge_laws.proofs.Line.{IsDelayed}
 use Rattle.judge_laws.proofs.Recording.{rest_after, same_self}

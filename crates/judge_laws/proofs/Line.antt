@@ -1,10 +1,6 @@
 -- A line of a judge: what it knows of a link on a network while the frames `rest` of a legal stream are to come, and that
 -- nothing is wrong with the next one: its number, its gap, its turn and its piece.
-use Rattle.judge_laws.proofs.Names.{Arrived, Bool, Entry, IsApart, IsFollowedInTurn, IsNumbered, IsPlan, IsSpaced, Joining, Last, Line, List, Measure, Net, None, Option, Options, Plan, PortPlan, Some, Stamp, Sub, Tag, TakesTurns}
-use Rattle.judge_laws.proofs.Names.{Verdict, arith, arrived, bag_micros, before_next, cases_Bool, cases_eq, due_before, early_deviation, early_since, entry_number, false, fields_of, figures_with, get_or, get_or-set_other}
-use Rattle.judge_laws.proofs.Names.{get_or-set_same, get_or_default, head_now, inl, inr, joined, length, length-set, line_after, line_with, link_plan_at, measure_of, min, more_in, names, nat_lt, nat_tests, new_sub, next_number}
-use Rattle.judge_laws.proofs.Names.{number_after, number_deviation, number_unless, other_sub, passed_by, position-Some, refl, sequence_number, settled, slice_set, stamp_of, sub_at, sub_in, sub_stream, sym, told, true}
-use Rattle.judge_laws.proofs.Names.{turn_deviation, verdict, ℕ, [], ◌&&◌, ◌*◌, ◌++◌, ◌+◌, ◌-◌, ◌<◌, ◌^◌, ◌∷◌, ◌≡◌, ◌≢◌, ◌≤◌}
+use Rattle.judge_laws.proofs.Names.{Arrived, Bool, Entry, IsApart, IsFollowedInTurn, IsNumbered, IsPlan, IsSpaced, Joining, Last, Line, List, Measure, Net, None, Option, Options, Plan, PortPlan, Some, Stamp, Sub, Tag, TakesTurns, Verdict, arith, arrived, bag_micros, before_next, cases_Bool, cases_eq, due_before, early_deviation, early_since, entry_number, false, fields_of, figures_with, get_or, get_or-set_other, get_or-set_same, get_or_default, head_now, inl, inr, joined, length, length-set, line_after, line_with, link_plan_at, measure_of, min, more_in, names, nat_lt, nat_tests, new_sub, next_number, number_after, number_deviation, number_unless, other_sub, passed_by, position-Some, refl, sequence_number, settled, slice_set, stamp_of, sub_at, sub_in, sub_stream, sym, told, true, turn_deviation, verdict, ℕ, [], ◌&&◌, ◌*◌, ◌++◌, ◌+◌, ◌-◌, ◌<◌, ◌^◌, ◌∷◌, ◌≡◌, ◌≢◌, ◌≤◌}
 use Rattle.judge_laws.proofs.Message.{IsGood, port_at}
 use Rattle.judge_laws.proofs.Pieces.{IsAwaiting, IsClean, one_frame}
 use Rattle.judge_laws.proofs.Reading.{with_other, with_own}

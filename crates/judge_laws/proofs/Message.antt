@@ -1,9 +1,5 @@
 -- A piece of a message that the judge hears when it is due: nothing is wrong with it, and what is known after it is true.
-use Rattle.judge_laws.proofs.Names.{Contains, Fields, Flow, Generated, Head, Identification, IfSome, IsAllowed, IsPiece, IsPlan, Joining, List, Misfit, None, Offset, Option, Piece, PieceIn, Plan, PortPlan, Sent, Some, UdpSum, VlId}
-use Rattle.judge_laws.proofs.Names.{addresses, addresses_deviation, ap, arith, begun, cases_Bool, cases_eq, cases_lt, checksums_pass, datagram, drop, end_deviation, false, fields_of, first_port, fragment_deviation, head_after}
-use Rattle.judge_laws.proofs.Names.{head_now, head_of, head_with, ident_before, ident_of, identification, if_known, is_of_port, is_towards, joined, judge_sub, length, length-append, length-take, length-udp_header, length_deviation}
-use Rattle.judge_laws.proofs.Names.{link_plan_at, message_deviation, misfit_if, nat_tests, next_of, piece_at, port_deviation, refl, right_sum, room_of, step_of, suc, take, take-add, take_all, true, udp_checksum, udp_field, udp_sum}
-use Rattle.judge_laws.proofs.Names.{word_sum, word_sum-append, ℕ, ◌%◌, ◌+◌, ◌-◌, ◌/◌, ◌<◌, ◌∙◌, ◌≡◌, ◌≤◌, ◌⊎◌}
+use Rattle.judge_laws.proofs.Names.{Contains, Fields, Flow, Generated, Head, Identification, IfSome, IsAllowed, IsPiece, IsPlan, Joining, List, Misfit, None, Offset, Option, Piece, PieceIn, Plan, PortPlan, Sent, Some, UdpSum, VlId, addresses, addresses_deviation, ap, arith, begun, cases_Bool, cases_eq, cases_lt, checksums_pass, datagram, drop, end_deviation, false, fields_of, first_port, fragment_deviation, head_after, head_now, head_of, head_with, ident_before, ident_of, identification, if_known, is_of_port, is_towards, joined, judge_sub, length, length-append, length-take, length-udp_header, length_deviation, link_plan_at, message_deviation, misfit_if, nat_tests, next_of, piece_at, port_deviation, refl, right_sum, room_of, step_of, suc, take, take-add, take_all, true, udp_checksum, udp_field, udp_sum, word_sum, word_sum-append, ℕ, ◌%◌, ◌+◌, ◌-◌, ◌/◌, ◌<◌, ◌∙◌, ◌≡◌, ◌≤◌, ◌⊎◌}
 use Rattle.judge_laws.proofs.Reading.{Carries, port_found, sum_field}
 
 -- what is known of a message of which `start` bytes came

@@ -1,12 +1,10 @@
 -- Names of other crates for the proofs here.
-pub use Rattle.std.proofs.Common.{Bool, List, None, Ok, Option, Result, Some, ap, append-nil, append_assoc, arith, drop, false, get_or, inl, inr, le_refl, length, length-append, length-set, map, max, nat_le, not, refl, replicate}
-pub use Rattle.std.proofs.Common.{slice_index, subst, suc, sym, take, true, zero, ℕ, [], ◌%◌, ◌*◌, ◌++◌, ◌+◌, ◌-◌, ◌/◌, ◌<◌, ◌==◌, ◌^◌, ◌↔◌, ◌∙◌, ◌∷◌, ◌≡◌, ◌≢◌, ◌≤◌, ◌⊎◌}
+pub use Rattle.std.proofs.Common.{Bool, List, None, Ok, Option, Result, Some, ap, append-nil, append_assoc, arith, drop, false, get_or, inl, inr, le_refl, length, length-append, length-set, map, max, nat_le, not, refl, replicate, slice_index, subst, suc, sym, take, true, zero, ℕ, [], ◌%◌, ◌*◌, ◌++◌, ◌+◌, ◌-◌, ◌/◌, ◌<◌, ◌==◌, ◌^◌, ◌↔◌, ◌∙◌, ◌∷◌, ◌≡◌, ◌≢◌, ◌≤◌, ◌⊎◌}
 pub use Rattle.std.proofs.Math.Seq.{drop-cons, get_or-append_right, get_or-append_seam, take-add}
 pub use Rattle.std.proofs.lemmas.Bool.{both_ways, cases_Bool, cases_eq, cases_lt, eq-eqb, eqb-true, le-ltb, lt-ltb, ne_eqb}
 pub use Rattle.std.proofs.lemmas.Bool.Decides.{nat_tests}
 pub use Rattle.std.proofs.lemmas.Grind.{same_number_lists}
-pub use Rattle.std.proofs.lemmas.List.{drop-drop, drop-set-lt, drop_at, get_or-append-add, get_or-drop, get_or-map, get_or-replicate, get_or-set_other, get_or-set_same, get_or-take, get_or_append_left, get_or_default, get_or_past}
-pub use Rattle.std.proofs.lemmas.List.{length-drop, length-map, length-replicate, length-take, map-append, take-append-drop, take-set-le, take_all, take_at, take_more}
+pub use Rattle.std.proofs.lemmas.List.{drop-drop, drop-set-lt, drop_at, get_or-append-add, get_or-drop, get_or-map, get_or-replicate, get_or-set_other, get_or-set_same, get_or-take, get_or_append_left, get_or_default, get_or_past, length-drop, length-map, length-replicate, length-take, map-append, take-append-drop, take-set-le, take_all, take_at, take_more}
 pub use Rattle.std.proofs.lemmas.List.Elements.{All-append, All-cons, All-contains, All-drop, All-filter, All-from_get_or, All-from_recursion, All-head, All-map, All-nil, All-push, All-tail, All-take, All-weaker, filter_passes}
 pub use Rattle.std.proofs.lemmas.List.Filters.{length-filter_both}
 pub use Rattle.std.proofs.Math.Path.{fun_ext}
@@ -58,13 +56,11 @@ pub use Rattle.judge.specs.Deviations.{first_of}
 unfoldable pub use Rattle.judge.specs.Fields.{fields_of}
 pub use Rattle.judge.specs.Joining.{address_number, addresses_deviation, begun, end_deviation, head_after, head_of, head_with, ident_before, ident_of, if_known, is_of_port, is_towards, joined, misfit_if, next_of, port_of, right_sum}
 unfoldable pub use Rattle.judge.specs.Joining.{fragment_deviation, head_now, length_deviation, message_deviation}
-pub use Rattle.judge.specs.Judging.{Admitted, Judging, OnNet, after_timed, arrived, findings, first_port, found_from, found_given_up, found_left, found_timed, given_up, line_on, link_at, measure_of, nearness_of, new_link, no_times}
-pub use Rattle.judge.specs.Judging.{placed, tag_of, timed, times_with}
+pub use Rattle.judge.specs.Judging.{Admitted, Judging, OnNet, after_timed, arrived, findings, first_port, found_from, found_given_up, found_left, found_timed, given_up, line_on, link_at, measure_of, nearness_of, new_link, no_times, placed, tag_of, timed, times_with}
 unfoldable pub use Rattle.judge.specs.Judging.{admitted, after_packet, found_of_arrival, found_on_link, found_with_end, found_with_packet, link_after, with_arrival, with_verdict}
 pub use Rattle.judge.specs.Layouts.{first_nonzero, has_four_more, has_total, padding_of, unless_kept}
 unfoldable pub use Rattle.judge.specs.Layouts.{address_broken, internet_broken, layout_broken, link_broken, padding_broken}
-pub use Rattle.judge.specs.Lines.{due_before, early_deviation, early_since, figures_with, new_line, new_sub, next_number, number_after, number_deviation, number_unless, numbered, other_sub, passed_by, port_deviation, settled}
-pub use Rattle.judge.specs.Lines.{sub_at, sub_in as judge_sub, turn_deviation, turn_if}
+pub use Rattle.judge.specs.Lines.{due_before, early_deviation, early_since, figures_with, new_line, new_sub, next_number, number_after, number_deviation, number_unless, numbered, other_sub, passed_by, port_deviation, settled, sub_at, sub_in as judge_sub, turn_deviation, turn_if}
 unfoldable pub use Rattle.judge.specs.Lines.{line_after, line_with, verdict}
 pub use Rattle.judge.specs.Rules.{interface_on, on_link, size_deviation}
 unfoldable pub use Rattle.judge.specs.Rules.{checked, frame_in, place_of, unchecked}

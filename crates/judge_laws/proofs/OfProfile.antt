@@ -1,7 +1,5 @@
 -- The judge's rules of the layout are those of the profile.
-use Rattle.judge_laws.proofs.Names.{Bool, Deviation, HasAddresses, HasInternetHeader, HasLinkHeader, HasZeroPadding, Layout, List, None, Option, address_broken, arith, fails_before_first, false, first_nonzero, first_of, fragment_field, get_or, has_total}
-use Rattle.judge_laws.proofs.Names.{internet_broken, layout_broken, length, link_broken, max, more_fragments, nat_tests, not, padding_broken, padding_of, position_or_len_is, refl, total_length, true, unless_kept, zeros_part, zeros_there, ℕ, ◌%◌, ◌+◌}
-use Rattle.judge_laws.proofs.Names.{◌-◌, ◌<◌, ◌==◌, ◌↔◌, ◌≡◌, ◌≤◌}
+use Rattle.judge_laws.proofs.Names.{Bool, Deviation, HasAddresses, HasInternetHeader, HasLinkHeader, HasZeroPadding, Layout, List, None, Option, address_broken, arith, fails_before_first, false, first_nonzero, first_of, fragment_field, get_or, has_total, internet_broken, layout_broken, length, link_broken, max, more_fragments, nat_tests, not, padding_broken, padding_of, position_or_len_is, refl, total_length, true, unless_kept, zeros_part, zeros_there, ℕ, ◌%◌, ◌+◌, ◌-◌, ◌<◌, ◌==◌, ◌↔◌, ◌≡◌, ◌≤◌}
 use Rattle.judge_laws.specs.Frames.{LayoutIsProfile}
 
 pub none_both : (a b : Option Deviation) → first_of a b ≡ None → (a ≡ None) × (b ≡ None)

@@ -1,5 +1,4 @@
-use Rattle.capture.proofs.Names.{block_content, block_size, body_of, content_of, enhanced, first_option, half, header_blocks, in_order, interface_block, interface_content, next, packet_block, packet_blocks, read_within, refl}
-use Rattle.capture.proofs.Names.{section_block, section_content, section_unit, size_of, time_of, unit_of, with_option, with_options, word}
+use Rattle.capture.proofs.Names.{block_content, block_size, body_of, content_of, enhanced, first_option, half, header_blocks, in_order, interface_block, interface_content, next, packet_block, packet_blocks, read_within, refl, section_block, section_content, section_unit, size_of, time_of, unit_of, with_option, with_options, word}
 use Rattle.capture.proofs.ReadBacks.{reads_back}
 use Rattle.capture.proofs.laws.reads_back.Goals as goal
 
