@@ -1,6 +1,6 @@
 #!/usr/bin/env python3
 """Tests what README.md and the guides show: the program prints what they say of the same plan, script and recording,
-and their paths and links lead to files, and to headings there. The last line is 'N passed, M failed'."""
+code that they quote stands in the tree, and their paths and links lead to files, and to headings there. The last line is 'N passed, M failed'."""
 import os
 import re
 import subprocess
@@ -11,7 +11,7 @@ from glob import glob
 sys.dont_write_bytecode = True
 from trying import ROOT, Tries, built, started, text_of
 
-PAGES = ["README.md", "CONTRIBUTING.md", *sorted(glob("docs/**/*.md", root_dir=ROOT, recursive=True))]
+PAGES = ["README.md", "CONTRIBUTING.md", *sorted(glob("docs/**/*.md", root_dir=ROOT, recursive=True)), *sorted(glob("crates/*/*.md", root_dir=ROOT))]
 # A plan with the faults that program.md shows.
 FAULTY = """[end_system]\nid = "1"\n\n[[vl]]\nid = 6\nbag_ms = 1\nlmax = 64\nsub_vls = 1\ncapacity = 1
 [[vl]]\nid = 7\nlmax = 63\nbag_ms = 3\nsub_vls = 1\ncapacity = 2
@@ -77,6 +77,16 @@ def dead_links(page):
             yield f"{page}: {link}"
 
 
+def not_in_tree(page):
+    """The texts in Rattle that a page shows, and that stand in no source and no definition."""
+    files = glob("crates/*/src/*.rt", root_dir=ROOT) + glob("crates/*/specs/*.antt", root_dir=ROOT)
+    written = "\n".join(re.sub(r"(?m)^ *#\[.*\n|^ +", "", text_of(it)) for it in files)
+    for block in re.findall(r"(?ms)^```rust\n(.*?)^```$", text_of(page)):
+        for part in block.split("\n\n"):
+            if re.sub(r"(?m)^ +", "", part.strip("\n")) not in written:
+                yield f"{page}: {part[:200]}"
+
+
 def tried(program):
     """Which of the commands that pages show prints something else."""
     with tempfile.TemporaryDirectory(prefix="pages-") as folder:
@@ -86,6 +96,9 @@ def tried(program):
 def main():
     tries = Tries()
     tries.show("paths and links", [link for page in PAGES for link in dead_links(page)])
+    tries.show("texts in Rattle", [part for page in PAGES for part in not_in_tree(page)])
+    made = subprocess.run([sys.executable, "-B", f"{ROOT}/tools/pages.py"], capture_output=True, text=True, check=False)
+    tries.show("parts that tools/pages.py makes", [f"{made.stdout}{made.stderr}"] if made.returncode else [])
     for build, program in built("afdx_bench").items():
         tries.attempt(f"commands by {build}", lambda: tried(program))
     return tries.end()
