@@ -1,5 +1,5 @@
 //! Tests of whole end systems, of what no contract says: that a poll finds what was sent, that calls succeed if memory
-//! suffices, that threads make progress, and what becomes of a run whose networks, reader or writer fail.
+//! suffices, that threads make progress, and what becomes of a run whose networks fail.
 #![tactic(auto)]
 
 #[cfg(test)]
@@ -18,8 +18,6 @@ mod rig;
 mod step_tests;
 #[cfg(test)]
 mod storm_tests;
-#[cfg(test)]
-mod stream_tests;
 #[cfg(test)]
 mod testing;
 #[cfg(test)]

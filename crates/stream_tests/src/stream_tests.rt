@@ -1,10 +1,43 @@
 //! Readers that fail at each byte and writers that fail at each call, of `run_script` and `check`.
-use crate::testing::*;
 use afdx_plan::demo_config;
 use plan_report::{Failure, Halting, check};
 use script_text::RunFault;
+use std::alloc::Global;
+use std::fmt::Debug;
 use std::io::{self, BufWriter, ErrorKind, Read, Write};
+use std::process::Abort;
 use tx_script::{Summary, run_script};
+
+/// The runtime of a test, which asserts and allocates.
+trait Host: Abort + AllocGlobal {}
+
+impl<R: Abort + AllocGlobal> Host for R {}
+
+/// The text of the demonstration configuration.
+const DEMO: &str = "version = 2
+[end_system]
+id = 1
+[[vl]]
+id = 1
+bag_ms = 1
+lmax = 1518
+sub_vls = 1
+capacity = 2
+[[port]]
+id = 10
+vl = 1
+sub = 0
+partition = 1
+kind = 'queuing'
+source = 1000
+destination = 2000
+max = 8192
+";
+
+/// Asserts that two values are the same.
+fn assert_same<V: PartialEq + Debug + Copy>(rt: &impl Abort, told: V, wanted: V) {
+    assert_eq!(rt; told, wanted);
+}
 
 /// Returns at most `most` bytes a call, and `failure` once between two parts of its text.
 #[derive(Drop)]
@@ -248,22 +281,18 @@ fn assert_check(rt: &impl Host, text: impl Read + Drop, wanted: Checked, lines: 
 
 #[test]
 fn a_text_is_read_whole_or_not_at_all(rt: HostRuntime) {
-    let text = text_of(&rt, DEMO);
     for &(kind, wanted, report) in &READS {
-        let reader = reader_of(text.as_bytes(), text.len(), Some(kind), 3);
+        let reader = reader_of(DEMO.as_bytes(), DEMO.len(), Some(kind), 3);
         assert_check(&rt, reader, wanted, report);
     }
     assert_check(&rt, io::repeat(b'\n'), UNREAD, "");
-    drop(text);
 }
 
 // Has `check` write its report through a buffer, as the program does, and flushes it.
 fn report(rt: &impl Host, lapsing: &mut Lapsing) -> Checked {
-    let text = text_of(rt, DEMO);
     let writer = BufWriter::with_capacity(rt.alloc(), 24, Halting::new(lapsing));
     let mut writer = writer.ok().expect(rt, "memory");
-    let told = check(rt.alloc(), text.as_bytes(), &mut writer);
-    drop(text);
+    let told = check(rt.alloc(), DEMO.as_bytes(), &mut writer);
     match writer.flush() {
         Ok(()) => told,
         Err(_) => UNWRITTEN,
