@@ -10,8 +10,8 @@ use Rattle.afdx_plan.specs.declared.link_plan.LinkPlan.{LinkPlan}
 use Rattle.afdx_frame.specs.declared.net.Net.TheVariants.{A, B}
 use Rattle.redundant_mux.specs.Lines.{Entry, entry, Logged, logged_for, names, sent_to, side}
 use Rattle.redundant_mux.specs.Memory.{entry_at}
-use Rattle.vl_link.specs.declared.served.Served.{Served}
-use Rattle.vl_link.specs.declared.served.Served.TheVariants.{Nothing, Released, Lost}
+use Rattle.vl_link.specs.declared.link.Served.{Served}
+use Rattle.vl_link.specs.declared.link.Served.TheVariants.{Nothing, Released, Lost}
 use Rattle.vl_link.specs.Turn.{TurnView, Turn, AreTurns}
 use Rattle.vl_shaper.specs.Pace.{Pace}
 use Rattle.afdx_tx.specs.Report.{release_of}
@@ -20,7 +20,7 @@ use Rattle.afdx_plan.specs.Config.{link_plan_at}
 use Rattle.afdx_frame.specs.Fragments.{Sent}
 use Rattle.afdx_legal.specs.Streams.{link_stream}
 use Rattle.vl_link.specs.Links.{LinkState, held_view, link_at, pace_of}
-use Rattle.afdx_tx.specs.declared.report.Report.{Report}
+use Rattle.afdx_tx.specs.declared.turns.Report.{Report}
 
 -- these were logged at this time
 abbrev LoggedAt : ℕ → List Logged → Type 0

@@ -13,7 +13,7 @@ use Rattle.afdx_tx.specs.Run.{accepted_in}
 use Rattle.afdx_tx.specs.Ports.{PortView, IsPortOfTx, AreOpenedWith, AreFreshPorts}
 use Rattle.afdx_tx.specs.Calls.{ClosesTx}
 use Rattle.afdx_tx.specs.Gathering.{IsGatheredTx}
-use Rattle.afdx_tx.specs.declared.report.Report.{Report}
+use Rattle.afdx_tx.specs.declared.turns.Report.{Report}
 use Rattle.afdx_handle.specs.Numbers.{line_of}
 use Rattle.afdx_handle.specs.Polling.{PollsTx}
 

@@ -4,7 +4,7 @@ use Rattle.afdx_tx.specs.Emitter.{Tx}
 use Rattle.afdx_tx.specs.Calls.{TellsNextDue}
 use Rattle.afdx_tx.specs.Phases.{Runs, StaysLawful}
 use Rattle.afdx_tx.specs.Report.{Polls}
-use Rattle.afdx_tx.specs.declared.report.Report.{Report}
+use Rattle.afdx_tx.specs.declared.turns.Report.{Report}
 use Rattle.afdx_handle.specs.declared.stage.Stage.{Stage}
 use Rattle.afdx_handle.specs.declared.stage.Stage.TheVariants.{Sending, Draining}
 

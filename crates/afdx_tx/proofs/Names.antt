@@ -24,7 +24,7 @@ pub use Rattle.afdx_tx.specs.Gathering.{AreFull, GathersLinks, GathersPorts, Has
 pub use Rattle.afdx_tx.specs.Ports.{AreOpenedWith, BelongsTo, HasEveryPlace, HasOwnMessages, HasPlace, IsFreshPort, IsFreshSender, PortView, index_of, queue_at, queue_for}
 pub use Rattle.afdx_tx.specs.Report.{IsTold, release_of, turn_release}
 pub use Rattle.afdx_tx.specs.Phases.{Conforms, IsPolling, IsSteady, TellsAllDone}
-pub use Rattle.afdx_tx.specs.declared.report.Release.{Release}
+pub use Rattle.afdx_tx.specs.declared.turns.Release.{Release}
 pub use Rattle.redundant_mux.proofs.MirroredLines.{both_none, both_on, stood_before, entries_append, fresh_in_step, fresh_lines, fresh_log, log_more, log_same, mirrored_failing}
 pub use Rattle.redundant_mux.specs.Lines.{Entry, entry, BothEndure, IsMirrored, Keeps, Lines, any_up, Logged, entries_of, logged_for, names, only, sent_to, side, with_failing}
 unfoldable pub use Rattle.redundant_mux.specs.Lines.{log}
@@ -47,8 +47,8 @@ pub use Rattle.vl_link.specs.Kept.{IsBehind, IsKept, IsLinkTied, IsTied}
 pub use Rattle.vl_link.specs.Links.{Asks, Follows, HasOwnItems, Held, IsLinkOfPlan, IsSameLink, IsSameSub, LinkState, Serves, held_at, held_view, link_at, no_link, no_link_plan, nothing_held, pace_of, sent_by, sent_of, sub_fragments, taken_by}
 pub use Rattle.vl_link.specs.Seen.{Finds, FindsNothing, IsKnownWhole, IsReceiving, IsSameQueue, Seen, TellsDrained, gathered, known_of, ports_of, queue_of, receiving, taken_of, total_of}
 pub use Rattle.vl_link.specs.Turn.{AreTurns, is_lost, may_release}
-pub use Rattle.vl_link.specs.declared.served.Served.{Served}
-pub use Rattle.vl_link.specs.declared.served.Served.TheVariants.{Lost, Nothing, Released}
+pub use Rattle.vl_link.specs.declared.link.Served.{Served}
+pub use Rattle.vl_link.specs.declared.link.Served.TheVariants.{Lost, Nothing, Released}
 pub use Rattle.vl_link.specs.declared.sub.SubVl.{SubVl}
 pub use Rattle.vl_shaper.specs.Pace.{IsLater, Pace, due_from, is_due, waits_until}
 pub use Rattle.vl_shaper.specs.declared.shaper.Stamp.{Stamp}

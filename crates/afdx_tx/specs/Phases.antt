@@ -9,7 +9,7 @@ use Rattle.afdx_legal.specs.Streams.{AreOwnStreams, TakeTurns}
 use Rattle.vl_link.specs.Calls.{TellsLinkDone}
 use Rattle.vl_link.specs.Links.{LinkState, link_at}
 use Rattle.vl_link.specs.Turn.{AreTurns}
-use Rattle.afdx_tx.specs.declared.report.Release.{Release}
+use Rattle.afdx_tx.specs.declared.turns.Release.{Release}
 use Rattle.afdx_tx.specs.Run.{accepted_in, IsTurnAt, AreGathered, IsDrained, IsRun}
 use Rattle.afdx_tx.specs.Emitter.{Tx, plans, AreLinks, AreKept, AreCarried, AreWhole, AreServedBy, AreTied, HaveOwnItems, IsSamePlan, taken_in, AreReceiving, queues_in, total_in}
 use Rattle.afdx_tx.specs.Report.{IsTold}

@@ -4,8 +4,8 @@ use Rattle.afdx_plan.specs.Config.{Plan, link_plan_at, port_plan_at, link_place}
 use Rattle.afdx_plan.specs.declared.port_plan.PortPlan.{PortPlan}
 use Rattle.subvl_queue.specs.Messages.{most_calls}
 use Rattle.subvl_queue.specs.Views.{QueueName, SenderView, new_sender, IsPlaced, IsRefused}
-use Rattle.subvl_queue.specs.declared.refused.Why.{Why}
-use Rattle.subvl_queue.specs.declared.refused.Why.TheVariants.{Closed as QueueClosed, Exhausted as QueueExhausted, Full as QueueFull}
+use Rattle.subvl_queue.specs.declared.sender.Why.{Why}
+use Rattle.subvl_queue.specs.declared.sender.Why.TheVariants.{Closed as QueueClosed, Exhausted as QueueExhausted, Full as QueueFull}
 use Rattle.afdx_tx.specs.declared.fault.Refusal.{Refusal}
 use Rattle.afdx_tx.specs.declared.fault.Refusal.TheVariants.{Empty, TooLong, Closed, Exhausted, Full}
 use Rattle.afdx_tx.specs.Emitter.{Tx, queues_in, greatest_of, ports_of_sub}

@@ -4,10 +4,10 @@ use Rattle.afdx_plan.specs.declared.port_plan.VlId.{VlId}
 use Rattle.afdx_frame.specs.Header.{link_in, sub_in, number_in}
 use Rattle.redundant_mux.specs.Lines.{Entry, Lines, log}
 use Rattle.redundant_mux.specs.declared.mux.Standing.{Standing}
-use Rattle.vl_link.specs.declared.served.Served.{Served}
-use Rattle.vl_link.specs.declared.served.Served.TheVariants.{Nothing, Released, Lost}
-use Rattle.afdx_tx.specs.declared.report.Release.{Release}
-use Rattle.afdx_tx.specs.declared.report.Report.{Report}
+use Rattle.vl_link.specs.declared.link.Served.{Served}
+use Rattle.vl_link.specs.declared.link.Served.TheVariants.{Nothing, Released, Lost}
+use Rattle.afdx_tx.specs.declared.turns.Release.{Release}
+use Rattle.afdx_tx.specs.declared.turns.Report.{Report}
 use Rattle.afdx_tx.specs.Emitter.{Tx}
 
 -- the release of an entry

@@ -1,7 +1,7 @@
 -- The turns of an emitter's links, in order: while its ports send, and of what is left once they are taken back.
 use Rattle.std.specs.Prelude.{ℕ, ◌≡◌, List, length, true, ◌<◌}
 use Rattle.redundant_mux.specs.Lines.{Lines, any_up, log, Entry}
-use Rattle.vl_link.specs.declared.served.Served.{Served}
+use Rattle.vl_link.specs.declared.link.Served.{Served}
 use Rattle.afdx_legal.specs.Streams.{link_stream}
 use Rattle.vl_link.specs.Turn.{AreTurns, TurnView, Turn}
 use Rattle.vl_link.specs.Links.{LinkState, link_at, pace_of, Serves, IsSameLink, Held, held_at, sent_by}

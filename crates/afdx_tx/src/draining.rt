@@ -1,6 +1,5 @@
 //! The emitter after its ports were taken back: it transmits what is left.
-use crate::emitter::Emitter;
-use crate::phase::Drain;
+use crate::emitter::{Drain, Emitter};
 use crate::turns::all_done;
 use redundant_mux::Network;
 use status_board::{Counts, Monitor, laws};

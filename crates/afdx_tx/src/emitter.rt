@@ -1,12 +1,12 @@
 //! The emitter, while its ports send and after they were taken back.
+ghost use Rattle.std.specs.Prelude.{Bool, false, true};
+
 use crate::draining::Draining;
 use crate::fault::{NoSuchSub, PollFault};
 use crate::gather::{gather_links, has_every_place};
-use crate::phase::{Phase, Sending};
+use crate::open::link_of_sub;
 use crate::port::TxPort;
-use crate::report::Report;
-use crate::routing::link_of_sub;
-use crate::turns::{Notes, Unreported, all_done, first_due, publish_all, serve_all};
+use crate::turns::{Notes, Report, Unreported, all_done, first_due, publish_all, serve_all};
 use afdx_frame::{FrameBuffer, Net};
 use afdx_plan::{Config, Networks, VlId};
 use arrayvec::ArrayVec;
@@ -16,6 +16,26 @@ use std::boxed::BoxedSlice;
 use std::marker::{Model, PhantomData};
 use std::sync::Wait;
 use vl_link::Link;
+
+/// A phase of an emitter.
+pub trait Phase {
+    /// Whether the ports were taken back.
+    ghost gathered: { Bool };
+}
+
+/// The ports send.
+pub struct Sending;
+
+impl Phase for Sending {
+    ghost gathered = { false };
+}
+
+/// The ports were taken back: all accepted messages are known.
+pub struct Drain;
+
+impl Phase for Drain {
+    ghost gathered = { true };
+}
 
 /// Transmits the messages of its ports on two networks. Contracts see its plan, its links, the
 /// frames that the networks accepted, the time of the last poll, and what was published.
@@ -61,7 +81,7 @@ impl<A: Network + Drop, B: Network + Drop, P: Phase> Model for Emitter<A, B, P> 
 impl<A: Network + Drop, B: Network + Drop, P: Phase> Emitter<A, B, P> {
     ghost use Rattle.std.specs.Prelude.{◌≡◌, ◌≤◌, ◌↔◌, List, [], length, false, IsErr, OnErr, OnOk, IfOk};
     ghost use Rattle.redundant_mux.specs.Lines.{is_alive};
-    ghost use Rattle.afdx_tx.specs.declared.report.Release.{Release};
+    ghost use Rattle.afdx_tx.specs.declared.turns.Release.{Release};
     ghost use Rattle.afdx_tx.specs.Report.{IsTold, Polls, PollsUnreported};
     ghost use Rattle.afdx_tx.specs.Phases.{Conforms, AreOfPorts, Runs, StaysLawful};
     ghost use Rattle.afdx_tx.specs.Calls.{Publishes, ShowsCounts, TellsNextDue};

@@ -5,8 +5,8 @@ ghost use Rattle.afdx_tx.specs.Emitter.{AreLinksOf, AreReceiving, queues_in};
 ghost use Rattle.afdx_tx.specs.Ports.{HasPlace, HasEveryPlace, LacksPlace, BelongsTo};
 ghost use Rattle.afdx_tx.specs.Gathering.{OnlyTakeBack, IsTakenBack, AreFull, GathersLinks, GathersPorts};
 
+use crate::open::{link_of, port_at};
 use crate::port::TxPort;
-use crate::routing::{link_of, port_at};
 use afdx_plan::Config;
 use vl_link::Link;
 

@@ -8,16 +8,12 @@ mod fault;
 mod gather;
 pub mod laws;
 mod open;
-mod phase;
 mod port;
-mod report;
-mod routing;
 mod turns;
 
 pub use draining::Draining;
-pub use emitter::Emitter;
+pub use emitter::{Drain, Emitter, Phase, Sending};
 pub use fault::{NoSuchSub, OpenFault, PollFault, Refusal, SendFault};
 pub use open::open_tx;
-pub use phase::{Drain, Phase, Sending};
 pub use port::TxPort;
-pub use report::{Release, Report};
+pub use turns::{Release, Report};

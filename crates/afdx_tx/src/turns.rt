@@ -1,6 +1,6 @@
 //! The turns of all links, and what they tell together.
 ghost use Rattle.std.specs.Prelude.{◌≡◌, ◌<◌, ◌≤◌, ◌++◌, List, [], length};
-ghost use Rattle.afdx_tx.specs.declared.report.Release.{Release};
+ghost use Rattle.afdx_tx.specs.declared.turns.Release.{Release};
 ghost use Rattle.redundant_mux.specs.Lines.{BothEndure};
 ghost use Rattle.afdx_tx.specs.Run.{IsRun};
 ghost use Rattle.afdx_tx.specs.Report.{IsTold, turn_release};
@@ -8,14 +8,40 @@ ghost use Rattle.afdx_tx.specs.Emitter.{AllWaitUntil, AreApart, AreServedBy, Are
 ghost use Rattle.afdx_tx.specs.Calls.{earlier, IsFirstDue, Reaches, PublishesCounts};
 ghost use Rattle.afdx_tx.specs.Phases.{IsSteady, TellsAllDone};
 
-use crate::report::Release;
 use afdx_frame::FrameBuffer;
 use afdx_plan::VlId;
 use arrayvec::ArrayVec;
-use redundant_mux::{Mux, Network};
+use redundant_mux::{Mux, Network, Standing};
 use status_board::Board;
+use std::default::Default;
 use std::sync::Wait;
 use vl_link::{Link, Served};
+
+/// A frame that at least one network accepted: its virtual link, its sub-VL and its sequence
+/// number.
+#[derive(Clone, Copy, Debug, PartialEq, Eq)]
+pub struct Release {
+    pub vl: VlId,
+    pub sub: u8,
+    pub number: u8,
+}
+
+impl Default for Release {
+    fn default() -> Release {
+        Release {
+            vl: VlId(0),
+            sub: 0,
+            number: 0,
+        }
+    }
+}
+
+/// The frames that a poll released, in order, and which networks are up afterwards.
+#[derive(Drop)]
+pub struct Report {
+    pub released: ArrayVec<Release, 64>,
+    pub standing: Standing,
+}
 
 /// Where a poll notes the frames that it releases.
 pub trait Notes {

@@ -7,7 +7,7 @@ use Rattle.std.specs.Prelude.{replicate}
 use Rattle.vl_link.specs.Kept.{IsTied}
 use Rattle.afdx_plan.specs.Config.{Plan}
 use Rattle.afdx_plan.specs.declared.link_plan.LinkPlan.{LinkPlan}
-use Rattle.vl_link.specs.declared.served.Served.{Served}
+use Rattle.vl_link.specs.declared.link.Served.{Served}
 use Rattle.afdx_legal.specs.Streams.{link_stream, sub_stream, latest, IsPrefixOf}
 use Rattle.vl_link.specs.Links.{AreSameSubs, Serves, GivesFrame, IsSameSub, sent_by, message_fragments}
 use Rattle.vl_link.specs.Seen.{Finds, taken_of}

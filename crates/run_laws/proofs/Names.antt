@@ -33,8 +33,8 @@ pub use Rattle.vl_link.proofs.TurnLaws.{turns_each, turns_endure, turns_seen}
 pub use Rattle.vl_link.specs.Links.{Held, IsSameLink, LinkState, Passes, held_at, held_view, link_at, no_link_plan, pace_of, taken_by}
 pub use Rattle.vl_link.specs.Kept.{begun_after, begun_by, none_begun}
 pub use Rattle.vl_link.specs.Turn.{AreTurns, Turn, TurnView, may_release}
-pub use Rattle.vl_link.specs.declared.served.Served.{Served}
-pub use Rattle.vl_link.specs.declared.served.Served.TheVariants.{Lost, Nothing, Released}
+pub use Rattle.vl_link.specs.declared.link.Served.{Served}
+pub use Rattle.vl_link.specs.declared.link.Served.TheVariants.{Lost, Nothing, Released}
 pub use Rattle.afdx_tx.specs.Run.{Drains, DrainsAt, IsDrained, accepted_in, accepted_view, pace_in, IsRun, IsTurnAt}
 pub use Rattle.afdx_tx.specs.DrainEnds.{stream_at}
 pub use Rattle.afdx_tx.specs.Emitter.{IsFreshTx, Tx, taken_in}

@@ -5,8 +5,8 @@ use lib.ListN.{get_elem?}
 use Rattle.atomic_table.specs.Table.{Me, Step}
 use Rattle.subvl_queue.specs.Queue.{owned, AreGood}
 use Rattle.subvl_queue.specs.declared.rule.View.{View}
-use Rattle.subvl_queue.specs.declared.refused.Why.{Why}
-use Rattle.subvl_queue.specs.declared.refused.Why.TheVariants.{Closed, Exhausted, Full}
+use Rattle.subvl_queue.specs.declared.sender.Why.{Why}
+use Rattle.subvl_queue.specs.declared.sender.Why.TheVariants.{Closed, Exhausted, Full}
 use Rattle.subvl_queue.specs.declared.rule.Role.{Role}
 use Rattle.subvl_queue.specs.declared.rule.Role.TheVariants.{Sender, Receiver, Spent}
 use Rattle.subvl_queue.specs.declared.rule.Stage.{Stage}

@@ -1,8 +1,8 @@
 -- The ends of a queue as contracts see them. A message is a pair of its sender's index and its bytes.
 use Rattle.std.specs.Prelude.{◌≡◌, ℕ, ◌+◌, ◌<◌, ◌≤◌, Bool, true, false, ◌⊎◌, List, [], ◌∷◌, ◌++◌, length, map, get_or, slice_index_or, Contains, Option, Some, None, ◌^◌, take}
 use Rattle.atomic_table.specs.Seated.{TableId}
-use Rattle.subvl_queue.specs.declared.refused.Why.{Why}
-use Rattle.subvl_queue.specs.declared.refused.Why.TheVariants.{Closed, Exhausted, Full}
+use Rattle.subvl_queue.specs.declared.sender.Why.{Why}
+use Rattle.subvl_queue.specs.declared.sender.Why.TheVariants.{Closed, Exhausted, Full}
 use Rattle.subvl_queue.specs.Messages.{IsMessage, part_of}
 use Rattle.subvl_queue.specs.Queue.{AreGood}
 use Rattle.subvl_queue.specs.declared.rule.View.{View}

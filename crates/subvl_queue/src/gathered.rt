@@ -1,14 +1,15 @@
 //! All ends of a queue together.
-ghost use Rattle.std.specs.Prelude.{◌≡◌, ◌^◌, ◌<◌, ◌≤◌, [], ◌∷◌, ◌++◌, take, drop, length, None, IfSome, IfNone, is_some};
+ghost use Rattle.std.specs.Prelude.{◌≡◌, ◌^◌, ◌<◌, ◌≤◌, [], ◌∷◌, ◌++◌, take, drop, length, None, IfSome, IfNone, is_some, MatchBool};
 ghost use Rattle.subvl_queue.specs.declared.rule.Role.TheVariants.{Receiver as AsReceiver};
 ghost use Rattle.subvl_queue.specs.Messages.{IsMessage};
 ghost use Rattle.subvl_queue.specs.Queue.{RestsAs};
 ghost use Rattle.subvl_queue.specs.Room.{room_with};
-ghost use Rattle.subvl_queue.specs.Views.{IsGathered, whole, TellsLeft};
+ghost use Rattle.subvl_queue.specs.Views.{IsGathered, whole, TellsLeft, HasPort, HasEvery, LacksOne, AreOf, brought_by_all};
 
-use crate::receiver::fetch;
+use crate::receiver::{Receiver, fetch};
 use crate::ring::{Knowing, Ring};
 use crate::room::Room;
+use crate::sender::Sender;
 use std::marker::Model;
 use std::sync::Arc;
 
@@ -77,5 +78,41 @@ impl Gathered {
         ensures { TellsLeft result self.now.left }
     {
         self.taken == self.total
+    }
+}
+
+// Whether the list has a sender of the port.
+fn has_port(senders: &[Sender], port: usize) -> bool
+    ensures { MatchBool result (HasPort senders.now port) (HasPort senders.now port → ⊥) }
+{
+    for sender in senders {
+        if sender.index() == port {
+            return true;
+        }
+    }
+    false
+}
+
+/// Whether the list has a sender of each port.
+pub fn has_every(senders: &[Sender], ports: usize) -> bool
+    ensures { MatchBool result (HasEvery ports senders.now) (LacksOne ports senders.now) }
+{
+    for port in 0..ports {
+        if !has_port(senders, port) {
+            return false;
+        }
+    }
+    true
+}
+
+/// Takes each sender back.
+pub fn take_all_back(receiver: &mut Receiver, senders: Vec<Sender>)
+    requires { AreOf receiver.old.queue senders.items }
+    ensures { receiver.new ≡ record receiver.old {
+      back = receiver.old.back ++ brought_by_all senders.items;
+    } }
+{
+    for sender in senders {
+        receiver.take_back(sender);
     }
 }

@@ -3,10 +3,8 @@
 #![tactic(auto)]
 
 mod gathered;
-mod gathering;
 mod making;
 mod receiver;
-mod refused;
 mod ring;
 mod room;
 mod rule;
@@ -15,6 +13,5 @@ mod sender;
 pub use gathered::Gathered;
 pub use making::{make, open_queue};
 pub use receiver::Receiver;
-pub use refused::Why;
 pub use room::Room;
-pub use sender::Sender;
+pub use sender::{Sender, Why};

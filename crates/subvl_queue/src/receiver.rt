@@ -7,8 +7,7 @@ ghost use Rattle.subvl_queue.specs.Queue.{IsAtTable, RestsAs, IsSlotOf};
 ghost use Rattle.subvl_queue.specs.Steps.{IsNext, with_look, freed_of, holding};
 ghost use Rattle.subvl_queue.specs.Views.{new_receiver, new_sender, one_more, after_take, looked, closed, taken_back, accepted_of, brought_by_all, AreBack, LacksOne, AreOf, IsWhole};
 
-use crate::gathered::Gathered;
-use crate::gathering::{has_every, take_all_back};
+use crate::gathered::{Gathered, has_every, take_all_back};
 use crate::ring::{Knowing, Ring};
 use crate::room::Room;
 use crate::sender::Sender;

@@ -4,15 +4,30 @@ ghost use Rattle.subvl_queue.specs.declared.rule.Role.TheVariants.{Sender as AsS
 ghost use Rattle.subvl_queue.specs.Messages.{IsMessage};
 ghost use Rattle.subvl_queue.specs.Room.{room_with};
 ghost use Rattle.subvl_queue.specs.Queue.{IsAtTable, RestsAs};
-ghost use Rattle.subvl_queue.specs.declared.refused.Why.TheVariants.{Closed};
+ghost use Rattle.subvl_queue.specs.declared.sender.Why.TheVariants.{Closed};
 ghost use Rattle.subvl_queue.specs.Steps.{new_seat, drawn, asked_with_room, RefusedBy};
 ghost use Rattle.subvl_queue.specs.Views.{own_of, places_of, new_sender, IsPlaced, IsRefused};
 
-use crate::refused::Why;
 use crate::ring::{CLOSED, Knowing, Ring};
 use crate::room::Room;
 use std::marker::{Brand, Model};
 use std::sync::Arc;
+use thiserror::Error;
+
+/// Why a queue refused a message: the first of Closed, Exhausted and Full that was found.
+#[derive(Clone, Copy, Debug, PartialEq, Eq, Error)]
+pub enum Why {
+    /// The queue is closed. If it was closed after the sender's first check, a slot request was
+    /// used.
+    #[error("Closed")]
+    Closed = 1,
+    /// The queue was open, and the sender has used all its slot requests.
+    #[error("Exhausted")]
+    Exhausted = 2,
+    /// The queue was open, and had no room. A slot request was used.
+    #[error("Full")]
+    Full = 3,
+}
 
 // The steps of a send up to its place: check for a close, reserve a slot, copy the message into the
 // sender's room, claim a place.

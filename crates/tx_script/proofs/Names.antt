@@ -14,7 +14,7 @@ pub use Rattle.afdx_tx.specs.Gathering.{HasOwnPart, IsGatheredTx}
 pub use Rattle.afdx_tx.specs.Ports.{BelongsTo, LacksPlace, PortView, QueueRefuses, Refuses, length_refusal}
 pub use Rattle.afdx_tx.specs.Report.{IsTold}
 pub use Rattle.afdx_tx.specs.Run.{IsRun, IsTurn, IsTurnAt, accepted_in, pace_in}
-pub use Rattle.afdx_tx.specs.declared.report.Release.{Release}
+pub use Rattle.afdx_tx.specs.declared.turns.Release.{Release}
 unfoldable pub use Rattle.redundant_mux.specs.Lines.{log}
 pub use Rattle.redundant_mux.specs.Lines.{Entry, IsMirrored, Keeps, Lines, Logged, sent_to}
 pub use Rattle.script_text.specs.FrameLog.{FrameLog}
@@ -54,6 +54,6 @@ pub use Rattle.vl_link.specs.Calls.{BecomesWhole, Closes}
 pub use Rattle.vl_link.specs.Links.{GivesFrame, Held, IsSameLink, LinkState, Starts, held_at, held_view, link_at, no_link, nothing_held, sent_by, sent_of, taken_by}
 pub use Rattle.vl_link.specs.Seen.{Seen, gathered, known_of, receiving, taken_of, total_of}
 pub use Rattle.vl_link.specs.Turn.{AreTurns, IsChoice, Turn}
-pub use Rattle.vl_link.specs.declared.served.Served.{Served}
-pub use Rattle.vl_link.specs.declared.served.Served.TheVariants.{Lost, Nothing, Released}
+pub use Rattle.vl_link.specs.declared.link.Served.{Served}
+pub use Rattle.vl_link.specs.declared.link.Served.TheVariants.{Lost, Nothing, Released}
 pub use Rattle.vl_shaper.specs.Pace.{Pace}

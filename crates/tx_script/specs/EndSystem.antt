@@ -5,7 +5,7 @@ use Rattle.afdx_plan.specs.declared.link_plan.LinkPlan.{LinkPlan}
 use Rattle.afdx_frame.specs.declared.net.Net.{Net}
 use Rattle.afdx_frame.specs.Fragments.{Sent, blanked}
 use Rattle.redundant_mux.specs.Lines.{Entry, Logged, sent_to, Lines, log as log_of}
-use Rattle.vl_link.specs.declared.served.Served.{Served}
+use Rattle.vl_link.specs.declared.link.Served.{Served}
 use Rattle.vl_link.specs.declared.sub.SubVl.{SubVl}
 use Rattle.vl_link.specs.Turn.{TurnView, Turn, AreTurns}
 use Rattle.vl_link.specs.Links.{message_fragments}

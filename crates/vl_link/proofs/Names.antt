@@ -27,8 +27,8 @@ pub use Rattle.vl_link.specs.Calls.{AreFullSubs, BecomesWhole, GathersSub, IsFul
 pub use Rattle.vl_link.specs.Links.{AreSameSubs, AreSubsOf, Asks, Follows, Gives, GivesFrame, GoesOn, HasOwnItems, Held, IsLinkOfPlan, IsPicked, IsSameLink, IsSameSub, LinkState, PassedOver, Passes, Serves, Starts, held_at, held_view, left_of, message_fragments, nothing_held, pace_of, sent_of, sub_fragments, taken_by}
 pub use Rattle.vl_link.specs.Seen.{Finds, FindsNothing, IsReceiving, IsSameQueue, Seen, gathered, known_of, ports_of, queue_of, receiving, taken_of, total_of}
 pub use Rattle.vl_link.specs.Turn.{AreTurns, IsChoice, Loses, NoneHas, Releases, Turn, TurnView, is_lost, may_release}
-pub use Rattle.vl_link.specs.declared.served.Served.{Served}
-pub use Rattle.vl_link.specs.declared.served.Served.TheVariants.{Lost, Nothing, Released}
+pub use Rattle.vl_link.specs.declared.link.Served.{Served}
+pub use Rattle.vl_link.specs.declared.link.Served.TheVariants.{Lost, Nothing, Released}
 pub use Rattle.vl_link.specs.declared.sub.SubVl.{SubVl}
 pub use Rattle.vl_shaper.proofs.OneEach.{turn_below, turn_onto}
 pub use Rattle.vl_shaper.specs.Pace.{IsBelow, IsLater, Pace, is_due, turn_of}

@@ -15,8 +15,8 @@ use Rattle.afdx_plan.specs.declared.port_plan.PortPlan.{PortPlan}
 use Rattle.afdx_frame.specs.Cutting.{Cutting, Remains, cut_of}
 use Rattle.afdx_frame.specs.Template.{Origin}
 use Rattle.vl_link.specs.declared.sub.SubVl.{SubVl}
-use Rattle.vl_link.specs.declared.queue.Queue.{Queue}
-use Rattle.vl_link.specs.declared.queue.Queue.TheVariants.{Receiving, Gathered, Empty}
+use Rattle.vl_link.specs.declared.sub.Queue.{Queue}
+use Rattle.vl_link.specs.declared.sub.Queue.TheVariants.{Receiving, Gathered, Empty}
 use Rattle.vl_link.specs.Seen.{Seen, receiving, gathered, nothing_seen, taken_of, most_of, ports_of}
 use Rattle.subvl_queue.specs.Room.{RoomView, bytes_of, port_of}
 

@@ -11,8 +11,8 @@ use Rattle.redundant_mux.specs.Lines.{Entry, Lines, log}
 use Rattle.subvl_queue.specs.Messages.{IsItem, AreItems}
 use Rattle.vl_shaper.specs.Pace.{Pace, turn_of}
 use Rattle.vl_link.specs.Turn.{TurnView, IsChoice, Turn}
-use Rattle.vl_link.specs.declared.served.Served.{Served}
-use Rattle.vl_link.specs.declared.served.Served.TheVariants.{Nothing, Released, Lost}
+use Rattle.vl_link.specs.declared.link.Served.{Served}
+use Rattle.vl_link.specs.declared.link.Served.TheVariants.{Nothing, Released, Lost}
 use Rattle.vl_link.specs.declared.sub.SubVl.{SubVl}
 use Rattle.status_board.specs.declared.counts.Counts.{Counts}
 use Rattle.status_board.specs.Views.{zeros}

@@ -5,8 +5,8 @@ use Rattle.afdx_frame.specs.declared.net.Net.TheVariants.{A}
 use Rattle.afdx_frame.specs.Header.{IsFrameOf}
 use Rattle.redundant_mux.specs.Lines.{entry, logged_for, Lines, BothEndure, any_up}
 use Rattle.vl_shaper.specs.Pace.{Pace, is_due, turn_of}
-use Rattle.vl_link.specs.declared.served.Served.{Served}
-use Rattle.vl_link.specs.declared.served.Served.TheVariants.{Nothing, Released, Lost}
+use Rattle.vl_link.specs.declared.link.Served.{Served}
+use Rattle.vl_link.specs.declared.link.Served.TheVariants.{Nothing, Released, Lost}
 
 -- A view of a link's sub-VLs in a turn, by their index: a sub-VL was polled and has nothing, wasn't
 -- polled, or had something and gave this frame.

@@ -2,10 +2,7 @@
 #![tactic(auto)]
 
 mod link;
-mod queue;
-mod served;
 mod sub;
 
-pub use link::Link;
-pub use served::Served;
+pub use link::{Link, Served};
 pub use sub::{Sub, SubVl};

@@ -1,7 +1,7 @@
 use Rattle.afdx_tx.proofs.Names.{arith, ℕ, ◌≡◌, ◌<◌, List, length, get_or, get_or_default, LinkPlan, link_plan_at}
 use Rattle.afdx_tx.proofs.PortLink.{none_has, found_at}
 use Rattle.afdx_tx.proofs.ClosedEmitter.{lacks_at}
-use Rattle.afdx_tx.proofs.routing.link_of_sub.Goals as goal
+use Rattle.afdx_tx.proofs.open.link_of_sub.Goals as goal
 
 -- the plan of the link that was read
 read_at : (links shown : List LinkPlan) (place : ℕ) (past : LinkPlan) → shown ≡ links → place < length links

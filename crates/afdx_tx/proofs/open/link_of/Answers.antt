@@ -1,6 +1,6 @@
 use Rattle.afdx_tx.proofs.Names.{arith}
 use Rattle.afdx_tx.proofs.PortLink.{found, found_over}
-use Rattle.afdx_tx.proofs.routing.link_of.Goals as goal
+use Rattle.afdx_tx.proofs.open.link_of.Goals as goal
 
 pub unreachable-requires : goal.unreachable-requires
 unreachable-requires c = found c.args.config.now.links c.args.port.now c.requires.linked (grind arith)
