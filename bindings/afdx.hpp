@@ -27,7 +27,7 @@ namespace afdx {
 
 enum class Network : std::uint8_t { A = AFDX_A, B = AFDX_B };
 
-/* Why a configuration is refused. */
+/* Why a plan is refused. */
 enum class ConfigFault : std::uint8_t {
     Toml = AFDX_CONFIG_TOML,
     MissingKey = AFDX_CONFIG_MISSING_KEY,
@@ -149,7 +149,7 @@ private:
 
 } // namespace detail
 
-/* Explains a refused configuration: its faults, each with its place, in lines as `afdx_explain` writes them; "no faults"
+/* Explains a refused plan: its faults, each with its place, in lines as `afdx_explain` writes them; "no faults"
    if there is none. Throws OutOfMemory. */
 inline std::string explain(const std::string &text) {
     const auto *bytes = reinterpret_cast<const std::uint8_t *>(text.data());
@@ -186,7 +186,7 @@ inline const std::uint8_t *bytes_of(const std::string &text) {
 
 } // namespace detail
 
-/* What is wrong with a capture of both networks, by the text of a configuration: nothing, if it keeps it. Throws
+/* What is wrong with a capture of both networks, by the text of a plan: nothing, if it keeps it. Throws
    ConfigError, BadCapture or OutOfMemory. */
 inline std::vector<afdx_finding> judge(const std::string &plan, const std::string &capture,
                                        const afdx_judge_options &options) {
@@ -239,7 +239,7 @@ private:
     detail::Handle<afdx_port> handle_;
 };
 
-/* An end system of a configuration. */
+/* An end system of a plan. */
 class EndSystem {
 public:
     /* Which networks are up. */
@@ -247,7 +247,7 @@ public:
         bool a, b;
     };
 
-    /* Opens an end system from the text of a configuration. Throws ConfigError or OutOfMemory. */
+    /* Opens an end system from the text of a plan. Throws ConfigError or OutOfMemory. */
     explicit EndSystem(const std::string &text) {
         const auto *bytes = reinterpret_cast<const std::uint8_t *>(text.data());
         detail::want(afdx_open(handle_.get(), bytes, text.size()), AFDX_CALL_OPEN);
@@ -315,10 +315,10 @@ public:
         return at;
     }
 
-    /* The identifiers of all ports, whether or not a port is out, in the order of the configuration. */
+    /* The identifiers of all ports, whether or not a port is out, in the order of the plan. */
     std::vector<std::uint16_t> ports() const { return listed(afdx_ports); }
 
-    /* The identifiers of all virtual links, in the order of the configuration. */
+    /* The identifiers of all virtual links, in the order of the plan. */
     std::vector<std::uint16_t> links() const { return listed(afdx_links); }
 
     /* Makes a network fail: its next frame fails, and it gets none afterwards. */

@@ -44,7 +44,7 @@ def shown(program, folder):
     quick, wanted, *_ = blocks("README.md")
     yield "README.md", ran(input=re.search("'(.*)'", quick)[1].encode().decode("unicode_escape")), wanted
     script, transcript, faults, memory, traffic, storm, *_ = blocks("docs/guide/program.md")
-    plan = blocks("docs/guide/configuration.md")[0]
+    plan = blocks("docs/guide/plan.md")[0]
     for name, text in {"plan.toml": plan, "script.txt": script, "traffic.csv": traffic}.items():
         write(name, text.encode())
     # (the pages show the lines of A, from which those of B differ in byte 11)

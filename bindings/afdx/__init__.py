@@ -10,7 +10,7 @@
 An end system and each of its ports may be used by a thread of its own, one call at a time on each. Times are in
 microseconds and don't go back. Frames run from the destination MAC address to the sequence number, without the frame
 check sequence. Messages and texts are any bytes-like objects. Each answer of the C library other than success is an
-exception named as in afdx.h, whose text says what it means; that of a refused configuration has the lines of `explain`. A
+exception named as in afdx.h, whose text says what it means; that of a refused plan has the lines of `explain`. A
 number that doesn't fit its argument in afdx.h raises OverflowError.
 
 `bash install/install.sh PREFIX` puts this package into PREFIX/lib/python, libafdx.so.1 into PREFIX/lib, and both as a wheel
@@ -57,7 +57,7 @@ def _encoded(text: str | BytesLike) -> bytes:
 
 
 def explain(text: str | BytesLike) -> str:
-    """The faults of a configuration, in lines as `afdx_explain` writes them; "no faults" if there is none. Raises `OutOfMemory`."""
+    """The faults of a plan, in lines as `afdx_explain` writes them; "no faults" if there is none. Raises `OutOfMemory`."""
     data, length = _encoded(text), c_size_t()
     answer = lib.afdx_explain(data, len(data), None, 0, byref(length))
     told = ctypes.create_string_buffer(length.value)
@@ -68,7 +68,7 @@ def explain(text: str | BytesLike) -> str:
 
 
 def _want_plan(answer: int, data: bytes) -> None:
-    """Raises the exception of a refused configuration, with the lines of `explain`."""
+    """Raises the exception of a refused plan, with the lines of `explain`."""
     faults = ""
     if issubclass(CONFIG_ERRORS.get(answer, AfdxError), ConfigError):
         with suppress(OutOfMemory):
@@ -80,7 +80,7 @@ def judge(
     plan: str | File, capture: File, capture_b: File | None = None, *,
     jitter: int = 0, skew: int = 10_000, late: bool = False, fcs: bool = False, arinc: bool = False,
 ) -> list[Finding]:
-    """What is wrong with a recording of an end system, by its configuration (docs/guide/judge.md): nothing, if it keeps it. A
+    """What is wrong with a recording of an end system, by its plan (docs/guide/judge.md): nothing, if it keeps it. A
     capture is pcapng or pcap, its bytes or its path; with two, the first is of network A and the second of B. `jitter` and
     `skew` are in microseconds; `arinc` is for the frames of other makers. A finding prints itself. Raises `ConfigError`,
     `BadCapture` (with what was found) or `OutOfMemory`."""
@@ -199,7 +199,7 @@ class Port:
 
 
 class EndSystem:
-    """An end system of a configuration (docs/guide/configuration.md). Raises `ConfigError` or `OutOfMemory`."""
+    """An end system of a plan (docs/guide/plan.md). Raises `ConfigError` or `OutOfMemory`."""
 
     _handle: Handle
 
@@ -257,12 +257,12 @@ class EndSystem:
 
     @property
     def ports(self) -> list[int]:
-        """The identifiers of all ports, in the order of the configuration, whether or not a port is out."""
+        """The identifiers of all ports, in the order of the plan, whether or not a port is out."""
         return self._list(lib.afdx_ports, MOST_PORTS)
 
     @property
     def links(self) -> list[int]:
-        """The identifiers of all virtual links, in the order of the configuration."""
+        """The identifiers of all virtual links, in the order of the plan."""
         return self._list(lib.afdx_links, MOST_LINKS)
 
     def _list(self, call: Callable[..., int], most: int) -> list[int]:

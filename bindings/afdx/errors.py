@@ -34,7 +34,7 @@ class OutOfMemory(AfdxError):
 
 
 class ConfigError(AfdxError):
-    """The configuration is refused: the fault of the least number. The text ends in the lines of `explain`."""
+    """The plan is refused: the fault of the least number. The text ends in the lines of `explain`."""
 
 
 class Toml(ConfigError):
@@ -230,7 +230,7 @@ class SmallBuffer(Misuse):
 
 
 class PortMissing(Misuse):
-    """A port of the configuration is out."""
+    """A port of the plan is out."""
 
     number = 42
 

@@ -3,7 +3,7 @@
 
    Build: cc program.c $(pkg-config --cflags --libs afdx), after `bash install/install.sh PREFIX`.
 
-   An end system is opened from the text of a configuration. Each of its ports may be moved to a thread of its own,
+   An end system is opened from the text of a plan. Each of its ports may be moved to a thread of its own,
    which sends. One thread polls with the present time and then copies out the frames of that poll, for network A and
    for network B, from the destination MAC address to the sequence number, without the frame check sequence. Once all
    ports were given back and gathered, the end system transmits what is left and reports when it is done.
@@ -98,13 +98,13 @@ enum { AFDX_A_STANDS = 1, AFDX_B_STANDS = 2 };
 /** The greatest frame in bytes, and the most frames that one poll makes for a network: one per virtual link. */
 enum { AFDX_GREATEST_FRAME = 1514, AFDX_MOST_FRAMES = 64 };
 
-#define AFDX_MOST_LINKS 64  /**< the most virtual links of a configuration */
-#define AFDX_MOST_PORTS 256 /**< the most ports of a configuration */
+#define AFDX_MOST_LINKS 64  /**< the most virtual links of a plan */
+#define AFDX_MOST_PORTS 256 /**< the most ports of a plan */
 
 /** Success of any call. */
 enum { AFDX_OK = 0 };
 
-/** Why afdx_open refuses a configuration: the fault with the least number, as docs/guide/configuration.md lists them. */
+/** Why afdx_open refuses a plan: the fault with the least number, as docs/guide/plan.md lists them. */
 enum {
     AFDX_CONFIG_TOML = 1,
     AFDX_CONFIG_MISSING_KEY = 2,
@@ -150,13 +150,13 @@ enum {
     AFDX_NO_NETWORK = 39,   /**< neither AFDX_A nor AFDX_B */
     AFDX_NO_FRAME = 40,     /**< the last poll made fewer frames for this network */
     AFDX_SMALL_BUFFER = 41, /**< a frame has more bytes than the buffer, or there is no room for all */
-    AFDX_PORT_MISSING = 42, /**< a port of the configuration is out */
+    AFDX_PORT_MISSING = 42, /**< a port of the plan is out */
     AFDX_GATHERED = 43,     /**< the ports were gathered: none is taken, given back, closed or gathered any more */
     AFDX_NOT_GATHERED = 44, /**< the ports weren't gathered yet */
     AFDX_BAD_CAPTURE = 45   /**< of afdx_judge.h: a capture is cut off or malformed */
 };
 
-/** Opens an end system from the text of a configuration, `length` bytes, which are copied. Allocates all memory of the
+/** Opens an end system from the text of a plan, `length` bytes, which are copied. Allocates all memory of the
    end system and its ports: no later call on these allocates, and none frees but afdx_free and afdx_free_port.
    @param out the handle to fill
    @param text the text, UTF-8
@@ -165,7 +165,7 @@ enum {
    unchanged. */
 uint8_t afdx_open(afdx_end_system *out, const uint8_t *text, size_t length);
 
-/** Explains a refused configuration: its faults, each with its place, as `afdx_bench explain` prints them
+/** Explains a refused plan: its faults, each with its place, as `afdx_bench explain` prints them
    (docs/guide/program.md) after the file and the line, in lines that end in a line feed; "no faults" if there is none.
    The first line counts them all; 1,000 have a line, and of more the last line is "and N more". Copies as much of the
    explanation as fits into the buffer, without a terminating zero, and writes its length.
@@ -186,7 +186,7 @@ uint8_t afdx_explain(const uint8_t *text, size_t length, uint8_t *buffer, size_t
    AFDX_MEMORY (never seen: afdx_open took what a port needs). */
 uint8_t afdx_port_of(afdx_end_system *it, uint16_t id, afdx_port *out);
 
-/** The identifiers of all ports, in the order of the configuration, whether or not a port
+/** The identifiers of all ports, in the order of the plan, whether or not a port
    is out: writes them into `ids`, which has room for `room` of them, and their number.
    @param it the end system
    @param ids where the identifiers are written to

@@ -1,5 +1,5 @@
 /** @file
-   Judging recordings: what is wrong with a capture of an end system, by the text of its configuration, as
+   Judging recordings: what is wrong with a capture of an end system, by the text of its plan, as
    `afdx_bench judge` finds it (docs/guide/judge.md). These calls take no handle, and may be called by any thread. */
 #ifndef AFDX_JUDGE_H
 #define AFDX_JUDGE_H /**< this header is included */
@@ -89,7 +89,7 @@ typedef struct {
    in the order of their packets' times, and beside them their number and what was read. A capture that is cut off or
    malformed is judged up to there. Allocates 80 to 160 bytes for each packet and each finding, and memory for the plan
    and for frames that wait for their twins, and frees it all.
-   @param plan the text of the configuration
+   @param plan the text of the plan
    @param plan_length its length in bytes
    @param options what is allowed
    @param capture the bytes of the capture, pcapng or pcap
@@ -98,7 +98,7 @@ typedef struct {
    @param room how many have room there
    @param judged their number, and what was read
    @return AFDX_OK: every capture was read to its end, and all findings were written, none if the recording keeps the
-   configuration. Refused: the number of the configuration's fault or AFDX_MEMORY, with nothing written; AFDX_BAD_CAPTURE:
+   plan. Refused: the number of the plan's fault or AFDX_MEMORY, with nothing written; AFDX_BAD_CAPTURE:
    a capture is cut off or malformed; AFDX_SMALL_BUFFER: `room` is less than the number of findings. With the last two all
    is written as after AFDX_OK; so NULL and 0 give the number. */
 uint8_t afdx_judge(const uint8_t *plan, size_t plan_length, const afdx_judge_options *options, const uint8_t *capture,
@@ -106,7 +106,7 @@ uint8_t afdx_judge(const uint8_t *plan, size_t plan_length, const afdx_judge_opt
 
 /** Judges two captures as afdx_judge does one: all packets of `a` are of network A, and all of `b` of network B, whatever
    their interfaces.
-   @param plan the text of the configuration
+   @param plan the text of the plan
    @param plan_length its length in bytes
    @param options what is allowed
    @param a the bytes of network A's capture

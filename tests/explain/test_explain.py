@@ -3,7 +3,7 @@
 
     python3 tests/explain/test_explain.py [TEXTS]
 
-It runs what `rt ci` has built. The expected output is computed here, from the tables of `docs/guide/configuration.md` and the
+It runs what `rt ci` has built. The expected output is computed here, from the tables of `docs/guide/plan.md` and the
 lines of `docs/guide/program.md`: all of it, for each text that is TOML. TEXTS texts, 2,000 by default, have one to three planted
 faults each, and each must be reported at its place. `layouts.py` writes texts of random layouts, and knows the line of each
 fault. For any text, the first line must count the others, and the first
@@ -307,8 +307,8 @@ def times() -> tuple[list[str], str]:
 
 
 def documented() -> list[str]:
-    """The tests cover exactly the keys in the table of `docs/guide/configuration.md`."""
-    cells = re.findall(r"(?m)^\| (`[a-z_`., ]+) \|", trying.text_of("docs/guide/configuration.md"))
+    """The tests cover exactly the keys in the table of `docs/guide/plan.md`."""
+    cells = re.findall(r"(?m)^\| (`[a-z_`., ]+) \|", trying.text_of("docs/guide/plan.md"))
     told = {word for cell in cells for word in re.findall(r"`([^`]+)`", cell)}
     tried = {f"{name}.{key}" for name in FIELDS if name for key in FIELDS[name]} | {"version"}
     return [f"{word} is told or tried alone" for word in sorted(told ^ tried)]

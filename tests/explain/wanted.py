@@ -1,4 +1,4 @@
-"""The expected output of `afdx_bench explain` for a text that is TOML, from the tables of `docs/guide/configuration.md` and the
+"""The expected output of `afdx_bench explain` for a text that is TOML, from the tables of `docs/guide/plan.md` and the
 lines of `docs/guide/program.md`."""
 import re
 from collections.abc import Iterable

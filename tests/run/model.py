@@ -1,5 +1,5 @@
 """What `afdx_bench run` must print of a plan without a fault and a script, and how it must end: a model made of lists, from
-`docs/afdx.md`, `docs/frames.md`, `docs/guide/configuration.md` and `docs/guide/program.md`."""
+`docs/afdx.md`, `docs/frames.md`, `docs/guide/plan.md` and `docs/guide/program.md`."""
 import re
 import struct
 import sys

@@ -234,7 +234,7 @@ def turns() -> Iterator[Row]:
 
 
 def guide() -> Iterator[Row]:
-    """The script of `docs/guide/program.md` over the plan of `docs/guide/configuration.md`."""
+    """The script of `docs/guide/program.md` over the plan of `docs/guide/plan.md`."""
     pages = [re.findall(r"(?ms)^```\n(.*?)^```$", text_of(f"docs/guide/{page}.md")) for page in ("configuration", "program")]
     (plan, *_), (script, out, *_) = pages
     note, *of_a = out.splitlines(keepends=True)
