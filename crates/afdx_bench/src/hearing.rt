@@ -109,9 +109,9 @@ fn figures_of(judge: &Judge, place: usize, link: &LinkPlan, net: Net) -> Option<
     }
 }
 
-/// Writes what came of a recording as a page: the number of findings, the least gap of each link beside its BAG, and the
-/// lead of one network over the other, whose bars end at the skew in microseconds. All text on it is numeric or fixed,
-/// so nothing needs escaping.
+/// Writes what came of a recording as a page: the number of findings, the least gap of each link beside its BAG, and
+/// the lead of one network over the other, whose bars end at the skew in microseconds. All text on it is numeric or
+/// fixed, so nothing needs escaping.
 pub fn write_page<W: Write>(writer: &mut W, hearing: &Hearing, skew: u64) -> io::Result<()> {
     let (judge, tally) = (&hearing.judge, &hearing.tally);
     let id = judge.config().end_system();

@@ -36,8 +36,8 @@ impl Part {
     }
 }
 
-/// A capture, and a window on it. `Display` prints what was read: the packets, those of other interfaces among them, and
-/// the end.
+/// A capture, and a window on it. `Display` prints what was read: the packets, those of other interfaces among them,
+/// and the end.
 #[derive(Drop)]
 pub struct Source<'a> {
     file: File,

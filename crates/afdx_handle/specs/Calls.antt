@@ -31,4 +31,5 @@ HoldsNet held network Is = HoldsEnd held (λ end. IsSomeAnd (net_of network) (λ
 
 -- the number of the least fault of a configuration's text, or of an allocation that failed
 abbrev pub IsFaultNumber : List ℕ → ℕ → Type 0
-IsFaultNumber text answer = (fault : ConfigFault) × (answer ≡ fault_number fault) × (fault ≢ Memory → IsLeastFault text fault)
+IsFaultNumber text answer = (fault : ConfigFault) × (answer ≡ fault_number fault)
+    × (fault ≢ Memory → IsLeastFault text fault)

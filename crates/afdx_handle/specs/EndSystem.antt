@@ -63,7 +63,8 @@ pub record AreOfPoll (at before : ℕ) (handed : List Entry) : Type 0 where
   pub few : length handed ≤ before + 64
   pub same : (k : ℕ) → before ≤ k → k < length handed → (entry_at handed k).at ≡ at
 
--- the invariant of an end system: its ports are its emitter's, and the frames after those of earlier polls are of the last
+-- the invariant of an end system: its ports are its emitter's, and the frames after those of earlier polls are of the
+-- last
 pub record IsEndSystem (it : EndView) : Type 0 where
   pub mirrored : IsMirrored it.tx.lines
   pub own : it.gathered ≡ false → AreOpenedWith it.tx it.ports

@@ -8,7 +8,8 @@ use Rattle.afdx_tx.specs.declared.turns.Report.{Report}
 use Rattle.afdx_handle.specs.declared.stage.Stage.{Stage}
 use Rattle.afdx_handle.specs.declared.stage.Stage.TheVariants.{Sending, Draining}
 
--- the first time after the last poll at which a link may release a frame and couldn't then, or the greatest number of 64 bits
+-- the first time after the last poll at which a link may release a frame and couldn't then, or the greatest number of
+-- 64 bits
 abbrev pub IsNextDue : Tx → ℕ → Type 0
 IsNextDue tx at = (next : Option ℕ) × TellsNextDue tx next × (at ≡ unwrap_or next (2 ^ 64 - 1))
 

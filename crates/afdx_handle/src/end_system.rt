@@ -33,9 +33,11 @@ impl Model for EndSystem {
 
     ghost Value = { EndView };
 
-    ghost view = { λ e. end_view (is_gathered e.stage) (tx_of e.stage) e.ports.items (vec_capacity e.ports) e.a_before e.b_before e.block };
+    ghost view = { λ e. end_view (is_gathered e.stage) (tx_of e.stage) e.ports.items (vec_capacity e.ports)
+        e.a_before e.b_before e.block };
 
-    ghost invariant = { λ e. IsEndSystem (end_view (is_gathered e.stage) (tx_of e.stage) e.ports.items (vec_capacity e.ports) e.a_before e.b_before e.block) };
+    ghost invariant = { λ e. IsEndSystem (end_view (is_gathered e.stage) (tx_of e.stage) e.ports.items
+        (vec_capacity e.ports) e.a_before e.b_before e.block) };
 }
 
 impl EndSystem {

@@ -37,8 +37,8 @@ pub struct FindingRow {
     pub rule: u8,
 }
 
-/// What was read of a capture: the number of its packets, and how it ends: 0 whole, 1 cut off, or from 2 on the number of
-/// its fault; and the byte at which the block or record begins that ends it, 0 if it is whole.
+/// What was read of a capture: the number of its packets, and how it ends: 0 whole, 1 cut off, or from 2 on the number
+/// of its fault; and the byte at which the block or record begins that ends it, 0 if it is whole.
 #[repr(C)]
 #[derive(Clone, Copy)]
 pub struct Captured {

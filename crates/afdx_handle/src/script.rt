@@ -11,8 +11,8 @@ use script_text::Line;
 /// The version of the library: 10,000 times its first number, 100 times its second, and its third.
 pub const VERSION: u32 = 10_000;
 
-/// What a line says: 0 nothing, 1 `send`, 2 `at` or 3 `close`; the sub-VL of a close; the port of a send, or the virtual
-/// link of a close; the time of an `at`; and how many bytes the message of a send has.
+/// What a line says: 0 nothing, 1 `send`, 2 `at` or 3 `close`; the sub-VL of a close; the port of a send, or the
+/// virtual link of a close; the time of an `at`; and how many bytes the message of a send has.
 #[repr(C)]
 #[derive(Clone, Copy)]
 pub struct ScriptLine {

@@ -37,7 +37,8 @@ out_of_turn = turn_entry 0 0 true ∷ turn_entry 1000 1 true ∷ turn_entry 2000
 
 -- between two messages, any number may lie
 abbrev pub between_messages : List Entry
-between_messages = turn_entry 0 0 false ∷ turn_entry 1000 1 true ∷ turn_entry 2000 1 false ∷ turn_entry 3000 0 false ∷ []
+between_messages =
+    turn_entry 0 0 false ∷ turn_entry 1000 1 true ∷ turn_entry 2000 1 false ∷ turn_entry 3000 0 false ∷ []
 
 pub record TurnsAreTold : Type 0 where
   pub kept : TakesTurns in_turn

@@ -44,7 +44,8 @@ pub record GathersLinks (old new : List LinkState) : Type 0 where
   pub each : (k : ℕ) → k < length old → GathersLink (link_at old k) (link_at new k)
 
 -- the queues of the ports' sub-VLs took back all their senders, and then all queues are gathered
-pub record GathersPorts (config : Plan) (old : List LinkState) (ports : List PortView) (new : List LinkState) : Type 0 where
+pub record GathersPorts (config : Plan) (old : List LinkState) (ports : List PortView) (new : List LinkState)
+    : Type 0 where
   pub mid : List LinkState
   pub takes : OnlyTakeBack old mid
   pub back : All (IsTakenBack config mid) ports

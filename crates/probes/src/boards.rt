@@ -25,8 +25,8 @@ const GREATEST: Counts = Counts {
     last: u64::MAX,
 };
 
-/// Opens a board without links, and one of one link, which is read before its first entry, after it and after the greatest
-/// one. What is printed allocates nothing.
+/// Opens a board without links, and one of one link, which is read before its first entry, after it and after the
+/// greatest one. What is printed allocates nothing.
 pub fn use_board<W: Wait>(rt: &HostRuntime, wait: &W) -> Ended {
     let (Ok(none), Ok((mut board, mut monitor))) = (
         open_board(rt.alloc(), 0),

@@ -132,8 +132,8 @@ fn open(alloc: Global) -> Result<Opened, Trouble>
     }
 }
 
-/// Prints the state of an emitter: its links, the time of its last poll, the counts of link 1, when a link is due, and how
-/// many frames its networks accepted.
+/// Prints the state of an emitter: its links, the time of its last poll, the counts of link 1, when a link is due, and
+/// how many frames its networks accepted.
 fn tell_state<P: Phase>(rt: &HostRuntime, tx: &Emitter<Outbox, Outbox, P>) {
     let (links, at) = (tx.config().links().len(), tx.now());
     let (counts, due) = (tx.counts(VlId(1)), tx.next_due());
@@ -221,8 +221,8 @@ fn drain<W: Wait>(rt: &HostRuntime, wait: &W, opened: Opened) -> Ended
     Ok(())
 }
 
-/// Opens emitters, makes messages and networks, and uses them and the parts of an end system. What is printed after `ready`
-/// allocates nothing.
+/// Opens emitters, makes messages and networks, and uses them and the parts of an end system. What is printed after
+/// `ready` allocates nothing.
 pub fn use_quietly<W: Wait>(rt: &HostRuntime, wait: &W) -> Ended {
     let alloc = rt.alloc();
     let (long, mut letters) = (make_letter(alloc, 1_472)?, make_letters(alloc, 1, 1)?);

@@ -126,7 +126,8 @@ module _ {T : Type 0} where
 
   -- each joined list is its port's part of the log, and the sender is gone
   abbrev pub Joined : List (ℕ × T) → List (View T) → List (ℕ × List (ℕ × T)) → Type 0
-  Joined log views joined = (i k : ℕ) (l : List (ℕ × T)) → get_elem? joined i ≡ some (k, l) → (l ≡ owned k 0 log) × Gone views (suc k)
+  Joined log views joined = (i k : ℕ) (l : List (ℕ × T)) → get_elem? joined i ≡ some (k, l)
+      → (l ≡ owned k 0 log) × Gone views (suc k)
 
   -- the receiver has the log itself only if all senders are gone
   abbrev pub Whole : List (ℕ × T) → List (View T) → Option (List (ℕ × T)) → Type 0

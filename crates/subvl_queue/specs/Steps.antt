@@ -114,7 +114,8 @@ module _ {T : Type 0} where
   RefusedBy calls capacity v w Closed = (w ≡ with_glance v true)
       ⊎ ((v.asks < calls) × (w.load < capacity) × (w ≡ idle (lated (asked_with_room v w.load))))
   RefusedBy calls capacity v w Exhausted = (w ≡ with_glance v false) × (v.asks ≡ calls)
-  RefusedBy calls capacity v w Full = (v.asks < calls) × (capacity ≤ w.load) × (w ≡ idle (with_ask (with_glance v false) Refused w.load))
+  RefusedBy calls capacity v w Full = (v.asks < calls) × (capacity ≤ w.load)
+      × (w ≡ idle (with_ask (with_glance v false) Refused w.load))
 
 -- The outcome of each step. `boxed` is what a slot at home holds, with an item or without.
 module _ {T S : Type 0} where
@@ -138,20 +139,23 @@ module _ {T S : Type 0} where
 
   -- the message x is ready at place p, and its slot is taken
   abbrev pub Finds : (Option (ℕ × T) → S) → (T → Type 0) → (slots p : ℕ) → Seated T S → Seated T S → ℕ × T → Type 0
-  Finds boxed Good slots p m m' x = IsNext m.0 p x × Good x.1 × (m' ≡ (holding m.0 p x, (p % slots, boxed (Some x)) ∷ []))
+  Finds boxed Good slots p m m' x = IsNext m.0 p x × Good x.1
+      × (m' ≡ (holding m.0 p x, (p % slots, boxed (Some x)) ∷ []))
 
   -- nothing is ready at place p
   abbrev pub Misses : ℕ → Seated T S → Seated T S → Type 0
   Misses p m m' = (m' ≡ (with_look m.0 false, [])) × IfSome m.0.all (λ l. length l ≤ p)
 
   abbrev pub finds_ready : (Option (ℕ × T) → S) → (T → Type 0) → ℕ → Step S → Seated T S → ℕ → Seated T S → Type 0
-  finds_ready boxed Good p st m r m' = (r ≡ suc p → (x : ℕ × T) × Finds boxed Good st.slots p m m' x) × (r ≢ suc p → Misses p m m')
+  finds_ready boxed Good p st m r m' = (r ≡ suc p → (x : ℕ × T) × Finds boxed Good st.slots p m m' x)
+      × (r ≢ suc p → Misses p m m')
 
   abbrev pub takes_out : Step S → Seated T S → ℕ → Seated T S → Type 0
   takes_out st m r m' = (m'.1 ≡ []) × ((x : ℕ × T) × (m.0.item ≡ Some x) × (m'.0 ≡ freed_of m.0 x))
 
   abbrev pub finds_closed : Step S → Seated T S → ℕ → Seated T S → Type 0
-  finds_closed st m r m' = (m'.1 ≡ m.1) × (r < 2 ^ 63 → m'.0 ≡ with_glance m.0 false) × (2 ^ 63 ≤ r → m'.0 ≡ with_glance m.0 true)
+  finds_closed st m r m' = (m'.1 ≡ m.1) × (r < 2 ^ 63 → m'.0 ≡ with_glance m.0 false)
+      × (2 ^ 63 ≤ r → m'.0 ≡ with_glance m.0 true)
 
   abbrev pub closes : Step S → Seated T S → ℕ → Seated T S → Type 0
   closes st m r m' = (m'.1 ≡ m.1) × (r < 2 ^ 63) × (length m.0.taken ≤ r) × (m'.0 ≡ with_total m.0 r)

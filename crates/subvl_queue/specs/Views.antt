@@ -114,7 +114,8 @@ IsPlaced s bytes t = (s.asks < s.calls) × (t.load < s.capacity) × ((place : �
 -- queue closed, or the place was drawn after the close. Full: the call's own slot request found at
 -- least as many held messages and slot requests under way as the capacity.
 abbrev pub IsRefused : SenderView → Why → SenderView → Type 0
-IsRefused s Closed t = (t ≡ glanced s true) ⊎ ((s.asks < s.calls) × (t.load < s.capacity) × (t ≡ asked (glanced s true) t.load))
+IsRefused s Closed t = (t ≡ glanced s true)
+    ⊎ ((s.asks < s.calls) × (t.load < s.capacity) × (t ≡ asked (glanced s true) t.load))
 IsRefused s Exhausted t = (s.asks ≡ s.calls) × (t ≡ glanced s false)
 IsRefused s Full t = (s.asks < s.calls) × (s.capacity ≤ t.load) × (t ≡ asked (glanced s false) t.load)
 

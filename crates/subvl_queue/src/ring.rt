@@ -44,7 +44,8 @@ pub struct Ring {
     // How many bytes each slot has room for.
     pub most: usize,
     pub table: Table<Room, Known, usize, Rule, Global>,
-    ghost sized: { (table.shared.table_id.words ≡ capacity + 2) × (table.shared.table_id.slots ≡ capacity) × (0 < capacity) },
+    ghost sized: { (table.shared.table_id.words ≡ capacity + 2) × (table.shared.table_id.slots ≡ capacity)
+        × (0 < capacity) },
     ghost roomy: { (table.shared.key ≡ most) × (most ≤ most_bytes) },
 }
 
@@ -91,8 +92,10 @@ impl Ring {
         requires seat { IsAtTable self.now.table.shared.table_id seat.old × (seat.old.me.1 ≡ []) }
         requires view { (seat.old.me.0.role ≡ Sender) × (seat.old.me.0.stage ≡ Asked) }
         ensures seat { IsAtTable self.now.table.shared.table_id seat.new }
-        ensures drawn { result < 2 ^ 63 → seat.new.me ≡
-            (drawn seat.old.me.0 result (_port, _bytes.now), (result % self.now.capacity, room_with self.now.most None) ∷ []) }
+        ensures drawn { result < 2 ^ 63 → seat.new.me ≡ (
+          drawn seat.old.me.0 result (_port, _bytes.now),
+          (result % self.now.capacity, room_with self.now.most None) ∷ [],
+        ) }
         ensures late { 2 ^ 63 ≤ result → seat.new.me ≡ (lated seat.old.me.0, []) }
     {
         self.table.shared.fetch_add::<Claim<W>>(seat, TAIL, 1)
@@ -159,7 +162,8 @@ impl Ring {
         requires slot { (slot ≡ place % self.now.capacity) × (slot < self.now.capacity) }
         requires place { (place ≡ length seat.old.me.0.taken) × (place < 2 ^ 63) }
         ensures seat { IsAtTable self.now.table.shared.table_id seat.new }
-        ensures found { IsTrue result → (x : _) × Finds (room_with self.now.most) IsMessage self.now.capacity place seat.old.me seat.new.me x }
+        ensures found { IsTrue result → (x : _)
+            × Finds (room_with self.now.most) IsMessage self.now.capacity place seat.old.me seat.new.me x }
         ensures none { result ≡ false → Misses place seat.old.me seat.new.me }
     {
         self.table.shared.load::<IsReady<W>>(seat, READY + slot) == place + 1
@@ -170,7 +174,8 @@ impl Ring {
     pub fn take(&self, seat: &mut Knowing, slot: usize, room: &mut Room)
         requires seat { IsAtTable self.now.table.shared.table_id seat.old }
         requires room { room.old ≡ room_with self.now.most None }
-        requires slot { (x : _) × (seat.old.me.1 ≡ (slot, room_with self.now.most (Some x)) ∷ []) × (seat.old.me.0.item ≡ Some x) }
+        requires slot { (x : _) × (seat.old.me.1 ≡ (slot, room_with self.now.most (Some x)) ∷ [])
+            × (seat.old.me.0.item ≡ Some x) }
         requires view { (seat.old.me.0.role ≡ Receiver) × (seat.old.me.0.stage ≡ Holding) }
         requires place { seat.old.me.0.at % self.now.capacity ≡ slot }
         ensures seat { IsAtTable self.now.table.shared.table_id seat.new }

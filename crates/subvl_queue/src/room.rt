@@ -24,7 +24,8 @@ impl Model for Room {
 
     ghost Value = { RoomView };
 
-    ghost view = { λ r. room_with (length (boxed_slice_items r.block)) (item_of r.port (take r.len (boxed_slice_items r.block))) };
+    ghost view = { λ r. room_with (length (boxed_slice_items r.block))
+        (item_of r.port (take r.len (boxed_slice_items r.block))) };
 
     ghost invariant = { λ r. (r.len ≤ length (boxed_slice_items r.block)) × (r.len ≡ 0 → r.port ≡ 0) };
 }

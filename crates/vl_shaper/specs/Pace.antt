@@ -1,4 +1,5 @@
--- The regulation of a virtual link (ARINC 664 Part 7, bandwidth allocation gap and sub-VLs), and its choices in cyclic order.
+-- The regulation of a virtual link (ARINC 664 Part 7, bandwidth allocation gap and sub-VLs), and its choices in cyclic
+-- order.
 use Rattle.std.specs.Prelude.{ℕ, zero, suc, ◌+◌, ◌-◌, ◌%◌, ◌<◌, ◌≤◌, Bool, true, nat_le, Option, Some, None, ◌≡◌, ◌≢◌, List, [], ◌∷◌, false, nat_eq, count_by, if◌then◌else◌, min, ◌^◌}
 use Rattle.vl_shaper.specs.declared.shaper.Stamp.{Stamp}
 
