@@ -3,6 +3,7 @@ pub mod Cutting
 pub mod Fragments
 pub mod Frame
 pub mod Header
+pub mod Layout
 pub mod Profile
 pub mod ReadBack
 pub mod Reassembly

@@ -1,49 +1,64 @@
 //! Where each field of a frame begins, in bytes from the destination MAC address on.
+ghost use Rattle.std.specs.Prelude.{◌≡◌, ◌+◌, ◌≤◌, length};
+ghost use Rattle.afdx_frame.specs.Profile.{word_at};
+
+use byteorder::{BigEndian, ByteOrder};
 
 /// The identifier of the virtual link, in the destination MAC address.
-pub(crate) const LINK: usize = 4;
+pub const LINK: usize = 4;
 
 /// The identifier of the end system, in the source MAC address.
-pub(crate) const END_SYSTEM: usize = 9;
+pub const END_SYSTEM: usize = 9;
 
 /// The interface identifier, the last byte of the source MAC address.
-pub(crate) const INTERFACE: usize = 11;
+pub const INTERFACE: usize = 11;
 
 /// The type of the Ethernet frame.
-pub(crate) const ETHERTYPE: usize = 12;
+pub const ETHERTYPE: usize = 12;
 
 /// The version and the length of the internet header, its first byte (RFC 791).
-pub(crate) const VERSION: usize = 14;
+pub const VERSION: usize = 14;
 
 /// The total length of the fragment with its internet header.
-pub(crate) const TOTAL_LENGTH: usize = 16;
+pub const TOTAL_LENGTH: usize = 16;
 
 /// The identification.
-pub(crate) const IDENTIFICATION: usize = 18;
+pub const IDENTIFICATION: usize = 18;
 
 /// The word of flags and fragment offset.
-pub(crate) const FRAGMENT: usize = 20;
+pub const FRAGMENT: usize = 20;
 
 /// The time to live.
-pub(crate) const TIME_TO_LIVE: usize = 22;
+pub const TIME_TO_LIVE: usize = 22;
 
 /// The protocol.
-pub(crate) const PROTOCOL: usize = 23;
+pub const PROTOCOL: usize = 23;
 
 /// The checksum of the internet header.
-pub(crate) const CHECKSUM: usize = 24;
+pub const CHECKSUM: usize = 24;
 
 /// The source address.
-pub(crate) const SOURCE: usize = 26;
+pub const SOURCE: usize = 26;
 
 /// The destination address.
-pub(crate) const DESTINATION: usize = 30;
+pub const DESTINATION: usize = 30;
 
 /// The data of the fragment; in a first fragment the UDP ports (RFC 768).
-pub(crate) const DATA: usize = 34;
+pub const DATA: usize = 34;
 
 /// The length of the datagram, in a first fragment.
-pub(crate) const UDP_LENGTH: usize = 38;
+pub const UDP_LENGTH: usize = 38;
+
+/// The checksum of the datagram, in a first fragment.
+pub const UDP_CHECKSUM: usize = 40;
 
 /// The message, in a first fragment.
-pub(crate) const MESSAGE: usize = 42;
+pub const MESSAGE: usize = 42;
+
+/// The 16-bit number at an index, high byte first.
+pub fn word_at(bytes: &[u8], i: usize) -> u16
+    requires { i + 2 ≤ length bytes.now }
+    ensures { result ≡ word_at bytes.now i }
+{
+    BigEndian::read_u16(&bytes[i..])
+}

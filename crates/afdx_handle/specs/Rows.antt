@@ -1,6 +1,8 @@
 -- Findings and what was read of captures, as C has them.
 use Rattle.std.specs.Prelude.{ℕ, ◌^◌, ◌-◌, length, nat_eq, nat_lt, not, if◌then◌else◌}
 use Rattle.std.specs.Option.{option_map_or}
+use Rattle.afdx_frame.specs.declared.layout.Layout.{Layout}
+use Rattle.afdx_frame.specs.declared.layout.Layout.TheVariants as layout
 use Rattle.afdx_frame.specs.declared.net.Net.TheVariants.{A, B}
 use Rattle.capture.specs.Recording.{Recording}
 use Rattle.capture.specs.declared.end.End.{End}
@@ -12,12 +14,10 @@ use Rattle.judge.specs.Types.{Net, VlId}
 use Rattle.judge.specs.declared.finding.Ending.{Ending}
 use Rattle.judge.specs.declared.finding.Finding.{Finding}
 use Rattle.judge.specs.declared.finding.Kind.{Kind}
-use Rattle.judge.specs.declared.finding.Layout.{Layout}
 use Rattle.judge.specs.declared.finding.Misfit.{Misfit}
 use Rattle.judge.specs.declared.options.Options.{Options}
 use Rattle.judge.specs.declared.finding.Ending.TheVariants as ending
 use Rattle.judge.specs.declared.finding.Kind.TheVariants.{Frame, Fragment, Message}
-use Rattle.judge.specs.declared.finding.Layout.TheVariants as layout
 use Rattle.judge.specs.declared.finding.Misfit.TheVariants as misfit
 use Rattle.afdx_handle.specs.declared.rows.Captured.{Captured}
 use Rattle.afdx_handle.specs.declared.rows.FindingRow.{FindingRow}

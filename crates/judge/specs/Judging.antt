@@ -11,7 +11,7 @@ use Rattle.judge.specs.Rules.{frame_in, place_of, size_deviation}
 use Rattle.judge.specs.Twins.{found_missing, left_waiting, twin_deviation, pairing_with, found_at_end}
 use Rattle.judge.specs.Types.{Arrived, Fields, Figures, Finding, Kind, Line, Link, LinkPlan, Measure, Nearness, Net, Options, Plan, PortPlan, Recorded, Refused, Setting, Tag, Times, Verdict, VlId}
 use Rattle.judge.specs.declared.finding.Kind.TheVariants.{Frame}
-use Rattle.judge.specs.declared.finding.Layout.TheVariants.{Time, Recorded as WithCheck}
+use Rattle.afdx_frame.specs.declared.layout.Layout.TheVariants.{Time, Recorded as WithCheck}
 
 -- ---- a link
 

@@ -3,7 +3,6 @@ pub mod Deviations
 pub mod Fields
 pub mod Joining
 pub mod Judging
-pub mod Layouts
 pub mod Lines
 pub mod Merging
 pub mod Rules

@@ -1,17 +1,17 @@
 -- The rules by which a packet is admitted: those that need no state. A packet that breaks one is judged no further.
-use Rattle.std.specs.Prelude.{ℕ, ◌+◌, ◌-◌, ◌==◌, nat_eq, nat_lt, nat_le, Bool, if◌then◌else◌, List, length, drop, take, slice_index, position, Option, Some, None, Result, Ok, Err}
+use Rattle.std.specs.Prelude.{ℕ, ◌+◌, ◌-◌, ◌==◌, nat_eq, nat_lt, nat_le, ◌&&◌, Bool, if◌then◌else◌, List, length, drop, take, slice_index, position, Option, Some, None, Result, Ok, Err}
 use Rattle.byteorder.specs.Endian.{little_number}
 use Rattle.afdx_plan.specs.Config.{link_plan_at}
 use Rattle.afdx_frame.specs.Frame.{interface_byte}
 use Rattle.afdx_frame.specs.Header.{link_in}
-use Rattle.afdx_frame.specs.Profile.{word_at}
+use Rattle.afdx_frame.specs.Layout.{framed, layout_broken}
+use Rattle.afdx_frame.specs.Profile.{total_length, word_at}
 use Rattle.redundant_mux.specs.Lines.{names}
 use Rattle.judge.specs.CheckSequence.{check_sequence}
 use Rattle.judge.specs.Deviations.{deviation}
-use Rattle.judge.specs.Layouts.{has_four_more, layout_broken}
-use Rattle.judge.specs.Types.{Deviation, Kind, LinkPlan, Net, Options, Plan, Recorded, Refused, VlId}
+use Rattle.judge.specs.Types.{Breach, Deviation, Kind, LinkPlan, Net, Options, Plan, Recorded, Refused, VlId}
 use Rattle.judge.specs.declared.finding.Kind.TheVariants.{Frame, Source, Link, Network, Size}
-use Rattle.judge.specs.declared.finding.Layout.TheVariants.{Snapped, CheckSequence, Recorded as WithCheck, Length}
+use Rattle.afdx_frame.specs.declared.layout.Layout.TheVariants.{Snapped, CheckSequence, Recorded as WithCheck, Length}
 
 abbrev pub refused : Option VlId → Kind → ℕ → ℕ → Refused
 refused link kind seen wanted = record { deviation = deviation kind seen wanted; link = link }
@@ -25,14 +25,19 @@ checked bytes =
     else (if nat_eq seen wanted then Ok (take (length bytes - 4) bytes)
     else Err (refused None (Frame CheckSequence) seen wanted))
 
+-- four bytes more than the total length says, as a frame with its check sequence has
+abbrev pub has_four_more : List ℕ → Bool
+has_four_more f = nat_le 64 (length f) && nat_le (length f) 1518
+    && nat_eq (length f) (framed (total_length f) + 4)
+
 -- bytes that don't seem to have one
 unfoldable pub unchecked : List ℕ → Result (List ℕ) Refused
 unchecked bytes =
     if has_four_more bytes then Err (refused None (Frame WithCheck) (length bytes) (length bytes - 4)) else Ok bytes
 
-abbrev pub if_kept : List ℕ → Option Deviation → Result (List ℕ) Refused
+abbrev pub if_kept : List ℕ → Option Breach → Result (List ℕ) Refused
 if_kept frame None = Ok frame
-if_kept frame (Some broken) = Err (record { deviation = broken; link = None })
+if_kept frame (Some why) = Err (refused None (Frame why.rule) why.seen why.wanted)
 
 abbrev pub in_layout : Bool → Result (List ℕ) Refused → Result (List ℕ) Refused
 in_layout arinc (Ok frame) = if_kept frame (layout_broken arinc frame)

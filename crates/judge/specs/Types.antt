@@ -3,6 +3,8 @@ pub use Rattle.afdx_plan.specs.Config.{Plan}
 pub use Rattle.afdx_plan.specs.declared.link_plan.LinkPlan.{LinkPlan}
 pub use Rattle.afdx_plan.specs.declared.port_plan.PortPlan.{PortPlan}
 pub use Rattle.afdx_plan.specs.declared.port_plan.VlId.{VlId}
+pub use Rattle.afdx_frame.specs.declared.layout.Breach.{Breach}
+pub use Rattle.afdx_frame.specs.declared.layout.Layout.{Layout}
 pub use Rattle.afdx_frame.specs.declared.net.Net.{Net}
 pub use Rattle.capture.specs.Recording.{Recorded}
 pub use Rattle.judge.specs.declared.fields.Fields.{Fields}
@@ -12,7 +14,6 @@ pub use Rattle.judge.specs.declared.finding.Deviation.{Deviation}
 pub use Rattle.judge.specs.declared.finding.Ending.{Ending}
 pub use Rattle.judge.specs.declared.finding.Finding.{Finding}
 pub use Rattle.judge.specs.declared.finding.Kind.{Kind}
-pub use Rattle.judge.specs.declared.finding.Layout.{Layout}
 pub use Rattle.judge.specs.declared.finding.Misfit.{Misfit}
 pub use Rattle.judge.specs.declared.finding.Tag.{Tag}
 pub use Rattle.judge.specs.declared.joining.Head.{Head}

@@ -2,7 +2,7 @@
 ghost use Rattle.std.specs.Prelude.{◌≡◌, ◌≤◌};
 ghost use Rattle.afdx_frame.specs.Profile.{total_length};
 ghost use Rattle.judge.specs.Fields.{fields_of, AreSmall};
-ghost use Rattle.judge.specs.Layouts.{IsReadable};
+ghost use Rattle.afdx_frame.specs.Layout.{IsReadable};
 
 use afdx_frame::{word_at, word_sum};
 

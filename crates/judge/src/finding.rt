@@ -2,51 +2,9 @@
 ghost use Rattle.std.specs.Prelude.{◌≡◌, OnOk};
 ghost use Rattle.judge.specs.Deviations.{kind_number, deviation, finding_of, with_finding};
 
-use afdx_frame::Net;
+use afdx_frame::{Layout, Net};
 use afdx_plan::VlId;
 use std::alloc::AllocError;
-
-/// A rule of the layout of frames, in the order in which they are tested. `seen` is the byte at which the field begins,
-/// and `wanted` is 0, unless the rule says otherwise.
-#[derive(Clone, Copy, Debug, PartialEq, Eq)]
-pub enum Layout {
-    /// The packet has no time. Both numbers are 0.
-    Time,
-    /// The packet was cut off: `seen` bytes were captured of `wanted`.
-    Snapped,
-    /// The check sequence is `seen`, and the bytes give `wanted`.
-    CheckSequence,
-    /// The frame has four bytes too many, as one that was recorded with its check sequence; only the first such frame of
-    /// a recording is a finding. `seen` is the length, `wanted` that without them.
-    Recorded,
-    /// The length is `seen`, which is below 60 (then `wanted`) or above 1,514 (then `wanted`).
-    Length,
-    /// The constant field of the destination MAC address (byte 0).
-    DestinationMac,
-    /// The constant field of the source MAC address (byte 6).
-    SourceMac,
-    /// The interface identifier is of neither network (byte 11).
-    Interface,
-    /// The type isn't that of the internet protocol (byte 12).
-    EtherType,
-    /// The version, the header's length or the type of service (byte 14).
-    Version,
-    /// The total length: below 21, not that of the frame, or of a piece that more follow no multiple of 8 after the
-    /// header (byte 16).
-    TotalLength,
-    /// The flags, or an offset at which the piece ends past 8,200 bytes (byte 20).
-    Fragment,
-    /// The time to live isn't 1, or the protocol isn't UDP (byte 22).
-    Protocol,
-    /// The checksum of the internet header (byte 24).
-    HeaderSum,
-    /// The source address isn't that of the end system in the source MAC address, or the partition is above 31 (byte 26).
-    SourceAddress,
-    /// The destination address is neither that of the link in the destination MAC address nor in 10.0.0.0/8 (byte 30).
-    DestinationAddress,
-    /// A padding byte isn't zero: the first such byte.
-    Padding,
-}
 
 /// How a frame isn't the next piece of its sub-VL's message.
 #[derive(Clone, Copy, Debug, PartialEq, Eq)]

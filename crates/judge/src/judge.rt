@@ -2,18 +2,18 @@
 ghost use Rattle.std.specs.Prelude.{◌≡◌, ◌<◌, length, replicate, slice_get, IfOk, IfErr, OnOk};
 ghost use Rattle.capture.specs.Recording.{recorded};
 ghost use Rattle.judge.specs.Fields.{fields_of};
-ghost use Rattle.judge.specs.Layouts.{IsReadable};
+ghost use Rattle.afdx_frame.specs.Layout.{IsReadable};
 ghost use Rattle.judge.specs.Judging.{Judging, Admitted, at_start, measure_of, nearness_of, setting_of, first_port, with_arrival, found_of_arrival, with_refusal, found_refusal, admitted, after_packet, found_with_packet, found_with_end, timed, found_left, is_with_check, new_link, figures_on, lead_of, no_times, times_with};
 
 use crate::fields::{Fields, fields_of};
-use crate::finding::{Deviation, Finding, Kind, Layout, Tag, add};
+use crate::finding::{Deviation, Finding, Kind, Tag, add};
 use crate::joining::port_of;
 use crate::line::{Figures, Measure, sub_in};
 use crate::link::{Link, Setting};
 use crate::options::Options;
 use crate::rules::{Refused, frame_in, place_of};
 use crate::twins::Nearness;
-use afdx_frame::Net;
+use afdx_frame::{Layout, Net};
 use afdx_plan::{Config, LinkPlan, PortPlan, VlId};
 use capture::Packet;
 use std::alloc::{AllocError, Global};

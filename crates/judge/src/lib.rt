@@ -7,7 +7,6 @@ mod finding;
 mod joining;
 mod judge;
 pub mod laws;
-mod layout;
 mod line;
 mod link;
 mod merging;
@@ -15,7 +14,8 @@ mod options;
 mod rules;
 mod twins;
 
-pub use finding::{Ending, Finding, Kind, Layout, Misfit};
+pub use afdx_frame::Layout;
+pub use finding::{Ending, Finding, Kind, Misfit};
 pub use judge::Judge;
 pub use line::Figures;
 pub use merging::judge_packets;

@@ -2,7 +2,7 @@
 ghost use Rattle.std.specs.Prelude.{◌≡◌, ◌≤◌, length, OnOk};
 ghost use Rattle.afdx_plan.specs.Plan.{is_both};
 ghost use Rattle.judge.specs.Lines.{line_after, verdict};
-ghost use Rattle.judge.specs.Layouts.{IsReadable};
+ghost use Rattle.afdx_frame.specs.Layout.{IsReadable};
 ghost use Rattle.judge.specs.Judging.{new_link, line_on, with_line, with_verdict, given_up, found_given_up, paired, found_twin, link_after, found_on_link};
 ghost use Rattle.judge.specs.Fields.{fields_of, AreSmall};
 

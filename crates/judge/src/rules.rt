@@ -2,17 +2,17 @@
 ghost use Rattle.std.specs.Prelude.{◌≡◌, ◌<◌, ◌≤◌, length, IfOk, IfErr};
 ghost use Rattle.afdx_plan.specs.Config.{link_plan_at};
 ghost use Rattle.capture.specs.Recording.{recorded};
-ghost use Rattle.judge.specs.Layouts.{IsReadable};
-ghost use Rattle.judge.specs.Rules.{refused, checked, unchecked, frame_in, interface_on, place_of, size_deviation};
+ghost use Rattle.afdx_frame.specs.Layout.{IsReadable};
+ghost use Rattle.judge.specs.Rules.{refused, checked, has_four_more, unchecked, frame_in, interface_on, place_of, size_deviation};
 ghost use Rattle.redundant_mux.specs.Lines.{names};
 ghost use Rattle.afdx_frame.specs.Frame.{interface_byte};
 
 use crate::check_sequence::check_sequence;
-use crate::finding::{Deviation, Kind, Layout};
-use crate::layout::{has_four_more, layout_broken};
+use crate::finding::{Deviation, Kind};
 use crate::options::Options;
+use afdx_frame::layout::framed;
 use afdx_frame::net::SHORTEST_FRAME;
-use afdx_frame::{Net, word_at};
+use afdx_frame::{Layout, Net, field, layout_broken, word_at};
 use afdx_plan::{Config, LinkPlan, VlId};
 use byteorder::{ByteOrder, LittleEndian};
 use capture::Packet;
@@ -55,6 +55,14 @@ fn checked(bytes: &[u8]) -> Result<&[u8], Refused>
     Err(refusal(None, kind, seen as u64, wanted as u64))
 }
 
+/// Whether a frame has four bytes more than its total length says, as one with its check sequence has.
+fn has_four_more(frame: &[u8]) -> bool
+    ensures { result ≡ has_four_more frame.now }
+{
+    let len = frame.len();
+    len >= 64 && len <= 1518 && len == framed(word_at(frame, field::TOTAL_LENGTH) as usize) + 4
+}
+
 /// Bytes that don't seem to have a check sequence.
 #[tactic(auto, unfolding(crate::specs::Rules::unchecked))]
 fn unchecked(bytes: &[u8]) -> Result<&[u8], Refused>
@@ -85,13 +93,15 @@ pub(crate) fn frame_in<'a>(packet: &Packet<'a>, options: &Options) -> Result<&'a
     } else {
         unchecked(bytes)?
     };
-    let Some(deviation) = layout_broken(options.arinc, frame) else {
-        return Ok(frame);
-    };
-    Err(Refused {
-        deviation,
-        link: None,
-    })
+    match layout_broken(options.arinc, frame) {
+        Some(why) => Err(refusal(
+            None,
+            Kind::Frame(why.rule),
+            why.seen as u64,
+            why.wanted as u64,
+        )),
+        None => Ok(frame),
+    }
 }
 
 /// The interface identifier that a link's frame has on a network, 0 if the network doesn't carry it.

@@ -4,7 +4,6 @@ pub mod Leading
 pub mod Line
 pub mod Message
 mod Names
-pub mod OfProfile
 pub mod Pieces
 pub mod Quiet
 pub mod Reading

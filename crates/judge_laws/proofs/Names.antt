@@ -5,11 +5,11 @@ pub use Rattle.std.proofs.lemmas.Bool.{both_ways, cases_Bool, cases_eq, cases_lt
 pub use Rattle.std.proofs.lemmas.Bool.Decides.{nat_tests}
 pub use Rattle.std.proofs.lemmas.Grind.{same_number_lists}
 pub use Rattle.std.proofs.lemmas.List.{drop-drop, drop-set-lt, drop_at, get_or-append-add, get_or-drop, get_or-map, get_or-replicate, get_or-set_other, get_or-set_same, get_or-take, get_or_append_left, get_or_default, get_or_past, length-drop, length-map, length-replicate, length-take, map-append, take-append-drop, take-set-le, take_all, take_at, take_more}
+pub use Rattle.std.proofs.lemmas.List.Sums.{fails_before_first, position_or_len_is}
 pub use Rattle.std.proofs.lemmas.List.Elements.{All-append, All-cons, All-contains, All-drop, All-filter, All-from_get_or, All-from_recursion, All-head, All-map, All-nil, All-push, All-tail, All-take, All-weaker, filter_passes}
 pub use Rattle.std.proofs.lemmas.List.Filters.{length-filter_both}
 pub use Rattle.std.proofs.Math.Path.{fun_ext}
 pub use Rattle.std.proofs.lemmas.List.Quantifiers.{position-Some}
-pub use Rattle.std.proofs.lemmas.List.Sums.{fails_before_first, position_or_len_is}
 pub use Rattle.std.proofs.lemmas.Simd.{map-map}
 pub use Rattle.std.specs.List.{AllZip, list_all}
 pub use Rattle.std.specs.Prelude.{All, Contains, IfSome, filter, find, if◌then◌else◌, min, nat_eq, nat_lt, position, remove, slice_range, slice_set, unwrap_or, ◌&&◌}
@@ -24,7 +24,8 @@ pub use Rattle.afdx_plan.specs.declared.port_plan.UdpSum.{UdpSum}
 pub use Rattle.afdx_plan.specs.declared.port_plan.UdpSum.TheVariants.{Generated}
 pub use Rattle.afdx_plan.specs.declared.port_plan.VlId.{VlId}
 pub use Rattle.afdx_frame.proofs.CuttingLemmas.{left_first, left_none}
-pub use Rattle.afdx_frame.proofs.Datagram.{length-udp_header, take_datagram, zeros_part, zeros_there}
+pub use Rattle.afdx_frame.proofs.Datagram.{length-udp_header, take_datagram}
+pub use Rattle.afdx_frame.proofs.LayoutRules.{layout_is_profile, none_both}
 pub use Rattle.afdx_frame.proofs.Says.{header_says, length-addresses, length-frame, payload_says, says, total_ok}
 pub use Rattle.afdx_frame.proofs.Twins.{cut_whole, length-twin, twin_number, twin_same}
 pub use Rattle.afdx_frame.proofs.UdpLemmas.{checksums_pass, word_sum-append}
@@ -35,7 +36,8 @@ pub use Rattle.afdx_frame.specs.Fragments.{Sent, blanked, fragments, fragments_f
 pub use Rattle.afdx_frame.specs.Frame.{frame_of, interface_byte, more_fragments, udp_field}
 unfoldable pub use Rattle.afdx_frame.specs.Frame.{addresses, datagram, header_front, internet_header, link_header, udp_header, udp_sum, unnumbered}
 pub use Rattle.afdx_frame.specs.Header.{link_in, number_in, sub_in, twin_of}
-pub use Rattle.afdx_frame.specs.Profile.{HasAddresses, HasInternetHeader, HasLinkHeader, HasZeroPadding, IsFrame, fragment_field, total_length, word_at}
+unfoldable pub use Rattle.afdx_frame.specs.Layout.{address_broken, internet_broken, layout_broken, link_broken, padding_broken}
+pub use Rattle.afdx_frame.specs.Profile.{IsFrame, fragment_field, total_length, word_at}
 pub use Rattle.afdx_frame.specs.ReadBack.{IsPiece}
 pub use Rattle.afdx_frame.specs.declared.net.Net.{Net}
 pub use Rattle.afdx_frame.specs.declared.net.Net.TheVariants.{A, B}
@@ -58,11 +60,9 @@ pub use Rattle.judge.specs.Joining.{address_number, addresses_deviation, begun, 
 unfoldable pub use Rattle.judge.specs.Joining.{fragment_deviation, head_now, length_deviation, message_deviation}
 pub use Rattle.judge.specs.Judging.{Admitted, Judging, OnNet, after_timed, arrived, findings, first_port, found_from, found_given_up, found_left, found_timed, given_up, line_on, link_at, measure_of, nearness_of, new_link, no_times, placed, tag_of, timed, times_with}
 unfoldable pub use Rattle.judge.specs.Judging.{admitted, after_packet, found_of_arrival, found_on_link, found_with_end, found_with_packet, link_after, with_arrival, with_verdict}
-pub use Rattle.judge.specs.Layouts.{first_nonzero, has_four_more, has_total, padding_of, unless_kept}
-unfoldable pub use Rattle.judge.specs.Layouts.{address_broken, internet_broken, layout_broken, link_broken, padding_broken}
 pub use Rattle.judge.specs.Lines.{due_before, early_deviation, early_since, figures_with, new_line, new_sub, next_number, number_after, number_deviation, number_unless, numbered, other_sub, passed_by, port_deviation, settled, sub_at, sub_in as judge_sub, turn_deviation, turn_if}
 unfoldable pub use Rattle.judge.specs.Lines.{line_after, line_with, verdict}
-pub use Rattle.judge.specs.Rules.{interface_on, on_link, size_deviation}
+pub use Rattle.judge.specs.Rules.{has_four_more, interface_on, on_link, size_deviation}
 unfoldable pub use Rattle.judge.specs.Rules.{checked, frame_in, place_of, unchecked}
 pub use Rattle.judge.specs.Twins.{first_other, is_lost, is_passed, is_twin, kept, missing, missing_of, same_net, stays}
 unfoldable pub use Rattle.judge.specs.Twins.{found_at_end, found_missing, left_waiting, pairing_with, twin_deviation, twin_other}
@@ -70,7 +70,6 @@ pub use Rattle.judge.specs.State.{Arrived, Deviation, Fields, Flow, Head, Joinin
 pub use Rattle.judge.specs.Waiting.{Pairing, Wait}
 pub use Rattle.judge.specs.declared.finding.Finding.{Finding}
 pub use Rattle.judge.specs.declared.finding.Kind.TheVariants.{Missing}
-pub use Rattle.judge.specs.declared.finding.Layout.{Layout}
 pub use Rattle.judge.specs.declared.finding.Misfit.{Misfit}
 pub use Rattle.judge.specs.declared.finding.Misfit.TheVariants.{Identification, Offset}
 pub use Rattle.judge.specs.declared.options.Options.{Options}

@@ -1,7 +1,6 @@
 -- A frame in which the judge finds nothing: what it says, what its message tells, and that it brings the next piece of one.
-use Rattle.judge_laws.proofs.Names.{All-contains, Contains, Fields, HasLink, Head, IsFrame, IsLink, IsPlan, IsPort, Joining, LinkPlan, List, Net, None, Ok, Option, Piece, PieceIn, Plan, PortPlan, Some, UdpSum, VlId, address_number, addresses, ap, arith, begun, cases_Bool, cases_lt, datagram, destination_address, drop, end_deviation, false, fields_of, first_port, fragment_deviation, fragment_field, get_or, get_or-append_right, get_or_append_left, get_or_past, head_after, head_now, head_of, head_with, ident_of, identification, inl, inr, interface_byte, interface_on, is_of_port, is_towards, judge_sub, layout_broken, length, length-append, length-drop, length-take, length_deviation, link_in, link_plan_at, max, message_deviation, names, nat_le, nat_tests, new_sub, next_of, on_link, place_of, port_deviation, position, position-Some, refl, right_sum, size_deviation, slice_index, step_of, sym, take, take-append-drop, total_length, true, two_bytes, udp_checksum, udp_field, udp_header, udp_sum, word_at, word_sum, word_sum-append, ℕ, [], ◌%◌, ◌*◌, ◌++◌, ◌+◌, ◌-◌, ◌/◌, ◌<◌, ◌==◌, ◌∙◌, ◌≡◌, ◌≤◌, ◌⊎◌}
+use Rattle.judge_laws.proofs.Names.{layout_is_profile, none_both, All-contains, Contains, Fields, HasLink, Head, IsFrame, IsLink, IsPlan, IsPort, Joining, LinkPlan, List, Net, None, Ok, Option, Piece, PieceIn, Plan, PortPlan, Some, UdpSum, VlId, address_number, addresses, ap, arith, begun, cases_Bool, cases_lt, datagram, destination_address, drop, end_deviation, false, fields_of, first_port, fragment_deviation, fragment_field, get_or, get_or-append_right, get_or_append_left, get_or_past, head_after, head_now, head_of, head_with, ident_of, identification, inl, inr, interface_byte, interface_on, is_of_port, is_towards, judge_sub, layout_broken, length, length-append, length-drop, length-take, length_deviation, link_in, link_plan_at, max, message_deviation, names, nat_le, nat_tests, new_sub, next_of, on_link, place_of, port_deviation, position, position-Some, refl, right_sum, size_deviation, slice_index, step_of, sym, take, take-append-drop, total_length, true, two_bytes, udp_checksum, udp_field, udp_header, udp_sum, word_at, word_sum, word_sum-append, ℕ, [], ◌%◌, ◌*◌, ◌++◌, ◌+◌, ◌-◌, ◌/◌, ◌<◌, ◌==◌, ◌∙◌, ◌≡◌, ◌≤◌, ◌⊎◌}
 use Rattle.judge_laws.proofs.Message.{IsGood, head_first, head_later, port_at, room_at}
-use Rattle.judge_laws.proofs.OfProfile.{layout_is_profile, none_both}
 use Rattle.judge_laws.proofs.Reading.{IsRead, address_part, bytes_are, bytes_at, find_says, part_at, port_says, same_id, word_is}
 
 -- the bytes that came of a message, as what is kept of them tells

@@ -1,13 +1,7 @@
 -- Single frames before a judge.
-use Rattle.std.specs.Prelude.{ℕ, ◌≡◌, ◌↔◌, ◌++◌, Bool, true, false, List, length, None}
+use Rattle.std.specs.Prelude.{ℕ, ◌≡◌, ◌++◌, Bool, true, false, List, length}
 use Rattle.byteorder.specs.Endian.{little_number}
-use Rattle.afdx_frame.specs.Profile.{IsFrame}
 use Rattle.judge.specs.CheckSequence.{check_sequence}
-use Rattle.judge.specs.Layouts.{layout_broken}
-
--- The judge finds no fault in a frame's layout exactly if it is a frame of the profile.
-abbrev pub LayoutIsProfile : Type 0
-LayoutIsProfile = (frame : List ℕ) → (layout_broken false frame ≡ None) ↔ IsFrame frame
 
 -- four bytes, the lowest first, that are the check sequence of a frame
 pub record IsSequenceOf (frame sequence : List ℕ) : Type 0 where

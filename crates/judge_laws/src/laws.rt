@@ -1,5 +1,4 @@
 //! Laws of a judge, for an integrator. The functions are empty: each contract is a law.
-ghost use Rattle.judge_laws.specs.Frames.{LayoutIsProfile};
 ghost use Rattle.judge_laws.specs.NoFalseAlarm.{NoFalseAlarm};
 ghost use Rattle.judge_laws.specs.NothingFound.{NothingFound};
 ghost use Rattle.judge_laws.specs.NothingMissed.{NothingMissed};
@@ -21,13 +20,6 @@ pub fn no_false_alarm()
     ensures found { NoFalseAlarm }
     ensures worked { FindsNothing }
     ensures needed { NeedsItsPremises }
-{}
-
-/// A judge finds nothing wrong with the layout of a frame exactly if it is a frame of the profile, which is stated apart
-/// from the judge's rules.
-#[tactic(auto, using(crate::proofs::OfProfile::layout_is_profile))]
-pub fn layout_is_profile()
-    ensures profile { LayoutIsProfile }
 {}
 
 /// In a whole recording of what was sent legally, in the order of time, a judge finds nothing at all, if of the links on

@@ -1,8 +1,8 @@
--- The judge's rules of the layout are those of the profile.
-use Rattle.judge_laws.proofs.Names.{Bool, Deviation, HasAddresses, HasInternetHeader, HasLinkHeader, HasZeroPadding, Layout, List, None, Option, address_broken, arith, fails_before_first, false, first_nonzero, first_of, fragment_field, get_or, has_total, internet_broken, layout_broken, length, link_broken, max, more_fragments, nat_tests, not, padding_broken, padding_of, position_or_len_is, refl, total_length, true, unless_kept, zeros_part, zeros_there, ℕ, ◌%◌, ◌+◌, ◌-◌, ◌<◌, ◌==◌, ◌↔◌, ◌≡◌, ◌≤◌}
-use Rattle.judge_laws.specs.Frames.{LayoutIsProfile}
+-- A frame breaks no rule of the layout exactly if it is one of the profile.
+use Rattle.afdx_frame.proofs.Names.{Bool, Breach, HasAddresses, HasInternetHeader, HasLinkHeader, HasZeroPadding, IsFrame, Layout, List, None, Option, address_broken, arith, fails_before_first, false, first_nonzero, fragment_field, get_or, has_total, internet_broken, layout_broken, length, link_broken, max, more_fragments, nat_tests, not, option_or, padding_broken, padding_of, position_or_len_is, refl, total_length, true, unless_kept, ℕ, ◌%◌, ◌+◌, ◌-◌, ◌<◌, ◌==◌, ◌↔◌, ◌≡◌, ◌≤◌}
+use Rattle.afdx_frame.proofs.Datagram.{zeros_part, zeros_there}
 
-pub none_both : (a b : Option Deviation) → first_of a b ≡ None → (a ≡ None) × (b ≡ None)
+pub none_both : {A : Type 0} (a b : Option A) → option_or a b ≡ None → (a ≡ None) × (b ≡ None)
 none_both a b e = grind (arith, nat_tests)
 
 link_rules : (f : List ℕ) → (link_broken f ≡ None) ↔ HasLinkHeader f
@@ -44,7 +44,7 @@ padding_rules f = (
       (λ k from below. zeros k from (omega arith)))) refl,
 )
 
-pub layout_is_profile : LayoutIsProfile
+pub layout_is_profile : (f : List ℕ) → (layout_broken false f ≡ None) ↔ IsFrame f
 unfolding layout_broken
 layout_is_profile f = (
   λ e.

@@ -1,33 +1,36 @@
--- The first rule of the layout that a frame breaks (ARINC 664 Part 7, frame structure; RFC 791).
+-- The rules of a frame's layout, in their order (ARINC 664 Part 7, frame structure; RFC 791).
 use Rattle.std.specs.Prelude.{ℕ, ◌+◌, ◌-◌, ◌*◌, ◌%◌, ◌≤◌, ◌==◌, nat_eq, nat_lt, nat_le, not, ◌&&◌, ◌||◌, Bool, if◌then◌else◌, max, List, length, slice_index, slice_range, Option, Some, None, option_map, position}
+use Rattle.std.specs.Option.{option_or}
 use Rattle.afdx_frame.specs.Checksum.{word_sum}
 use Rattle.afdx_frame.specs.Frame.{greatest_datagram, more_fragments, offset_modulus}
 use Rattle.afdx_frame.specs.Profile.{total_length, fragment_field}
-use Rattle.judge.specs.Deviations.{deviation, first_of}
-use Rattle.judge.specs.Types.{Deviation, Layout}
-use Rattle.judge.specs.declared.finding.Kind.TheVariants.{Frame}
-use Rattle.judge.specs.declared.finding.Layout.TheVariants.{Length, DestinationMac, SourceMac, Interface, EtherType, Version, TotalLength, Fragment, Protocol, HeaderSum, SourceAddress, DestinationAddress, Padding}
+use Rattle.afdx_frame.specs.declared.layout.Breach.{Breach}
+use Rattle.afdx_frame.specs.declared.layout.Layout.{Layout}
+use Rattle.afdx_frame.specs.declared.layout.Layout.TheVariants.{Length, DestinationMac, SourceMac, Interface, EtherType, Version, TotalLength, Fragment, Protocol, HeaderSum, SourceAddress, DestinationAddress, Padding}
+
+abbrev pub breach : Layout → ℕ → ℕ → Breach
+breach rule seen wanted = record { rule = rule; seen = seen; wanted = wanted }
 
 -- a rule whose field begins at a byte, unless it is kept
-abbrev pub unless_kept : Bool → Layout → ℕ → Option Deviation
-unless_kept kept rule byte = if kept then None else Some (deviation (Frame rule) byte 0)
+abbrev pub unless_kept : Bool → Layout → ℕ → Option Breach
+unless_kept kept rule byte = if kept then None else Some (breach rule byte 0)
 
 -- the byte at a place is this one
 abbrev pub has_byte : List ℕ → ℕ → ℕ → Bool
 has_byte frame place byte = nat_eq (slice_index frame place) byte
 
 -- 60 to 1,514 bytes
-abbrev pub length_broken : List ℕ → Option Deviation
+abbrev pub length_broken : List ℕ → Option Breach
 length_broken frame =
-    if nat_lt (length frame) 60 then Some (deviation (Frame Length) (length frame) 60)
-    else (if nat_lt 1514 (length frame) then Some (deviation (Frame Length) (length frame) 1514) else None)
+    if nat_lt (length frame) 60 then Some (breach Length (length frame) 60)
+    else (if nat_lt 1514 (length frame) then Some (breach Length (length frame) 1514) else None)
 
 -- the constant fields of the MAC addresses, the interface identifier and the type
-unfoldable pub link_broken : List ℕ → Option Deviation
+unfoldable pub link_broken : List ℕ → Option Breach
 link_broken f =
-    first_of (unless_kept (has_byte f 0 3 && has_byte f 1 0 && has_byte f 2 0 && has_byte f 3 0) DestinationMac 0)
-    (first_of (unless_kept (has_byte f 6 2 && has_byte f 7 0 && has_byte f 8 0) SourceMac 6)
-    (first_of (unless_kept (has_byte f 11 32 || has_byte f 11 64) Interface 11)
+    option_or (unless_kept (has_byte f 0 3 && has_byte f 1 0 && has_byte f 2 0 && has_byte f 3 0) DestinationMac 0)
+    (option_or (unless_kept (has_byte f 6 2 && has_byte f 7 0 && has_byte f 8 0) SourceMac 6)
+    (option_or (unless_kept (has_byte f 11 32 || has_byte f 11 64) Interface 11)
     (unless_kept (has_byte f 12 8 && has_byte f 13 0) EtherType 12)))
 
 -- the length of a frame with this total length: a short one is padded to 60 bytes
@@ -52,11 +55,11 @@ has_fragment f = nat_lt (fragment_field f) 16384
 abbrev pub has_protocol : Bool → List ℕ → Bool
 has_protocol arinc f = (arinc || has_byte f 22 1) && has_byte f 23 17
 
-unfoldable pub internet_broken : Bool → List ℕ → Option Deviation
-internet_broken arinc f = first_of (unless_kept (has_version arinc f) Version 14)
-    (first_of (unless_kept (has_total f) TotalLength 16)
-    (first_of (unless_kept (has_fragment f) Fragment 20)
-    (first_of (unless_kept (has_protocol arinc f) Protocol 22)
+unfoldable pub internet_broken : Bool → List ℕ → Option Breach
+internet_broken arinc f = option_or (unless_kept (has_version arinc f) Version 14)
+    (option_or (unless_kept (has_total f) TotalLength 16)
+    (option_or (unless_kept (has_fragment f) Fragment 20)
+    (option_or (unless_kept (has_protocol arinc f) Protocol 22)
     (unless_kept (nat_eq (word_sum (slice_range f 14 34) % 65535) 0) HeaderSum 24))))
 
 -- the source address: 10, the end system of the source MAC address, a partition from 0 to 31
@@ -69,8 +72,8 @@ abbrev pub has_destination_address : List ℕ → Bool
 has_destination_address f = has_byte f 30 224 && has_byte f 31 224 && has_byte f 32 (slice_index f 4)
     && has_byte f 33 (slice_index f 5) || has_byte f 30 10
 
-unfoldable pub address_broken : List ℕ → Option Deviation
-address_broken f = first_of (unless_kept (has_source_address f) SourceAddress 26)
+unfoldable pub address_broken : List ℕ → Option Breach
+address_broken f = option_or (unless_kept (has_source_address f) SourceAddress 26)
     (unless_kept (has_destination_address f) DestinationAddress 30)
 
 -- the bytes between the piece and the sequence number, and the first one that isn't zero: zeros are this project's choice
@@ -80,20 +83,15 @@ padding_of f = slice_range f (14 + total_length f) (length f - 1)
 abbrev pub first_nonzero : List ℕ → Option ℕ
 first_nonzero bytes = position (λ byte. not (byte == 0)) bytes
 
-unfoldable pub padding_broken : Bool → List ℕ → Option Deviation
+unfoldable pub padding_broken : Bool → List ℕ → Option Breach
 padding_broken arinc f =
     if arinc then None
-    else option_map (λ place. deviation (Frame Padding) (14 + total_length f + place) 0) (first_nonzero (padding_of f))
+    else option_map (λ place. breach Padding (14 + total_length f + place) 0) (first_nonzero (padding_of f))
 
 -- The rules in their order. By ARINC 664 alone (`arinc`), what only this project chose isn't one.
-unfoldable pub layout_broken : Bool → List ℕ → Option Deviation
-layout_broken arinc f = first_of (length_broken f) (first_of (link_broken f)
-    (first_of (internet_broken arinc f) (first_of (address_broken f) (padding_broken arinc f))))
-
--- four bytes more than the total length says, as a frame with its check sequence has
-abbrev pub has_four_more : List ℕ → Bool
-has_four_more f = nat_le 64 (length f) && nat_le (length f) 1518
-    && nat_eq (length f) (framed (total_length f) + 4)
+unfoldable pub layout_broken : Bool → List ℕ → Option Breach
+layout_broken arinc f = option_or (length_broken f) (option_or (link_broken f)
+    (option_or (internet_broken arinc f) (option_or (address_broken f) (padding_broken arinc f))))
 
 -- what can be read of a frame: its headers, and its piece before its sequence number
 pub record IsReadable (frame : List ℕ) : Type 0 where

@@ -1,0 +1,231 @@
+//! The rules of a frame's layout, in their order. A frame that breaks none is one of the profile.
+ghost use Rattle.std.specs.Prelude.{◌≡◌, ◌+◌, ◌≤◌, ◌↔◌, false, length, Some, None};
+ghost use Rattle.afdx_frame.specs.Layout.{breach, length_broken, link_broken, framed, has_total, has_fragment, internet_broken, address_broken, first_nonzero, padding_broken, layout_broken, IsReadable};
+ghost use Rattle.afdx_frame.specs.Profile.{total_length, IsFrame};
+
+use crate::field::{self, word_at};
+use crate::net::{GREATEST_FRAME, INTERFACE_A, INTERFACE_B, SHORTEST_FRAME};
+use crate::piece::{GREATEST_DATAGRAM, MORE_FRAGMENTS, OFFSET_MODULUS};
+use crate::sum::word_sum;
+
+/// A rule of the layout of frames, in the order in which they are tested. `seen` is the byte at which the field begins,
+/// and `wanted` is 0, unless the rule says otherwise.
+#[derive(Clone, Copy, Debug, PartialEq, Eq)]
+pub enum Layout {
+    /// The packet has no time. Both numbers are 0.
+    Time,
+    /// The packet was cut off: `seen` bytes were captured of `wanted`.
+    Snapped,
+    /// The check sequence is `seen`, and the bytes give `wanted`.
+    CheckSequence,
+    /// The frame has four bytes too many, as one that was recorded with its check sequence; only the first such frame of
+    /// a recording is a finding. `seen` is the length, `wanted` that without them.
+    Recorded,
+    /// The length is `seen`, which is below 60 (then `wanted`) or above 1,514 (then `wanted`).
+    Length,
+    /// The constant field of the destination MAC address (byte 0).
+    DestinationMac,
+    /// The constant field of the source MAC address (byte 6).
+    SourceMac,
+    /// The interface identifier is of neither network (byte 11).
+    Interface,
+    /// The type isn't that of the internet protocol (byte 12).
+    EtherType,
+    /// The version, the header's length or the type of service (byte 14).
+    Version,
+    /// The total length: below 21, not that of the frame, or of a piece that more follow no multiple of 8 after the
+    /// header (byte 16).
+    TotalLength,
+    /// The flags, or an offset at which the piece ends past 8,200 bytes (byte 20).
+    Fragment,
+    /// The time to live isn't 1, or the protocol isn't UDP (byte 22).
+    Protocol,
+    /// The checksum of the internet header (byte 24).
+    HeaderSum,
+    /// The source address isn't that of the end system in the source MAC address, or the partition is above 31 (byte 26).
+    SourceAddress,
+    /// The destination address is neither that of the link in the destination MAC address nor in 10.0.0.0/8 (byte 30).
+    DestinationAddress,
+    /// A padding byte isn't zero: the first such byte.
+    Padding,
+}
+
+/// A rule that a frame breaks, and its two numbers.
+#[derive(Clone, Copy)]
+pub struct Breach {
+    pub rule: Layout,
+    pub seen: usize,
+    pub wanted: usize,
+}
+
+/// A rule that is broken, and the byte at which its field begins.
+fn broken(rule: Layout, byte: usize) -> Option<Breach>
+    ensures { result ≡ Some (breach rule byte 0) }
+{
+    Some(Breach {
+        rule,
+        seen: byte,
+        wanted: 0,
+    })
+}
+
+/// The rule of lengths.
+fn length_broken(frame: &[u8]) -> Option<Breach>
+    ensures value { result ≡ length_broken frame.now }
+    ensures least { result ≡ None → 60 ≤ length frame.now }
+    ensures most { result ≡ None → length frame.now ≤ 1514 }
+{
+    let len = frame.len();
+    if len < SHORTEST_FRAME {
+        Some(Breach {
+            rule: Layout::Length,
+            seen: len,
+            wanted: SHORTEST_FRAME,
+        })
+    } else if len > GREATEST_FRAME {
+        Some(Breach {
+            rule: Layout::Length,
+            seen: len,
+            wanted: GREATEST_FRAME,
+        })
+    } else {
+        None
+    }
+}
+
+/// The rules of the link header: the constant fields of the addresses, the interface identifier and the type.
+#[tactic(auto, unfolding(crate::specs::Layout::link_broken))]
+fn link_broken(b: &[u8]) -> Option<Breach>
+    requires { 60 ≤ length b.now }
+    ensures { result ≡ link_broken b.now }
+{
+    if b[0] != 3 || b[1] != 0 || b[2] != 0 || b[3] != 0 {
+        broken(Layout::DestinationMac, 0)
+    } else if b[6] != 2 || b[7] != 0 || b[8] != 0 {
+        broken(Layout::SourceMac, 6)
+    } else if b[field::INTERFACE] != INTERFACE_A && b[field::INTERFACE] != INTERFACE_B {
+        broken(Layout::Interface, field::INTERFACE)
+    } else if b[field::ETHERTYPE] != 8 || b[field::ETHERTYPE + 1] != 0 {
+        broken(Layout::EtherType, field::ETHERTYPE)
+    } else {
+        None
+    }
+}
+
+/// The length of a frame with this total length.
+pub fn framed(total: usize) -> usize
+    requires { total ≤ 65535 }
+    ensures { result ≡ framed total }
+{
+    (15 + total).max(SHORTEST_FRAME)
+}
+
+/// Whether the total length is a piece's: that of the frame, and whole units of 8 bytes if more pieces follow.
+fn has_total(b: &[u8]) -> bool
+    requires { 60 ≤ length b.now }
+    ensures { result ≡ has_total b.now }
+{
+    let total = word_at(b, field::TOTAL_LENGTH) as usize;
+    total >= 21
+        && b.len() == framed(total)
+        && (word_at(b, field::FRAGMENT) % 0x4000 < MORE_FRAGMENTS || (total - 20) % 8 == 0)
+}
+
+/// Whether the flags are those of the profile, and the piece ends within a datagram.
+fn has_fragment(b: &[u8]) -> bool
+    requires { 60 ≤ length b.now }
+    ensures { result ≡ has_fragment b.now }
+{
+    let fragment = word_at(b, field::FRAGMENT);
+    let end = 8 * (fragment % OFFSET_MODULUS) as u32 + word_at(b, field::TOTAL_LENGTH) as u32;
+    fragment < 0x4000 && end <= 20 + GREATEST_DATAGRAM
+}
+
+/// The rules of the internet header without its addresses.
+#[tactic(auto, unfolding(crate::specs::Layout::internet_broken))]
+fn internet_broken(arinc: bool, b: &[u8]) -> Option<Breach>
+    requires { 60 ≤ length b.now }
+    ensures value { result ≡ internet_broken arinc b.now }
+    ensures some { result ≡ None → 21 ≤ total_length b.now }
+    ensures piece { result ≡ None → 15 + total_length b.now ≤ length b.now }
+{
+    if b[field::VERSION] != 0x45 || !arinc && b[field::VERSION + 1] != 0 {
+        broken(Layout::Version, field::VERSION)
+    } else if !has_total(b) {
+        broken(Layout::TotalLength, field::TOTAL_LENGTH)
+    } else if !has_fragment(b) {
+        broken(Layout::Fragment, field::FRAGMENT)
+    } else if !arinc && b[field::TIME_TO_LIVE] != 1 || b[field::PROTOCOL] != 17 {
+        broken(Layout::Protocol, field::TIME_TO_LIVE)
+    } else if word_sum(&b[field::VERSION..field::DATA]) % 0xffff != 0 {
+        broken(Layout::HeaderSum, field::CHECKSUM)
+    } else {
+        None
+    }
+}
+
+/// The rules of the internet addresses: the source is 10, the end system of the source MAC address and a partition; the
+/// destination the link of the destination MAC address, or in 10.0.0.0/8.
+#[tactic(auto, unfolding(crate::specs::Layout::address_broken))]
+fn address_broken(b: &[u8]) -> Option<Breach>
+    requires { 60 ≤ length b.now }
+    ensures { result ≡ address_broken b.now }
+{
+    let (source, destination) = (field::SOURCE, field::DESTINATION);
+    if b[source] != 10
+        || b[source + 1] != b[field::END_SYSTEM]
+        || b[source + 2] != b[field::END_SYSTEM + 1]
+        || b[source + 3] > 31
+    {
+        broken(Layout::SourceAddress, source)
+    } else if (b[destination] != 224
+        || b[destination + 1] != 224
+        || b[destination + 2] != b[field::LINK]
+        || b[destination + 3] != b[field::LINK + 1])
+        && b[destination] != 10
+    {
+        broken(Layout::DestinationAddress, destination)
+    } else {
+        None
+    }
+}
+
+/// The rule of padding.
+#[tactic(auto, unfolding(crate::specs::Layout::padding_broken))]
+fn padding_broken(arinc: bool, b: &[u8]) -> Option<Breach>
+    requires { IsReadable b.now }
+    ensures { result ≡ padding_broken arinc b.now }
+{
+    if arinc {
+        return None;
+    }
+    let start = field::VERSION + word_at(b, field::TOTAL_LENGTH) as usize;
+    let place = first_nonzero(&b[start..b.len() - 1])?;
+    broken(Layout::Padding, start + place)
+}
+
+/// The place of the first byte that isn't zero.
+fn first_nonzero(bytes: &[u8]) -> Option<usize>
+    ensures { result ≡ first_nonzero bytes.now }
+{
+    bytes.iter().position(|byte| *byte != 0)
+}
+
+/// The first rule of the layout that a frame breaks; by ARINC 664 alone, of those that it has.
+#[tactic(auto, using(crate::proofs::LayoutRules::layout_is_profile), unfolding(crate::specs::Layout::layout_broken))]
+pub fn layout_broken(arinc: bool, frame: &[u8]) -> Option<Breach>
+    ensures value { result ≡ layout_broken arinc frame.now }
+    ensures readable { result ≡ None → IsReadable frame.now }
+    ensures profile { (layout_broken false frame.now ≡ None) ↔ IsFrame frame.now }
+{
+    if let Some(broken) = length_broken(frame) {
+        return Some(broken);
+    }
+    if let Some(broken) = link_broken(frame) {
+        return Some(broken);
+    }
+    if let Some(broken) = internet_broken(arinc, frame) {
+        return Some(broken);
+    }
+    address_broken(frame).or(padding_broken(arinc, frame))
+}
