@@ -11,35 +11,27 @@ use Rattle.afdx_frame.specs.declared.layout.Layout.TheVariants.{Length, Destinat
 abbrev pub breach : Layout → ℕ → ℕ → Breach
 breach rule seen wanted = record { rule = rule; seen = seen; wanted = wanted }
 
--- a rule whose field begins at a byte, unless it is kept
-abbrev pub unless_kept : Bool → Layout → ℕ → Option Breach
-unless_kept kept rule byte = if kept then None else Some (breach rule byte 0)
+-- a rule whose field begins at a byte, and those after it
+abbrev pub kept_then : Bool → Layout → ℕ → Option Breach → Option Breach
+kept_then kept rule byte later = if kept then later else Some (breach rule byte 0)
 
 -- the byte at a place is this one
 abbrev pub has_byte : List ℕ → ℕ → ℕ → Bool
 has_byte frame place byte = nat_eq (slice_index frame place) byte
 
--- 60 to 1,514 bytes
-abbrev pub length_broken : List ℕ → Option Breach
-length_broken frame =
-    if nat_lt (length frame) 60 then Some (breach Length (length frame) 60)
-    else (if nat_lt 1514 (length frame) then Some (breach Length (length frame) 1514) else None)
-
--- the constant fields of the MAC addresses, the interface identifier and the type
+-- 60 to 1,514 bytes, the constant fields of the MAC addresses, the interface identifier and the type
 unfoldable pub link_broken : List ℕ → Option Breach
 link_broken f =
-    option_or (unless_kept (has_byte f 0 3 && has_byte f 1 0 && has_byte f 2 0 && has_byte f 3 0) DestinationMac 0)
-    (option_or (unless_kept (has_byte f 6 2 && has_byte f 7 0 && has_byte f 8 0) SourceMac 6)
-    (option_or (unless_kept (has_byte f 11 32 || has_byte f 11 64) Interface 11)
-    (unless_kept (has_byte f 12 8 && has_byte f 13 0) EtherType 12)))
+    if nat_lt (length f) 60 then Some (breach Length (length f) 60) else (
+    if nat_lt 1514 (length f) then Some (breach Length (length f) 1514) else (
+    kept_then (has_byte f 0 3 && has_byte f 1 0 && has_byte f 2 0 && has_byte f 3 0) DestinationMac 0 (
+    kept_then (has_byte f 6 2 && has_byte f 7 0 && has_byte f 8 0) SourceMac 6 (
+    kept_then (has_byte f 11 32 || has_byte f 11 64) Interface 11 (
+    kept_then (has_byte f 12 8 && has_byte f 13 0) EtherType 12 None)))))
 
 -- the length of a frame with this total length: a short one is padded to 60 bytes
 abbrev pub framed : ℕ → ℕ
 framed total = max (15 + total) 60
-
--- version 4, a header of 20 bytes, and type of service 0, which this project chose
-abbrev pub has_version : Bool → List ℕ → Bool
-has_version arinc f = has_byte f 14 69 && (arinc || has_byte f 15 0)
 
 -- some bytes of a piece, the frame's length, and of a piece that more follow whole units of 8 bytes
 abbrev pub has_total : List ℕ → Bool
@@ -51,47 +43,44 @@ abbrev pub has_fragment : List ℕ → Bool
 has_fragment f = nat_lt (fragment_field f) 16384
     && nat_le (8 * (fragment_field f % offset_modulus) + total_length f) (20 + greatest_datagram)
 
--- time to live 1, which this project chose, and UDP
-abbrev pub has_protocol : Bool → List ℕ → Bool
-has_protocol arinc f = (arinc || has_byte f 22 1) && has_byte f 23 17
-
+-- The internet header: version 4, a header of 20 bytes and type of service 0; time to live 1 and UDP. The type of service
+-- and the time to live are this project's choice.
 unfoldable pub internet_broken : Bool → List ℕ → Option Breach
-internet_broken arinc f = option_or (unless_kept (has_version arinc f) Version 14)
-    (option_or (unless_kept (has_total f) TotalLength 16)
-    (option_or (unless_kept (has_fragment f) Fragment 20)
-    (option_or (unless_kept (has_protocol arinc f) Protocol 22)
-    (unless_kept (nat_eq (word_sum (slice_range f 14 34) % 65535) 0) HeaderSum 24))))
+internet_broken arinc f =
+    kept_then (has_byte f 14 69 && (arinc || has_byte f 15 0)) Version 14 (
+    kept_then (has_total f) TotalLength 16 (
+    kept_then (has_fragment f) Fragment 20 (
+    kept_then ((arinc || has_byte f 22 1) && has_byte f 23 17) Protocol 22 (
+    kept_then (nat_eq (word_sum (slice_range f 14 34) % 65535) 0) HeaderSum 24 None))))
 
--- the source address: 10, the end system of the source MAC address, a partition from 0 to 31
-abbrev pub has_source_address : List ℕ → Bool
-has_source_address f = has_byte f 26 10 && has_byte f 27 (slice_index f 9) && has_byte f 28 (slice_index f 10)
+-- 10, the end system of the source MAC address, a partition from 0 to 31
+abbrev pub has_source : List ℕ → Bool
+has_source f = has_byte f 26 10 && has_byte f 27 (slice_index f 9) && has_byte f 28 (slice_index f 10)
     && nat_le (slice_index f 29) 31
 
--- the destination address: 224.224 and the link of the destination MAC address, or a unicast address
-abbrev pub has_destination_address : List ℕ → Bool
-has_destination_address f = has_byte f 30 224 && has_byte f 31 224 && has_byte f 32 (slice_index f 4)
+-- 224.224 and the link of the destination MAC address, or a unicast address
+abbrev pub has_destination : List ℕ → Bool
+has_destination f = has_byte f 30 224 && has_byte f 31 224 && has_byte f 32 (slice_index f 4)
     && has_byte f 33 (slice_index f 5) || has_byte f 30 10
 
-unfoldable pub address_broken : List ℕ → Option Breach
-address_broken f = option_or (unless_kept (has_source_address f) SourceAddress 26)
-    (unless_kept (has_destination_address f) DestinationAddress 30)
-
--- the bytes between the piece and the sequence number, and the first one that isn't zero: zeros are this project's choice
+-- the bytes between the piece and the sequence number, and the first one that isn't zero
 abbrev pub padding_of : List ℕ → List ℕ
 padding_of f = slice_range f (14 + total_length f) (length f - 1)
 
 abbrev pub first_nonzero : List ℕ → Option ℕ
 first_nonzero bytes = position (λ byte. not (byte == 0)) bytes
 
-unfoldable pub padding_broken : Bool → List ℕ → Option Breach
-padding_broken arinc f =
+-- the addresses, and the padding: its zeros are this project's choice
+unfoldable pub end_broken : Bool → List ℕ → Option Breach
+end_broken arinc f =
+    kept_then (has_source f) SourceAddress 26 (
+    kept_then (has_destination f) DestinationAddress 30 (
     if arinc then None
-    else option_map (λ place. breach Padding (14 + total_length f + place) 0) (first_nonzero (padding_of f))
+    else option_map (λ place. breach Padding (14 + total_length f + place) 0) (first_nonzero (padding_of f))))
 
 -- The rules in their order. By ARINC 664 alone (`arinc`), what only this project chose isn't one.
 unfoldable pub layout_broken : Bool → List ℕ → Option Breach
-layout_broken arinc f = option_or (length_broken f) (option_or (link_broken f)
-    (option_or (internet_broken arinc f) (option_or (address_broken f) (padding_broken arinc f))))
+layout_broken arinc f = option_or (link_broken f) (option_or (internet_broken arinc f) (end_broken arinc f))
 
 -- what can be read of a frame: its headers, and its piece before its sequence number
 pub record IsReadable (frame : List ℕ) : Type 0 where

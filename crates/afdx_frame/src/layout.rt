@@ -1,6 +1,6 @@
 //! The rules of a frame's layout, in their order. A frame that breaks none is one of the profile.
 ghost use Rattle.std.specs.Prelude.{◌≡◌, ◌+◌, ◌≤◌, ◌↔◌, false, length, Some, None};
-ghost use Rattle.afdx_frame.specs.Layout.{breach, length_broken, link_broken, framed, has_total, has_fragment, internet_broken, address_broken, first_nonzero, padding_broken, layout_broken, IsReadable};
+ghost use Rattle.afdx_frame.specs.Layout.{breach, link_broken, framed, has_total, has_fragment, internet_broken, first_nonzero, end_broken, layout_broken, IsReadable};
 ghost use Rattle.afdx_frame.specs.Profile.{total_length, IsFrame};
 
 use crate::field::{self, word_at};
@@ -58,55 +58,32 @@ pub struct Breach {
     pub wanted: usize,
 }
 
-/// A rule that is broken, and the byte at which its field begins.
-fn broken(rule: Layout, byte: usize) -> Option<Breach>
-    ensures { result ≡ Some (breach rule byte 0) }
+/// A rule that is broken, and its two numbers.
+fn broken(rule: Layout, seen: usize, wanted: usize) -> Option<Breach>
+    ensures { result ≡ Some (breach rule seen wanted) }
 {
-    Some(Breach {
-        rule,
-        seen: byte,
-        wanted: 0,
-    })
+    Some(Breach { rule, seen, wanted })
 }
 
-/// The rule of lengths.
-fn length_broken(frame: &[u8]) -> Option<Breach>
-    ensures value { result ≡ length_broken frame.now }
-    ensures least { result ≡ None → 60 ≤ length frame.now }
-    ensures most { result ≡ None → length frame.now ≤ 1514 }
-{
-    let len = frame.len();
-    if len < SHORTEST_FRAME {
-        Some(Breach {
-            rule: Layout::Length,
-            seen: len,
-            wanted: SHORTEST_FRAME,
-        })
-    } else if len > GREATEST_FRAME {
-        Some(Breach {
-            rule: Layout::Length,
-            seen: len,
-            wanted: GREATEST_FRAME,
-        })
-    } else {
-        None
-    }
-}
-
-/// The rules of the link header: the constant fields of the addresses, the interface identifier and the type.
+/// The rules of the length, of the constant fields of the MAC addresses, of the interface identifier and of the type.
 #[tactic(auto, unfolding(crate::specs::Layout::link_broken))]
 fn link_broken(b: &[u8]) -> Option<Breach>
-    requires { 60 ≤ length b.now }
-    ensures { result ≡ link_broken b.now }
+    ensures value { result ≡ link_broken b.now }
+    ensures least { result ≡ None → 60 ≤ length b.now }
+    ensures most { result ≡ None → length b.now ≤ 1514 }
 {
-    if b[0] != 3 || b[1] != 0 || b[2] != 0 || b[3] != 0 {
-        broken(Layout::DestinationMac, 0)
+    if b.len() < SHORTEST_FRAME {
+        broken(Layout::Length, b.len(), SHORTEST_FRAME)
+    } else if b.len() > GREATEST_FRAME {
+        broken(Layout::Length, b.len(), GREATEST_FRAME)
+    } else if b[0] != 3 || b[1] != 0 || b[2] != 0 || b[3] != 0 {
+        broken(Layout::DestinationMac, 0, 0)
     } else if b[6] != 2 || b[7] != 0 || b[8] != 0 {
-        broken(Layout::SourceMac, 6)
+        broken(Layout::SourceMac, 6, 0)
     } else if b[field::INTERFACE] != INTERFACE_A && b[field::INTERFACE] != INTERFACE_B {
-        broken(Layout::Interface, field::INTERFACE)
+        broken(Layout::Interface, field::INTERFACE, 0)
     } else if b[field::ETHERTYPE] != 8 || b[field::ETHERTYPE + 1] != 0 {
-        broken(Layout::EtherType, field::ETHERTYPE)
+        broken(Layout::EtherType, field::ETHERTYPE, 0)
     } else {
         None
     }
@@ -150,58 +127,18 @@ fn internet_broken(arinc: bool, b: &[u8]) -> Option<Breach>
     ensures piece { result ≡ None → 15 + total_length b.now ≤ length b.now }
 {
     if b[field::VERSION] != 0x45 || !arinc && b[field::VERSION + 1] != 0 {
-        broken(Layout::Version, field::VERSION)
+        broken(Layout::Version, field::VERSION, 0)
     } else if !has_total(b) {
-        broken(Layout::TotalLength, field::TOTAL_LENGTH)
+        broken(Layout::TotalLength, field::TOTAL_LENGTH, 0)
     } else if !has_fragment(b) {
-        broken(Layout::Fragment, field::FRAGMENT)
+        broken(Layout::Fragment, field::FRAGMENT, 0)
     } else if !arinc && b[field::TIME_TO_LIVE] != 1 || b[field::PROTOCOL] != 17 {
-        broken(Layout::Protocol, field::TIME_TO_LIVE)
+        broken(Layout::Protocol, field::TIME_TO_LIVE, 0)
     } else if word_sum(&b[field::VERSION..field::DATA]) % 0xffff != 0 {
-        broken(Layout::HeaderSum, field::CHECKSUM)
+        broken(Layout::HeaderSum, field::CHECKSUM, 0)
     } else {
         None
     }
-}
-
-/// The rules of the internet addresses: the source is 10, the end system of the source MAC address and a partition; the
-/// destination the link of the destination MAC address, or in 10.0.0.0/8.
-#[tactic(auto, unfolding(crate::specs::Layout::address_broken))]
-fn address_broken(b: &[u8]) -> Option<Breach>
-    requires { 60 ≤ length b.now }
-    ensures { result ≡ address_broken b.now }
-{
-    let (source, destination) = (field::SOURCE, field::DESTINATION);
-    if b[source] != 10
-        || b[source + 1] != b[field::END_SYSTEM]
-        || b[source + 2] != b[field::END_SYSTEM + 1]
-        || b[source + 3] > 31
-    {
-        broken(Layout::SourceAddress, source)
-    } else if (b[destination] != 224
-        || b[destination + 1] != 224
-        || b[destination + 2] != b[field::LINK]
-        || b[destination + 3] != b[field::LINK + 1])
-        && b[destination] != 10
-    {
-        broken(Layout::DestinationAddress, destination)
-    } else {
-        None
-    }
-}
-
-/// The rule of padding.
-#[tactic(auto, unfolding(crate::specs::Layout::padding_broken))]
-fn padding_broken(arinc: bool, b: &[u8]) -> Option<Breach>
-    requires { IsReadable b.now }
-    ensures { result ≡ padding_broken arinc b.now }
-{
-    if arinc {
-        return None;
-    }
-    let start = field::VERSION + word_at(b, field::TOTAL_LENGTH) as usize;
-    let place = first_nonzero(&b[start..b.len() - 1])?;
-    broken(Layout::Padding, start + place)
 }
 
 /// The place of the first byte that isn't zero.
@@ -211,6 +148,36 @@ fn first_nonzero(bytes: &[u8]) -> Option<usize>
     bytes.iter().position(|byte| *byte != 0)
 }
 
+/// The rules of the internet addresses and of the padding. The source is 10, the end system of the source MAC address and
+/// a partition; the destination is the link of the destination MAC address, or in 10.0.0.0/8.
+#[tactic(auto, unfolding(crate::specs::Layout::end_broken))]
+fn end_broken(arinc: bool, b: &[u8]) -> Option<Breach>
+    requires { IsReadable b.now }
+    ensures { result ≡ end_broken arinc b.now }
+{
+    let (source, destination) = (field::SOURCE, field::DESTINATION);
+    if b[source] != 10
+        || b[source + 1] != b[field::END_SYSTEM]
+        || b[source + 2] != b[field::END_SYSTEM + 1]
+        || b[source + 3] > 31
+    {
+        broken(Layout::SourceAddress, source, 0)
+    } else if (b[destination] != 224
+        || b[destination + 1] != 224
+        || b[destination + 2] != b[field::LINK]
+        || b[destination + 3] != b[field::LINK + 1])
+        && b[destination] != 10
+    {
+        broken(Layout::DestinationAddress, destination, 0)
+    } else if arinc {
+        None
+    } else {
+        let start = field::VERSION + word_at(b, field::TOTAL_LENGTH) as usize;
+        let place = first_nonzero(&b[start..b.len() - 1])?;
+        broken(Layout::Padding, start + place, 0)
+    }
+}
+
 /// The first rule of the layout that a frame breaks; by ARINC 664 alone, of those that it has.
 #[tactic(auto, using(crate::proofs::LayoutRules::layout_is_profile), unfolding(crate::specs::Layout::layout_broken))]
 pub fn layout_broken(arinc: bool, frame: &[u8]) -> Option<Breach>
@@ -218,14 +185,11 @@ pub fn layout_broken(arinc: bool, frame: &[u8]) -> Option<Breach>
     ensures readable { result ≡ None → IsReadable frame.now }
     ensures profile { (layout_broken false frame.now ≡ None) ↔ IsFrame frame.now }
 {
-    if let Some(broken) = length_broken(frame) {
-        return Some(broken);
-    }
     if let Some(broken) = link_broken(frame) {
         return Some(broken);
     }
     if let Some(broken) = internet_broken(arinc, frame) {
         return Some(broken);
     }
-    address_broken(frame).or(padding_broken(arinc, frame))
+    end_broken(arinc, frame)
 }

@@ -4,7 +4,8 @@ ghost use Rattle.afdx_frame.specs.Profile.{total_length};
 ghost use Rattle.judge.specs.Fields.{fields_of, AreSmall};
 ghost use Rattle.afdx_frame.specs.Layout.{IsReadable};
 
-use afdx_frame::{word_at, word_sum};
+use afdx_frame::piece::{MORE_FRAGMENTS, OFFSET_MODULUS};
+use afdx_frame::{field, word_at, word_sum};
 
 /// The fields of a frame.
 #[derive(Clone, Copy)]
@@ -48,24 +49,28 @@ pub(crate) fn fields_of(frame: &[u8]) -> Fields
     ensures value { result ≡ fields_of frame.now }
     ensures small { AreSmall result }
 {
-    let (total, fragment) = (word_at(frame, 16), word_at(frame, 20));
+    let (total, fragment) = (
+        word_at(frame, field::TOTAL_LENGTH),
+        word_at(frame, field::FRAGMENT),
+    );
     Fields {
         number: frame[frame.len() - 1],
         piece: PieceIn {
-            ident: word_at(frame, 18),
-            start: 8 * (fragment % 0x2000) as u32,
+            ident: word_at(frame, field::IDENTIFICATION),
+            start: 8 * (fragment % OFFSET_MODULUS) as u32,
             len: total as u32 - 20,
-            more: fragment >= 0x2000,
+            more: fragment >= MORE_FRAGMENTS,
         },
         flow: Flow {
-            partition: frame[29],
-            address: 0x1_0000 * word_at(frame, 30) as u32 + word_at(frame, 32) as u32,
-            source: word_at(frame, 34),
-            destination: word_at(frame, 36),
+            partition: frame[field::SOURCE + 3],
+            address: 0x1_0000 * word_at(frame, field::DESTINATION) as u32
+                + word_at(frame, field::DESTINATION + 2) as u32,
+            source: word_at(frame, field::DATA),
+            destination: word_at(frame, field::DATA + 2),
         },
-        udp_len: word_at(frame, 38),
-        udp_sum: word_at(frame, 40),
-        sum: word_sum(&frame[34..14 + total as usize]),
-        ends: word_sum(&frame[26..34]),
+        udp_len: word_at(frame, field::UDP_LENGTH),
+        udp_sum: word_at(frame, field::UDP_CHECKSUM),
+        sum: word_sum(&frame[field::DATA..field::VERSION + total as usize]),
+        ends: word_sum(&frame[field::SOURCE..field::DATA]),
     }
 }

@@ -11,7 +11,7 @@ use crate::check_sequence::check_sequence;
 use crate::finding::{Deviation, Kind};
 use crate::options::Options;
 use afdx_frame::layout::framed;
-use afdx_frame::net::SHORTEST_FRAME;
+use afdx_frame::net::{INTERFACE_A, INTERFACE_B, SHORTEST_FRAME};
 use afdx_frame::{Layout, Net, field, layout_broken, word_at};
 use afdx_plan::{Config, LinkPlan, VlId};
 use byteorder::{ByteOrder, LittleEndian};
@@ -109,8 +109,8 @@ fn interface_on(link: &LinkPlan, net: Net) -> u8
     ensures { result ≡ interface_on link.now net }
 {
     match net {
-        Net::A if link.networks.carries_a() => 0x20,
-        Net::B if link.networks.carries_b() => 0x40,
+        Net::A if link.networks.carries_a() => INTERFACE_A,
+        Net::B if link.networks.carries_b() => INTERFACE_B,
         _ => 0,
     }
 }
@@ -122,15 +122,18 @@ pub(crate) fn place_of(config: &Config, net: Net, frame: &[u8]) -> Result<usize,
     ensures value { result ≡ place_of config.now net frame.now }
     ensures within { IfOk result (λ place. place < length config.now.links) }
 {
-    let (source, wanted) = (word_at(frame, 9), config.end_system());
+    let (source, wanted) = (word_at(frame, field::END_SYSTEM), config.end_system());
     if source != wanted {
         return Err(refusal(None, Kind::Source, source as u64, wanted as u64));
     }
-    let vl = VlId(word_at(frame, 4));
+    let vl = VlId(word_at(frame, field::LINK));
     let Some(place) = config.link_index(vl) else {
         return Err(refusal(Some(vl), Kind::Link, vl.0 as u64, 0));
     };
-    let (seen, wanted) = (frame[11], interface_on(&config.links()[place], net));
+    let (seen, wanted) = (
+        frame[field::INTERFACE],
+        interface_on(&config.links()[place], net),
+    );
     if seen != wanted {
         return Err(refusal(Some(vl), Kind::Network, seen as u64, wanted as u64));
     }

@@ -36,7 +36,7 @@ pub use Rattle.afdx_frame.specs.Fragments.{Sent, blanked, fragments, fragments_f
 pub use Rattle.afdx_frame.specs.Frame.{frame_of, interface_byte, more_fragments, udp_field}
 unfoldable pub use Rattle.afdx_frame.specs.Frame.{addresses, datagram, header_front, internet_header, link_header, udp_header, udp_sum, unnumbered}
 pub use Rattle.afdx_frame.specs.Header.{link_in, number_in, sub_in, twin_of}
-unfoldable pub use Rattle.afdx_frame.specs.Layout.{address_broken, internet_broken, layout_broken, link_broken, padding_broken}
+unfoldable pub use Rattle.afdx_frame.specs.Layout.{end_broken, internet_broken, layout_broken, link_broken}
 pub use Rattle.afdx_frame.specs.Profile.{IsFrame, fragment_field, total_length, word_at}
 pub use Rattle.afdx_frame.specs.ReadBack.{IsPiece}
 pub use Rattle.afdx_frame.specs.declared.net.Net.{Net}
