@@ -9,7 +9,7 @@ use Rattle.std.specs.Io.KnownBytes.{Appends}
 use Rattle.std.specs.List.{Any}
 use Rattle.afdx_plan.specs.declared.port_plan.PortPlan.{PortPlan}
 use Rattle.afdx_frame.specs.declared.net.Net.TheVariants.{B}
-use Rattle.redundant_mux.specs.Lines.{Entry, side}
+use Rattle.redundant_mux.specs.Lines.{side}
 use Rattle.afdx_legal.specs.Accepted.{IsHandedWhole}
 use Rattle.afdx_legal.specs.Legal.{on_both}
 use Rattle.storm.specs.declared.fault.StormFault.{StormFault}
@@ -52,18 +52,14 @@ abbrev pub IsShort : {T : Type 0} → Result T StormFault → Type 0
 IsShort {T} (Ok report) = ⊥
 IsShort {T} (Err fault) = fault ≡ Short
 
--- A storm over a plan ended, each of whose ports sent its messages 1 to n: exactly these were accepted and legally
--- transmitted, every fragment of them; the last readings are the counts of each link's own stream; and no count was seen
--- to fall.
-pub record IsEnded (plan : Plan) (n total : ℕ) (counts : List Counts) (fell : Bool) (a b : List Entry) : Type 0 where
-  pub whole : IsHandedWhole plan (own_messages plan n) a b
-  pub accepted : total ≡ length plan.ports * n
-  pub links : counts ≡ all_counts plan.links a b
-  pub never_back : fell ≡ false
-
--- Its report: the networks are equal if and only if their frames of links on both are twins, entry by entry.
+-- The report of a storm over a plan, each of whose ports sent its messages 1 to n: exactly these were accepted and
+-- legally transmitted, every fragment of them; the last readings are the counts of each link's own stream; no count was
+-- seen to fall; and the networks are equal if and only if their frames of links on both are twins, entry by entry.
 pub record IsReportOf (plan : Plan) (n : ℕ) (report : StormReport) : Type 0 where
-  pub ended : IsEnded plan n report.accepted report.links.items report.back report.a.handed report.b.handed
+  pub whole : IsHandedWhole plan (own_messages plan n) report.a.handed report.b.handed
+  pub accepted : report.accepted ≡ length plan.ports * n
+  pub links : report.links.items ≡ all_counts plan.links report.a.handed report.b.handed
+  pub never_back : report.back ≡ false
   pub equal : IsTrue report.equal ↔ (on_both plan.links report.b.handed ≡ map (side B) (on_both plan.links report.a.handed))
 
 -- What was written of a storm over a plan, none of whose ports is short: the text of its report.

@@ -1,6 +1,7 @@
 //! Why a storm gives no report.
 ghost use Rattle.std.specs.Prelude.{◌≡◌, ◌≢◌, ◌↔◌};
 ghost use Rattle.storm.specs.declared.fault.Stop.TheVariants.{Memory as OutOfMemory};
+ghost use Rattle.storm.specs.declared.fault.StormFault.TheVariants.{Memory, Short};
 
 use std::alloc::{AllocError, AllocFailed};
 use thiserror::Error;
@@ -50,12 +51,13 @@ impl<T: Drop> From<AllocFailed<T>> for Stop {
     }
 }
 
-pub(crate) fn fault_of(stop: Stop) -> StormFault
-    ensures short { result ≢ StormFault.Short }
-    ensures memory { (result ≡ StormFault.Memory) ↔ (stop ≡ OutOfMemory) }
-{
-    match stop {
-        Stop::Memory => StormFault::Memory,
-        Stop::Turns => StormFault::Turns,
+impl From<Stop> for StormFault {
+    ghost from_gives = { λ stop fault. (fault ≢ Short) × (fault ≡ Memory ↔ stop ≡ OutOfMemory) };
+
+    fn from(stop: Stop) -> StormFault {
+        match stop {
+            Stop::Memory => StormFault::Memory,
+            Stop::Turns => StormFault::Turns,
+        }
     }
 }

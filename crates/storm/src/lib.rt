@@ -6,7 +6,6 @@ mod both;
 mod command;
 mod fault;
 mod gate;
-mod outcome;
 mod polling;
 mod progress;
 mod report;

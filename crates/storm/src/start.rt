@@ -33,7 +33,6 @@ pub(crate) type Worker = PromisedHandle<(TxPort, Result<(), Stop>), SendsAll>;
 /// Starts a worker, which is counted in before it runs, and counts itself out.
 fn start_worker<'s, E: 's, G: Gate + Sync>(
     scope: &'s Scope<'s, E>,
-    alloc: Global,
     port: TxPort,
     worker: usize,
     load: Load,
@@ -55,7 +54,7 @@ fn start_worker<'s, E: 's, G: Gate + Sync>(
         ensures asks { asked_by result.0 ≤ asked_after load.turns port }
     {
         let mut port = port;
-        let ended = work(alloc, &mut port, worker, load, gate);
+        let ended = work(&mut port, worker, load, gate);
         running.fetch_sub(1, Ordering::SeqCst);
         (port, ended)
     };
@@ -87,7 +86,7 @@ pub(crate) fn start_workers<'s, E: 's, G: Gate + Sync>(
     let mut workers = Vec::new(alloc);
     for port in ports {
         let worker = workers.len();
-        let started = start_worker(scope, alloc, port, worker, load, gate, running)?;
+        let started = start_worker(scope, port, worker, load, gate, running)?;
         workers.push(started)?;
     }
     Ok(workers)

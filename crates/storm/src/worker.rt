@@ -1,12 +1,11 @@
 //! The sends of one worker.
-ghost use Rattle.std.specs.Prelude.{◌≡◌, ◌≤◌, [], ◌∷◌, OnOk, IfOk};
+ghost use Rattle.std.specs.Prelude.{◌≡◌, ◌≤◌, [], ◌∷◌, OnOk};
 ghost use Rattle.storm.specs.Workers.{message, named, with_more, sent_all, asked_by, asked_after};
 
 use crate::fault::Stop;
 use crate::gate::Gate;
 use afdx_plan::PortId;
 use afdx_tx::TxPort;
-use std::alloc::{AllocError, Global};
 use std::thread;
 
 /// How many messages each port sends, and how often a worker may send and the main thread may poll, while
@@ -21,13 +20,12 @@ pub(crate) struct Load {
 pub(crate) const MESSAGE_BYTES: usize = 6;
 
 /// Message `call` of a port: the port's identifier in two bytes and `call` in four, high byte first.
-fn make_message(alloc: Global, port: PortId, call: u32) -> Result<Vec<u8>, AllocError>
-    ensures { IfOk result (λ bytes. bytes.items ≡ message port.0 call) }
+fn make_message(port: PortId, call: u32) -> [u8; MESSAGE_BYTES]
+    ensures { result ≡ message port.0 call }
 {
-    let mut bytes = Vec::with_capacity(alloc, MESSAGE_BYTES)?;
-    bytes.extend_from_slice(&port.0.to_be_bytes())?;
-    bytes.extend_from_slice(&call.to_be_bytes())?;
-    Ok(bytes)
+    let [p0, p1] = port.0.to_be_bytes();
+    let [c0, c1, c2, c3] = call.to_be_bytes();
+    [p0, p1, c0, c1, c2, c3]
 }
 
 /// Sends a message, again and again if it is refused, as by a full queue. Each send is a turn.
@@ -49,7 +47,6 @@ fn send_on(port: &mut TxPort, bytes: &[u8], turns: &mut u64) -> Result<(), Stop>
 /// Sends a port's messages from 1 on, each once the gate lets it in.
 #[tactic(auto, using(std::proofs::lemmas::Grind::common_steps))]
 pub(crate) fn work<G: Gate>(
-    alloc: Global,
     port: &mut TxPort,
     worker: usize,
     load: Load,
@@ -64,8 +61,7 @@ pub(crate) fn work<G: Gate>(
         if !gate.enter(worker, call) {
             return Err(Stop::Turns);
         }
-        let message = make_message(alloc, port.id(), call)?;
-        send_on(port, &message, &mut turns)?;
+        send_on(port, &make_message(port.id(), call), &mut turns)?;
         gate.answered(worker, call);
     }
     Ok(())

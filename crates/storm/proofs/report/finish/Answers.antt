@@ -1,13 +1,16 @@
-use Rattle.storm.proofs.Names.{◌≡◌, ◌∙◌, List, length, ap, subst, arith, sum_by, IsPlan, IsLegal, AreAllowed, accepted_in, Tx, PortView}
+use Rattle.storm.proofs.Names.{◌≡◌, ◌∙◌, List, length, map, ap, subst, arith, sum_by, IsPlan, Plan, LinkPlan, on_both, IsLegal, AreAllowed, accepted_in, Tx, PortView}
+use Rattle.std.specs.Prelude.{◌↔◌, IsTrue}
+use Rattle.afdx_frame.specs.declared.net.Net.TheVariants.{B}
+use Rattle.redundant_mux.specs.Lines.{side}
 use Rattle.storm.proofs.SameCells.{counts_kept}
 use Rattle.storm.proofs.Spent.{every_place, sum_spent}
 use Rattle.storm.proofs.Whole.{handed_whole}
-use Rattle.storm.proofs.outcome.finish.Goals as goal
+use Rattle.storm.proofs.report.finish.Goals as goal
 
 pub count_accepted-accepted-requires : goal.count_accepted-accepted-requires
 count_accepted-accepted-requires g c =
     let joined = c.args.joined in
-    let valid : IsPlan joined.tx.plan = subst IsPlan c.config.ensures c.links-count.ensures.valid in
+    let valid : IsPlan joined.tx.plan = subst IsPlan c.config.ensures c.links.ensures.valid in
     let all = sum_spent joined.tx c.args.load.messages c.args.load.turns joined.ports.items c.requires.joined.spent in
     grind arith
 
@@ -34,4 +37,8 @@ returns g c =
       links = counts_kept joined.tx.plan drained.plan drained.lines.a drained.lines.b _ _ _ c.in_ok-links.ensures.counts
           (c.in_ok-drain.ensures.plan ∙ c.gather_all-draining.ensures.plan) a b;
       never_back = c.requires.joined.never_back;
+      equal = subst (λ (links : List LinkPlan). IsTrue c.are_equal-equal.result
+          ↔ (on_both links c.into_networks-a.result.1.handed ≡ map (side B) (on_both links c.into_networks-a.result.0.handed)))
+          (c.as_slice-2.ensures ∙ c.of-kept.ensures ∙ c.links.ensures.plan ∙ ap (λ (p : Plan). p.links) c.config.ensures)
+          c.are_equal-equal.ensures;
     }

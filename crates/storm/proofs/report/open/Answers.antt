@@ -1,6 +1,6 @@
 use Rattle.storm.proofs.Names.{length, ap, sym, ◌∙◌, Plan}
 use Rattle.storm.proofs.SameCells.{cells_new, shown_fresh}
-use Rattle.storm.proofs.outcome.open.Goals as goal
+use Rattle.storm.proofs.report.open.Goals as goal
 
 pub returns-in-Ok-clause-ready : goal.returns-in-Ok-clause-ready
 returns-in-Ok-clause-ready c =

@@ -1,6 +1,6 @@
 use Rattle.storm.proofs.Names.{◌<◌, length, arith}
 use Rattle.storm.proofs.SameCells.{cell_at, cells_kept, read_more, read_all}
-use Rattle.storm.proofs.outcome.read_links.Goals as goal
+use Rattle.storm.proofs.report.read_links.Goals as goal
 
 pub read_last-requires : goal.read_last-requires
 read_last-requires g c =

@@ -1,5 +1,5 @@
 use Rattle.storm.proofs.Names.{◌≡◌, take, cells_read, all_counts}
-use Rattle.storm.proofs.outcome.read_links.Given as goal
+use Rattle.storm.proofs.report.read_links.Given as goal
 
 abbrev pub invariant-loop-link : goal.invariant-loop-link
 invariant-loop-link g l = record {
