@@ -137,15 +137,15 @@ def tried_writes(bench, program, words):
 
 
 def tried_growth(bench, program):
-    """A run and a storm of 10,000 messages more make a request for each, which is for the line's message or the worker's, and
-    none to send it, and few for lists of frames, which grow by doubling."""
+    """A run of 10,000 messages more makes a request for each, which is for the line's message, a storm none, and both few for
+    lists of frames, which grow by doubling."""
     def ran(count):
         script = "".join(f"send 10 01\nat {1000 * place}\n" for place in range(count))
         storm = ["storm", "plan.toml", "--messages", str(count), "--turns", "1000000000"]
         return [bench.run(program, words, given, 0, 0) for words, given in (([], script.encode()), (storm, b""))]
 
     pairs = [*zip(ran(10_000), ran(20_000))]
-    more = [twice.requests - once.requests - 10_000 for once, twice in pairs]
+    more = [twice.requests - once.requests - lines for (once, twice), lines in zip(pairs, (10_000, 0))]
     is_well = all(0 <= it <= 8 for it in more) and not any(ran.status for pair in pairs for ran in pair)
     return [] if is_well else [f"requests for lists: {more}, {[ran.err for pair in pairs for ran in pair]}"], ""
 
