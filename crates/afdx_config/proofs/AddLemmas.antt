@@ -1,13 +1,15 @@
 -- Findings added one after the other.
 use Rattle.std.proofs.lemmas.Grind.{flat_map-append, common_steps}
 use Rattle.std.proofs.lemmas.List.{take_more, length-take}
-use Rattle.afdx_config.proofs.Names.{◌≡◌, ℕ, ◌+◌, ◌<◌, List, [], ◌∷◌, ◌++◌, length, get_or, refl, ap, sym, map, append_assoc, option_map_or, append-nil, take, arith, Adds, flat_map, flat_map-map, table_view, string_bytes, keys_of, String, Global, LinkRow, PortRow, Bool, cells_of, Place, Link, Port, Top, EndSystem, Field, Finding, key_finding, each_row, field_of, IsDocument, Document, data_of, document_fields, end_fields, link_fields, port_fields, fields_in, field_fault, key_fault, is_version_2, map-map, BTreeMap, Value, None}
+use Rattle.afdx_config.proofs.Names.{◌≡◌, ℕ, ◌+◌, ◌<◌, List, [], ◌∷◌, ◌++◌, length, get_or, refl, ap, sym, map, append_assoc, option_map_or, append-nil, take, arith, Adds, flat_map, flat_map-map, table_view, string_bytes, keys_of, String, Global, LinkRow, PortRow, Bool, cells_of, Place, Link, Port, Top, EndSystem, Field, Finding, key_finding, each_row, field_of, IsDocument, Document, data_of, document_fields, end_fields, link_fields, port_fields, field_fault, key_fault, is_version_2, map-map, BTreeMap, Value, None, Members, ConfigFault, true, false, cond, codes, field_findings, key_findings, section_at, Result, Ok}
 use Rattle.afdx_config.specs.declared.format.Field.{Field as Key}
 use Rattle.afdx_config.specs.declared.findings.Found.{Found as Kept}
 use Rattle.afdx_config.specs.Cells.{link_row, port_row}
 use Rattle.afdx_config.specs.Findings.{table_findings, value_findings}
-use Rattle.afdx_config.proofs.SectionLemmas.{Found, keys_are, option_maps}
+use Rattle.afdx_config.proofs.SectionLemmas.{Found, keys_are}
 use Rattle.std.proofs.lemmas.Bool.Decides.{nat_tests}
+use Rattle.afdx_config.specs.Format.{only_in_2}
+use Rattle.std.specs.Result.{result_err}
 
 -- one after the other
 pub adds_both : (old mid new : Kept) (a b : List Finding) → Adds old mid a → Adds mid new b → Adds old new (a ++ b)
@@ -34,6 +36,7 @@ no_port = record {
   destination = None;
   max = None;
   unicast = None;
+  checksum = None;
 }
 
 -- adding the findings of one row
@@ -57,41 +60,44 @@ each_row-map each f k [] = refl
 each_row-map each f k (x ∷ xs) = ap (λ ys. each k (f x) ++ ys) (each_row-map each f (k + 1) xs)
 
 -- the findings of a table
-pub table_all : (place : Place) (fields : List Key) (table : BTreeMap (String Global) Value) (old mid new : Kept)
-    → Adds old mid (flat_map (λ f. key_finding place (field_of f).key (field_fault (table_view table) (field_of f))) fields)
-    → Adds mid new (flat_map (λ k. key_finding place (string_bytes k) (key_fault (map field_of fields) (string_bytes k))) (keys_of table.entries))
-    → Adds old new (table_findings place (map field_of fields) (table_view table))
-unfolding table_findings
-table_all place fields table old mid new p q =
-    let of_field : Field → List Finding = λ f. key_finding place f.key (field_fault (table_view table) f) in
+pub keys_all : (place : Place) (fields : List Key) (table : BTreeMap (String Global) Value) (old new : Kept)
+    → Adds old new (flat_map (λ k. key_finding place (string_bytes k) (key_fault (map field_of fields) (string_bytes k))) (keys_of table.entries))
+    → Adds old new (key_findings place (map field_of fields) (table_view table))
+keys_all place fields table old new p =
     let of_key : List ℕ → List Finding = λ k. key_finding place k (key_fault (map field_of fields) k) in
-    rw (
-      flat_map-map of_field field_of fields,
-      ← keys_are table.entries,
-      flat_map-map of_key (λ (k : String Global). string_bytes k) (keys_of table.entries),
-    )
-    (adds_both old mid new _ _ p q)
+    rw (← keys_are table.entries, flat_map-map of_key (λ (k : String Global). string_bytes k) (keys_of table.entries)) p
+
+pub table_all : (place : Place) (fields : List Field) (m : Members) (old mid new : Kept)
+    → Adds old mid (field_findings place fields m) → Adds mid new (key_findings place fields m)
+    → Adds old new (table_findings place fields m)
+unfolding table_findings
+table_all place fields m old mid new p q = adds_both old mid new _ _ p q
+
+-- the findings of a key that version 1 lacks
+pub last_key : {Y : Type 0} (is_2 : Bool) (place : Place) (m : Members) (key : Field) (r : Result Y ConfigFault) (d : Y) (old new : Kept)
+    → Adds old new (key_finding place key.key (result_err (cond is_2 r (Ok d)))) → field_fault m key ≡ result_err r
+    → Adds old new (field_findings place (only_in_2 is_2 key) m)
+last_key true place m key r d old new p same = adds_last old new _ (rw same p)
+last_key false place m key r d old new p same = p
 
 -- the findings of the values of a document
-pub values_all : (s : Document) (lf pf : List Field) (ls ps : List Found) (old one two three new : Kept)
-    → IsDocument s → lf ≡ fields_in (is_version_2 (data_of s)) link_fields → pf ≡ fields_in (is_version_2 (data_of s)) port_fields
-    → ls ≡ s.links.items → ps ≡ s.ports.items → Adds old one (table_findings Top document_fields (data_of s))
-    → Adds one two (option_map_or (λ t. table_findings EndSystem end_fields (table_view t.now)) s.end [])
-    → Adds two three (each_row (λ k t. table_findings (Link k) lf (table_view t.now)) 1 ls)
-    → Adds three new (each_row (λ k t. table_findings (Port k) pf (table_view t.now)) 1 ps)
+pub values_all : (s : Document) (old one two three new : Kept) → IsDocument s → Adds old one (table_findings Top document_fields (data_of s))
+    → Adds one two (option_map_or (table_findings EndSystem end_fields) (section_at (codes "end_system") (data_of s)) [])
+    → Adds two three (each_row (λ k t. table_findings (Link k) (link_fields (is_version_2 (data_of s))) (table_view t.now)) 1 s.links.items)
+    → Adds three new (each_row (λ k t. table_findings (Port k) (port_fields (is_version_2 (data_of s))) (table_view t.now)) 1 s.ports.items)
     → Adds old new (value_findings (data_of s))
 unfolding value_findings
-values_all s lf pf ls ps old one two three new are lf_is pf_is ls_is ps_is p q r t =
+values_all s old one two three new are p q r t =
     let whole = adds_both old three new _ _ (adds_both old two three _ _ (adds_both old one two _ _ p q) r) t in
-    let end = option_maps (table_findings EndSystem end_fields) (λ (t : Found). table_view t.now) s.end [] in
-    let links = sym (each_row-map (λ k m. table_findings (Link k) lf m) (λ (t : Found). table_view t.now) 1 ls) in
-    let ports = sym (each_row-map (λ k m. table_findings (Port k) pf m) (λ (t : Found). table_view t.now) 1 ps) in
-    rw (← end, links, ports, lf_is, pf_is, ls_is, ps_is, are.end_is, are.links_are, are.ports_are) at whole
+    let links = sym (each_row-map (λ k m. table_findings (Link k) (link_fields (is_version_2 (data_of s))) m) (λ (t : Found). table_view t.now) 1 s.links.items) in
+    let ports = sym (each_row-map (λ k m. table_findings (Port k) (port_fields (is_version_2 (data_of s))) m) (λ (t : Found). table_view t.now) 1 s.ports.items) in
+    rw (links, ports, are.links_are, are.ports_are) at whole
 
--- the links and ports of a document
-pub rows_are : (s : Document) (links : List LinkRow) (ports : List PortRow) (ls ps : List Found) (has_links has_ports : Bool) → IsDocument s
-    → ls ≡ s.links.items → links ≡ map (λ t. link_row (table_view t.now)) ls
-    → ps ≡ s.ports.items → ports ≡ map (λ t. port_row (table_view t.now)) ps
+-- the values of a document
+pub rows_are : (s : Document) (links : List LinkRow) (ports : List PortRow) (has_links has_ports : Bool) → IsDocument s
+    → links ≡ map (λ t. link_row (is_version_2 (data_of s)) (table_view t.now)) s.links.items
+    → ports ≡ map (λ t. port_row (is_version_2 (data_of s)) (table_view t.now)) s.ports.items
     → has_links ≡ (cells_of (data_of s)).has_links → has_ports ≡ (cells_of (data_of s)).has_ports
     → record { links = links; ports = ports; has_links = has_links; has_ports = has_ports } ≡ cells_of (data_of s)
-rows_are s links ports ls ps has_links has_ports are at_ls at_links at_ps at_ports hl hp = grind (arith, nat_tests, map-map)
+rows_are s links ports has_links has_ports are at_links at_ports hl hp =
+    rw (at_links, at_ports, hl, hp, ← are.links_are, ← are.ports_are) (rw (map-map _ _ s.links.items, map-map _ _ s.ports.items) refl)

@@ -1,5 +1,5 @@
 -- The place of each finding has its fault.
-use Rattle.afdx_config.proofs.Names.{◌≡◌, ℕ, suc, ◌+◌, ◌-◌, List, [], ◌∷◌, get_or, Bool, nat_lt, true, ◌||◌, Option, Some, None, refl, ap, ◌∙◌, codes, arith, bytes_eq, slice_get, position, list_any, flat_map, AllByRecursion, option_map_or, or-true, All-from_recursion, position-Some, slice_get-get_or, bytes_eq-Decides, eq-eqb, Members, ConfigFault, Place, Top, option_map, is_row_of, PlanRule, Rule, links_clash, ports_clash, port_misfits, link_count, port_count, sub_is_packed, breaks, sides, is_misfit, breaks_at, tells, plan_rules, rule, rule_findings, is_past_limit, EndSystem, Link, Port, Finding, found, one_if, key_finding, each_row, member_keys, pair_finding, pair_findings, misfit_finding, crowd_finding, Cells, cells_of, findings, row_has, rows_have, value_has, key_has, has_place, PlacesHaveFaults, Field, document_fields, end_fields, link_fields, port_fields, fields_in, field_fault, key_fault, is_fault, is_version_2, rows_at, section_at, members_at, fields_at, fault_number}
+use Rattle.afdx_config.proofs.Names.{◌≡◌, ℕ, suc, ◌+◌, ◌-◌, List, [], ◌∷◌, get_or, Bool, nat_lt, true, ◌||◌, Option, Some, None, refl, ap, ◌∙◌, codes, arith, bytes_eq, slice_get, position, list_any, flat_map, AllByRecursion, option_map_or, or-true, All-from_recursion, position-Some, slice_get-get_or, bytes_eq-Decides, eq-eqb, Members, ConfigFault, Place, Top, option_map, is_row_of, PlanRule, Rule, links_clash, ports_clash, port_misfits, link_count, port_count, sub_is_packed, breaks, is_misfit, breaks_at, tells, plan_rules, rule, rule_findings, is_past_limit, EndSystem, Link, Port, Finding, found, one_if, key_finding, each_row, member_keys, pair_finding, pair_findings, misfit_finding, crowd_finding, Cells, cells_of, findings, row_has, rows_have, value_has, key_has, has_place, PlacesHaveFaults, Field, document_fields, end_fields, link_fields, port_fields, field_fault, key_fault, is_fault, is_version_2, rows_at, section_at, members_at, fields_at, fault_number}
 use Rattle.afdx_config.proofs.AddLemmas.{each_row-map}
 use Rattle.afdx_config.proofs.OrderLemmas.{r_append, r_fold, r_map}
 use Rattle.afdx_config.specs.Findings.{plan_findings, table_findings, value_findings}
@@ -54,8 +54,8 @@ values_have P doc step =
     all_rows P (λ k m. table_findings (like k) fields m) all (λ k m is. step (like k) fields m (at k m is)) in
     r_append P _ _ (r_append P _ _ (r_append P _ _ (step Top document_fields doc (refl, refl))
     (end (section_at (codes "end_system") doc) refl))
-    (rows Link (fields_in (is_version_2 doc) link_fields) (rows_at (codes "vl") doc) (λ k m is. (is, refl))))
-    (rows Port (fields_in (is_version_2 doc) port_fields) (rows_at (codes "port") doc) (λ k m is. (is, refl)))
+    (rows Link (link_fields (is_version_2 doc)) (rows_at (codes "vl") doc) (λ k m is. (is, refl))))
+    (rows Port (port_fields (is_version_2 doc)) (rows_at (codes "port") doc) (λ k m is. (is, refl)))
   where
     end : (o : Option Members) → section_at (codes "end_system") doc ≡ o → AllByRecursion P (option_map_or (table_findings EndSystem end_fields) o [])
     end None is = tt
@@ -141,8 +141,8 @@ rule_fine cells f key (port_misfits misfits) = all_rows (Broken cells (rule f ke
     (λ k p is. r_one _ (is_misfit misfits cells p) _ (λ bad.
     broken_at cells (rule f key (port_misfits misfits)) (Port k) (option_map (λ i. i + 1) (position (is_row_of p) cells.links))
     (row_passes (is_misfit misfits cells) cells.ports k p is bad)))
-rule_fine cells f key link_count = r_one _ (breaks (sides cells) link_count) _ (λ bad. broken_at cells (rule f key link_count) Top None bad)
-rule_fine cells f key port_count = r_one _ (breaks (sides cells) port_count) _ (λ bad. broken_at cells (rule f key port_count) Top None bad)
+rule_fine cells f key link_count = r_one _ (breaks cells link_count) _ (λ bad. broken_at cells (rule f key link_count) Top None bad)
+rule_fine cells f key port_count = r_one _ (breaks cells port_count) _ (λ bad. broken_at cells (rule f key port_count) Top None bad)
 rule_fine cells f key sub_is_packed = all_rows (Broken cells (rule f key sub_is_packed)) (crowd_finding f key cells.ports) cells.ports
     (λ k p is. r_one _ (is_past_limit cells.ports k p) _ (λ bad.
     broken_at cells (rule f key sub_is_packed) (Port k) None (row_passes (is_past_limit cells.ports k) cells.ports k p is bad)))

@@ -3,7 +3,9 @@ use Rattle.std.proofs.lemmas.List.Sums.{sum_by-append, sum_by-cons}
 use Rattle.std.proofs.Math.Seq.{take-append_seam}
 use Rattle.afdx_config.proofs.SectionLemmas.{none_counted, none_on}
 use Rattle.std.proofs.Common.{length-append}
-use Rattle.afdx_config.proofs.Names.{◌≡◌, ℕ, ◌+◌, ◌-◌, ◌<◌, ◌≤◌, List, [], ◌∷◌, ◌++◌, length, take, Bool, true, false, ◌||◌, ◌&&◌, cond, append_assoc, count_by, eqb-true, eq-eqb, or-true, nat_eq, nat_le, lit≤, Option, Some, None, refl, ap, sym, ◌∙◌, arith, ◌==◌, and_parts, nat_tests, or-false, and-true, and-false, and-or_distrib_left, nat_lt, list_any-append, position, position_from, list_any, then_some, position_from-zero, AllByRecursion, not, Data, Members, get_member, fault_number, has_pair, ConfigFault, Toml, UnknownKey, Place, Top, Link, Port, Field, flat_map, PlanRule, Rule, links_clash, ports_clash, port_misfits, link_count, port_count, sub_is_packed, breaks, sides, is_misfit, plan_rules, rules, rule_findings, shows, tells, values_show, Finding, found, has, one_if, key_finding, member_keys, each_row, pair_finding, pair_findings, is_past_limit, misfit_finding, crowd_finding, Cells, cells_show, both, on_sub_of, is_packed, PortRow, field_fault, key_fault, is_key_of, fault_in, fault_under, IfSome, FaultsAreFound}
+use Rattle.afdx_config.proofs.Names.{◌≡◌, ℕ, ◌+◌, ◌-◌, ◌<◌, ◌≤◌, List, [], ◌∷◌, ◌++◌, length, take, Bool, true, false, ◌||◌, ◌&&◌, cond, append_assoc, count_by, eqb-true, eq-eqb, or-true, nat_eq, nat_le, lit≤, Option, Some, None, refl, ap, sym, ◌∙◌, arith, ◌==◌, and_parts, nat_tests, or-false, and-true, and-false, and-or_distrib_left, nat_lt, list_any-append, position, position_from, list_any, then_some, position_from-zero, AllByRecursion, not, Data, Members, get_member, fault_number, has_pair, ConfigFault, Toml, UnknownKey, Place, Top, Link, Port, Field, flat_map, PlanRule, Rule, links_clash, ports_clash, port_misfits, link_count, port_count, sub_is_packed, breaks, is_misfit, plan_rules, rules, rule_findings, shows, tells, values_show, Finding, found, has, one_if, key_finding, member_keys, each_row, pair_finding, pair_findings, is_past_limit, misfit_finding, crowd_finding, Cells, cells_show, both, on_sub_of, is_packed, PortRow, field_fault, key_fault, is_key_of, IfSome, Content, Result, content_fault, FaultsAreFound}
+use Rattle.std.specs.Result.{result_err}
+use Rattle.afdx_config.specs.Tables.{read}
 use Rattle.afdx_config.specs.Findings.{plan_findings, table_findings, value_findings}
 use Rattle.afdx_config.proofs.AddLemmas.{each_row-map}
 use Rattle.afdx_config.proofs.OrderLemmas.{any_by_fault, r_append, r_map}
@@ -100,7 +102,7 @@ same_known a b is = grind (arith, nat_tests, eqb-true)
 
 -- there are too many ports on the port's sub-VL
 abbrev packed : List PortRow → PortRow → Bool
-packed all = is_packed (λ (p : PortRow). p) all
+packed all = is_packed all
 
 -- a later port on the same sub-VL has as many ports
 packed_same : (all : List PortRow) (p : PortRow) (rest : List PortRow) → list_any (on_sub_of p) rest ≡ true
@@ -149,20 +151,20 @@ any_past all before (x ∷ xs) k is at = rw (any_past all (before ++ x ∷ []) x
 
 -- the findings of a rule
 rule_shown : (f g : ConfigFault) (key : List ℕ) (rule : Rule) (cells : Cells)
-    → list_any (has f) (rule_findings g key rule cells) ≡ (same f g && breaks (sides cells) rule)
+    → list_any (has f) (rule_findings g key rule cells) ≡ (same f g && breaks cells rule)
 rule_shown f g key (links_clash clash) cells = pairs_shown f g key Link clash cells.links
 rule_shown f g key (ports_clash clash) cells = pairs_shown f g key Port clash cells.ports
 rule_shown f g key (port_misfits misfit) cells = rows_shown f g (misfit_finding g key misfit cells) (λ k p. is_misfit misfit cells p) 1 cells.ports
     (λ k p. one f (is_misfit misfit cells p) _) ∙ ap (λ b. same f g && b) (any_one (is_misfit misfit cells) 1 cells.ports)
-rule_shown f g key link_count cells = one f (breaks (sides cells) link_count) (found g Top key None)
-rule_shown f g key port_count cells = one f (breaks (sides cells) port_count) (found g Top key None)
+rule_shown f g key link_count cells = one f (breaks cells link_count) (found g Top key None)
+rule_shown f g key port_count cells = one f (breaks cells port_count) (found g Top key None)
 rule_shown f g key sub_is_packed cells = rows_shown f g (crowd_finding g key cells.ports) (is_past_limit cells.ports) 1 cells.ports
     (λ k p. one f (is_past_limit cells.ports k p) (found g (Port k) key None))
     ∙ ap (λ b. same f g && b) (any_past cells.ports [] cells.ports 1 refl refl)
 
 rules_shown : (f : ConfigFault) (cells : Cells) (some : List PlanRule)
     → list_any (has f) (flat_map (λ (r : PlanRule). rule_findings r.fault r.key r.forbids cells) some)
-    ≡ list_any (λ (r : PlanRule). same f r.fault && breaks (sides cells) r.forbids) some
+    ≡ list_any (λ (r : PlanRule). same f r.fault && breaks cells r.forbids) some
 rules_shown f cells [] = refl
 rules_shown f cells (r ∷ rest) = grind (arith, nat_tests, list_any-append, rule_shown, (rules_shown f cells rest))
 
@@ -183,11 +185,13 @@ IsValue f = (1 < fault_number f) × (fault_number f < 7)
 one_in : (b : Bool) (fault : ConfigFault) → IsValue fault → IfSome (then_some b fault) IsValue
 one_in b fault is = grind (arith, nat_tests)
 
-read_in : {X : Type 0} (fault : ConfigFault) (refuses : X → Bool) (o : Option X) → IsValue fault → IfSome (fault_in fault refuses o) IsValue
-read_in fault refuses o is = grind (arith, nat_tests, one_in)
+read_in : {X Y : Type 0} (missing : Result Y ConfigFault) (kind : Data → Option X) (convert : X → Option Y) (fault : ConfigFault) (o : Option Data)
+    → IsValue fault → IfSome (result_err missing) IsValue → IfSome (result_err (read missing kind convert fault o)) IsValue
+read_in missing kind convert fault None is lack = lack
+read_in missing kind convert fault (Some v) is lack = grind (arith, nat_tests)
 
-under_in : (field : Field) (o : Option Data) → IfSome (fault_under field o) IsValue
-under_in field o = grind (arith, nat_tests, read_in, one_in)
+under_in : (content : Content) (o : Option Data) → IfSome (content_fault content o) IsValue
+under_in content o = grind (arith, nat_tests, read_in)
 
 key_in : (place : Place) (key : List ℕ) (o : Option ConfigFault) → IfSome o IsValue → AllByRecursion (λ x. IsValue x.fault) (key_finding place key o)
 key_in place key o is = grind (arith, nat_tests)
@@ -196,7 +200,7 @@ table_in : (place : Place) (fields : List Field) (members : Members) → AllByRe
 unfolding table_findings
 table_in place fields members = r_append (λ x. IsValue x.fault) _ _
     (r_each _ (λ field. key_finding place field.key (field_fault members field)) fields
-    (λ field. key_in place field.key _ (under_in field (get_member field.key members))))
+    (λ field. key_in place field.key _ (under_in field.content (get_member field.key members))))
     (r_each _ (λ key. key_finding place key (key_fault fields key)) (member_keys members)
     (λ key. key_in place key _ (one_in (not (is_key_of fields key)) UnknownKey (lit≤ tt, lit≤ tt))))
 

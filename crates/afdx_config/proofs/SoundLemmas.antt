@@ -1,11 +1,9 @@
--- A document whose values have no fault has tables without faults.
-use Rattle.afdx_config.proofs.Names.{◌≡◌, ◌+◌, codes, Bool, false, List, [], ◌∷◌, ◌++◌, map, Option, None, ℕ, refl, AllByRecursion, recursion_from_All, flat_map, option_map_or, Members, table_view, ConfigFault, Field, fields_in, link_of, port_of, plan_of, field_fault, IsDocument, IsSoundTable, Document, data_of, map-map, LinkPlan, PortPlan, Place, key_finding, each_row}
-use Rattle.afdx_config.specs.Format.{id_range}
-use Rattle.afdx_config.specs.Tables.{number_in}
+-- A document whose values have no fault has rows with all values.
+use Rattle.afdx_config.proofs.Names.{◌≡◌, ◌+◌, Bool, true, false, cond, List, [], ◌∷◌, ◌++◌, Option, Some, None, ℕ, refl, sym, ◌∙◌, AllByRecursion, flat_map, unwrap_or, Result, Ok, Err, Members, ConfigFault, Field, field_fault, IsSoundTable, Place, key_finding, each_row}
+use Rattle.afdx_config.specs.Format.{only_in_2}
 use Rattle.afdx_config.specs.Findings.{table_findings}
-use Rattle.afdx_config.proofs.SectionLemmas.{option_maps}
+use Rattle.std.specs.Result.{result_ok, result_err}
 use Rattle.std.proofs.Common.{arith}
-use Rattle.std.proofs.lemmas.Grind.{common_steps}
 use Rattle.std.proofs.lemmas.Bool.Decides.{nat_tests}
 
 -- two lists are empty if their concatenation is
@@ -29,21 +27,20 @@ pub table_sound : (place : Place) (fields : List Field) (members : Members) → 
 unfolding table_findings
 table_sound place fields members is = fields_sound place fields members (none _ _ is).0
 
--- a table that is sound in its version is sound in version 1
-both_sound : (is_2 : Bool) (fields : List Field) (members : Members) → IsSoundTable (fields_in is_2 fields) members
-    → IsSoundTable (fields_in false fields) members
-both_sound is_2 fields members is = grind (arith, nat_tests, common_steps, recursion_from_All)
-
 -- the tables of an array are sound
-pub rows_sound : (is_2 : Bool) (like : ℕ → Place) (fields : List Field) (k : ℕ) (rows : List Members)
-    → each_row (λ k m. table_findings (like k) (fields_in is_2 fields) m) k rows ≡ [] → AllByRecursion (IsSoundTable (fields_in false fields)) rows
-rows_sound is_2 like fields k [] is = tt
-rows_sound is_2 like fields k (x ∷ xs) is = let (one, rest) = none _ _ is in
-    (both_sound is_2 fields x (table_sound (like k) (fields_in is_2 fields) x one), rows_sound is_2 like fields (k + 1) xs rest)
+pub rows_sound : (like : ℕ → Place) (fields : List Field) (k : ℕ) (rows : List Members)
+    → each_row (λ k m. table_findings (like k) fields m) k rows ≡ [] → AllByRecursion (IsSoundTable fields) rows
+rows_sound like fields k [] is = tt
+rows_sound like fields k (x ∷ xs) is = let (one, rest) = none _ _ is in
+    (table_sound (like k) fields x one, rows_sound like fields (k + 1) xs rest)
 
--- the plan of the parts is that of the document
-pub plan_parts : (s : Document) (e : ℕ) (ls : List LinkPlan) (ps : List PortPlan) → IsDocument s
-    → e ≡ option_map_or (λ t. number_in (codes "id") id_range (table_view t.now)) s.end 0
-    → ls ≡ map (λ t. link_of (table_view t.now)) s.links.items
-    → ps ≡ map (λ t. port_of (table_view t.now)) s.ports.items → record { end_system = e; links = ls; ports = ps } ≡ plan_of (data_of s)
-plan_parts s e ls ps are he hl hp = grind (arith, nat_tests, id_range, map-map, number_in, option_maps)
+-- a value without a fault is there
+pub known : {Y : Type 0} (r : Result Y ConfigFault) (d : Y) → result_err r ≡ None → result_ok r ≡ Some (unwrap_or (result_ok r) d)
+known (Ok y) d is = refl
+known (Err fault) d is = cc
+
+-- so is one that version 1 lacks
+pub known_in : {Y : Type 0} (is_2 : Bool) (key : Field) (m : Members) (r : Result Y ConfigFault) (d : Y) → field_fault m key ≡ result_err r
+    → IsSoundTable (only_in_2 is_2 key) m → cond is_2 (result_ok r) (Some d) ≡ Some (unwrap_or (cond is_2 (result_ok r) (Some d)) d)
+known_in true key m r d same is = known r d (sym same ∙ is.0)
+known_in false key m r d same is = refl

@@ -1,86 +1,85 @@
--- The values of links and ports that have no fault, and the faults of 7 to 14 in them.
-use Rattle.std.specs.Prelude.{codes, ℕ, List, map, Bool, is_none, Option, Some, None, option_and_then, unwrap_or, ◌&&◌, not, find}
+-- The values of links and ports that have no fault, and the plan of a document.
+use Rattle.std.specs.Prelude.{codes, ℕ, map, Bool, is_none, Some, None, option_and_then, unwrap_or, if◌then◌else◌}
 use Rattle.toml.specs.Data.{Members}
-use Rattle.afdx_plan.specs.declared.fault.ConfigFault.{ConfigFault}
+use Rattle.afdx_plan.specs.declared.link_plan.Bag.TheVariants.{Ms1}
+use Rattle.afdx_plan.specs.declared.link_plan.LinkPlan.{LinkPlan}
+use Rattle.afdx_plan.specs.declared.link_plan.Networks.TheVariants.{Both}
 use Rattle.afdx_plan.specs.declared.port_plan.Kind.TheVariants.{Sampling}
-use Rattle.afdx_config.specs.declared.format.Content.TheVariants.{Whole, PortKind, Address, Rows}
-use Rattle.afdx_config.specs.Format.{needed, optional, id_range, lmax_range, max_range, partition_range, sub_range, subs_range, udp_range}
+use Rattle.afdx_plan.specs.declared.port_plan.PortPlan.{PortPlan}
+use Rattle.afdx_plan.specs.declared.port_plan.UdpSum.TheVariants.{Omitted}
+use Rattle.afdx_plan.specs.Config.{Plan, plan_of_parts}
+use Rattle.afdx_plan.specs.PlanFaults.{Cells}
+use Rattle.afdx_config.specs.declared.format.Content.TheVariants.{Rows}
+use Rattle.afdx_config.specs.Format.{field, capacity_range, id_range, lmax_range, max_range, partition_range, sub_range, subs_range, udp_range}
 use Rattle.afdx_plan.specs.declared.rows.LinkRow.{LinkRow}
 use Rattle.afdx_plan.specs.declared.rows.PortRow.{PortRow}
-use Rattle.afdx_config.specs.Tables.{text_at, number_in, field_fault, rows_at}
-use Rattle.afdx_config.specs.Values.{kind_of, address_of}
-use Rattle.std.specs.List.{list_any}
-use Rattle.afdx_plan.specs.PlanFaults.{Parts, is_row_of, misfits, parts_show}
-use Rattle.afdx_plan.specs.declared.rows.Misfit.{Misfit}
+use Rattle.afdx_config.specs.Tables.{value_at, number_under, gap_under, networks_under, kind_under, address_under, checksum_under, field_fault, is_version_2, rows_at, section_at}
 
--- a value, if its key has no fault
-abbrev pub if_sound : {X : Type 0} → Option ConfigFault → X → Option X
-if_sound None value = Some value
-if_sound (Some fault) value = None
-
--- the number under a key, if the key has no fault
-abbrev pub sound_number : List ℕ → ℕ × ℕ → Members → Option ℕ
-sound_number key range members = if_sound (field_fault members (needed key (Whole range))) (number_in key range members)
-
--- the link of a table
-unfoldable pub link_row : Members → LinkRow
-link_row members = record {
-  id = sound_number (codes "id") id_range members;
-  lmax = sound_number (codes "lmax") lmax_range members;
-  sub_vls = sound_number (codes "sub_vls") subs_range members;
+-- the link of a table in version 2 or 1 of the format
+unfoldable pub link_row : Bool → Members → LinkRow
+link_row is_2 members = record {
+  id = value_at (number_under id_range) (codes "id") members;
+  bag = value_at gap_under (codes "bag_ms") members;
+  lmax = value_at (number_under lmax_range) (codes "lmax") members;
+  sub_vls = value_at (number_under subs_range) (codes "sub_vls") members;
+  capacity = value_at (number_under capacity_range) (codes "capacity") members;
+  networks = if is_2 then value_at networks_under (codes "networks") members else Some Both;
 }
 
 -- the port of a table
-unfoldable pub port_row : Members → PortRow
-port_row members = record {
-  id = sound_number (codes "id") id_range members;
-  vl = sound_number (codes "vl") id_range members;
-  sub = sound_number (codes "sub") sub_range members;
-  partition = sound_number (codes "partition") partition_range members;
-  kind = if_sound (field_fault members (needed (codes "kind") PortKind))
-      (unwrap_or (option_and_then kind_of (text_at (codes "kind") members)) Sampling);
-  source = sound_number (codes "source") udp_range members;
-  destination = sound_number (codes "destination") udp_range members;
-  max = sound_number (codes "max") max_range members;
-  unicast = if_sound (field_fault members (optional (codes "dest_ip") Address))
-      (option_and_then address_of (text_at (codes "dest_ip") members));
+unfoldable pub port_row : Bool → Members → PortRow
+port_row is_2 members = record {
+  id = value_at (number_under id_range) (codes "id") members;
+  vl = value_at (number_under id_range) (codes "vl") members;
+  sub = value_at (number_under sub_range) (codes "sub") members;
+  partition = value_at (number_under partition_range) (codes "partition") members;
+  kind = value_at kind_under (codes "kind") members;
+  source = value_at (number_under udp_range) (codes "source") members;
+  destination = value_at (number_under udp_range) (codes "destination") members;
+  max = value_at (number_under max_range) (codes "max") members;
+  unicast = value_at address_under (codes "dest_ip") members;
+  checksum = if is_2 then value_at checksum_under (codes "checksum") members else Some Omitted;
 }
 
--- the links and ports of a document, and whether the keys of their arrays have no fault
-pub record Cells : Type 0 where
-  pub links : List LinkRow
-  pub ports : List PortRow
-  pub has_links : Bool
-  pub has_ports : Bool
-
+-- the values of a document
 abbrev pub cells_of : Members → Cells
 cells_of document = record {
-  links = map link_row (rows_at (codes "vl") document);
-  ports = map port_row (rows_at (codes "port") document);
-  has_links = is_none (field_fault document (needed (codes "vl") Rows));
-  has_ports = is_none (field_fault document (needed (codes "port") Rows));
+  links = map (link_row (is_version_2 document)) (rows_at (codes "vl") document);
+  ports = map (port_row (is_version_2 document)) (rows_at (codes "port") document);
+  has_links = is_none (field_fault document (field (codes "vl") Rows));
+  has_ports = is_none (field_fault document (field (codes "port") Rows));
 }
 
--- the array of links and their identifiers have no fault
-abbrev pub all_named : Cells → Bool
-all_named cells = cells.has_links && not (list_any (λ (link : LinkRow). is_none link.id) cells.links)
-
--- the port does not fit its link in this way
-abbrev pub is_misfit : Misfit → Cells → PortRow → Bool
-is_misfit misfit cells port = misfits (λ link. link) (all_named cells) (find (is_row_of port) cells.links) misfit port
-
--- links and ports, which the rules of plans look at
-abbrev pub sides : Cells → Parts LinkRow PortRow
-sides cells = record {
-  links = cells.links;
-  ports = cells.ports;
-  of_link = λ link. link;
-  of_port = λ port. port;
-  named = all_named cells;
-  has_links = cells.has_links;
-  has_ports = cells.has_ports;
+-- the link and the port with these values, with the least one in place of a value with a fault
+abbrev pub link_of : LinkRow → LinkPlan
+link_of row = record {
+  id = record { 0 = unwrap_or row.id 0 };
+  bag = unwrap_or row.bag Ms1;
+  lmax = unwrap_or row.lmax 64;
+  sub_vls = unwrap_or row.sub_vls 1;
+  capacity = unwrap_or row.capacity 1;
+  networks = unwrap_or row.networks Both;
 }
 
--- links and ports have a fault of 7 to 14
-abbrev pub cells_show : ConfigFault → Cells → Bool
-cells_show fault cells = parts_show (sides cells) fault
+abbrev pub port_of : PortRow → PortPlan
+port_of row = record {
+  id = record { 0 = unwrap_or row.id 0 };
+  vl = record { 0 = unwrap_or row.vl 0 };
+  sub = unwrap_or row.sub 0;
+  partition = unwrap_or row.partition 0;
+  kind = unwrap_or row.kind Sampling;
+  source = unwrap_or row.source 1;
+  destination = unwrap_or row.destination 1;
+  max = unwrap_or row.max 1;
+  unicast = unwrap_or row.unicast None;
+  checksum = unwrap_or row.checksum Omitted;
+}
+
+-- the identifier of the end system, or 0 if it has a fault
+abbrev pub end_system_of : Members → ℕ
+end_system_of document =
+    unwrap_or (option_and_then (value_at (number_under id_range) (codes "id")) (section_at (codes "end_system") document)) 0
+
+-- the plan of a document: its links and ports in the order of the text
+abbrev pub plan_of : Members → Plan
+plan_of document = plan_of_parts (end_system_of document) (map link_of (cells_of document).links) (map port_of (cells_of document).ports)

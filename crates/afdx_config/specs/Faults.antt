@@ -4,9 +4,8 @@ use Rattle.std.specs.List.{list_any}
 use Rattle.toml.specs.Data.{Members}
 use Rattle.toml.specs.Parse.{parse_document}
 use Rattle.afdx_plan.specs.Config.{Plan}
-use Rattle.afdx_config.specs.PlanOf.{plan_of}
-use Rattle.afdx_plan.specs.PlanFaults.{fault_number}
-use Rattle.afdx_config.specs.Cells.{cells_of, cells_show}
+use Rattle.afdx_plan.specs.PlanFaults.{cells_show, fault_number}
+use Rattle.afdx_config.specs.Cells.{cells_of, plan_of}
 use Rattle.afdx_config.specs.Findings.{has, value_findings}
 use Rattle.afdx_plan.specs.declared.fault.ConfigFault.{ConfigFault}
 use Rattle.afdx_plan.specs.declared.fault.ConfigFault.TheVariants.{Toml}

@@ -3,17 +3,16 @@ use Rattle.std.specs.Prelude.{◌≡◌, ◌∷◌, [], ◌-◌, ℕ, List, code
 use Rattle.std.specs.List.{list_any}
 use Rattle.std.specs.Option.{option_map_or}
 use Rattle.toml.specs.Data.{Members}
-use Rattle.afdx_plan.specs.PlanFaults.{plan_shows, PlanRule, Rule, links_clash, ports_clash, port_misfits, link_count, port_count, sub_is_packed, breaks, plan_rules}
+use Rattle.afdx_plan.specs.PlanFaults.{plan_shows, PlanRule, Rule, links_clash, ports_clash, port_misfits, link_count, port_count, sub_is_packed, breaks, plan_rules, Cells, is_misfit}
 use Rattle.afdx_plan.specs.declared.fault.ConfigFault.{ConfigFault}
 use Rattle.afdx_plan.specs.declared.fault.ConfigFault.TheVariants.{UnknownKey}
-use Rattle.afdx_config.specs.Cells.{Cells, cells_of, is_misfit, sides}
+use Rattle.afdx_config.specs.Cells.{cells_of, plan_of}
 use Rattle.afdx_config.specs.declared.findings.Place.{Place}
 use Rattle.afdx_config.specs.declared.findings.Place.TheVariants.{Text, Top, EndSystem, Link, Port}
 use Rattle.afdx_config.specs.Faults.{shows, values_show, Reads, IsLeastFault, IsPlanOf}
 use Rattle.afdx_config.specs.Findings.{Finding, findings, has, is_past_limit}
 use Rattle.afdx_config.specs.Tables.{member_keys, field_fault, is_fault, is_key_of, is_version_2, rows_at, section_at}
-use Rattle.afdx_config.specs.PlanOf.{plan_of}
-use Rattle.afdx_config.specs.Format.{Field, document_fields, end_fields, link_fields, port_fields, fields_in}
+use Rattle.afdx_config.specs.Format.{Field, document_fields, end_fields, link_fields, port_fields}
 
 -- a document has a fault exactly if some finding has it
 abbrev pub FaultsAreFound : Type 0
@@ -45,8 +44,8 @@ abbrev pub fields_at : Members → Place → List Field
 fields_at document (Text line column) = []
 fields_at document Top = document_fields
 fields_at document EndSystem = end_fields
-fields_at document (Link k) = fields_in (is_version_2 document) link_fields
-fields_at document (Port k) = fields_in (is_version_2 document) port_fields
+fields_at document (Link k) = link_fields (is_version_2 document)
+fields_at document (Port k) = port_fields (is_version_2 document)
 
 -- the table at a place exists and passes a test
 abbrev pub table_has : (Members → Bool) → Members → Place → Bool
@@ -77,8 +76,8 @@ abbrev pub breaks_at : Rule → Cells → Place → Option ℕ → Bool
 breaks_at (links_clash clash) cells (Link k) other = rows_have clash cells.links k other
 breaks_at (ports_clash clash) cells (Port k) other = rows_have clash cells.ports k other
 breaks_at (port_misfits misfit) cells (Port k) other = row_has (is_misfit misfit cells) cells.ports k
-breaks_at link_count cells Top other = breaks (sides cells) link_count
-breaks_at port_count cells Top other = breaks (sides cells) port_count
+breaks_at link_count cells Top other = breaks cells link_count
+breaks_at port_count cells Top other = breaks cells port_count
 breaks_at sub_is_packed cells (Port k) other = row_has (is_past_limit cells.ports k) cells.ports k
 breaks_at _ cells _ other = false
 

@@ -3,14 +3,14 @@ use Rattle.std.specs.Prelude.{codes, ℕ, ◌+◌, ◌-◌, List, [], ◌∷◌,
 use Rattle.std.specs.List.{position, flat_map, fold}
 use Rattle.std.specs.Option.{option_map_or}
 use Rattle.toml.specs.Data.{Members}
-use Rattle.afdx_plan.specs.PlanFaults.{fault_number, is_row_of, on_sub_of, PlanRule, Rule, links_clash, ports_clash, port_misfits, link_count, port_count, sub_is_packed, breaks, plan_rules}
+use Rattle.afdx_plan.specs.PlanFaults.{fault_number, is_row_of, on_sub_of, PlanRule, Rule, links_clash, ports_clash, port_misfits, link_count, port_count, sub_is_packed, breaks, plan_rules, Cells, is_misfit}
 use Rattle.afdx_plan.specs.declared.fault.ConfigFault.{ConfigFault}
 use Rattle.afdx_plan.specs.declared.rows.Misfit.{Misfit}
 use Rattle.afdx_plan.specs.declared.rows.PortRow.{PortRow}
 use Rattle.afdx_config.specs.declared.findings.Place.{Place}
 use Rattle.afdx_config.specs.declared.findings.Place.TheVariants.{Top, EndSystem, Link, Port}
-use Rattle.afdx_config.specs.Format.{Field, document_fields, end_fields, link_fields, port_fields, fields_in}
-use Rattle.afdx_config.specs.Cells.{Cells, cells_of, is_misfit, sides}
+use Rattle.afdx_config.specs.Format.{Field, document_fields, end_fields, link_fields, port_fields}
+use Rattle.afdx_config.specs.Cells.{cells_of}
 use Rattle.afdx_config.specs.Tables.{member_keys, field_fault, key_fault, rows_at, section_at, is_version_2}
 
 -- a fault, its place, its key, and the other table of a fault of two
@@ -38,11 +38,17 @@ abbrev pub key_finding : Place → List ℕ → Option ConfigFault → List Find
 key_finding place key None = []
 key_finding place key (Some fault) = found fault place key None ∷ []
 
+-- the findings of the keys of a table's format
+abbrev pub field_findings : Place → List Field → Members → List Finding
+field_findings place fields members = flat_map (λ field. key_finding place field.key (field_fault members field)) fields
+
+-- the findings of a table's own keys
+abbrev pub key_findings : Place → List Field → Members → List Finding
+key_findings place fields members = flat_map (λ key. key_finding place key (key_fault fields key)) (member_keys members)
+
 -- the findings of a table: those of the keys of its format, then those of its own keys
 unfoldable pub table_findings : Place → List Field → Members → List Finding
-table_findings place fields members =
-    flat_map (λ field. key_finding place field.key (field_fault members field)) fields
-    ++ flat_map (λ key. key_finding place key (key_fault fields key)) (member_keys members)
+table_findings place fields members = field_findings place fields members ++ key_findings place fields members
 
 -- the findings of the rows of an array, counted from k
 abbrev pub each_row : {A : Type 0} → (ℕ → A → List Finding) → ℕ → List A → List Finding
@@ -59,10 +65,10 @@ unfoldable pub value_findings : Members → List Finding
 value_findings document = table_findings Top document_fields document
     ++ option_map_or (table_findings EndSystem end_fields) (section_at (codes "end_system") document) []
     ++ each_row
-    (λ k row. table_findings (Link k) (fields_in (is_version_2 document) link_fields) row) 1
+    (λ k row. table_findings (Link k) (link_fields (is_version_2 document)) row) 1
     (rows_at (codes "vl") document)
     ++ each_row
-    (λ k row. table_findings (Port k) (fields_in (is_version_2 document) port_fields) row) 1
+    (λ k row. table_findings (Port k) (port_fields (is_version_2 document)) row) 1
     (rows_at (codes "port") document)
 
 -- the fault of table k and of the first one that it clashes with, which is at this index, if that one is earlier
@@ -93,8 +99,8 @@ abbrev pub rule_findings : ConfigFault → List ℕ → Rule → Cells → List 
 rule_findings fault key (links_clash clash) cells = pair_findings fault key Link clash cells.links
 rule_findings fault key (ports_clash clash) cells = pair_findings fault key Port clash cells.ports
 rule_findings fault key (port_misfits misfit) cells = each_row (misfit_finding fault key misfit cells) 1 cells.ports
-rule_findings fault key link_count cells = one_if (breaks (sides cells) link_count) (found fault Top key None)
-rule_findings fault key port_count cells = one_if (breaks (sides cells) port_count) (found fault Top key None)
+rule_findings fault key link_count cells = one_if (breaks cells link_count) (found fault Top key None)
+rule_findings fault key port_count cells = one_if (breaks cells port_count) (found fault Top key None)
 rule_findings fault key sub_is_packed cells = each_row (crowd_finding fault key cells.ports) 1 cells.ports
 
 -- the findings of 7 to 14

@@ -1,21 +1,15 @@
 -- The format of a configuration: the keys of its tables and their values.
-use Rattle.std.specs.Prelude.{codes, ℕ, ◌-◌, List, [], ◌∷◌, length, take, Bool, true, false}
+use Rattle.std.specs.Prelude.{codes, ℕ, List, [], ◌∷◌, Bool, true, false}
 use Rattle.afdx_config.specs.declared.format.Content.{Content}
-use Rattle.afdx_config.specs.declared.format.Content.TheVariants.{Whole, Gap, Networks, PortKind, Address, Checksum, Section, Rows}
+use Rattle.afdx_config.specs.declared.format.Content.TheVariants.{Whole, Version, Gap, Networks, PortKind, Address, Checksum, Section, Rows}
 
--- a key of a table, whether it is required, and its value
+-- a key of a table and its value
 pub record Field : Type 0 where
   pub key : List ℕ
-  pub is_needed : Bool
   pub content : Content
 
--- a required key
-abbrev pub needed : List ℕ → Content → Field
-needed name what = record { key = name; is_needed = true; content = what }
-
--- an optional key
-abbrev pub optional : List ℕ → Content → Field
-optional name what = record { key = name; is_needed = false; content = what }
+abbrev pub field : List ℕ → Content → Field
+field name what = record { key = name; content = what }
 
 -- the ranges of numbers: of identifiers
 abbrev pub id_range : ℕ × ℕ
@@ -49,43 +43,45 @@ udp_range = (1, 65535)
 abbrev pub max_range : ℕ × ℕ
 max_range = (1, 8192)
 
+-- the version of the format
+abbrev pub version_range : ℕ × ℕ
+version_range = (1, 2)
+
 -- the top level of the text
 abbrev pub document_fields : List Field
-document_fields = optional (codes "version") (Whole (1, 2))
-    ∷ needed (codes "end_system") Section
-    ∷ needed (codes "vl") Rows
-    ∷ needed (codes "port") Rows
+document_fields = field (codes "version") Version
+    ∷ field (codes "end_system") Section
+    ∷ field (codes "vl") Rows
+    ∷ field (codes "port") Rows
     ∷ []
 
 -- the table of the end system
 abbrev pub end_fields : List Field
-end_fields = needed (codes "id") (Whole id_range) ∷ []
+end_fields = field (codes "id") (Whole id_range) ∷ []
 
--- the table of a link in version 2; version 1 lacks the last key
-abbrev pub link_fields : List Field
-link_fields = needed (codes "id") (Whole id_range)
-    ∷ needed (codes "bag_ms") Gap
-    ∷ needed (codes "lmax") (Whole lmax_range)
-    ∷ needed (codes "sub_vls") (Whole subs_range)
-    ∷ needed (codes "capacity") (Whole capacity_range)
-    ∷ optional (codes "networks") Networks
-    ∷ []
+-- a key of version 2 that version 1 lacks
+abbrev pub only_in_2 : Bool → Field → List Field
+only_in_2 true newer = newer ∷ []
+only_in_2 false newer = []
 
--- the table of a port in version 2; version 1 lacks the last key
-abbrev pub port_fields : List Field
-port_fields = needed (codes "id") (Whole id_range)
-    ∷ needed (codes "vl") (Whole id_range)
-    ∷ needed (codes "sub") (Whole sub_range)
-    ∷ needed (codes "partition") (Whole partition_range)
-    ∷ needed (codes "kind") PortKind
-    ∷ needed (codes "source") (Whole udp_range)
-    ∷ needed (codes "destination") (Whole udp_range)
-    ∷ needed (codes "max") (Whole max_range)
-    ∷ optional (codes "dest_ip") Address
-    ∷ optional (codes "checksum") Checksum
-    ∷ []
+-- the table of a link
+abbrev pub link_fields : Bool → List Field
+link_fields is_2 = field (codes "id") (Whole id_range)
+    ∷ field (codes "bag_ms") Gap
+    ∷ field (codes "lmax") (Whole lmax_range)
+    ∷ field (codes "sub_vls") (Whole subs_range)
+    ∷ field (codes "capacity") (Whole capacity_range)
+    ∷ only_in_2 is_2 (field (codes "networks") Networks)
 
--- the keys of such a table in version 2, and in version 1
-abbrev pub fields_in : Bool → List Field → List Field
-fields_in true fields = fields
-fields_in false fields = take (length fields - 1) fields
+-- the table of a port
+abbrev pub port_fields : Bool → List Field
+port_fields is_2 = field (codes "id") (Whole id_range)
+    ∷ field (codes "vl") (Whole id_range)
+    ∷ field (codes "sub") (Whole sub_range)
+    ∷ field (codes "partition") (Whole partition_range)
+    ∷ field (codes "kind") PortKind
+    ∷ field (codes "source") (Whole udp_range)
+    ∷ field (codes "destination") (Whole udp_range)
+    ∷ field (codes "max") (Whole max_range)
+    ∷ field (codes "dest_ip") Address
+    ∷ only_in_2 is_2 (field (codes "checksum") Checksum)

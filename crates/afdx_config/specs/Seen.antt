@@ -1,20 +1,21 @@
 -- The specification values of documents, formats and findings in the code.
-use Rattle.std.specs.Prelude.{◌≡◌, ◌≤◌, ◌++◌, ⊤, List, [], ◌∷◌, length, map, take, string_bytes, Option, Some, None, codes, option_map}
+use Rattle.std.specs.Prelude.{◌≡◌, ◌≤◌, ◌++◌, ⊤, List, [], ◌∷◌, length, map, take, string_bytes, Option, Some, None, codes, option_map, All}
 use Rattle.std.specs.List.{AllByRecursion}
 use Rattle.afdx_plan.specs.declared.fault.ConfigFault.{ConfigFault}
-use Rattle.afdx_config.specs.Cells.{Cells}
+use Rattle.afdx_plan.specs.PlanFaults.{Cells}
+use Rattle.afdx_plan.specs.Plan.{IsLink, IsPort}
+use Rattle.afdx_plan.specs.Config.{Plan, plan_of_parts}
+use Rattle.afdx_config.specs.Cells.{link_of, port_of}
 use Rattle.afdx_config.specs.Findings.{Finding, by_fault, lines_limit, number_of}
 use Rattle.afdx_config.specs.declared.rows.Rows.{Rows}
 use Rattle.afdx_config.specs.declared.findings.Finding.{Finding as Written}
 use Rattle.afdx_config.specs.declared.findings.Found.{Found}
 use Rattle.toml.specs.Data.{Members}
 use Rattle.toml.specs.View.{table_view}
-use Rattle.afdx_plan.specs.Config.{Plan, plan_of_parts}
 use Rattle.afdx_config.specs.Format.{Field}
 use Rattle.afdx_config.specs.Tables.{field_fault, section_at, rows_at}
 use Rattle.afdx_config.specs.declared.format.Field.{Field as WrittenField}
 use Rattle.afdx_config.specs.declared.document.Document.{Document}
-use Rattle.afdx_config.specs.declared.parts.Parts.{Parts}
 
 -- the finding
 abbrev pub finding_of : Written → Finding
@@ -30,7 +31,7 @@ abbrev pub fault_of : List Finding → Option ConfigFault
 fault_of [] = None
 fault_of (x ∷ xs) = Some x.fault
 
--- the links and ports
+-- the values
 abbrev pub cells_in : Rows → Cells
 cells_in rows = record {
   links = rows.links.items;
@@ -38,6 +39,15 @@ cells_in rows = record {
   has_links = rows.has_links;
   has_ports = rows.has_ports;
 }
+
+-- the plan of the values
+abbrev pub plan_in : Rows → Plan
+plan_in rows = plan_of_parts rows.end_system (map link_of rows.links.items) (map port_of rows.ports.items)
+
+-- the numbers and addresses are in their ranges
+pub record AreInRange (rows : Rows) : Type 0 where
+  pub links : All (λ row. IsLink (link_of row)) rows.links.items
+  pub ports : All (λ row. IsPort (port_of row)) rows.ports.items
 
 -- no fault has a greater number than one after it
 abbrev pub IsOrdered : List Finding → Type 0
@@ -57,8 +67,7 @@ Adds old new more = (all : List Finding) → Holds old all → Holds new (all ++
 abbrev pub field_of : WrittenField → Field
 field_of written = record {
   key = written.0.now;
-  is_needed = written.1;
-  content = written.2;
+  content = written.1;
 }
 
 -- the data of a document
@@ -74,7 +83,3 @@ pub record IsDocument (document : Document) : Type 0 where
 -- no key of this format has a fault in the table
 abbrev pub IsSoundTable : List Field → Members → Type 0
 IsSoundTable fields members = AllByRecursion (λ field. field_fault members field ≡ None) fields
-
--- the plan of parts that are not yet checked against each other
-abbrev pub plan_in : Parts → Plan
-plan_in parts = plan_of_parts parts.end_system parts.links.items parts.ports.items

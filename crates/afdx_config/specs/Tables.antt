@@ -1,5 +1,5 @@
 -- The tables of a document, values of them by key, and the faults of these.
-use Rattle.std.specs.Prelude.{ℕ, ℤ, pos, negsuc, nat_lt, List, [], ◌∷◌, Bool, true, ◌||◌, if◌then◌else◌, Option, option_and_then, codes, false, not, ◌==◌, is_none, bytes_eq, Some, None}
+use Rattle.std.specs.Prelude.{ℕ, ℤ, pos, negsuc, nat_lt, List, [], ◌∷◌, Bool, ◌||◌, if◌then◌else◌, Option, option_and_then, codes, false, not, ◌==◌, is_none, bytes_eq, Some, None, Result, Ok, Err, ok_or}
 use Rattle.std.specs.List.{cons_option, list_any}
 use Rattle.std.specs.Option.{option_map_or}
 use Rattle.toml.specs.Data.{Items, no_items, item, Members, no_members, member, get_member, as_integer, as_str, as_table, Data, as_array}
@@ -8,39 +8,58 @@ use Rattle.afdx_plan.specs.PlanFaults.{fault_number}
 use Rattle.afdx_plan.specs.declared.fault.ConfigFault.{ConfigFault}
 use Rattle.afdx_plan.specs.declared.fault.ConfigFault.TheVariants.{MissingKey, UnknownKey, WrongKind, OutOfRange, BadBag}
 use Rattle.afdx_config.specs.declared.format.Content.{Content}
-use Rattle.afdx_config.specs.declared.format.Content.TheVariants.{Whole, Gap, Networks, PortKind, Address, Checksum, Section, Rows}
-use Rattle.afdx_config.specs.Values.{bag_of, networks_of, kind_of, address_of, checksum_of}
+use Rattle.afdx_config.specs.declared.format.Content.TheVariants.{Whole, Version, Gap, Networks, PortKind, Address, Checksum, Section, Rows}
+use Rattle.afdx_config.specs.Values.{bag_of, networks_of, kind_of, unicast_of, checksum_of}
 use Rattle.afdx_config.specs.Format.{Field}
+use Rattle.std.specs.Result.{result_ok, result_err}
+use Rattle.afdx_plan.specs.declared.link_plan.Bag.{Bag}
+use Rattle.afdx_plan.specs.declared.link_plan.Networks.{Networks as Nets}
+use Rattle.afdx_plan.specs.declared.link_plan.Networks.TheVariants.{Both}
+use Rattle.afdx_plan.specs.declared.port_plan.Kind.{Kind}
+use Rattle.afdx_plan.specs.declared.port_plan.UdpSum.{UdpSum}
+use Rattle.afdx_plan.specs.declared.port_plan.UdpSum.TheVariants.{Omitted}
 
--- the whole number under the key
-abbrev pub whole_at : List ℕ → Members → Option ℤ
-whole_at key members = option_and_then as_integer (get_member key members)
+-- a number of a range
+abbrev pub in_range : ℕ × ℕ → ℤ → Option ℕ
+in_range range (pos n) = if nat_lt n range.0 || nat_lt range.1 n then None else Some n
+in_range range (negsuc n) = None
 
--- the text under the key
-abbrev pub text_at : List ℕ → Members → Option (List ℕ)
-text_at key members = option_and_then as_str (get_member key members)
+-- what is read of a value: `missing` if there is none, `WrongKind` if it is of another kind, `fault` if it can't be
+-- converted
+abbrev pub converted : {X Y : Type 0} → (X → Option Y) → ConfigFault → Option X → Result Y ConfigFault
+converted convert fault None = Err WrongKind
+converted convert fault (Some x) = ok_or (convert x) fault
 
--- a whole number is not in the range from `least` to `most`
-abbrev pub lies_outside : ℕ → ℕ → ℤ → Bool
-lies_outside least most (pos n) = nat_lt n least || nat_lt most n
-lies_outside least most (negsuc n) = true
+abbrev pub read : {X Y : Type 0} → Result Y ConfigFault → (Data → Option X) → (X → Option Y) → ConfigFault → Option Data
+    → Result Y ConfigFault
+read missing kind convert fault None = missing
+read missing kind convert fault (Some value) = converted convert fault (kind value)
 
--- a whole number, or 0 if it is negative
-abbrev pub natural : ℤ → ℕ
-natural (pos n) = n
-natural (negsuc n) = 0
+-- what is read under a key: a number, the version of the format, a BAG, networks, a kind of port, an address, a checksum
+abbrev pub number_under : ℕ × ℕ → Option Data → Result ℕ ConfigFault
+number_under range = read (Err MissingKey) as_integer (in_range range) OutOfRange
 
--- the number under a key, or 0
-abbrev pub number_at : List ℕ → Members → ℕ
-number_at key members = option_map_or natural (whole_at key members) 0
+abbrev pub version_under : Option Data → Result ℕ ConfigFault
+version_under = read (Ok 1) as_integer (in_range (1, 2)) OutOfRange
 
--- a number, or the nearest one of a range
-abbrev pub into_range : ℕ × ℕ → ℕ → ℕ
-into_range range n = if nat_lt n range.0 then range.0 else if nat_lt range.1 n then range.1 else n
+abbrev pub gap_under : Option Data → Result Bag ConfigFault
+gap_under = read (Err MissingKey) as_integer bag_of BadBag
 
--- the number under a key, or the nearest one of a range
-abbrev pub number_in : List ℕ → ℕ × ℕ → Members → ℕ
-number_in key range members = into_range range (number_at key members)
+abbrev pub networks_under : Option Data → Result Nets ConfigFault
+networks_under = read (Ok Both) as_str networks_of OutOfRange
+
+abbrev pub kind_under : Option Data → Result Kind ConfigFault
+kind_under = read (Err MissingKey) as_str kind_of OutOfRange
+
+abbrev pub address_under : Option Data → Result (Option (List ℕ)) ConfigFault
+address_under = read (Ok None) as_str unicast_of OutOfRange
+
+abbrev pub checksum_under : Option Data → Result UdpSum ConfigFault
+checksum_under = read (Ok Omitted) as_str checksum_of OutOfRange
+
+-- the value under a key, if it has no fault
+abbrev pub value_at : {Y : Type 0} → (Option Data → Result Y ConfigFault) → List ℕ → Members → Option Y
+value_at of key members = result_ok (of (get_member key members))
 
 -- the keys of a table
 abbrev pub member_keys : Members → List (List ℕ)
@@ -57,38 +76,25 @@ abbrev pub has_other_item : Items → Bool
 has_other_item no_items = false
 has_other_item (item d ds) = is_none (as_table d) || has_other_item ds
 
--- the fault of a value: `WrongKind` if nothing was read, else `fault` if the test refuses it
-abbrev pub fault_in : {X : Type 0} → ConfigFault → (X → Bool) → Option X → Option ConfigFault
-fault_in fault refuses None = Some WrongKind
-fault_in fault refuses (Some x) = then_some (refuses x) fault
+-- the fault of what is under a key
+abbrev pub content_fault : Content → Option Data → Option ConfigFault
+content_fault (Whole range) value = result_err (number_under range value)
+content_fault Version value = result_err (version_under value)
+content_fault Gap value = result_err (gap_under value)
+content_fault Networks value = result_err (networks_under value)
+content_fault PortKind value = result_err (kind_under value)
+content_fault Address value = result_err (address_under value)
+content_fault Checksum value = result_err (checksum_under value)
+content_fault Section value = result_err (read (Err MissingKey) as_table (λ t. Some t) WrongKind value)
+content_fault Rows value = result_err
+    (read (Err MissingKey) as_array (λ items. if has_other_item items then None else Some items) WrongKind value)
 
--- the fault of a value of this content
-abbrev pub content_fault : Content → Data → Option ConfigFault
-content_fault (Whole range) value = fault_in OutOfRange (lies_outside range.0 range.1) (as_integer value)
-content_fault Gap value = fault_in BadBag (λ z. is_none (bag_of z)) (as_integer value)
-content_fault Networks value = fault_in OutOfRange (λ t. is_none (networks_of t)) (as_str value)
-content_fault PortKind value = fault_in OutOfRange (λ t. is_none (kind_of t)) (as_str value)
-content_fault Address value = fault_in OutOfRange (λ t. is_none (address_of t)) (as_str value)
-content_fault Checksum value = fault_in OutOfRange (λ t. is_none (checksum_of t)) (as_str value)
-content_fault Section value = fault_in WrongKind (λ t. false) (as_table value)
-content_fault Rows value = fault_in WrongKind has_other_item (as_array value)
-
--- the fault under a key: a required value is missing, or the value has a fault
-abbrev pub fault_under : Field → Option Data → Option ConfigFault
-fault_under field None = then_some field.is_needed MissingKey
-fault_under field (Some value) = content_fault field.content value
-
--- the fault of a key of a table
 abbrev pub field_fault : Members → Field → Option ConfigFault
-field_fault members field = fault_under field (get_member field.key members)
+field_fault members field = content_fault field.content (get_member field.key members)
 
 -- the key is in the format
 abbrev pub is_key_of : List Field → List ℕ → Bool
 is_key_of fields key = list_any (λ field. bytes_eq key field.key) fields
-
--- a table has none of the keys of a format
-abbrev pub lacks_all : List Field → Members → Bool
-lacks_all fields members = not (list_any (is_key_of fields) (member_keys members))
 
 -- the fault of a key that a table has: it is not in the format
 abbrev pub key_fault : List Field → List ℕ → Option ConfigFault
@@ -110,4 +116,4 @@ section_at key document = option_and_then as_table (get_member key document)
 
 -- the document is of format version 2
 abbrev pub is_version_2 : Members → Bool
-is_version_2 document = number_at (codes "version") document == 2
+is_version_2 document = option_map_or (λ n. n == 2) (value_at version_under (codes "version") document) false

@@ -1,5 +1,5 @@
 -- Values of a plan in texts.
-use Rattle.std.specs.Prelude.{ℕ, ℤ, pos, negsuc, ◌==◌, if◌then◌else◌, List, [], ◌∷◌, codes, bytes_eq, Option, Some, None, option_and_then, ◌≡◌, ◌↔◌, slice_index}
+use Rattle.std.specs.Prelude.{ℕ, ℤ, pos, negsuc, ◌==◌, if◌then◌else◌, List, [], ◌∷◌, codes, bytes_eq, Option, Some, None, option_and_then, option_map, ◌≡◌, ◌↔◌, slice_index}
 use Rattle.std.specs.Net.Reader.{read_ipv4}
 use Rattle.std.specs.Net.Grammar.{IsDotted}
 use Rattle.afdx_plan.specs.declared.link_plan.Bag.{Bag}
@@ -55,6 +55,10 @@ in_network_10 (octets, _ ∷ _) = None
 -- the unicast address of a text
 unfoldable pub address_of : List ℕ → Option (List ℕ)
 address_of text = option_and_then in_network_10 (read_ipv4 text)
+
+-- what a port's table says by a text
+abbrev pub unicast_of : List ℕ → Option (Option (List ℕ))
+unicast_of text = option_map (λ address. Some address) (address_of text)
 
 -- a text has an address exactly if it is four decimal numbers of 0 to 255 joined by dots, without
 -- leading zeros, and the first is 10

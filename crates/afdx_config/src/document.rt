@@ -2,11 +2,9 @@
 ghost use Rattle.std.specs.Prelude.{◌≡◌, map, IfOk, option_map};
 ghost use Rattle.toml.specs.View.{table_view, items_view};
 ghost use Rattle.afdx_config.specs.Tables.{tables_among, rows_at, section_at, is_version_2};
-ghost use Rattle.afdx_config.specs.Format.{fields_in};
-ghost use Rattle.afdx_config.specs.Seen.{IsDocument, data_of, field_of};
+ghost use Rattle.afdx_config.specs.Seen.{IsDocument, data_of};
 
-use crate::entries::{number_or_0, value_at};
-use crate::format::Field;
+use crate::reading::{value_at, version_in};
 use std::alloc::{AllocError, Global};
 use toml::{Table, Value};
 
@@ -53,23 +51,10 @@ fn section<'a>(document: &'a Table, key: &str) -> Option<&'a Table>
 }
 
 /// The document is of format version 2.
-fn is_version_2(document: &Document<'_>) -> bool
+pub(crate) fn is_version_2(document: &Document<'_>) -> bool
     ensures { result ≡ is_version_2 (data_of document.now) }
 {
-    number_or_0(document.top, "version") == 2
-}
-
-/// Restricts the keys of version 2 of the format to those of the document's version.
-#[tactic(auto, using(crate::proofs::SectionLemmas::first_fields))]
-pub(crate) fn fields_in<'a>(document: &Document<'_>, fields: &'a [Field]) -> &'a [Field]
-    ensures { map field_of result.now
-        ≡ fields_in (is_version_2 (data_of document.now)) (map field_of fields.now) }
-{
-    if is_version_2(document) {
-        fields
-    } else {
-        &fields[..fields.len().saturating_sub(1)]
-    }
+    version_in(document.top) == Ok(2)
 }
 
 impl<'a> Document<'a> {

@@ -23,7 +23,6 @@ pub fn first_is_answered()
 {}
 
 /// The table or value at the place of a finding has its fault.
-#[tactic(auto, using(crate::proofs::PlaceLemmas::places_have_faults))]
 pub fn places_have_faults()
     ensures { PlacesHaveFaults }
 {}

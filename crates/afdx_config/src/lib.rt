@@ -3,24 +3,21 @@
 
 mod crowding;
 mod document;
-mod entries;
 mod explaining;
-mod fields;
 mod findings;
 mod format;
 mod keyed;
 pub mod laws;
 mod layout;
 mod pairs;
-mod parts;
 mod plan_findings;
 mod read;
+mod reading;
 mod rows;
 mod sharing;
 mod subjects;
 mod told;
 mod value_findings;
-mod values;
 
 pub use afdx_plan::{
     Bag, CAPACITY_LIMIT, Config, ConfigFault, Kind, LINKS_LIMIT, LinkPlan, Lmax, MESSAGE_LIMIT,

@@ -3,8 +3,7 @@ ghost use Rattle.std.specs.Prelude.{◌≡◌, ℕ, ◌+◌, ◌^◌, ◌&&◌, 
 ghost use Rattle.std.specs.BTreeMap.{get};
 ghost use Rattle.std.specs.List.{position, list_any};
 ghost use Rattle.std.specs.Ordering.{nat_cmp};
-ghost use Rattle.afdx_plan.specs.PlanFaults.{is_no_count, is_row_of, misfits};
-ghost use Rattle.afdx_config.specs.Cells.{all_named};
+ghost use Rattle.afdx_plan.specs.PlanFaults.{all_named, is_no_count, is_row_of, misfits};
 ghost use Rattle.afdx_config.specs.Findings.{found as finding_at, each_row, misfit_finding, one_if, plan_findings};
 ghost use Rattle.afdx_config.specs.Sharing.{is_key};
 ghost use Rattle.afdx_config.specs.declared.findings.Place.TheVariants.{Top};
@@ -43,7 +42,7 @@ fn number_of(place: Option<usize>) -> Option<usize>
 
 /// The port does not fit its link in this way.
 fn is_misfit(misfit: Misfit, is_named: bool, port: &PortRow, link: Option<&LinkRow>) -> bool
-    ensures { result ≡ misfits (λ l. l) is_named (option_copied link.entry) misfit port.now }
+    ensures { result ≡ misfits is_named (option_copied link.entry) misfit port.now }
 {
     match (misfit, link) {
         (Misfit::NoLink, _) => is_named && port.vl.is_some() && link.is_none(),

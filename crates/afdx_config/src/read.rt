@@ -1,15 +1,16 @@
 //! Reading a configuration.
-ghost use Rattle.std.specs.Prelude.{◌≡◌, ◌≢◌, Some, None, [], map, IfOk, IfErr};
+ghost use Rattle.std.specs.Prelude.{◌≡◌, ◌≢◌, All, Some, [], map, IfOk, IfErr};
 ghost use Rattle.afdx_plan.specs.declared.fault.ConfigFault.{ConfigFault};
-ghost use Rattle.afdx_config.specs.PlanOf.{plan_of};
+ghost use Rattle.afdx_plan.specs.Config.{IsPlan};
+ghost use Rattle.afdx_config.specs.Cells.{plan_of};
 ghost use Rattle.afdx_config.specs.Faults.{IsPlanOf, IsLeastFault};
 ghost use Rattle.afdx_config.specs.Findings.{findings};
-ghost use Rattle.afdx_config.specs.Seen.{fault_of, finding_of, IsDocument, data_of};
+ghost use Rattle.afdx_config.specs.Seen.{AreInRange, fault_of, finding_of, IsDocument, data_of, plan_in};
 
 use crate::document::Document;
 use crate::findings::Found;
-use crate::parts::parts_of;
 use crate::plan_findings::add_plan;
+use crate::rows::{Row, Rows};
 use crate::value_findings::add_values;
 use afdx_plan::{Config, ConfigFault};
 use std::alloc::{AllocError, Global};
@@ -24,21 +25,55 @@ fn first_of(found: &Found) -> Option<ConfigFault>
     }
 }
 
-/// The fault of the least number in a document. If a value has a fault, plan rules aren't tried.
-fn least_fault(alloc: Global, document: &Document<'_>) -> Result<Option<ConfigFault>, AllocError>
+/// The values of a document, and the fault of the least number.
+#[derive(Drop)]
+struct Outcome {
+    rows: Rows,
+    fault: Option<ConfigFault>,
+}
+
+/// Reads the values of a document. If a value has a fault, plan rules aren't tried.
+fn least_fault(alloc: Global, document: &Document<'_>) -> Result<Outcome, AllocError>
     requires { IsDocument document.now }
-    ensures { IfOk result (λ first. first ≡ fault_of (findings (data_of document.now))) }
+    ensures plan { IfOk result (λ outcome. plan_in outcome.rows ≡ plan_of (data_of document.now)) }
+    ensures fits { IfOk result (λ outcome. AreInRange outcome.rows) }
+    ensures first { IfOk result (λ outcome. outcome.fault ≡ fault_of (findings (data_of document.now))) }
 {
     let mut found = Found::new(alloc);
     let rows = add_values(&mut found, document)?;
     if found.count != 0 {
-        return Ok(first_of(&found));
+        let fault = first_of(&found);
+        return Ok(Outcome { rows, fault });
     }
     add_plan(&mut found, &rows)?;
-    Ok(first_of(&found))
+    let fault = first_of(&found);
+    Ok(Outcome { rows, fault })
 }
 
-/// Converts a document without faults to its plan.
+/// Converts rows to the parts of a plan.
+fn plans<R: Row>(alloc: Global, rows: &[R]) -> Result<Vec<R::Plan>, AllocError>
+    requires { All R.Fits rows.now }
+    ensures { IfOk result (λ plans. plans.items ≡ map R.plan_of rows.now) }
+{
+    let mut plans = Vec::with_capacity(alloc, rows.len())?;
+    for row in rows {
+        plans.push(row.plan())?;
+    }
+    Ok(plans)
+}
+
+/// Makes the plan of a document without faults.
+fn plan_of(alloc: Global, rows: &Rows) -> Result<Config, AllocError>
+    requires fits { AreInRange rows.now }
+    requires valid { IsPlan (plan_in rows.now) }
+    ensures { IfOk result (λ config. config ≡ plan_in rows.now) }
+{
+    let links = plans(alloc, rows.links.as_slice())?;
+    let ports = plans(alloc, rows.ports.as_slice())?;
+    Ok(Config::new(rows.end_system, links, ports))
+}
+
+/// Converts a document.
 fn read_document(alloc: Global, document: &Document<'_>) -> Result<Config, ConfigFault>
     requires { IsDocument document.now }
     ensures no_fault { IfOk result (λ _. findings (data_of document.now) ≡ []) }
@@ -46,16 +81,13 @@ fn read_document(alloc: Global, document: &Document<'_>) -> Result<Config, Confi
     ensures fault { IfErr result (λ fault. fault ≢ ConfigFault.Memory →
         fault_of (findings (data_of document.now)) ≡ Some fault) }
 {
-    let Ok(first) = least_fault(alloc, document) else {
+    let Ok(outcome) = least_fault(alloc, document) else {
         return Err(ConfigFault::Memory);
     };
-    if let Some(fault) = first {
+    if let Some(fault) = outcome.fault {
         return Err(fault);
     }
-    let Ok(parts) = parts_of(alloc, document) else {
-        return Err(ConfigFault::Memory);
-    };
-    Ok(Config::new(parts.end_system, parts.links, parts.ports))
+    plan_of(alloc, &outcome.rows).map_err(|_| ConfigFault::Memory)
 }
 
 /// Reads a configuration from a TOML text. Returns its plan, or the fault of the least number that the

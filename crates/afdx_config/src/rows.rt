@@ -1,149 +1,237 @@
-//! The values of links and ports that have no fault.
-ghost use Rattle.std.specs.Prelude.{◌≡◌, ◌≤◌, map, is_none, option_and_then, unwrap_or};
-ghost use Rattle.toml.specs.Data.{Members};
+//! The values of links and ports, read once, and the findings of their keys.
+ghost use Rattle.std.specs.Prelude.{◌≡◌, ◌≤◌, Bool, List, if◌then◌else◌, map, IfOk, IfSome, OnOk, Ok};
+ghost use Rattle.std.specs.Result.{result_ok, result_err};
+ghost use Rattle.toml.specs.Data.{Members, get_member};
 ghost use Rattle.toml.specs.View.{table_view};
-ghost use Rattle.afdx_config.specs.Cells.{if_sound, sound_number, link_row, port_row, cells_of};
-ghost use Rattle.afdx_config.specs.Tables.{field_fault};
-ghost use Rattle.afdx_config.specs.Seen.{field_of};
+ghost use Rattle.afdx_config.specs.declared.format.Content.{Content};
+ghost use Rattle.afdx_config.specs.Cells.{link_of, link_row, port_of, port_row};
+ghost use Rattle.afdx_config.specs.Findings.{key_finding, field_findings};
+ghost use Rattle.afdx_config.specs.Format.{Field as Key, link_fields, port_fields};
+ghost use Rattle.afdx_config.specs.Seen.{Adds, field_of};
+ghost use Rattle.afdx_config.specs.Tables.{content_fault, number_under, value_at};
+ghost use Rattle.afdx_plan.specs.Plan.{IsLink, IsPort};
 
-use crate::entries::{number, text};
-use crate::fields::{field_fault, lacks_all};
+use crate::findings::{Added, Found, Place, add};
 use crate::format::{
-    Content, Field, IDENTIFIER, LMAX, MESSAGE, PARTITION, PORT, Range, SUB_VL, SUB_VLS, UDP_PORT,
+    CAPACITY, Field, IDENTIFIER, LINK, LMAX, MESSAGE, PARTITION, PORT, Range, SUB_VL, SUB_VLS,
+    UDP_PORT,
 };
-use crate::values::{kind_named, unicast_address};
-use afdx_plan::{Kind, LinkRow, PortRow};
+use crate::reading::{bag_in, number_in, text_in, unicast_in};
+use afdx_plan::{
+    Bag, ConfigFault, Kind, LinkPlan, LinkRow, Lmax, Networks, PortId, PortPlan, PortRow, UdpSum,
+    VlId,
+};
+use std::alloc::AllocError;
 use toml::Table;
 
-/// The links and ports of a document, and whether the keys of their arrays have no fault.
+/// The values of a document that the rules of plans look at, and whether the keys of its arrays have no fault.
 #[derive(Drop)]
 pub(crate) struct Rows {
+    pub end_system: u16,
     pub links: Vec<LinkRow>,
     pub ports: Vec<PortRow>,
     pub has_links: bool,
     pub has_ports: bool,
 }
 
-/// A key of a table has no fault.
-fn is_sound(table: &Table, field: &Field) -> bool
-    ensures { result ≡ is_none (field_fault (table_view table.now) (field_of field.now)) }
+/// Adds a key of a table if it has a fault.
+pub(crate) fn add_key(
+    found: &mut Found,
+    place: Place,
+    key: &str,
+    fault: Option<ConfigFault>,
+) -> Added
+    ensures { OnOk result (Adds found.old found.new (key_finding place key.now fault)) }
 {
-    field_fault(table, field).is_none()
-}
-
-/// The number under a key, if the key has no fault.
-fn sound_number(table: &Table, key: &'static str, range: Range) -> Option<u16>
-    requires { range.0 ≤ range.1 }
-    ensures { result ≡ sound_number key.now range (table_view table.now) }
-{
-    match field_fault(table, &Field(key, true, Content::Whole(range))) {
-        None => Some(number(table, key, range)),
-        Some(_) => None,
+    match fault {
+        Some(fault) => add(found, fault, place, key, None),
+        None => Ok(()),
     }
 }
 
-#[tactic(auto, unfolding(crate::specs::Cells::link_row))]
-fn link_row(table: &Table) -> LinkRow
-    ensures { result ≡ link_row (table_view table.now) }
+/// Returns a value without a fault. Adds its key if it has one.
+pub(crate) fn keep<T: Copy>(
+    found: &mut Found,
+    place: Place,
+    key: &str,
+    read: Result<T, ConfigFault>,
+) -> Result<Option<T>, AllocError>
+    ensures findings { OnOk result (Adds found.old found.new (key_finding place key.now (result_err read))) }
+    ensures value { IfOk result (λ value. value ≡ result_ok read) }
 {
-    LinkRow {
-        id: sound_number(table, "id", IDENTIFIER),
-        lmax: sound_number(table, "lmax", LMAX),
-        sub_vls: sound_number(table, "sub_vls", SUB_VLS),
-    }
+    add_key(found, place, key, read.err())?;
+    Ok(read.ok())
 }
 
-/// The kind of a port, if its key has no fault.
-#[tactic(auto, unfolding(crate::specs::Cells::port_row))]
-fn sound_kind(table: &Table) -> Option<Kind>
-    ensures { result ≡ (port_row (table_view table.now)).kind }
+/// Reads a number. Adds its key if it has a fault.
+pub(crate) fn keep_number(
+    found: &mut Found,
+    place: Place,
+    table: &Table,
+    key: &str,
+    range: Range,
+) -> Result<Option<u16>, AllocError>
+    ensures findings { OnOk result (Adds found.old found.new (key_finding place key.now
+        (content_fault (Content.Whole range) (get_member key.now (table_view table.now))))) }
+    ensures value { IfOk result (λ n. n ≡ value_at (number_under range) key.now (table_view table.now)) }
+    ensures bounds { IfOk result (λ n. IfSome n (λ n. (range.0 ≤ n) × (n ≤ range.1))) }
 {
-    if !is_sound(table, &Field("kind", true, Content::PortKind)) {
-        return None;
-    }
-    let kind = text(table, "kind").and_then(kind_named);
-    Some(kind.unwrap_or(Kind::Sampling))
+    keep(found, place, key, number_in(table, key, range))
 }
 
-/// The unicast address of a port, if its key has no fault.
-#[tactic(auto, unfolding(crate::specs::Cells::port_row))]
-fn sound_unicast(table: &Table) -> Option<Option<[u8; 4]>>
-    ensures { result ≡ (port_row (table_view table.now)).unicast }
+/// Returns what was read, or in version 1, which lacks the key, the value without it.
+fn in_version<T: Copy>(
+    is_2: bool,
+    read: Result<T, ConfigFault>,
+    without: T,
+) -> Result<T, ConfigFault>
+    ensures { result ≡ (if is_2 then read else Ok without) }
 {
-    is_sound(table, &Field("dest_ip", false, Content::Address)).then(|| text(
-        table, "dest_ip",
-    ).and_then(unicast_address))
+    if is_2 { read } else { Ok(without) }
 }
 
-/// The port of a table that has none of the keys of a port.
-const NO_PORT: PortRow = PortRow {
-    id: None,
-    vl: None,
-    sub: None,
-    partition: None,
-    kind: None,
-    source: None,
-    destination: None,
-    max: None,
-    unicast: Some(None),
-};
-
-#[tactic(auto, unfolding(crate::specs::Cells::port_row), using(crate::proofs::SectionLemmas::lacks_port))]
-fn port_row(table: &Table) -> PortRow
-    ensures { result ≡ port_row (table_view table.now) }
-{
-    if lacks_all(table, &PORT) {
-        return NO_PORT;
-    }
-    PortRow {
-        id: sound_number(table, "id", IDENTIFIER),
-        vl: sound_number(table, "vl", IDENTIFIER),
-        sub: sound_number(table, "sub", SUB_VL),
-        partition: sound_number(table, "partition", PARTITION),
-        kind: sound_kind(table),
-        source: sound_number(table, "source", UDP_PORT),
-        destination: sound_number(table, "destination", UDP_PORT),
-        max: sound_number(table, "max", MESSAGE),
-        unicast: sound_unicast(table),
-    }
-}
-
-/// A row that is made of a table.
+/// A row that is read from a table.
 pub(crate) trait Row: Copy {
-    ghost row_of: { Members → Self };
+    type Plan: Copy;
 
-    /// Converts a table.
-    fn of(table: &Table) -> Self
-        ensures { result ≡ row_of (table_view table.now) };
+    ghost row_of: { Bool → Members → Self };
+
+    ghost format: { Bool → List Key };
+
+    ghost plan_of: { Self → Self.Plan };
+
+    ghost Fits: { Self → Type 0 };
+
+    /// Returns the keys of the tables.
+    fn fields(is_2: bool) -> &'static [Field]
+        ensures { map field_of result.now ≡ format is_2 };
+
+    /// Reads a table. Adds the keys of its format that have a fault.
+    fn read(found: &mut Found, place: Place, is_2: bool, table: &Table) -> Result<Self, AllocError>
+        ensures findings { OnOk result (Adds found.old found.new
+            (field_findings place (format is_2) (table_view table.now))) }
+        ensures row { IfOk result (λ row. row ≡ row_of is_2 (table_view table.now)) }
+        ensures fits { IfOk result Fits };
+
+    /// Returns the part of a plan that has these values.
+    fn plan(self) -> Self::Plan
+        requires { Fits self }
+        ensures { result ≡ plan_of self };
 }
 
 impl Row for LinkRow {
+    type Plan = LinkPlan;
+
     ghost row_of = { link_row };
 
-    fn of(table: &Table) -> LinkRow {
-        link_row(table)
+    ghost format = { link_fields };
+
+    ghost plan_of = { link_of };
+
+    ghost Fits = { λ row. IsLink (link_of row) };
+
+    fn fields(is_2: bool) -> &'static [Field] {
+        if is_2 { &LINK } else { &LINK[..5] }
+    }
+
+    #[tactic(auto, unfolding(crate::specs::Cells::link_row))]
+    fn read(
+        found: &mut Found,
+        place: Place,
+        is_2: bool,
+        table: &Table,
+    ) -> Result<LinkRow, AllocError> {
+        let id = keep_number(found, place, table, "id", IDENTIFIER)?;
+        let bag = keep(found, place, "bag_ms", bag_in(table))?;
+        let lmax = keep_number(found, place, table, "lmax", LMAX)?;
+        let sub_vls = keep_number(found, place, table, "sub_vls", SUB_VLS)?;
+        let capacity = keep_number(found, place, table, "capacity", CAPACITY)?;
+        let networks = text_in(table, "networks", Ok(Networks::Both));
+        let networks = in_version(is_2, networks, Networks::Both);
+        let networks = keep(found, place, "networks", networks)?;
+        Ok(LinkRow {
+            id,
+            bag,
+            lmax,
+            sub_vls,
+            capacity,
+            networks,
+        })
+    }
+
+    fn plan(self) -> LinkPlan {
+        LinkPlan {
+            id: VlId(self.id.unwrap_or(0)),
+            bag: self.bag.unwrap_or(Bag::Ms1),
+            lmax: Lmax::new(self.lmax.unwrap_or(64)),
+            sub_vls: self.sub_vls.unwrap_or(1) as u8,
+            capacity: usize::from(self.capacity.unwrap_or(1)),
+            networks: self.networks.unwrap_or(Networks::Both),
+        }
     }
 }
 
 impl Row for PortRow {
+    type Plan = PortPlan;
+
     ghost row_of = { port_row };
 
-    fn of(table: &Table) -> PortRow {
-        port_row(table)
-    }
-}
+    ghost format = { port_fields };
 
-/// The rows of a document's links and ports, with what the top level says of their arrays.
-pub(crate) fn rows_with(top: &Table, links: Vec<LinkRow>, ports: Vec<PortRow>) -> Rows
-    ensures links { result.links ≡ links }
-    ensures ports { result.ports ≡ ports }
-    ensures has_links { result.has_links ≡ (cells_of (table_view top.now)).has_links }
-    ensures has_ports { result.has_ports ≡ (cells_of (table_view top.now)).has_ports }
-{
-    Rows {
-        links,
-        ports,
-        has_links: is_sound(top, &Field("vl", true, Content::Rows)),
-        has_ports: is_sound(top, &Field("port", true, Content::Rows)),
+    ghost plan_of = { port_of };
+
+    ghost Fits = { λ row. IsPort (port_of row) };
+
+    fn fields(is_2: bool) -> &'static [Field] {
+        if is_2 { &PORT } else { &PORT[..9] }
+    }
+
+    #[tactic(auto, unfolding(crate::specs::Cells::port_row))]
+    fn read(
+        found: &mut Found,
+        place: Place,
+        is_2: bool,
+        table: &Table,
+    ) -> Result<PortRow, AllocError> {
+        let id = keep_number(found, place, table, "id", IDENTIFIER)?;
+        let vl = keep_number(found, place, table, "vl", IDENTIFIER)?;
+        let sub = keep_number(found, place, table, "sub", SUB_VL)?;
+        let partition = keep_number(found, place, table, "partition", PARTITION)?;
+        let kind = text_in(table, "kind", Err(ConfigFault::MissingKey));
+        let kind = keep(found, place, "kind", kind)?;
+        let source = keep_number(found, place, table, "source", UDP_PORT)?;
+        let destination = keep_number(found, place, table, "destination", UDP_PORT)?;
+        let max = keep_number(found, place, table, "max", MESSAGE)?;
+        let unicast = keep(found, place, "dest_ip", unicast_in(table))?;
+        let checksum = text_in(table, "checksum", Ok(UdpSum::Omitted));
+        let checksum = in_version(is_2, checksum, UdpSum::Omitted);
+        let checksum = keep(found, place, "checksum", checksum)?;
+        Ok(PortRow {
+            id,
+            vl,
+            sub,
+            partition,
+            kind,
+            source,
+            destination,
+            max,
+            unicast,
+            checksum,
+        })
+    }
+
+    fn plan(self) -> PortPlan {
+        PortPlan {
+            id: PortId(self.id.unwrap_or(0)),
+            vl: VlId(self.vl.unwrap_or(0)),
+            sub: self.sub.unwrap_or(0) as u8,
+            partition: self.partition.unwrap_or(0) as u8,
+            kind: self.kind.unwrap_or(Kind::Sampling),
+            source: self.source.unwrap_or(1),
+            destination: self.destination.unwrap_or(1),
+            max: usize::from(self.max.unwrap_or(1)),
+            unicast: self.unicast.unwrap_or(None),
+            checksum: self.checksum.unwrap_or(UdpSum::Omitted),
+        }
     }
 }

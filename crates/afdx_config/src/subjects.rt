@@ -1,7 +1,7 @@
 //! The text of places, keys and their values.
 use crate::document::Document;
-use crate::entries::{value_at, whole_number};
 use crate::findings::Place;
+use crate::reading::value_at;
 use std::io::{Result, Write};
 use toml::{Table, Value};
 
@@ -66,9 +66,9 @@ pub(crate) fn write_row(out: &mut Text, document: &Document<'_>, place: Place) -
         _ => return Ok(()),
     }
     let table = table_at(document, place);
-    match table.and_then(|table| whole_number(table, "id")) {
-        Some(id) => write!(out, " (id {id})"),
-        None => Ok(()),
+    match table.and_then(|table| value_at(table, "id")) {
+        Some(Value::Integer(id)) => write!(out, " (id {id})"),
+        _ => Ok(()),
     }
 }
 

@@ -3,44 +3,37 @@ ghost use Rattle.std.specs.Prelude.{◌≡◌, ◌++◌, ◌-◌, IfOk, OnOk};
 ghost use Rattle.afdx_config.specs.Explained.{HasLines, count_line, rest_line};
 ghost use Rattle.afdx_config.specs.Findings.{lines_limit};
 
-use crate::document::{Document, fields_in};
-use crate::fields::{field_named, key_fault};
+use crate::document::{Document, is_version_2};
 use crate::findings::{Finding, Found, LINES_LIMIT, Place, row_like};
-use crate::format::{Content, DOCUMENT, END, Field, LINK, PORT};
+use crate::format::{Content, DOCUMENT, END, Field, field_named, key_fault};
+use crate::rows::Row;
 use crate::subjects::{Text, write_row, write_subject};
-use afdx_plan::ConfigFault;
+use afdx_plan::{ConfigFault, LinkRow, PortRow};
 use std::alloc::Global;
 use std::io::{Result, Write};
 
-/// The keys, in version 2 of the format, of the table at a place.
-fn latest_at(place: Place) -> &'static [Field] {
+/// Returns the keys of the table at a place in a version of the format.
+fn fields_at(is_2: bool, place: Place) -> &'static [Field] {
     match place {
         Place::Text(_, _) => &[],
         Place::Top => &DOCUMENT,
         Place::EndSystem => &END,
-        Place::Link(_) => &LINK,
-        Place::Port(_) => &PORT,
-    }
-}
-
-/// The keys of the format of the table at a place.
-fn fields_at(document: &Document<'_>, place: Place) -> &'static [Field] {
-    match place {
-        Place::Link(_) | Place::Port(_) => fields_in(document, latest_at(place)),
-        _ => latest_at(place),
+        Place::Link(_) => LinkRow::fields(is_2),
+        Place::Port(_) => PortRow::fields(is_2),
     }
 }
 
 /// The content of a finding's key.
 fn content_at(document: &Document<'_>, finding: &Finding) -> Option<Content> {
-    let fields = fields_at(document, finding.place);
-    field_named(fields, finding.key.as_str()).map(|field| field.2)
+    let fields = fields_at(is_version_2(document), finding.place);
+    field_named(fields, finding.key.as_str()).map(|field| field.1)
 }
 
 /// Writes the values that a content allows.
 fn write_content(out: &mut Text, content: Content) -> Result<()> {
     let text = match content {
         Content::Whole((least, most)) => return write!(out, "{least} to {most}"),
+        Content::Version => "1 to 2",
         Content::Gap => "1, 2, 4, 8, 16, 32, 64 or 128",
         Content::Networks => "both, a or b",
         Content::PortKind => "sampling or queuing",
@@ -55,7 +48,7 @@ fn write_content(out: &mut Text, content: Content) -> Result<()> {
 /// The kind of value that a content requires.
 fn kind_text(content: Content) -> &'static str {
     match content {
-        Content::Whole(_) | Content::Gap => "a whole number",
+        Content::Whole(_) | Content::Version | Content::Gap => "a whole number",
         Content::Section => "a table",
         Content::Rows => "an array of tables",
         _ => "a text",
@@ -64,12 +57,12 @@ fn kind_text(content: Content) -> &'static str {
 
 /// Writes why a key is unknown: it is one of version 2 alone, or the format lacks it.
 fn write_known(out: &mut Text, document: &Document<'_>, finding: &Finding) -> Result<()> {
-    let latest = latest_at(finding.place);
+    let latest = fields_at(true, finding.place);
     if key_fault(latest, finding.key.as_str()).is_none() {
         return out.write_all(b"only if version = 2");
     }
     out.write_all(b"the keys are")?;
-    for field in fields_at(document, finding.place) {
+    for field in fields_at(is_version_2(document), finding.place) {
         write!(out, " {}", field.0)?;
     }
     Ok(())

@@ -1,12 +1,12 @@
 -- A plan is valid exactly if it has no fault. Flows of a valid plan are distinct.
 use Rattle.std.proofs.Common.{◌≡◌, ℕ, suc, zero, ◌-◌, ◌<◌, ◌≤◌, inl, inr, ◌⊎◌, Bool, true, false, cond, List, [], ◌∷◌, length, get_or, Option, Some, None, refl, ap, sym, ◌∙◌, arith, eq-eqb, subst, ◌/◌, ◌%◌}
-use Rattle.std.specs.Prelude.{◌&&◌, ◌==◌, nat_lt, nat_eq, find, count_by, is_none, All, Contains, IfSome}
+use Rattle.std.specs.Prelude.{◌&&◌, ◌||◌, map, ◌==◌, nat_lt, nat_eq, find, count_by, is_none, All, Contains, IfSome}
 use Rattle.std.specs.List.{list_any, AllByRecursion}
 use Rattle.std.proofs.Math.Bool.{and-false}
 use Rattle.std.proofs.lemmas.Bool.{or_parts, ltb-false, false_from_ne_true, cases_Bool, cases_eq, or_from, le-ltb}
-use Rattle.std.proofs.lemmas.List.{get_or_default}
+use Rattle.std.proofs.lemmas.List.{get_or_default, length-map}
 use Rattle.std.proofs.lemmas.List.Elements.{All-contains, Contains-get_or}
-use Rattle.std.proofs.lemmas.List.Folds.{Any-from_list_any, list_any_at, list_any_none}
+use Rattle.std.proofs.lemmas.List.Folds.{Any-from_list_any, fold-map, list_any_at, list_any_none}
 use Rattle.std.proofs.lemmas.List.Sums.{sum_by-cons}
 use Rattle.std.proofs.lemmas.Slice.Eq.{bytes_eq-Decides}
 use Rattle.std.proofs.lemmas.Bool.Decides.{nat_tests}
@@ -18,7 +18,8 @@ use Rattle.afdx_plan.specs.declared.port_plan.PortPlan.{PortPlan}
 use Rattle.afdx_plan.specs.Address.{destination_of}
 use Rattle.afdx_plan.specs.Plan.{IsLink, IsPort, IsUnicast}
 use Rattle.afdx_plan.specs.Config.{Plan, IsPlan, HasLink, AreSameFlow, link_plan_at, port_plan_at, ports_on, FlowsApart}
-use Rattle.afdx_plan.specs.PlanFaults.{fault_number, has_pair, same_link, same_port, is_row_of, misfits, same_flow, share_unicast, are_one_destination, is_no_count, is_packed, link_whole, port_whole, PlanRule, plan_rules, breaks, parts_of, ValidPlansShowNoFault}
+use Rattle.afdx_plan.specs.PlanFaults.{fault_number, has_pair, same_link, same_port, is_row_of, misfits, same_flow, share_unicast, are_one_destination, is_no_count, is_packed, on_sub_of, link_whole, port_whole, whole, PlanRule, plan_rules, breaks, ValidPlansShowNoFault}
+use Rattle.afdx_plan.specs.declared.rows.LinkRow.{LinkRow}
 use Rattle.afdx_plan.specs.declared.rows.Misfit.TheVariants.{NoLink, NoSub, TooLong}
 use Rattle.afdx_plan.specs.declared.fault.ConfigFault.{ConfigFault}
 
@@ -35,20 +36,36 @@ has_same_flow a b = same_flow (port_whole a) (port_whole b)
 abbrev shares_unicast : PortPlan → PortPlan → Bool
 shares_unicast a b = share_unicast (port_whole a) (port_whole b)
 
-abbrev is_link_of : PortPlan → LinkPlan → Bool
-is_link_of port link = is_row_of (port_whole port) (link_whole link)
-
 abbrev is_crowded : List PortPlan → PortPlan → Bool
-is_crowded ports port = is_packed port_whole ports port
+is_crowded ports port = is_packed (map port_whole ports) (port_whole port)
+
+abbrev link_row_of : List LinkPlan → PortPlan → Option LinkRow
+link_row_of links port = find (is_row_of (port_whole port)) (map link_whole links)
 
 abbrev names_no_link : List LinkPlan → PortPlan → Bool
-names_no_link links port = misfits link_whole true (find (is_link_of port) links) NoLink (port_whole port)
+names_no_link links port = misfits true (link_row_of links port) NoLink (port_whole port)
 
 abbrev names_no_sub : List LinkPlan → PortPlan → Bool
-names_no_sub links port = misfits link_whole true (find (is_link_of port) links) NoSub (port_whole port)
+names_no_sub links port = misfits true (link_row_of links port) NoSub (port_whole port)
 
 abbrev is_too_long : List LinkPlan → PortPlan → Bool
-is_too_long links port = misfits link_whole true (find (is_link_of port) links) TooLong (port_whole port)
+is_too_long links port = misfits true (link_row_of links port) TooLong (port_whole port)
+
+-- tests of the rows of a plan
+any_map : {A B : Type 0} (p : B → Bool) (f : A → B) (xs : List A) → list_any p (map f xs) ≡ list_any (λ x. p (f x)) xs
+any_map p f [] = refl
+any_map p f (x ∷ xs) = ap (λ b. p (f x) || b) (any_map p f xs)
+
+pair_map : {A B : Type 0} (r : B → B → Bool) (f : A → B) (xs : List A) → has_pair r (map f xs) ≡ has_pair (λ a b. r (f a) (f b)) xs
+pair_map r f [] = refl
+pair_map r f (x ∷ xs) = rw (any_map (r (f x)) f xs, pair_map r f xs) refl
+
+named_all : (links : List LinkPlan) → list_any (λ (link : LinkPlan). is_none (link_whole link).id) links ≡ false
+named_all [] = refl
+named_all (x ∷ xs) = named_all xs
+
+counted : (ports : List PortPlan) (port : PortPlan) → count_by (on_sub_of (port_whole port)) (map port_whole ports) ≡ ports_on ports port.vl.0 port.sub
+counted ports port = grind (arith, nat_tests, fold-map)
 
 -- no element passes a test that none passes
 pub none_at : {X : Type 0} (p : X → Bool) (xs : List X) (k : ℕ) (d : X) → list_any p xs ≡ false → k < length xs
@@ -76,15 +93,15 @@ one_place related xs i j d none in_i in_j one other =
     grind (arith, pair_at related xs i j d none, pair_at related xs j i d none)
 
 -- the index of the element that `find` returns
-record FoundAt (p : LinkPlan → Bool) (links : List LinkPlan) : Type 0 where
+record FoundAt (p : LinkRow → Bool) (links : List LinkPlan) : Type 0 where
   pub at : ℕ
   pub within : at < length links
-  pub passes : p (link_plan_at links at) ≡ true
-  pub found : find p links ≡ Some (link_plan_at links at)
+  pub passes : p (link_whole (link_plan_at links at)) ≡ true
+  pub found : find p (map link_whole links) ≡ Some (link_whole (link_plan_at links at))
 
-found_at : (p : LinkPlan → Bool) (links : List LinkPlan) → is_none (find p links) ≡ false → FoundAt p links
+found_at : (p : LinkRow → Bool) (links : List LinkPlan) → is_none (find p (map link_whole links)) ≡ false → FoundAt p links
 found_at p [] some = cc
-found_at p (x ∷ xs) some = elim (cases_Bool (p x)) [
+found_at p (x ∷ xs) some = elim (cases_Bool (p (link_whole x))) [
   | inl is ↦ record { at = 0; within = omega arith; passes = is; found = rw is refl }
   | inr isnt ↦ let behind = found_at p xs (rw isnt at some) in record {
     at = suc behind.at;
@@ -95,14 +112,14 @@ found_at p (x ∷ xs) some = elim (cases_Bool (p x)) [
 ]
 
 -- the link of a port has the identifier that the port names
-pub named : (port : PortPlan) (link : LinkPlan) → is_link_of port link ≡ true → link.id ≡ port.vl
+pub named : (port : PortPlan) (link : LinkPlan) → is_row_of (port_whole port) (link_whole link) ≡ true → link.id ≡ port.vl
 named port link is = grind (arith, nat_tests)
 
 -- the link and the sub-VL of a port exist
 has_link : (links : List LinkPlan) (port : PortPlan) → names_no_link links port ≡ false
     → names_no_sub links port ≡ false → HasLink links port
 has_link links port linked sub =
-    let found = found_at (is_link_of port) links linked in
+    let found = found_at (is_row_of (port_whole port)) links linked in
     record { at = found.at; within = found.within; over = grind (arith, nat_tests) }
 
 -- the member of a list at its index
@@ -119,7 +136,7 @@ fits : (links : List LinkPlan) (port : PortPlan) (link : LinkPlan) → has_pair 
     → names_no_link links port ≡ false → is_too_long links port ≡ false
     → Contains links link → port.kind ≡ Sampling → link.id ≡ port.vl → port.max ≤ link.lmax - 47
 fits links port link apart linked short member kind id =
-    let found = found_at (is_link_of port) links linked in
+    let found = found_at (is_row_of (port_whole port)) links linked in
     let here = link_plan_at links found.at in
     let there = link_plan_at links member.0 in
     let same : there ≡ link = place_of links link _ member in
@@ -182,7 +199,7 @@ few ports vl sub none =
           let there = Any-from_list_any on ports some in
           let port = there.1 in
           let same : ports_on ports port.vl.0 port.sub ≡ ports_on ports vl sub = grind (arith, nat_tests) in
-          let most = ltb-false 64 (ports_on ports port.vl.0 port.sub) (none_of (is_crowded ports) ports port none (there.0, there.2, there.3)) in
+          let most = ltb-false 64 (ports_on ports port.vl.0 port.sub) (rw counted at (none_of (is_crowded ports) ports port none (there.0, there.2, there.3))) in
           omega arith
       | inr nowhere ↦ let zero = none_counted on ports nowhere in omega arith
     ]
@@ -193,33 +210,35 @@ counts most n h = grind (arith, nat_tests)
 
 -- no rule is broken
 abbrev pub Unbroken : Plan → List PlanRule → Type 0
-Unbroken plan some = AllByRecursion (λ r. breaks (parts_of plan.links plan.ports) r.forbids ≡ false) some
+Unbroken plan some = AllByRecursion (λ r. breaks (whole plan) r.forbids ≡ false) some
 
 -- the plan is valid: fault by fault
 pub valid : (plan : Plan) → plan.end_system < 65536 → All IsLink plan.links → All IsPort plan.ports
     → Unbroken plan plan_rules → IsPlan plan
 valid plan fits_end each_link each_port
     (duplicate_vl, (duplicate_port, (no_link, (no_sub, (long, (flow, (shared_address, (link_count, (port_count, (crowd, _)))))))))) =
-    record {
+    let vls = rw pair_map at duplicate_vl in
+    let linked = simp (any_map, named_all) at no_link in
+    let short = rw any_map at long in record {
       end_system = fits_end;
-      links = counts 64 (length plan.links) link_count;
-      ports = counts 256 (length plan.ports) port_count;
+      links = counts 64 (length plan.links) (rw length-map at link_count);
+      ports = counts 256 (length plan.ports) (rw length-map at port_count);
       each_link = each_link;
       each_port = each_port;
-      links_apart = λ i j in_i in_j same. same_vl plan.links i j duplicate_vl in_i in_j same;
+      links_apart = λ i j in_i in_j same. same_vl plan.links i j vls in_i in_j same;
       ports_apart = λ i j in_i in_j same. let number = ap (λ (id : PortId). id.0) same in
-          one_place has_same_port plan.ports i j _ duplicate_port in_i in_j (eq-eqb _ _ number)
+          one_place has_same_port plan.ports i j _ (rw pair_map at duplicate_port) in_i in_j (eq-eqb _ _ number)
           (eq-eqb _ _ (sym number));
       linked = λ k d below. has_link plan.links (get_or plan.ports k d)
-          (none_at (names_no_link plan.links) plan.ports k d no_link below)
-          (none_at (names_no_sub plan.links) plan.ports k d no_sub below);
-      sampling = λ p link in_p in_link kind id. fits plan.links p link duplicate_vl
-          (none_of (names_no_link plan.links) plan.ports p no_link in_p)
-          (none_of (is_too_long plan.links) plan.ports p long in_p) in_link kind id;
+          (none_at (names_no_link plan.links) plan.ports k d linked below)
+          (none_at (names_no_sub plan.links) plan.ports k d (rw any_map at no_sub) below);
+      sampling = λ p link in_p in_link kind id. fits plan.links p link vls
+          (none_of (names_no_link plan.links) plan.ports p linked in_p)
+          (none_of (is_too_long plan.links) plan.ports p short in_p) in_link kind id;
       flows_apart = λ p q in_p in_q same.
           let is_p = All-contains IsPort plan.ports p each_port in_p in
           let is_q = All-contains IsPort plan.ports q each_port in_q in
-          related_members has_same_flow plan.ports p q flow in_p in_q
+          related_members has_same_flow plan.ports p q (rw pair_map at flow) in_p in_q
           (one_flow p q is_p is_q same) (one_flow q p is_q is_p (record {
             vl = sym same.vl;
             partition = sym same.partition;
@@ -228,8 +247,8 @@ valid plan fits_end each_link each_port
             address = sym same.address;
           }));
       unicasts_apart = λ p q in_p in_q address of_p of_q partition.
-          unicast plan.ports p q address shared_address in_p in_q of_p of_q partition;
-      few_ports = λ vl sub. few plan.ports vl sub crowd;
+          unicast plan.ports p q address (rw pair_map at shared_address) in_p in_q of_p of_q partition;
+      few_ports = λ vl sub. few plan.ports vl sub (rw any_map at crowd);
     }
 
 -- a list has no related pair if no two elements are related
@@ -243,18 +262,19 @@ no_pair related (x ∷ xs) d apart = or_from _ _
     (no_pair related xs d (λ i j before below. apart (suc i) (suc j) (omega arith) (omega arith)))
 
 -- `find` returns something if an element passes
-some_found : {X : Type 0} (p : X → Bool) (xs : List X) (i : ℕ) (d : X) → i < length xs → p (get_or xs i d) ≡ true → is_none (find p xs) ≡ false
-some_found p [] i d within passes = absurd (omega arith)
-some_found p (x ∷ xs) zero d within passes = rw passes refl
-some_found p (x ∷ xs) (suc i) d within passes = grind (arith, nat_tests, some_found p xs i d (omega arith) passes)
+some_found : {X Y : Type 0} (p : Y → Bool) (f : X → Y) (xs : List X) (i : ℕ) (d : X) → i < length xs → p (f (get_or xs i d)) ≡ true
+    → is_none (find p (map f xs)) ≡ false
+some_found p f [] i d within passes = absurd (omega arith)
+some_found p f (x ∷ xs) zero d within passes = rw passes refl
+some_found p f (x ∷ xs) (suc i) d within passes = grind (arith, nat_tests, some_found p f xs i d (omega arith) passes)
 
 -- a port with a link names one
 names_link : (plan : Plan) (port : PortPlan) → HasLink plan.links port → names_no_link plan.links port ≡ false
-names_link plan port has = some_found (is_link_of port) plan.links has.at _ has.within (eq-eqb _ _ (ap (λ (v : VlId). v.0) has.over.id))
+names_link plan port has = some_found (is_row_of (port_whole port)) link_whole plan.links has.at _ has.within (eq-eqb _ _ (ap (λ (v : VlId). v.0) has.over.id))
 
 -- the link of a port, as `find` returns it
-linked : (plan : Plan) (port : PortPlan) → HasLink plan.links port → FoundAt (is_link_of port) plan.links
-linked plan port has = found_at (is_link_of port) plan.links (names_link plan port has)
+linked : (plan : Plan) (port : PortPlan) → HasLink plan.links port → FoundAt (is_row_of (port_whole port)) plan.links
+linked plan port has = found_at (is_row_of (port_whole port)) plan.links (names_link plan port has)
 
 -- a port names one of the sub-VLs of its link
 names_sub : (plan : Plan) (port : PortPlan) → IsPlan plan → HasLink plan.links port → names_no_sub plan.links port ≡ false
@@ -311,12 +331,12 @@ unbroken plan is =
     let link_count = no_fault_count 64 (length plan.links) is.links.0 is.links.1 in
     let port_count = no_fault_count 256 (length plan.ports) is.ports.0 is.ports.1 in
     let crowd = list_any_none (is_crowded plan.ports) plan.ports (λ k d below.
-    let port = get_or plan.ports k d in le-ltb 64 (ports_on plan.ports port.vl.0 port.sub) (is.few_ports port.vl.0 port.sub)) in
-    (links, (ids, (no_link, (no_sub, (long, (flows, (shared, (link_count, (port_count, (crowd, tt))))))))))
+    let port = get_or plan.ports k d in rw counted (le-ltb 64 (ports_on plan.ports port.vl.0 port.sub) (is.few_ports port.vl.0 port.sub))) in
+    (rw pair_map links, (rw pair_map ids, (simp (any_map, named_all) no_link, (rw any_map no_sub, (rw any_map long, (rw pair_map flows, (rw pair_map shared, (rw length-map link_count, (rw length-map port_count, (rw any_map crowd, tt))))))))))
 
 -- without a broken rule no fault is shown
 none_shown : (plan : Plan) (fault : ConfigFault) (some : List PlanRule) → Unbroken plan some
-    → list_any (λ (r : PlanRule). fault_number fault == fault_number r.fault && breaks (parts_of plan.links plan.ports) r.forbids) some ≡ false
+    → list_any (λ (r : PlanRule). fault_number fault == fault_number r.fault && breaks (whole plan) r.forbids) some ≡ false
 none_shown plan fault [] whole = refl
 none_shown plan fault (r ∷ rest) whole = rw (whole.0, and-false (fault_number fault == fault_number r.fault)) (none_shown plan fault rest whole.1)
 

@@ -1,5 +1,5 @@
 -- The numbers of the faults, and the faults of plans.
-use Rattle.std.specs.Prelude.{◌≡◌, ℕ, ◌-◌, codes, List, [], ◌∷◌, length, count_by, Bool, true, false, ◌||◌, ◌&&◌, ◌==◌, not, is_none, is_some, nat_eq, nat_lt, nat_le, bytes_eq, Option, Some, None, find}
+use Rattle.std.specs.Prelude.{◌≡◌, ℕ, ◌-◌, codes, List, [], ◌∷◌, length, count_by, Bool, true, false, ◌||◌, ◌&&◌, ◌==◌, not, is_none, is_some, nat_eq, nat_lt, nat_le, bytes_eq, Option, Some, None, find, map}
 use Rattle.std.specs.List.{list_any}
 use Rattle.std.specs.Option.{option_map_or}
 use Rattle.afdx_plan.specs.declared.link_plan.LinkPlan.{LinkPlan}
@@ -86,21 +86,36 @@ abbrev pub is_sampling : Kind → Bool
 is_sampling Sampling = true
 is_sampling Queuing = false
 
--- a port does not fit its link, if `of` is the row of a link: there is none and all links are named, its sub-VL is
--- not below the number of its link's, or it is a sampling port and its greatest message does not fit into a frame
-abbrev pub misfits : {L : Type 0} → (L → LinkRow) → Bool → Option L → Misfit → PortRow → Bool
-misfits of named link NoLink port = (named && is_some port.vl) && is_none link
-misfits of named link NoSub port = option_map_or (λ l. both nat_le (of l).sub_vls port.sub) link false
-misfits of named link TooLong port = option_map_or is_sampling port.kind false
-    && option_map_or (λ l. both (λ lmax most. nat_lt (lmax - 47) most) (of l).lmax port.max) link false
+-- the values of links and ports that the rules of plans look at, and whether the two lists have no fault
+pub record Cells : Type 0 where
+  pub links : List LinkRow
+  pub ports : List PortRow
+  pub has_links : Bool
+  pub has_ports : Bool
+
+-- the list of links and their identifiers have no fault
+abbrev pub all_named : Cells → Bool
+all_named cells = cells.has_links && not (list_any (λ (link : LinkRow). is_none link.id) cells.links)
+
+-- a port does not fit its link: there is none and all links are named, its sub-VL is not below the number of its
+-- link's, or it is a sampling port and its greatest message does not fit into a frame
+abbrev pub misfits : Bool → Option LinkRow → Misfit → PortRow → Bool
+misfits named link NoLink port = (named && is_some port.vl) && is_none link
+misfits named link NoSub port = option_map_or (λ (l : LinkRow). both nat_le l.sub_vls port.sub) link false
+misfits named link TooLong port = option_map_or is_sampling port.kind false
+    && option_map_or (λ (l : LinkRow). both (λ lmax most. nat_lt (lmax - 47) most) l.lmax port.max) link false
+
+-- the port does not fit its link in this way
+abbrev pub is_misfit : Misfit → Cells → PortRow → Bool
+is_misfit misfit cells port = misfits (all_named cells) (find (is_row_of port) cells.links) misfit port
 
 -- two ports are on the same sub-VL
 abbrev pub on_sub_of : PortRow → PortRow → Bool
 on_sub_of a b = both nat_eq b.vl a.vl && both nat_eq b.sub a.sub
 
 -- there are too many ports on the port's sub-VL
-abbrev pub is_packed : {P : Type 0} → (P → PortRow) → List P → P → Bool
-is_packed of ports port = nat_lt 64 (count_by (λ other. on_sub_of (of port) (of other)) ports)
+abbrev pub is_packed : List PortRow → PortRow → Bool
+is_packed ports port = nat_lt 64 (count_by (on_sub_of port) ports)
 
 -- the count is 0 or more than `most`
 abbrev pub is_no_count : ℕ → ℕ → Bool
@@ -139,35 +154,30 @@ plan_rules = rule DuplicateVl (codes "id") (links_clash same_link)
     ∷ rule Limit (codes "sub") sub_is_packed
     ∷ []
 
--- links and ports, the rows of each, whether all links are named, and whether the two lists have no fault
-pub record Parts (L P : Type 0) : Type 0 where
-  pub links : List L
-  pub ports : List P
-  pub of_link : L → LinkRow
-  pub of_port : P → PortRow
-  pub named : Bool
-  pub has_links : Bool
-  pub has_ports : Bool
-
 -- links and ports break a rule
-abbrev pub breaks : {L P : Type 0} → Parts L P → Rule → Bool
-breaks parts (links_clash clash) = has_pair (λ a b. clash (parts.of_link a) (parts.of_link b)) parts.links
-breaks parts (ports_clash clash) = has_pair (λ a b. clash (parts.of_port a) (parts.of_port b)) parts.ports
-breaks parts (port_misfits misfit) =
-    list_any (λ p. misfits parts.of_link parts.named (find (λ l. is_row_of (parts.of_port p) (parts.of_link l)) parts.links)
-    misfit (parts.of_port p)) parts.ports
-breaks parts link_count = parts.has_links && is_no_count 64 (length parts.links)
-breaks parts port_count = parts.has_ports && is_no_count 256 (length parts.ports)
-breaks parts sub_is_packed = list_any (is_packed parts.of_port parts.ports) parts.ports
+abbrev pub breaks : Cells → Rule → Bool
+breaks cells (links_clash clash) = has_pair clash cells.links
+breaks cells (ports_clash clash) = has_pair clash cells.ports
+breaks cells (port_misfits misfit) = list_any (is_misfit misfit cells) cells.ports
+breaks cells link_count = cells.has_links && is_no_count 64 (length cells.links)
+breaks cells port_count = cells.has_ports && is_no_count 256 (length cells.ports)
+breaks cells sub_is_packed = list_any (is_packed cells.ports) cells.ports
 
 -- links and ports have a fault of 7 to 14
-abbrev pub parts_show : {L P : Type 0} → Parts L P → ConfigFault → Bool
-parts_show parts fault =
-    list_any (λ (r : PlanRule). fault_number fault == fault_number r.fault && breaks parts r.forbids) plan_rules
+abbrev pub cells_show : ConfigFault → Cells → Bool
+cells_show fault cells =
+    list_any (λ (r : PlanRule). fault_number fault == fault_number r.fault && breaks cells r.forbids) plan_rules
 
 -- the values of a link and of a port of a plan
 abbrev pub link_whole : LinkPlan → LinkRow
-link_whole link = record { id = Some link.id.0; lmax = Some link.lmax; sub_vls = Some link.sub_vls }
+link_whole link = record {
+  id = Some link.id.0;
+  bag = Some link.bag;
+  lmax = Some link.lmax;
+  sub_vls = Some link.sub_vls;
+  capacity = Some link.capacity;
+  networks = Some link.networks;
+}
 
 abbrev pub port_whole : PortPlan → PortRow
 port_whole port = record {
@@ -180,23 +190,21 @@ port_whole port = record {
   destination = Some port.destination;
   max = Some port.max;
   unicast = Some port.unicast;
+  checksum = Some port.checksum;
 }
 
--- the links and ports of a plan: no value has a fault
-abbrev pub parts_of : List LinkPlan → List PortPlan → Parts LinkPlan PortPlan
-parts_of virtual_links senders = record {
-  links = virtual_links;
-  ports = senders;
-  of_link = link_whole;
-  of_port = port_whole;
-  named = true;
+-- the values of a plan: none has a fault
+abbrev pub whole : Plan → Cells
+whole plan = record {
+  links = map link_whole plan.links;
+  ports = map port_whole plan.ports;
   has_links = true;
   has_ports = true;
 }
 
 -- a plan has a fault
 abbrev pub plan_shows : ConfigFault → Plan → Bool
-plan_shows fault plan = parts_show (parts_of plan.links plan.ports) fault
+plan_shows fault plan = cells_show fault (whole plan)
 
 -- a valid plan has none of the faults of plans
 abbrev pub ValidPlansShowNoFault : Type 0

@@ -1,15 +1,19 @@
-//! The values that the rules of plans look at.
-use crate::port_plan::Kind;
+//! The values of links and ports as a text gives them, each with a fault or without.
+use crate::link_plan::{Bag, Networks};
+use crate::port_plan::{Kind, UdpSum};
 
-/// The values of a link that other tables depend on. A value with a fault is `None`.
+/// The values of a link. A value with a fault is `None`.
 #[derive(Clone, Copy)]
 pub struct LinkRow {
     pub id: Option<u16>,
+    pub bag: Option<Bag>,
     pub lmax: Option<u16>,
     pub sub_vls: Option<u16>,
+    pub capacity: Option<u16>,
+    pub networks: Option<Networks>,
 }
 
-/// The values of a port that depend on other tables. A value with a fault is `None`.
+/// The values of a port. A value with a fault is `None`.
 #[derive(Clone, Copy)]
 pub struct PortRow {
     pub id: Option<u16>,
@@ -21,6 +25,7 @@ pub struct PortRow {
     pub destination: Option<u16>,
     pub max: Option<u16>,
     pub unicast: Option<Option<[u8; 4]>>,
+    pub checksum: Option<UdpSum>,
 }
 
 /// How a port does not fit its link.

@@ -3,7 +3,7 @@ use Rattle.afdx_config.proofs.AddressLemmas.{address_of-dotted, address_of-none}
 use Rattle.std.proofs.Common.{arith}
 use Rattle.std.proofs.lemmas.Grind.{common_steps}
 use Rattle.std.proofs.lemmas.Bool.Decides.{nat_tests}
-use Rattle.afdx_config.proofs.values.unicast_address.Goals as goal
+use Rattle.afdx_config.proofs.reading.unicast_address.Goals as goal
 
 pub returns-in-Ok-clause-value : goal.returns-in-Ok-clause-value
 returns-in-Ok-clause-value c = grind (arith, nat_tests, common_steps, address_of-dotted)
