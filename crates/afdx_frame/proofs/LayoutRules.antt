@@ -1,5 +1,5 @@
 -- A frame breaks no rule of the layout exactly if it is one of the profile.
-use Rattle.afdx_frame.proofs.Names.{Bool, Breach, HasAddresses, HasInternetHeader, HasLinkHeader, HasZeroPadding, IsFrame, Layout, List, None, Option, arith, fails_before_first, false, first_nonzero, fragment_field, get_or, has_total, internet_broken, layout_broken, length, link_broken, max, more_fragments, nat_tests, not, option_or, end_broken, padding_of, position_or_len_is, refl, total_length, true, kept_then, ℕ, ◌%◌, ◌+◌, ◌-◌, ◌<◌, ◌==◌, ◌↔◌, ◌≡◌, ◌≤◌}
+use Rattle.afdx_frame.proofs.Names.{Bool, Breach, HasAddresses, HasInternetHeader, HasLinkHeader, HasZeroPadding, IsFrame, Layout, List, None, Option, arith, fails_before_first, false, first_nonzero, fragment_field, get_or, has_total, internet_broken, layout_broken, length, link_broken, max, more_fragments, nat_tests, not, option_or, end_broken, padding_of, position_or_len_is, total_length, true, kept_then, ℕ, ◌%◌, ◌+◌, ◌-◌, ◌<◌, ◌==◌, ◌↔◌, ◌≡◌, ◌≤◌}
 use Rattle.afdx_frame.proofs.Datagram.{zeros_part, zeros_there}
 
 pub none_both : {A : Type 0} (a b : Option A) → option_or a b ≡ None → (a ≡ None) × (b ≡ None)

@@ -19,7 +19,7 @@ pub use Rattle.afdx_frame.specs.declared.layout.Breach.{Breach}
 pub use Rattle.afdx_frame.specs.declared.layout.Layout.{Layout}
 pub use Rattle.afdx_frame.specs.declared.net.Net.{Net}
 pub use Rattle.afdx_frame.specs.declared.net.Net.TheVariants.{A, B}
-pub use Rattle.afdx_frame.specs.declared.piece.Piece.{Piece}
+pub use Rattle.afdx_frame.specs.declared.field.Piece.{Piece}
 pub use Rattle.afdx_plan.specs.Address.{destination_of, two_bytes}
 pub use Rattle.afdx_plan.specs.Plan.{identification, room_of, step_of}
 pub use Rattle.afdx_plan.specs.declared.port_plan.PortPlan.{PortPlan}

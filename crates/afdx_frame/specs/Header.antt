@@ -4,7 +4,7 @@ use Rattle.afdx_frame.specs.declared.net.Net.{Net}
 use Rattle.afdx_frame.specs.Frame.{interface_byte, frame_of}
 use Rattle.afdx_frame.specs.Profile.{word_at}
 use Rattle.afdx_plan.specs.declared.port_plan.PortPlan.{PortPlan}
-use Rattle.afdx_frame.specs.declared.piece.Piece.{Piece}
+use Rattle.afdx_frame.specs.declared.field.Piece.{Piece}
 
 -- the identifier of the virtual link, from the destination MAC address
 abbrev pub link_in : List ℕ → ℕ
@@ -32,5 +32,6 @@ twin_of net frame = slice_set frame 11 (interface_byte net)
 
 -- The twin of a frame is the frame for that network.
 abbrev pub TwinOfFrame : Type 0
-TwinOfFrame = (end_system : ℕ) (port : PortPlan) (message : List ℕ) (place : ℕ) (piece : Piece) (first second : Net) (number : ℕ)
-    → twin_of second (frame_of end_system port message place piece first number) ≡ frame_of end_system port message place piece second number
+TwinOfFrame = (end_system : ℕ) (port : PortPlan) (message : List ℕ) (place : ℕ) (piece : Piece) (first second : Net)
+    (number : ℕ) → twin_of second (frame_of end_system port message place piece first number)
+    ≡ frame_of end_system port message place piece second number

@@ -1,7 +1,7 @@
 -- Reassembly of a datagram (RFC 791, 3.2), by a buffer of byte positions. It is stated apart from
 -- the cutting: it knows neither the room of a frame nor where a cut may lie.
 use Rattle.std.specs.Prelude.{◌≡◌, ℕ, zero, suc, ◌+◌, ◌-◌, ◌*◌, ◌/◌, ◌≤◌, ◌&&◌, ◌↔◌, Bool, nat_le, nat_lt, if◌then◌else◌, Option, Some, None, List, [], ◌∷◌, length, map, take, drop, slice_index, Contains}
-use Rattle.afdx_frame.specs.declared.piece.Piece.{Piece}
+use Rattle.afdx_frame.specs.declared.field.Piece.{Piece}
 use Rattle.afdx_frame.specs.Cutting.{cutting, pieces_from}
 
 -- what a fragment carries: its offset in units of 8 bytes, the flag of more fragments, and its data

@@ -8,7 +8,7 @@ use Rattle.afdx_plan.specs.Demo.{demo_port}
 use Rattle.afdx_plan.specs.Plan.{IsPort}
 use Rattle.afdx_frame.specs.declared.net.Net.{Net}
 use Rattle.afdx_frame.specs.declared.net.Net.TheVariants.{A, B}
-use Rattle.afdx_frame.specs.declared.piece.Piece.{Piece}
+use Rattle.afdx_frame.specs.declared.field.Piece.{Piece}
 use Rattle.afdx_frame.specs.Frame.{frame_of, addresses, datagram, greatest_message}
 use Rattle.afdx_frame.specs.Fragments.{Sent, fragments, fragments_at, fragments_left}
 use Rattle.afdx_frame.specs.Header.{twin_of}
@@ -19,7 +19,8 @@ use Rattle.afdx_plan.specs.declared.port_plan.PortPlan.{PortPlan}
 -- the demonstration port's internet header for a message of one byte, without its checksum
 abbrev pub demo_header : List ℕ
 demo_header =
-    (0x45 ∷ 0x00 ∷ 0x00 ∷ 0x1d ∷ 0x00 ∷ 0x00 ∷ 0x00 ∷ 0x00 ∷ 0x01 ∷ 0x11 ∷ 0x0a ∷ 0x00 ∷ 0x01 ∷ 0x01 ∷ 0xe0 ∷ 0xe0 ∷ 0x00 ∷ 0x01 ∷ [])
+    (0x45 ∷ 0x00 ∷ 0x00 ∷ 0x1d ∷ 0x00 ∷ 0x00 ∷ 0x00 ∷ 0x00 ∷ 0x01 ∷
+    0x11 ∷ 0x0a ∷ 0x00 ∷ 0x01 ∷ 0x01 ∷ 0xe0 ∷ 0xe0 ∷ 0x00 ∷ 0x01 ∷ [])
 
 -- Its checksum is 0xcdee, and 0xcdef is none. The checksum of a multiple of 65,535 is 0 and not
 -- 65,535, though both sums are multiples.

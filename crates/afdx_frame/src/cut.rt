@@ -8,8 +8,8 @@ ghost use Rattle.afdx_frame.specs.declared.net.Net.{Net as Network};
 ghost use Rattle.afdx_frame.specs.Cutting.{cut_of, cutting, pieces_from, pieces_left, piece_at, SameMessage, TakesFirst, whole, written};
 
 use crate::buffer::FrameBuffer;
+use crate::field::Piece;
 use crate::net::{Frame, Net};
-use crate::piece::Piece;
 use crate::template::Template;
 use crate::write::write_frame;
 use afdx_plan::{LinkPlan, PortPlan};

@@ -1,4 +1,4 @@
-//! Where each field of a frame begins, in bytes from the destination MAC address on.
+//! Where each field of a frame begins, in bytes from the destination MAC address on, and the piece of a datagram in it.
 ghost use Rattle.std.specs.Prelude.{◌≡◌, ◌+◌, ◌≤◌, length};
 ghost use Rattle.afdx_frame.specs.Profile.{word_at};
 
@@ -61,4 +61,21 @@ pub fn word_at(bytes: &[u8], i: usize) -> u16
     ensures { result ≡ word_at bytes.now i }
 {
     BigEndian::read_u16(&bytes[i..])
+}
+
+/// The greatest length of a datagram in bytes: a message of 8,192 bytes with its UDP header.
+pub const GREATEST_DATAGRAM: u32 = 8_200;
+
+/// The flag of more fragments in the word of flags and offset.
+pub const MORE_FRAGMENTS: u16 = 0x2000;
+
+/// The word of flags and offset modulo this is the offset, in units of 8 bytes.
+pub const OFFSET_MODULUS: u16 = 0x2000;
+
+/// A piece of a datagram, in bytes: its start, its length, and whether more pieces follow.
+#[derive(Clone, Copy, Debug, PartialEq, Eq)]
+pub struct Piece {
+    pub start: usize,
+    pub len: usize,
+    pub more: bool,
 }

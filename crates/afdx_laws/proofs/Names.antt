@@ -33,7 +33,7 @@ pub use Rattle.afdx_frame.specs.ReadBack.{IsPiece}
 pub use Rattle.afdx_frame.specs.Reassembly.{Buffer, Fragment, bytes_to, datagram_in, empty, end_of, fragment_of, fragments_of, put, put_all}
 pub use Rattle.afdx_frame.specs.declared.net.Net.{Net}
 pub use Rattle.afdx_frame.specs.declared.net.Net.TheVariants.{A, B}
-pub use Rattle.afdx_frame.specs.declared.piece.Piece.{Piece}
+pub use Rattle.afdx_frame.specs.declared.field.Piece.{Piece}
 pub use Rattle.redundant_mux.specs.Lines.{Entry, entry, names, side}
 pub use Rattle.afdx_legal.proofs.StreamLemmas.{known_all, numbered_at, numbered_map, with_append, with_map}
 pub use Rattle.afdx_legal.specs.Accepted.{IsAllowed, IsQueued, messages_of}

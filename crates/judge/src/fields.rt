@@ -4,8 +4,8 @@ ghost use Rattle.afdx_frame.specs.Profile.{total_length};
 ghost use Rattle.judge.specs.Fields.{fields_of, AreSmall};
 ghost use Rattle.afdx_frame.specs.Layout.{IsReadable};
 
-use afdx_frame::piece::{MORE_FRAGMENTS, OFFSET_MODULUS};
-use afdx_frame::{field, word_at, word_sum};
+use afdx_frame::field::{self, MORE_FRAGMENTS, OFFSET_MODULUS};
+use afdx_frame::{word_at, word_sum};
 
 /// The fields of a frame.
 #[derive(Clone, Copy)]

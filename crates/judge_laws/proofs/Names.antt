@@ -41,7 +41,7 @@ pub use Rattle.afdx_frame.specs.Profile.{IsFrame, fragment_field, total_length, 
 pub use Rattle.afdx_frame.specs.ReadBack.{IsPiece}
 pub use Rattle.afdx_frame.specs.declared.net.Net.{Net}
 pub use Rattle.afdx_frame.specs.declared.net.Net.TheVariants.{A, B}
-pub use Rattle.afdx_frame.specs.declared.piece.Piece.{Piece}
+pub use Rattle.afdx_frame.specs.declared.field.Piece.{Piece}
 pub use Rattle.afdx_legal.proofs.StreamLemmas.{known_all, numbered_at, on_both_is, with_append, with_map}
 pub use Rattle.afdx_legal.specs.Accepted.{AreAllowed, IsAllowed}
 pub use Rattle.afdx_legal.specs.Legal.{Accepted, AreKnown, IsKnown, IsLegalOn, on_both}

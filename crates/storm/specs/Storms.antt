@@ -60,7 +60,8 @@ pub record IsReportOf (plan : Plan) (n : ℕ) (report : StormReport) : Type 0 wh
   pub accepted : report.accepted ≡ length plan.ports * n
   pub links : report.links.items ≡ all_counts plan.links report.a.handed report.b.handed
   pub never_back : report.back ≡ false
-  pub equal : IsTrue report.equal ↔ (on_both plan.links report.b.handed ≡ map (side B) (on_both plan.links report.a.handed))
+  pub equal : IsTrue report.equal ↔ (on_both plan.links report.b.handed
+      ≡ map (side B) (on_both plan.links report.a.handed))
 
 -- What was written of a storm over a plan, none of whose ports is short: the text of its report.
 pub record ReportsPlan (plan : Plan) (n : ℕ) (old new : Option (List ℕ)) : Type 0 where

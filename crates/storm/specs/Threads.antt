@@ -63,7 +63,8 @@ pub record IsReady (tx : Tx) (ports : List PortView) (monitor : List Watched) : 
   pub cells : cells_of tx.board ≡ cells_read monitor
 
 -- the same after that many polls, once each port sent its messages 1 to n and no count was seen to fall
-pub record IsJoined (n turns : ℕ) (tx : Tx) (ports : List PortView) (monitor : List Watched) (polls : ℕ) (back : Bool) : Type 0 where
+pub record IsJoined (n turns : ℕ) (tx : Tx) (ports : List PortView) (monitor : List Watched) (polls : ℕ) (back : Bool)
+    : Type 0 where
   pub spent : AreSpent tx n turns ports
   pub within : polls ≤ turns
   pub moment : tx.moment ≤ polls * STEP
