@@ -37,7 +37,7 @@ share/afdx/examples/c/wire.toml
 share/afdx/examples/c/demo.toml share/afdx/examples/c/example.c share/afdx/examples/cmake/CMakeLists.txt
 share/afdx/examples/cmake/main.c share/afdx/examples/cpp/main.cpp
 share/afdx/examples/play/main.c share/afdx/examples/play/script.c share/afdx/examples/play/faults.c
-share/afdx/examples/play/wire.c share/afdx/examples/play/play.h
+share/afdx/examples/play/wire.c share/afdx/examples/play/words.c share/afdx/examples/play/play.h
 share/afdx/examples/python/bench.py share/afdx/examples/python/main.py""".split()
 
 

@@ -1,6 +1,6 @@
 /* Plays a script by the clock: the proved AFDX end system of a plan over two network interfaces.
 
-       afdx_play PLAN SCRIPT INTERFACE_A INTERFACE_B [--speed X] [--capture FILE] [--fault TEXT].. [--priority]
+       afdx_play PLAN SCRIPT INTERFACE_A INTERFACE_B [--as-written] [--speed X] [--capture FILE] [--fault TEXT].. [--priority]
 
    docs/guide/program.md says what it prints, how it ends, and what a fault on purpose is. */
 #define _GNU_SOURCE
@@ -18,40 +18,17 @@
 #include <time.h>
 #include <unistd.h>
 
-static const char USAGE[] =
-    "usage: afdx_play PLAN SCRIPT INTERFACE_A INTERFACE_B [--speed X] [--capture FILE] [--fault TEXT].. [--priority]\n";
-static const char HELP[] =
-    "\n"
-    "Plays a script (as afdx_bench run) by the clock, over two network interfaces. It needs the right to open packet\n"
-    "sockets.\n"
-    "\n"
-    "  --speed X       X times as fast: 0.001 to 1000\n"
-    "  --capture FILE  records what the interfaces took: pcapng with nanoseconds\n"
-    "  --priority      locks memory and asks for SCHED_FIFO\n"
-    "  --fault TEXT    a fault on purpose, after the library: lose A 100, repeat B 7, swap A 5 6, number A 9 200,\n"
-    "                  early A 12 300 (microseconds), flip B 20 1a (index of a byte), down A 1000. Frames of a network\n"
-    "                  count from 1\n";
-
-/* The words of the command line. */
-struct words {
-    const char *paths[4];
-    double speed;
-    const char *capture;
-    bool has_priority;
-    struct faults faults;
-};
-
-/* A run: the time of its start, and how late each poll's frames were sent, in nanoseconds. Frames that a fault sends early
- * count with the poll after them. */
+/* A run: the time of its start, the times of the first `at`, of the last one and of the last poll, and how late each poll's
+ * frames were sent, in nanoseconds. Frames that a fault sends early count with the poll after them. */
 struct play {
     struct tx tx;
     struct script script;
     struct network networks[2];
     struct capture capture;
     struct words words;
-    uint64_t begun, offset, first, last;
+    uint64_t begun, offset, first, asked, last;
     uint64_t *late;
-    size_t polls, refused;
+    size_t polls, room, refused;
 };
 
 /* The number of the signal that stops the run, or 0. */
@@ -59,37 +36,12 @@ static volatile sig_atomic_t stopped_by;
 
 static void stop(int signal_number) { stopped_by = signal_number; }
 
-/* Reads the words. Returns -1, or how the player ends at once. */
-static int read_words(int argc, char **argv, struct words *words) {
-    size_t count = 0;
-    for (int k = 1; k < argc; k++) {
-        const char *word = argv[k], *value = k + 1 < argc ? argv[k + 1] : "";
-        if (strcmp(word, "--help") == 0) return printf("%s%s", USAGE, HELP) < 0 ? ENDS_BROKEN : ENDS_WELL;
-        if (strcmp(word, "--version") == 0) return printf("afdx_play %s\n", AFDX_VERSION) < 0 ? ENDS_BROKEN : ENDS_WELL;
-        bool has_value = true, is_right = true;
-        if (strcmp(word, "--speed") == 0) {
-            char *end = NULL;
-            words->speed = strtod(value, &end);
-            is_right = end != value && *end == '\0' && words->speed >= 0.001 && words->speed <= 1000;
-        } else if (strcmp(word, "--capture") == 0) {
-            words->capture = value;
-        } else if (strcmp(word, "--fault") == 0) {
-            is_right = read_fault(&words->faults, value);
-        } else {
-            has_value = false;
-            is_right = strcmp(word, "--priority") == 0 || (word[0] != '-' && count < 4);
-            words->has_priority |= word[0] == '-';
-            if (word[0] != '-' && is_right) words->paths[count++] = word;
-        }
-        k += has_value;
-        if (!is_right || k >= argc) {
-            fprintf(stderr, "%s %s isn't understood\n%s", word, has_value ? value : "", USAGE);
-            return ENDS_UNREAD;
-        }
-    }
-    if (count == 4) return -1;
-    fputs(USAGE, stderr);
-    return ENDS_UNREAD;
+/* The script's time by the clock, in microseconds: not before the last poll. */
+static uint64_t micros_now(const struct play *play) {
+    uint64_t now = nanos_now(), gone = now < play->begun ? 0 : now - play->begun;
+    long double micros = (long double)gone * (long double)play->words.speed / 1000;
+    uint64_t at = micros < (long double)(UINT64_MAX - play->first) ? play->first + (uint64_t)micros : UINT64_MAX;
+    return at > play->last ? at : play->last;
 }
 
 /* The number of nanoseconds from the start to a time of the script. */
@@ -111,6 +63,17 @@ static bool sleep_until(const struct play *play, uint64_t nanos) {
 static void note_lateness(struct play *play, uint64_t at) {
     uint64_t now = nanos_now(), due = play->begun + nanos_of(play, at), *late = &play->late[play->polls];
     if (now > due && now - due > *late) *late = now - due;
+}
+
+/* Makes room for the lateness of one poll more. Returns whether there is memory. */
+static bool has_room(struct play *play) {
+    if (play->polls + 1 < play->room) return true;
+    uint64_t *more = realloc(play->late, 2 * play->room * sizeof *more);
+    if (more == NULL) return false;
+    memset(more + play->room, 0, play->room * sizeof *more);
+    play->late = more;
+    play->room *= 2;
+    return true;
 }
 
 /* Sends the frames that are sent early, of those that come before a time. */
@@ -147,15 +110,14 @@ static size_t take_frames(struct play *play, struct network *network, uint64_t a
     return count;
 }
 
-/* Polls once, at its time, and sends the frames. Returns the number of afdx_poll. */
-static uint8_t poll_at(struct play *play, uint64_t at) {
+/* Polls once that a time has come, and sends the frames. Returns the number of afdx_poll, or AFDX_MEMORY. */
+static uint8_t poll_at(struct play *play, uint64_t due) {
     static struct frame frames[2][2 * AFDX_MOST_FRAMES];
     uint8_t standing = 0;
-    if (at >= play->last) {
-        send_early(play, at);
-        if (!sleep_until(play, nanos_of(play, at))) return AFDX_OK;
-    }
-    uint8_t answer = afdx_poll(&play->tx.end_system, at, &standing);
+    send_early(play, due);
+    if (!sleep_until(play, nanos_of(play, due))) return AFDX_OK;
+    uint64_t at = play->words.as_written || due > micros_now(play) ? due : micros_now(play);
+    uint8_t answer = has_room(play) ? afdx_poll(&play->tx.end_system, at, &standing) : AFDX_MEMORY;
     if (answer != AFDX_OK) return answer;
     play->last = at;
     for (int n = 0; n < 2; n++) {
@@ -164,20 +126,50 @@ static uint8_t poll_at(struct play *play, uint64_t at) {
         transmit(network, frames[n], count, &play->capture, play->offset);
         if (network->failed) afdx_fail(&play->tx.end_system, network->which);
     }
-    note_lateness(play, at);
+    note_lateness(play, due);
     play->polls++;
     return AFDX_OK;
 }
 
-/* Obeys a line, and prints its note. Returns how the run ends, or 0. */
-static int obey(struct play *play, const struct command *command) {
+/* Sleeps until a time of the script. By the clock, polls whenever a link becomes due before that. Returns the number of the
+ * last poll. */
+static uint8_t serve_until(struct play *play, uint64_t at) {
+    uint8_t answer = AFDX_OK;
+    uint64_t due = AFDX_NEVER;
+    while (answer == AFDX_OK && stopped_by == 0 && afdx_next_due(&play->tx.end_system, &due) == AFDX_OK && due < at)
+        answer = poll_at(play, due);
+    if (answer == AFDX_OK) sleep_until(play, nanos_of(play, at));
+    return answer;
+}
+
+/* The time of the first `at` from a line of the script on; 0 if none follows. */
+static uint64_t next_at(const struct script *script, size_t k) {
+    while (k < script->count && script->commands[k].says.kind != AFDX_SAYS_AT) k++;
+    return k < script->count ? script->commands[k].says.at : 0;
+}
+
+/* Polls for an `at`. Returns the number of afdx_poll. */
+static uint8_t obey_at(struct play *play, uint64_t at) {
+    /* (by the clock, polls are later than the script's times, so the library can't tell that these go back) */
+    if (!play->words.as_written && at < play->asked) return AFDX_TIME_BACK;
+    uint8_t answer = play->words.as_written ? AFDX_OK : serve_until(play, at);
+    if (answer == AFDX_OK) answer = poll_at(play, at);
+    if (answer == AFDX_OK) play->asked = at;
+    return answer;
+}
+
+/* Obeys a line, by the clock at the time of the next `at`, and prints its note. Returns how the run ends, or 0. */
+static int obey(struct play *play, size_t k) {
+    const struct command *command = &play->script.commands[k];
     const afdx_line *says = &command->says;
     uint64_t total = 0;
     uint8_t answer = AFDX_OK;
+    if (says->kind == AFDX_SAYS_AT) answer = obey_at(play, says->at);
+    else if (!play->words.as_written) answer = serve_until(play, next_at(&play->script, k));
+    if (answer == AFDX_MEMORY) fprintf(stderr, "out of memory\n");
+    if (answer == AFDX_MEMORY || answer == AFDX_BOTH_DOWN) return ENDS_BROKEN;
     if (says->kind == AFDX_SAYS_SEND) answer = send_by(&play->tx, command);
-    if (says->kind == AFDX_SAYS_AT) answer = poll_at(play, says->at);
     if (says->kind == AFDX_SAYS_CLOSE) answer = afdx_close(&play->tx.end_system, says->id, says->sub, &total);
-    if (says->kind == AFDX_SAYS_AT && answer == AFDX_BOTH_DOWN) return ENDS_BROKEN;
     if (answer != AFDX_OK) {
         printf("line %zu: refused %s\n", command->line, short_name(says->kind == AFDX_SAYS_SEND ? AFDX_CALL_SEND : AFDX_CALL_OTHER, answer));
         play->refused++;
@@ -234,7 +226,8 @@ static int prepare(struct play *play) {
     if (!failed && has_to_rehearse(&play->words.faults)) failed = rehearse(play, text, length);
     free(text);
     if (failed) return failed;
-    play->late = calloc(play->script.polls + 1, sizeof *play->late);
+    play->room = play->script.polls + 2;
+    play->late = calloc(play->room, sizeof *play->late);
     if (play->late == NULL) {
         fprintf(stderr, "out of memory\n");
         return ENDS_BROKEN;
@@ -266,7 +259,7 @@ static int run(struct play *play) {
     play->offset = (uint64_t)day.tv_sec * 1000000000 + (uint64_t)day.tv_nsec - play->begun;
     play->begun += 10000000; /* (the first poll's time has to come) */
     for (size_t k = 0; k < play->script.count && stopped_by == 0; k++) {
-        int ends = obey(play, &play->script.commands[k]);
+        int ends = obey(play, k);
         if (ends != 0) return ends;
     }
     send_early(play, UINT64_MAX);

@@ -100,6 +100,18 @@ int alter(const struct faults *faults, uint8_t network, uint64_t place, uint64_t
 /* The next fault that sends a frame early, or NULL. */
 struct fault *next_early(struct faults *faults);
 
+/* The words of the command line. */
+struct words {
+    const char *paths[4];
+    double speed;
+    const char *capture;
+    bool has_priority, as_written;
+    struct faults faults;
+};
+
+/* Reads the words. Returns -1, or how the player ends at once. */
+int read_words(int argc, char **argv, struct words *words);
+
 /* A capture: pcapng with nanoseconds. */
 struct capture {
     FILE *file; /* NULL if nothing is captured */

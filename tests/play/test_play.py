@@ -69,15 +69,28 @@ def stopped(command: list[str], by: int) -> subprocess.CompletedProcess:
     return subprocess.CompletedProcess(command, process.wait(10), *process.communicate())
 
 
+def stalled(command: list[str], stalls: int) -> subprocess.CompletedProcess:
+    """A run that is held up for 50 milliseconds so many times, 150 milliseconds apart."""
+    process = subprocess.Popen(command, stdout=subprocess.PIPE, stderr=subprocess.PIPE, text=True)
+    for _ in range(stalls):
+        time.sleep(0.15)
+        process.send_signal(signal.SIGSTOP)
+        time.sleep(0.05)
+        process.send_signal(signal.SIGCONT)
+    out, error = process.communicate(timeout=120)
+    return subprocess.CompletedProcess(command, process.returncode, out, error)
+
+
 class Played:
     """A run of the player: how it ended, what came on each network, and its capture."""
 
-    def __init__(self, rig, plan: str, script: str, *words: str, stop: int = 0) -> None:
+    def __init__(self, rig, plan: str, script: str, *words: str, stop: int = 0, by_clock: bool = False, stalls: int = 0) -> None:
         for name, text in (("plan.toml", plan), ("script.txt", script)):
             with open(name, "w", encoding="utf-8") as file:
                 file.write(text)
         command = [rig.program, "plan.toml", "script.txt", "wireA", "wireB", "--capture", "frames.pcapng", *words]
-        self.ran = stopped(command, stop) if stop else subprocess.run(command, capture_output=True, text=True, timeout=120, check=False)
+        command += [] if by_clock else ["--as-written"]
+        self.ran = stopped(command, stop) if stop else stalled(command, stalls)
         time.sleep(0.3)
         self.came = {name: receiver.take() for name, receiver in rig.receivers.items()}
         status, out, error = model.run(plan, script.encode())
@@ -274,6 +287,48 @@ def try_stop(rig, by: int) -> tuple[list[str], str]:
     return [] if is_well else [f"{played.ran}, {len(captured)} frames of {len(frames)}"], ""
 
 
+def of_links(frames: list[str]) -> dict[str, list[str]]:
+    """The frames of each link, in their order."""
+    links = {}
+    for data in frames:
+        links.setdefault(data[8:12], []).append(data)
+    return links
+
+
+def try_clock(rig, stalls: int) -> tuple[list[str], str]:
+    """By the clock each link's frames are those of the script, but for the last ones, and a player that was held up doesn't
+    catch up: of the gaps less than a BAG none is short by more than a poll was late, and none by half a BAG."""
+    played = Played(rig, plan_of(3), script_of(3, 600, 11, 4), by_clock=True, stalls=stalls)
+    faults = played.said()
+    for name in NETWORKS:
+        came, wanted = of_links([data for _, data in played.captured[name]]), of_links(all_of(played)[name])
+        for link, frames in wanted.items():
+            got = came.get(link, [])
+            is_front = got == frames[: len(got)] and len(got) + 60 * stalls + 5 >= len(frames)
+            faults += [] if is_front else [f"network {name}, link {link}: {len(got)} frames of {len(frames)}"]
+        faults += gaps(played.captured[name], 3, played.late)
+        short = close_gaps(played.captured[name])
+        faults += [f"network {name}: {short} gaps under half a BAG"] if short and stalls else []
+    return faults, ""
+
+
+def try_written(rig) -> tuple[list[str], str]:
+    """As written, a player that was held up catches up, and sends frames of a link too close together."""
+    played = Played(rig, plan_of(3), script_of(3, 600, 11, 4), stalls=2)
+    short = close_gaps(played.captured["A"])
+    return played.differences(all_of(played)) + ([] if short > 5 else [f"{short} gaps under half a BAG"]), ""
+
+
+def close_gaps(captured: list[tuple[int, str]]) -> int:
+    """How many frames of the plan of three links came less than half a BAG after the last one of their link."""
+    last, short = {}, 0
+    for at, data in captured:
+        link = int(data[8:12], 16)
+        short += link in last and at - last[link] < BAG * (1 << link % 3) // 2
+        last[link] = at
+    return short
+
+
 FAULTS = ["lose A 10", "lose B 1", "repeat B 7", "swap A 5 6", "number A 9 200", "early A 12 300", "flip B 20 1a", "down A 30", "down B 1"]
 
 
@@ -336,7 +391,7 @@ def try_words(program: str) -> Iterator[tuple[str, list[str]]]:
         is_well = ran.returncode == status and ran.stderr.startswith(start) and not ran.stdout
         yield f"afdx_play {' '.join(words)}: status {status}", [] if is_well else [f"{ran}"]
     told = subprocess.run([program, "--help"], capture_output=True, text=True, check=False)
-    lacks = [word for word in ("--speed", "--capture", "--fault", "--priority", *(it.split()[0] for it in FAULTS)) if word not in told.stdout]
+    lacks = [word for word in ("--as-written", "--speed", "--capture", "--fault", "--priority", *(it.split()[0] for it in FAULTS)) if word not in told.stdout]
     yield "afdx_play --help", [f"it lacks {lacks}: {told}"] if lacks or told.returncode or told.stderr else []
     version = subprocess.run([program, "--version"], capture_output=True, text=True, check=False).stdout
     yield "afdx_play --version", [] if version == f"afdx_play {re.search('AFDX_VERSION .(.*).', trying.text_of('crates/afdx/afdx.h'))[1]}\n" else [version]
@@ -364,6 +419,9 @@ def inside(program: str, millis: int) -> int:
             tries.attempt(f"faults {row}", lambda row=row: try_more(rig, *row))
         for by in (signal.SIGINT, signal.SIGTERM):
             tries.attempt(f"stopped by {by.name}", lambda by=by: try_stop(rig, by))
+        for stalls in (0, 2):
+            tries.attempt(f"by the clock, held up {stalls} times", lambda stalls=stalls: try_clock(rig, stalls))
+        tries.attempt("as written, held up twice", lambda: try_written(rig))
         tries.attempt("an interface that is down", lambda: try_down(rig))
         tries.attempt("--speed 4", lambda: try_speed(rig))
         tries.attempt("ends", lambda: try_ends(rig))
