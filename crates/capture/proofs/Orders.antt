@@ -1,26 +1,22 @@
 -- The frames of two networks in order, one after the other, which is that of their times.
-use Rattle.capture.proofs.Names.{A, B, Bool, Captured, Entry, IsInTime, List, RiseFrom, arith, before_others, captured_moments, false, if◌then◌else◌, in_order, map, moments, nat_lt, next_net, on, refl, true, [], ℕ, ◌∷◌, ◌≡◌, ◌≤◌}
+use Rattle.capture.proofs.Names.{A, B, Bool, Captured, Entry, IsInTime, List, None, RiseFrom, Some, first_moment, arith, captured_moments, false, if◌then◌else◌, in_order, map, moments, nat_lt, next_net, on, refl, true, [], ℕ, ◌∷◌, ◌≡◌, ◌≤◌}
 use borrow.Author.Tests.{ltb-true, ltb-false}
 
 -- a frame that comes next is the first
-pub order_a : (xs bs rest : List Entry) (e : Entry) → A ≡ next_net xs bs → xs ≡ e ∷ rest
+pub order_a : (xs bs rest : List Entry) (e : Entry) → next_net (first_moment xs) (first_moment bs) ≡ Some A → xs ≡ e ∷ rest
     → in_order xs bs ≡ on A e ∷ in_order rest bs
 unfolding in_order
-order_a bs rest e net is = grind arith
+order_a xs bs rest e net is = grind arith
 
-pub order_b : (xs bs rest : List Entry) (e : Entry) → B ≡ next_net xs bs → bs ≡ e ∷ rest
+pub order_b : (xs bs rest : List Entry) (e : Entry) → next_net (first_moment xs) (first_moment bs) ≡ Some B → bs ≡ e ∷ rest
     → in_order xs bs ≡ on B e ∷ in_order xs rest
 unfolding in_order
-order_b xs rest e net is = grind arith
+order_b xs bs rest e net is = grind arith
 
--- if one of B comes next and there is none, all are given
-pub order_none : (xs bs : List Entry) → B ≡ next_net xs bs → bs ≡ [] → in_order xs bs ≡ []
+-- if none comes next, all are given
+pub order_none : (xs bs : List Entry) → next_net (first_moment xs) (first_moment bs) ≡ None → in_order xs bs ≡ []
 unfolding in_order
-order_none net is = grind arith
-
--- the same of what is left then
-pub order_left : (xs bs new : List Entry) → B ≡ next_net xs bs → bs ≡ [] → new ≡ [] → in_order xs new ≡ []
-order_left xs bs new net is none = rw none (rw is at (order_none xs bs net is))
+order_none xs bs net = grind arith
 
 -- a frame isn't later than the first of others
 abbrev pub IsBefore : Entry → List Entry → Type 0
@@ -40,12 +36,13 @@ merges_b [] = none
 merges_b (b ∷ bs) = next_b tt (merges_b bs)
 
 merges_a : (a : Entry) (xs : List Entry) → ((bs : List Entry) → Merges xs bs (in_order xs bs)) → (bs : List Entry)
-    → Merges (a ∷ xs) bs (before_others a (in_order xs) bs)
+    → Merges (a ∷ xs) bs (in_order (a ∷ xs) bs)
+unfolding in_order
 merges_a a xs more [] = next_a tt (more [])
 merges_a a xs more (b ∷ bs) = by (nat_lt b.at a.at) refl (merges_a a xs more bs)
   where
-    by : (t : Bool) → nat_lt b.at a.at ≡ t → Merges (a ∷ xs) bs (before_others a (in_order xs) bs)
-        → Merges (a ∷ xs) (b ∷ bs) (if t then on B b ∷ before_others a (in_order xs) bs else on A a ∷ in_order xs (b ∷ bs))
+    by : (t : Bool) → nat_lt b.at a.at ≡ t → Merges (a ∷ xs) bs (in_order (a ∷ xs) bs)
+        → Merges (a ∷ xs) (b ∷ bs) (if t then on B b ∷ in_order (a ∷ xs) bs else on A a ∷ in_order xs (b ∷ bs))
     by true is rest = next_b (omega (arith, ltb-true b.at a.at is)) rest
     by false is rest = next_a (ltb-false b.at a.at is) (more (b ∷ bs))
 

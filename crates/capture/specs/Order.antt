@@ -1,4 +1,4 @@
--- The order of the frames of two networks in a capture, and iterating over them.
+-- The order of two networks by time, of their frames in a capture, and iterating over these.
 use Rattle.std.specs.Prelude.{nat_lt, if◌then◌else◌, List, [], ◌∷◌, map, ◌≡◌, ◌≤◌, length, Option, Some, None, ℕ, ⊤}
 use Rattle.afdx_frame.specs.declared.net.Net.{Net}
 use Rattle.afdx_frame.specs.declared.net.Net.TheVariants.{A, B}
@@ -14,22 +14,27 @@ pub record Captured : Type 0 where
 abbrev pub on : Net → Entry → Captured
 on net entry = record { net = net; entry = entry }
 
--- a frame of A, after those of B that are earlier, and before what comes of the others
-abbrev pub before_others : Entry → (List Entry → List Captured) → List Entry → List Captured
-before_others a others [] = on A a ∷ others []
-before_others a others (b ∷ bs) =
-    if nat_lt b.at a.at then on B b ∷ before_others a others bs else on A a ∷ others (b ∷ bs)
+-- an element of A, after those of B that are earlier, and before what comes of the others
+abbrev pub before_others : {X : Type 0} → (X → ℕ) → X → (List X → List X) → List X → List X
+before_others at a others [] = a ∷ others []
+before_others at a others (b ∷ bs) =
+    if nat_lt (at b) (at a) then b ∷ before_others at a others bs else a ∷ others (b ∷ bs)
 
--- the frames of A and of B: the earlier one comes first, and at one time A's
+-- the elements of A and of B, each in their order: the earlier one comes first, and at one time A's
+abbrev pub merged : {X : Type 0} → (X → ℕ) → List X → List X → List X
+merged at [] bs = bs
+merged at (a ∷ xs) bs = before_others at a (merged at xs) bs
+
+-- the network whose element comes next, by the times of the next ones
+abbrev pub next_net : Option ℕ → Option ℕ → Option Net
+next_net None None = None
+next_net None (Some b) = Some B
+next_net (Some a) None = Some A
+next_net (Some a) (Some b) = if nat_lt b a then Some B else Some A
+
+-- the frames of A and of B in the order of their times
 unfoldable pub in_order : List Entry → List Entry → List Captured
-in_order [] bs = map (on B) bs
-in_order (a ∷ xs) bs = before_others a (in_order xs) bs
-
--- the network whose frame comes next
-abbrev pub next_net : List Entry → List Entry → Net
-next_net [] bs = B
-next_net (a ∷ xs) [] = A
-next_net (a ∷ xs) (b ∷ bs) = if nat_lt b.at a.at then B else A
+in_order xs bs = merged (λ (c : Captured). c.entry.at) (map (on A) xs) (map (on B) bs)
 
 -- a packet's network, time and bytes
 abbrev pub shown : SentFrame → Captured

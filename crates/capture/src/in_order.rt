@@ -46,8 +46,10 @@ impl<'a> Iterator for InOrder<'a> {
 
     ghost remaining = { item_count (λ packets. packets) };
 
+    #[tactic(auto, using(crate::proofs::Orders::order_a, crate::proofs::Orders::order_b, crate::proofs::Orders::order_none))]
     fn next(&mut self) -> Option<SentFrame<'a>> {
-        match next_net(&self.a, &self.b) {
+        let (on_a, on_b) = (self.a.next_moment(), self.b.next_moment());
+        match next_net(on_a.map(|at| at as u128), on_b.map(|at| at as u128))? {
             Net::A => {
                 let (at, frame) = self.a.next()?;
                 let net = Net::A;
@@ -62,13 +64,14 @@ impl<'a> Iterator for InOrder<'a> {
     }
 }
 
-/// The network whose frame comes next.
-fn next_net(a: &LogFrames<'_>, b: &LogFrames<'_>) -> Net
-    ensures { result ≡ net_of_next a.now b.now }
+/// The network that comes next, by the times of what comes next on A and on B: the earlier, and A at one time.
+pub fn next_net(a: Option<u128>, b: Option<u128>) -> Option<Net>
+    ensures { result ≡ net_of_next a b }
 {
-    match (a.next_moment(), b.next_moment()) {
-        (None, _) => Net::B,
-        (Some(_), None) => Net::A,
-        (Some(on_a), Some(on_b)) => { if on_b < on_a { Net::B } else { Net::A } }
+    match (a, b) {
+        (None, None) => None,
+        (None, Some(_)) => Some(Net::B),
+        (Some(_), None) => Some(Net::A),
+        (Some(a), Some(b)) => Some(if b < a { Net::B } else { Net::A }),
     }
 }

@@ -14,6 +14,7 @@ mod unit;
 mod write;
 
 pub use end::End;
+pub use in_order::next_net;
 pub use interface::{Interface, MOST_INTERFACES};
 pub use order::Order;
 pub use packet::Packet;

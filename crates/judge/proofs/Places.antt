@@ -3,11 +3,12 @@ use Rattle.std.proofs.Common.{◌≡◌, ℕ, ◌+◌, ◌-◌, ◌<◌, List, [
 use Rattle.std.proofs.lemmas.List.{drop_more, get_or-map, length-map, take_all, drop-map}
 use Rattle.std.specs.Prelude.{slice_range}
 use Rattle.afdx_frame.specs.declared.net.Net.TheVariants.{A, B}
+use Rattle.capture.specs.Order.{merged, next_net}
 use Rattle.capture.specs.Recording.{Recorded, recorded}
 use Rattle.capture.specs.declared.packet.Packet.{Packet}
 use Rattle.judge.specs.Judging.{OnNet, Judging, after_packet, found_with_packet, found_from}
 use Rattle.judge.specs.declared.finding.Finding.{Finding}
-use Rattle.judge.specs.Merging.{on_net, of_net, merged, from_places, next_net, BeginsOn}
+use Rattle.judge.specs.Merging.{on_net, of_net, first_time, from_places, time_of, BeginsOn}
 
 -- the packet at a place begins what is left from there on
 pub at_place : (ps : List Packet) (i : ℕ) (d : Packet) → i < length ps
@@ -20,25 +21,28 @@ at_place ps i d within =
 pub rest_is : (ps : List Packet) (i : ℕ) → map recorded (slice_range ps i (length ps)) ≡ drop i (map recorded ps)
 rest_is ps i = rw (take_all (length ps - i) (drop i ps) (omega (arith, length-drop i ps)), drop-map) refl
 
+abbrev time_on : OnNet → ℕ
+time_on p = time_of p.packet
+
 -- the packet of A, or of B, that comes next is the first of both networks'
 a_first : (alone : Bool) (n m : ℕ) (x : Recorded) (xs ys : List Recorded) → BeginsOn alone A (x ∷ xs)
-    → BeginsOn alone B ys → next_net (x ∷ xs) ys ≡ Some A
-    → merged (of_net alone A n (x ∷ xs)) (of_net alone B m ys)
-    ≡ on_net A n x ∷ merged (of_net alone A (n + 1) xs) (of_net alone B m ys)
+    → BeginsOn alone B ys → next_net (first_time (x ∷ xs)) (first_time ys) ≡ Some A
+    → merged time_on (of_net alone A n (x ∷ xs)) (of_net alone B m ys)
+    ≡ on_net A n x ∷ merged time_on (of_net alone A (n + 1) xs) (of_net alone B m ys)
 a_first alone n m x xs [] of_a of_b is = rw of_a refl
 a_first alone n m x xs (y ∷ ys) of_a of_b is = grind arith
 
 b_first : (alone : Bool) (n m : ℕ) (xs : List Recorded) (y : Recorded) (ys : List Recorded) → BeginsOn alone A xs
-    → BeginsOn alone B (y ∷ ys) → next_net xs (y ∷ ys) ≡ Some B
-    → merged (of_net alone A n xs) (of_net alone B m (y ∷ ys))
-    ≡ on_net B m y ∷ merged (of_net alone A n xs) (of_net alone B (m + 1) ys)
+    → BeginsOn alone B (y ∷ ys) → next_net (first_time xs) (first_time (y ∷ ys)) ≡ Some B
+    → merged time_on (of_net alone A n xs) (of_net alone B m (y ∷ ys))
+    ≡ on_net B m y ∷ merged time_on (of_net alone A n xs) (of_net alone B (m + 1) ys)
 b_first alone n m [] y ys of_a of_b is = rw of_b refl
 b_first alone n m (x ∷ xs) y ys of_a of_b is = grind arith
 
 -- the packets from these places on, of which A's or B's is next
 pub next_a : (alone : Bool) (a b : List Packet) (i j k : ℕ) (d : Packet) → i < length a
     → BeginsOn alone A (drop i (map recorded a)) → BeginsOn alone B (drop j (map recorded b))
-    → next_net (drop i (map recorded a)) (drop j (map recorded b)) ≡ Some A
+    → next_net (first_time (drop i (map recorded a))) (first_time (drop j (map recorded b))) ≡ Some A
     → of_net alone A (k + 1) (drop k (map recorded a)) ≡ of_net alone A (i + 1 + 1) (drop (i + 1) (map recorded a))
     → from_places alone (map recorded a) i (map recorded b) j
     ≡ on_net A (i + 1) (recorded (get_or a i d)) ∷ from_places alone (map recorded a) k (map recorded b) j
@@ -48,7 +52,7 @@ next_a alone a b i j k d within of_a of_b next on =
 
 pub next_b : (alone : Bool) (a b : List Packet) (i j k : ℕ) (d : Packet) → j < length b
     → BeginsOn alone A (drop i (map recorded a)) → BeginsOn alone B (drop j (map recorded b))
-    → next_net (drop i (map recorded a)) (drop j (map recorded b)) ≡ Some B
+    → next_net (first_time (drop i (map recorded a))) (first_time (drop j (map recorded b))) ≡ Some B
     → of_net alone B (k + 1) (drop k (map recorded b)) ≡ of_net alone B (j + 1 + 1) (drop (j + 1) (map recorded b))
     → from_places alone (map recorded a) i (map recorded b) j
     ≡ on_net B (j + 1) (recorded (get_or b j d)) ∷ from_places alone (map recorded a) i (map recorded b) k

@@ -1,6 +1,7 @@
 -- The packets of two networks in the order of their times.
 use Rattle.std.specs.Prelude.{ℕ, ◌+◌, ◌≡◌, nat_lt, ◌||◌, Bool, true, if◌then◌else◌, List, [], ◌∷◌, drop, unwrap_or, Option, Some, None, ⊤}
 use Rattle.afdx_frame.specs.declared.net.Net.TheVariants.{A, B}
+use Rattle.capture.specs.Order.{merged}
 use Rattle.capture.specs.ReadBack.{is_of as is_on}
 use Rattle.judge.specs.Judging.{OnNet}
 use Rattle.judge.specs.Types.{Net, Recorded}
@@ -23,28 +24,15 @@ of_net alone net number (p ∷ ps) =
 abbrev pub time_of : Recorded → ℕ
 time_of packet = unwrap_or packet.at 0
 
--- a packet of A, after those of B that are earlier, and before what comes of the others
-abbrev pub before_others : OnNet → (List OnNet → List OnNet) → List OnNet → List OnNet
-before_others a others [] = a ∷ others []
-before_others a others (b ∷ bs) =
-    if nat_lt (time_of b.packet) (time_of a.packet) then b ∷ before_others a others bs else a ∷ others (b ∷ bs)
+-- the time of the first of these packets
+abbrev pub first_time : List Recorded → Option ℕ
+first_time [] = None
+first_time (p ∷ ps) = Some (time_of p)
 
--- the packets of A and of B, each in their order: the earlier one comes first, and at one time A's
-abbrev pub merged : List OnNet → List OnNet → List OnNet
-merged [] bs = bs
-merged (a ∷ xs) bs = before_others a (merged xs) bs
-
--- the packets of both networks that are left from these places on
+-- the packets of both networks that are left from these places on, in the order of their times
 abbrev pub from_places : Bool → List Recorded → ℕ → List Recorded → ℕ → List OnNet
 from_places alone a on_a b on_b =
-    merged (of_net alone A (on_a + 1) (drop on_a a)) (of_net alone B (on_b + 1) (drop on_b b))
-
--- the network whose packet comes next
-abbrev pub next_net : List Recorded → List Recorded → Option Net
-next_net [] [] = None
-next_net [] (b ∷ bs) = Some B
-next_net (a ∷ xs) [] = Some A
-next_net (a ∷ xs) (b ∷ bs) = if nat_lt (time_of b) (time_of a) then Some B else Some A
+    merged (λ (p : OnNet). time_of p.packet) (of_net alone A (on_a + 1) (drop on_a a)) (of_net alone B (on_b + 1) (drop on_b b))
 
 -- there is no packet, or the first one is of the network
 abbrev pub BeginsOn : Bool → Net → List Recorded → Type 0

@@ -1,15 +1,15 @@
 //! The packets of two networks, judged in the order of their times.
-ghost use Rattle.std.specs.Prelude.{◌≡◌, ◌+◌, ◌<◌, ◌≤◌, Some, map, length, drop, IfOk};
+ghost use Rattle.std.specs.Prelude.{◌≡◌, ◌+◌, ◌<◌, ◌≤◌, map, length, drop, IfOk, IsSome};
 ghost use Rattle.capture.specs.Recording.{recorded};
 ghost use Rattle.judge.specs.Judging.{findings};
-ghost use Rattle.judge.specs.Merging.{is_of, next_net, of_net, time_of, from_places, BeginsOn};
+ghost use Rattle.judge.specs.Merging.{is_of, first_time, of_net, from_places, BeginsOn};
 
 use crate::finding::Finding;
 use crate::judge::Judge;
 use crate::options::Options;
 use afdx_frame::Net;
 use afdx_plan::Config;
-use capture::Packet;
+use capture::{Packet, next_net};
 use std::alloc::{AllocError, Global};
 
 /// Whether a packet is of a network: any in a capture of that network alone, otherwise those of its interface.
@@ -22,11 +22,13 @@ fn is_of(alone: bool, net: Net, packet: &Packet<'_>) -> bool
     }
 }
 
-/// The time by which a packet is merged: 0 if none was recorded.
-fn time_of(packet: &Packet<'_>) -> u128
-    ensures { result ≡ time_of (recorded packet.now) }
+/// The time by which the first packet is merged: 0 if none was recorded.
+fn first_time(packets: &[Packet<'_>]) -> Option<u128>
+    ensures value { result ≡ first_time (map recorded packets.now) }
+    ensures some { IsSome result → 0 < length packets.now }
 {
-    packet.at.unwrap_or(0)
+    let first = packets.first()?;
+    Some(first.at.unwrap_or(0))
 }
 
 /// The place of the first packet of a network from a place on, or the number of all packets if there is none.
@@ -44,24 +46,6 @@ fn place_from(packets: &[Packet<'_>], from: usize, alone: bool, net: Net) -> usi
         place += 1;
     }
     place
-}
-
-/// The network whose packet comes next, of what is left of both.
-fn next_net(a: &[Packet<'_>], b: &[Packet<'_>]) -> Option<Net>
-    ensures next { result ≡ next_net (map recorded a.now) (map recorded b.now) }
-    ensures in_a { result ≡ Some Net.A → 0 < length a.now }
-    ensures in_b { result ≡ Some Net.B → 0 < length b.now }
-{
-    match (a, b) {
-        ([], []) => None,
-        ([], [_, ..]) => Some(Net::B),
-        ([_, ..], []) => Some(Net::A),
-        ([a, ..], [b, ..]) => Some(if time_of(b) < time_of(a) {
-            Net::B
-        } else {
-            Net::A
-        }),
-    }
 }
 
 /// What is wrong with the packets of two networks, by the plan of their end system: with `alone` the packets `a` of a
@@ -83,7 +67,7 @@ pub fn judge_packets<'a>(
     let mut found = Vec::new(alloc);
     let mut on_a = place_from(a, 0, alone, Net::A);
     let mut on_b = place_from(b, 0, alone, Net::B);
-    'packets: while let Some(net) = next_net(&a[on_a..], &b[on_b..]) {
+    'packets: while let Some(net) = next_net(first_time(&a[on_a..]), first_time(&b[on_b..])) {
         match net {
             Net::A => {
                 judge.take(Net::A, on_a as u64 + 1, &a[on_a], &mut found)?;

@@ -10,7 +10,7 @@ packets-preserved-in-A c = record {
   first_b = c.packets.invariant.first_b;
   same = found_on _ _ _ _ _ _ _ _
       (next_a c.args.alone c.args.a.now c.args.b.now c.packets.on_a c.packets.on_b c.place_from-on_a-in-A.result _
-      (omega (arith, c.next_net.ensures.in_a (cc))) c.packets.invariant.first_a c.packets.invariant.first_b
+      (grind arith) c.packets.invariant.first_a c.packets.invariant.first_b
       (rw (← rest_is c.args.a.now c.packets.on_a, ← rest_is c.args.b.now c.packets.on_b) (cc))
       c.place_from-on_a-in-A.ensures.same) c.packets.invariant.same c.in_ok-take-in-A.ensures.after
       c.in_ok-take-in-A.ensures.found;
@@ -24,7 +24,7 @@ packets-preserved c = record {
   first_b = c.place_from-on_b-in-B.ensures.first;
   same = found_on _ _ _ _ _ _ _ _
       (next_b c.args.alone c.args.a.now c.args.b.now c.packets.on_a c.packets.on_b c.place_from-on_b-in-B.result _
-      (omega (arith, c.next_net.ensures.in_b (cc))) c.packets.invariant.first_a c.packets.invariant.first_b
+      (grind arith) c.packets.invariant.first_a c.packets.invariant.first_b
       (rw (← rest_is c.args.a.now c.packets.on_a, ← rest_is c.args.b.now c.packets.on_b) (cc))
       c.place_from-on_b-in-B.ensures.same) c.packets.invariant.same c.in_ok-take-in-B.ensures.after
       c.in_ok-take-in-B.ensures.found;
