@@ -75,10 +75,10 @@ abbrev pub from_unit : Progress → List ℕ → CaptureUnit → Result Moved St
 from_unit p bytes unit = or_stop (size_of unit bytes) >>= from_size p bytes unit
 
 -- the step is the same
-pub next-append : (p : Progress) (bytes more : List ℕ) → (next p bytes ≡ Err More → ⊥)
+pub steps_alike : (p : Progress) (bytes more : List ℕ) → (next p bytes ≡ Err More → ⊥)
     → next p (bytes ++ more) ≡ next p bytes
 unfolding next
-next-append p bytes more other =
+steps_alike p bytes more other =
     let all : List ℕ = bytes ++ more in
     with_bytes-append 12 bytes more (or_stop (unit_of p.format bytes) >>= from_unit p bytes)
     (or_stop (unit_of p.format all) >>= from_unit p all) other (λ enough other_unit.

@@ -1,6 +1,6 @@
 -- Reading on from a step.
 use Rattle.capture.proofs.Names.{Block, Bool, Err, Fault, Header, List, Malformed, More, Moved, Ok, Progress, Record, Result, Section, StepsOn, Stop, StopsThere, ap, arith, block_size, content_of, drop, drop-append-le, false, length, length-append, length-drop, ltb-false, moved, nat_lt, next, or_stop, read_within, record_size, refl, size_of, suc, take, then_read, true, unit_of, with_bytes, with_packet, zero, ℕ, ◌++◌, ◌+◌, ◌<◌, ◌>>=◌, ◌∙◌, ◌≡◌, ◌≤◌}
-use Rattle.capture.proofs.Prefixes.{next-append, from_size, from_unit}
+use Rattle.capture.proofs.Prefixes.{steps_alike, from_size, from_unit}
 use Rattle.capture.specs.declared.unit.Unit.{Unit as CaptureUnit}
 
 -- what it takes to give something
@@ -68,7 +68,7 @@ pub steps_on : StepsOn
 unfolding read_within
 steps_on at p window more step is =
     let used = used_of p window step is in
-    let all : next p (window ++ more) ≡ Ok step = next-append p window more (λ short. cc) ∙ is in
+    let all : next p (window ++ more) ≡ Ok step = steps_alike p window more (λ short. cc) ∙ is in
     let rest : drop step.used (window ++ more) ≡ drop step.used window ++ more =
     drop-append-le step.used window more used.1 in
     let left = length-drop step.used window in
@@ -82,5 +82,5 @@ steps_on at p window more step is =
 pub stops_there : StopsThere
 unfolding read_within
 stops_there at p window more fault is =
-    let all : next p (window ++ more) ≡ Err (Malformed fault) = next-append p window more (λ short. cc) ∙ is in
+    let all : next p (window ++ more) ≡ Err (Malformed fault) = steps_alike p window more (λ short. cc) ∙ is in
     rw all refl

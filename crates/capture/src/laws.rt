@@ -14,6 +14,7 @@ pub fn reads_back()
 {}
 
 /// If the times of each network's frames rise, or stay, so do those of the capture.
+#[tactic(auto, using(crate::proofs::Orders::in_time), unfolding(crate::specs::Order::in_order))]
 pub fn in_time()
     ensures time { IsInTime }
 
@@ -23,6 +24,7 @@ pub fn in_time()
 
 /// A capture that is read in windows is read as a whole: the packets of the steps are those of the recording,
 /// in their order, wherever the windows end.
+#[tactic(auto, using(crate::proofs::Prefixes::steps_alike, crate::proofs::Steps::steps_on, crate::proofs::Steps::stops_there, crate::proofs::Room::room_enough))]
 pub fn streams()
     ensures alike { StepsAlike }
     ensures on { StepsOn }

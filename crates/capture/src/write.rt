@@ -27,6 +27,7 @@ const ZEROES: [u8; 3] = [0; 3];
 /// for each network, and then a packet for each frame, with its time in microseconds. The earlier frame
 /// comes first; of two frames at one time, A's. If the writer fails, it may have written a part of the
 /// capture.
+#[tactic(auto, using(script_text::proofs::Written::written_none, script_text::proofs::Written::written_turn, script_text::proofs::Written::written_all), unfolding(crate::specs::Capture::packet_blocks))]
 pub fn write_capture<W: Write>(writer: &mut W, a: &FrameLog, b: &FrameLog) -> io::Result<()>
     ensures { OnOk result (Appends (W.contents writer.old) (W.contents writer.new)
         (capture_bytes a.now.handed b.now.handed)) }

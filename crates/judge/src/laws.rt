@@ -2,6 +2,7 @@
 ghost use Rattle.judge.specs.Worked.{ChecksDigits};
 
 /// The check sequence of the digits 1 to 9, which tables of such codes list.
+#[tactic(auto, unfolding(crate::specs::CheckSequence::check_sequence, crate::specs::CheckSequence::with_byte))]
 pub fn checks_digits()
     ensures worked { ChecksDigits }
 {}

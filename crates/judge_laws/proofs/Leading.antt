@@ -1,8 +1,9 @@
 -- The twins of a link on both networks, where both got all and the recording is in the order of time: the frames that wait
 -- are those by which one network leads, and each finds its twin.
-use Rattle.judge_laws.proofs.Names.{A, All, All-cons, All-nil, All-push, All-tail, All-weaker, AllZip, B, Entry, List, Nearness, Net, None, Option, Pairing, Tag, Wait, ap, append_assoc, arith, cases_Bool, entry, eq-eqb, false, filter, find, get_or, get_or-append-add, get_or-append_seam, get_or-map, get_or_append_left, get_or_default, is_lost, is_passed, is_twin, kept, left_waiting, length, length-append, length-map, length-twin, map, nat_tests, number_in, pairing_with, refl, same_net, side, sym, true, twin_number, ℕ, [], ◌*◌, ◌++◌, ◌+◌, ◌<◌, ◌∙◌, ◌∷◌, ◌≡◌, ◌≤◌, ◌⊎◌}
+use Rattle.judge_laws.proofs.Names.{A, All, All-push, All-tail, All-weaker, AllZip, AllZip-long, all_zipped_more, B, Entry, List, Nearness, Net, None, Option, Pairing, Tag, Wait, ap, append_assoc, arith, cases_Bool, entry, eq-eqb, false, filter, find, get_or, get_or-append-add, get_or-append_seam, get_or-map, get_or_append_left, get_or_default, is_lost, is_passed, is_twin, kept, left_waiting, length, length-append, length-map, length-twin, map, nat_tests, number_in, pairing_with, refl, same_net, side, sym, true, twin_number, ℕ, [], ◌*◌, ◌++◌, ◌+◌, ◌<◌, ◌∙◌, ◌∷◌, ◌≡◌, ◌≤◌, ◌⊎◌}
 use Rattle.judge_laws.proofs.Copies.{IsStream, far, own_at}
 use Rattle.judge_laws.proofs.Line.{IsDelayed}
+use Rattle.judge_laws.proofs.Reading.{zip_at}
 use Rattle.judge_laws.proofs.Recording.{rest_after, same_self}
 
 abbrev pub other : Net → Net
@@ -93,16 +94,12 @@ all_stay : (origin jitter skew latest : ℕ) (nearness : Nearness) (tag : Tag) (
     → All (λ (w : Wait). w.tag.at ≤ latest) ws → AreOpen origin jitter tag.at ahead
     → All (λ (o : Entry). same_net lead tag.net ≡ true → number_in o.frame ≡ number → ⊥) ahead
     → All (λ (w : Wait). is_passed nearness tag number w ≡ false) ws
-all_stay origin jitter skew latest nearness tag number lead [] [] is_skew fit later zip past late unlike =
-    All-nil (λ (w : Wait). is_passed nearness tag number w ≡ false)
-all_stay origin jitter skew latest nearness tag number lead (o ∷ os) (w ∷ ws) is_skew fit later zip past late unlike =
-    All-cons (λ (w : Wait). is_passed nearness tag number w ≡ false) w ws
-    (stays_one origin jitter skew latest nearness tag number lead o w is_skew fit later zip.0 (past 0 w (omega arith)) (late 0 o (omega arith))
-    (unlike 0 o (omega arith)))
-    (all_stay origin jitter skew latest nearness tag number lead os ws is_skew fit later zip.1
-    (All-tail (λ (w : Wait). w.tag.at ≤ latest) w ws past) (All-tail (λ (e : Entry). tag.at ≤ origin + 1000 * (e.at + jitter)) o os late)
-    (All-tail (λ (o : Entry). same_net lead tag.net ≡ true → number_in o.frame ≡ number → ⊥) o os unlike))
-all_stay origin jitter skew latest nearness tag number lead ahead ws is_skew fit later zip past late unlike = absurd zip
+all_stay origin jitter skew latest nearness tag number lead ahead ws is_skew fit later zip past late unlike = λ i spare inside.
+    let own : Entry = get_or ahead i (entry 0 []) in
+    let both = AllZip-long (IsWaitFor origin jitter lead) ahead ws zip in
+    stays_one origin jitter skew latest nearness tag number lead own (get_or ws i spare) is_skew fit later
+    (zip_at (IsWaitFor origin jitter lead) ahead ws i (entry 0 []) spare zip inside) (past i spare inside)
+    (late i (entry 0 []) (omega arith)) (unlike i (entry 0 []) (omega arith))
 
 no_twin : (origin jitter : ℕ) (tag : Tag) (number : ℕ) (ahead : List Entry) (ws : List Wait)
     → AllZip (IsWaitFor origin jitter tag.net) ahead ws → find (is_twin tag number) ws ≡ None
@@ -110,13 +107,6 @@ no_twin origin jitter tag number [] [] zip = refl
 no_twin origin jitter tag number (o ∷ os) (w ∷ ws) zip =
     rw (zip.0.net, same_self tag.net) (no_twin origin jitter tag number os ws zip.1)
 no_twin origin jitter tag number ahead ws zip = absurd zip
-
-zip_push : (origin jitter : ℕ) (lead : Net) (es : List Entry) (ws : List Wait) (e : Entry) (w : Wait)
-    → AllZip (IsWaitFor origin jitter lead) es ws → IsWaitFor origin jitter lead e w
-    → AllZip (IsWaitFor origin jitter lead) (es ++ e ∷ []) (ws ++ w ∷ [])
-zip_push origin jitter lead [] [] e w zip is = (is, tt)
-zip_push origin jitter lead (d ∷ es) (v ∷ ws) e w zip is = (zip.0, zip_push origin jitter lead es ws e w zip.1 is)
-zip_push origin jitter lead es ws e w zip is = absurd zip
 
 first_met : (tag : Tag) (number : ℕ) (frame : List ℕ) (lead : Option ℕ) (w : Wait) (ws : List Wait) → is_twin tag number w ≡ true
     → (pairing_with tag number frame (record { waiting = w ∷ ws; lead = lead })).waiting ≡ ws
@@ -163,7 +153,7 @@ module _ (stream : List Entry) (gap origin jitter skew latest : ℕ) (nearness :
       whole = rw append_assoc whole;
       leads = own ∙ cc (leads);
       lags = rw append_assoc (others ∙ lags);
-      waits = rw (left, none) (zip_push origin jitter tag.net ahead p.waiting c new waits
+      waits = rw (left, none) (all_zipped_more (IsWaitFor origin jitter tag.net) ahead p.waiting c new waits
           (record { net = refl; number = same c is; delayed = rw is at delayed }));
     };
     past = rw (left, none) (All-push (λ (w : Wait). w.tag.at ≤ tag.at) p.waiting new (past_later latest tag.at p.waiting later past) (omega arith));

@@ -11,6 +11,7 @@ pub use Rattle.std.proofs.lemmas.List.Filters.{length-filter_both}
 pub use Rattle.std.proofs.Math.Path.{fun_ext}
 pub use Rattle.std.proofs.lemmas.List.Quantifiers.{position-Some}
 pub use Rattle.std.proofs.lemmas.Simd.{map-map}
+pub use Rattle.std.proofs.lemmas.Slice.Zip.{AllZip-long, all_zipped_more}
 pub use Rattle.std.specs.List.{AllZip, list_all}
 pub use Rattle.std.specs.Prelude.{All, Contains, IfSome, filter, find, if◌then◌else◌, min, nat_eq, nat_lt, position, remove, slice_range, slice_set, unwrap_or, ◌&&◌}
 pub use Rattle.afdx_plan.proofs.DemoPlan.{demo_valid}

@@ -1,5 +1,5 @@
 -- A frame in which the judge finds nothing: what it says, what its message tells, and that it brings the next piece of one.
-use Rattle.judge_laws.proofs.Names.{layout_is_profile, none_both, All-contains, Contains, Fields, HasLink, Head, IsFrame, IsLink, IsPlan, IsPort, Joining, LinkPlan, List, Net, None, Ok, Option, Piece, PieceIn, Plan, PortPlan, Some, UdpSum, VlId, address_number, addresses, ap, arith, begun, cases_Bool, cases_lt, datagram, destination_address, drop, end_deviation, false, fields_of, first_port, fragment_deviation, fragment_field, get_or, get_or-append_right, get_or_append_left, get_or_past, head_after, head_now, head_of, head_with, ident_of, identification, inl, inr, interface_byte, interface_on, is_of_port, is_towards, judge_sub, layout_broken, length, length-append, length-drop, length-take, length_deviation, link_in, link_plan_at, max, message_deviation, names, nat_le, nat_tests, new_sub, next_of, on_link, place_of, port_deviation, position, position-Some, refl, right_sum, size_deviation, slice_index, step_of, sym, take, take-append-drop, total_length, true, two_bytes, udp_checksum, udp_field, udp_header, udp_sum, word_at, word_sum, word_sum-append, ℕ, [], ◌%◌, ◌*◌, ◌++◌, ◌+◌, ◌-◌, ◌/◌, ◌<◌, ◌==◌, ◌∙◌, ◌≡◌, ◌≤◌, ◌⊎◌}
+use Rattle.judge_laws.proofs.Names.{none_both, All-contains, Contains, Fields, HasLink, Head, IsFrame, IsLink, IsPlan, IsPort, Joining, LinkPlan, List, Net, None, Ok, Option, Piece, PieceIn, Plan, PortPlan, Some, UdpSum, VlId, address_number, addresses, ap, arith, begun, cases_Bool, cases_lt, datagram, destination_address, drop, end_deviation, false, fields_of, first_port, fragment_deviation, fragment_field, get_or, get_or-append_right, get_or_append_left, get_or_past, head_after, head_now, head_of, head_with, ident_of, identification, inl, inr, interface_byte, interface_on, is_of_port, is_towards, judge_sub, length, length-append, length-drop, length-take, length_deviation, link_in, link_plan_at, max, message_deviation, names, nat_le, nat_tests, new_sub, next_of, on_link, place_of, port_deviation, position, position-Some, refl, right_sum, size_deviation, slice_index, step_of, sym, take, take-append-drop, total_length, true, two_bytes, udp_checksum, udp_field, udp_header, udp_sum, word_at, word_sum, word_sum-append, ℕ, [], ◌%◌, ◌*◌, ◌++◌, ◌+◌, ◌-◌, ◌/◌, ◌<◌, ◌==◌, ◌∙◌, ◌≡◌, ◌≤◌, ◌⊎◌}
 use Rattle.judge_laws.proofs.Message.{IsGood, head_first, head_later, port_at, room_at}
 use Rattle.judge_laws.proofs.Reading.{IsRead, address_part, bytes_are, bytes_at, find_says, part_at, port_says, same_id, word_is}
 
@@ -78,17 +78,6 @@ tells_whole end_system port given head is_port tells none =
     let said = none_says (length given) head none in
     grind (arith, nat_tests, said, header_back, parts, length-drop, tells.port_is)
 
--- The judge finds nothing in a frame of bytes. Its header checksum isn't 65,535, which no sender computes: a receiver, and
--- the judge, take it for 0.
-pub record IsQuiet (plan : Plan) (k s : ℕ) (net : Net) (joining : Joining) (frame : List ℕ) : Type 0 where
-  pub octets : (i : ℕ) → slice_index frame i < 256
-  pub sum : word_at frame 24 ≡ 65535 → ⊥
-  pub layout : layout_broken false frame ≡ None
-  pub placed : place_of plan net frame ≡ Ok k
-  pub sized : size_deviation (link_plan_at plan.links k) (length frame) ≡ None
-  pub of_sub : judge_sub (fields_of frame) ≡ s
-  pub good : IsGood (room_at plan k) (port_at plan k frame) (fields_of frame) joining
-
 -- ---- its link
 
 -- a frame is of a link of the plan, and for a network of it
@@ -119,6 +108,21 @@ placed_says plan net frame k is profile =
     let at = position-Some (λ (link : LinkPlan). link.id.0 == link_in frame) plan.links k (link_plan_at [] 0) on.0 in
     let at_on = named (link_plan_at plan.links k) net (slice_index frame 11) on.1 profile.link.interface in
     grind (arith, nat_tests, place, at, at_on)
+
+-- a frame of the profile, of a link of the plan, and no longer than its Lmax
+pub record IsAdmitted (plan : Plan) (k : ℕ) (net : Net) (frame : List ℕ) : Type 0 where
+  pub profile : IsFrame frame
+  pub placed : IsPlaced plan k net frame
+  pub sized : size_deviation (link_plan_at plan.links k) (length frame) ≡ None
+
+-- The judge finds nothing in a frame of bytes. Its header checksum isn't 65,535, which no sender computes: a receiver, and
+-- the judge, take it for 0.
+pub record IsQuiet (plan : Plan) (k s : ℕ) (net : Net) (joining : Joining) (frame : List ℕ) : Type 0 where
+  pub octets : (i : ℕ) → slice_index frame i < 256
+  pub sum : word_at frame 24 ≡ 65535 → ⊥
+  pub admitted : IsAdmitted plan k net frame
+  pub of_sub : judge_sub (fields_of frame) ≡ s
+  pub good : IsGood (room_at plan k) (port_at plan k frame) (fields_of frame) joining
 
 -- ---- its piece
 
@@ -155,8 +159,8 @@ pub reads : (plan : Plan) (k s : ℕ) (net : Net) (joining : Joining) (frame : L
     → is_towards (fields_of frame).flow port ≡ true → IsRead plan.end_system port net ident (piece_in frame) frame
 unfolding fields_of
 reads plan k s net joining frame port ident quiet ident_is link towards =
-    let profile : IsFrame frame = (layout_is_profile frame).0 quiet.layout in
-    let placed = placed_says plan net frame k quiet.placed profile in
+    let profile : IsFrame frame = quiet.admitted.profile in
+    let placed = quiet.admitted.placed in
     let link_is = placed.link ∙ sym link in
     let partition : slice_index frame 29 ≡ port.partition = grind (arith, nat_tests) in
     let address : 65536 * word_at frame 30 + word_at frame 32 ≡ address_number (destination_address port) = grind (arith, nat_tests) in
@@ -224,18 +228,15 @@ ends_says piece known head none last is = grind (arith, nat_tests)
 
 module _ {plan : Plan} {k s : ℕ} {net : Net} {joining : Joining} {frame : List ℕ} (valid : IsPlan plan) (within : k < length plan.links)
     (quiet : IsQuiet plan k s net joining frame) where
-  its_frame : IsFrame frame
-  its_frame = (layout_is_profile frame).0 quiet.layout
-
   link_is : IsLink (link_plan_at plan.links k)
   link_is = valid.each_link k _ within
 
   pub size : (1 ≤ (piece_in frame).len) × (length frame ≡ max 60 (35 + (piece_in frame).len)) × ((piece_in frame).len ≤ room_at plan k)
       × (length (body_in frame) ≡ (piece_in frame).len)
   size =
-      let small = fits_in (link_plan_at plan.links k) (length frame) quiet.sized in
-      let total = its_frame.internet.total in
-      let whole = its_frame.fits in
+      let small = fits_in (link_plan_at plan.links k) (length frame) quiet.admitted.sized in
+      let total = quiet.admitted.profile.internet.total in
+      let whole = quiet.admitted.profile.fits in
       let most = link_is.lmax in (
         omega arith,
         omega arith,
@@ -245,7 +246,7 @@ module _ {plan : Plan} {k s : ℕ} {net : Net} {joining : Joining} {frame : List
 
   sum_is : (fields_of frame).sum ≡ word_sum (body_in frame)
   unfolding fields_of
-  sum_is = grind (arith, nat_tests, its_frame)
+  sum_is = grind (arith, nat_tests, quiet.admitted.profile)
 
   fits : Fits (room_at plan k) (fields_of frame) joining
   fits = fits_says (room_at plan k) (fields_of frame) joining quiet.good.fits
@@ -318,7 +319,7 @@ module _ {plan : Plan} {k s : ℕ} {net : Net} {joining : Joining} {frame : List
 pub first_of_sub : (plan : Plan) (k s : ℕ) (net : Net) (frame : List ℕ) → IsPlan plan
     → IsQuiet plan k s net (new_sub false false s).joining frame → s < (link_plan_at plan.links k).sub_vls
 first_of_sub plan k s net frame valid quiet =
-    let placed = placed_says plan net frame k quiet.placed ((layout_is_profile frame).0 quiet.layout) in
+    let placed = quiet.admitted.placed in
     let between : IsBetween s 0 (new_sub false false s).joining = record { next = refl; ident = ap Some (omega (arith, quiet.of_sub)) } in
     let brings = brings_first valid placed.within quiet between in
     let sender = brings.1.sender in

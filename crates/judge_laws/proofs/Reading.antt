@@ -1,6 +1,6 @@
 -- What the judge reads of the frame of a piece, and the frame that is read: they are one. The link and the port that the judge
 -- finds for a frame of a valid plan.
-use Rattle.judge_laws.proofs.Names.{All, All-append, All-contains, All-drop, All-take, AreSameFlow, Bool, Contains, Fields, Flow, IfSome, IsFrame, IsPiece, IsPlan, IsPort, IsUnicast, LinkPlan, List, Net, Ok, Option, Piece, Plan, PortPlan, Some, UdpSum, VlId, address_number, addresses, ap, append_assoc, arith, blanked, both_ways, cases_Bool, checksum, datagram, destination_address, destination_of, drop, drop-cons, drop-drop, eq-eqb, false, fields_of, find, fragment_field, frame_of, get_or, get_or-drop, get_or-replicate, get_or-take, get_or_append_left, header_front, identification, inl, inr, interface_byte, internet_header, is_of_port, is_towards, judge_sub, length, length-addresses, length-drop, length-replicate, length-take, length-udp_header, link_header, link_in, link_plan_at, max, more_in, names, nat_le, nat_tests, ne_eqb, number_in, payload_says, place_of, port_of, position, position_or_len_is, refl, remove, replicate, same_number_lists, says, slice_index, sub_in, suc, sym, take, take-add, take_at, take_datagram, those_with, total_length, total_ok, true, two_bytes, udp_checksum, udp_field, udp_header, udp_sum, unnumbered, word_at, word_sum, zero, ℕ, [], ◌%◌, ◌*◌, ◌++◌, ◌+◌, ◌-◌, ◌/◌, ◌<◌, ◌==◌, ◌∙◌, ◌∷◌, ◌≡◌, ◌≢◌, ◌≤◌}
+use Rattle.judge_laws.proofs.Names.{All, All-append, All-contains, All-drop, All-take, AllZip, AreSameFlow, Bool, Contains, Fields, Flow, IfSome, IsFrame, IsPiece, IsPlan, IsPort, IsUnicast, LinkPlan, List, Net, Ok, Option, Piece, Plan, PortPlan, Some, UdpSum, VlId, address_number, addresses, ap, append_assoc, arith, blanked, both_ways, cases_Bool, checksum, datagram, destination_address, destination_of, drop, drop-cons, drop-drop, eq-eqb, false, fields_of, find, fragment_field, frame_of, get_or, get_or-drop, get_or-replicate, get_or-take, get_or_append_left, header_front, identification, inl, inr, interface_byte, internet_header, is_of_port, is_towards, judge_sub, length, length-addresses, length-drop, length-replicate, length-take, length-udp_header, link_header, link_in, link_plan_at, max, more_in, names, nat_le, nat_tests, ne_eqb, number_in, payload_says, place_of, port_of, position, position_or_len_is, refl, remove, replicate, same_number_lists, says, slice_index, sub_in, suc, sym, take, take-add, take_at, take_datagram, those_with, total_length, total_ok, true, two_bytes, udp_checksum, udp_field, udp_header, udp_sum, unnumbered, word_at, word_sum, zero, ℕ, [], ◌%◌, ◌*◌, ◌++◌, ◌+◌, ◌-◌, ◌/◌, ◌<◌, ◌==◌, ◌∙◌, ◌∷◌, ◌≡◌, ◌≢◌, ◌≤◌}
 
 pub back_none : {X : Type 0} (xs ys : List X) → xs ++ ys ≡ [] → ys ≡ []
 back_none [] ys none = none
@@ -33,6 +33,14 @@ find_says p (y ∷ ys) x is = elim (cases_Bool (p y)) [
   | inl passes ↦ let same : y ≡ x = cc (rw passes at is) in ((0, omega arith, same), rw (← same) passes)
   | inr fails ↦ let behind = find_says p ys x (rw fails at is) in ((suc behind.0.0, omega (arith, behind.0.1), behind.0.2), behind.1)
 ]
+
+-- two elements at one place
+pub zip_at : {X Y : Type 0} (R : X → Y → Type 0) (xs : List X) (ys : List Y) (i : ℕ) (d : X) (e : Y) → AllZip R xs ys → i < length ys
+    → R (get_or xs i d) (get_or ys i e)
+zip_at R xs [] i d e zip inside = absurd (omega arith)
+zip_at R [] (y ∷ ys) i d e zip inside = absurd zip
+zip_at R (x ∷ xs) (y ∷ ys) zero d e zip inside = zip.0
+zip_at R (x ∷ xs) (y ∷ ys) (suc i) d e zip inside = zip_at R xs ys i d e zip.1 (omega arith)
 
 pub all_removed : {X : Type 0} (P : X → Type 0) (xs : List X) (i : ℕ) → All P xs → All P (remove xs i)
 all_removed P xs i all = All-append P (take i xs) (drop (suc i) xs) (All-take P i xs all) (All-drop P (suc i) xs all)

@@ -1,13 +1,13 @@
 -- Nothing missed: findings only grow, so where none is found in the end, no packet has one, each line is clear, and what was
 -- recorded of each network was sent legally.
-use Rattle.judge_laws.proofs.Names.{layout_is_profile, A, Admitted, All, All-cons, All-nil, All-tail, AreKnown, B, Bool, Entry, Finding, IsAllowed, IsFrame, IsKnown, IsPlan, Judging, Link, LinkPlan, List, Nearness, Net, None, Ok, OnNet, Option, Options, Plan, PortPlan, Recorded, Refused, Result, Sent, Setting, Some, Tag, Times, admitted, after_packet, ap, append-nil, arith, arrived, blanked, cases_Bool, cases_eq, cases_lt, eq-eqb, false, filter, findings, found_at_end, found_from, found_left, found_missing, found_of_arrival, found_on_link, found_timed, found_with_end, found_with_packet, fragments, frame_in, get_or, inl, inr, layout_broken, length, length-filter_both, length-map, length-replicate, length-set, line_on, link_at, link_in, link_plan_at, link_stream, map, map-map, names, nat_tests, ne_eqb, new_line, new_link, new_sub, nil_begins, no_times, not, place_of, placed, refl, room_of, same_net, size_deviation, sub_in, sub_stream, subst, suc, sym, tag_of, those_with, timed, times_with, told, true, unchecked, verdict, with_map, with_verdict, zero, ℕ, [], ◌+◌, ◌-◌, ◌<◌, ◌^◌, ◌∙◌, ◌∷◌, ◌≡◌, ◌≤◌}
+use Rattle.judge_laws.proofs.Names.{layout_broken, layout_is_profile, A, Admitted, All, All-cons, All-nil, All-tail, AreKnown, B, Bool, Entry, Finding, IsAllowed, IsFrame, IsKnown, IsPlan, Judging, Link, LinkPlan, List, Nearness, Net, None, Ok, OnNet, Option, Options, Plan, PortPlan, Recorded, Refused, Result, Sent, Setting, Some, Tag, Times, admitted, after_packet, ap, append-nil, arith, arrived, blanked, cases_Bool, cases_eq, cases_lt, eq-eqb, false, filter, findings, found_at_end, found_from, found_left, found_missing, found_of_arrival, found_on_link, found_timed, found_with_end, found_with_packet, fragments, frame_in, get_or, inl, inr, length, length-filter_both, length-map, length-replicate, length-set, line_on, link_at, link_in, link_plan_at, link_stream, map, map-map, names, nat_tests, ne_eqb, new_line, new_link, new_sub, nil_begins, no_times, not, place_of, placed, refl, room_of, same_net, size_deviation, sub_in, sub_stream, subst, suc, sym, tag_of, those_with, timed, times_with, told, true, unchecked, verdict, with_map, with_verdict, zero, ℕ, [], ◌+◌, ◌-◌, ◌<◌, ◌^◌, ◌∙◌, ◌∷◌, ◌≡◌, ◌≤◌}
 use Rattle.judge_laws.specs.NoFalseAlarm.{packets_of}
 use Rattle.judge_laws.specs.NothingFound.{time_of}
 use Rattle.judge_laws.specs.NothingMissed.{EndsWhole, IsOctets, IsSentTo, IsStrict, NothingMissed, entry_of, frames_of, sent_to}
 use Rattle.judge_laws.proofs.Begin.{line_is_new, links_at_start, new_is, own_options}
 use Rattle.judge_laws.proofs.Line.{IsFaultless, faultless, line_then, of_profile}
 use Rattle.judge_laws.proofs.Message.{port_at}
-use Rattle.judge_laws.proofs.Quiet.{IsPlaced, first_of_sub, placed_says}
+use Rattle.judge_laws.proofs.Quiet.{IsAdmitted, first_of_sub, placed_says}
 use Rattle.judge_laws.proofs.Reading.{back_none, with_other, with_own}
 use Rattle.judge_laws.proofs.Recording.{after_is, found_is, id_of, judge_of, line_given_up, new_links, own_line, packets_next, same_line, setting_at, vl_of}
 use Rattle.judge_laws.proofs.Silent.{AreClear, AreHeard, IsSubSilent, ends_silent, heard, silent_is_sent, sub_frames, sub_silent, tag_for}
@@ -61,8 +61,7 @@ pub record IsPacketSilent (plan : Plan) (options : Options) (times : Times) (lin
   pub k : ℕ
   pub whole : frame_in (of_profile options) packet ≡ Ok packet.bytes
   pub placed : place_of plan net packet.bytes ≡ Ok k
-  pub layout : layout_broken false packet.bytes ≡ None
-  pub sized : size_deviation (link_plan_at plan.links k) (length packet.bytes) ≡ None
+  pub admitted : IsAdmitted plan k net packet.bytes
   pub wrong : IsFaultless plan k options (tag_of net number at) packet.bytes (line_on net (link_at links k))
 
 -- a packet without a finding has a time, and is admitted
@@ -82,6 +81,7 @@ silent_as : (plan : Plan) (options : Options) (times : Times) (links : List Link
     → IsPacketSilent plan options times links net number packet
 silent_as plan options times links net number packet at k frame plain timed is on none =
     let says = frame_says options packet frame plain is in
+    let profile = (layout_is_profile packet.bytes).0 says.1 in
     let whole : frame_in (of_profile options) packet ≡ Ok packet.bytes = rw says.0 at is in
     let placed : place_of plan net packet.bytes ≡ Ok k = rw says.0 at on in
     let silent = link_none (setting_at plan options at times k) (tag_of net number at) (port_at plan k packet.bytes) packet.bytes (link_at links k) []
@@ -92,8 +92,7 @@ silent_as plan options times links net number packet at k frame plain timed is o
       k = k;
       whole = whole;
       placed = placed;
-      layout = says.1;
-      sized = silent.sized;
+      admitted = record { profile = profile; placed = placed_says plan net packet.bytes k placed profile; sized = silent.sized };
       wrong = silent.wrong;
     }
 
@@ -127,11 +126,8 @@ module _ (plan : Plan) (options : Options) (times : Times) (links : List Link) (
   time : time_of packet ≡ p.at
   time = time_is packet p.at p.timed
 
-  its_place : IsPlaced plan p.k net packet.bytes
-  its_place = placed_says plan net packet.bytes p.k p.placed ((layout_is_profile packet.bytes).0 p.layout)
-
   inside : p.k < length links
-  inside = rw size its_place.within
+  inside = rw size p.admitted.placed.within
 
   line_is : line_on net (link_at links_now p.k) ≡ line_then plan p.k options (tag_for net packet) packet.bytes (line_on net (link_at links p.k))
   line_is = rw time (own_line plan options times links p.k (tag_of net number p.at) packet.bytes inside)
@@ -140,7 +136,7 @@ module _ (plan : Plan) (options : Options) (times : Times) (links : List Link) (
   clear_own : (rs : List Recorded) → AreClear plan p.k options net (line_on net (link_at links_now p.k)) rs
       → AreClear plan p.k options net (line_on net (link_at links p.k)) (packet ∷ rs)
   clear_own rs later = (
-    record { octets = octets; layout = p.layout; placed = p.placed; sized = p.sized; wrong = rw time p.wrong },
+    record { octets = octets; admitted = p.admitted; wrong = rw time p.wrong },
     subst (λ l. AreClear plan p.k options net l rs) line_is later,
   )
 
@@ -152,7 +148,7 @@ module _ (plan : Plan) (options : Options) (times : Times) (links : List Link) (
       → ((n : Net) → AreClear plan k options n (line_on n (link_at links_now k)) (own_packets plan k (packets_of n ps)))
       → AreClear plan k options m (line_on m (link_at links k))
       (own_packets plan k (packets_of m (record { net = net; number = number; packet = packet } ∷ ps)))
-  clear_next ps k m within later = grind (arith, packets_next, cases_Bool, same_is, cases_eq, its_place, clear_own, line_same, with_other, with_own)
+  clear_next ps k m within later = grind (arith, packets_next, cases_Bool, same_is, cases_eq, p.admitted, clear_own, line_same, with_other, with_own)
 
 -- ---- a recording
 
@@ -163,8 +159,7 @@ next_none ps j next found same first none = grind (arith)
 -- each packet of a network is a frame of a link
 pub record IsPlacedAt (plan : Plan) (net : Net) (r : Recorded) : Type 0 where
   pub k : ℕ
-  pub placed : place_of plan net r.bytes ≡ Ok k
-  pub layout : layout_broken false r.bytes ≡ None
+  pub is : IsAdmitted plan k net r.bytes
 
 pub record AreSilent (plan : Plan) (options : Options) (links : List Link) (ps : List OnNet) : Type 0 where
   pub clear : (k : ℕ) (net : Net) → k < length plan.links
@@ -189,8 +184,7 @@ are_silent plan options times links (p ∷ ps) valid plain size octets none =
       placed = λ net. rw (packets_next net p ps) (elim (cases_Bool (same_net p.net net)) [
         | inl its ↦ rw its (All-cons (IsPlacedAt plan net) p.packet (packets_of net ps) (record {
           k = q.k;
-          placed = subst (λ m. place_of plan m p.packet.bytes ≡ Ok q.k) (same_is p.net net its) q.placed;
-          layout = q.layout;
+          is = subst (λ m. IsAdmitted plan q.k m p.packet.bytes) (same_is p.net net its) q.admitted;
         }) (later.placed net))
         | inr apart ↦ rw apart (later.placed net)
       ]);
@@ -280,9 +274,6 @@ module _ (plan : Plan) (options : Options) (recording : List OnNet) (net : Net) 
 
   -- ---- legal transmission
 
-  says : (r : Recorded) (p : IsPlacedAt plan net r) → IsPlaced plan p.k net r.bytes
-  says r p = placed_says plan net r.bytes p.k p.placed ((layout_is_profile r.bytes).0 p.layout)
-
   -- a packet is of a sub-VL of its link, since the first one of its sub-VL is
   sub_first : (k s : ℕ) (frames : List (List ℕ)) → IsSubSilent plan k s net (new_sub false false s).joining frames → (frames ≡ [] → ⊥)
       → s < (link_plan_at plan.links k).sub_vls
@@ -293,10 +284,9 @@ module _ (plan : Plan) (options : Options) (recording : List OnNet) (net : Net) 
   known i spare within =
       let r : Recorded = get_or rs i spare in
       let p = silent.placed net i spare within in
-      let placed = says r p in
-      let frame : IsFrame r.bytes = (layout_is_profile r.bytes).0 p.layout in
+      let placed = p.is.placed in
       record {
-        size = frame.size.0;
+        size = p.is.profile.size.0;
         k = p.k;
         within = placed.within;
         link = placed.link;
@@ -313,7 +303,7 @@ module _ (plan : Plan) (options : Options) (recording : List OnNet) (net : Net) 
   carried : (k : ℕ) → k < length plan.links → names net (link_plan_at plan.links k).networks ≡ false → own k ≡ []
   carried k inside isnt = none_pass (λ (r : Recorded). link_in r.bytes) (id_of plan k) rs (λ i spare within its.
       let p = silent.placed net i spare within in
-      let placed = says (get_or rs i spare) p in
+      let placed = p.is.placed in
       let same : p.k ≡ k = strict.valid.links_apart p.k k placed.within inside (ap vl_of (sym placed.link ∙ its)) in
       absurd (cc (isnt, subst (λ j. names net (link_plan_at plan.links j).networks ≡ true) same placed.on)))
 

@@ -1,10 +1,11 @@
 -- A judge over a whole recording, in the order of time: nothing is found.
-use Rattle.judge_laws.proofs.Names.{A, Accepted, All, All-cons, All-filter, All-from_get_or, All-map, All-nil, All-tail, All-weaker, AllZip, B, Bool, Entry, Finding, IsPlan, Link, LinkPlan, List, Nearness, Net, OnNet, Option, Options, Pairing, Plan, Recorded, Setting, Some, Tag, Times, Wait, ap, append-nil, arith, bag_micros, cases_Bool, false, filter, findings, found_at_end, found_from, found_given_up, found_left, found_missing, found_with_end, inl, inr, is_both, le_refl, length, link_at, link_in, link_plan_at, link_stream, map, nat_eq, new_link, no_times, number_in, on_both, refl, same_net, side, stream_side, subst, sym, tag_of, take_all, times_with, true, unwrap_or, ℕ, [], ◌*◌, ◌++◌, ◌+◌, ◌<◌, ◌∙◌, ◌∷◌, ◌≡◌, ◌≤◌}
+use Rattle.judge_laws.proofs.Names.{get_or, None, AllZip-long, A, Accepted, All, All-cons, All-filter, All-from_get_or, All-map, All-nil, All-tail, All-weaker, AllZip, B, Bool, Entry, Finding, IsPlan, Link, LinkPlan, List, Nearness, Net, OnNet, Option, Options, Pairing, Plan, Recorded, Setting, Some, Tag, Times, Wait, ap, append-nil, arith, bag_micros, cases_Bool, false, filter, findings, found_at_end, found_from, found_given_up, found_left, found_missing, found_with_end, inl, inr, is_both, le_refl, length, link_at, link_in, link_plan_at, link_stream, map, nat_eq, new_link, no_times, number_in, on_both, refl, same_net, side, stream_side, subst, sym, tag_of, take_all, times_with, true, unwrap_or, ℕ, [], ◌*◌, ◌++◌, ◌+◌, ◌<◌, ◌∙◌, ◌∷◌, ◌≡◌, ◌≤◌}
 use Rattle.judge_laws.specs.NoFalseAlarm.{AreFit, IsRecord, IsSent, packets_of}
 use Rattle.judge_laws.specs.NothingFound.{IsInOrder, NothingFound, time_of}
 use Rattle.judge_laws.proofs.Begin.{IsOwn, both_copies, copies_begin, going_begins, handed_to, link_is_new, links_at_start, own_options, owns, stream_on_both}
 use Rattle.judge_laws.proofs.Copies.{AreCopied, IsStream, copies_go_on}
 use Rattle.judge_laws.proofs.Leading.{AllStay, AreOpen, ArePast, IsLedBy, IsWaitFor, LeadsOn, leads_on, other, past_later, rest_both, stay_kept}
+use Rattle.judge_laws.proofs.Reading.{zip_at}
 use Rattle.judge_laws.proofs.Recording.{AreRecorded, AreTwins, IsGoing, IsPacketTaken, IsRecorded, id_of, judge_of, nearness_at, packet_taken, recorded_after, recorded_next, rest_after, rest_of, setting_at, stream_next, twins_go_on}
 
 -- one network of a link on both leads, and no frame of a link on one network waits
@@ -33,12 +34,11 @@ in_order_all latest (p ∷ ps) order = All-cons (λ (q : OnNet). latest ≤ time
 
 open_zip : (origin latest : ℕ) (options : Options) (es : List Entry) (rs : List Recorded) → All (λ (r : Recorded). latest ≤ time_of r) rs
     → AllZip (IsRecord origin options) es rs → AreOpen origin options.jitter latest es
-open_zip origin latest options [] rs times zip = All-nil (λ (e : Entry). latest ≤ origin + 1000 * (e.at + options.jitter))
-open_zip origin latest options (e ∷ es) [] times zip = absurd zip
-open_zip origin latest options (e ∷ es) (r ∷ rs) times zip =
-    All-cons (λ (e : Entry). latest ≤ origin + 1000 * (e.at + options.jitter)) e es
-    (omega (arith, times 0 r (omega arith), time_is r zip.0.at zip.0.told, zip.0.most))
-    (open_zip origin latest options es rs (All-tail (λ (r : Recorded). latest ≤ time_of r) r rs times) zip.1)
+open_zip origin latest options es rs times zip = λ i spare inside.
+    let spare' : Recorded = record { interface = 0; network = None; at = None; original = 0; bytes = [] } in
+    let both = AllZip-long (IsRecord origin options) es rs zip in
+    let of = zip_at (IsRecord origin options) es rs i spare spare' zip (omega arith) in
+    omega (arith, times i spare' (omega arith), time_is (get_or rs i spare') of.at of.told, of.most)
 
 open_records : (origin latest : ℕ) (options : Options) (net : Net) (ps : List OnNet) (es : List Entry) → IsInOrder latest ps
     → AllZip (IsRecord origin options) es (packets_of net ps) → AreOpen origin options.jitter latest es

@@ -46,6 +46,7 @@ pub fn nothing_found()
 /// - Packets are bytes, and no header checksum is 65,535, which receivers take for 0, and which no sender computes.
 ///
 /// The law speaks of each network alone. That a frame differs from its twin, or has none, are findings too.
+#[tactic(auto, using(crate::proofs::SentTo::nothing_missed_holds, crate::proofs::Worked::worked))]
 pub fn nothing_missed()
     ensures sent { NothingMissed }
     ensures worked { MissesNothing }
