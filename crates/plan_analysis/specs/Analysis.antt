@@ -1,13 +1,13 @@
 -- The analysis of a plan.
 use Rattle.std.specs.Prelude.{ℕ, ◌≡◌, ◌+◌, ◌*◌, List, map, filter}
+use Rattle.afdx_frame.specs.declared.net.Net.{Net}
+use Rattle.afdx_frame.specs.declared.net.Net.TheVariants.{A, B}
 use Rattle.afdx_plan.specs.Config.{Plan}
 use Rattle.afdx_plan.specs.Plan.{jitter_of}
 use Rattle.afdx_plan.specs.declared.link_plan.LinkPlan.{LinkPlan}
 use Rattle.afdx_plan.specs.declared.port_plan.PortPlan.{PortPlan}
 use Rattle.plan_analysis.specs.declared.analysis.Analysis.{Analysis}
 use Rattle.plan_analysis.specs.declared.analysis.LinkRow.{LinkRow}
-use Rattle.plan_analysis.specs.declared.analysis.NetworkName.{NetworkName}
-use Rattle.plan_analysis.specs.declared.analysis.NetworkName.TheVariants.{A, B}
 use Rattle.plan_analysis.specs.declared.analysis.NetworkRow.{NetworkRow}
 use Rattle.plan_analysis.specs.declared.analysis.PortRow.{PortRow}
 use Rattle.plan_analysis.specs.Memory.{IsMemoryOf}
@@ -24,17 +24,17 @@ link_row link = record {
 }
 
 -- the jitter of the links that a network carries
-abbrev pub network_jitter : NetworkName → List LinkPlan → ℕ
-network_jitter name links = jitter_of (filter (λ (l : LinkPlan). carries name l.networks) links)
+abbrev pub network_jitter : Net → List LinkPlan → ℕ
+network_jitter net links = jitter_of (filter (λ (l : LinkPlan). carries net l.networks) links)
 
 -- the row of a network
-abbrev pub network_row : NetworkName → List LinkPlan → NetworkRow
-network_row name links = record {
-  name = name;
-  load = bit_rate (line_bits name links);
-  share = share (line_bits name links);
-  exceeded = is_over (line_bits name links);
-  jitter = network_jitter name links;
+abbrev pub network_row : Net → List LinkPlan → NetworkRow
+network_row net links = record {
+  net = net;
+  load = bit_rate (line_bits net links);
+  share = share (line_bits net links);
+  exceeded = is_over (line_bits net links);
+  jitter = network_jitter net links;
 }
 
 -- the row of a port, if polls come at most `late` microseconds late

@@ -1,11 +1,11 @@
 -- The greatest load that a plan puts on its networks, on the wire.
 use Rattle.std.specs.Prelude.{ℕ, ◌+◌, ◌*◌, ◌/◌, List, Bool, nat_lt, sum_by, if◌then◌else◌}
 use Rattle.std.specs.Int.{div_ceil}
+use Rattle.afdx_frame.specs.declared.net.Net.{Net}
+use Rattle.afdx_frame.specs.declared.net.Net.TheVariants.{A, B}
 use Rattle.afdx_plan.specs.Plan.{carries_a, carries_b, bag_ms}
 use Rattle.afdx_plan.specs.declared.link_plan.LinkPlan.{LinkPlan}
 use Rattle.afdx_plan.specs.declared.link_plan.Networks.{Networks}
-use Rattle.plan_analysis.specs.declared.analysis.NetworkName.{NetworkName}
-use Rattle.plan_analysis.specs.declared.analysis.NetworkName.TheVariants.{A, B}
 
 -- A link's greatest frame in bits, with the 20 bytes around it on the wire: preamble, start delimiter and gap.
 abbrev pub wire_bits : LinkPlan → ℕ
@@ -16,13 +16,13 @@ abbrev pub window_bits : LinkPlan → ℕ
 window_bits link = wire_bits link * (128 / bag_ms link.bag)
 
 -- a network is one of those that carry a link
-abbrev pub carries : NetworkName → Networks → Bool
+abbrev pub carries : Net → Networks → Bool
 carries A networks = carries_a networks
 carries B networks = carries_b networks
 
 -- the most bits in 128 milliseconds of all links that a network carries
-abbrev pub line_bits : NetworkName → List LinkPlan → ℕ
-line_bits network links = sum_by (λ link. if carries network link.networks then window_bits link else 0) links
+abbrev pub line_bits : Net → List LinkPlan → ℕ
+line_bits net links = sum_by (λ link. if carries net link.networks then window_bits link else 0) links
 
 -- bits in 128 milliseconds as bits per second, rounded up
 abbrev pub bit_rate : ℕ → ℕ

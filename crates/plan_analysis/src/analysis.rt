@@ -9,6 +9,7 @@ use crate::load::{
     bit_rate, is_over, link_jitter, network_bits, network_jitter, share, window_bits,
 };
 use crate::memory::{Memory, memory_of};
+use afdx_frame::Net;
 use afdx_plan::{Config, LinkPlan, PortId, PortPlan, VlId, jitter_ns};
 use std::alloc::{AllocError, Global};
 
@@ -39,8 +40,8 @@ pub fn analyze(alloc: Global, config: &Config, lateness: u64) -> Result<Analysis
         end_system: config.end_system(),
         lateness,
         links,
-        network_a: network_row(NetworkName::A, config.links()),
-        network_b: network_row(NetworkName::B, config.links()),
+        network_a: network_row(Net::A, config.links()),
+        network_b: network_row(Net::B, config.links()),
         jitter: jitter_ns(config),
         ports,
         memory: memory_of(alloc, config)?,
@@ -91,17 +92,10 @@ pub(crate) fn link_row(plan: &LinkPlan) -> LinkRow
     }
 }
 
-/// One of the two networks.
-#[derive(Clone, Copy, Debug, PartialEq, Eq)]
-pub enum NetworkName {
-    A,
-    B,
-}
-
 /// The analysis of a network, from the links that it carries.
 #[derive(Clone, Copy, Debug, PartialEq, Eq)]
 pub struct NetworkRow {
-    pub name: NetworkName,
+    pub net: Net,
     // the greatest load of its links, in bits per second on the wire, rounded up
     pub load: u64,
     // the same in hundredths of a percent of 100 Mbit/s, rounded up
@@ -112,18 +106,18 @@ pub struct NetworkRow {
     pub jitter: u64,
 }
 
-/// Analyzes network `name`, which carries those of `links` that the plan routes over it.
-pub(crate) fn network_row(name: NetworkName, links: &[LinkPlan]) -> NetworkRow
+/// Analyzes network `net`, which carries those of `links` that the plan routes over it.
+pub(crate) fn network_row(net: Net, links: &[LinkPlan]) -> NetworkRow
     requires { length links.now ≤ 64 }
-    ensures { result ≡ row_of_network name links.now }
+    ensures { result ≡ row_of_network net links.now }
 {
-    let bits = network_bits(name, links);
+    let bits = network_bits(net, links);
     NetworkRow {
-        name,
+        net,
         load: bit_rate(bits),
         share: share(bits),
         exceeded: is_over(bits),
-        jitter: network_jitter(name, links),
+        jitter: network_jitter(net, links),
     }
 }
 

@@ -9,9 +9,7 @@ mod load;
 mod memory;
 mod traffic;
 
-pub use analysis::{
-    Analysis, JITTER_LIMIT, LATENESS_LIMIT, LinkRow, NetworkName, NetworkRow, PortRow, analyze,
-};
+pub use analysis::{Analysis, JITTER_LIMIT, LATENESS_LIMIT, LinkRow, NetworkRow, PortRow, analyze};
 pub use fragments::used_sub_vls;
 pub use load::{OWN_JITTER, carries};
 pub use memory::{LARGE_MEMORY, Memory, SubRow};

@@ -4,7 +4,7 @@ ghost use Rattle.afdx_plan.specs.Plan.{IsLink};
 ghost use Rattle.plan_analysis.specs.Load.{window_bits as bits_of_window, line_bits, bit_rate as rate_of_bits, share as share_of_bits, is_over as is_over_line, carries as is_on};
 ghost use Rattle.plan_analysis.specs.Analysis.{network_jitter as jitter_on};
 
-use crate::analysis::NetworkName;
+use afdx_frame::Net;
 use afdx_plan::{LinkPlan, Networks};
 
 /// The bytes around each frame on the wire: preamble, start delimiter and gap.
@@ -31,24 +31,24 @@ pub(crate) fn window_bits(link: &LinkPlan) -> u64
 }
 
 /// Whether a network carries a link.
-pub fn carries(network: NetworkName, networks: Networks) -> bool
-    ensures { result ≡ is_on network networks }
+pub fn carries(net: Net, networks: Networks) -> bool
+    ensures { result ≡ is_on net networks }
 {
-    match network {
-        NetworkName::A => networks.carries_a(),
-        NetworkName::B => networks.carries_b(),
+    match net {
+        Net::A => networks.carries_a(),
+        Net::B => networks.carries_b(),
     }
 }
 
 /// The most bits that the links put on a network in 128 milliseconds.
-pub(crate) fn network_bits(network: NetworkName, links: &[LinkPlan]) -> u64
+pub(crate) fn network_bits(net: Net, links: &[LinkPlan]) -> u64
     requires { length links.now ≤ 64 }
-    ensures bits { result ≡ line_bits network links.now }
+    ensures bits { result ≡ line_bits net links.now }
     ensures most { result ≤ 1574912 * 64 }
 {
     let mut bits = 0;
     for link in links {
-        if carries(network, link.networks) {
+        if carries(net, link.networks) {
             bits += window_bits(link);
         }
     }
@@ -80,13 +80,13 @@ pub(crate) fn link_jitter(link: &LinkPlan) -> u64
 }
 
 /// The jitter of the links that a network carries, in nanoseconds.
-pub(crate) fn network_jitter(network: NetworkName, links: &[LinkPlan]) -> u64
+pub(crate) fn network_jitter(net: Net, links: &[LinkPlan]) -> u64
     requires { length links.now ≤ 64 }
-    ensures { result ≡ jitter_on network links.now }
+    ensures { result ≡ jitter_on net links.now }
 {
     let mut jitter = OWN_JITTER;
     for link in links {
-        if carries(network, link.networks) {
+        if carries(net, link.networks) {
             jitter += link_jitter(link);
         }
     }

@@ -1,6 +1,8 @@
 -- The text of an analysis: a table for the links, one for the networks, one for the ports and one for the sub-VLs.
 use Rattle.std.specs.Prelude.{codes, ℕ, ◌/◌, ◌%◌, List, [], ◌∷◌, ◌++◌, Bool, Option, Some, None, if◌then◌else◌, flat_map, decimal}
 use Rattle.std.specs.Fmt.{styled_decimal, format_spec}
+use Rattle.afdx_frame.specs.declared.net.Net.{Net}
+use Rattle.afdx_frame.specs.declared.net.Net.TheVariants.{A, B}
 use Rattle.afdx_plan.specs.Plan.{bag_ms}
 use Rattle.afdx_plan.specs.declared.link_plan.LinkPlan.{LinkPlan}
 use Rattle.afdx_plan.specs.declared.link_plan.Networks.{Networks}
@@ -8,8 +10,6 @@ use Rattle.afdx_plan.specs.declared.link_plan.Networks.TheVariants.{Both, OnlyA,
 use Rattle.plan_report.specs.Report.{jitter_line}
 use Rattle.plan_analysis.specs.declared.analysis.Analysis.{Analysis}
 use Rattle.plan_analysis.specs.declared.analysis.LinkRow.{LinkRow}
-use Rattle.plan_analysis.specs.declared.analysis.NetworkName.{NetworkName}
-use Rattle.plan_analysis.specs.declared.analysis.NetworkName.TheVariants.{A, B}
 use Rattle.plan_analysis.specs.declared.analysis.NetworkRow.{NetworkRow}
 use Rattle.plan_analysis.specs.declared.analysis.PortRow.{PortRow}
 use Rattle.plan_analysis.specs.declared.memory.SubRow.{SubRow}
@@ -60,7 +60,7 @@ unfoldable pub networks_head : List ℕ
 networks_head = codes "network    load-kbit/s  share-%  exceeded  jitter-ns" ++ 10 ∷ []
 
 -- the name of a network
-abbrev pub network_name : NetworkName → List ℕ
+abbrev pub network_name : Net → List ℕ
 network_name A = codes "      A"
 network_name B = codes "      B"
 
@@ -70,7 +70,7 @@ exceeded_cell exceeded = if exceeded then codes "       yes" else codes "       
 
 -- the row of a network
 unfoldable pub network_line : NetworkRow → List ℕ
-network_line row = network_name row.name ++ thousandths 11 row.load ++ hundredths 6 row.share
+network_line row = network_name row.net ++ thousandths 11 row.load ++ hundredths 6 row.share
     ++ exceeded_cell row.exceeded ++ right 11 row.jitter ++ 10 ∷ []
 
 -- the column heads of the ports

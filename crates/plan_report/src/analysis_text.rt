@@ -5,8 +5,9 @@ ghost use Rattle.plan_report.specs.AnalysisText.{head_line, links_head, link_lin
 
 use crate::numbers::{Hundredths, Thousandths};
 use crate::report::write_jitter;
+use afdx_frame::Net;
 use afdx_plan::Networks;
-use plan_analysis::{Analysis, LinkRow, NetworkName, NetworkRow, PortRow, SubRow};
+use plan_analysis::{Analysis, LinkRow, NetworkRow, PortRow, SubRow};
 use std::io::{self, Write};
 
 /// Writes an analysis as text: one table each for links, networks, ports and sub-VLs. Each row is a line of
@@ -131,7 +132,7 @@ fn write_network<W: Write>(writer: &mut W, row: &NetworkRow) -> io::Result<()>
     ensures { OnOk result (Appends (W.contents writer.old) (W.contents writer.new)
         (network_line row.now)) }
 {
-    let name = network_name(row.name);
+    let name = network_name(row.net);
     let load = Thousandths(row.load, Some(11));
     let share = Hundredths(row.share, Some(6));
     let exceeded = exceeded_cell(row.exceeded);
@@ -139,12 +140,12 @@ fn write_network<W: Write>(writer: &mut W, row: &NetworkRow) -> io::Result<()>
     writeln!(writer, "{name}{load}{share}{exceeded}{jitter:>11}")
 }
 
-pub(crate) fn network_name(name: NetworkName) -> &'static str
-    ensures { result.now ≡ name_of_network name }
+pub(crate) fn network_name(net: Net) -> &'static str
+    ensures { result.now ≡ name_of_network net }
 {
-    match name {
-        NetworkName::A => "      A",
-        NetworkName::B => "      B",
+    match net {
+        Net::A => "      A",
+        Net::B => "      B",
     }
 }
 

@@ -1,6 +1,7 @@
 //! The picture of a plan: partitions, ports, sub-VLs, links and networks as one flow from left to right.
+use afdx_frame::Net;
 use afdx_plan::{Config, LinkPlan, PortPlan};
-use plan_analysis::{NetworkName, carries};
+use plan_analysis::carries;
 use std::fmt;
 use std::io::{self, Write};
 
@@ -29,10 +30,7 @@ const LINK: u64 = 71;
 const NETWORK: u64 = 92;
 
 /// The networks, and the quarters of the height at which they stand.
-const NETWORKS: [(NetworkName, &str, u64); 2] = [
-    (NetworkName::A, "A", 1),
-    (NetworkName::B, "B", 3),
-];
+const NETWORKS: [(Net, &str, u64); 2] = [(Net::A, "A", 1), (Net::B, "B", 3)];
 
 /// Half the width of a label.
 const HALF: u64 = 5;
@@ -144,8 +142,8 @@ impl Flow<'_> {
             let rows = self.count(link, None).max(1);
             let to = middle(LINK, first, rows);
             write_label(writer, to, link.id.0)?;
-            for (name, _, part) in NETWORKS {
-                if carries(name, link.networks) {
+            for (net, _, part) in NETWORKS {
+                if carries(net, link.networks) {
                     write_edge(writer, class, to, self.part(NETWORK, part, 4))?;
                 }
             }

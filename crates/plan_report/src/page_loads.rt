@@ -2,9 +2,8 @@
 use crate::analysis_text::{network_name, networks_cell};
 use crate::html::{DRAWING, Parts, Rect, Time, WIDTH, place};
 use crate::numbers::{Grouped, Hundredths, Thousandths};
-use plan_analysis::{
-    Analysis, JITTER_LIMIT, LinkRow, Memory, NetworkName, NetworkRow, OWN_JITTER, carries,
-};
+use afdx_frame::Net;
+use plan_analysis::{Analysis, JITTER_LIMIT, LinkRow, Memory, NetworkRow, OWN_JITTER, carries};
 use std::io::{self, Write};
 
 /// The rate of a network in bits a second.
@@ -44,7 +43,7 @@ fn write_network<W: Write>(
     analysis: &Analysis,
     row: &NetworkRow,
 ) -> io::Result<()> {
-    let name = network_name(row.name).trim();
+    let name = network_name(row.net).trim();
     let (load, share) = (Thousandths(row.load, None), Hundredths(row.share, None));
     let over = over(row.exceeded);
     write!(
@@ -54,14 +53,14 @@ fn write_network<W: Write>(
     let most = analysis.network_a.load.max(analysis.network_b.load);
     let mut bar = Parts::begin(writer, most.max(LINE_RATE), LINE_RATE)?;
     for link in analysis.links.as_slice() {
-        if carries(row.name, link.plan.networks) {
+        if carries(row.net, link.plan.networks) {
             bar.fill(writer, link.load)?;
         }
     }
     bar.end(writer)?;
     let jitter = Time(row.jitter);
     write!(writer, "<td>{jitter}<td class=\"bar\">")?;
-    write_jitter_bar(writer, analysis, Some(row.name))?;
+    write_jitter_bar(writer, analysis, Some(row.net))?;
     writer.write_all(b"\n")
 }
 
@@ -69,13 +68,13 @@ fn write_network<W: Write>(
 fn write_jitter_bar<W: Write>(
     writer: &mut W,
     analysis: &Analysis,
-    network: Option<NetworkName>,
+    net: Option<Net>,
 ) -> io::Result<()> {
     let mut bar = Parts::begin(writer, analysis.jitter.max(JITTER_LIMIT), JITTER_LIMIT)?;
     bar.fill(writer, OWN_JITTER)?;
     for link in analysis.links.as_slice() {
-        match network {
-            Some(name) if !carries(name, link.plan.networks) => {}
+        match net {
+            Some(net) if !carries(net, link.plan.networks) => {}
             _ => bar.fill(writer, link.jitter)?,
         }
     }
