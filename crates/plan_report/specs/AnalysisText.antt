@@ -1,10 +1,9 @@
 -- The text of an analysis: a table for the links, one for the networks, one for the ports and one for the sub-VLs.
-use Rattle.std.specs.Prelude.{codes, ℕ, ◌/◌, ◌%◌, List, [], ◌∷◌, ◌++◌, Bool, Option, Some, None, if◌then◌else◌, flat_map, decimal}
+use Rattle.std.specs.Prelude.{codes, max, ℕ, ◌/◌, ◌%◌, List, [], ◌∷◌, ◌++◌, Bool, Option, Some, None, if◌then◌else◌, flat_map, decimal}
 use Rattle.std.specs.Fmt.{styled_decimal, format_spec}
 use Rattle.afdx_frame.specs.declared.net.Net.{Net}
 use Rattle.afdx_frame.specs.declared.net.Net.TheVariants.{A, B}
 use Rattle.afdx_plan.specs.Plan.{bag_ms}
-use Rattle.afdx_plan.specs.declared.link_plan.LinkPlan.{LinkPlan}
 use Rattle.afdx_plan.specs.declared.link_plan.Networks.{Networks}
 use Rattle.afdx_plan.specs.declared.link_plan.Networks.TheVariants.{Both, OnlyA, OnlyB}
 use Rattle.plan_report.specs.Report.{jitter_line}
@@ -22,13 +21,17 @@ right width n = styled_decimal (format_spec 32 3 0 width 18446744073709551615) n
 abbrev pub in_digits : ℕ → ℕ → List ℕ
 in_digits width n = styled_decimal (format_spec 32 0 4 width 18446744073709551615) n
 
--- a number of thousandths with its decimal point, and `width` characters before it
-unfoldable pub thousandths : ℕ → ℕ → List ℕ
-thousandths width n = right width (n / 1000) ++ codes "." ++ in_digits 3 (n % 1000)
+-- A number with its decimal point, of which the pair says how many parts make a whole and how many digits they take;
+-- `width` characters come before the point.
+unfoldable pub with_point : ℕ × ℕ → ℕ → ℕ → List ℕ
+with_point unit width n = right width (n / max unit.0 1) ++ codes "." ++ in_digits unit.1 (n % max unit.0 1)
 
--- a number of hundredths with its decimal point, and `width` characters before it
-unfoldable pub hundredths : ℕ → ℕ → List ℕ
-hundredths width n = right width (n / 100) ++ codes "." ++ in_digits 2 (n % 100)
+-- a number of thousandths, and of hundredths
+abbrev pub thousandths : ℕ → ℕ → List ℕ
+thousandths = with_point (1000, 3)
+
+abbrev pub hundredths : ℕ → ℕ → List ℕ
+hundredths = with_point (100, 2)
 
 -- the first line: the end system and the lateness of polls
 unfoldable pub head_line : ℕ → ℕ → List ℕ
@@ -45,15 +48,11 @@ networks_cell OnlyB = codes "    B"
 unfoldable pub links_head : List ℕ
 links_head = codes " link bag-ms lmax subs  nets    load-kbit/s  share-%  jitter-ns" ++ 10 ∷ []
 
--- the columns of a link that come from the plan
-unfoldable pub link_cells : LinkPlan → List ℕ
-link_cells plan = right 5 plan.id.0 ++ right 7 (bag_ms plan.bag) ++ right 5 plan.lmax ++ right 5 plan.sub_vls
-    ++ codes " " ++ networks_cell plan.networks
-
 -- the row of a link
 unfoldable pub link_line : LinkRow → List ℕ
-link_line row = link_cells row.plan ++ thousandths 11 row.load ++ hundredths 6 row.share
-    ++ right 11 row.jitter ++ 10 ∷ []
+link_line row = right 5 row.plan.id.0 ++ right 7 (bag_ms row.plan.bag) ++ right 5 row.plan.lmax
+    ++ right 5 row.plan.sub_vls ++ codes " " ++ networks_cell row.plan.networks ++ thousandths 11 row.load
+    ++ hundredths 6 row.share ++ right 11 row.jitter ++ 10 ∷ []
 
 -- the column heads of the networks
 unfoldable pub networks_head : List ℕ
@@ -77,13 +76,10 @@ network_line row = network_name row.net ++ thousandths 11 row.load ++ hundredths
 unfoldable pub ports_head : List ℕ
 ports_head = codes " port  link sub fragments        wait-us   messages/s" ++ 10 ∷ []
 
--- the columns of a port, its link and its sub-VL
-unfoldable pub port_cells : PortRow → List ℕ
-port_cells row = right 5 row.id.0 ++ right 6 row.vl.0 ++ right 4 row.sub
-
 -- the row of a port
 unfoldable pub port_line : PortRow → List ℕ
-port_line row = port_cells row ++ right 10 row.fragments ++ right 15 row.wait ++ thousandths 9 row.sustained ++ 10 ∷ []
+port_line row = right 5 row.id.0 ++ right 6 row.vl.0 ++ right 4 row.sub ++ right 10 row.fragments ++ right 15 row.wait
+    ++ thousandths 9 row.sustained ++ 10 ∷ []
 
 -- the table of the links, with the jitter of all of them
 unfoldable pub links_table : List LinkRow → ℕ → List ℕ

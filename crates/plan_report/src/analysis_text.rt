@@ -3,7 +3,7 @@ ghost use Rattle.std.specs.Prelude.{◌≡◌, OnOk, flat_map};
 ghost use Rattle.std.specs.Io.KnownBytes.{Appends};
 ghost use Rattle.plan_report.specs.AnalysisText.{head_line, links_head, link_line, network_line, ports_head, port_line, sub_line, total_line, links_table, networks_table, ports_table, memory_head, memory_table, text_of, networks_cell as cell_of_networks, network_name as name_of_network, exceeded_cell as cell_of_exceeded};
 
-use crate::numbers::{Hundredths, Thousandths};
+use crate::numbers::{Decimal, HUNDREDTHS, THOUSANDTHS};
 use crate::report::write_jitter;
 use afdx_frame::Net;
 use afdx_plan::Networks;
@@ -98,7 +98,7 @@ fn write_links<W: Write>(writer: &mut W, links: &[LinkRow]) -> io::Result<()>
     Ok(())
 }
 
-#[tactic(auto, unfolding(crate::specs::AnalysisText::link_line, crate::specs::AnalysisText::link_cells))]
+#[tactic(auto, unfolding(crate::specs::AnalysisText::link_line))]
 fn write_link<W: Write>(writer: &mut W, row: &LinkRow) -> io::Result<()>
     ensures { OnOk result (Appends (W.contents writer.old) (W.contents writer.new)
         (link_line row.now)) }
@@ -108,8 +108,8 @@ fn write_link<W: Write>(writer: &mut W, row: &LinkRow) -> io::Result<()>
     let lmax = row.plan.lmax.bytes();
     let subs = row.plan.sub_vls;
     let networks = networks_cell(row.plan.networks);
-    let load = Thousandths(row.load, Some(11));
-    let share = Hundredths(row.share, Some(6));
+    let load = Decimal(row.load, THOUSANDTHS, Some(11));
+    let share = Decimal(row.share, HUNDREDTHS, Some(6));
     let jitter = row.jitter;
     writeln!(
         writer,
@@ -133,8 +133,8 @@ fn write_network<W: Write>(writer: &mut W, row: &NetworkRow) -> io::Result<()>
         (network_line row.now)) }
 {
     let name = network_name(row.net);
-    let load = Thousandths(row.load, Some(11));
-    let share = Hundredths(row.share, Some(6));
+    let load = Decimal(row.load, THOUSANDTHS, Some(11));
+    let share = Decimal(row.share, HUNDREDTHS, Some(6));
     let exceeded = exceeded_cell(row.exceeded);
     let jitter = row.jitter;
     writeln!(writer, "{name}{load}{share}{exceeded}{jitter:>11}")
@@ -173,7 +173,7 @@ fn write_ports<W: Write>(writer: &mut W, ports: &[PortRow]) -> io::Result<()>
     Ok(())
 }
 
-#[tactic(auto, unfolding(crate::specs::AnalysisText::port_line, crate::specs::AnalysisText::port_cells))]
+#[tactic(auto, unfolding(crate::specs::AnalysisText::port_line))]
 fn write_port<W: Write>(writer: &mut W, row: &PortRow) -> io::Result<()>
     ensures { OnOk result (Appends (W.contents writer.old) (W.contents writer.new)
         (port_line row.now)) }
@@ -183,7 +183,7 @@ fn write_port<W: Write>(writer: &mut W, row: &PortRow) -> io::Result<()>
     let sub = row.sub;
     let fragments = row.fragments;
     let wait = row.wait;
-    let rate = Thousandths(row.sustained, Some(9));
+    let rate = Decimal(row.sustained, THOUSANDTHS, Some(9));
     writeln!(
         writer,
         "{id:>5}{link:>6}{sub:>4}{fragments:>10}{wait:>15}{rate}"

@@ -1,6 +1,6 @@
 //! Texts and numbers of the page, and its bars as SVG.
-use crate::numbers::Grouped;
-use std::fmt;
+use crate::numbers::Decimal;
+use std::fmt::{self, InlineText};
 use std::io::{self, Write};
 
 /// The width of a drawing.
@@ -46,25 +46,15 @@ impl Time {
 
 impl fmt::Display for Time {
     fn fmt<W: fmt::Write>(&self, f: &mut fmt::Formatter<W>) -> fmt::Result {
-        let (unit, name): (u64, &str) = match self.0 {
-            1..=999 => (1, "ns"),
-            0..=999_999 => (1_000, "µs"),
-            1_000_000..=999_999_999 => (1_000_000, "ms"),
-            _ => (1_000_000_000, "s"),
+        let (unit, name) = match self.0 {
+            1..=999 => ((1, 0), "ns"),
+            0..=999_999 => ((1_000, 3), "µs"),
+            1_000_000..=999_999_999 => ((1_000_000, 6), "ms"),
+            _ => ((1_000_000_000, 9), "s"),
         };
-        write!(f, "{}", Grouped(self.0 / unit.max(1)))?;
-        let mut rest = self.0 % unit.max(1);
-        if rest > 0 {
-            f.write_char('.')?;
-        }
-        for _digit in 0..9 {
-            if rest > 0 {
-                rest = rest.saturating_mul(10);
-                write!(f, "{}", rest / unit.max(1))?;
-                rest %= unit.max(1);
-            }
-        }
-        write!(f, "\u{a0}{name}")
+        let text = InlineText::<32>::of(Decimal(self.0, unit, None));
+        let number = text.as_str().trim_end_matches('0').trim_end_matches('.');
+        write!(f, "{number}\u{a0}{name}")
     }
 }
 

@@ -20,48 +20,39 @@ impl fmt::Display for Grouped {
     }
 }
 
-/// A number of thousandths, printed with its decimal point. The text has at least as many characters before the point
-/// as the second field says; without one, the digits are grouped, as on the page.
+/// How many parts make a whole, and how many digits they take.
+pub(crate) const HUNDREDTHS: (u64, usize) = (100, 2);
+
+pub(crate) const THOUSANDTHS: (u64, usize) = (1_000, 3);
+
+/// A number of parts of a whole, printed with its decimal point. The text has at least as many characters before the
+/// point as the last field says; without one, the digits are grouped, as on the page.
 #[derive(Drop)]
-pub(crate) struct Thousandths(pub(crate) u64, pub(crate) Option<usize>);
+pub(crate) struct Decimal(
+    pub(crate) u64,
+    pub(crate) (u64, usize),
+    pub(crate) Option<usize>,
+);
 
-impl fmt::Display for Thousandths {
+impl fmt::Display for Decimal {
     ghost use Rattle.std.specs.Prelude.{option_map};
-    ghost use Rattle.plan_report.specs.AnalysisText.{thousandths};
+    ghost use Rattle.plan_report.specs.AnalysisText.{with_point};
 
-    ghost output = { λ number. option_map (λ width. thousandths width number.0) number.1 };
+    ghost output = { λ number. option_map (λ width. with_point number.1 width number.0) number.2 };
 
-    #[tactic(auto, unfolding(crate::specs::AnalysisText::thousandths))]
+    #[tactic(auto, unfolding(crate::specs::AnalysisText::with_point))]
     fn fmt<W: fmt::Write>(&self, f: &mut fmt::Formatter<W>) -> fmt::Result {
-        let (whole, rest) = (self.0 / 1_000, self.0 % 1_000);
-        match self.1 {
-            Some(width) => write!(f, "{whole:>width$}.{rest:03}"),
-            None => write!(f, "{}.{rest:03}", Grouped(whole)),
-        }
-    }
-}
-
-/// A number of hundredths, printed as `Thousandths` are.
-#[derive(Drop)]
-pub(crate) struct Hundredths(pub(crate) u64, pub(crate) Option<usize>);
-
-impl fmt::Display for Hundredths {
-    ghost use Rattle.std.specs.Prelude.{option_map};
-    ghost use Rattle.plan_report.specs.AnalysisText.{hundredths};
-
-    ghost output = { λ number. option_map (λ width. hundredths width number.0) number.1 };
-
-    #[tactic(auto, unfolding(crate::specs::AnalysisText::hundredths))]
-    fn fmt<W: fmt::Write>(&self, f: &mut fmt::Formatter<W>) -> fmt::Result {
-        let (whole, rest) = (self.0 / 100, self.0 % 100);
-        match self.1 {
-            Some(width) => write!(f, "{whole:>width$}.{rest:02}"),
-            None => write!(f, "{}.{rest:02}", Grouped(whole)),
+        let (parts, digits) = self.1;
+        let (whole, rest) = (self.0 / parts.max(1), self.0 % parts.max(1));
+        match self.2 {
+            Some(width) => write!(f, "{whole:>width$}.{rest:0digits$}"),
+            None => write!(f, "{}.{rest:0digits$}", Grouped(whole)),
         }
     }
 }
 
 /// Converts a part of a whole to percent.
-pub(crate) fn percent(part: u64, whole: u64) -> Hundredths {
-    Hundredths(part.saturating_mul(10_000) / whole.max(1), None)
+pub(crate) fn percent(part: u64, whole: u64) -> Decimal {
+    let hundredths = part.saturating_mul(10_000) / whole.max(1);
+    Decimal(hundredths, HUNDREDTHS, None)
 }

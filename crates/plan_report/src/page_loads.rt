@@ -1,7 +1,7 @@
 //! The tables of the networks and of the links of a page, with bars of loads and jitter, and that of the sub-VLs.
 use crate::analysis_text::{network_name, networks_cell};
 use crate::html::{DRAWING, Parts, Rect, Time, WIDTH, place};
-use crate::numbers::{Grouped, Hundredths, Thousandths};
+use crate::numbers::{Decimal, Grouped, HUNDREDTHS, THOUSANDTHS};
 use afdx_frame::Net;
 use plan_analysis::{Analysis, JITTER_LIMIT, LinkRow, Memory, NetworkRow, OWN_JITTER, carries};
 use std::io::{self, Write};
@@ -44,7 +44,10 @@ fn write_network<W: Write>(
     row: &NetworkRow,
 ) -> io::Result<()> {
     let name = network_name(row.net).trim();
-    let (load, share) = (Thousandths(row.load, None), Hundredths(row.share, None));
+    let (load, share) = (
+        Decimal(row.load, THOUSANDTHS, None),
+        Decimal(row.share, HUNDREDTHS, None),
+    );
     let over = over(row.exceeded);
     write!(
         writer,
@@ -101,7 +104,10 @@ fn write_link<W: Write>(writer: &mut W, row: &LinkRow) -> io::Result<()> {
     let gap = Time::of_micros(plan.bag.micros());
     let lmax = Grouped(plan.lmax.bytes() as u64);
     let networks = networks_cell(plan.networks).trim();
-    let (load, share) = (Thousandths(row.load, None), Hundredths(row.share, None));
+    let (load, share) = (
+        Decimal(row.load, THOUSANDTHS, None),
+        Decimal(row.share, HUNDREDTHS, None),
+    );
     let jitter = Time(row.jitter);
     let track = Rect("track", 0, WIDTH);
     let bar = Rect(

@@ -1,7 +1,7 @@
 //! The table of the ports of a page, with bars of their waits on a logarithmic scale.
 use crate::assessment::{Assessment, Row};
 use crate::html::{DRAWING, Escaped, Rect, Time, WIDTH, mark, micros};
-use crate::numbers::{Thousandths, percent};
+use crate::numbers::{Decimal, THOUSANDTHS, percent};
 use crate::page_loads::over;
 use std::fmt;
 use std::io::{self, Write};
@@ -78,7 +78,7 @@ fn write_port<W: Write>(
         write!(writer, "<td class=\"name\">{name}")?;
     }
     let (link, sub, fragments) = (port.vl.0, port.sub, port.fragments);
-    let rate = Thousandths(port.sustained, None);
+    let rate = Decimal(port.sustained, THOUSANDTHS, None);
     write!(writer, "<td>{link}<td>{sub}<td>{fragments}<td>{rate}")?;
     if has_traffic {
         write_times(writer, row)?;

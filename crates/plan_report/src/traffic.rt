@@ -225,10 +225,7 @@ impl Reading<'_> {
 
 /// The field of a column; nothing if the text lacks the column.
 fn field(row: &ByteRecord, place: Option<usize>) -> &[u8] {
-    match place {
-        Some(place) => row.get(place).unwrap_or(b""),
-        None => b"",
-    }
+    place.and_then(|place| row.get(place)).unwrap_or(b"")
 }
 
 /// Reads a name: text of at most `NAME_LIMIT` bytes without control characters.
