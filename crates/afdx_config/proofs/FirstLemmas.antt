@@ -1,10 +1,10 @@
 -- The first finding has the fault of the least number, and so has the text.
-use Rattle.afdx_config.proofs.Names.{◌≡◌, ◌≢◌, ℕ, ◌<◌, ◌≤◌, List, [], ◌∷◌, ◌++◌, length, true, false, Some, None, refl, ap, subst, ◌∙◌, arith, eq-eqb, list_any, same_Some, Result, Ok, Err, IfOk, IfErr, Members, map, nat_tests, fault_number, cells_of, ConfigFault, Memory, Plan, plan_of, shows, Reads, HasFault, IsLeastFault, IsPlanOf, Finding, finding_of, findings, has, FirstIsAnswered}
+use Rattle.afdx_config.proofs.Names.{◌≡◌, ◌≢◌, ℕ, ◌<◌, List, [], ◌∷◌, ◌++◌, true, false, Some, None, refl, ap, subst, ◌∙◌, arith, eq-eqb, list_any, same_Some, Result, Ok, Err, IfOk, IfErr, Members, map, nat_tests, fault_number, cells_of, ConfigFault, Memory, Plan, plan_of, shows, Reads, HasFault, IsLeastFault, IsPlanOf, Finding, finding_of, findings, has, FirstIsAnswered}
 use Rattle.afdx_config.specs.Findings.{by_fault, number_of, plan_findings, value_findings}
 use Rattle.afdx_config.specs.Seen.{Holds, IsOrdered, fault_of}
 use Rattle.afdx_config.specs.declared.findings.Found.{Found as Kept}
-use Rattle.afdx_config.proofs.OrderLemmas.{are_ordered, first_before, no_finding, r_map}
-use Rattle.afdx_config.proofs.ShownLemmas.{IsValue, faults_are_found, no_toml, none_has, plan_above, values_in}
+use Rattle.afdx_config.proofs.OrderLemmas.{are_ordered, no_finding, r_map}
+use Rattle.afdx_config.proofs.ShownLemmas.{faults_are_found, no_toml, none_has}
 use Rattle.afdx_config.proofs.SoundLemmas.{none}
 
 -- a fault that a document lacks, its text lacks: a text is one document
@@ -51,19 +51,8 @@ answer_err text doc (Err e) reads first = λ other. here (findings doc) refl (fi
     here (x ∷ rest) is at = rw (← same_Some x.fault e at) (least text doc x rest reads is)
 
 -- the first of those that are kept
-first_kept : (found : Kept) (all : List Finding) → Holds found all → fault_of (map finding_of found.first.items) ≡ fault_of (by_fault all)
+pub first_kept : (found : Kept) (all : List Finding) → Holds found all → fault_of (map finding_of found.first.items) ≡ fault_of (by_fault all)
 first_kept found all holds = grind (arith, nat_tests, fault_of)
-
-pub first_of_all : (doc : Members) (found : Kept) → Holds found (value_findings doc ++ plan_findings (cells_of doc))
-    → fault_of (map finding_of found.first.items) ≡ fault_of (findings doc)
-first_of_all doc found holds = first_kept found _ holds
-
--- if there is a finding of values, it is the first
-pub first_of_values : (doc : Members) (found : Kept) → Holds found (value_findings doc) → (found.count ≡ 0 → ⊥)
-    → fault_of (map finding_of found.first.items) ≡ fault_of (findings doc)
-first_of_values doc found holds some = first_kept found _ holds ∙ first_before 6 (value_findings doc) (plan_findings (cells_of doc))
-    (r_map (λ x. IsValue x.fault) (λ x. number_of x ≤ 6) (value_findings doc) (λ x is. let high = is.1 in omega arith) (values_in doc))
-    (plan_above (cells_of doc)) (λ is. some (holds.count_is ∙ ap length is))
 
 pub no_first : (xs : List Finding) → fault_of xs ≡ None → xs ≡ []
 no_first xs is = grind (arith, nat_tests)

@@ -4,9 +4,9 @@ use Rattle.std.proofs.lemmas.List.{length-take, map-append, drop-map, take-appen
 use Rattle.std.proofs.Math.ListN.{get_or-map}
 use Rattle.std.specs.List.{fold, insert}
 use Rattle.std.proofs.Common.{length-append}
-use Rattle.afdx_config.proofs.Names.{◌≡◌, ℕ, zero, suc, ◌+◌, ◌-◌, ◌<◌, ◌≤◌, List, [], ◌∷◌, ◌++◌, length, take, drop, get_or, map, Bool, true, false, ◌||◌, cond, Some, refl, ap, sym, ◌∙◌, arith, take_all, take-map, length-map, drop_more, fault_number, AllByRecursion, list_any, nat_lt, nat_tests, or-false, Finding, Adds, finding_of}
+use Rattle.afdx_config.proofs.Names.{◌≡◌, ℕ, zero, suc, ◌+◌, ◌-◌, ◌<◌, ◌≤◌, List, [], ◌∷◌, ◌++◌, length, take, drop, get_or, map, Bool, true, false, ◌||◌, cond, refl, ap, sym, ◌∙◌, arith, take_all, take-map, length-map, drop_more, fault_number, AllByRecursion, list_any, nat_lt, nat_tests, or-false, Finding, Adds, finding_of}
 use Rattle.afdx_config.specs.Findings.{by_fault, lines_limit, number_of, put}
-use Rattle.afdx_config.specs.Seen.{IsOrdered, fault_of}
+use Rattle.afdx_config.specs.Seen.{IsOrdered}
 use Rattle.afdx_config.specs.declared.findings.Finding.{Finding as Written}
 use Rattle.afdx_config.specs.declared.findings.Found.{Found as Kept}
 
@@ -72,26 +72,10 @@ take_ordered zero ys ordered = tt
 take_ordered (suc k) [] ordered = tt
 take_ordered (suc k) (y ∷ ys) ordered = (r_take (λ z. number_of y ≤ number_of z) k ys ordered.0, take_ordered k ys ordered.1)
 
--- the first finding stays the first
-first_stays : (y : Finding) (ys xs : List Finding) → AllByRecursion (λ x. number_of y ≤ number_of x) xs
-    → fault_of (fold put (y ∷ ys) xs) ≡ Some y.fault
-first_stays y ys [] each = refl
-first_stays y ys (x ∷ xs) each = grind (arith, nat_tests, (first_stays y (put ys x) xs each.1))
-
 -- no finding is lost
 pub no_finding : (xs : List Finding) → by_fault xs ≡ [] → xs ≡ []
 no_finding [] is = refl
 no_finding (x ∷ xs) is = let none = ap (list_any (λ y. true)) is in let any = any_by_fault (λ y. true) (x ∷ xs) in cc
-
--- findings of greater faults don't change the first
-pub first_before : (m : ℕ) (xs more : List Finding) → AllByRecursion (λ x. number_of x ≤ m) xs → AllByRecursion (λ x. m ≤ number_of x) more
-    → (xs ≡ [] → ⊥) → fault_of (by_fault xs) ≡ fault_of (by_fault (xs ++ more))
-first_before m xs more low high some = rw (fold-append put [] xs more) (here (by_fault xs) refl (r_fold (λ x. number_of x ≤ m) [] xs tt low))
-  where
-    here : (ys : List Finding) → by_fault xs ≡ ys → AllByRecursion (λ x. number_of x ≤ m) ys → fault_of ys ≡ fault_of (fold put ys more)
-    here [] is each = absurd (some (no_finding xs is))
-    here (y ∷ ys) is each = sym (first_stays y ys more (r_map (λ x. m ≤ number_of x) (λ x. number_of y ≤ number_of x) more
-        (λ x above. let below = each.0 in omega arith) high))
 
 -- the first findings, with one put among them
 take_put : (k : ℕ) (ys : List Finding) (x : Finding) → take k (put (take k ys) x) ≡ take k (put ys x)

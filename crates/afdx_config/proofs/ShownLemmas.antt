@@ -3,13 +3,13 @@ use Rattle.std.proofs.lemmas.List.Sums.{sum_by-append, sum_by-cons}
 use Rattle.std.proofs.Math.Seq.{take-append_seam}
 use Rattle.afdx_config.proofs.SectionLemmas.{none_counted, none_on}
 use Rattle.std.proofs.Common.{length-append}
-use Rattle.afdx_config.proofs.Names.{◌≡◌, ℕ, ◌+◌, ◌-◌, ◌<◌, ◌≤◌, List, [], ◌∷◌, ◌++◌, length, take, Bool, true, false, ◌||◌, ◌&&◌, cond, append_assoc, count_by, eqb-true, eq-eqb, or-true, nat_eq, nat_le, lit≤, Option, Some, None, refl, ap, sym, ◌∙◌, arith, ◌==◌, and_parts, nat_tests, or-false, and-true, and-false, and-or_distrib_left, nat_lt, list_any-append, position, position_from, list_any, then_some, position_from-zero, AllByRecursion, not, Data, Members, get_member, fault_number, has_pair, ConfigFault, Toml, UnknownKey, Place, Top, Link, Port, Field, flat_map, PlanRule, Rule, links_clash, ports_clash, port_misfits, link_count, port_count, sub_is_packed, breaks, is_misfit, plan_rules, rules, rule_findings, shows, tells, values_show, Finding, found, has, one_if, key_finding, member_keys, each_row, pair_finding, pair_findings, is_past_limit, misfit_finding, crowd_finding, Cells, cells_show, both, on_sub_of, is_packed, PortRow, field_fault, key_fault, is_key_of, IfSome, Content, Result, content_fault, FaultsAreFound}
+use Rattle.afdx_config.proofs.Names.{◌≡◌, ℕ, ◌+◌, ◌-◌, ◌<◌, ◌≤◌, List, [], ◌∷◌, ◌++◌, length, take, Bool, true, false, ◌||◌, ◌&&◌, cond, append_assoc, count_by, eqb-true, eq-eqb, or-true, nat_eq, nat_le, lit≤, Option, Some, None, refl, ap, sym, ◌∙◌, arith, ◌==◌, and_parts, nat_tests, or-false, and-true, and-false, and-or_distrib_left, nat_lt, list_any-append, position, position_from, list_any, then_some, position_from-zero, AllByRecursion, not, Data, Members, get_member, fault_number, has_pair, ConfigFault, Toml, UnknownKey, Place, Top, Link, Port, Field, flat_map, PlanRule, Rule, links_clash, ports_clash, port_misfits, link_count, port_count, sub_is_packed, breaks, is_misfit, plan_rules, rule_findings, shows, values_show, Finding, found, has, one_if, key_finding, member_keys, each_row, pair_finding, pair_findings, is_past_limit, misfit_finding, crowd_finding, Cells, cells_show, both, on_sub_of, is_packed, PortRow, field_fault, key_fault, is_key_of, IfSome, Content, Result, content_fault, FaultsAreFound}
 use Rattle.std.specs.Result.{result_err}
 use Rattle.afdx_config.specs.Tables.{read}
 use Rattle.afdx_config.specs.Findings.{plan_findings, table_findings, value_findings}
 use Rattle.afdx_config.proofs.AddLemmas.{each_row-map}
 use Rattle.afdx_config.proofs.OrderLemmas.{any_by_fault, r_append, r_map}
-use Rattle.afdx_config.proofs.PlaceLemmas.{Has, plan_fine, r_each, values_have}
+use Rattle.afdx_config.proofs.PlaceLemmas.{r_each, values_have}
 
 -- no element passes
 pub any_no : {A : Type 0} (xs : List A) → list_any (λ x. false) xs ≡ false
@@ -177,9 +177,9 @@ plan_shown f cells = rules_shown f cells plan_rules
 pub faults_are_found : FaultsAreFound
 faults_are_found doc f = grind (arith, nat_tests, any_by_fault, list_any-append, plan_shown, values_show)
 
--- a fault of values
-abbrev pub IsValue : ConfigFault → Type 0
-IsValue f = (1 < fault_number f) × (fault_number f < 7)
+-- a fault other than `Toml`
+abbrev IsValue : ConfigFault → Type 0
+IsValue f = 1 < fault_number f
 
 -- values have only such faults
 one_in : (b : Bool) (fault : ConfigFault) → IsValue fault → IfSome (then_some b fault) IsValue
@@ -202,9 +202,9 @@ table_in place fields members = r_append (λ x. IsValue x.fault) _ _
     (r_each _ (λ field. key_finding place field.key (field_fault members field)) fields
     (λ field. key_in place field.key _ (under_in field.content (get_member field.key members))))
     (r_each _ (λ key. key_finding place key (key_fault fields key)) (member_keys members)
-    (λ key. key_in place key _ (one_in (not (is_key_of fields key)) UnknownKey (lit≤ tt, lit≤ tt))))
+    (λ key. key_in place key _ (one_in (not (is_key_of fields key)) UnknownKey (lit≤ tt))))
 
-pub values_in : (doc : Members) → AllByRecursion (λ x. IsValue x.fault) (value_findings doc)
+values_in : (doc : Members) → AllByRecursion (λ x. IsValue x.fault) (value_findings doc)
 values_in doc = values_have (λ x. IsValue x.fault) doc (λ place fields members at. table_in place fields members)
 
 -- no finding has this fault
@@ -214,12 +214,3 @@ none_has f (x ∷ xs) all = rw all.0 (none_has f xs all.1)
 
 pub no_toml : (doc : Members) → shows Toml doc ≡ false
 no_toml doc = grind (arith, nat_tests, none_has, r_map, values_in)
-
--- a finding of a rule has the rule's fault
-told_above : (cells : Cells) (x : Finding) (some : List PlanRule) → AllByRecursion (λ r. 7 ≤ fault_number r.fault) some
-    → list_any (tells cells x) some ≡ true → 6 ≤ fault_number x.fault
-told_above cells x [] all told = cc
-told_above cells x (r ∷ rest) all told = grind (arith, nat_tests, eqb-true, (told_above cells x rest all.1))
-
-pub plan_above : (cells : Cells) → AllByRecursion (λ x. 6 ≤ fault_number x.fault) (plan_findings cells)
-plan_above cells = r_map (Has cells) _ (plan_findings cells) (λ x told. told_above cells x plan_rules (search rules) told) (plan_fine cells)

@@ -1,18 +1,15 @@
 //! All faults of a configuration, each with its place.
-ghost use Rattle.std.specs.Prelude.{◌≡◌, ◌++◌, map, IfOk};
+ghost use Rattle.std.specs.Prelude.{◌≡◌, map, IfOk};
 ghost use Rattle.toml.specs.Errors.{IsWithin};
 ghost use Rattle.toml.specs.View.{table_view};
-ghost use Rattle.afdx_config.specs.Cells.{cells_of};
 ghost use Rattle.afdx_config.specs.Explained.{column_after, line_of, Explains, HasLines, TellsDocument, TellsStop, TellsToml};
-ghost use Rattle.afdx_config.specs.Findings.{plan_findings, value_findings};
-ghost use Rattle.afdx_config.specs.Seen.{Holds, finding_of, IsDocument, data_of};
+ghost use Rattle.afdx_config.specs.Seen.{finding_of};
 
 use crate::document::Document;
 use crate::findings::{Finding, Found, Place, add};
 use crate::layout::lines_of_findings;
-use crate::plan_findings::add_plan;
+use crate::plan_findings::add_all;
 use crate::told::text_of;
-use crate::value_findings::add_values;
 use afdx_plan::ConfigFault;
 use std::alloc::{AllocError, Global};
 use toml::Table;
@@ -28,18 +25,6 @@ pub struct Explanation {
     /// A line with the number of findings, a line for each of the first 1,000, and if there are more a line
     /// with the number of the others.
     pub text: Vec<u8>,
-}
-
-/// The findings of a document.
-fn findings_in(alloc: Global, document: &Document<'_>) -> Result<Found, AllocError>
-    requires { IsDocument document.now }
-    ensures { IfOk result (λ found. Holds found
-        (value_findings (data_of document.now) ++ plan_findings (cells_of (data_of document.now)))) }
-{
-    let mut found = Found::new(alloc);
-    let rows = add_values(&mut found, document)?;
-    add_plan(&mut found, &rows)?;
-    Ok(found)
 }
 
 /// The explanation of findings. The lines of its text name the file of the text if it has a name.
@@ -77,7 +62,8 @@ fn explain_document(
     ensures text { IfOk result (λ e. HasLines e.count e.text.items) }
 {
     let document = Document::of(alloc, table)?;
-    let found = findings_in(alloc, &document)?;
+    let mut found = Found::new(alloc);
+    add_all(&mut found, &document)?;
     explanation_of(alloc, Some(&document), found, text, name)
 }
 

@@ -1,12 +1,10 @@
 //! Configurations: plans of end systems as TOML texts.
 #![tactic(auto)]
 
-mod crowding;
 mod document;
 mod explaining;
 mod findings;
 mod format;
-mod keyed;
 pub mod laws;
 mod layout;
 mod pairs;
@@ -14,10 +12,7 @@ mod plan_findings;
 mod read;
 mod reading;
 mod rows;
-mod sharing;
-mod subjects;
 mod told;
-mod value_findings;
 
 pub use afdx_plan::{
     Bag, CAPACITY_LIMIT, Config, ConfigFault, Kind, LINKS_LIMIT, LinkPlan, Lmax, MESSAGE_LIMIT,

@@ -1,16 +1,66 @@
-//! Tables that clash with an earlier one.
-ghost use Rattle.std.specs.Prelude.{◌≡◌, ◌+◌, ◌^◌, ◌<◌, map, IfOk, OnOk};
-ghost use Rattle.afdx_config.specs.Findings.{each_row, pair_finding, row_like};
-ghost use Rattle.afdx_config.specs.Sharing.{first_row, flow_of};
+//! Tables that clash with an earlier one, found in the time of sorting them.
+ghost use Rattle.std.specs.Prelude.{◌≡◌, ℕ, map, slice_get, option_copied, IfOk, option_and_then, ◌+◌, ◌^◌, ◌<◌, OnOk, List};
+ghost use Rattle.std.specs.List.{position};
+ghost use Rattle.std.specs.BTreeMap.{get};
+ghost use Rattle.afdx_config.specs.Sharing.{is_key, first_row, flow_of, address_of, address_cmp, first_at, off_link, sharing_place};
+ghost use Rattle.afdx_config.specs.Findings.{each_row, pair_finding, row_like, pair_findings};
 ghost use Rattle.afdx_config.specs.Seen.{Adds};
+ghost use Rattle.afdx_plan.specs.PlanFaults.{share_unicast};
+ghost use Rattle.afdx_config.specs.declared.findings.Place.TheVariants.{Port};
 
 use crate::findings::{Added, Found, Place, add, row_like};
-use crate::keyed::first_same;
 use afdx_plan::{ConfigFault, LinkRow, PortRow};
 use std::alloc::{AllocError, Global};
+use std::collections::BTreeMap;
+
+/// The index of the first row with each key. A row may lack a key.
+pub(crate) fn first_rows<K: Ord + Copy>(
+    alloc: Global,
+    keys: &[Option<K>],
+) -> Result<BTreeMap<K, usize>, AllocError>
+    ensures { IfOk result (λ rows. (q : K) → get K.cmp rows q ≡ position (is_key K.cmp q) keys.now) }
+{
+    let mut rows = BTreeMap::new(alloc);
+    for i in (0..keys.len()).rev() {
+        if let Some(key) = keys[i] {
+            rows.insert(key, i)?;
+        }
+    }
+    Ok(rows)
+}
+
+/// The index of the first row with this key.
+pub(crate) fn row_with<K: Ord + Copy>(rows: &BTreeMap<K, usize>, key: &Option<K>) -> Option<usize>
+    ensures { result ≡ option_and_then (get K.cmp rows.now) key.now }
+{
+    rows.get(key.as_ref()?).copied()
+}
+
+/// The row at an index.
+pub(crate) fn nth_row<R: Copy>(rows: &[R], place: Option<usize>) -> Option<&R>
+    ensures { option_copied result ≡ option_and_then (slice_get rows.now) place }
+{
+    rows.get(place?)
+}
+
+/// For each row the index of the first one with its key.
+fn first_same<K: Ord + Copy>(
+    alloc: Global,
+    keys: &[Option<K>],
+) -> Result<Vec<Option<usize>>, AllocError>
+    ensures { IfOk result (λ places.
+        places.items ≡ map (first_row K.cmp keys.now) keys.now) }
+{
+    let rows = first_rows(alloc, keys)?;
+    let mut places = Vec::new(alloc);
+    for key in keys {
+        places.push(row_with(&rows, key))?;
+    }
+    Ok(places)
+}
 
 /// Link, partition, both UDP ports and destination.
-pub(crate) type Flow = (u16, u16, u16, u16, Option<[u8; 4]>);
+type Flow = (u16, u16, u16, u16, Option<[u8; 4]>);
 
 /// Adds the table at index `i` of an array if the first one that it clashes with is earlier.
 fn add_pair(
@@ -35,7 +85,7 @@ fn add_pair(
 }
 
 /// Adds the tables of an array that clash with an earlier one.
-pub(crate) fn add_pairs(
+fn add_pairs(
     found: &mut Found,
     fault: ConfigFault,
     key: &str,
@@ -98,4 +148,77 @@ pub(crate) fn flows_of(alloc: Global, ports: &[PortRow]) -> Result<Vec<Option<Fl
     ensures { IfOk result (λ flows. flows.items ≡ map flow_of ports.now) }
 {
     ports.iter().map(|port| flow_of(port)).collect(alloc)
+}
+
+/// Partition and unicast address.
+type Address = (u16, [u8; 4]);
+
+/// The first port with an address, its link, and the first such port on another link.
+type First = (usize, u16, Option<usize>);
+
+/// The partition and unicast address of a port, and its link.
+fn address_of(port: &PortRow) -> Option<(Address, u16)>
+    ensures { result ≡ address_of port.now }
+{
+    let vl = port.vl?;
+    Some(((port.partition?, port.unicast??), vl))
+}
+
+/// The first of the ports with an address that is on another link than this one.
+fn off_link(vl: u16, first: Option<First>) -> Option<usize>
+    ensures { result ≡ off_link vl first }
+{
+    let (i, other, next) = first?;
+    if other == vl { next } else { Some(i) }
+}
+
+/// The first port with each address.
+fn first_ports(alloc: Global, ports: &[PortRow]) -> Result<BTreeMap<Address, First>, AllocError>
+    ensures { IfOk result (λ firsts. (q : ℕ × List ℕ) → get address_cmp firsts q ≡ first_at q 0 ports.now) }
+{
+    let mut firsts = BTreeMap::new(alloc);
+    for i in (0..ports.len()).rev() {
+        if let Some((address, vl)) = address_of(&ports[i]) {
+            let next = off_link(vl, firsts.get(&address).copied());
+            firsts.insert(address, (i, vl, next))?;
+        }
+    }
+    Ok(firsts)
+}
+
+/// The first port on another link with the partition and unicast address of a port.
+fn sharing_place(firsts: &BTreeMap<Address, First>, port: &PortRow) -> Option<usize>
+    ensures { result ≡ sharing_place (get address_cmp firsts.now) port.now }
+{
+    let (address, vl) = address_of(port)?;
+    off_link(vl, firsts.get(&address).copied())
+}
+
+/// These ports for each port.
+fn sharing_places(
+    alloc: Global,
+    firsts: &BTreeMap<Address, First>,
+    ports: &[PortRow],
+) -> Result<Vec<Option<usize>>, AllocError>
+    ensures { IfOk result (λ places. places.items
+        ≡ map (sharing_place (get address_cmp firsts.now)) ports.now) }
+{
+    ports
+        .iter()
+        .map(|port| sharing_place(firsts, port))
+        .collect(alloc)
+}
+
+/// Adds the ports that are on another link than an earlier one with their partition and unicast address.
+pub(crate) fn add_sharing(
+    found: &mut Found,
+    fault: ConfigFault,
+    key: &str,
+    ports: &[PortRow],
+) -> Added
+    ensures { OnOk result (Adds found.old found.new (pair_findings fault key.now Port share_unicast ports.now)) }
+{
+    let firsts = first_ports(found.alloc(), ports)?;
+    let places = sharing_places(found.alloc(), &firsts, ports)?;
+    add_pairs(found, fault, key, Place::Port(0), places.as_slice())
 }

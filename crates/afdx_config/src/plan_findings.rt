@@ -1,23 +1,71 @@
-//! The faults of 7 to 14 with their places, in the values that have no fault.
-ghost use Rattle.std.specs.Prelude.{◌≡◌, ℕ, ◌+◌, ◌^◌, ◌&&◌, ◌<◌, map, length, is_none, option_copied, option_map, OnOk, IfSome, None};
+//! The faults of 7 to 14 with their places, in the values that have no fault, and all faults of a document.
+ghost use Rattle.std.specs.Prelude.{◌≡◌, codes, ℕ, ◌+◌, ◌++◌, ◌^◌, ◌<◌, if◌then◌else◌, unwrap_or, OnOk, IfOk, ◌&&◌, map, length, is_none, option_copied, option_map, IfSome, None};
 ghost use Rattle.std.specs.BTreeMap.{get};
+ghost use Rattle.afdx_plan.specs.declared.fault.ConfigFault.{ConfigFault};
+ghost use Rattle.std.specs.Option.{option_map_or};
+ghost use Rattle.afdx_config.specs.Cells.{cells_of, plan_of};
+ghost use Rattle.afdx_config.specs.Findings.{crowd_finding, each_row, found as finding_at, misfit_finding, one_if, plan_findings, value_findings};
+ghost use Rattle.afdx_config.specs.Seen.{Adds, AreInRange, IsDocument, cells_in, data_of, plan_in};
+ghost use Rattle.afdx_config.specs.Sharing.{sub_in, sub_cmp, is_on_sub, is_key};
 ghost use Rattle.std.specs.List.{position, list_any};
 ghost use Rattle.std.specs.Ordering.{nat_cmp};
 ghost use Rattle.afdx_plan.specs.PlanFaults.{all_named, is_no_count, is_row_of, misfits};
-ghost use Rattle.afdx_config.specs.Findings.{found as finding_at, each_row, misfit_finding, one_if, plan_findings};
-ghost use Rattle.afdx_config.specs.Sharing.{is_key};
 ghost use Rattle.afdx_config.specs.declared.findings.Place.TheVariants.{Top};
-ghost use Rattle.afdx_plan.specs.declared.fault.ConfigFault.{ConfigFault};
-ghost use Rattle.afdx_config.specs.Seen.{Adds, cells_in};
 
-use crate::crowding::add_crowded;
+use crate::document::Document;
 use crate::findings::{Added, Found, Place, add_if};
-use crate::keyed::{first_rows, nth_row, row_with};
-use crate::pairs::{add_keyed, flows_of, link_ids, port_ids};
-use crate::rows::Rows;
-use crate::sharing::add_sharing;
-use afdx_plan::{ConfigFault, Kind, LINKS_LIMIT, LinkRow, Misfit, PORTS_LIMIT, PortRow};
+use crate::pairs::{
+    add_keyed, add_sharing, first_rows, flows_of, link_ids, nth_row, port_ids, row_with,
+};
+use crate::rows::{Rows, add_values};
+use afdx_plan::{
+    ConfigFault, Kind, LINKS_LIMIT, LinkRow, Misfit, PORTS_LIMIT, PortRow, SUB_PORTS_LIMIT,
+};
+use std::alloc::AllocError;
 use std::collections::BTreeMap;
+
+/// The number of ports on each sub-VL of each link.
+type Counts = BTreeMap<(u16, u16), usize>;
+
+/// The number of ports on a sub-VL of a link.
+fn count_of(counts: &Counts, vl: u16, sub: u16) -> usize
+    ensures { result ≡ unwrap_or (get sub_cmp counts.now (vl, sub)) 0 }
+{
+    counts.get(&(vl, sub)).copied().unwrap_or(0)
+}
+
+/// Counts a port. Returns the number of those before it on its sub-VL.
+fn count_port(counts: &mut Counts, port: &PortRow) -> Result<usize, AllocError>
+    requires { (q : ℕ × ℕ) → unwrap_or (get sub_cmp counts.old q) 0 < 2 ^ 63 }
+    ensures before { IfOk result (λ n. n
+        ≡ option_map_or (λ q. unwrap_or (get sub_cmp counts.old q) 0) (sub_in port.now.vl port.now.sub) 0) }
+    ensures after { OnOk result ((q : ℕ × ℕ) → unwrap_or (get sub_cmp counts.new q) 0
+        ≡ unwrap_or (get sub_cmp counts.old q) 0 + (if is_on_sub q port.now then 1 else 0)) }
+{
+    match (port.vl, port.sub) {
+        (Some(vl), Some(sub)) => {
+            let before = count_of(counts, vl, sub);
+            counts.insert((vl, sub), before + 1)?;
+            Ok(before)
+        }
+        _ => Ok(0),
+    }
+}
+
+/// Adds the ports that are past the limit on their sub-VL.
+fn add_crowded(found: &mut Found, ports: &[PortRow]) -> Added
+    ensures { OnOk result (Adds found.old found.new
+        (each_row (crowd_finding ConfigFault.Limit (codes "sub") ports.now) 1 ports.now)) }
+{
+    let mut counts = BTreeMap::new(found.alloc());
+    for (i, port) in ports.iter().enumerate() {
+        let before = count_port(&mut counts, port)?;
+        let is_past = SUB_PORTS_LIMIT <= before;
+        let place = Place::Port(i + 1);
+        add_if(is_past, found, ConfigFault::Limit, place, "sub", None)?;
+    }
+    Ok(())
+}
 
 fn some_is_nameless(links: &[LinkRow]) -> bool
     ensures { result ≡ list_any (λ l. is_none l.id) links.now }
@@ -108,7 +156,7 @@ fn add_count(found: &mut Found, key: &str, has_array: bool, most: usize, count: 
 
 /// Adds the findings of links and ports, rule by rule.
 #[tactic(auto, unfolding(crate::specs::Findings::plan_findings))]
-pub(crate) fn add_plan(found: &mut Found, rows: &Rows) -> Added
+fn add_plan(found: &mut Found, rows: &Rows) -> Added
     ensures { OnOk result (Adds found.old found.new (plan_findings (cells_in rows.now))) }
 {
     let alloc = found.alloc();
@@ -141,4 +189,17 @@ pub(crate) fn add_plan(found: &mut Found, rows: &Rows) -> Added
     add_count(found, "vl", rows.has_links, LINKS_LIMIT, links.len())?;
     add_count(found, "port", rows.has_ports, PORTS_LIMIT, ports.len())?;
     add_crowded(found, ports)
+}
+
+/// Reads a document, and adds all its findings.
+pub(crate) fn add_all(found: &mut Found, document: &Document<'_>) -> Result<Rows, AllocError>
+    requires { IsDocument document.now }
+    ensures findings { OnOk result (Adds found.old found.new
+        (value_findings (data_of document.now) ++ plan_findings (cells_of (data_of document.now)))) }
+    ensures plan { IfOk result (λ rows. plan_in rows ≡ plan_of (data_of document.now)) }
+    ensures fits { IfOk result AreInRange }
+{
+    let rows = add_values(found, document)?;
+    add_plan(found, &rows)?;
+    Ok(rows)
 }

@@ -1,53 +1,28 @@
 //! Reading a configuration.
-ghost use Rattle.std.specs.Prelude.{◌≡◌, ◌≢◌, All, Some, [], map, IfOk, IfErr};
+ghost use Rattle.std.specs.Prelude.{◌≡◌, ◌≢◌, All, List, Some, [], map, IfOk, IfErr};
 ghost use Rattle.afdx_plan.specs.declared.fault.ConfigFault.{ConfigFault};
 ghost use Rattle.afdx_plan.specs.Config.{IsPlan};
 ghost use Rattle.afdx_config.specs.Cells.{plan_of};
 ghost use Rattle.afdx_config.specs.Faults.{IsPlanOf, IsLeastFault};
-ghost use Rattle.afdx_config.specs.Findings.{findings};
-ghost use Rattle.afdx_config.specs.Seen.{AreInRange, fault_of, finding_of, IsDocument, data_of, plan_in};
+ghost use Rattle.afdx_config.specs.Findings.{Finding, by_fault, findings};
+ghost use Rattle.afdx_config.specs.Seen.{AreInRange, Holds, fault_of, IsDocument, data_of, plan_in};
 
 use crate::document::Document;
 use crate::findings::Found;
-use crate::plan_findings::add_plan;
+use crate::plan_findings::add_all;
 use crate::rows::{Row, Rows};
-use crate::value_findings::add_values;
 use afdx_plan::{Config, ConfigFault};
 use std::alloc::{AllocError, Global};
 
-/// The fault of the first finding.
-fn first_of(found: &Found) -> Option<ConfigFault>
-    ensures { result ≡ fault_of (map finding_of found.now.first.items) }
+/// Returns the fault of the first finding.
+#[tactic(auto, using(crate::proofs::FirstLemmas::first_kept))]
+fn least_fault(found: &Found) -> Option<ConfigFault>
+    ensures { (all : List Finding) → Holds found.now all → result ≡ fault_of (by_fault all) }
 {
     match found.first.as_slice() {
         [] => None,
         [first, ..] => Some(first.fault),
     }
-}
-
-/// The values of a document, and the fault of the least number.
-#[derive(Drop)]
-struct Outcome {
-    rows: Rows,
-    fault: Option<ConfigFault>,
-}
-
-/// Reads the values of a document. If a value has a fault, plan rules aren't tried.
-fn least_fault(alloc: Global, document: &Document<'_>) -> Result<Outcome, AllocError>
-    requires { IsDocument document.now }
-    ensures plan { IfOk result (λ outcome. plan_in outcome.rows ≡ plan_of (data_of document.now)) }
-    ensures fits { IfOk result (λ outcome. AreInRange outcome.rows) }
-    ensures first { IfOk result (λ outcome. outcome.fault ≡ fault_of (findings (data_of document.now))) }
-{
-    let mut found = Found::new(alloc);
-    let rows = add_values(&mut found, document)?;
-    if found.count != 0 {
-        let fault = first_of(&found);
-        return Ok(Outcome { rows, fault });
-    }
-    add_plan(&mut found, &rows)?;
-    let fault = first_of(&found);
-    Ok(Outcome { rows, fault })
 }
 
 /// Converts rows to the parts of a plan.
@@ -81,13 +56,14 @@ fn read_document(alloc: Global, document: &Document<'_>) -> Result<Config, Confi
     ensures fault { IfErr result (λ fault. fault ≢ ConfigFault.Memory →
         fault_of (findings (data_of document.now)) ≡ Some fault) }
 {
-    let Ok(outcome) = least_fault(alloc, document) else {
+    let mut found = Found::new(alloc);
+    let Ok(rows) = add_all(&mut found, document) else {
         return Err(ConfigFault::Memory);
     };
-    if let Some(fault) = outcome.fault {
+    if let Some(fault) = least_fault(&found) {
         return Err(fault);
     }
-    plan_of(alloc, &outcome.rows).map_err(|_| ConfigFault::Memory)
+    plan_of(alloc, &rows).map_err(|_| ConfigFault::Memory)
 }
 
 /// Reads a configuration from a TOML text. Returns its plan, or the fault of the least number that the

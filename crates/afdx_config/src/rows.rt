@@ -1,22 +1,27 @@
-//! The values of links and ports, read once, and the findings of their keys.
-ghost use Rattle.std.specs.Prelude.{◌≡◌, ◌≤◌, Bool, List, if◌then◌else◌, map, IfOk, IfSome, OnOk, Ok};
+//! The values of a document, read once, and the findings of its keys.
+ghost use Rattle.std.specs.Prelude.{◌≡◌, ◌≤◌, Bool, List, if◌then◌else◌, map, IfOk, IfSome, OnOk, Ok, [], All, codes};
 ghost use Rattle.std.specs.Result.{result_ok, result_err};
 ghost use Rattle.toml.specs.Data.{Members, get_member};
 ghost use Rattle.toml.specs.View.{table_view};
 ghost use Rattle.afdx_config.specs.declared.format.Content.{Content};
-ghost use Rattle.afdx_config.specs.Cells.{link_of, link_row, port_of, port_row};
-ghost use Rattle.afdx_config.specs.Findings.{key_finding, field_findings};
-ghost use Rattle.afdx_config.specs.Format.{Field as Key, link_fields, port_fields};
-ghost use Rattle.afdx_config.specs.Seen.{Adds, field_of};
-ghost use Rattle.afdx_config.specs.Tables.{content_fault, number_under, value_at};
+ghost use Rattle.afdx_config.specs.Cells.{link_of, link_row, port_of, port_row, cells_of, end_system_of};
+ghost use Rattle.afdx_config.specs.Findings.{key_finding, field_findings, each_row, key_findings, row_like, table_findings, value_findings};
+ghost use Rattle.afdx_config.specs.Format.{Field as Key, link_fields, port_fields, document_fields, end_fields, id_range};
+ghost use Rattle.afdx_config.specs.Seen.{Adds, field_of, AreInRange, cells_in, IsDocument, data_of};
+ghost use Rattle.afdx_config.specs.Tables.{content_fault, number_under, value_at, section_at};
 ghost use Rattle.afdx_plan.specs.Plan.{IsLink, IsPort};
+ghost use Rattle.std.specs.Option.{option_map_or};
+ghost use Rattle.afdx_config.specs.declared.findings.Place.TheVariants.{Top, EndSystem};
 
-use crate::findings::{Added, Found, Place, add};
+use crate::document::{Document, is_version_2};
+use crate::findings::{Added, Found, Place, add, row_like};
 use crate::format::{
-    CAPACITY, Field, IDENTIFIER, LINK, LMAX, MESSAGE, PARTITION, PORT, Range, SUB_VL, SUB_VLS,
-    UDP_PORT,
+    CAPACITY, DOCUMENT, END, Field, IDENTIFIER, LINK, LMAX, MESSAGE, PARTITION, PORT, Range,
+    SUB_VL, SUB_VLS, UDP_PORT, key_fault,
 };
-use crate::reading::{bag_in, number_in, text_in, unicast_in};
+use crate::reading::{
+    bag_in, number_in, rows_fault, section_fault, text_in, unicast_in, version_in,
+};
 use afdx_plan::{
     Bag, ConfigFault, Kind, LinkPlan, LinkRow, Lmax, Networks, PortId, PortPlan, PortRow, UdpSum,
     VlId,
@@ -35,12 +40,7 @@ pub(crate) struct Rows {
 }
 
 /// Adds a key of a table if it has a fault.
-pub(crate) fn add_key(
-    found: &mut Found,
-    place: Place,
-    key: &str,
-    fault: Option<ConfigFault>,
-) -> Added
+fn add_key(found: &mut Found, place: Place, key: &str, fault: Option<ConfigFault>) -> Added
     ensures { OnOk result (Adds found.old found.new (key_finding place key.now fault)) }
 {
     match fault {
@@ -50,7 +50,7 @@ pub(crate) fn add_key(
 }
 
 /// Returns a value without a fault. Adds its key if it has one.
-pub(crate) fn keep<T: Copy>(
+fn keep<T: Copy>(
     found: &mut Found,
     place: Place,
     key: &str,
@@ -64,7 +64,7 @@ pub(crate) fn keep<T: Copy>(
 }
 
 /// Reads a number. Adds its key if it has a fault.
-pub(crate) fn keep_number(
+fn keep_number(
     found: &mut Found,
     place: Place,
     table: &Table,
@@ -234,4 +234,104 @@ impl Row for PortRow {
             checksum: self.checksum.unwrap_or(UdpSum::Omitted),
         }
     }
+}
+
+/// Adds the keys of a table that its format lacks.
+fn add_keys(found: &mut Found, place: Place, fields: &[Field], table: &Table) -> Added
+    ensures { OnOk result (Adds found.old found.new
+        (key_findings place (map field_of fields.now) (table_view table.now))) }
+{
+    for key in table.keys() {
+        let key = key.as_str();
+        add_key(found, place, key, key_fault(fields, key))?;
+    }
+    Ok(())
+}
+
+/// The arrays of links and of ports have no fault.
+type Arrays = (bool, bool);
+
+/// Adds the findings of the top level.
+fn add_top(found: &mut Found, top: &Table) -> Result<Arrays, AllocError>
+    ensures findings { OnOk result (Adds found.old found.new
+        (table_findings Top document_fields (table_view top.now))) }
+    ensures links { IfOk result (λ arrays. arrays.0 ≡ (cells_of (table_view top.now)).has_links) }
+    ensures ports { IfOk result (λ arrays. arrays.1 ≡ (cells_of (table_view top.now)).has_ports) }
+{
+    let links = rows_fault(top, "vl");
+    let ports = rows_fault(top, "port");
+    keep(found, Place::Top, "version", version_in(top))?;
+    add_key(found, Place::Top, "end_system", section_fault(top))?;
+    add_key(found, Place::Top, "vl", links)?;
+    add_key(found, Place::Top, "port", ports)?;
+    add_keys(found, Place::Top, &DOCUMENT, top)?;
+    Ok((links.is_none(), ports.is_none()))
+}
+
+/// Adds the findings of the table of the end system, and returns its identifier.
+fn read_end(found: &mut Found, table: &Table) -> Result<Option<u16>, AllocError>
+    ensures findings { OnOk result (Adds found.old found.new
+        (table_findings EndSystem end_fields (table_view table.now))) }
+    ensures value { IfOk result (λ id. id ≡ value_at (number_under id_range) (codes "id") (table_view table.now)) }
+{
+    let id = keep_number(found, Place::EndSystem, table, "id", IDENTIFIER)?;
+    add_keys(found, Place::EndSystem, &END, table)?;
+    Ok(id)
+}
+
+/// Adds the findings of the table of the end system, if there is one, and returns its identifier.
+fn add_end(found: &mut Found, document: &Document<'_>) -> Result<u16, AllocError>
+    requires { IsDocument document.now }
+    ensures findings { OnOk result (Adds found.old found.new (option_map_or
+        (table_findings EndSystem end_fields) (section_at (codes "end_system") (data_of document.now)) [])) }
+    ensures value { IfOk result (λ id. id ≡ end_system_of (data_of document.now)) }
+{
+    match document.end {
+        Some(table) => Ok(read_end(found, table)?.unwrap_or(0)),
+        None => Ok(0),
+    }
+}
+
+/// Adds the findings of the tables of an array that has this place, and reads the tables.
+fn add_rows<R: Row>(
+    found: &mut Found,
+    array: Place,
+    is_2: bool,
+    tables: &[&Table],
+) -> Result<Vec<R>, AllocError>
+    ensures findings { OnOk result (Adds found.old found.new (each_row
+        (λ k t. table_findings (row_like array k) (R.format is_2) (table_view t.now)) 1 tables.now)) }
+    ensures rows { IfOk result (λ rows. rows.items ≡ map (λ t. R.row_of is_2 (table_view t.now)) tables.now) }
+    ensures fits { IfOk result (λ rows. All R.Fits rows.items) }
+{
+    let mut rows = Vec::with_capacity(found.alloc(), tables.len())?;
+    for (i, table) in tables.iter().enumerate() {
+        let place = row_like(array, i + 1);
+        let row = R::read(found, place, is_2, table)?;
+        add_keys(found, place, R::fields(is_2), table)?;
+        rows.push(row)?;
+    }
+    Ok(rows)
+}
+
+/// Adds the findings of the values of a document, and reads its values.
+pub(crate) fn add_values(found: &mut Found, document: &Document<'_>) -> Result<Rows, AllocError>
+    requires { IsDocument document.now }
+    ensures findings { OnOk result (Adds found.old found.new (value_findings (data_of document.now))) }
+    ensures rows { IfOk result (λ rows. cells_in rows ≡ cells_of (data_of document.now)) }
+    ensures end_system { IfOk result (λ rows. rows.end_system ≡ end_system_of (data_of document.now)) }
+    ensures fits { IfOk result AreInRange }
+{
+    let arrays = add_top(found, document.top)?;
+    let end_system = add_end(found, document)?;
+    let is_2 = is_version_2(document);
+    let links = add_rows(found, Place::Link(0), is_2, document.links.as_slice())?;
+    let ports = add_rows(found, Place::Port(0), is_2, document.ports.as_slice())?;
+    Ok(Rows {
+        end_system,
+        links,
+        ports,
+        has_links: arrays.0,
+        has_ports: arrays.1,
+    })
 }
