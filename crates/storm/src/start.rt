@@ -16,16 +16,15 @@ use std::thread::{Promise, PromisedHandle, Scope, Threads};
 #[derive(Drop)]
 pub(crate) struct SendsAll {
     pub before: Snapshot<TxPort>,
-    pub messages: u32,
-    pub turns: u64,
+    pub load: Load,
 }
 
 impl Promise<(TxPort, Result<(), Stop>)> for SendsAll {
     ghost use Rattle.std.specs.Prelude.{◌≡◌, ◌≤◌, OnOk};
     ghost use Rattle.storm.specs.Workers.{named, sent_all, asked_by, asked_after};
 
-    ghost kept_by = { λ p r. OnOk r.1 (named r.0 ≡ sent_all p.messages p.before.value)
-        × (asked_by r.0 ≤ asked_after p.turns p.before.value) };
+    ghost kept_by = { λ p r. OnOk r.1 (named r.0 ≡ sent_all p.load.messages p.before.value)
+        × (asked_by r.0 ≤ asked_after p.load.turns p.before.value) };
 }
 
 pub(crate) type Worker = PromisedHandle<(TxPort, Result<(), Stop>), SendsAll>;
@@ -40,13 +39,11 @@ fn start_worker<'s, E: 's, G: Gate + Sync>(
     running: &'s AtomicU64,
 ) -> Result<Worker, Stop>
     ensures port { IfOk result (λ started. started.promise.before.value ≡ port) }
-    ensures messages { IfOk result (λ started. started.promise.messages ≡ load.messages) }
-    ensures turns { IfOk result (λ started. started.promise.turns ≡ load.turns) }
+    ensures load { IfOk result (λ started. started.promise.load ≡ load) }
 {
     let promise = SendsAll {
         before: Snapshot::of(&port),
-        messages: load.messages,
-        turns: load.turns,
+        load,
     };
     running.fetch_add(1, Ordering::SeqCst);
     let body = move || -> (TxPort, Result<(), Stop>)
@@ -77,10 +74,10 @@ pub(crate) fn start_workers<'s, E: 's, G: Gate + Sync>(
     running: &'s AtomicU64,
 ) -> Result<Vec<Worker>, Stop>
     ensures sent { IfOk result (λ workers.
-        map (λ w. sent_all w.promise.messages w.promise.before.value) workers.items
+        map (λ w. sent_all w.promise.load.messages w.promise.before.value) workers.items
         ≡ map (sent_all load.messages) ports.items) }
     ensures asks { IfOk result (λ workers.
-        map (λ w. asked_after w.promise.turns w.promise.before.value) workers.items
+        map (λ w. asked_after w.promise.load.turns w.promise.before.value) workers.items
         ≡ map (asked_after load.turns) ports.items) }
 {
     let mut workers = Vec::new(alloc);
@@ -102,10 +99,10 @@ pub(crate) fn join_workers<R: Threads>(
 ) -> Result<(u64, Vec<TxPort>), Stop>
     ensures polls { IfOk result (λ joined. polls ≡ Ok joined.0) }
     ensures sent { IfOk result (λ joined. IsOkAnd started (λ workers. map named joined.1.items
-        ≡ map (λ w. sent_all w.promise.messages w.promise.before.value) workers.items)) }
+        ≡ map (λ w. sent_all w.promise.load.messages w.promise.before.value) workers.items)) }
     ensures asks { IfOk result (λ joined. IsOkAnd started (λ workers.
         AreAtMost (map asked_by joined.1.items)
-        (map (λ w. asked_after w.promise.turns w.promise.before.value) workers.items))) }
+        (map (λ w. asked_after w.promise.load.turns w.promise.before.value) workers.items))) }
 {
     let workers = started?;
     let mut ports = Vec::new(alloc);
