@@ -32,7 +32,7 @@ pub use Rattle.toml.specs.Data.{Data, Members, as_table, get_member}
 pub use Rattle.toml.specs.View.{items_view, members_view, table_view, view}
 pub use Rattle.toml.specs.declared.value.Value.{Value}
 pub use Rattle.afdx_plan.specs.Config.{Plan}
-pub use Rattle.afdx_plan.specs.PlanFaults.{are_one_address, are_one_destination, both, breaks, fault_number, has_pair, is_packed, is_row_of, is_sampling, link_count, link_whole, links_clash, on_sub_of, plan_rules, plan_shows, PlanRule, port_count, port_misfits, port_whole, ports_clash, rule, Rule, same_flow, same_link, same_port, share_unicast, sub_is_packed, Cells, all_named, cells_show, is_misfit, whole}
+pub use Rattle.afdx_plan.specs.PlanFaults.{are_one_address, are_one_destination, both, breaks, fault_number, has_pair, is_row_of, is_sampling, link_count, link_whole, links_clash, on_sub_of, plan_rules, plan_shows, PlanRule, port_count, port_misfits, port_whole, ports_clash, rule, Rule, same_flow, same_link, same_port, share_unicast, sub_is_packed, Cells, all_named, cells_show, any_row, is_misfit, is_past_limit, whole}
 pub use Rattle.afdx_plan.specs.declared.rows.Misfit.TheVariants.{NoLink, NoSub, TooLong}
 pub use Rattle.afdx_plan.specs.declared.fault.ConfigFault.{ConfigFault}
 pub use Rattle.afdx_plan.specs.declared.fault.ConfigFault.TheVariants.{Limit, Memory, MissingKey, Toml, UnknownKey}
@@ -43,7 +43,7 @@ pub use Rattle.afdx_config.specs.Explained.{column_after}
 pub use Rattle.afdx_config.specs.Faults.{HasFault, IsLeastFault, IsPlanOf, Reads, shows, values_show}
 pub use Rattle.afdx_config.specs.FindingLaws.{FaultsAreFound, FirstIsAnswered, PlacesHaveFaults, RulesAgree, breaks_at, fields_at, has_place, members_at, key_has, row_has, rows_have, tells, value_has}
 pub use Rattle.afdx_config.specs.Cells.{cells_of, link_of, plan_of, port_of}
-pub use Rattle.afdx_config.specs.Findings.{Finding, crowd_finding, each_row, findings, found, has, is_past_limit, key_finding, misfit_finding, one_if, pair_finding, pair_findings, row_like, rule_findings, table_findings, field_findings, key_findings}
+pub use Rattle.afdx_config.specs.Findings.{Finding, crowd_finding, each_row, findings, found, has, key_finding, misfit_finding, one_if, pair_finding, pair_findings, row_like, rule_findings, table_findings, field_findings, key_findings}
 pub use Rattle.afdx_config.specs.Sharing.{first_row, is_key, flow_of}
 pub use Rattle.afdx_config.specs.Format.{Field, document_fields, end_fields, link_fields, port_fields}
 pub use Rattle.afdx_config.specs.Seen.{Adds, cells_in, finding_of, IsDocument, IsSoundTable, data_of, field_of}

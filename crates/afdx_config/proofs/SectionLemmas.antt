@@ -1,8 +1,7 @@
 -- The tables and keys of a document, in the code and in the specification.
-use Rattle.afdx_config.proofs.Names.{◌≡◌, ℕ, Bool, ◌||◌, is_none, List, [], ◌∷◌, String, Global, string_bytes, refl, ap, false, map, Bor, BTreeMap, cons_option, filter_map, list_any, as_table, view, items_view, members_view, member_keys, tables_among, has_other_item, keys_of, Value, find, arith, cond, is_some, nat_tests, not, common_steps}
+use Rattle.afdx_config.proofs.Names.{◌≡◌, ℕ, Bool, ◌||◌, is_none, List, [], ◌∷◌, String, Global, string_bytes, refl, ap, false, map, Bor, BTreeMap, cons_option, filter_map, list_any, as_table, view, items_view, members_view, member_keys, tables_among, has_other_item, keys_of, Value, find, arith, cond, is_some}
 use Rattle.std.proofs.lemmas.List.Sums.{sum_by-cons}
 use Rattle.std.specs.List.{count_by}
-use Rattle.std.specs.Prelude.{nat_eq}
 
 -- the keys of a table
 pub keys_are : (es : List (String Global × Value)) → map (λ k. string_bytes k) (keys_of es) ≡ member_keys (members_view es)
@@ -10,9 +9,9 @@ keys_are [] = refl
 keys_are (e ∷ es) = ap (λ ks. string_bytes e.0 ∷ ks) (keys_are es)
 
 -- the tables among the values
-pub tables_among-values : (vs : List Value) → filter_map (λ v. as_table (view v)) vs ≡ tables_among (items_view vs)
-tables_among-values [] = refl
-tables_among-values (v ∷ vs) = ap (cons_option (as_table (view v))) (tables_among-values vs)
+pub tables_among_values : (vs : List Value) → filter_map (λ v. as_table (view v)) vs ≡ tables_among (items_view vs)
+tables_among_values [] = refl
+tables_among_values (v ∷ vs) = ap (cons_option (as_table (view v))) (tables_among_values vs)
 
 -- an item that is not a table, among the values
 pub other_item_among : (vs : List Value) → list_any (λ v. is_none (as_table (view v))) vs ≡ has_other_item (items_view vs)
@@ -28,11 +27,7 @@ pub any_mapped : {A B : Type 0} (p : B → Bool) (f : A → B) (xs : List A) →
 any_mapped p f [] = refl
 any_mapped p f (x ∷ xs) = grind (arith, any_mapped p f xs)
 
--- no element passes a test exactly if the count of those that pass is 0
-pub none_counted : {A : Type 0} (p : A → Bool) (xs : List A) → not (list_any p xs) ≡ nat_eq (count_by p xs) 0
-none_counted p [] = refl
-none_counted p (x ∷ xs) = grind (arith, nat_tests, common_steps, sum_by-cons, (none_counted p xs))
-
+-- none is counted if none passes
 pub none_on : {A : Type 0} (test : A → Bool) (rows : List A) → ((x : A) → test x ≡ false) → count_by test rows ≡ 0
 none_on test [] fails = refl
 none_on test (x ∷ xs) fails = let step = sum_by-cons (λ y. cond {A = ℕ} (test y) 1 0) x xs in grind (arith, fails x, none_on test xs fails, step)

@@ -1,12 +1,11 @@
 -- Ports with the same keys.
 use Rattle.std.proofs.Math.Path.{fun_ext}
-use Rattle.afdx_config.proofs.Names.{◌≡◌, ℕ, List, [], ◌∷◌, Bool, true, false, ◌&&◌, Option, Some, None, refl, ap, sym, ◌∙◌, arith, option_map_or, nat_eq, nat_cmp, is_eq, Ordering, ordering_then, both_tied, and-false, slice_cmp, option_cmp, not, ◌==◌, map, position, position_from, position_from-zero, get_or, eqb-true, share_unicast, cond, length, ◌<◌, both, is_key, PortRow, same_flow, flow_of, are_one_destination, are_one_address, on_sub_of, ◌-◌, nat_le, one_if, found, Limit, Port, codes, crowd_finding}
+use Rattle.afdx_config.proofs.Names.{◌≡◌, ℕ, List, [], ◌∷◌, Bool, true, false, ◌&&◌, Option, Some, None, refl, ap, sym, ◌∙◌, arith, option_map_or, nat_eq, eq-eqb, nat_cmp, is_eq, Ordering, ordering_then, both_tied, and-false, slice_cmp, option_cmp, not, ◌==◌, map, position, position_from, position_from-zero, get_or, eqb-true, share_unicast, cond, length, ◌<◌, both, is_key, PortRow, same_flow, flow_of, are_one_destination, are_one_address, on_sub_of, ◌-◌, nat_le, one_if, found, Limit, Port, codes, crowd_finding}
 use Rattle.std.proofs.Common.{Equal, ◌+◌, ◌^◌, take, count_by, length-take, add-zero}
 use Rattle.std.proofs.lemmas.List.Sums.{count_by-le-length, count_by_more_yes, count_by_more_no}
 use Rattle.std.proofs.lemmas.Map.Lookups.{exact_bytes, exact_pairs, exact_unsigned}
 use Rattle.afdx_config.specs.Sharing.{sub_in, is_on_sub, all_five, address_in, address_of, address_cmp, first_at, off_link, sharing_place}
 use Rattle.afdx_config.proofs.SectionLemmas.{none_on}
-use Rattle.afdx_config.proofs.ShownLemmas.{no_sub}
 use Rattle.afdx_config.proofs.KeyedLemmas.{same_address, position_none}
 use Rattle.std.proofs.lemmas.Bool.Decides.{nat_tests}
 
@@ -89,6 +88,10 @@ sharing ports first is = ap (λ f. map f ports) (fun_ext (λ p. here p (address_
     here p None at = rw at (sym (position_none (λ e. share_unicast e p) ports
         (λ e. sharing_key e.vl p.vl e.partition p.partition e.unicast p.unicast ∙ rw at (share_none (address_of e)))))
     here p (Some (q, v)) at = rw (at, is q) (sym (position_from-zero (λ e. share_unicast e p) ports ∙ found_from p q v at 0 ports))
+
+-- a port on no known sub-VL
+no_sub : (v u a b : Option ℕ) → (both nat_eq v v && both nat_eq u u) ≡ false → (both nat_eq a v && both nat_eq b u) ≡ false
+no_sub v u a b is = grind (arith, nat_tests, and-false, eq-eqb)
 
 -- the ports before one on its sub-VL
 pub before_is : (ports : List PortRow) (i n : ℕ) (port : PortRow)

@@ -1,9 +1,6 @@
 -- A document has a fault exactly if some finding has it.
-use Rattle.std.proofs.lemmas.List.Sums.{sum_by-append, sum_by-cons}
-use Rattle.std.proofs.Math.Seq.{take-append_seam}
-use Rattle.afdx_config.proofs.SectionLemmas.{none_counted, none_on}
 use Rattle.std.proofs.Common.{length-append}
-use Rattle.afdx_config.proofs.Names.{◌≡◌, ℕ, ◌+◌, ◌-◌, ◌<◌, ◌≤◌, List, [], ◌∷◌, ◌++◌, length, take, Bool, true, false, ◌||◌, ◌&&◌, cond, append_assoc, count_by, eqb-true, eq-eqb, or-true, nat_eq, nat_le, lit≤, Option, Some, None, refl, ap, sym, ◌∙◌, arith, ◌==◌, and_parts, nat_tests, or-false, and-true, and-false, and-or_distrib_left, nat_lt, list_any-append, position, position_from, list_any, then_some, position_from-zero, AllByRecursion, not, Data, Members, get_member, fault_number, has_pair, ConfigFault, Toml, UnknownKey, Place, Top, Link, Port, Field, flat_map, PlanRule, Rule, links_clash, ports_clash, port_misfits, link_count, port_count, sub_is_packed, breaks, is_misfit, plan_rules, rule_findings, shows, values_show, Finding, found, has, one_if, key_finding, member_keys, each_row, pair_finding, pair_findings, is_past_limit, misfit_finding, crowd_finding, Cells, cells_show, both, on_sub_of, is_packed, PortRow, field_fault, key_fault, is_key_of, IfSome, Content, Result, content_fault, FaultsAreFound}
+use Rattle.afdx_config.proofs.Names.{◌≡◌, ℕ, ◌+◌, ◌<◌, ◌≤◌, List, [], ◌∷◌, ◌++◌, length, Bool, true, false, ◌||◌, ◌&&◌, append_assoc, lit≤, Option, Some, None, refl, ap, sym, ◌∙◌, arith, ◌==◌, nat_tests, or-false, and-true, and-false, and-or_distrib_left, nat_lt, list_any-append, position, position_from, list_any, then_some, position_from-zero, AllByRecursion, not, Data, Members, get_member, fault_number, has_pair, ConfigFault, Toml, UnknownKey, Place, Top, Link, Port, Field, flat_map, PlanRule, Rule, links_clash, ports_clash, port_misfits, link_count, port_count, sub_is_packed, breaks, is_misfit, plan_rules, rule_findings, shows, values_show, Finding, found, has, one_if, key_finding, member_keys, each_row, pair_finding, pair_findings, is_past_limit, misfit_finding, crowd_finding, Cells, cells_show, any_row, field_fault, key_fault, is_key_of, IfSome, Content, Result, content_fault, FaultsAreFound}
 use Rattle.std.specs.Result.{result_err}
 use Rattle.afdx_config.specs.Tables.{read}
 use Rattle.afdx_config.specs.Findings.{plan_findings, table_findings, value_findings}
@@ -24,11 +21,6 @@ one f false x = sym (and-false (has f x))
 -- two faults have the same number
 abbrev same : ConfigFault → ConfigFault → Bool
 same f g = fault_number f == fault_number g
-
--- some row passes, with its number
-abbrev any_row : {A : Type 0} → (ℕ → A → Bool) → ℕ → List A → Bool
-any_row test k [] = false
-any_row test k (x ∷ xs) = test k x || any_row test (k + 1) xs
 
 -- the findings of each row, which have the fault g
 rows_shown : {A : Type 0} (f g : ConfigFault) (each : ℕ → A → List Finding) (test : ℕ → A → Bool) (k : ℕ) (xs : List A)
@@ -96,59 +88,6 @@ pairs_shown f g key at related rows =
     (λ k x. pair f g key at k (position (λ e. related e x) rows))
     ∙ ap (λ b. same f g && b) (any_pair related rows [] rows 1 refl refl ∙ ap (λ b. b || has_pair related rows) (any_no rows))
 
--- two values that are the same and known are equal
-same_known : (a b : Option ℕ) → both nat_eq a b ≡ true → a ≡ b
-same_known a b is = grind (arith, nat_tests, eqb-true)
-
--- there are too many ports on the port's sub-VL
-abbrev packed : List PortRow → PortRow → Bool
-packed all = is_packed all
-
--- a later port on the same sub-VL has as many ports
-packed_same : (all : List PortRow) (p : PortRow) (rest : List PortRow) → list_any (on_sub_of p) rest ≡ true
-    → packed all p ≡ true → list_any (packed all) rest ≡ true
-packed_same all p [] follows full = cc
-packed_same all p (q ∷ rest) follows full = grind (arith, nat_tests, and_parts, or-true, same_known, (packed_same all p rest))
-
--- a port on no known sub-VL
-pub no_sub : (v u a b : Option ℕ) → (both nat_eq v v && both nat_eq u u) ≡ false → (both nat_eq a v && both nat_eq b u) ≡ false
-no_sub v u a b is = grind (arith, nat_tests, and-false, eq-eqb, one)
-
--- the counts of a port's sub-VL: before the port, after it and in all
-counts : (n m t : ℕ) (follows later : Bool) → t ≡ n + (1 + m) → not follows ≡ nat_eq m 0
-    → (follows ≡ true → nat_lt 64 t ≡ true → later ≡ true) → (nat_le 64 n || later) ≡ (nat_lt 64 t || later)
-counts n m t follows later sum none same = grind (arith, nat_tests)
-
--- the step of one port
-past_step : (all before : List PortRow) (x : PortRow) (xs : List PortRow) (k : ℕ) → all ≡ before ++ x ∷ xs → k ≡ length before + 1
-    → (is_past_limit all k x || list_any (packed all) xs) ≡ (packed all x || list_any (packed all) xs)
-past_step all before x xs k is at = here (on_sub_of x x) refl
-  where
-    front : take (k - 1) all ≡ before
-    front = let index : k - 1 ≡ length before = omega arith in rw (index, is) (take-append_seam before (x ∷ xs))
-
-    whole : count_by (on_sub_of x) all ≡ count_by (on_sub_of x) before + (cond {A = ℕ} (on_sub_of x x) 1 0 + count_by (on_sub_of x) xs)
-    whole = rw is (sum_by-append (λ y. cond {A = ℕ} (on_sub_of x y) 1 0) before (x ∷ xs)
-        ∙ ap (λ n. count_by (on_sub_of x) before + n) (sum_by-cons (λ y. cond {A = ℕ} (on_sub_of x y) 1 0) x xs))
-
-    here : (b : Bool) → on_sub_of x x ≡ b → (is_past_limit all k x || list_any (packed all) xs) ≡ (packed all x || list_any (packed all) xs)
-    here true on =
-        let none = none_counted (on_sub_of x) xs in
-        let same = packed_same all x xs in
-        let sum : count_by (on_sub_of x) all ≡ count_by (on_sub_of x) before + (1 + count_by (on_sub_of x) xs) = rw on at whole in
-        rw front (counts (count_by (on_sub_of x) before) (count_by (on_sub_of x) xs) (count_by (on_sub_of x) all)
-        (list_any (on_sub_of x) xs) (list_any (packed all) xs) sum none same)
-    here false off =
-        let no : (rows : List PortRow) → count_by (on_sub_of x) rows ≡ 0 = λ rows. none_on (on_sub_of x) rows (λ y. no_sub x.vl x.sub y.vl y.sub off) in
-        rw (no (take (k - 1) all), no all) refl
-
--- a sub-VL with too many ports has a port that is past the limit
-any_past : (all before rest : List PortRow) (k : ℕ) → all ≡ before ++ rest → k ≡ length before + 1
-    → any_row (is_past_limit all) k rest ≡ list_any (packed all) rest
-any_past all before [] k is at = refl
-any_past all before (x ∷ xs) k is at = rw (any_past all (before ++ x ∷ []) xs (k + 1) (is ∙ sym (append_assoc before (x ∷ []) xs))
-    (rw (length-append before (x ∷ [])) (omega arith))) (past_step all before x xs k is at)
-
 -- the findings of a rule
 rule_shown : (f g : ConfigFault) (key : List ℕ) (rule : Rule) (cells : Cells)
     → list_any (has f) (rule_findings g key rule cells) ≡ (same f g && breaks cells rule)
@@ -160,7 +99,6 @@ rule_shown f g key link_count cells = one f (breaks cells link_count) (found g T
 rule_shown f g key port_count cells = one f (breaks cells port_count) (found g Top key None)
 rule_shown f g key sub_is_packed cells = rows_shown f g (crowd_finding g key cells.ports) (is_past_limit cells.ports) 1 cells.ports
     (λ k p. one f (is_past_limit cells.ports k p) (found g (Port k) key None))
-    ∙ ap (λ b. same f g && b) (any_past cells.ports [] cells.ports 1 refl refl)
 
 rules_shown : (f : ConfigFault) (cells : Cells) (some : List PlanRule)
     → list_any (has f) (flat_map (λ (r : PlanRule). rule_findings r.fault r.key r.forbids cells) some)

@@ -3,14 +3,14 @@ use Rattle.std.specs.Prelude.{◌≡◌, ◌∷◌, [], ◌-◌, ℕ, List, code
 use Rattle.std.specs.List.{list_any}
 use Rattle.std.specs.Option.{option_map_or}
 use Rattle.toml.specs.Data.{Members}
-use Rattle.afdx_plan.specs.PlanFaults.{plan_shows, PlanRule, Rule, links_clash, ports_clash, port_misfits, link_count, port_count, sub_is_packed, breaks, plan_rules, Cells, is_misfit}
+use Rattle.afdx_plan.specs.PlanFaults.{plan_shows, PlanRule, Rule, links_clash, ports_clash, port_misfits, link_count, port_count, sub_is_packed, breaks, plan_rules, Cells, is_misfit, is_past_limit}
 use Rattle.afdx_plan.specs.declared.fault.ConfigFault.{ConfigFault}
 use Rattle.afdx_plan.specs.declared.fault.ConfigFault.TheVariants.{UnknownKey}
 use Rattle.afdx_config.specs.Cells.{cells_of, plan_of}
 use Rattle.afdx_config.specs.declared.findings.Place.{Place}
 use Rattle.afdx_config.specs.declared.findings.Place.TheVariants.{Text, Top, EndSystem, Link, Port}
 use Rattle.afdx_config.specs.Faults.{shows, values_show, Reads, IsLeastFault, IsPlanOf}
-use Rattle.afdx_config.specs.Findings.{Finding, findings, has, is_past_limit}
+use Rattle.afdx_config.specs.Findings.{Finding, findings, has}
 use Rattle.afdx_config.specs.Tables.{member_keys, field_fault, is_fault, is_key_of, is_version_2, rows_at, section_at}
 use Rattle.afdx_config.specs.Format.{Field, document_fields, end_fields, link_fields, port_fields}
 

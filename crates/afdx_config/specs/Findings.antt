@@ -1,9 +1,9 @@
 -- All faults of a document, each with its place.
-use Rattle.std.specs.Prelude.{codes, ℕ, ◌+◌, ◌-◌, List, [], ◌∷◌, ◌++◌, map, take, count_by, nat_lt, nat_le, Bool, true, false, ◌==◌, if◌then◌else◌, Option, Some, None, option_map}
+use Rattle.std.specs.Prelude.{codes, ℕ, ◌+◌, List, [], ◌∷◌, ◌++◌, map, nat_lt, Bool, true, false, ◌==◌, if◌then◌else◌, Option, Some, None, option_map}
 use Rattle.std.specs.List.{position, flat_map, fold}
 use Rattle.std.specs.Option.{option_map_or}
 use Rattle.toml.specs.Data.{Members}
-use Rattle.afdx_plan.specs.PlanFaults.{fault_number, is_row_of, on_sub_of, PlanRule, Rule, links_clash, ports_clash, port_misfits, link_count, port_count, sub_is_packed, breaks, plan_rules, Cells, is_misfit}
+use Rattle.afdx_plan.specs.PlanFaults.{fault_number, is_row_of, PlanRule, Rule, links_clash, ports_clash, port_misfits, link_count, port_count, sub_is_packed, breaks, plan_rules, Cells, is_misfit, is_past_limit}
 use Rattle.afdx_plan.specs.declared.fault.ConfigFault.{ConfigFault}
 use Rattle.afdx_plan.specs.declared.rows.Misfit.{Misfit}
 use Rattle.afdx_plan.specs.declared.rows.PortRow.{PortRow}
@@ -85,10 +85,6 @@ pair_findings fault key at clash rows =
 abbrev pub misfit_finding : ConfigFault → List ℕ → Misfit → Cells → ℕ → PortRow → List Finding
 misfit_finding fault key misfit cells k port = one_if (is_misfit misfit cells port)
     (found fault (Port k) key (option_map (λ i. i + 1) (position (is_row_of port) cells.links)))
-
--- port k is past the 64th on its sub-VL
-abbrev pub is_past_limit : List PortRow → ℕ → PortRow → Bool
-is_past_limit ports k port = nat_le 64 (count_by (on_sub_of port) (take (k - 1) ports))
 
 -- the finding of port k, if it is past the 64th on its sub-VL
 abbrev pub crowd_finding : ConfigFault → List ℕ → List PortRow → ℕ → PortRow → List Finding

@@ -1,10 +1,11 @@
 //! The values of tables, each read once: a value, or its fault.
-ghost use Rattle.std.specs.Prelude.{◌≡◌, ◌≤◌, ◌==◌, ℕ, List, codes, if◌then◌else◌, is_none, option_map, slice_index, IfOk, IfSome, Option, Some, None};
+ghost use Rattle.std.specs.Prelude.{◌≡◌, ◌≤◌, ◌==◌, ℕ, List, codes, if◌then◌else◌, is_none, option_map, slice_index, IfOk, IfSome, Option, Some, None, Err};
 ghost use Rattle.std.specs.List.{list_any};
-ghost use Rattle.toml.specs.Data.{as_str, as_table, get_member};
+ghost use Rattle.toml.specs.Data.{as_integer, as_str, as_table, get_member};
 ghost use Rattle.toml.specs.View.{table_view, view};
 ghost use Rattle.afdx_config.specs.declared.format.Content.{Content};
 ghost use Rattle.afdx_plan.specs.declared.fault.ConfigFault.{ConfigFault};
+ghost use Rattle.afdx_plan.specs.declared.fault.ConfigFault.TheVariants.{MissingKey, WrongKind};
 ghost use Rattle.afdx_plan.specs.Plan.{IsUnicast};
 ghost use Rattle.afdx_config.specs.Tables.{address_under, content_fault, in_range, number_under, gap_under, read, version_under};
 ghost use Rattle.afdx_config.specs.Values.{address_of, bag_of, networks_of, kind_of, checksum_of};
@@ -34,18 +35,21 @@ fn in_range(range: Range, number: i64) -> Option<u16>
     Some(number as u16)
 }
 
+/// Reads the whole number under a key.
+fn whole_in(table: &Table, key: &str) -> Result<i64, ConfigFault>
+    ensures { result
+        ≡ read (Err MissingKey) as_integer (λ n. Some n) WrongKind (get_member key.now (table_view table.now)) }
+{
+    let value = value_at(table, key).ok_or(ConfigFault::MissingKey)?;
+    value.as_integer().ok_or(ConfigFault::WrongKind)
+}
+
 /// Reads the number under a key.
 pub(crate) fn number_in(table: &Table, key: &str, range: Range) -> Result<u16, ConfigFault>
     ensures value { result ≡ number_under range (get_member key.now (table_view table.now)) }
     ensures bounds { IfOk result (λ n. (range.0 ≤ n) × (n ≤ range.1)) }
 {
-    let Some(value) = value_at(table, key) else {
-        return Err(ConfigFault::MissingKey);
-    };
-    let Some(number) = value.as_integer() else {
-        return Err(ConfigFault::WrongKind);
-    };
-    in_range(range, number).ok_or(ConfigFault::OutOfRange)
+    in_range(range, whole_in(table, key)?).ok_or(ConfigFault::OutOfRange)
 }
 
 /// Reads the version of the format, which is 1 if it is missing.
@@ -80,13 +84,7 @@ fn bag_of_ms(number: i64) -> Option<Bag>
 pub(crate) fn bag_in(table: &Table) -> Result<Bag, ConfigFault>
     ensures { result ≡ gap_under (get_member (codes "bag_ms") (table_view table.now)) }
 {
-    let Some(value) = value_at(table, "bag_ms") else {
-        return Err(ConfigFault::MissingKey);
-    };
-    let Some(number) = value.as_integer() else {
-        return Err(ConfigFault::WrongKind);
-    };
-    bag_of_ms(number).ok_or(ConfigFault::BadBag)
+    bag_of_ms(whole_in(table, "bag_ms")?).ok_or(ConfigFault::BadBag)
 }
 
 /// A value that a text names.

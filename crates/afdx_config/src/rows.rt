@@ -248,11 +248,8 @@ fn add_keys(found: &mut Found, place: Place, fields: &[Field], table: &Table) ->
     Ok(())
 }
 
-/// The arrays of links and of ports have no fault.
-type Arrays = (bool, bool);
-
-/// Adds the findings of the top level.
-fn add_top(found: &mut Found, top: &Table) -> Result<Arrays, AllocError>
+/// Adds the findings of the top level. Returns whether the arrays of links and of ports have no fault.
+fn add_top(found: &mut Found, top: &Table) -> Result<(bool, bool), AllocError>
     ensures findings { OnOk result (Adds found.old found.new
         (table_findings Top document_fields (table_view top.now))) }
     ensures links { IfOk result (λ arrays. arrays.0 ≡ (cells_of (table_view top.now)).has_links) }

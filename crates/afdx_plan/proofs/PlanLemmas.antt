@@ -1,13 +1,14 @@
 -- A plan is valid exactly if it has no fault. Flows of a valid plan are distinct.
-use Rattle.std.proofs.Common.{◌≡◌, ℕ, suc, zero, ◌-◌, ◌<◌, ◌≤◌, inl, inr, ◌⊎◌, Bool, true, false, cond, List, [], ◌∷◌, length, get_or, Option, Some, None, refl, ap, sym, ◌∙◌, arith, eq-eqb, subst, ◌/◌, ◌%◌}
-use Rattle.std.specs.Prelude.{◌&&◌, ◌||◌, map, ◌==◌, nat_lt, nat_eq, find, count_by, is_none, All, Contains, IfSome}
+use Rattle.std.proofs.Common.{◌≡◌, ℕ, suc, zero, ◌+◌, ◌-◌, lit≤, take, drop, ◌<◌, ◌≤◌, inl, inr, ◌⊎◌, Bool, true, false, cond, List, [], ◌∷◌, length, get_or, Option, Some, None, refl, ap, sym, ◌∙◌, arith, eq-eqb, subst, ◌/◌, ◌%◌}
+use Rattle.std.specs.Prelude.{◌&&◌, ◌||◌, map, ◌==◌, nat_le, nat_lt, nat_eq, find, count_by, is_none, All, Contains, IfSome}
 use Rattle.std.specs.List.{list_any, AllByRecursion}
 use Rattle.std.proofs.Math.Bool.{and-false}
-use Rattle.std.proofs.lemmas.Bool.{or_parts, ltb-false, false_from_ne_true, cases_Bool, cases_eq, or_from, le-ltb}
-use Rattle.std.proofs.lemmas.List.{get_or_default, length-map}
+use Rattle.std.proofs.lemmas.Bool.{or_parts, ltb-false, false_from_ne_true, cases_Bool, cases_eq, or_from}
+use Rattle.std.proofs.lemmas.List.{get_or_default, length-map, take-append-drop, take-map, take_all}
+use Rattle.std.proofs.Math.ListN.{get_or-map}
 use Rattle.std.proofs.lemmas.List.Elements.{All-contains, Contains-get_or}
-use Rattle.std.proofs.lemmas.List.Folds.{Any-from_list_any, fold-map, list_any_at, list_any_none}
-use Rattle.std.proofs.lemmas.List.Sums.{sum_by-cons}
+use Rattle.std.proofs.lemmas.List.Folds.{fold-map, list_any_at, list_any_none}
+use Rattle.std.proofs.lemmas.List.Sums.{count_by_more_no, count_by_more_yes, sum_by-append}
 use Rattle.std.proofs.lemmas.Slice.Eq.{bytes_eq-Decides}
 use Rattle.std.proofs.lemmas.Bool.Decides.{nat_tests}
 use Rattle.afdx_plan.specs.declared.port_plan.VlId.{VlId}
@@ -18,7 +19,7 @@ use Rattle.afdx_plan.specs.declared.port_plan.PortPlan.{PortPlan}
 use Rattle.afdx_plan.specs.Address.{destination_of}
 use Rattle.afdx_plan.specs.Plan.{IsLink, IsPort, IsUnicast}
 use Rattle.afdx_plan.specs.Config.{Plan, IsPlan, HasLink, AreSameFlow, link_plan_at, port_plan_at, ports_on, FlowsApart}
-use Rattle.afdx_plan.specs.PlanFaults.{fault_number, has_pair, same_link, same_port, is_row_of, misfits, same_flow, share_unicast, are_one_destination, is_no_count, is_packed, on_sub_of, link_whole, port_whole, whole, PlanRule, plan_rules, breaks, ValidPlansShowNoFault}
+use Rattle.afdx_plan.specs.PlanFaults.{fault_number, has_pair, same_link, same_port, is_row_of, misfits, same_flow, share_unicast, are_one_destination, is_no_count, any_row, is_past_limit, on_sub_of, link_whole, port_whole, whole, PlanRule, plan_rules, breaks, ValidPlansShowNoFault}
 use Rattle.afdx_plan.specs.declared.rows.LinkRow.{LinkRow}
 use Rattle.afdx_plan.specs.declared.rows.Misfit.TheVariants.{NoLink, NoSub, TooLong}
 use Rattle.afdx_plan.specs.declared.fault.ConfigFault.{ConfigFault}
@@ -35,9 +36,6 @@ has_same_flow a b = same_flow (port_whole a) (port_whole b)
 
 abbrev shares_unicast : PortPlan → PortPlan → Bool
 shares_unicast a b = share_unicast (port_whole a) (port_whole b)
-
-abbrev is_crowded : List PortPlan → PortPlan → Bool
-is_crowded ports port = is_packed (map port_whole ports) (port_whole port)
 
 abbrev link_row_of : List LinkPlan → PortPlan → Option LinkRow
 link_row_of links port = find (is_row_of (port_whole port)) (map link_whole links)
@@ -186,23 +184,54 @@ unicast ports p q address none in_p in_q of_p of_q partition = elim (cases_eq p.
       (shared q p address of_q of_p (sym partition) (λ same. apart (sym same))))
 ]
 
--- none is counted if none passes
-none_counted : {X : Type 0} (p : X → Bool) (xs : List X) → list_any p xs ≡ false → count_by p xs ≡ 0
-none_counted p [] none = refl
-none_counted p (x ∷ xs) none = let step = sum_by-cons (λ y. cond {A = ℕ} (p y) 1 0) x xs in grind (arith, nat_tests, none_counted p xs)
+-- each row fails a test exactly if none passes
+row_at : {X : Type 0} (test : ℕ → X → Bool) (k : ℕ) (xs : List X) (i j : ℕ) (d : X) → j ≡ i + k → any_row test k xs ≡ false
+    → i < length xs → test j (get_or xs i d) ≡ false
+row_at test k [] i j d at none below = absurd (omega arith)
+row_at test k (x ∷ xs) zero j d at none below = let same : j ≡ k = omega arith in rw same (or_parts _ _ none).0
+row_at test k (x ∷ xs) (suc i) j d at none below = row_at test (k + 1) xs i j d (omega arith) (or_parts _ _ none).1 (omega arith)
 
--- no sub-VL has too many ports, also none that has no port
-few : (ports : List PortPlan) (vl sub : ℕ) → list_any (is_crowded ports) ports ≡ false → ports_on ports vl sub ≤ 64
-few ports vl sub none =
-    let on : PortPlan → Bool = λ port. nat_eq port.vl.0 vl && nat_eq port.sub sub in elim (cases_Bool (list_any on ports)) [
-      | inl some ↦
-          let there = Any-from_list_any on ports some in
-          let port = there.1 in
-          let same : ports_on ports port.vl.0 port.sub ≡ ports_on ports vl sub = grind (arith, nat_tests) in
-          let most = ltb-false 64 (ports_on ports port.vl.0 port.sub) (rw counted at (none_of (is_crowded ports) ports port none (there.0, there.2, there.3))) in
-          omega arith
-      | inr nowhere ↦ let zero = none_counted on ports nowhere in omega arith
-    ]
+no_row : {X : Type 0} (test : ℕ → X → Bool) (k : ℕ) (xs : List X) (d : X)
+    → ((i j : ℕ) → j ≡ i + k → i < length xs → test j (get_or xs i d) ≡ false) → any_row test k xs ≡ false
+no_row test k [] d each = refl
+no_row test k (x ∷ xs) d each = or_from _ _ (each 0 k (omega arith) (omega arith))
+    (no_row test (k + 1) xs d (λ i j at below. each (suc i) j (omega arith) (omega arith)))
+
+-- the ports before one on its sub-VL
+past_is : (ports : List PortPlan) (n : ℕ) → is_past_limit (map port_whole ports) (n + 1) (get_or (map port_whole ports) n (port_whole (port_plan_at [] 0)))
+    ≡ nat_le 64 (ports_on (take n ports) (port_plan_at ports n).vl.0 (port_plan_at ports n).sub)
+past_is ports n = let back : n + 1 - 1 ≡ n = omega arith in
+    rw (back, get_or-map port_whole ports n (port_plan_at [] 0), take-map port_whole n ports, counted (take n ports) (port_plan_at ports n)) refl
+
+-- no sub-VL has too many ports
+few_to : (ports : List PortPlan) (vl sub n : ℕ) → any_row (is_past_limit (map port_whole ports)) 1 (map port_whole ports) ≡ false
+    → n ≤ length ports → ports_on (take n ports) vl sub ≤ 64
+few_to ports vl sub zero none within = lit≤ tt
+few_to ports vl sub (suc n) none within =
+    let before = few_to ports vl sub n none (omega arith) in
+    let here = rw past_is at (row_at (is_past_limit (map port_whole ports)) 1 (map port_whole ports) n (n + 1) (port_whole (port_plan_at [] 0)) refl
+    none (rw (length-map ports port_whole) (omega arith))) in
+    let next : suc n ≡ n + 1 = omega arith in
+    let port = port_plan_at ports n in
+    let on : PortPlan → Bool = λ p. nat_eq p.vl.0 vl && nat_eq p.sub sub in rw next (elim (cases_Bool (on port)) [
+      | inl is ↦
+          let same : ports_on (take n ports) port.vl.0 port.sub ≡ ports_on (take n ports) vl sub = grind (arith, nat_tests) in
+          let one = count_by_more_yes on ports n (port_plan_at [] 0) within is in grind (arith, nat_tests)
+      | inr isnt ↦ let one = count_by_more_no on ports n (port_plan_at [] 0) within isnt in omega arith
+    ])
+
+few : (ports : List PortPlan) (vl sub : ℕ) → any_row (is_past_limit (map port_whole ports)) 1 (map port_whole ports) ≡ false → ports_on ports vl sub ≤ 64
+few ports vl sub none = rw (take_all (length ports) ports (omega arith)) at (few_to ports vl sub (length ports) none (omega arith))
+
+not_past : (ports : List PortPlan) (n : ℕ) → n < length ports → ((vl sub : ℕ) → ports_on ports vl sub ≤ 64)
+    → nat_le 64 (ports_on (take n ports) (port_plan_at ports n).vl.0 (port_plan_at ports n).sub) ≡ false
+not_past ports n below most =
+    let port = port_plan_at ports n in
+    let on : PortPlan → Bool = λ p. nat_eq p.vl.0 port.vl.0 && nat_eq p.sub port.sub in
+    let all : count_by on ports ≡ count_by on (take (n + 1) ports) + count_by on (drop (n + 1) ports) =
+    ap (count_by on) (sym (take-append-drop (n + 1) ports)) ∙ sum_by-append (λ p. cond {A = ℕ} (on p) 1 0) (take (n + 1) ports) (drop (n + 1) ports) in
+    let one = count_by_more_yes on ports n (port_plan_at [] 0) below (grind (arith, nat_tests)) in
+    let few = most port.vl.0 port.sub in grind (arith, nat_tests)
 
 -- a count within its limits
 counts : (most n : ℕ) → is_no_count most n ≡ false → (1 ≤ n) × (n ≤ most)
@@ -248,7 +277,7 @@ valid plan fits_end each_link each_port
           }));
       unicasts_apart = λ p q in_p in_q address of_p of_q partition.
           unicast plan.ports p q address (rw pair_map at shared_address) in_p in_q of_p of_q partition;
-      few_ports = λ vl sub. few plan.ports vl sub (rw any_map at crowd);
+      few_ports = λ vl sub. few plan.ports vl sub crowd;
     }
 
 -- a list has no related pair if no two elements are related
@@ -330,9 +359,9 @@ unbroken plan is =
     (Contains-get_or plan.ports i _ (omega arith)) (Contains-get_or plan.ports j _ below))) in
     let link_count = no_fault_count 64 (length plan.links) is.links.0 is.links.1 in
     let port_count = no_fault_count 256 (length plan.ports) is.ports.0 is.ports.1 in
-    let crowd = list_any_none (is_crowded plan.ports) plan.ports (λ k d below.
-    let port = get_or plan.ports k d in rw counted (le-ltb 64 (ports_on plan.ports port.vl.0 port.sub) (is.few_ports port.vl.0 port.sub))) in
-    (rw pair_map links, (rw pair_map ids, (simp (any_map, named_all) no_link, (rw any_map no_sub, (rw any_map long, (rw pair_map flows, (rw pair_map shared, (rw length-map link_count, (rw length-map port_count, (rw any_map crowd, tt))))))))))
+    let crowd = no_row (is_past_limit (map port_whole plan.ports)) 1 (map port_whole plan.ports) (port_whole (port_plan_at [] 0)) (λ i j at below.
+    let within = rw length-map at below in let here : j ≡ i + 1 = at in rw (here, past_is) (not_past plan.ports i within is.few_ports)) in
+    (rw pair_map links, (rw pair_map ids, (simp (any_map, named_all) no_link, (rw any_map no_sub, (rw any_map long, (rw pair_map flows, (rw pair_map shared, (rw length-map link_count, (rw length-map port_count, (crowd, tt))))))))))
 
 -- without a broken rule no fault is shown
 none_shown : (plan : Plan) (fault : ConfigFault) (some : List PlanRule) → Unbroken plan some

@@ -1,5 +1,5 @@
 -- The numbers of the faults, and the faults of plans.
-use Rattle.std.specs.Prelude.{◌≡◌, ℕ, ◌-◌, codes, List, [], ◌∷◌, length, count_by, Bool, true, false, ◌||◌, ◌&&◌, ◌==◌, not, is_none, is_some, nat_eq, nat_lt, nat_le, bytes_eq, Option, Some, None, find, map}
+use Rattle.std.specs.Prelude.{◌≡◌, ℕ, ◌+◌, ◌-◌, codes, List, [], ◌∷◌, length, count_by, Bool, true, false, ◌||◌, ◌&&◌, ◌==◌, not, is_none, is_some, nat_eq, nat_lt, nat_le, bytes_eq, Option, Some, None, find, map, take}
 use Rattle.std.specs.List.{list_any}
 use Rattle.std.specs.Option.{option_map_or}
 use Rattle.afdx_plan.specs.declared.link_plan.LinkPlan.{LinkPlan}
@@ -113,9 +113,14 @@ is_misfit misfit cells port = misfits (all_named cells) (find (is_row_of port) c
 abbrev pub on_sub_of : PortRow → PortRow → Bool
 on_sub_of a b = both nat_eq b.vl a.vl && both nat_eq b.sub a.sub
 
--- there are too many ports on the port's sub-VL
-abbrev pub is_packed : List PortRow → PortRow → Bool
-is_packed ports port = nat_lt 64 (count_by (on_sub_of port) ports)
+-- port k is past the 64th on its sub-VL
+abbrev pub is_past_limit : List PortRow → ℕ → PortRow → Bool
+is_past_limit ports k port = nat_le 64 (count_by (on_sub_of port) (take (k - 1) ports))
+
+-- some row passes, with its number, from k on
+abbrev pub any_row : {A : Type 0} → (ℕ → A → Bool) → ℕ → List A → Bool
+any_row test k [] = false
+any_row test k (x ∷ xs) = test k x || any_row test (k + 1) xs
 
 -- the count is 0 or more than `most`
 abbrev pub is_no_count : ℕ → ℕ → Bool
@@ -161,7 +166,7 @@ breaks cells (ports_clash clash) = has_pair clash cells.ports
 breaks cells (port_misfits misfit) = list_any (is_misfit misfit cells) cells.ports
 breaks cells link_count = cells.has_links && is_no_count 64 (length cells.links)
 breaks cells port_count = cells.has_ports && is_no_count 256 (length cells.ports)
-breaks cells sub_is_packed = list_any (is_packed cells.ports) cells.ports
+breaks cells sub_is_packed = any_row (is_past_limit cells.ports) 1 cells.ports
 
 -- links and ports have a fault of 7 to 14
 abbrev pub cells_show : ConfigFault → Cells → Bool
