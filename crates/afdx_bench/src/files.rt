@@ -1,7 +1,7 @@
 //! The files that the words name.
 use crate::stop::{Cause, Stop, of_file};
 use afdx_plan::Config;
-use plan_report::{Halting, read_plan};
+use bench_words::{Halting, read_plan};
 use std::alloc::{AllocError, Global};
 use std::fs::{self, File, Metadata};
 use std::io::{self, BufWriter};

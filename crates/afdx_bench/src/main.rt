@@ -3,7 +3,7 @@
 #![tactic(auto)]
 
 ghost use Rattle.std.specs.Prelude.{◌≤◌};
-ghost use Rattle.plan_report.specs.Status.{IsInRange};
+ghost use Rattle.bench_words.specs.Status.{IsInRange};
 
 mod files;
 mod findings;
@@ -14,12 +14,12 @@ mod source;
 mod stop;
 
 use afdx_plan::{Config, demo_config};
+use bench_words::{
+    End, Failure, Halting, Words, check, read_words, status_of, tell_faults, tell_words,
+};
 use capture::write_capture;
 use files::{buffered, create, open, open_plan, stand_in, written};
 use judging::judge_files;
-use plan_report::{
-    End, Failure, Halting, Words, check, read_words, status_of, tell_faults, tell_words,
-};
 use report::report;
 use std::alloc::{AllocError, Global};
 use std::fs::File;

@@ -4,11 +4,12 @@ ghost use Rattle.std.specs.Prelude.{◌≤◌};
 use crate::files::{buffered, create, differ, open, open_given, written};
 use crate::stop::{Cause, Stop, of_file};
 use afdx_plan::Config;
+use bench_words::{Asked, End, read_digested, read_text};
 use csv::{ErrorKind, WriterBuilder};
 use plan_analysis::{LATENESS_LIMIT, analyze, traffic_waits};
 use plan_report::{
-    Asked, Assessment, Digested, End, Traffic, no_traffic, read_digested, read_text, read_traffic,
-    senders_of, write_analysis, write_page, write_rows, write_traffic, write_verdict,
+    Assessment, Digested, Traffic, no_traffic, read_traffic, senders_of, write_analysis,
+    write_page, write_rows, write_traffic, write_verdict,
 };
 use std::alloc::{AllocError, Global};
 use std::fs::File;

@@ -1,5 +1,5 @@
 //! Why a command stopped, and the second line on standard error, after the message of the failure.
-use plan_report::{Failure, Words};
+use bench_words::{Failure, Words};
 use std::alloc::AllocError;
 use std::io::{self, IsTerminal};
 use tx_script::{LineFault, RunFault};

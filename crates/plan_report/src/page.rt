@@ -1,13 +1,22 @@
 //! The page of a report: one self-contained HTML file.
 use crate::assessment::Assessment;
-use crate::commands::VERSION;
 use crate::flow::write_flow;
 use crate::html::{Escaped, Time};
 use crate::page_loads::{write_links, write_memory, write_networks};
 use crate::page_waits::write_waits;
-use crate::reading::Digested;
 use crate::time_line::write_time_line;
+use afdx_plan::Config;
 use std::io::{self, Write};
+
+/// The program's version, which is the library's: `AFDX_VERSION` in `afdx.h`.
+pub const VERSION: &str = "1.0.0";
+
+/// A plan, and the SHA-256 digest of its text.
+#[derive(Drop)]
+pub struct Digested {
+    pub config: Config,
+    pub digest: [u8; 32],
+}
 
 /// Writes a report as a page: the verdict, the numbers of the text, and pictures of them. The page names the file of
 /// the plan and the date of the run, if there is one; both are escaped.

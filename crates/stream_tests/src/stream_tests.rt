@@ -1,6 +1,6 @@
 //! Readers that fail at each byte and writers that fail at each call, of `run_script` and `check`.
 use afdx_plan::demo_config;
-use plan_report::{Failure, Halting, check};
+use bench_words::{Failure, Halting, check};
 use script_text::RunFault;
 use std::alloc::Global;
 use std::fmt::Debug;

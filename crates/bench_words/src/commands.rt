@@ -2,10 +2,8 @@
 use crate::words::{MESSAGES_LIMIT, MICROS_LIMIT, TURNS_LIMIT};
 use clap::builder::ValueParser;
 use clap::{Arg, ArgAction, Command};
+use plan_report::VERSION;
 use std::alloc::{AllocError, Global};
-
-/// The program's version, which is the library's: `AFDX_VERSION` in `afdx.h`.
-pub(crate) const VERSION: &str = "1.0.0";
 
 const ABOUT: &str =
     "A transmitting AFDX end system. Without words it runs a script from standard input.";

@@ -1,7 +1,7 @@
 use Rattle.std.proofs.Common.{map}
 use Rattle.afdx_config.specs.Seen.{finding_of}
-use Rattle.plan_report.proofs.ReadingLemmas.{tells_faults}
-use Rattle.plan_report.proofs.reading.tell_faults.Goals as goal
+use Rattle.bench_words.proofs.ReadingLemmas.{tells_faults}
+use Rattle.bench_words.proofs.reading.tell_faults.Goals as goal
 
 pub returns-in-Ok-write_all-clause-ok : goal.returns-in-Ok-write_all-clause-ok
 returns-in-Ok-write_all-clause-ok g c = tells_faults (g.R.Read.remaining c.args.reader) c.in_ok-text.text.items

@@ -1,12 +1,12 @@
 -- The ranges of a command line, the messages about its words, and the exit statuses of the program.
 use Rattle.std.specs.Prelude.{ℕ, nat_eq, if◌then◌else◌, ◌≤◌, ⊤, ◌≡◌, ◌⊎◌}
-use Rattle.plan_report.specs.declared.status.Failure.{Failure}
-use Rattle.plan_report.specs.declared.status.Failure.TheVariants.{Config, Run, Short, Turns}
-use Rattle.plan_report.specs.declared.status.End.{End}
-use Rattle.plan_report.specs.declared.status.End.TheVariants.{Told, Ran, FaultsTold, Missed, WordsRefused, Failed}
+use Rattle.bench_words.specs.declared.status.Failure.{Failure}
+use Rattle.bench_words.specs.declared.status.Failure.TheVariants.{Config, Run, Short, Turns}
+use Rattle.bench_words.specs.declared.status.End.{End}
+use Rattle.bench_words.specs.declared.status.End.TheVariants.{Told, Ran, FaultsTold, Missed, WordsRefused, Failed}
 use Rattle.script_text.specs.declared.faults.RunFault.TheVariants.{Line, Lines, Write, Memory}
-use Rattle.plan_report.specs.declared.words.Words.{Words}
-use Rattle.plan_report.specs.declared.words.Words.TheVariants.{Report, Judge, Storm}
+use Rattle.bench_words.specs.declared.words.Words.{Words}
+use Rattle.bench_words.specs.declared.words.Words.TheVariants.{Report, Judge, Storm}
 use Rattle.clap.specs.declared.error.kind.ErrorKind.{ErrorKind}
 use Rattle.clap.specs.declared.error.kind.ErrorKind.TheVariants.{DisplayHelp, DisplayVersion, OutOfMemory}
 use Rattle.afdx_plan.specs.declared.fault.ConfigFault.TheVariants as Plan

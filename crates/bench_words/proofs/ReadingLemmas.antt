@@ -5,8 +5,8 @@ use Rattle.std.specs.Prelude.{option_map}
 use Rattle.std.specs.Io.KnownBytes.{Appends}
 use Rattle.afdx_config.specs.Explained.{Explains}
 use Rattle.afdx_config.specs.Findings.{Finding}
-use Rattle.plan_report.specs.Reading.{TellsFaults, end_of}
-use Rattle.plan_report.specs.declared.status.End.{End}
+use Rattle.bench_words.specs.Reading.{TellsFaults, end_of}
+use Rattle.bench_words.specs.declared.status.End.{End}
 
 -- a text within the limit is whole, since a longer one would have been read past the limit
 pub within_limit : (known : Option (List ℕ)) (limit : ℕ) (text : List ℕ)

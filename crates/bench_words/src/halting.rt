@@ -1,6 +1,6 @@
 //! A writer that stops calling its inner writer after a failure.
 ghost use Rattle.std.specs.Prelude.{◌≡◌, length, false};
-ghost use Rattle.plan_report.specs.Halting.{flush_fails, write_fails};
+ghost use Rattle.bench_words.specs.Halting.{flush_fails, write_fails};
 
 use std::io::{self, ErrorKind, Write};
 use std::marker::Model;
@@ -15,7 +15,7 @@ pub struct Halting<W: Write + Drop> {
 }
 
 impl<W: Write + Drop> Model for Halting<W> {
-    ghost use Rattle.plan_report.specs.Halting.{HaltingView};
+    ghost use Rattle.bench_words.specs.Halting.{HaltingView};
 
     ghost Value = { HaltingView W };
 
@@ -38,7 +38,7 @@ impl<W: Write + Drop> Write for Halting<W> {
     ghost use Rattle.std.specs.Prelude.{◌≡◌, ◌||◌, true, length, IsErr};
     ghost use Rattle.std.specs.Io.{WritesAtMost};
     ghost use Rattle.std.specs.Io.KnownBytes.{Keeps, WriteAppends};
-    ghost use Rattle.plan_report.specs.Halting.{flush_fails, write_fails};
+    ghost use Rattle.bench_words.specs.Halting.{flush_fails, write_fails};
 
     ghost contents = { λ h. W.contents h.writer };
 

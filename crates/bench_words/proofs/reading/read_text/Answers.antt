@@ -1,7 +1,7 @@
 use Rattle.std.proofs.Common.{arith, ap, ◌≤◌}
-use Rattle.plan_report.proofs.ReadingLemmas.{whole_text}
-use Rattle.plan_report.specs.Reading.{text_limit}
-use Rattle.plan_report.proofs.reading.read_text.Goals as goal
+use Rattle.bench_words.proofs.ReadingLemmas.{whole_text}
+use Rattle.bench_words.specs.Reading.{text_limit}
+use Rattle.bench_words.proofs.reading.read_text.Goals as goal
 
 pub returns-in-Ok-clause-whole : goal.returns-in-Ok-clause-whole
 returns-in-Ok-clause-whole g c =

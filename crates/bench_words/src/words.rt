@@ -1,6 +1,6 @@
 //! The words of the command line.
 ghost use Rattle.std.specs.Prelude.{◌≤◌, IfOk};
-ghost use Rattle.plan_report.specs.Status.{IsInRange, EndsWords};
+ghost use Rattle.bench_words.specs.Status.{IsInRange, EndsWords};
 ghost use Rattle.clap.specs.Values.{kind_of};
 
 use crate::commands::command;

@@ -1,6 +1,6 @@
 //! How a command ends: failures and exit statuses.
 ghost use Rattle.std.specs.Prelude.{◌≡◌};
-ghost use Rattle.plan_report.specs.Status.{exit_status, failure_status as status_of_failure};
+ghost use Rattle.bench_words.specs.Status.{exit_status, failure_status as status_of_failure};
 
 use afdx_plan::ConfigFault;
 use script_text::{RunFault, Summary};

@@ -1,14 +1,14 @@
 //! Reading of configurations, and the commands `check` and `explain`.
 ghost use Rattle.std.specs.Prelude.{◌≡◌, ◌≢◌, ◌≤◌, ◌⊎◌, nat_le, IfOk, IfErr, IfSome, OnOk, vec_len};
 ghost use Rattle.std.specs.Io.KnownBytes.{Keeps};
-ghost use Rattle.plan_report.specs.Reading.{IsRefusal, Reports, TellsFaults, end_of, text_limit};
+ghost use Rattle.bench_words.specs.Reading.{IsRefusal, Reports, TellsFaults, end_of, text_limit};
 ghost use Rattle.afdx_config.specs.Faults.{IsPlanOf};
 ghost use Rattle.sha2.specs.Sha256.{sha256};
 
-use crate::report::write_report;
 use crate::status::{End, Failure};
 use afdx_config::{Explanation, explain_file, read_config};
 use afdx_plan::Config;
+use plan_report::{Digested, write_report};
 use script_text::RunFault;
 use sha2::{Digest, Sha256};
 use std::alloc::Global;
@@ -28,13 +28,6 @@ pub fn read_plan<R: Read + Drop>(alloc: Global, reader: R) -> Result<Config, Fai
 {
     let text = read_text(alloc, reader)?;
     read_config(alloc, text.as_slice()).map_err(Failure::Config)
-}
-
-/// A plan, and the SHA-256 digest of its text.
-#[derive(Drop)]
-pub struct Digested {
-    pub config: Config,
-    pub digest: [u8; 32],
 }
 
 /// Reads as `read_plan` does, and computes the digest of the text.

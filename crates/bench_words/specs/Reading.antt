@@ -2,10 +2,10 @@
 use Rattle.std.specs.Prelude.{◌≡◌, ◌≢◌, ◌==◌, if◌then◌else◌, ◌*◌, ◌^◌, ℕ, List, Option, ⊤}
 use Rattle.std.specs.Io.KnownBytes.{Appends}
 use Rattle.plan_report.specs.Report.{report_of}
-use Rattle.plan_report.specs.declared.status.End.{End}
-use Rattle.plan_report.specs.declared.status.End.TheVariants.{Told, FaultsTold}
-use Rattle.plan_report.specs.declared.status.Failure.{Failure}
-use Rattle.plan_report.specs.declared.status.Failure.TheVariants.{Config, Run}
+use Rattle.bench_words.specs.declared.status.End.{End}
+use Rattle.bench_words.specs.declared.status.End.TheVariants.{Told, FaultsTold}
+use Rattle.bench_words.specs.declared.status.Failure.{Failure}
+use Rattle.bench_words.specs.declared.status.Failure.TheVariants.{Config, Run}
 use Rattle.afdx_plan.specs.Config.{Plan}
 use Rattle.afdx_config.specs.Faults.{IsPlanOf, IsLeastFault}
 use Rattle.afdx_plan.specs.declared.fault.ConfigFault.TheVariants.{Memory}

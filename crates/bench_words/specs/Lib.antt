@@ -1,0 +1,3 @@
+pub mod Halting
+pub mod Reading
+pub mod Status
