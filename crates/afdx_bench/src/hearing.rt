@@ -5,6 +5,7 @@ use afdx_frame::Net;
 use afdx_plan::{Config, LinkPlan};
 use capture::Packet;
 use judge::{Figures, Finding, Judge, Options};
+use plan_analysis::carries;
 use plan_report::{Cell, Parts, write_head};
 use std::alloc::{AllocError, Global};
 use std::io::{self, Write};
@@ -98,11 +99,7 @@ impl Hearing {
 
 /// The figures of the link at a place on a network, if that carries it.
 fn figures_of(judge: &Judge, place: usize, link: &LinkPlan, net: Net) -> Option<Figures> {
-    let is_carried = match net {
-        Net::A => link.networks.carries_a(),
-        Net::B => link.networks.carries_b(),
-    };
-    if is_carried {
+    if carries(net, link.networks) {
         judge.figures(place, net)
     } else {
         None
