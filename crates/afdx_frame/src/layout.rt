@@ -1,6 +1,6 @@
 //! The rules of a frame's layout, in their order. A frame that breaks none is one of the profile.
 ghost use Rattle.std.specs.Prelude.{◌≡◌, ◌+◌, ◌≤◌, ◌↔◌, false, length, Some, None};
-ghost use Rattle.afdx_frame.specs.Layout.{breach, link_broken, framed, has_total, has_fragment, internet_broken, first_nonzero, end_broken, layout_broken, IsReadable};
+ghost use Rattle.afdx_frame.specs.Layout.{breach, link_broken, framed, has_total, has_fragment, internet_broken, has_destination, first_nonzero, end_broken, layout_broken, IsReadable};
 ghost use Rattle.afdx_frame.specs.Profile.{total_length, IsFrame};
 
 use crate::field::{self, GREATEST_DATAGRAM, MORE_FRAGMENTS, OFFSET_MODULUS, word_at};
@@ -140,6 +140,19 @@ fn internet_broken(arinc: bool, b: &[u8]) -> Option<Breach>
     }
 }
 
+/// Whether the destination address is that of the link in the destination MAC address, or in 10.0.0.0/8.
+fn has_destination(b: &[u8]) -> bool
+    requires { 60 ≤ length b.now }
+    ensures { result ≡ has_destination b.now }
+{
+    let start = field::DESTINATION;
+    b[start] == 224
+        && b[start + 1] == 224
+        && b[start + 2] == b[field::LINK]
+        && b[start + 3] == b[field::LINK + 1]
+        || b[start] == 10
+}
+
 /// The place of the first byte that isn't zero.
 fn first_nonzero(bytes: &[u8]) -> Option<usize>
     ensures { result ≡ first_nonzero bytes.now }
@@ -148,26 +161,21 @@ fn first_nonzero(bytes: &[u8]) -> Option<usize>
 }
 
 /// The rules of the internet addresses and of the padding. The source is 10, the end system of the source MAC address and
-/// a partition; the destination is the link of the destination MAC address, or in 10.0.0.0/8.
+/// a partition.
 #[tactic(auto, unfolding(crate::specs::Layout::end_broken))]
 fn end_broken(arinc: bool, b: &[u8]) -> Option<Breach>
     requires { IsReadable b.now }
     ensures { result ≡ end_broken arinc b.now }
 {
-    let (source, destination) = (field::SOURCE, field::DESTINATION);
+    let source = field::SOURCE;
     if b[source] != 10
         || b[source + 1] != b[field::END_SYSTEM]
         || b[source + 2] != b[field::END_SYSTEM + 1]
         || b[source + 3] > 31
     {
         broken(Layout::SourceAddress, source, 0)
-    } else if (b[destination] != 224
-        || b[destination + 1] != 224
-        || b[destination + 2] != b[field::LINK]
-        || b[destination + 3] != b[field::LINK + 1])
-        && b[destination] != 10
-    {
-        broken(Layout::DestinationAddress, destination, 0)
+    } else if !has_destination(b) {
+        broken(Layout::DestinationAddress, field::DESTINATION, 0)
     } else if arinc {
         None
     } else {
