@@ -74,21 +74,24 @@ admitted_says : (plan : Plan) (net : Net) (frame : Result (List ℕ) Refused) (i
     → (frame ≡ Ok it.frame) × (place_of plan net it.frame ≡ Ok it.place)
 admitted_says plan net frame it is = grind (arith, nat_tests)
 
-silent_as : (plan : Plan) (options : Options) (times : Times) (links : List Link) (net : Net) (number : ℕ) (packet : Recorded) (at k : ℕ)
-    (frame : List ℕ) → options.fcs ≡ false → packet.at ≡ Some at → frame_in (of_profile options) packet ≡ Ok frame
-    → place_of plan net frame ≡ Ok k
-    → found_with_packet net number packet (judge_of plan options times false links) [] ≡ []
+pub packet_silent : (plan : Plan) (options : Options) (times : Times) (links : List Link) (net : Net) (number : ℕ) (packet : Recorded)
+    → options.fcs ≡ false → found_with_packet net number packet (judge_of plan options times false links) [] ≡ []
     → IsPacketSilent plan options times links net number packet
-silent_as plan options times links net number packet at k frame plain timed is on none =
-    let says = frame_says options packet frame plain is in
+unfolding found_with_packet admitted
+packet_silent plan options times links net number packet plain none =
+    let it = seen plan options times links net number packet packet.at none in
+    let at : ℕ = it.0 in
+    let k : ℕ = it.2.place in
+    let is = admitted_says plan net (frame_in (of_profile options) packet) it.2 it.3 in
+    let says = frame_says options packet it.2.frame plain is.0 in
     let profile = (layout_is_profile packet.bytes).0 says.1 in
-    let whole : frame_in (of_profile options) packet ≡ Ok packet.bytes = rw says.0 at is in
-    let placed : place_of plan net packet.bytes ≡ Ok k = rw says.0 at on in
+    let whole : frame_in (of_profile options) packet ≡ Ok packet.bytes = rw says.0 at is.0 in
+    let placed : place_of plan net packet.bytes ≡ Ok k = rw says.0 at is.1 in
     let silent = link_none (setting_at plan options at times k) (tag_of net number at) (port_at plan k packet.bytes) packet.bytes (link_at links k) []
-    (sym (found_is plan options times false links net number at packet packet.bytes k timed whole placed []) ∙ none) in
+    (sym (found_is plan options times false links net number at packet packet.bytes k it.1 whole placed []) ∙ none) in
     record {
       at = at;
-      timed = timed;
+      timed = it.1;
       k = k;
       whole = whole;
       placed = placed;
@@ -96,22 +99,8 @@ silent_as plan options times links net number packet at k frame plain timed is o
       wrong = silent.wrong;
     }
 
-pub packet_silent : (plan : Plan) (options : Options) (times : Times) (links : List Link) (net : Net) (number : ℕ) (packet : Recorded)
-    → options.fcs ≡ false → found_with_packet net number packet (judge_of plan options times false links) [] ≡ []
-    → IsPacketSilent plan options times links net number packet
-unfolding found_with_packet admitted
-packet_silent plan options times links net number packet plain none =
-    let it = seen plan options times links net number packet packet.at none in
-    let says = admitted_says plan net (frame_in (of_profile options) packet) it.2 it.3 in
-    silent_as plan options times links net number packet it.0 it.2.place it.2.frame plain it.1 says.0 says.1 none
-
 same_is : (m n : Net) → same_net m n ≡ true → m ≡ n
-same_is A A is = refl
-same_is A B is = absurd (cc (is))
-same_is B A is = absurd (cc (is))
-same_is B B is = refl
-
--- ---- a packet
+same_is m n is = grind (arith, nat_tests)
 
 -- a link's packets
 abbrev pub own_packets : Plan → ℕ → List Recorded → List Recorded

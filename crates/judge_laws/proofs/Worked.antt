@@ -32,16 +32,18 @@ pair_zip : (origin now first second : ℕ) (options : Options) (net : Net) → o
     ((packet net first (one_frame net)).packet ∷ (packet net second (second_frame net)).packet ∷ [])
 pair_zip origin now first second options net plain times = grind (arith, nat_tests, recorded, one_frame)
 
-whole_run : (origin : ℕ) (options : Options) (es : List Entry) (packets : List Recorded) → AllZip (IsRecord origin options) es packets
-    → IsRunOf origin options es packets
-whole_run origin options es packets zip =
-    record { before = []; recorded = es; after = []; whole = sym (append-nil es); first = λ early. refl; each = zip }
-
 pair_run : (origin now first second : ℕ) (options : Options) (net : Net) → options.fcs ≡ false
     → (origin ≤ first) × (first ≤ origin + 1000 * options.jitter) × (origin + 1000 * now ≤ second)
     × (second ≤ origin + 1000 * (now + options.jitter))
     → IsRunOf origin options (pair_at now net) ((packet net first (one_frame net)).packet ∷ (packet net second (second_frame net)).packet ∷ [])
-pair_run origin now first second options net plain times = whole_run origin options _ _ (pair_zip origin now first second options net plain times)
+pair_run origin now first second options net plain times = record {
+  before = [];
+  recorded = pair_at now net;
+  after = [];
+  whole = refl;
+  first = λ early. refl;
+  each = pair_zip origin now first second options net plain times;
+}
 
 second_run : (net : Net) → IsRunOf 7 late (two_entries net) ((packet net 1000007 (second_frame net)).packet ∷ [])
 second_run net = record {
