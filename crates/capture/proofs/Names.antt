@@ -40,3 +40,4 @@ pub use Rattle.capture.specs.declared.unit.Format.{Format}
 pub use Rattle.capture.specs.declared.unit.Format.TheVariants.{Blocks, Records, Unknown}
 pub use Rattle.capture.specs.declared.unit.TheConstants.{GREATEST_UNIT}
 pub use Rattle.capture.specs.declared.unit.Unit.TheVariants.{Block, Header, Record, Section}
+pub use Rattle.std.proofs.lemmas.Bool.Decides.{nat_tests}

@@ -1,5 +1,5 @@
 -- The options of an interface, one after the other.
-use Rattle.capture.proofs.Names.{Fault, Interface, List, Ok, OptionFront, Order, Result, arith, drop, eqb, fill, first_option, if◌then◌else◌, length, length-drop, nat_eq, ne_eqb, refl, slice_range, suc, sym, with_option, with_options, zero, [], ℕ, ◌+◌, ◌-◌, ◌<◌, ◌>>=◌, ◌∙◌, ◌∷◌, ◌≡◌, ◌≤◌}
+use Rattle.capture.proofs.Names.{Fault, Interface, List, Ok, OptionFront, Order, Result, arith, drop, fill, first_option, if◌then◌else◌, length, length-drop, nat_eq, ne_eqb, refl, slice_range, suc, sym, with_option, with_options, zero, [], ℕ, ◌+◌, ◌-◌, ◌<◌, ◌>>=◌, ◌∙◌, ◌∷◌, ◌≡◌, ◌≤◌}
 
 -- what is left after an option
 abbrev pub after_option : OptionFront → List ℕ → List ℕ

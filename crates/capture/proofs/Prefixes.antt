@@ -1,5 +1,5 @@
 -- A step reads no byte past its unit, so it is the same whatever follows the bytes that it was given.
-use Rattle.capture.proofs.Names.{Big, Block, Blocks, Bool, Err, Format, Header, List, Little, More, Moved, Ok, Order, Progress, Record, Records, Result, Section, Stop, Unknown, arith, big_from-append, content_of, drop, drop-append-le, false, header_unit, le-ltb, length, length-append, length-drop, little_from-append, ltb-false, moved, nat_lt, next, number_at, or_stop, refl, section_unit, size_of, take, take-append-le, true, unit_of, with_bytes, ℕ, ◌++◌, ◌+◌, ◌>>=◌, ◌≡◌, ◌≤◌}
+use Rattle.capture.proofs.Names.{GREATEST_UNIT, block_size, record_size, nat_tests, Big, Block, Blocks, Err, Format, Header, List, Little, More, Moved, Ok, Order, Progress, Record, Records, Result, Section, Stop, Unknown, arith, big_from-append, content_of, drop, drop-append-le, header_unit, length, length-append, length-drop, little_from-append, moved, next, number_at, or_stop, refl, section_unit, size_of, take, take-append-le, unit_of, with_bytes, ℕ, ◌++◌, ◌+◌, ◌>>=◌, ◌≡◌, ◌≤◌}
 use Rattle.capture.specs.declared.unit.Unit.{Unit as CaptureUnit}
 
 -- a number that is within the bytes
@@ -12,53 +12,45 @@ number_at-append Big n i bytes more within =
     let inside : n ≤ length (drop i bytes) = omega (arith, length-drop i bytes) in
     rw (drop-append-le i bytes more (omega arith)) (big_from-append n (drop i bytes) more inside)
 
+word-append : (order : Order) (i : ℕ) (bytes more : List ℕ) → i ≤ 8 → 12 ≤ length bytes
+    → number_at order 4 i (bytes ++ more) ≡ number_at order 4 i bytes
+word-append order i bytes more few enough = number_at-append order 4 i bytes more (omega arith)
+
 -- the kind of a unit, and its length
 unit_of-append : (format : Format) (bytes more : List ℕ) → 12 ≤ length bytes
     → unit_of format (bytes ++ more) ≡ unit_of format bytes
 unfolding unit_of section_unit header_unit
 unit_of-append (Records order clock) bytes more enough = refl
-unit_of-append (Blocks order) bytes more enough =
-    rw (
-      number_at-append Little 4 0 bytes more (omega arith),
-      number_at-append Little 4 8 bytes more
-          (omega arith),
-      number_at-append Big 4 8 bytes more (omega arith),
-    ) refl
-unit_of-append Unknown bytes more enough =
-    rw (
-      number_at-append Little 4 0 bytes more (omega arith),
-      number_at-append Little 4 8 bytes more
-          (omega arith),
-      number_at-append Big 4 8 bytes more (omega arith),
-      number_at-append Big 4 0 bytes more (omega arith),
-    ) refl
+unit_of-append (Blocks order) bytes more enough = rw (
+  word-append Little 0 bytes more (omega arith) enough,
+  word-append Little 8 bytes more (omega arith) enough,
+  word-append Big 8 bytes more (omega arith) enough,
+) refl
+unit_of-append Unknown bytes more enough = rw (
+  word-append Little 0 bytes more (omega arith) enough,
+  word-append Little 8 bytes more (omega arith) enough,
+  word-append Big 8 bytes more (omega arith) enough,
+  word-append Big 0 bytes more (omega arith) enough,
+) refl
 
 size_of-append : (unit : CaptureUnit) (bytes more : List ℕ) → 12 ≤ length bytes
     → size_of unit (bytes ++ more) ≡ size_of unit bytes
 unfolding size_of
-size_of-append (Section order) bytes more enough = rw (number_at-append order 4 4 bytes more (omega arith)) refl
-size_of-append (Block order) bytes more enough = rw (number_at-append order 4 4 bytes more (omega arith)) refl
-size_of-append (Header order clock) bytes more enough = refl
-size_of-append (Record order clock) bytes more enough = rw (number_at-append order 4 8 bytes more (omega arith)) refl
+size_of-append unit bytes more enough = grind (arith, number_at-append)
+
+-- the length of a unit
+pub size_range : (unit : CaptureUnit) (bytes : List ℕ) (size : ℕ) → size_of unit bytes ≡ Ok size → (12 ≤ size) × (size ≤ GREATEST_UNIT)
+unfolding size_of block_size record_size
+size_range (Section order) bytes size is = grind arith
+size_range (Block order) bytes size is = grind arith
+size_range (Header order clock) bytes size is = grind arith
+size_range (Record order clock) bytes size is = grind arith
 
 -- enough bytes stay enough
 with_bytes-append : {X : Type 0} (len : ℕ) (bytes more : List ℕ) (inside inside' : Result X Stop)
     → (with_bytes len bytes inside ≡ Err More → ⊥) → (len ≤ length bytes → (inside ≡ Err More → ⊥) → inside' ≡ inside)
     → with_bytes len (bytes ++ more) inside' ≡ with_bytes len bytes inside
-with_bytes-append {X} len bytes more inside inside' other same = by (nat_lt (length bytes) len) refl
-  where
-    by : (t : Bool) → nat_lt (length bytes) len ≡ t → with_bytes len (bytes ++ more) inside'
-        ≡ with_bytes len bytes inside
-    by true is = absurd (other (rw is refl))
-    by false is =
-        let still : nat_lt (length (bytes ++ more)) len ≡ false =
-        le-ltb (length (bytes ++ more)) len (omega (
-          arith,
-          ltb-false
-              (length bytes) len is,
-          length-append bytes more,
-        )) in
-        rw (still, is) (same (ltb-false (length bytes) len is) (λ none. other (rw is none)))
+with_bytes-append len bytes more inside inside' other same = grind (arith, nat_tests, length-append)
 
 -- what follows a step that may stop
 then-same : {X Y : Type 0} (first : Result X Stop) (f g : X → Result Y Stop) → (first >>= f ≡ Err More → ⊥)

@@ -12,17 +12,11 @@ abbrev packet_of : Captured → Recorded
 packet_of c = packet_for c.net c.entry
 
 -- the packets of network A are its frames, and those of network B its
-first_is : {a b : List Entry} {cs : List Captured} → Merges a b cs
-    → packets_on A (map packet_of cs) ≡ map (packet_for A) a
-first_is none = refl
-first_is (next_a {e} before m) = ap (λ (l : List Recorded). packet_for A e ∷ l) (first_is m)
-first_is (next_b before m) = first_is m
-
-second_is : {a b : List Entry} {cs : List Captured} → Merges a b cs
-    → packets_on B (map packet_of cs) ≡ map (packet_for B) b
-second_is none = refl
-second_is (next_a before m) = second_is m
-second_is (next_b {e} before m) = ap (λ (l : List Recorded). packet_for B e ∷ l) (second_is m)
+both_are : {a b : List Entry} {cs : List Captured} → Merges a b cs
+    → (packets_on A (map packet_of cs) ≡ map (packet_for A) a) × (packets_on B (map packet_of cs) ≡ map (packet_for B) b)
+both_are none = (refl, refl)
+both_are (next_a {e} before m) = (ap (λ (l : List Recorded). packet_for A e ∷ l) (both_are m).0, (both_are m).1)
+both_are (next_b {e} before m) = ((both_are m).0, ap (λ (l : List Recorded). packet_for B e ∷ l) (both_are m).1)
 
 -- frames that fit
 abbrev AllFit : List Captured → Type 0
@@ -105,4 +99,4 @@ pub reads_back : ReadsBack
 reads_back a b fits_a fits_b =
     let merges = order_merges a b in
     let read = capture_read (in_order a b) (all_fit merges fits_a fits_b) in
-    rw read (record { whole = refl; first = first_is merges; second = second_is merges })
+    rw read (record { whole = refl; first = (both_are merges).0; second = (both_are merges).1 })

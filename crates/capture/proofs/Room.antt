@@ -1,25 +1,12 @@
 -- A window as long as the longest unit is never too short.
-use Rattle.capture.proofs.Names.{Block, Bool, Err, Fault, GREATEST_UNIT, Header, IsRoomEnough, List, Malformed, More, Moved, Ok, Record, Result, Section, Stop, arith, block_size, content_of, false, length, ltb-true, moved, nat_lt, next, or_stop, record_size, refl, size_of, take, true, unit_of, with_bytes, ℕ, ◌<◌, ◌>>=◌, ◌≡◌, ◌≤◌}
-use Rattle.capture.proofs.Prefixes.{from_size, from_unit}
-use Rattle.capture.specs.declared.unit.Unit.{Unit as CaptureUnit}
-
-size_most : (unit : CaptureUnit) (front : List ℕ) (size : ℕ) → size_of unit front ≡ Ok size → size ≤ GREATEST_UNIT
-unfolding size_of block_size record_size
-size_most (Section order) front size is = grind arith
-size_most (Block order) front size is = grind arith
-size_most (Header order clock) front size is = grind arith
-size_most (Record order clock) front size is = grind arith
+use Rattle.capture.proofs.Names.{nat_tests, Err, Fault, GREATEST_UNIT, IsRoomEnough, List, More, Moved, Ok, Result, Stop, arith, content_of, length, moved, next, or_stop, refl, size_of, take, unit_of, with_bytes, ℕ, ◌<◌, ◌>>=◌, ◌≡◌, ◌≤◌}
+use Rattle.capture.proofs.Prefixes.{from_size, from_unit, size_range}
 
 -- bytes are too few, or what follows them asks for more
 short : {X : Type 0} (len : ℕ) (bytes : List ℕ) (inside : Result X Stop) → len ≤ GREATEST_UNIT
     → with_bytes len bytes inside ≡ Err More → (inside ≡ Err More → length bytes < GREATEST_UNIT)
     → length bytes < GREATEST_UNIT
-short {X} len bytes inside most = by (nat_lt (length bytes) len) refl
-  where
-    by : (t : Bool) → nat_lt (length bytes) len ≡ t → with_bytes len bytes inside ≡ Err More
-        → (inside ≡ Err More → length bytes < GREATEST_UNIT) → length bytes < GREATEST_UNIT
-    by true is none other = omega (arith, ltb-true (length bytes) len is)
-    by false is none other = other (rw is at none)
+short len bytes inside most none other = grind (arith, nat_tests)
 
 -- a step that may be at fault, and a second one that asks for more
 then_more : {X Y : Type 0} (first : Result X Fault) (f : X → Result Y Stop) → or_stop first >>= f ≡ Err More
@@ -34,6 +21,6 @@ room_enough p window none =
     let unit = then_more (unit_of p.format window) (from_unit p window) in_unit in
     let size = then_more (size_of unit.0 window) (from_size p window unit.0) unit.2 in
     let does : ℕ → Result Moved Stop = λ size. or_stop (content_of p unit.0 (take size window)) >>= (λ does. Ok (moved size does)) in
-    short size.0 window (does size.0) (size_most unit.0 window size.0 size.1) size.2 (λ more.
+    short size.0 window (does size.0) (size_range unit.0 window size.0 size.1).1 size.2 (λ more.
     let whole = then_more (content_of p unit.0 (take size.0 window)) (λ does. Ok (moved size.0 does)) more in
     absurd (cc whole.2)))

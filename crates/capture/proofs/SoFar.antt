@@ -1,5 +1,5 @@
 -- Packets that were read, and those that follow them.
-use Rattle.capture.proofs.Names.{End, Err, List, None, Ok, Option, Packet, Progress, Recorded, Recording, Some, Stop, ap, append-nil, append_assoc, arith, at_start, content, drop, drop-drop, ended, length, length-drop, map, map-append, moved, next, read_capture, read_from, read_within, recorded, recorded_if, refl, slice_range, sym, take_all, with_packet, [], ℕ, ◌++◌, ◌+◌, ◌-◌, ◌∙◌, ◌∷◌, ◌≡◌, ◌≤◌}
+use Rattle.capture.proofs.Names.{End, Err, List, None, Ok, Option, Packet, Progress, Recorded, Recording, Some, Stop, ap, append-nil, append_assoc, arith, content, drop, drop-drop, ended, length, length-drop, map, map-append, moved, next, read_capture, read_from, read_within, recorded, recorded_if, refl, slice_range, sym, take_all, with_packet, [], ℕ, ◌++◌, ◌+◌, ◌-◌, ◌∙◌, ◌∷◌, ◌≡◌, ◌≤◌}
 use Rattle.capture.proofs.Steps.{steps_on, used_of}
 
 -- packets in front of a recording

@@ -1,7 +1,6 @@
 -- Reading on from a step.
-use Rattle.capture.proofs.Names.{Block, Bool, Err, Fault, Header, List, Malformed, More, Moved, Ok, Progress, Record, Result, Section, StepsOn, Stop, StopsThere, ap, arith, block_size, content_of, drop, drop-append-le, false, length, length-append, length-drop, ltb-false, moved, nat_lt, next, or_stop, read_within, record_size, refl, size_of, suc, take, then_read, true, unit_of, with_bytes, with_packet, zero, ℕ, ◌++◌, ◌+◌, ◌<◌, ◌>>=◌, ◌∙◌, ◌≡◌, ◌≤◌}
-use Rattle.capture.proofs.Prefixes.{steps_alike, from_size, from_unit}
-use Rattle.capture.specs.declared.unit.Unit.{Unit as CaptureUnit}
+use Rattle.capture.proofs.Names.{nat_tests, Err, Fault, List, Malformed, Moved, Ok, Progress, Result, StepsOn, Stop, StopsThere, ap, arith, content_of, drop, drop-append-le, length, length-append, length-drop, moved, next, or_stop, read_within, refl, size_of, suc, take, then_read, unit_of, with_bytes, with_packet, zero, ℕ, ◌++◌, ◌+◌, ◌<◌, ◌>>=◌, ◌∙◌, ◌≡◌, ◌≤◌}
+use Rattle.capture.proofs.Prefixes.{steps_alike, from_size, from_unit, size_range}
 
 -- what it takes to give something
 then_ok : {X Y : Type 0} (first : Result X Fault) (f : X → Result Y Stop) (y : Y) → or_stop first >>= f ≡ Ok y
@@ -12,20 +11,7 @@ then_ok (Err fault) f y is = absurd (cc)
 enough_ok : {Y : Type 0} (len : ℕ) (bytes : List ℕ) (inside : Result Y Stop) (y : Y)
     → with_bytes len bytes inside ≡ Ok y
     → (len ≤ length bytes) × (inside ≡ Ok y)
-enough_ok {Y} len bytes inside y = by (nat_lt (length bytes) len) refl
-  where
-    by : (t : Bool) → nat_lt (length bytes) len ≡ t → with_bytes len bytes inside ≡ Ok y
-        → (len ≤ length bytes) × (inside ≡ Ok y)
-    by true is ok = absurd (let e : Err More ≡ Ok y = rw is at ok in cc)
-    by false is ok = (ltb-false (length bytes) len is, rw is at ok)
-
--- the length of a unit
-size_least : (unit : CaptureUnit) (bytes : List ℕ) (size : ℕ) → size_of unit bytes ≡ Ok size → 12 ≤ size
-unfolding size_of block_size record_size
-size_least (Section order) bytes size is = grind arith
-size_least (Block order) bytes size is = grind arith
-size_least (Header order clock) bytes size is = grind arith
-size_least (Record order clock) bytes size is = grind arith
+enough_ok len bytes inside y is = grind (arith, nat_tests)
 
 -- a step takes some bytes, and no more than there are
 pub used_of : (p : Progress) (bytes : List ℕ) (step : Moved) → next p bytes ≡ Ok step
@@ -39,7 +25,7 @@ used_of p bytes step is =
     (moved size.0 does))) step size.2 in
     let does = then_ok (content_of p unit.0 (take size.0 bytes)) (λ does. Ok (moved size.0 does)) step whole.1 in
     let used : size.0 ≡ step.used = cc does.2 in
-    let least : 12 ≤ size.0 = size_least unit.0 bytes size.0 size.1 in
+    let least : 12 ≤ size.0 = (size_range unit.0 bytes size.0 size.1).0 in
     (omega arith, omega arith)
 
 -- more steps than bytes are enough, however many
