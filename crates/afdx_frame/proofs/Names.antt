@@ -6,7 +6,7 @@ pub use Rattle.afdx_frame.specs.Cutting.{Cutting, IsCutting, SameMessage, TakesF
 unfoldable pub use Rattle.afdx_frame.specs.Fragments.{fragments_at}
 pub use Rattle.afdx_frame.specs.Fragments.{Sent, blanked, fragments_from, fragments_left}
 unfoldable pub use Rattle.afdx_frame.specs.Frame.{addresses, datagram, header_front, internet_header, link_header, udp_header, udp_sum, unnumbered}
-pub use Rattle.afdx_frame.specs.Frame.{datagram_len, fragment_word, frame_of, interface_byte, more_fragments, udp_field, udp_front}
+pub use Rattle.afdx_frame.specs.Frame.{datagram_len, fragment_word, frame_of, interface_byte, more_fragments, udp_front}
 pub use Rattle.afdx_frame.specs.Header.{IsFrameOf, link_in, number_in, sub_in}
 pub use Rattle.afdx_frame.specs.Profile.{HasAddresses, HasInternetHeader, HasLinkHeader, HasZeroPadding, IsFrame, fragment_field, total_length, word_at}
 unfoldable pub use Rattle.afdx_frame.specs.Layout.{internet_broken, layout_broken, link_broken, end_broken}
@@ -14,27 +14,26 @@ pub use Rattle.afdx_frame.specs.Layout.{first_nonzero, has_total, kept_then, pad
 pub use Rattle.afdx_frame.specs.ReadBack.{IsPiece, Says, ChangedWordsFail, ChecksumsPass, IsWordChanged, ReassembledPass}
 pub use Rattle.afdx_frame.specs.Reassembly.{AnyOrder, Buffer, Fragment, NotBefore, bytes_from, bytes_to, covers, empty, fragment_of, fragments_of, joined, put, put_all}
 unfoldable pub use Rattle.afdx_frame.specs.Template.{unfilled}
-pub use Rattle.afdx_frame.specs.Template.{udp_ports}
 pub use Rattle.afdx_frame.specs.declared.layout.Breach.{Breach}
 pub use Rattle.afdx_frame.specs.declared.layout.Layout.{Layout}
 pub use Rattle.afdx_frame.specs.declared.net.Net.{Net}
-pub use Rattle.afdx_frame.specs.declared.net.Net.TheVariants.{A, B}
+pub use Rattle.afdx_frame.specs.declared.net.Net.TheVariants.{A}
 pub use Rattle.afdx_frame.specs.declared.field.Piece.{Piece}
-pub use Rattle.afdx_plan.specs.Address.{destination_of, two_bytes}
-pub use Rattle.afdx_plan.specs.Plan.{identification, room_of, step_of}
+pub use Rattle.afdx_plan.specs.Address.{two_bytes}
+pub use Rattle.afdx_plan.specs.Plan.{identification, step_of}
 pub use Rattle.afdx_plan.specs.declared.port_plan.PortPlan.{PortPlan}
-pub use Rattle.std.proofs.Common.{Bool, List, MatchOption, None, Option, Some, [], ap, append-nil, append_assoc, arith, drop, eq-eqb, false, get_or, inl, inr}
+pub use Rattle.std.proofs.Common.{Bool, List, MatchOption, None, Option, Some, [], ap, append-nil, append_assoc, arith, drop, false, get_or, inl, inr}
 pub use Rattle.std.proofs.Common.{length, map, max, nat_le, nat_lt, not, refl, replicate, rules, set, slice_index, subst, suc, sum, sym, take, true}
-pub use Rattle.std.proofs.Common.{vec_capacity, zero, ℕ, ◌%◌, ◌*◌, ◌++◌, ◌+◌, ◌-◌, ◌/◌, ◌<◌, ◌∙◌, ◌∷◌, ◌≡◌, ◌≢◌, ◌≤◌, ◌⊎◌, ◌==◌, ◌↔◌}
+pub use Rattle.std.proofs.Common.{zero, ℕ, ◌%◌, ◌*◌, ◌++◌, ◌+◌, ◌-◌, ◌/◌, ◌<◌, ◌∙◌, ◌∷◌, ◌≡◌, ◌≢◌, ◌≤◌, ◌⊎◌, ◌==◌, ◌↔◌}
 pub use Rattle.std.proofs.Math.ListN.{length-replicate}
 pub use Rattle.std.proofs.Math.Seq.{drop-append-add, get_or-append_right, take-append-add, take-append_seam, take-set-lt}
-pub use Rattle.std.proofs.lemmas.Bool.{and_from, and_parts, cases_Bool, cases_lt, false_from_ne_true, le-leb, le-ltb, leb-true, lt-leb, lt-ltb, ltb-true}
+pub use Rattle.std.proofs.lemmas.Bool.{cases_Bool, cases_lt, false_from_ne_true, le-ltb}
 pub use Rattle.std.proofs.lemmas.Bool.Decides.{nat_tests}
 pub use Rattle.std.proofs.lemmas.List.{drop-drop, drop_at, get_or-drop, get_or-map, get_or-replicate, get_or-set_other, get_or-set_same, get_or-take}
 pub use Rattle.std.proofs.lemmas.List.{get_or_append_left, get_or_push, length-drop, length-map, length-set, length-take, length-take-le, map-append}
-pub use Rattle.std.proofs.lemmas.List.{set-get_or, set-set, set_past, take-replicate, take-set-le, take_at}
+pub use Rattle.std.proofs.lemmas.List.{set-get_or, set-set, set_past, take-replicate, take_at}
 pub use Rattle.std.proofs.lemmas.List.Sums.{fails_before_first, position_or_len_is}
 pub use Rattle.std.proofs.lemmas.List.Elements.{All-contains, All-contains_itself, All-from_recursion, All-head, All-map, All-tail, All-weaker, Contains-get_or, recursion_from_All}
 pub use Rattle.std.specs.List.{AllByRecursion, list_any}
 pub use Rattle.std.specs.Option.{option_or}
-pub use Rattle.std.specs.Prelude.{All, Contains, IfSome, if◌then◌else◌}
+pub use Rattle.std.specs.Prelude.{All, Contains, if◌then◌else◌}

@@ -1,8 +1,8 @@
 -- The names of other crates, and of this one's definitions, that the proofs here use.
-pub use Rattle.std.proofs.Common.{Bool, Err, List, None, Ok, Option, Result, Some, ap, append-nil, append_assoc, arith, drop, eq-eqb, eqb, false, length, length-append, length-drop, map, refl, suc, sym, take, true, zero, [], ℕ, ◌%◌, ◌*◌, ◌++◌, ◌+◌, ◌-◌, ◌/◌, ◌<◌, ◌^◌, ◌∙◌, ◌∷◌, ◌≡◌, ◌≤◌}
+pub use Rattle.std.proofs.Common.{Bool, Err, List, None, Ok, Option, Result, Some, ap, append-nil, append_assoc, arith, drop, eq-eqb, false, length, length-append, length-drop, map, refl, suc, sym, take, true, zero, [], ℕ, ◌%◌, ◌*◌, ◌++◌, ◌+◌, ◌-◌, ◌/◌, ◌<◌, ◌^◌, ◌∙◌, ◌∷◌, ◌≡◌, ◌≤◌}
 pub use Rattle.std.proofs.Math.Nat.{div-eq_of_lt, pow-le-pow_right}
 pub use Rattle.std.proofs.Math.Seq.{drop-append_seam, take-append_seam}
-pub use Rattle.std.proofs.lemmas.Bool.{le-ltb, ltb-false, ltb-true, ne_eqb}
+pub use Rattle.std.proofs.lemmas.Bool.{le-ltb, ne_eqb}
 pub use Rattle.std.proofs.lemmas.Grind.{common_steps}
 pub use Rattle.std.proofs.lemmas.List.{drop-append-le, drop-drop, drop_all, length-replicate, map-append, take-append-le, take_all}
 pub use Rattle.std.proofs.lemmas.List.Elements.{All-head, All-tail}
@@ -12,7 +12,7 @@ pub use Rattle.afdx_frame.specs.declared.net.Net.{Net}
 pub use Rattle.afdx_frame.specs.declared.net.Net.TheVariants.{A, B}
 pub use Rattle.byteorder.specs.Numbers.{big_from-append, little_from-append, little_number-reads_back}
 pub use Rattle.redundant_mux.specs.Lines.{Entry}
-pub use Rattle.script_text.proofs.Written.{HasWritten, written_all, written_none, written_turn}
+pub use Rattle.script_text.proofs.Written.{HasWritten}
 pub use Rattle.capture.specs.Capture.{block, fill, filled, interface_of, packet_body, packet_front}
 unfoldable pub use Rattle.capture.specs.Capture.{half, header_blocks, interface_block, packet_block, packet_blocks, section_block, word}
 pub use Rattle.capture.specs.Interfaces.{known, network_of, ◌>>=◌}

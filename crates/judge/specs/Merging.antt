@@ -1,5 +1,5 @@
 -- The packets of two networks in the order of their times.
-use Rattle.std.specs.Prelude.{ℕ, ◌+◌, ◌≡◌, nat_lt, ◌||◌, Bool, true, if◌then◌else◌, List, [], ◌∷◌, drop, unwrap_or, Option, Some, None, ⊤}
+use Rattle.std.specs.Prelude.{ℕ, ◌+◌, ◌≡◌, ◌||◌, Bool, true, if◌then◌else◌, List, [], ◌∷◌, drop, unwrap_or, Option, Some, None, ⊤}
 use Rattle.afdx_frame.specs.declared.net.Net.TheVariants.{A, B}
 use Rattle.capture.specs.Order.{merged}
 use Rattle.capture.specs.ReadBack.{is_of as is_on}

@@ -1,7 +1,6 @@
 -- Nothing missed: what a recording is in which a judge finds nothing.
-use Rattle.std.specs.Prelude.{ℕ, ◌≡◌, ◌/◌, ◌^◌, ◌-◌, ◌<◌, Bool, false, List, [], ◌∷◌, length, map, slice_index, All}
+use Rattle.std.specs.Prelude.{ℕ, ◌≡◌, ◌/◌, ◌^◌, ◌-◌, ◌<◌, false, List, [], ◌∷◌, length, map, slice_index, All}
 use Rattle.afdx_plan.specs.Config.{Plan, IsPlan}
-use Rattle.afdx_frame.specs.Header.{link_in, sub_in}
 use Rattle.afdx_frame.specs.Profile.{word_at}
 use Rattle.afdx_frame.specs.declared.net.Net.{Net}
 use Rattle.redundant_mux.specs.Lines.{Entry, entry}
