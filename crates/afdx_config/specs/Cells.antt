@@ -77,9 +77,10 @@ port_of row = record {
 
 -- the identifier of the end system, or 0 if it has a fault
 abbrev pub end_system_of : Members → ℕ
-end_system_of document =
-    unwrap_or (option_and_then (value_at (number_under id_range) (codes "id")) (section_at (codes "end_system") document)) 0
+end_system_of document = unwrap_or
+    (option_and_then (value_at (number_under id_range) (codes "id")) (section_at (codes "end_system") document)) 0
 
 -- the plan of a document: its links and ports in the order of the text
 abbrev pub plan_of : Members → Plan
-plan_of document = plan_of_parts (end_system_of document) (map link_of (cells_of document).links) (map port_of (cells_of document).ports)
+plan_of document = plan_of_parts (end_system_of document)
+    (map link_of (cells_of document).links) (map port_of (cells_of document).ports)

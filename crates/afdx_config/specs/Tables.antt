@@ -35,7 +35,7 @@ abbrev pub read : {X Y : Type 0} → Result Y ConfigFault → (Data → Option X
 read missing kind convert fault None = missing
 read missing kind convert fault (Some value) = converted convert fault (kind value)
 
--- what is read under a key: a number, the version of the format, a BAG, networks, a kind of port, an address, a checksum
+-- what is read under a key: a number, the version of the format, a BAG, networks, a kind, an address, a checksum
 abbrev pub number_under : ℕ × ℕ → Option Data → Result ℕ ConfigFault
 number_under range = read (Err MissingKey) as_integer (in_range range) OutOfRange
 

@@ -17,7 +17,7 @@ pub(crate) struct Document<'a> {
     pub ports: Vec<&'a Table>,
 }
 
-/// The tables of an array.
+/// Returns the tables of an array.
 fn tables_of<'a>(alloc: Global, values: &'a [Value]) -> Result<Vec<&'a Table>, AllocError>
     ensures { IfOk result (λ rows.
         map (λ r. table_view r.now) rows.items ≡ tables_among (items_view values.now)) }
@@ -31,7 +31,7 @@ fn tables_of<'a>(alloc: Global, values: &'a [Value]) -> Result<Vec<&'a Table>, A
     Ok(rows)
 }
 
-/// The tables of the array under a key.
+/// Returns the tables of the array under a key.
 fn rows<'a>(alloc: Global, document: &'a Table, key: &str) -> Result<Vec<&'a Table>, AllocError>
     ensures { IfOk result (λ rows.
         map (λ r. table_view r.now) rows.items ≡ rows_at key.now (table_view document.now)) }
@@ -42,7 +42,7 @@ fn rows<'a>(alloc: Global, document: &'a Table, key: &str) -> Result<Vec<&'a Tab
     }
 }
 
-/// The table under a key.
+/// Returns the table under a key.
 fn section<'a>(document: &'a Table, key: &str) -> Option<&'a Table>
     ensures { option_map (λ t. table_view t.now) result
         ≡ section_at key.now (table_view document.now) }
@@ -50,7 +50,7 @@ fn section<'a>(document: &'a Table, key: &str) -> Option<&'a Table>
     value_at(document, key)?.as_table()
 }
 
-/// The document is of format version 2.
+/// Returns whether the document is of format version 2.
 pub(crate) fn is_version_2(document: &Document<'_>) -> bool
     ensures { result ≡ is_version_2 (data_of document.now) }
 {

@@ -26,8 +26,9 @@ pub(crate) const UDP_PORT: Range = (1, 65535);
 
 pub(crate) const MESSAGE: Range = (1, MESSAGE_LIMIT as u16);
 
-/// The value of a key: an integer in a range, the version of the format, a BAG in milliseconds, the name of a link's networks, of a
-/// kind of port or of a UDP checksum, a unicast address, a table, or an array of tables.
+/// The value of a key: an integer in a range, the version of the format, a BAG in milliseconds, the name of a link's
+/// networks, of a kind of port or of a UDP checksum, a unicast address, a table, or an array of tables. The version,
+/// networks, address and checksum may be missing.
 #[derive(Clone, Copy)]
 pub(crate) enum Content {
     Whole(Range),

@@ -13,7 +13,7 @@ use afdx_plan::{ConfigFault, LinkRow, PortRow};
 use std::alloc::{AllocError, Global};
 use std::collections::BTreeMap;
 
-/// The index of the first row with each key. A row may lack a key.
+/// Returns the index of the first row with each key. A row may lack a key.
 pub(crate) fn first_rows<K: Ord + Copy>(
     alloc: Global,
     keys: &[Option<K>],
@@ -29,21 +29,21 @@ pub(crate) fn first_rows<K: Ord + Copy>(
     Ok(rows)
 }
 
-/// The index of the first row with this key.
+/// Returns the index of the first row with this key.
 pub(crate) fn row_with<K: Ord + Copy>(rows: &BTreeMap<K, usize>, key: &Option<K>) -> Option<usize>
     ensures { result ≡ option_and_then (get K.cmp rows.now) key.now }
 {
     rows.get(key.as_ref()?).copied()
 }
 
-/// The row at an index.
+/// Returns the row at an index.
 pub(crate) fn nth_row<R: Copy>(rows: &[R], place: Option<usize>) -> Option<&R>
     ensures { option_copied result ≡ option_and_then (slice_get rows.now) place }
 {
     rows.get(place?)
 }
 
-/// For each row the index of the first one with its key.
+/// Returns for each row the index of the first one with its key.
 fn first_same<K: Ord + Copy>(
     alloc: Global,
     keys: &[Option<K>],
@@ -116,21 +116,21 @@ pub(crate) fn add_keyed<K: Ord + Copy>(
     add_pairs(found, fault, key, array, firsts.as_slice())
 }
 
-/// The identifiers of links.
+/// Returns the identifiers of links.
 pub(crate) fn link_ids(alloc: Global, links: &[LinkRow]) -> Result<Vec<Option<u16>>, AllocError>
     ensures { IfOk result (λ ids. ids.items ≡ map (λ l. l.id) links.now) }
 {
     links.iter().map(|link| link.id).collect(alloc)
 }
 
-/// The identifiers of ports.
+/// Returns the identifiers of ports.
 pub(crate) fn port_ids(alloc: Global, ports: &[PortRow]) -> Result<Vec<Option<u16>>, AllocError>
     ensures { IfOk result (λ ids. ids.items ≡ map (λ p. p.id) ports.now) }
 {
     ports.iter().map(|port| port.id).collect(alloc)
 }
 
-/// The flow of a port, if its values have no fault.
+/// Returns the flow of a port, if its values have no fault.
 fn flow_of(port: &PortRow) -> Option<Flow>
     ensures { result ≡ flow_of port.now }
 {
@@ -143,7 +143,7 @@ fn flow_of(port: &PortRow) -> Option<Flow>
     ))
 }
 
-/// The flows of ports.
+/// Returns the flows of ports.
 pub(crate) fn flows_of(alloc: Global, ports: &[PortRow]) -> Result<Vec<Option<Flow>>, AllocError>
     ensures { IfOk result (λ flows. flows.items ≡ map flow_of ports.now) }
 {
@@ -156,7 +156,7 @@ type Address = (u16, [u8; 4]);
 /// The first port with an address, its link, and the first such port on another link.
 type First = (usize, u16, Option<usize>);
 
-/// The partition and unicast address of a port, and its link.
+/// Returns the partition and unicast address of a port, and its link.
 fn address_of(port: &PortRow) -> Option<(Address, u16)>
     ensures { result ≡ address_of port.now }
 {
@@ -164,7 +164,7 @@ fn address_of(port: &PortRow) -> Option<(Address, u16)>
     Some(((port.partition?, port.unicast??), vl))
 }
 
-/// The first of the ports with an address that is on another link than this one.
+/// Returns the first of the ports with an address that is on another link than this one.
 fn off_link(vl: u16, first: Option<First>) -> Option<usize>
     ensures { result ≡ off_link vl first }
 {
@@ -172,7 +172,7 @@ fn off_link(vl: u16, first: Option<First>) -> Option<usize>
     if other == vl { next } else { Some(i) }
 }
 
-/// The first port with each address.
+/// Returns the first port with each address.
 fn first_ports(alloc: Global, ports: &[PortRow]) -> Result<BTreeMap<Address, First>, AllocError>
     ensures { IfOk result (λ firsts. (q : ℕ × List ℕ) → get address_cmp firsts q ≡ first_at q 0 ports.now) }
 {
@@ -186,7 +186,7 @@ fn first_ports(alloc: Global, ports: &[PortRow]) -> Result<BTreeMap<Address, Fir
     Ok(firsts)
 }
 
-/// The first port on another link with the partition and unicast address of a port.
+/// Returns the first port on another link with the partition and unicast address of a port.
 fn sharing_place(firsts: &BTreeMap<Address, First>, port: &PortRow) -> Option<usize>
     ensures { result ≡ sharing_place (get address_cmp firsts.now) port.now }
 {
@@ -194,7 +194,7 @@ fn sharing_place(firsts: &BTreeMap<Address, First>, port: &PortRow) -> Option<us
     off_link(vl, firsts.get(&address).copied())
 }
 
-/// These ports for each port.
+/// Returns for each port the first one on another link with its partition and unicast address.
 fn sharing_places(
     alloc: Global,
     firsts: &BTreeMap<Address, First>,

@@ -27,7 +27,7 @@ use std::collections::BTreeMap;
 /// The number of ports on each sub-VL of each link.
 type Counts = BTreeMap<(u16, u16), usize>;
 
-/// The number of ports on a sub-VL of a link.
+/// Returns the number of ports on a sub-VL of a link.
 fn count_of(counts: &Counts, vl: u16, sub: u16) -> usize
     ensures { result ≡ unwrap_or (get sub_cmp counts.now (vl, sub)) 0 }
 {
@@ -73,14 +73,14 @@ fn some_is_nameless(links: &[LinkRow]) -> bool
     links.iter().any(|link| link.id.is_none())
 }
 
-/// The array of links and their identifiers have no fault.
+/// Returns whether the array of links and their identifiers have no fault.
 fn all_named(rows: &Rows) -> bool
     ensures { result ≡ all_named (cells_in rows.now) }
 {
     rows.has_links && !some_is_nameless(rows.links.as_slice())
 }
 
-/// The number of a table, counted from 1.
+/// Returns the number of a table, counted from 1.
 fn number_of(place: Option<usize>) -> Option<usize>
     requires { IfSome place (λ i. i + 1 < 2 ^ 64) }
     ensures { result ≡ option_map (λ i. i + 1) place }
@@ -88,7 +88,7 @@ fn number_of(place: Option<usize>) -> Option<usize>
     Some(place? + 1)
 }
 
-/// The port does not fit its link in this way.
+/// Returns whether a port does not fit its link in this way.
 fn is_misfit(misfit: Misfit, is_named: bool, port: &PortRow, link: Option<&LinkRow>) -> bool
     ensures { result ≡ misfits is_named (option_copied link.entry) misfit port.now }
 {
@@ -109,7 +109,7 @@ fn is_misfit(misfit: Misfit, is_named: bool, port: &PortRow, link: Option<&LinkR
 /// The first link with each identifier.
 type ById = BTreeMap<u16, usize>;
 
-/// The index of the link of a port, which is found by its identifier.
+/// Returns the index of the link of a port, which is found by its identifier.
 fn link_place(links: &[LinkRow], by_id: &ById, port: &PortRow) -> Option<usize>
     requires { (q : ℕ) → get nat_cmp by_id.now q ≡ position (is_key nat_cmp q) (map (λ l. l.id) links.now) }
     ensures first { result ≡ position (is_row_of port.now) links.now }
