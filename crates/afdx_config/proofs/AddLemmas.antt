@@ -1,15 +1,7 @@
 -- Findings added one after the other.
-use Rattle.std.proofs.lemmas.Grind.{flat_map-append, common_steps}
-use Rattle.std.proofs.lemmas.List.{take_more, length-take}
-use Rattle.afdx_config.proofs.Names.{◌≡◌, ℕ, ◌+◌, ◌<◌, List, [], ◌∷◌, ◌++◌, length, get_or, refl, ap, sym, map, append_assoc, option_map_or, append-nil, take, arith, Adds, flat_map, flat_map-map, table_view, string_bytes, keys_of, String, Global, LinkRow, PortRow, Bool, cells_of, Place, Link, Port, Top, EndSystem, Field, Finding, key_finding, each_row, field_of, IsDocument, Document, data_of, document_fields, end_fields, link_fields, port_fields, field_fault, key_fault, is_version_2, map-map, BTreeMap, Value, None, Members, ConfigFault, true, false, cond, codes, field_findings, key_findings, section_at, Result, Ok}
-use Rattle.afdx_config.specs.declared.format.Field.{Field as Key}
-use Rattle.afdx_config.specs.declared.findings.Found.{Found as Kept}
-use Rattle.afdx_config.specs.Cells.{link_row, port_row}
+use Rattle.afdx_config.proofs.Names.{flat_map-append, common_steps, take_more, length-take, ◌≡◌, ℕ, ◌+◌, ◌<◌, List, [], ◌∷◌, ◌++◌, length, get_or, refl, ap, sym, map, append_assoc, option_map_or, append-nil, take, arith, Adds, flat_map, flat_map-map, table_view, string_bytes, keys_of, String, Global, LinkRow, PortRow, Bool, cells_of, Place, Link, Port, Top, EndSystem, Field, Finding, key_finding, each_row, field_of, IsDocument, Document, data_of, document_fields, end_fields, link_fields, port_fields, field_fault, key_fault, is_version_2, map-map, BTreeMap, Value, None, Members, ConfigFault, true, false, cond, codes, field_findings, key_findings, section_at, Result, Ok, Key, Kept, link_row, port_row, nat_tests, only_in_2, result_err}
 use Rattle.afdx_config.specs.Findings.{table_findings, value_findings}
 use Rattle.afdx_config.proofs.SectionLemmas.{Found, keys_are}
-use Rattle.std.proofs.lemmas.Bool.Decides.{nat_tests}
-use Rattle.afdx_config.specs.Format.{only_in_2}
-use Rattle.std.specs.Result.{result_err}
 
 -- one after the other
 pub adds_both : (old mid new : Kept) (a b : List Finding) → Adds old mid a → Adds mid new b → Adds old new (a ++ b)

@@ -1,8 +1,6 @@
 -- Reading of dotted addresses.
-use Rattle.afdx_config.proofs.Names.{◌≡◌, ℕ, List, [], Option, Some, None, refl, ap, sym, ◌∙◌, lit≤, append-nil, eq-eqb, ◌==◌, eqb-true, if◌then◌else◌, slice_index, IsDotted, read_ipv4, Ipv4Addr, read_ipv4_complete, read_ipv4_sound, and_then_some, cond_some}
-use Rattle.afdx_config.specs.Values.{in_network_10, address_of, AddressesAreDotted}
-use Rattle.std.proofs.Common.{arith}
-use Rattle.std.proofs.lemmas.Bool.Decides.{nat_tests}
+use Rattle.afdx_config.proofs.Names.{◌≡◌, ℕ, List, [], Option, Some, None, refl, ap, sym, ◌∙◌, lit≤, append-nil, eq-eqb, ◌==◌, eqb-true, if◌then◌else◌, slice_index, IsDotted, read_ipv4, Ipv4Addr, read_ipv4_complete, read_ipv4_sound, and_then_some, cond_some, in_network_10, AddressesAreDotted, arith, nat_tests}
+use Rattle.afdx_config.specs.Values.{address_of}
 
 -- a dotted address is read if its first number is 10
 pub address_of-dotted : (text octets : List ℕ) → IsDotted text octets

@@ -1,8 +1,5 @@
 -- The first finding has the fault of the least number, and so has the text.
-use Rattle.afdx_config.proofs.Names.{◌≡◌, ◌≢◌, ℕ, ◌<◌, List, [], ◌∷◌, ◌++◌, true, false, Some, None, refl, ap, subst, ◌∙◌, arith, eq-eqb, list_any, same_Some, Result, Ok, Err, IfOk, IfErr, Members, map, nat_tests, fault_number, cells_of, ConfigFault, Memory, Plan, plan_of, shows, Reads, HasFault, IsLeastFault, IsPlanOf, Finding, finding_of, findings, has, FirstIsAnswered}
-use Rattle.afdx_config.specs.Findings.{by_fault, number_of, plan_findings, value_findings}
-use Rattle.afdx_config.specs.Seen.{Holds, IsOrdered, fault_of}
-use Rattle.afdx_config.specs.declared.findings.Found.{Found as Kept}
+use Rattle.afdx_config.proofs.Names.{◌≡◌, ◌≢◌, ℕ, ◌<◌, List, [], ◌∷◌, ◌++◌, true, false, Some, None, refl, ap, subst, ◌∙◌, arith, eq-eqb, list_any, same_Some, Result, Ok, Err, IfOk, IfErr, Members, map, nat_tests, fault_number, cells_of, ConfigFault, Memory, Plan, plan_of, shows, Reads, HasFault, IsLeastFault, IsPlanOf, Finding, finding_of, findings, has, FirstIsAnswered, by_fault, number_of, plan_findings, value_findings, Holds, IsOrdered, fault_of, Kept}
 use Rattle.afdx_config.proofs.OrderLemmas.{are_ordered, no_finding, r_map}
 use Rattle.afdx_config.proofs.ShownLemmas.{faults_are_found, no_toml, none_has}
 use Rattle.afdx_config.proofs.SoundLemmas.{none}

@@ -1,6 +1,5 @@
 -- Rows by their keys.
-use Rattle.std.proofs.Math.Path.{fun_ext}
-use Rattle.afdx_config.proofs.Names.{◌≡◌, ℕ, ◌+◌, ◌-◌, ◌<◌, ◌≤◌, List, [], ◌∷◌, length, drop, get_or, cond, Bool, false, Option, Some, None, refl, ap, sym, ◌∙◌, arith, drop_more, drop_all, map, map-map, nat_eq, position, position_from, position_from-zero, option_map_or, nat_cmp, nat_tests, Ordering, both, is_key, first_row, is_eq, bytes_eq, slice_cmp, is_eq-slice_cmp, find, find_at, position_or_len, option_and_then, slice_get, PortRow, LinkRow, is_row_of, slice_get_past, IfSome, position-Some}
+use Rattle.afdx_config.proofs.Names.{fun_ext, ◌≡◌, ℕ, ◌+◌, ◌-◌, ◌<◌, ◌≤◌, List, [], ◌∷◌, length, drop, get_or, cond, Bool, false, Option, Some, None, refl, ap, sym, ◌∙◌, arith, drop_more, drop_all, map, map-map, nat_eq, position, position_from, position_from-zero, option_map_or, nat_cmp, nat_tests, Ordering, both, is_key, first_row, is_eq, bytes_eq, slice_cmp, is_eq-slice_cmp, find, find_at, position_or_len, option_and_then, slice_get, PortRow, LinkRow, is_row_of, slice_get_past, IfSome, position-Some}
 
 -- the first row from the one before i on
 pub first_from : {A : Type 0} (test : A → Bool) (rows : List A) (i : ℕ) (d x : A) → 0 < i → i ≤ length rows → get_or rows (i - 1) d ≡ x

@@ -1,14 +1,5 @@
 -- Findings in the order of the numbers of their faults.
-use Rattle.std.proofs.lemmas.Grind.{fold-append, common_steps}
-use Rattle.std.proofs.lemmas.List.{length-take, map-append, drop-map, take-append-drop, take-append-le, take-take}
-use Rattle.std.proofs.Math.ListN.{get_or-map}
-use Rattle.std.specs.List.{fold, insert}
-use Rattle.std.proofs.Common.{length-append}
-use Rattle.afdx_config.proofs.Names.{◌≡◌, ℕ, zero, suc, ◌+◌, ◌-◌, ◌<◌, ◌≤◌, List, [], ◌∷◌, ◌++◌, length, take, drop, get_or, map, Bool, true, false, ◌||◌, cond, refl, ap, sym, ◌∙◌, arith, take_all, take-map, length-map, drop_more, fault_number, AllByRecursion, list_any, nat_lt, nat_tests, or-false, Finding, Adds, finding_of}
-use Rattle.afdx_config.specs.Findings.{by_fault, lines_limit, number_of, put}
-use Rattle.afdx_config.specs.Seen.{IsOrdered}
-use Rattle.afdx_config.specs.declared.findings.Finding.{Finding as Written}
-use Rattle.afdx_config.specs.declared.findings.Found.{Found as Kept}
+use Rattle.afdx_config.proofs.Names.{fold-append, common_steps, length-take, map-append, drop-map, take-append-drop, take-append-le, take-take, get_or-map, fold, insert, length-append, ◌≡◌, ℕ, zero, suc, ◌+◌, ◌-◌, ◌<◌, ◌≤◌, List, [], ◌∷◌, ◌++◌, length, take, drop, get_or, map, Bool, true, false, ◌||◌, cond, refl, ap, sym, ◌∙◌, arith, take_all, take-map, length-map, drop_more, fault_number, AllByRecursion, list_any, nat_lt, nat_tests, or-false, Finding, Adds, finding_of, by_fault, lines_limit, number_of, put, IsOrdered, Written, Kept}
 
 -- what holds of each element of two lists holds of those of both
 pub r_append : {A : Type 0} (P : A → Type 0) (xs ys : List A) → AllByRecursion P xs → AllByRecursion P ys → AllByRecursion P (xs ++ ys)

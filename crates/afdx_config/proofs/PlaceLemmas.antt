@@ -1,9 +1,8 @@
 -- The place of each finding has its fault.
-use Rattle.afdx_config.proofs.Names.{◌≡◌, ℕ, suc, ◌+◌, ◌-◌, List, [], ◌∷◌, get_or, Bool, nat_lt, true, ◌||◌, Option, Some, None, refl, ap, ◌∙◌, codes, arith, bytes_eq, slice_get, position, list_any, flat_map, AllByRecursion, option_map_or, or-true, All-from_recursion, position-Some, slice_get-get_or, bytes_eq-Decides, eq-eqb, Members, ConfigFault, Place, Top, option_map, is_row_of, PlanRule, Rule, links_clash, ports_clash, port_misfits, link_count, port_count, sub_is_packed, breaks, is_misfit, breaks_at, tells, plan_rules, rule, rule_findings, is_past_limit, EndSystem, Link, Port, Finding, found, one_if, key_finding, each_row, member_keys, pair_finding, pair_findings, misfit_finding, crowd_finding, Cells, cells_of, findings, row_has, rows_have, value_has, key_has, has_place, PlacesHaveFaults, Field, document_fields, end_fields, link_fields, port_fields, field_fault, key_fault, is_fault, is_version_2, rows_at, section_at, members_at, fields_at, fault_number}
+use Rattle.afdx_config.proofs.Names.{◌≡◌, ℕ, suc, ◌+◌, ◌-◌, List, [], ◌∷◌, get_or, Bool, nat_lt, true, ◌||◌, Option, Some, None, refl, ap, ◌∙◌, codes, arith, bytes_eq, slice_get, position, list_any, flat_map, AllByRecursion, option_map_or, or-true, All-from_recursion, position-Some, slice_get-get_or, bytes_eq-Decides, eq-eqb, Members, ConfigFault, Place, Top, option_map, is_row_of, PlanRule, Rule, links_clash, ports_clash, port_misfits, link_count, port_count, sub_is_packed, breaks, is_misfit, breaks_at, tells, plan_rules, rule, rule_findings, is_past_limit, EndSystem, Link, Port, Finding, found, one_if, key_finding, each_row, member_keys, pair_finding, pair_findings, misfit_finding, crowd_finding, Cells, cells_of, findings, row_has, rows_have, value_has, key_has, has_place, PlacesHaveFaults, Field, document_fields, end_fields, link_fields, port_fields, field_fault, key_fault, is_fault, is_version_2, rows_at, section_at, members_at, fields_at, fault_number, nat_tests}
 use Rattle.afdx_config.proofs.AddLemmas.{each_row-map}
 use Rattle.afdx_config.proofs.OrderLemmas.{r_append, r_fold, r_map}
 use Rattle.afdx_config.specs.Findings.{plan_findings, table_findings, value_findings}
-use Rattle.std.proofs.lemmas.Bool.Decides.{nat_tests}
 
 -- a property of each element of the lists
 pub r_each : {A B : Type 0} (P : B → Type 0) (F : A → List B) (xs : List A) → ((x : A) → AllByRecursion P (F x)) → AllByRecursion P (flat_map F xs)

@@ -1,21 +1,7 @@
 -- A document whose values have no fault has the faults of its plan.
-use Rattle.afdx_config.proofs.Names.{◌≡◌, ◌<◌, List, [], ◌∷◌, Bool, false, map, refl, ap, sym, ◌∙◌, AllByRecursion, list_any, ◌||◌, ◌&&◌, ◌==◌, is_none, Members, Plan, cells_of, cells_show, plan_of, PlanRule, breaks, link_whole, port_whole, whole, plan_rules, Top, Link, Port, document_fields, link_fields, port_fields, is_version_2, IsSoundTable, RulesAgree, Finding, ConfigFault, eq-eqb, fault_number, findings, has, codes, link_of, port_of, get_member, plan_shows, None}
-use Rattle.std.proofs.lemmas.Bool.{or_parts}
-use Rattle.std.proofs.lemmas.List.Elements.{All-map}
-use Rattle.afdx_config.specs.declared.format.Content.TheVariants.{Networks, Checksum}
+use Rattle.afdx_config.proofs.Names.{◌≡◌, ◌<◌, List, [], ◌∷◌, Bool, false, map, refl, ap, sym, ◌∙◌, AllByRecursion, list_any, ◌||◌, ◌&&◌, ◌==◌, is_none, Members, Plan, cells_of, cells_show, plan_of, PlanRule, breaks, link_whole, port_whole, whole, plan_rules, Top, Link, Port, document_fields, link_fields, port_fields, is_version_2, IsSoundTable, RulesAgree, Finding, ConfigFault, eq-eqb, fault_number, findings, has, codes, link_of, port_of, get_member, plan_shows, None, or_parts, All-map, Networks, Checksum, field, networks_under, checksum_under, AreInRange, plan_in, Rows, IsPlan, IsLink, IsPort, Ms1, Both, Sampling, Omitted, Unbroken, valid}
 use Rattle.afdx_config.specs.Cells.{link_row, port_row}
 use Rattle.afdx_config.specs.Findings.{value_findings}
-use Rattle.afdx_config.specs.Format.{field}
-use Rattle.afdx_config.specs.Tables.{networks_under, checksum_under}
-use Rattle.afdx_config.specs.Seen.{AreInRange, plan_in}
-use Rattle.afdx_config.specs.declared.rows.Rows.{Rows}
-use Rattle.afdx_plan.specs.Config.{IsPlan}
-use Rattle.afdx_plan.specs.Plan.{IsLink, IsPort}
-use Rattle.afdx_plan.specs.declared.link_plan.Bag.TheVariants.{Ms1}
-use Rattle.afdx_plan.specs.declared.link_plan.Networks.TheVariants.{Both}
-use Rattle.afdx_plan.specs.declared.port_plan.Kind.TheVariants.{Sampling}
-use Rattle.afdx_plan.specs.declared.port_plan.UdpSum.TheVariants.{Omitted}
-use Rattle.afdx_plan.proofs.PlanLemmas.{Unbroken, valid}
 use Rattle.afdx_config.proofs.FirstLemmas.{no_value}
 use Rattle.afdx_config.proofs.ShownLemmas.{faults_are_found}
 use Rattle.afdx_config.proofs.SoundLemmas.{known, known_in, none, rows_sound, table_sound}

@@ -1,6 +1,5 @@
 -- The tables and keys of a document, in the code and in the specification.
-use Rattle.afdx_config.proofs.Names.{◌≡◌, ℕ, Bool, ◌||◌, is_none, List, [], ◌∷◌, String, Global, string_bytes, refl, ap, false, map, Bor, BTreeMap, cons_option, filter_map, list_any, as_table, view, items_view, members_view, member_keys, tables_among, has_other_item, keys_of, Value, find, arith, cond, is_some}
-use Rattle.std.proofs.lemmas.List.Sums.{sum_by-cons}
+use Rattle.afdx_config.proofs.Names.{◌≡◌, ℕ, Bool, ◌||◌, is_none, List, [], ◌∷◌, String, Global, string_bytes, refl, ap, false, map, Bor, BTreeMap, cons_option, filter_map, list_any, as_table, view, items_view, members_view, member_keys, tables_among, has_other_item, keys_of, Value, find, arith, cond, is_some, sum_by-cons}
 use Rattle.std.specs.List.{count_by}
 
 -- the keys of a table

@@ -1,10 +1,6 @@
 -- A document whose values have no fault has rows with all values.
-use Rattle.afdx_config.proofs.Names.{◌≡◌, ◌+◌, Bool, true, false, cond, List, [], ◌∷◌, ◌++◌, Option, Some, None, ℕ, refl, sym, ◌∙◌, AllByRecursion, flat_map, unwrap_or, Result, Ok, Err, Members, ConfigFault, Field, field_fault, IsSoundTable, Place, key_finding, each_row}
-use Rattle.afdx_config.specs.Format.{only_in_2}
+use Rattle.afdx_config.proofs.Names.{◌≡◌, ◌+◌, Bool, true, false, cond, List, [], ◌∷◌, ◌++◌, Option, Some, None, ℕ, refl, sym, ◌∙◌, AllByRecursion, flat_map, unwrap_or, Result, Ok, Err, Members, ConfigFault, Field, field_fault, IsSoundTable, Place, key_finding, each_row, only_in_2, result_ok, result_err, arith, nat_tests}
 use Rattle.afdx_config.specs.Findings.{table_findings}
-use Rattle.std.specs.Result.{result_ok, result_err}
-use Rattle.std.proofs.Common.{arith}
-use Rattle.std.proofs.lemmas.Bool.Decides.{nat_tests}
 
 -- two lists are empty if their concatenation is
 pub none : {A : Type 0} (xs ys : List A) → xs ++ ys ≡ [] → (xs ≡ []) × (ys ≡ [])

@@ -1,6 +1,5 @@
 -- What a buffer holds after fragments of one datagram are put into it.
-use Rattle.afdx_frame.proofs.Names.{◌≡◌, ℕ, zero, suc, ◌+◌, ◌-◌, ◌*◌, ◌≤◌, ◌<◌, inl, inr, Bool, true, false, not, List, [], ◌∷◌, length, get_or, refl, sym, ◌∙◌, subst, arith, All, Contains, Option, Some, None, slice_index, if◌then◌else◌, list_any, cases_lt, cases_Bool, false_from_ne_true, get_or-map, get_or-take, get_or-drop, length-map, length-take, length-drop, All-contains, All-contains_itself, All-map, All-head, All-tail, All-weaker, Contains-get_or, Piece, cutting, pieces_from, Fragment, Buffer, empty, covers, put, put_all, joined, bytes_from, bytes_to, fragment_of, fragments_of, AnyOrder, NotBefore}
-use Rattle.std.proofs.lemmas.List.Folds.{list_any_at, list_any_none}
+use Rattle.afdx_frame.proofs.Names.{◌≡◌, ℕ, zero, suc, ◌+◌, ◌-◌, ◌*◌, ◌≤◌, ◌<◌, inl, inr, Bool, true, false, not, List, [], ◌∷◌, length, get_or, refl, sym, ◌∙◌, subst, arith, All, Contains, Option, Some, None, slice_index, if◌then◌else◌, list_any, cases_lt, cases_Bool, false_from_ne_true, get_or-map, get_or-take, get_or-drop, length-map, length-take, length-drop, All-contains, All-contains_itself, All-map, All-head, All-tail, All-weaker, Contains-get_or, Piece, cutting, pieces_from, Fragment, Buffer, empty, covers, put, put_all, joined, bytes_from, bytes_to, fragment_of, fragments_of, AnyOrder, NotBefore, list_any_at, list_any_none}
 use Rattle.afdx_frame.proofs.CuttingLaw.{IsPart, pieces_are, cover_of}
 
 -- the fragment carries bytes of this datagram, at their positions

@@ -1,7 +1,5 @@
 -- A template's headers, once a frame has filled in its fields.
-use Rattle.afdx_frame.proofs.Names.{◌≡◌, ℕ, ◌+◌, List, length, take, set, arith, nat_lt, true, PortPlan, link_header, take-set-lt, Net, Piece, internet_header, ◌++◌, append_assoc, take-append_seam}
-use Rattle.std.proofs.lemmas.List.{take-take}
-use Rattle.afdx_plan.specs.Plan.{IsPort}
+use Rattle.afdx_frame.proofs.Names.{◌≡◌, ℕ, ◌+◌, List, length, take, set, arith, nat_lt, true, PortPlan, link_header, take-set-lt, Net, Piece, internet_header, ◌++◌, append_assoc, take-append_seam, take-take, IsPort}
 use Rattle.afdx_frame.proofs.Says.{length-internet}
 
 -- One byte that is set within the first n.

@@ -1,7 +1,5 @@
 -- Each frame gives back the fields that it was written with.
-use Rattle.afdx_frame.proofs.Names.{◌≡◌, ℕ, ◌+◌, ◌%◌, ◌<◌, Option, Some, None, List, length, refl, arith, ◌-◌, ◌/◌, ◌≤◌, true, [], ◌∷◌, ◌++◌, take, drop, get_or, replicate, max, sym, ap, ◌∙◌, append_assoc, slice_index, nat_le, PortPlan, Piece, word_sum, checksum, addresses, header_front, internet_header, interface_byte, link_header, datagram, unnumbered, frame_of, fragment_word, drop-drop, drop_at, take_at, length-take, length-drop, get_or-drop, get_or_append_left, get_or-replicate, get_or_push, get_or-append_right, length-replicate, identification, Net, word_at, total_length, fragment_field, HasLinkHeader, HasAddresses, HasZeroPadding, IsFrameOf, IsPiece, Says}
-use Rattle.std.proofs.Common.{length-append}
-use Rattle.afdx_plan.specs.Plan.{IsPort}
+use Rattle.afdx_frame.proofs.Names.{◌≡◌, ℕ, ◌+◌, ◌%◌, ◌<◌, Option, Some, None, List, length, refl, arith, ◌-◌, ◌/◌, ◌≤◌, true, [], ◌∷◌, ◌++◌, take, drop, get_or, replicate, max, sym, ap, ◌∙◌, append_assoc, slice_index, nat_le, PortPlan, Piece, word_sum, checksum, addresses, header_front, internet_header, interface_byte, link_header, datagram, unnumbered, frame_of, fragment_word, drop-drop, drop_at, take_at, length-take, length-drop, get_or-drop, get_or_append_left, get_or-replicate, get_or_push, get_or-append_right, length-replicate, identification, Net, word_at, total_length, fragment_field, HasLinkHeader, HasAddresses, HasZeroPadding, IsFrameOf, IsPiece, Says, length-append, IsPort}
 use Rattle.afdx_frame.proofs.Datagram.{length-udp_header}
 
 -- The two addresses have eight bytes.

@@ -1,9 +1,5 @@
 -- Twins of any frame, and the fragments of a list of messages and of a cut.
-use Rattle.afdx_frame.proofs.Names.{◌≡◌, ◌≢◌, ℕ, suc, ◌+◌, ◌%◌, ◌≤◌, List, [], ◌∷◌, length, map, refl, arith, slice_index, length-set, length-take, get_or-set_same, get_or-set_other, set-get_or, set-set, set_past, map-append, take-set-lt, identification, Net, interface_byte, link_header, unnumbered, word_at, link_in, sub_in, number_in, Sent, blanked, fragments_at, fragments_from, uncut, ◌-◌, ◌++◌, append_assoc, append-nil, Option, MatchOption, PortPlan, cutting, pieces_from, pieces_left, Cutting, TakesFirst, SameMessage, fragments_left, take-append_seam, frame_of}
-use Rattle.std.proofs.lemmas.Simd.{map-map}
-use Rattle.afdx_frame.specs.Header.{twin_of}
-use Rattle.std.proofs.Common.{length-append}
-use Rattle.afdx_frame.specs.Template.{Buffered}
+use Rattle.afdx_frame.proofs.Names.{◌≡◌, ◌≢◌, ℕ, suc, ◌+◌, ◌%◌, ◌≤◌, List, [], ◌∷◌, length, map, refl, arith, slice_index, length-set, length-take, get_or-set_same, get_or-set_other, set-get_or, set-set, set_past, map-append, take-set-lt, identification, Net, interface_byte, link_header, unnumbered, word_at, link_in, sub_in, number_in, Sent, blanked, fragments_at, fragments_from, uncut, ◌-◌, ◌++◌, append_assoc, append-nil, Option, MatchOption, PortPlan, cutting, pieces_from, pieces_left, Cutting, TakesFirst, SameMessage, fragments_left, take-append_seam, frame_of, map-map, twin_of, length-append, Buffered}
 
 -- A word without that byte is the same in a twin.
 pub twin_word : (net : Net) (frame : List ℕ) (k : ℕ) → k ≢ 11 → k + 1 ≢ 11 → word_at (twin_of net frame) k ≡ word_at frame k

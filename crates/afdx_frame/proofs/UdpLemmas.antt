@@ -1,7 +1,6 @@
 -- A generated checksum passes the receiver's check, and a changed word fails it.
-use Rattle.afdx_frame.proofs.Names.{◌≡◌, ℕ, zero, suc, ◌+◌, ◌*◌, ◌⊎◌, List, [], ◌∷◌, ◌++◌, length, ap, ◌∙◌, arith, PortPlan, OneUdpChecksum, word_sum, udp_checksum, datagram, datagram_len, udp_front, udp_header, udp_sum, ChecksumsPass, ReassembledPass, ChangedWordsFail}
+use Rattle.afdx_frame.proofs.Names.{◌≡◌, ℕ, zero, suc, ◌+◌, ◌*◌, ◌⊎◌, List, [], ◌∷◌, ◌++◌, length, ap, ◌∙◌, arith, PortPlan, OneUdpChecksum, word_sum, udp_checksum, datagram, datagram_len, udp_front, udp_header, udp_sum, ChecksumsPass, ReassembledPass, ChangedWordsFail, Generated}
 use Rattle.std.proofs.lemmas.List.{length-append}
-use Rattle.afdx_plan.specs.declared.port_plan.UdpSum.TheVariants.{Generated}
 use Rattle.afdx_frame.proofs.Buffers.{any_order_holds}
 use Rattle.afdx_frame.proofs.Datagram.{length-udp_header}
 

@@ -1,8 +1,5 @@
 -- The worked cases of the laws, by computation.
-use Rattle.afdx_frame.proofs.Names.{[], ◌∷◌, refl, arith, inr, checksum, udp_checksum, cutting, piece_at, pieces_left, A, addresses, header_front, internet_header, link_header, udp_header, datagram, unnumbered, udp_sum, fragments_at, IsPiece, IsWordChanged}
-use Rattle.afdx_frame.specs.Worked.{ChecksOneHeader, CutsInTwo, KeepsTwoPieces, long_sent, TurnsOneFrame, SaysItsFields, GrowsByOne, CutsBoth, TurnsThreeFragments, ThreePieces, MissesTheMiddle, ChecksThreeDatagrams, first_datagram, damaged_datagram}
-use Rattle.afdx_plan.specs.Demo.{demo_port}
-use Rattle.afdx_plan.proofs.DemoPlan.{demo_port_is}
+use Rattle.afdx_frame.proofs.Names.{[], ◌∷◌, refl, arith, inr, checksum, udp_checksum, cutting, piece_at, pieces_left, A, addresses, header_front, internet_header, link_header, udp_header, datagram, unnumbered, udp_sum, fragments_at, IsPiece, IsWordChanged, ChecksOneHeader, CutsInTwo, KeepsTwoPieces, long_sent, TurnsOneFrame, SaysItsFields, GrowsByOne, CutsBoth, TurnsThreeFragments, ThreePieces, MissesTheMiddle, ChecksThreeDatagrams, first_datagram, damaged_datagram, demo_port, demo_port_is}
 use Rattle.afdx_frame.proofs.Says.{says}
 
 pub checks_one_header : ChecksOneHeader

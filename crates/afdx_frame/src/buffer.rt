@@ -2,6 +2,8 @@
 ghost use Rattle.std.specs.Prelude.{◌≡◌, ℕ, ◌≤◌, List, [], length, take, ◌+◌, ◌++◌, nat_le, if◌then◌else◌};
 ghost use Rattle.afdx_frame.specs.Header.{twin_of};
 ghost use Rattle.arrayvec.specs.ArrayVec.{array_vec_len};
+ghost use Rattle.afdx_frame.specs.declared.net.TheConstants.{GREATEST_FRAME};
+ghost use Rattle.afdx_frame.specs.Template.{Buffered};
 
 use crate::field;
 use crate::net::{Frame, GREATEST_FRAME, Net, SHORTEST_FRAME};
@@ -19,10 +21,6 @@ pub struct FrameBuffer {
 }
 
 impl Model for FrameBuffer {
-    ghost use Rattle.std.specs.Prelude.{◌≤◌, take};
-    ghost use Rattle.afdx_frame.specs.declared.net.TheConstants.{GREATEST_FRAME};
-    ghost use Rattle.afdx_frame.specs.Template.{Buffered};
-
     ghost Value = { Buffered };
 
     ghost view = { λ b. record { items = take b.len b.bytes } };

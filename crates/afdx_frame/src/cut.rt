@@ -5,7 +5,7 @@ ghost use Rattle.afdx_frame.specs.Frame.{frame_of, greatest_message, greatest_da
 ghost use Rattle.afdx_frame.specs.Header.{IsFrameOf};
 ghost use Rattle.afdx_frame.specs.Fragments.{blanked, fragments_at, fragments_left};
 ghost use Rattle.afdx_frame.specs.declared.net.Net.{Net as Network};
-ghost use Rattle.afdx_frame.specs.Cutting.{cut_of, cutting, pieces_from, pieces_left, piece_at, SameMessage, TakesFirst, whole, written};
+ghost use Rattle.afdx_frame.specs.Cutting.{cut_of, cutting, pieces_from, pieces_left, piece_at, SameMessage, TakesFirst, whole, written, Remains, IsCut, Cutting};
 
 use crate::buffer::FrameBuffer;
 use crate::field::Piece;
@@ -27,8 +27,6 @@ pub struct Rest {
 }
 
 impl Model for Rest {
-    ghost use Rattle.afdx_frame.specs.Cutting.{Remains, IsCut};
-
     ghost Value = { Remains };
 
     ghost view = { λ r. record {
@@ -49,10 +47,6 @@ pub struct Cut {
 }
 
 impl Model for Cut {
-    ghost use Rattle.std.specs.Prelude.{◌≡◌, ◌+◌, length};
-    ghost use Rattle.afdx_plan.specs.Plan.{IsPort};
-    ghost use Rattle.afdx_frame.specs.Cutting.{Cutting, cut_of};
-
     ghost Value = { Cutting };
 
     ghost view = { λ c. cut_of c.port c.bytes.items c.rest };

@@ -2,7 +2,9 @@
 ghost use Rattle.std.specs.Prelude.{◌≡◌, take};
 ghost use Rattle.afdx_plan.specs.Plan.{IsPort};
 ghost use Rattle.afdx_plan.specs.Address.{destination_address};
-ghost use Rattle.afdx_frame.specs.Template.{unfilled};
+ghost use Rattle.afdx_frame.specs.Template.{unfilled, Origin, IsTemplate};
+ghost use Rattle.afdx_frame.specs.Checksum.{word_sum};
+ghost use Rattle.afdx_frame.specs.Frame.{addresses};
 
 use crate::net::{GREATEST_FRAME, INTERFACE_A};
 use crate::sum::word_sum;
@@ -22,10 +24,6 @@ pub struct Template {
 }
 
 impl Model for Template {
-    ghost use Rattle.afdx_frame.specs.Checksum.{word_sum};
-    ghost use Rattle.afdx_frame.specs.Frame.{addresses};
-    ghost use Rattle.afdx_frame.specs.Template.{Origin, unfilled, IsTemplate};
-
     ghost Value = { Origin };
 
     ghost view = { λ t. record { end_system = t.end_system; port = t.port } };

@@ -1,5 +1,7 @@
 //! The block of memory that tells an end system from all others.
-ghost use Rattle.std.specs.Prelude.{◌≡◌, IfOk};
+ghost use Rattle.std.specs.Prelude.{◌≡◌, IfOk, ◌<◌, vec_capacity};
+ghost use Rattle.std_alloc.specs.Vec.{vec_ptr};
+ghost use denote.RawPtr.{Ptr};
 
 use std::alloc::{AllocError, Global};
 use std::marker::Model;
@@ -14,10 +16,6 @@ pub struct Block {
 }
 
 impl Model for Block {
-    ghost use Rattle.std.specs.Prelude.{◌<◌, vec_capacity};
-    ghost use Rattle.std_alloc.specs.Vec.{vec_ptr};
-    ghost use denote.RawPtr.{Ptr};
-
     ghost Value = { Ptr };
 
     ghost view = { λ b. vec_ptr b.bytes.value };

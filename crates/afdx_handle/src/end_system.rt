@@ -1,5 +1,12 @@
 //! An end system, as a handle owns it.
-ghost use Rattle.std.specs.Prelude.{◌≡◌, ℕ, length};
+ghost use Rattle.std.specs.Prelude.{◌≡◌, ℕ, length, vec_capacity, ◌≢◌, ◌<◌, ◌≤◌, ◌+◌, ◌⊎◌, ◌↔◌, false, true};
+ghost use Rattle.afdx_handle.specs.Polling.{tx_of, is_gathered};
+ghost use Rattle.afdx_handle.specs.EndSystem.{EndView, IsEndSystem, end_view, PollsEnd, ClosesEnd, FailsEnd, before_of, made_for, made_at, IsAllSent};
+ghost use Rattle.redundant_mux.specs.Lines.{is_alive};
+ghost use Rattle.afdx_tx.specs.Calls.{LacksSub};
+ghost use Rattle.afdx_handle.specs.Numbers.{line_of, standing_bits};
+ghost use Rattle.afdx_handle.specs.Listing.{with_front, all_made, bytes_of, lengths_of};
+ghost use Rattle.std.specs.List.{concat};
 
 use crate::answer::{
     BOTH_DOWN, DONE, GATHERED, NO_SUB, NOT_GATHERED, SMALL_BUFFER, TIME_BACK, standing_bits,
@@ -27,10 +34,6 @@ pub struct EndSystem {
 }
 
 impl Model for EndSystem {
-    ghost use Rattle.std.specs.Prelude.{vec_capacity};
-    ghost use Rattle.afdx_handle.specs.Polling.{tx_of, is_gathered};
-    ghost use Rattle.afdx_handle.specs.EndSystem.{EndView, IsEndSystem, end_view};
-
     ghost Value = { EndView };
 
     ghost view = { λ e. end_view (is_gathered e.stage) (tx_of e.stage) e.ports.items (vec_capacity e.ports)
@@ -41,14 +44,6 @@ impl Model for EndSystem {
 }
 
 impl EndSystem {
-    ghost use Rattle.std.specs.Prelude.{◌≡◌, ◌≢◌, ◌<◌, ◌≤◌, ◌+◌, ◌⊎◌, ◌↔◌, false, true, length};
-    ghost use Rattle.redundant_mux.specs.Lines.{is_alive};
-    ghost use Rattle.afdx_tx.specs.Calls.{LacksSub};
-    ghost use Rattle.afdx_handle.specs.Numbers.{line_of, standing_bits};
-    ghost use Rattle.afdx_handle.specs.EndSystem.{PollsEnd, ClosesEnd, FailsEnd, before_of, made_for, made_at, IsAllSent};
-    ghost use Rattle.afdx_handle.specs.Listing.{with_front, all_made, bytes_of, lengths_of};
-    ghost use Rattle.std.specs.List.{concat};
-
     /// Gives each link its turn at `now`, in microseconds, and writes the networks that are up
     /// afterwards, as bits. `TIME_BACK` if `now` is before an earlier poll; `BOTH_DOWN`, with no
     /// bits, if both networks have failed before. Both leave it unchanged.

@@ -1,5 +1,14 @@
 //! The emitter of an end system, before and after its ports are gathered.
-ghost use Rattle.std.specs.Prelude.{◌≡◌, ℕ};
+ghost use Rattle.std.specs.Prelude.{◌≡◌, ℕ, ◌≤◌, ◌↔◌, false, true, IsErr, OnErr, OnOk, IfOk, IsNone, IfSome};
+ghost use Rattle.redundant_mux.specs.Lines.{is_alive, with_failing};
+ghost use Rattle.afdx_tx.specs.Emitter.{LacksLink};
+ghost use Rattle.afdx_tx.specs.Calls.{TellsNextDue};
+ghost use Rattle.afdx_legal.specs.Counting.{counts_in};
+ghost use Rattle.afdx_legal.specs.Streams.{own_stream};
+ghost use Rattle.afdx_handle.specs.Numbers.{line_of};
+ghost use Rattle.afdx_tx.specs.Phases.{Runs, StaysLawful};
+ghost use Rattle.afdx_tx.specs.Report.{PollsUnreported};
+ghost use Rattle.afdx_handle.specs.Polling.{tx_of, is_gathered};
 
 use afdx_frame::Net;
 use afdx_plan::{Config, VlId};
@@ -25,17 +34,6 @@ macro_rules! in_phase {
 }
 
 impl Stage {
-    ghost use Rattle.std.specs.Prelude.{◌≡◌, ◌≤◌, ◌↔◌, false, true, IsErr, OnErr, OnOk, IfOk, IsNone, IfSome};
-    ghost use Rattle.redundant_mux.specs.Lines.{is_alive, with_failing};
-    ghost use Rattle.afdx_tx.specs.Emitter.{LacksLink};
-    ghost use Rattle.afdx_tx.specs.Calls.{TellsNextDue};
-    ghost use Rattle.afdx_legal.specs.Counting.{counts_in};
-    ghost use Rattle.afdx_legal.specs.Streams.{own_stream};
-    ghost use Rattle.afdx_handle.specs.Numbers.{line_of};
-    ghost use Rattle.afdx_tx.specs.Phases.{Runs, StaysLawful};
-    ghost use Rattle.afdx_tx.specs.Report.{PollsUnreported};
-    ghost use Rattle.afdx_handle.specs.Polling.{tx_of, is_gathered};
-
     /// The time of the last poll, in microseconds.
     pub fn now(&self) -> u64
         ensures { result ≡ (tx_of self.now).moment }

@@ -1,7 +1,5 @@
 -- The account of a policer: a spaced stream on its way is on time and passes, and what passes is paid for.
-use Rattle.afdx_laws.proofs.Names.{ℕ, ◌≡◌, ◌+◌, ◌-◌, ◌*◌, ◌≤◌, List, [], ◌∷◌, map, arith, refl, ap, ◌∙◌, suc, mul-le, Arrival, Rule, Account, Charge, by_bytes, by_frames, full, filled, paid, price, passed, Passage, arrival, IsOnTime, AreOnTime, NoneDropped, IsUpTo, IsOnItsWay, rule_around, StreamPasses, Option, Some, All, AllZip, Entry, stamp_of, IsSpaced, inl, inr, cases_lt, le-leb, sum_by-cons, limit, cost, AreBetween, NoMorePasses}
-use Rattle.std.proofs.Math.Nat.{mul-add, le-min}
-use Rattle.vl_shaper.specs.declared.shaper.Stamp.{Stamp}
+use Rattle.afdx_laws.proofs.Names.{ℕ, ◌≡◌, ◌+◌, ◌-◌, ◌*◌, ◌≤◌, List, [], ◌∷◌, map, arith, refl, ap, ◌∙◌, suc, mul-le, Arrival, Rule, Account, Charge, by_bytes, by_frames, full, filled, paid, price, passed, Passage, arrival, IsOnTime, AreOnTime, NoneDropped, IsUpTo, IsOnItsWay, rule_around, StreamPasses, Option, Some, All, AllZip, Entry, stamp_of, IsSpaced, inl, inr, cases_lt, le-leb, sum_by-cons, limit, cost, AreBetween, NoMorePasses, mul-add, le-min, Stamp}
 
 price_le : (charge : Charge) (rule : Rule) (frame : Arrival) → frame.size ≤ rule.lmax → price charge rule frame ≤ rule.lmax * rule.gap
 price_le by_bytes rule frame h = grind (arith, mul-le)

@@ -1,6 +1,5 @@
 -- Fragments in order complete their datagrams in order, and need one buffer.
-use Rattle.afdx_laws.proofs.Names.{◌≡◌, ℕ, zero, suc, ◌+◌, ◌%◌, ◌≤◌, ◌<◌, inl, inr, true, nat_eq, List, [], ◌∷◌, ◌++◌, length, map, take, refl, ap, sym, ◌∙◌, arith, All, Some, None, nat_tests, cases_lt, cases_Bool, append_assoc, length-append, length-map, identification, pieces_from, cutting_some, Fragment, Buffer, empty, put, put_all, datagram_in, fragment_of, fragments_of, IsPrefixOf, with_buffer, kept_in, delivered, of_sub, keyed, sent_from, HasByte, AreGiven, InOrder, buffers_after}
-use Rattle.afdx_frame.proofs.Buffers.{any_order_holds}
+use Rattle.afdx_laws.proofs.Names.{◌≡◌, ℕ, zero, suc, ◌+◌, ◌%◌, ◌≤◌, ◌<◌, inl, inr, true, nat_eq, List, [], ◌∷◌, ◌++◌, length, map, take, refl, ap, sym, ◌∙◌, arith, All, Some, None, nat_tests, cases_lt, cases_Bool, append_assoc, length-append, length-map, identification, pieces_from, cutting_some, Fragment, Buffer, empty, put, put_all, datagram_in, fragment_of, fragments_of, IsPrefixOf, with_buffer, kept_in, delivered, of_sub, keyed, sent_from, HasByte, AreGiven, InOrder, buffers_after, any_order_holds}
 use Rattle.afdx_laws.proofs.ListLemmas.{cons_parts, nil_begins}
 
 -- buffers are the same for a sub-VL

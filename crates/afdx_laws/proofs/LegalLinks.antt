@@ -1,9 +1,6 @@
 -- Each link of a plan, by what was transmitted legally.
-use Rattle.afdx_laws.proofs.Names.{◌≡◌, ℕ, ◌≤◌, nat_eq, List, length, map, take, drop, refl, ap, arith, ◌<◌, Bool, true, [], ◌∷◌, All, filter, take-append_seam, take-append-drop, length-map, take_all, take-map, All-weaker, All-map, All-filter, map-map, LinkPlan, Net, A, B, blanked, Sent, link_in, sub_in, twin_of, twin_same, twin_link, Entry, side, those_with, link_stream, sub_stream, told, IsKnown, AreKnown, AreTwins, Accepted, IsLegal, IsLegalOn, known_all, with_append, with_map, numbered_map, IsLong, IsOfNet, IsHanded, AreHanded, frames_of, id_at, piece_room, IsHandedOver, LegalArrive, LegalDespiteLoss, Plan, IsPlan, link_plan_at, IsLink, IsQueued, fragments, twin_sub, own_stream, longer, IsAllowed, OwnListsArrive}
-use Rattle.afdx_legal.proofs.StreamLemmas.{on_both_is}
+use Rattle.afdx_laws.proofs.Names.{◌≡◌, ℕ, ◌≤◌, nat_eq, List, length, map, take, drop, refl, ap, arith, ◌<◌, Bool, true, [], ◌∷◌, All, filter, take-append_seam, take-append-drop, length-map, take_all, take-map, All-weaker, All-map, All-filter, map-map, LinkPlan, Net, A, B, blanked, Sent, link_in, sub_in, twin_of, twin_same, twin_link, Entry, side, those_with, link_stream, sub_stream, told, IsKnown, AreKnown, AreTwins, Accepted, IsLegal, IsLegalOn, known_all, with_append, with_map, numbered_map, IsLong, IsOfNet, IsHanded, AreHanded, frames_of, id_at, piece_room, IsHandedOver, LegalArrive, LegalDespiteLoss, Plan, IsPlan, link_plan_at, IsLink, IsQueued, fragments, twin_sub, own_stream, longer, IsAllowed, OwnListsArrive, on_both_is, longer_stream, IsReleased}
 use Rattle.afdx_laws.proofs.HandedOver.{own_twins, twin_twin, handed_arrive_holds, handed_despite_loss_holds}
-use Rattle.afdx_legal.specs.Streams.{longer as longer_stream}
-use Rattle.afdx_legal.specs.Accepted.{IsReleased}
 
 abbrev frame_of_entry : Entry → List ℕ
 frame_of_entry e = e.frame

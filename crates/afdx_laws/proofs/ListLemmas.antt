@@ -1,8 +1,5 @@
 -- Lists, numbers that differ, and worked cases in which premises fail.
-use Rattle.afdx_laws.proofs.Names.{◌≡◌, ℕ, ◌<◌, false, nat_eq, List, [], ◌∷◌, ◌++◌, length, map, refl, subst, arith, All, take-append_seam, All-take, zero, suc, ◌+◌, ◌-◌, ◌≤◌, true, Option, Some, None, sequence_number, next_number, ahead, is_valid}
-use Rattle.std.proofs.Math.Seq.{drop-append_seam}
-use Rattle.std.proofs.lemmas.List.Elements.{All-drop}
-use Rattle.afdx_laws.specs.Rows.{BothFail, NeedsEach}
+use Rattle.afdx_laws.proofs.Names.{◌≡◌, ℕ, ◌<◌, false, nat_eq, List, [], ◌∷◌, ◌++◌, length, map, refl, subst, arith, All, take-append_seam, All-take, zero, suc, ◌+◌, ◌-◌, ◌≤◌, true, Option, Some, None, sequence_number, next_number, ahead, is_valid, drop-append_seam, All-drop, BothFail, NeedsEach}
 
 pub cons_parts : {X : Type 0} {x y : X} {xs ys : List X} → x ∷ xs ≡ y ∷ ys → (x ≡ y) × (xs ≡ ys)
 cons_parts e = (cc, cc)

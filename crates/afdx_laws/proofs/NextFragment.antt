@@ -1,10 +1,5 @@
 -- The next fragment of a message comes within a round of the sub-VLs.
-use Rattle.afdx_laws.proofs.Names.{◌≡◌, ◌≢◌, ℕ, zero, suc, ◌+◌, ◌*◌, ◌≤◌, ◌<◌, true, false, eqb, List, [], ◌∷◌, ◌++◌, length, map, refl, subst, arith, All, AllByRecursion, IsDistinct, list_any, nat_tests, ne_eqb, length-map, link_plan_at, bag_micros, LinkPlan, sub_in, Entry, sub_stream, link_stream, id_at}
-use Rattle.std.proofs.lemmas.Map.Keys.{IsDistinct-cons, IsDistinct-from_apart}
-use Rattle.std.proofs.lemmas.Map.Steps.{length-le_from_distinct_below}
-use Rattle.afdx_legal.specs.Streams.{before_next, IsFollowedInTurn, TakesTurns}
-use Rattle.afdx_laws.specs.NextFragment.{AreNeighbours, IsOfOneOf, NextInARound, FollowWithin, NextInTime, link_wait, longest_wait, NextInPlan, LieTwoGapsApart}
-use Rattle.afdx_legal.specs.Worked.{TurnsAreTold}
+use Rattle.afdx_laws.proofs.Names.{◌≡◌, ◌≢◌, ℕ, zero, suc, ◌+◌, ◌*◌, ◌≤◌, ◌<◌, true, false, eqb, List, [], ◌∷◌, ◌++◌, length, map, refl, subst, arith, All, AllByRecursion, IsDistinct, list_any, nat_tests, ne_eqb, length-map, link_plan_at, bag_micros, LinkPlan, sub_in, Entry, sub_stream, link_stream, id_at, IsDistinct-cons, IsDistinct-from_apart, length-le_from_distinct_below, before_next, IsFollowedInTurn, TakesTurns, AreNeighbours, IsOfOneOf, NextInARound, FollowWithin, NextInTime, link_wait, longest_wait, NextInPlan, LieTwoGapsApart, TurnsAreTold}
 use Rattle.afdx_laws.proofs.ListLemmas.{all_back, all_front}
 use Rattle.afdx_laws.proofs.LegalSpacing.{stream_within}
 

@@ -1,10 +1,9 @@
 -- What is transmitted of a link on one network arrives from that network, and of links on both nothing is cut.
-use Rattle.afdx_laws.proofs.Names.{◌≡◌, ℕ, List, [], ◌∷◌, ◌++◌, length, map, refl, ap, subst, arith, All, take-append_seam, Plan, Net, A, B, number_in, twin_of, Entry, IsPrefixOf, Accepted, begin, received, other, carried, IsNear, most_carried, messages_in, AreFirst, IsOfNet, IsHanded, id_at, piece_room, frames_of, handed_to, all_from, IsHandedOver, OneNetworkArrives, ◌≤◌, ◌<◌, true, take, nat_tests, length-map, length-take, take_all, LinkPlan, link_in, twin_twice, side, link_stream, IsKnown, AreKnown, is_on_both, on_both, AreTwins, own_stream, IsOnBoth, AllOnBoth, map-map}
+use Rattle.afdx_laws.proofs.Names.{◌≡◌, ℕ, List, [], ◌∷◌, ◌++◌, length, map, refl, ap, subst, arith, All, take-append_seam, Plan, Net, A, B, number_in, twin_of, Entry, IsPrefixOf, Accepted, begin, received, other, carried, IsNear, most_carried, messages_in, AreFirst, IsOfNet, IsHanded, id_at, piece_room, frames_of, handed_to, all_from, IsHandedOver, OneNetworkArrives, ◌≤◌, ◌<◌, true, take, nat_tests, length-map, length-take, take_all, LinkPlan, link_in, twin_twice, side, link_stream, IsKnown, AreKnown, is_on_both, on_both, AreTwins, own_stream, IsOnBoth, AllOnBoth, map-map, list_any_at}
 use Rattle.afdx_laws.proofs.ListLemmas.{cons_parts, cons_same}
 use Rattle.afdx_laws.proofs.Arriving.{messages_arrive_holds}
 use Rattle.afdx_laws.proofs.HandedOver.{own_twins, sending_to}
 use Rattle.afdx_laws.proofs.LegalLinks.{are_handed, stream_side, stream_front}
-use Rattle.std.proofs.lemmas.List.Folds.{list_any_at}
 use Rattle.afdx_legal.specs.Streams.{longer}
 
 carried_all : (net : Net) (frames : List (List ℕ)) → carried net (all_from net frames) ≡ frames

@@ -1,7 +1,5 @@
 -- What is read of a frame is what went in.
-use Rattle.afdx_laws.proofs.Names.{◌≡◌, ℕ, zero, suc, inl, inr, ◌+◌, ◌-◌, ◌≤◌, List, [], ◌∷◌, ◌++◌, length, map, drop, get_or, arith, All, AllByRecursion, cases_lt, All-from_recursion, map-append, length-append, drop_at, take_more, take_all, IsPort, identification, Net, Piece, step_of, cut_by, pieces_from, udp_header, unnumbered, Sent, blanked, fragments_from, IsPiece, says, total_ok, payload_says, Fragment, fragment_of, fragments_of, sub_in, those_with, with_map, of_sub, keyed, sent_from, IsLong, fragment_in, IsSent, cutting, datagram, fragments_at}
-use Rattle.afdx_frame.proofs.PiecesAre.{pieces_are}
-use Rattle.afdx_frame.proofs.Datagram.{length-udp_header}
+use Rattle.afdx_laws.proofs.Names.{◌≡◌, ℕ, zero, suc, inl, inr, ◌+◌, ◌-◌, ◌≤◌, List, [], ◌∷◌, ◌++◌, length, map, drop, get_or, arith, All, AllByRecursion, cases_lt, All-from_recursion, map-append, length-append, drop_at, take_more, take_all, IsPort, identification, Net, Piece, step_of, cut_by, pieces_from, udp_header, unnumbered, Sent, blanked, fragments_from, IsPiece, says, total_ok, payload_says, Fragment, fragment_of, fragments_of, sub_in, those_with, with_map, of_sub, keyed, sent_from, IsLong, fragment_in, IsSent, cutting, datagram, fragments_at, pieces_are, length-udp_header}
 use Rattle.afdx_laws.proofs.ListLemmas.{cons_parts, cons_same}
 
 -- the frame of a piece carries its fragment

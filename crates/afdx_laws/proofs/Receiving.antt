@@ -1,7 +1,6 @@
 -- What a receiver accepts of what two networks carry.
-use Rattle.afdx_laws.specs.Receiver.{IsFitFor}
 use Rattle.afdx_laws.proofs.ListLemmas.{ahead_old, last, valid_next}
-use Rattle.afdx_laws.proofs.Names.{◌≡◌, ℕ, suc, ◌+◌, ◌≤◌, ◌<◌, max, List, [], ◌∷◌, ◌++◌, length, map, take, get_or, refl, ap, ◌∙◌, arith, drop, Option, All, take_more, append_assoc, append-nil, drop_more, drop_all, get_or-map, length-map, set-set, Net, A, B, sequence_number, Tolerance, State, received, carried, with_seen, with_accepted, seen_on, other, IsStream, IsNear, IsNumbered, IsPrefixOf, numbered_at, interface_byte, twin_of, number_in, twin_number, IsLong, ExactlyOnce}
+use Rattle.afdx_laws.proofs.Names.{IsFitFor, ◌≡◌, ℕ, suc, ◌+◌, ◌≤◌, ◌<◌, max, List, [], ◌∷◌, ◌++◌, length, map, take, get_or, refl, ap, ◌∙◌, arith, drop, Option, All, take_more, append_assoc, append-nil, drop_more, drop_all, get_or-map, length-map, set-set, Net, A, B, sequence_number, Tolerance, State, received, carried, with_seen, with_accepted, seen_on, other, IsStream, IsNear, IsNumbered, IsPrefixOf, numbered_at, interface_byte, twin_of, number_in, twin_number, IsLong, ExactlyOnce}
 
 -- a frame in its place, seen through h
 abbrev pub IsPlaced : {F : Type 0} → (F → ℕ) → (F → F) → List F → ℕ → F → Type 0

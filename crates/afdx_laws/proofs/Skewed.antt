@@ -1,6 +1,5 @@
 -- Frames that are near by the clock are near by their count.
-use Rattle.afdx_laws.proofs.Names.{◌≡◌, ℕ, zero, suc, ◌+◌, ◌-◌, ◌*◌, ◌≤◌, ◌<◌, inl, inr, List, [], ◌∷◌, ◌++◌, length, refl, ap, ◌∙◌, arith, cases_lt, le-div, append_assoc, length-append, Net, A, B, other, carried}
-use Rattle.afdx_laws.specs.Skew.{SkewIsNear, IsDelivered, released_at, arrival_of, both_copies, ComesInTime}
+use Rattle.afdx_laws.proofs.Names.{◌≡◌, ℕ, zero, suc, ◌+◌, ◌-◌, ◌*◌, ◌≤◌, ◌<◌, inl, inr, List, [], ◌∷◌, ◌++◌, length, refl, ap, ◌∙◌, arith, cases_lt, le-div, append_assoc, length-append, Net, A, B, other, carried, SkewIsNear, IsDelivered, released_at, arrival_of, both_copies, ComesInTime}
 use Rattle.afdx_laws.proofs.WorkedMessage.{few_are_near}
 
 -- the arrival of a network's frame number `k`

@@ -1,8 +1,5 @@
 -- The worked transmissions of a plan, by computation: of one message, also complete and on one network, and of two.
-use Rattle.afdx_laws.proofs.Names.{◌≡◌, ℕ, [], ◌∷◌, refl, sym, ◌∙◌, arith, ◌≤◌, List, map, All, IsPlan, Networks, Both, OnlyA, demo_valid, A, B, Sent, Accepted, IsLegal, IsQueued, messages_of, AreCarriedOf, frames_of, IsOn, IsHandedOver, plain_receiver, checksum, cutting, fragments_at, addresses, header_front, internet_header, link_header, udp_header, datagram, unnumbered}
-use Rattle.afdx_plan.specs.Demo.{demo_plan, demo_port, demo_link}
-use Rattle.afdx_legal.specs.Worked.{one_byte_accepted, one_byte}
-use Rattle.afdx_laws.specs.WorkedPlan.{one_entry, two_arrivals, OneIsLegal, LegalDespiteOneLoss, one_own, other_own, OwnComes, OneIsWhole, NeedsAll, demo_on, ComesFromOne, AreTwinsOfOne, two_accepted, swapped_accepted, two_entries, PairHanded, AreSwapped, both_arrive, PairArrives, NeedsLegal, both_from_b, NeedsClose, PassesAGapApart}
+use Rattle.afdx_laws.proofs.Names.{◌≡◌, ℕ, [], ◌∷◌, refl, sym, ◌∙◌, arith, ◌≤◌, List, map, All, IsPlan, Networks, Both, OnlyA, demo_valid, A, B, Sent, Accepted, IsLegal, IsQueued, messages_of, AreCarriedOf, frames_of, IsOn, IsHandedOver, plain_receiver, checksum, cutting, fragments_at, addresses, header_front, internet_header, link_header, udp_header, datagram, unnumbered, demo_plan, demo_port, demo_link, one_byte_accepted, one_byte, one_entry, two_arrivals, OneIsLegal, LegalDespiteOneLoss, one_own, other_own, OwnComes, OneIsWhole, NeedsAll, demo_on, ComesFromOne, AreTwinsOfOne, two_accepted, swapped_accepted, two_entries, PairHanded, AreSwapped, both_arrive, PairArrives, NeedsLegal, both_from_b, NeedsClose, PassesAGapApart}
 use Rattle.afdx_laws.proofs.LegalLinks.{legal_arrive_holds, legal_despite_loss_holds, own_lists_arrive_holds}
 use Rattle.afdx_laws.proofs.ListLemmas.{below_one, nil_isnt_cons, fails_by, needs_each}
 use Rattle.afdx_laws.proofs.WorkedMessage.{few_are_near, not_first, too_few, close_by_test}

@@ -1,6 +1,8 @@
 //! An end system under test, over two networks, and a test of it as a list of steps.
-ghost use Rattle.std.specs.Prelude.{◌≡◌, []};
+ghost use Rattle.std.specs.Prelude.{◌≡◌, [], length};
 ghost use Rattle.afdx_tx.specs.Emitter.{Tx};
+ghost use Rattle.afdx_tx.specs.Ports.{AreOpenedWith};
+ghost use Rattle.status_board.specs.Views.{links_of};
 
 use crate::testing::*;
 use afdx_plan::VlId;
@@ -19,11 +21,6 @@ pub struct Rig<N: Network + Drop> {
 }
 
 impl<N: Network + Drop> Model for Rig<N> {
-    ghost use Rattle.std.specs.Prelude.{◌≡◌, length};
-    ghost use Rattle.afdx_tx.specs.Emitter.{Tx};
-    ghost use Rattle.afdx_tx.specs.Ports.{AreOpenedWith};
-    ghost use Rattle.status_board.specs.Views.{links_of};
-
     ghost Value = { Tx };
 
     ghost view = { λ r. r.tx };

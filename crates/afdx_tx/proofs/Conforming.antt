@@ -1,9 +1,7 @@
 -- A sound emitter's frames conform, for the accepted messages too.
 use Rattle.afdx_tx.proofs.PortMessages.{taken_allowed, accepted_allowed}
 use Rattle.afdx_tx.proofs.SoundEmitter.{alike_queues, sound_legal, sound_streams, sound_turns}
-use Rattle.afdx_tx.proofs.Names.{same_name, same_total, Accepted, Tx, IsSound, Conforms, ℕ, ◌≡◌, List, ◌++◌, arith, sym, subst, append_assoc, get_or_past, cases_lt, Plan, link_plan_at, room_of, Net, A, B, Entry, IsLegalOn, IsLegal, LinkState, held_at, link_at, IsSamePlan, taken_in, AreGathered, accepted_in, Bool, true, false, AreLinksOf, IsRun, BothEndure}
-use Rattle.afdx_legal.specs.Accepted.{AreAllowed}
-use Rattle.afdx_tx.specs.Phases.{AreOfPorts, IsInPhase, KeepsMessages, KeepsPhase, Runs}
+use Rattle.afdx_tx.proofs.Names.{same_name, same_total, Accepted, Tx, IsSound, Conforms, ℕ, ◌≡◌, List, ◌++◌, arith, sym, subst, append_assoc, get_or_past, cases_lt, Plan, link_plan_at, room_of, Net, A, B, Entry, IsLegalOn, IsLegal, LinkState, held_at, link_at, IsSamePlan, taken_in, AreGathered, accepted_in, Bool, true, false, AreLinksOf, IsRun, BothEndure, AreAllowed, AreOfPorts, IsInPhase, KeepsMessages, KeepsPhase, Runs}
 use Rattle.afdx_tx.proofs.NothingLeft.{run_drained}
 use Rattle.afdx_tx.proofs.OwedFragments.{owed_split, untaken}
 

@@ -1,8 +1,5 @@
 -- Each poll of a drain at which a link is due sends one of its frames, until it owes none.
-use Rattle.afdx_tx.proofs.Names.{ℕ, zero, suc, ◌≡◌, ◌≢◌, ◌⊎◌, ◌+◌, ◌<◌, ◌≤◌, List, [], ◌∷◌, ◌++◌, true, length, arith, refl, ap, None, inl, inr, ⊎_elim, cases_eq, length-append, length-map, length_push, LinkPlan, Plan, IsPlan, link_plan_at, bag_micros, room_of, A, sub_in, Sent, fragments, Entry, entry, Lines, BothEndure, any_up, log, both_on, stood_before, IsLater, is_due, Served, Nothing, Released, Lost, AreTurns, turn_endures, turns_endure, latest, link_stream, sub_stream, told, Accepted, Drains, DrainsAt, owed, stream_at, owed_at, AreApartBy, AreDrained, DrainEnds}
-use Rattle.vl_link.proofs.Choosing.{stream_more}
-use Rattle.vl_link.proofs.LinkTurn.{other_turn, turn_at}
-use Rattle.afdx_legal.proofs.StreamLemmas.{latest_push, with_push_in, with_push_out}
+use Rattle.afdx_tx.proofs.Names.{ℕ, zero, suc, ◌≡◌, ◌≢◌, ◌⊎◌, ◌+◌, ◌<◌, ◌≤◌, List, [], ◌∷◌, ◌++◌, true, length, arith, refl, ap, None, inl, inr, ⊎_elim, cases_eq, length-append, length-map, length_push, LinkPlan, Plan, IsPlan, link_plan_at, bag_micros, room_of, A, sub_in, Sent, fragments, Entry, entry, Lines, BothEndure, any_up, log, both_on, stood_before, IsLater, is_due, Served, Nothing, Released, Lost, AreTurns, turn_endures, turns_endure, latest, link_stream, sub_stream, told, Accepted, Drains, DrainsAt, owed, stream_at, owed_at, AreApartBy, AreDrained, DrainEnds, stream_more, other_turn, turn_at, latest_push, with_push_in, with_push_out}
 
 -- the fragments of a sub-VL's accepted messages
 abbrev due_of : ℕ → LinkPlan → (ℕ → List Sent) → ℕ → List (List ℕ)

@@ -1,7 +1,6 @@
 -- From the log to the frames of the two networks.
 use Rattle.afdx_tx.proofs.OwnStreams.{both_twins}
-use Rattle.afdx_tx.proofs.Names.{ℕ, ◌≡◌, ◌+◌, ◌<◌, ◌≤◌, List, [], ◌∷◌, ◌++◌, Bool, length, map, eqb, arith, refl, ap, ◌∙◌, sym, Option, Some, None, map-append, append_assoc, All, All-weaker, All-filter, All-tail, LinkPlan, Plan, IsPlan, link_plan_at, bag_micros, room_of, Net, A, B, link_in, sub_in, Sent, blanked, fragments, twin_link, twin_sub, twin_number, twin_interface, twin_blanked, twin_fragments, length-twin, Entry, Logged, entries_of, side, sent_to, Lines, log, Keeps, IsMirrored, Stamp, link_stream, sub_stream, told, unnumbered_fragments, stamp_of, entry_number, IsNumbered, IsSpaced, IsPrefixOf, Accepted, IsKnown, AreKnown, IsLegalOn, IsLegal, with_append, with_map, known_all, AreCarried}
-use Rattle.afdx_frame.specs.Header.{twin_of}
+use Rattle.afdx_tx.proofs.Names.{ℕ, ◌≡◌, ◌+◌, ◌<◌, ◌≤◌, List, [], ◌∷◌, ◌++◌, Bool, length, map, eqb, arith, refl, ap, ◌∙◌, sym, Option, Some, None, map-append, append_assoc, All, All-weaker, All-filter, All-tail, LinkPlan, Plan, IsPlan, link_plan_at, bag_micros, room_of, Net, A, B, link_in, sub_in, Sent, blanked, fragments, twin_link, twin_sub, twin_number, twin_interface, twin_blanked, twin_fragments, length-twin, Entry, Logged, entries_of, side, sent_to, Lines, log, Keeps, IsMirrored, Stamp, link_stream, sub_stream, told, unnumbered_fragments, stamp_of, entry_number, IsNumbered, IsSpaced, IsPrefixOf, Accepted, IsKnown, AreKnown, IsLegalOn, IsLegal, with_append, with_map, known_all, AreCarried, twin_of}
 use Rattle.afdx_tx.proofs.HandedFronts.{IsFront, log_parts, front_of, unnamed_stream}
 
 -- an entry whose frame is long enough for all fields that are read

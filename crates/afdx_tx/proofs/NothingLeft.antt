@@ -1,6 +1,5 @@
 -- The turns of a drain, and whether all accepted messages are wholly released.
-use Rattle.afdx_tx.proofs.Names.{ℕ, ◌≡◌, ◌<◌, List, Bool, true, false, length, arith, both_ways, cases_Bool, Plan, Entry, Lines, log, IsKnownWhole, LinkState, held_at, link_at, no_link, IsKept, IsSound, Owes, IsAllDone, AreGathered, accepted_in, TellsAllDone, IsOwn, subst, Served, AreTurns, held_view, IsTurn, IsTurnAt, IsRun, AreLinksOf, accepted_view, pace_in, Drains, DrainsAt, IsDrained, turn_seen, turns_seen}
-use Rattle.vl_link.specs.Calls.{TellsLinkDone}
+use Rattle.afdx_tx.proofs.Names.{ℕ, ◌≡◌, ◌<◌, List, Bool, true, false, length, arith, both_ways, cases_Bool, Plan, Entry, Lines, log, IsKnownWhole, LinkState, held_at, link_at, no_link, IsKept, IsSound, Owes, IsAllDone, AreGathered, accepted_in, TellsAllDone, IsOwn, subst, Served, AreTurns, held_view, IsTurn, IsTurnAt, IsRun, AreLinksOf, accepted_view, pace_in, Drains, DrainsAt, IsDrained, turn_seen, turns_seen, TellsLinkDone}
 use Rattle.afdx_tx.proofs.SoundEmitter.{plan_is, count_is}
 use Rattle.afdx_tx.proofs.OwedFragments.{stands_of, lists_of, all_released, owes_taken, owes_rest, owes_not, asked_owes}
 

@@ -1,7 +1,6 @@
 -- New links, while the senders of their ports are made, and an emitter before its first call.
-use Rattle.afdx_tx.proofs.Names.{ℕ, ◌≤◌, true, subst, All, All-head, All-tail, All-filter, All-cons, IsPort, greatest_of, ◌≡◌, ◌+◌, ◌<◌, List, [], ◌∷◌, ◌++◌, length, take, get_or, set, arith, refl, ap, ◌∙◌, below_more, Option, None, and_right, ne_eqb, length-append, get_or_append_left, get_or_push, length-set, LinkPlan, PortPlan, Plan, IsPlan, link_plan_at, port_plan_at, link_place, most_calls, QueueName, SenderView, SubVl, queue_of, Held, LinkState, held_at, link_at, nothing_held, no_link, LacksSender, LinkMakesSender, ports_of_sub, held_queue, link_queues, queues_in, IsOpenedSub, AreOpenedSubs, IsOpenedLink, AreOpenedLinks, queue_at, IsFreshPort, each_set, both_ways, ext_get_or, fresh_lines, fresh_log, fresh_in_step, no_link_plan, AreFreshLinks, plans, IsSound}
+use Rattle.afdx_tx.proofs.Names.{ℕ, ◌≤◌, true, subst, All, All-head, All-tail, All-filter, All-cons, IsPort, greatest_of, ◌≡◌, ◌+◌, ◌<◌, List, [], ◌∷◌, ◌++◌, length, take, get_or, set, arith, refl, ap, ◌∙◌, below_more, Option, None, and_right, ne_eqb, length-append, get_or_append_left, get_or_push, length-set, LinkPlan, PortPlan, Plan, IsPlan, link_plan_at, port_plan_at, link_place, most_calls, QueueName, SenderView, SubVl, queue_of, Held, LinkState, held_at, link_at, nothing_held, no_link, LacksSender, LinkMakesSender, ports_of_sub, held_queue, link_queues, queues_in, IsOpenedSub, AreOpenedSubs, IsOpenedLink, AreOpenedLinks, queue_at, IsFreshPort, each_set, both_ways, ext_get_or, fresh_lines, fresh_log, fresh_in_step, no_link_plan, AreFreshLinks, plans, IsSound, max, fold}
 use Rattle.std.proofs.Math.ListN.{get_or-map}
-use Rattle.std.specs.Prelude.{max, fold}
 use Rattle.afdx_tx.proofs.KeptLinks.{one_count, one_each}
 use Rattle.afdx_tx.proofs.PortLink.{few_ports, IsAt, seats, seats_more, seats_within, on_own, on_sub_vl, seat_at, others_at}
 use Rattle.afdx_tx.proofs.PortMessages.{place_in}

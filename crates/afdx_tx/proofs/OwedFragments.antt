@@ -1,6 +1,5 @@
 -- The fragments of a sub-VL's accepted messages, and its stream.
-use Rattle.afdx_tx.proofs.Names.{ℕ, suc, ◌≡◌, ◌+◌, ◌<◌, List, [], ◌∷◌, ◌++◌, true, length, arith, refl, ap, ◌∙◌, sym, append-nil, append_assoc, map-append, nil_from_length, length-append, room_of, LinkPlan, Net, A, Sent, fragments, fragments_at, fragments_from, Entry, Seen, receiving, gathered, IsKnownWhole, unnumbered_fragments, Held, LinkState, held_at, Asks, sent_of, sent_by, taken_by, IsLinkTied, IsReleased, Owes, accepted_by, IsOwn}
-use Rattle.vl_link.proofs.QueueLooks.{fragments_some}
+use Rattle.afdx_tx.proofs.Names.{ℕ, suc, ◌≡◌, ◌+◌, ◌<◌, List, [], ◌∷◌, ◌++◌, true, length, arith, refl, ap, ◌∙◌, sym, append-nil, append_assoc, map-append, nil_from_length, length-append, room_of, LinkPlan, Net, A, Sent, fragments, fragments_at, fragments_from, Entry, Seen, receiving, gathered, IsKnownWhole, unnumbered_fragments, Held, LinkState, held_at, Asks, sent_of, sent_by, taken_by, IsLinkTied, IsReleased, Owes, accepted_by, IsOwn, fragments_some}
 
 -- the messages known to be left in a queue
 abbrev pub rest_of : Seen → List (ℕ × List ℕ)

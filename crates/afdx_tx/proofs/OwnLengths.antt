@@ -1,9 +1,5 @@
 -- No accepted message is longer than its port may send.
-use Rattle.afdx_tx.proofs.Names.{ℕ, ◌≡◌, ◌<◌, ◌≤◌, arith, List, [], ◌∷◌, Bool, true, false, length, get_or, nat_eq, refl, sym, All, get_or_default, All-nil, All-head, All-tail, Plan, IsPlan, link_plan_at, port_plan_at, link_place, PortPlan, Sent, accepted_in, Tx, IsGatheredTx, PortView, AreOpenedWith, AreGathered, GathersPorts, HasEveryPlace, IsSound, LinkState}
-use Rattle.std.specs.Prelude.{if◌then◌else◌}
-use Rattle.std.proofs.lemmas.List.Elements.{All-cons}
-use Rattle.afdx_legal.specs.Accepted.{IsQueued, AreQueued, AreAllowed, messages_of}
-use Rattle.afdx_tx.specs.Ports.{MaySend}
+use Rattle.afdx_tx.proofs.Names.{ℕ, ◌≡◌, ◌<◌, ◌≤◌, arith, List, [], ◌∷◌, Bool, true, false, length, get_or, nat_eq, refl, sym, All, get_or_default, All-nil, All-head, All-tail, Plan, IsPlan, link_plan_at, port_plan_at, link_place, PortPlan, Sent, accepted_in, Tx, IsGatheredTx, PortView, AreOpenedWith, AreGathered, GathersPorts, HasEveryPlace, IsSound, LinkState, if◌then◌else◌, All-cons, IsQueued, AreQueued, AreAllowed, messages_of, MaySend}
 use Rattle.afdx_tx.proofs.GatheredPorts.{all_gathered, gathers_sound, gathers_tx}
 use Rattle.afdx_tx.proofs.PortLink.{link_within}
 use Rattle.afdx_tx.proofs.PortMessages.{accepted_allowed}

@@ -1,8 +1,5 @@
 -- Each link's stream of the log is the longer of its two, and on links of both networks these are twins.
-use Rattle.afdx_tx.proofs.Names.{ℕ, ◌≡◌, ◌⊎◌, ◌≤◌, List, [], ◌∷◌, length, map, arith, refl, ap, ◌∙◌, sym, inl, inr, ⊎_elim, All, lt-ltb, le-ltb, append-nil, length-append, length-map, nil_from_length, All-tail, Networks, Plan, link_plan_at, Net, A, B, twin_twice, Entry, Logged, entries_of, side, Lines, IsMirrored, link_stream, longer, own_stream, AreOwnStreams, AreCarried, log, get_or, subst, ◌++◌, Bool, take, get_or-map, take_all, take-append-le, take-map, filter-append, LinkPlan, IsPlan, link_in, twin_link, sent_to, Keeps, IsKnown, AreKnown, is_on_both, on_both, AreTwins, known_all}
-use Rattle.afdx_plan.specs.declared.link_plan.Networks.TheVariants.{Both, OnlyA, OnlyB}
-use Rattle.afdx_plan.specs.Plan.{is_both}
-use Rattle.afdx_legal.proofs.StreamLemmas.{on_both_is}
+use Rattle.afdx_tx.proofs.Names.{ℕ, ◌≡◌, ◌⊎◌, ◌≤◌, List, [], ◌∷◌, length, map, arith, refl, ap, ◌∙◌, sym, inl, inr, ⊎_elim, All, lt-ltb, le-ltb, append-nil, length-append, length-map, nil_from_length, All-tail, Networks, Plan, link_plan_at, Net, A, B, twin_twice, Entry, Logged, entries_of, side, Lines, IsMirrored, link_stream, longer, own_stream, AreOwnStreams, AreCarried, log, get_or, subst, ◌++◌, Bool, take, get_or-map, take_all, take-append-le, take-map, filter-append, LinkPlan, IsPlan, link_in, twin_link, sent_to, Keeps, IsKnown, AreKnown, is_on_both, on_both, AreTwins, known_all, Both, OnlyA, OnlyB, is_both, on_both_is}
 use Rattle.afdx_tx.proofs.HandedFronts.{IsFor, IsFront, link_side, front_of, all_handed, whole_alone, picked, all_front, log_parts}
 
 -- The twin of a twin.

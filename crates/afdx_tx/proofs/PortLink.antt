@@ -1,9 +1,5 @@
 -- The link of a port, and the number of the first ports of a configuration that are of a sub-VL.
-use Rattle.afdx_tx.proofs.Names.{ℕ, ◌≡◌, ◌<◌, List, Bool, length, arith, ◌∙◌, sym, refl, Option, Some, None, unwrap_or, eq-eqb, lt-ltb, eqb-true, both_ways, cases_lt, position, position_or_len, ◌==◌, LinkPlan, PortPlan, SendsOver, Plan, IsPlan, HasLink, link_plan_at, link_place, ◌+◌, ◌≤◌, ◌++◌, true, false, ◌&&◌, nat_eq, cond, take, drop, add-zero, and_parts, length-append, take-append-drop, filter-append, All-filter, filter_passes, port_plan_at, IsPort, ports_of_sub, index_of, SubVl, All}
-use Rattle.std.proofs.lemmas.List.Sums.{fails_before_first, length-filter}
-use Rattle.std.proofs.lemmas.List.Quantifiers.{position-Some}
-use Rattle.std.proofs.lemmas.List.Filters.{length-filter_more}
-use Rattle.vl_link.specs.Kept.{IsPortOf}
+use Rattle.afdx_tx.proofs.Names.{ℕ, ◌≡◌, ◌<◌, List, Bool, length, arith, ◌∙◌, sym, refl, Option, Some, None, unwrap_or, eq-eqb, lt-ltb, eqb-true, both_ways, cases_lt, position, position_or_len, ◌==◌, LinkPlan, PortPlan, SendsOver, Plan, IsPlan, HasLink, link_plan_at, link_place, ◌+◌, ◌≤◌, ◌++◌, true, false, ◌&&◌, nat_eq, cond, take, drop, add-zero, and_parts, length-append, take-append-drop, filter-append, All-filter, filter_passes, port_plan_at, IsPort, ports_of_sub, index_of, SubVl, All, fails_before_first, length-filter, position-Some, length-filter_more, IsPortOf}
 
 -- whether the link has this identifier
 abbrev has_id : ℕ → LinkPlan → Bool

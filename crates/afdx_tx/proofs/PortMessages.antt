@@ -1,7 +1,5 @@
 -- The messages of each port that its sub-VL accepted.
-use Rattle.afdx_tx.proofs.Names.{ℕ, suc, ◌≡◌, ◌≢◌, ◌<◌, List, [], ◌∷◌, Bool, true, cond, nat_eq, filter, ◌++◌, drop, drop-cons, length, take, get_or, arith, refl, ap, ◌∙◌, sym, All, Contains, ◌==◌, AllPairs, get_or_at, get_or_default, take-append-drop, All-head, All-tail, All-map, All-contains_itself, filter-append, PortPlan, Plan, IsPlan, link_plan_at, port_plan_at, SendsOver, IsItem, AreItems, part_of, Seen, taken_of, known_of, LinkState, held_at, link_at, sent_of, sent_by, items_taken, Tx, AreLinksOf, HaveOwnItems, taken_in, ports_of_sub, accepted_in, link_place, index_of, held_for}
-use Rattle.std.proofs.lemmas.List.Kept.{AllPairs-filter}
-use Rattle.afdx_legal.specs.Accepted.{IsQueued, AreQueued, messages_of, port_messages}
+use Rattle.afdx_tx.proofs.Names.{ℕ, suc, ◌≡◌, ◌≢◌, ◌<◌, List, [], ◌∷◌, Bool, true, cond, nat_eq, filter, ◌++◌, drop, drop-cons, length, take, get_or, arith, refl, ap, ◌∙◌, sym, All, Contains, ◌==◌, AllPairs, get_or_at, get_or_default, take-append-drop, All-head, All-tail, All-map, All-contains_itself, filter-append, PortPlan, Plan, IsPlan, link_plan_at, port_plan_at, SendsOver, IsItem, AreItems, part_of, Seen, taken_of, known_of, LinkState, held_at, link_at, sent_of, sent_by, items_taken, Tx, AreLinksOf, HaveOwnItems, taken_in, ports_of_sub, accepted_in, link_place, index_of, held_for, AllPairs-filter, IsQueued, AreQueued, messages_of, port_messages}
 use Rattle.afdx_tx.proofs.SoundEmitter.{plan_is, count_is}
 use Rattle.afdx_tx.proofs.PortLink.{link_within, of_sub, on_own, on_sub_vl, seats_more, seats_within}
 

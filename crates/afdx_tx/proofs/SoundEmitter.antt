@@ -1,11 +1,8 @@
 -- An emitter after the turns of its links.
-use Rattle.afdx_tx.proofs.Names.{ℕ, ◌≡◌, ◌<◌, List, length, arith, ap, ◌∙◌, Bool, LinkPlan, Plan, IsPlan, link_plan_at, Lines, log, IsMirrored, Keeps, IsLegal, counts_in, own_stream, AreOwnStreams, LinkState, link_at, no_link, held_at, nothing_held, plan_of_link, AreLinks, AreApart, AreLinksOf, AreWhole, IsSound, taken_in, held_queue, link_queues, queues_in, AreCarried, IsSteady, Net, A, B, Entry, true, with_failing, mirrored_failing}
+use Rattle.afdx_tx.proofs.Names.{ℕ, ◌≡◌, ◌<◌, List, length, arith, ap, ◌∙◌, Bool, LinkPlan, Plan, IsPlan, link_plan_at, Lines, log, IsMirrored, Keeps, IsLegal, counts_in, own_stream, AreOwnStreams, LinkState, link_at, no_link, held_at, nothing_held, plan_of_link, AreLinks, AreApart, AreLinksOf, AreWhole, IsSound, taken_in, held_queue, link_queues, queues_in, AreCarried, IsSteady, Net, A, B, Entry, true, with_failing, mirrored_failing, TakeTurnsOn, TakeTurns, turns_side, takes_turns}
 use Rattle.afdx_tx.proofs.LegalLists.{legal_of}
 use Rattle.afdx_tx.proofs.OwnStreams.{own_streams}
 use Rattle.afdx_tx.proofs.PollTurns.{map_alike, plan_at_is, plans_length}
-use Rattle.afdx_legal.specs.Streams.{TakeTurnsOn, TakeTurns}
-use Rattle.afdx_legal.proofs.StreamLemmas.{turns_side}
-use Rattle.vl_link.proofs.ShownTurns.{takes_turns}
 use Rattle.afdx_tx.proofs.HandedFronts.{front_of}
 
 -- the links have the same plans, and their sub-VLs the same ports

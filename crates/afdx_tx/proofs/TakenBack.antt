@@ -1,10 +1,5 @@
 -- The queues of an emitter take back the senders of its ports.
-use Rattle.afdx_tx.proofs.Names.{ℕ, zero, suc, ◌≡◌, ◌+◌, ◌<◌, ◌≤◌, List, [], ◌∷◌, Bool, true, false, cond, length, set, arith, refl, ap, subst, ◌∙◌, sym, ⊎_elim, All, Contains, and_parts, eqb-true, length-set, get_or-set_same, All-contains, Contains-push, Contains-append_left, PortPlan, Plan, IsPlan, link_plan_at, port_plan_at, link_place, SenderView, Brought, brought_by, Seen, receiving, gathered, Held, LinkState, held_at, link_at, no_link, TakesBack, back_of, LinkTakesBack, AreLinksOf, AreReceiving, ports_of_sub, queues_in, PortView, HasEveryPlace, BelongsTo, HasOwnMessages, index_of, OnlyTakesBack, OnlyTakeBack, IsTakenBack, AreFull}
-use Rattle.std.proofs.Math.Seq.{take-length}
-use Rattle.std.proofs.lemmas.Iterator.{YieldsList}
-use Rattle.std.proofs.lemmas.Iterator.Consumers.{YieldsList-from_shown}
-use Rattle.std_alloc.specs.Vec.Iter.{drain_items, drain_steps}
-use Rattle.std_alloc.specs.declared.vec.drain.Drain.{Drain}
+use Rattle.afdx_tx.proofs.Names.{ℕ, zero, suc, ◌≡◌, ◌+◌, ◌<◌, ◌≤◌, List, [], ◌∷◌, Bool, true, false, cond, length, set, arith, refl, ap, subst, ◌∙◌, sym, ⊎_elim, All, Contains, and_parts, eqb-true, length-set, get_or-set_same, All-contains, Contains-push, Contains-append_left, PortPlan, Plan, IsPlan, link_plan_at, port_plan_at, link_place, SenderView, Brought, brought_by, Seen, receiving, gathered, Held, LinkState, held_at, link_at, no_link, TakesBack, back_of, LinkTakesBack, AreLinksOf, AreReceiving, ports_of_sub, queues_in, PortView, HasEveryPlace, BelongsTo, HasOwnMessages, index_of, OnlyTakesBack, OnlyTakeBack, IsTakenBack, AreFull, take-length, YieldsList, YieldsList-from_shown, drain_items, drain_steps, Drain}
 use Rattle.afdx_tx.proofs.KeptLinks.{one_link, one_count, one_each}
 use Rattle.afdx_tx.proofs.SoundEmitter.{plan_is, count_is}
 use Rattle.afdx_tx.proofs.PortLink.{seats, seats_more, on_sub_vl, link_within}

@@ -1,17 +1,8 @@
 -- The worked drain, by computation.
-use Rattle.afdx_tx.proofs.Names.{◌≡◌, ℕ, ◌<◌, [], ◌∷◌, length, true, None, refl, List, arith, IsAllDone, A, IsLater, latest, IsReleased, Owes, Released, Drains, stream_at, owed_at, AreDrained, DrainsOne, no_lines, one_line, fragments_at, log}
-use Rattle.afdx_plan.specs.Demo.{demo_plan, demo_link}
-use Rattle.afdx_plan.proofs.DemoPlan.{demo_valid}
+use Rattle.afdx_tx.proofs.Names.{◌≡◌, ℕ, ◌<◌, [], ◌∷◌, length, true, None, refl, List, arith, IsAllDone, A, IsLater, latest, IsReleased, Owes, Released, Drains, stream_at, owed_at, AreDrained, DrainsOne, no_lines, one_line, fragments_at, log, demo_plan, demo_link, demo_valid, Bool, false, false≢true, Lines, may_release, pace_in, line_of, failed_line, two_moments, one_line_at, two_accepted, StartsAfter, AreEnough, LeavesOne, NeedsItsPolls, one_byte_accepted, one_frame}
 use Rattle.afdx_frame.specs.Checksum.{checksum}
 use Rattle.afdx_frame.specs.Cutting.{cutting}
 use Rattle.afdx_frame.specs.Frame.{addresses, header_front, internet_header, link_header, udp_header, datagram, unnumbered}
-use Rattle.std.specs.Prelude.{Bool, false}
-use Rattle.std.proofs.lemmas.Bool.{false≢true}
-use Rattle.redundant_mux.specs.Lines.{Lines}
-use Rattle.vl_link.specs.Turn.{may_release}
-use Rattle.afdx_tx.specs.Run.{pace_in}
-use Rattle.afdx_tx.specs.DrainEnds.{line_of, failed_line, two_moments, one_line_at, two_accepted, StartsAfter, AreEnough, LeavesOne, NeedsItsPolls}
-use Rattle.afdx_legal.specs.Worked.{one_byte_accepted, one_frame}
 
 -- There is one link, and one sub-VL.
 only_one : (P : ℕ → Type 0) → P 0 → (k : ℕ) → k < 1 → P k

@@ -1,4 +1,11 @@
 //! The emitter after its ports were taken back: it transmits what is left.
+ghost use Rattle.std.specs.Prelude.{◌≡◌, ◌<◌, ◌↔◌, length, slice_set, IsTrue};
+ghost use Rattle.redundant_mux.specs.Lines.{log};
+ghost use Rattle.afdx_legal.specs.Accepted.{IsAllDone};
+ghost use Rattle.afdx_tx.specs.Run.{accepted_in};
+ghost use Rattle.afdx_tx.specs.Phases.{Conforms};
+ghost use Rattle.status_board.specs.Views.{published, seen, last_of, links_of, IsReading};
+
 use crate::emitter::{Drain, Emitter};
 use crate::turns::all_done;
 use redundant_mux::Network;
@@ -10,13 +17,6 @@ use std::sync::Wait;
 pub type Draining<A, B> = Emitter<A, B, Drain>;
 
 impl<A: Network + Drop, B: Network + Drop> Emitter<A, B, Drain> {
-    ghost use Rattle.std.specs.Prelude.{◌≡◌, ◌<◌, ◌↔◌, length, slice_set, IsTrue};
-    ghost use Rattle.redundant_mux.specs.Lines.{log};
-    ghost use Rattle.afdx_legal.specs.Accepted.{IsAllDone};
-    ghost use Rattle.afdx_tx.specs.Run.{accepted_in};
-    ghost use Rattle.afdx_tx.specs.Phases.{Conforms};
-    ghost use Rattle.status_board.specs.Views.{published, seen, last_of, links_of, IsReading};
-
     /// Whether at least one network accepted each fragment of each accepted message. After a frame
     /// was lost with the last network that carries its link, this stays false.
     pub fn is_done(&self) -> bool

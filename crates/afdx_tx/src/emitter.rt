@@ -1,5 +1,18 @@
 //! The emitter, while its ports send and after they were taken back.
-ghost use Rattle.std.specs.Prelude.{Bool, false, true};
+ghost use Rattle.std.specs.Prelude.{Bool, false, true, length, ◌≡◌, ◌≤◌, ◌↔◌, List, [], IsErr, OnErr, OnOk, IfOk, ℕ, IfErr};
+ghost use Rattle.std.specs.Box.{boxed_slice_items};
+ghost use Rattle.afdx_tx.specs.Emitter.{AllWaitUntil, Tx, IsSound, IsFreshTx, AreFreshLinks, queues_in};
+ghost use Rattle.afdx_tx.specs.Calls.{Reaches, Publishes, ShowsCounts, TellsNextDue, LacksSub, ClosesTx};
+ghost use Rattle.afdx_tx.specs.Phases.{IsInPhase, Conforms, AreOfPorts, Runs, StaysLawful};
+ghost use Rattle.redundant_mux.specs.Lines.{is_alive, with_failing};
+ghost use Rattle.afdx_tx.specs.declared.turns.Release.{Release};
+ghost use Rattle.afdx_tx.specs.Report.{IsTold, Polls, PollsUnreported};
+ghost use Rattle.status_board.specs.Views.{published};
+ghost use Rattle.afdx_plan.specs.Config.{IsPlan};
+ghost use Rattle.afdx_legal.specs.Accepted.{AreAllowed};
+ghost use Rattle.afdx_tx.specs.Run.{accepted_in};
+ghost use Rattle.afdx_tx.specs.Ports.{AreOpenedWith, LacksPlace};
+ghost use Rattle.afdx_tx.specs.Gathering.{IsGatheredTx};
 
 use crate::draining::Draining;
 use crate::fault::{NoSuchSub, PollFault};
@@ -56,12 +69,6 @@ pub struct Emitter<A: Network + Drop, B: Network + Drop, P: Phase = Sending> {
 }
 
 impl<A: Network + Drop, B: Network + Drop, P: Phase> Model for Emitter<A, B, P> {
-    ghost use Rattle.std.specs.Box.{boxed_slice_items};
-    ghost use Rattle.std.specs.Prelude.{length};
-    ghost use Rattle.afdx_tx.specs.Emitter.{AllWaitUntil, Tx, IsSound};
-    ghost use Rattle.afdx_tx.specs.Calls.{Reaches};
-    ghost use Rattle.afdx_tx.specs.Phases.{IsInPhase};
-
     ghost Value = { Tx };
 
     ghost view = { λ e. record {
@@ -79,13 +86,6 @@ impl<A: Network + Drop, B: Network + Drop, P: Phase> Model for Emitter<A, B, P> 
 }
 
 impl<A: Network + Drop, B: Network + Drop, P: Phase> Emitter<A, B, P> {
-    ghost use Rattle.std.specs.Prelude.{◌≡◌, ◌≤◌, ◌↔◌, List, [], length, false, IsErr, OnErr, OnOk, IfOk};
-    ghost use Rattle.redundant_mux.specs.Lines.{is_alive};
-    ghost use Rattle.afdx_tx.specs.declared.turns.Release.{Release};
-    ghost use Rattle.afdx_tx.specs.Report.{IsTold, Polls, PollsUnreported};
-    ghost use Rattle.afdx_tx.specs.Phases.{Conforms, AreOfPorts, Runs, StaysLawful};
-    ghost use Rattle.afdx_tx.specs.Calls.{Publishes, ShowsCounts, TellsNextDue};
-
     /// The configuration that it was opened with.
     pub fn config(&self) -> &Config
         ensures { result.now ≡ self.now.plan }
@@ -225,9 +225,6 @@ impl<A: Network + Drop, B: Network + Drop, P: Phase> Emitter<A, B, P> {
 }
 
 impl<A: Failable + Drop, B: Failable + Drop, P: Phase> Emitter<A, B, P> {
-    ghost use Rattle.std.specs.Prelude.{◌≡◌};
-    ghost use Rattle.redundant_mux.specs.Lines.{with_failing};
-
     /// Makes a network fail at each later frame. It stays up until then.
     pub fn fail(&mut self, net: Net)
         ensures { self.new ≡ record self.old { lines = with_failing net self.old.lines } }
@@ -237,17 +234,6 @@ impl<A: Failable + Drop, B: Failable + Drop, P: Phase> Emitter<A, B, P> {
 }
 
 impl<A: Network + Drop, B: Network + Drop> Emitter<A, B> {
-    ghost use Rattle.std.specs.Prelude.{◌≡◌, ◌↔◌, ℕ, [], length, IsErr, OnErr, IfOk, IfErr};
-    ghost use Rattle.status_board.specs.Views.{published};
-    ghost use Rattle.afdx_plan.specs.Config.{IsPlan};
-    ghost use Rattle.afdx_legal.specs.Accepted.{AreAllowed};
-    ghost use Rattle.afdx_tx.specs.Run.{accepted_in};
-    ghost use Rattle.afdx_tx.specs.Emitter.{IsFreshTx, AreFreshLinks, queues_in};
-    ghost use Rattle.afdx_tx.specs.Phases.{Conforms};
-    ghost use Rattle.afdx_tx.specs.Ports.{AreOpenedWith, LacksPlace};
-    ghost use Rattle.afdx_tx.specs.Gathering.{IsGatheredTx};
-    ghost use Rattle.afdx_tx.specs.Calls.{LacksSub, ClosesTx};
-
     // Over new links of a configuration, a buffer, networks that have accepted no frame, and an empty board.
     pub(crate) fn over(
         config: Config,

@@ -1,6 +1,7 @@
 //! A port, for a thread of its own.
-ghost use Rattle.std.specs.Prelude.{◌≡◌};
-ghost use Rattle.afdx_tx.specs.Ports.{refusal_of};
+ghost use Rattle.std.specs.Prelude.{◌≡◌, ◌≤◌, length, All, ◌<◌, [], IfOk, IfErr};
+ghost use Rattle.afdx_tx.specs.Ports.{refusal_of, PortView, MaySend, HasOwnMessages, Accepts, Refuses, length_refusal};
+ghost use Rattle.afdx_plan.specs.Plan.{IsPort};
 
 use crate::fault::{Refusal, SendFault};
 use afdx_plan::{PortId, PortPlan};
@@ -17,10 +18,6 @@ pub struct TxPort {
 }
 
 impl Model for TxPort {
-    ghost use Rattle.std.specs.Prelude.{◌≤◌, length, All};
-    ghost use Rattle.afdx_plan.specs.Plan.{IsPort};
-    ghost use Rattle.afdx_tx.specs.Ports.{PortView, MaySend};
-
     ghost Value = { PortView };
 
     ghost view = { λ p. record {
@@ -34,10 +31,6 @@ impl Model for TxPort {
 }
 
 impl TxPort {
-    ghost use Rattle.std.specs.Prelude.{◌≡◌, ◌<◌, ◌≤◌, [], length, IfOk, IfErr};
-    ghost use Rattle.afdx_plan.specs.Plan.{IsPort};
-    ghost use Rattle.afdx_tx.specs.Ports.{PortView, MaySend, HasOwnMessages, Accepts, Refuses, length_refusal};
-
     // The port at a place of a configuration, with a sender of its sub-VL's queue.
     pub(crate) fn new(plan: PortPlan, place: usize, sender: Sender) -> TxPort
         requires port { IsPort plan }

@@ -1,6 +1,8 @@
 //! A writer that stops calling its inner writer after a failure.
-ghost use Rattle.std.specs.Prelude.{◌≡◌, length, false};
-ghost use Rattle.bench_words.specs.Halting.{flush_fails, write_fails};
+ghost use Rattle.std.specs.Prelude.{◌≡◌, length, false, ◌||◌, true, IsErr};
+ghost use Rattle.bench_words.specs.Halting.{flush_fails, write_fails, HaltingView};
+ghost use Rattle.std.specs.Io.{WritesAtMost};
+ghost use Rattle.std.specs.Io.KnownBytes.{Keeps, WriteAppends};
 
 use std::io::{self, ErrorKind, Write};
 use std::marker::Model;
@@ -15,8 +17,6 @@ pub struct Halting<W: Write + Drop> {
 }
 
 impl<W: Write + Drop> Model for Halting<W> {
-    ghost use Rattle.bench_words.specs.Halting.{HaltingView};
-
     ghost Value = { HaltingView W };
 
     ghost view = { λ h. record { writer = h.writer; failed = h.failed } };
@@ -35,11 +35,6 @@ impl<W: Write + Drop> Halting<W> {
 }
 
 impl<W: Write + Drop> Write for Halting<W> {
-    ghost use Rattle.std.specs.Prelude.{◌≡◌, ◌||◌, true, length, IsErr};
-    ghost use Rattle.std.specs.Io.{WritesAtMost};
-    ghost use Rattle.std.specs.Io.KnownBytes.{Keeps, WriteAppends};
-    ghost use Rattle.bench_words.specs.Halting.{flush_fails, write_fails};
-
     ghost contents = { λ h. W.contents h.writer };
 
     /// Writes to the inner writer, unless that has failed.

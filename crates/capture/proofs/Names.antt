@@ -1,5 +1,5 @@
 -- The names of other crates, and of this one's definitions, that the proofs here use.
-pub use Rattle.std.proofs.Common.{Bool, Err, List, None, Ok, Option, Result, Some, ap, append-nil, append_assoc, arith, drop, eq-eqb, false, length, length-append, length-drop, map, refl, suc, sym, take, true, zero, [], ℕ, ◌%◌, ◌*◌, ◌++◌, ◌+◌, ◌-◌, ◌/◌, ◌<◌, ◌^◌, ◌∙◌, ◌∷◌, ◌≡◌, ◌≤◌}
+pub use Rattle.std.proofs.Common.{Bool, Err, List, None, Ok, Option, Result, Some, ap, append-nil, append_assoc, arith, drop, eq-eqb, false, length, length-append, length-drop, map, refl, suc, sym, take, true, zero, [], ℕ, ◌%◌, ◌*◌, ◌++◌, ◌+◌, ◌-◌, ◌/◌, ◌<◌, ◌^◌, ◌∙◌, ◌∷◌, ◌≡◌, ◌≤◌, subst}
 pub use Rattle.std.proofs.Math.Nat.{div-eq_of_lt, pow-le-pow_right}
 pub use Rattle.std.proofs.Math.Seq.{drop-append_seam, take-append_seam}
 pub use Rattle.std.proofs.lemmas.Bool.{le-ltb, ne_eqb}
@@ -11,7 +11,7 @@ pub use Rattle.std.specs.Prelude.{All, codes, if◌then◌else◌, nat_eq, nat_l
 pub use Rattle.afdx_frame.specs.declared.net.Net.{Net}
 pub use Rattle.afdx_frame.specs.declared.net.Net.TheVariants.{A, B}
 pub use Rattle.byteorder.specs.Numbers.{big_from-append, little_from-append, little_number-reads_back}
-pub use Rattle.redundant_mux.specs.Lines.{Entry}
+pub use Rattle.redundant_mux.specs.Lines.{Entry, entry}
 pub use Rattle.script_text.proofs.Written.{HasWritten}
 pub use Rattle.capture.specs.Capture.{block, fill, filled, interface_of, packet_body, packet_front}
 unfoldable pub use Rattle.capture.specs.Capture.{half, header_blocks, interface_block, packet_block, packet_blocks, section_block, word}
@@ -41,3 +41,6 @@ pub use Rattle.capture.specs.declared.unit.Format.TheVariants.{Blocks, Records, 
 pub use Rattle.capture.specs.declared.unit.TheConstants.{GREATEST_UNIT}
 pub use Rattle.capture.specs.declared.unit.Unit.TheVariants.{Block, Header, Record, Section}
 pub use Rattle.std.proofs.lemmas.Bool.Decides.{nat_tests}
+pub use Rattle.capture.specs.declared.unit.Unit.{Unit as CaptureUnit}
+pub use Rattle.std.proofs.KnownBytes.{Appends-trans}
+pub use Rattle.std.specs.Io.KnownBytes.{Appends}

@@ -1,6 +1,5 @@
 -- A step reads no byte past its unit, so it is the same whatever follows the bytes that it was given.
-use Rattle.capture.proofs.Names.{GREATEST_UNIT, block_size, record_size, nat_tests, Big, Block, Blocks, Err, Format, Header, List, Little, More, Moved, Ok, Order, Progress, Record, Records, Result, Section, Stop, Unknown, arith, big_from-append, content_of, drop, drop-append-le, header_unit, length, length-append, length-drop, little_from-append, moved, next, number_at, or_stop, refl, section_unit, size_of, take, take-append-le, unit_of, with_bytes, ℕ, ◌++◌, ◌+◌, ◌>>=◌, ◌≡◌, ◌≤◌}
-use Rattle.capture.specs.declared.unit.Unit.{Unit as CaptureUnit}
+use Rattle.capture.proofs.Names.{GREATEST_UNIT, block_size, record_size, nat_tests, Big, Block, Blocks, Err, Format, Header, List, Little, More, Moved, Ok, Order, Progress, Record, Records, Result, Section, Stop, Unknown, arith, big_from-append, content_of, drop, drop-append-le, header_unit, length, length-append, length-drop, little_from-append, moved, next, number_at, or_stop, refl, section_unit, size_of, take, take-append-le, unit_of, with_bytes, ℕ, ◌++◌, ◌+◌, ◌>>=◌, ◌≡◌, ◌≤◌, CaptureUnit}
 
 -- a number that is within the bytes
 pub number_at-append : (order : Order) (n i : ℕ) (bytes more : List ℕ) → i + n ≤ length bytes

@@ -36,8 +36,6 @@ pub struct Reading {
 }
 
 impl Model for Reading {
-    ghost use Rattle.capture.specs.Recording.{Progress};
-
     ghost Value = { Progress };
 
     ghost view = { λ r. record { format = r.format; interfaces = r.interfaces.items } };

@@ -33,9 +33,6 @@ pub struct Judge {
 }
 
 impl Model for Judge {
-    ghost use Rattle.std.specs.Prelude.{◌≡◌, length};
-    ghost use Rattle.judge.specs.Judging.{Judging};
-
     ghost Value = { Judging };
 
     ghost view = { λ j. record {

@@ -1,6 +1,5 @@
 -- A judge before the first packet of a recording, and the law: of what was sent legally it finds nothing but missing twins.
-use Rattle.judge_laws.proofs.Names.{A, Accepted, All, All-drop, All-filter, All-nil, All-weaker, AreAllowed, AreKnown, B, Bool, Entry, Finding, IsKnown, IsLegalOn, IsNumbered, IsPlan, IsSpaced, Link, LinkPlan, List, Nearness, Net, None, OnNet, Option, Options, Plan, Setting, Some, Stamp, Tag, TakeTurnsOn, TakesTurns, Times, ap, append_assoc, arith, bag_micros, cases_Bool, cases_lt, drop_at, entry, entry_number, eqb-true, false, filter, findings, found_at_end, found_from, found_given_up, found_left, found_missing, found_with_end, get_or-replicate, get_or_default, inl, inr, is_both, known_all, latest, length, length-replicate, line_on, link_at, link_in, link_plan_at, link_stream, map, map-append, nat_eq, nat_tests, new_line, new_link, new_sub, no_times, number_in, on_both, on_both_is, refl, replicate, side, stamp_of, stream_front, sub_at, sub_in, sub_stream, subst, suc, sym, tag_of, take, times_with, told, true, twin_same, with_append, zero, ℕ, [], ◌++◌, ◌+◌, ◌<◌, ◌∙◌, ◌∷◌, ◌≡◌, ◌≤◌}
-use Rattle.judge_laws.specs.NoFalseAlarm.{AreFit, IsMissing, IsRunOf, IsSent, NoFalseAlarm, packets_of}
+use Rattle.judge_laws.proofs.Names.{A, Accepted, All, All-drop, All-filter, All-nil, All-weaker, AreAllowed, AreKnown, B, Bool, Entry, Finding, IsKnown, IsLegalOn, IsNumbered, IsPlan, IsSpaced, Link, LinkPlan, List, Nearness, Net, None, OnNet, Option, Options, Plan, Setting, Some, Stamp, Tag, TakeTurnsOn, TakesTurns, Times, ap, append_assoc, arith, bag_micros, cases_Bool, cases_lt, drop_at, entry, entry_number, eqb-true, false, filter, findings, found_at_end, found_from, found_given_up, found_left, found_missing, found_with_end, get_or-replicate, get_or_default, inl, inr, is_both, known_all, latest, length, length-replicate, line_on, link_at, link_in, link_plan_at, link_stream, map, map-append, nat_eq, nat_tests, new_line, new_link, new_sub, no_times, number_in, on_both, on_both_is, refl, replicate, side, stamp_of, stream_front, sub_at, sub_in, sub_stream, subst, suc, sym, tag_of, take, times_with, told, true, twin_same, with_append, zero, ℕ, [], ◌++◌, ◌+◌, ◌<◌, ◌∙◌, ◌∷◌, ◌≡◌, ◌≤◌, AreFit, IsMissing, IsRunOf, IsSent, NoFalseAlarm, packets_of}
 use Rattle.judge_laws.proofs.Copies.{AreCopied, IsCopy, IsStream, IsWait, all_copies, all_missing, copies_go_on}
 use Rattle.judge_laws.proofs.Line.{AreDue, IsAhead, IsLine, of_profile, own_sub}
 use Rattle.judge_laws.proofs.Pieces.{awaits}

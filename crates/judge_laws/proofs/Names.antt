@@ -74,3 +74,8 @@ pub use Rattle.judge.specs.declared.finding.Misfit.{Misfit}
 pub use Rattle.judge.specs.declared.finding.Misfit.TheVariants.{Identification, Offset}
 pub use Rattle.judge.specs.declared.options.Options.{Options}
 pub use Rattle.vl_shaper.specs.declared.shaper.Stamp.{Stamp}
+pub use Rattle.judge_laws.specs.NoFalseAlarm.{AreFit, IsMissing, IsRunOf, IsSent, NoFalseAlarm, packets_of, IsRecord, IsRecording}
+pub use Rattle.judge_laws.specs.Frames.{IsRecordedAs}
+pub use Rattle.judge_laws.specs.NothingFound.{time_of, IsInOrder, NothingFound, IsWhole}
+pub use Rattle.judge_laws.specs.NothingMissed.{EndsWhole, IsOctets, IsSentTo, IsStrict, NothingMissed, entry_of, frames_of, sent_to}
+pub use Rattle.judge_laws.specs.Worked.{FindsNoneOfAll, FindsNothing, MissesNothing, NeedsItsPremises, both_at, late, loose, packet, seconds_at, strict, with_check}

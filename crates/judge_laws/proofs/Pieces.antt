@@ -1,6 +1,5 @@
 -- The frames of a sub-VL on a network: the judge finds nothing wrong with the one that is due, and awaits the next one.
-use Rattle.judge_laws.proofs.Names.{layout_is_profile, All, All-contains, All-head, All-tail, Bool, Cutting, Head, IsAllowed, IsLink, IsPiece, IsPlan, IsPort, Joining, List, Net, None, Ok, Option, Options, Piece, Plan, PortPlan, Recorded, Sent, arith, blanked, checked, cut_whole, drop_at, false, fields_of, fragments, fragments_from, fragments_left, frame_in, frame_of, has_four_more, header_says, identification, if◌then◌else◌, inl, inr, judge_sub, left_first, left_none, length, length-append, length-frame, link_plan_at, max, names, nat_tests, new_sub, number_in, piece_at, place_of, refl, says, size_deviation, suc, sym, take_all, take_at, take_more, total_ok, true, unchecked, unnumbered, ℕ, [], ◌++◌, ◌+◌, ◌<◌, ◌∙◌, ◌∷◌, ◌≡◌, ◌≤◌, ◌⊎◌}
-use Rattle.judge_laws.specs.Frames.{IsRecordedAs}
+use Rattle.judge_laws.proofs.Names.{layout_is_profile, All, All-contains, All-head, All-tail, Bool, Cutting, Head, IsAllowed, IsLink, IsPiece, IsPlan, IsPort, Joining, List, Net, None, Ok, Option, Options, Piece, Plan, PortPlan, Recorded, Sent, arith, blanked, checked, cut_whole, drop_at, false, fields_of, fragments, fragments_from, fragments_left, frame_in, frame_of, has_four_more, header_says, identification, if◌then◌else◌, inl, inr, judge_sub, left_first, left_none, length, length-append, length-frame, link_plan_at, max, names, nat_tests, new_sub, number_in, piece_at, place_of, refl, says, size_deviation, suc, sym, take_all, take_at, take_more, total_ok, true, unchecked, unnumbered, ℕ, [], ◌++◌, ◌+◌, ◌<◌, ◌∙◌, ◌∷◌, ◌≡◌, ◌≤◌, ◌⊎◌, IsRecordedAs}
 use Rattle.judge_laws.proofs.Message.{IsDue, IsGood, IsHeard, IsNext, IsTrue, IsTrueAt, first_found, good, its_port, joining_after, next_piece, piece_is, port_at, room_at, true_after, true_behind}
 use Rattle.judge_laws.proofs.Reading.{Carries, carries, place_found, source_ok}
 

@@ -1,6 +1,5 @@
 -- A judge over a recording of what was sent legally: each packet is taken by its link's line, and the links after it.
-use Rattle.judge_laws.proofs.Names.{A, AllZip, AreKnown, B, Bool, Entry, Finding, IsKnown, IsPlan, Judging, Link, List, Nearness, Net, None, Ok, OnNet, Option, Options, Pairing, Plan, PortPlan, Recorded, Setting, Some, Tag, Times, VlId, admitted, after_packet, after_timed, ap, arith, arrived, cases_Bool, cases_eq, false, fields_of, found_given_up, found_of_arrival, found_on_link, found_timed, found_with_packet, frame_in, fun_ext, get_or-set_other, get_or-set_same, given_up, if◌then◌else◌, inl, inr, is_both, left_waiting, length, length-set, line_on, link_after, link_at, link_in, link_plan_at, link_stream, nearness_of, new_link, number_in, pairing_with, place_of, refl, same_net, size_deviation, slice_set, subst, sym, tag_of, times_with, true, twin_deviation, verdict, with_arrival, with_verdict, ℕ, [], ◌++◌, ◌<◌, ◌∙◌, ◌∷◌, ◌≡◌, ◌≢◌}
-use Rattle.judge_laws.specs.NoFalseAlarm.{AreFit, IsRecord, packets_of}
+use Rattle.judge_laws.proofs.Names.{A, AllZip, AreKnown, B, Bool, Entry, Finding, IsKnown, IsPlan, Judging, Link, List, Nearness, Net, None, Ok, OnNet, Option, Options, Pairing, Plan, PortPlan, Recorded, Setting, Some, Tag, Times, VlId, admitted, after_packet, after_timed, ap, arith, arrived, cases_Bool, cases_eq, false, fields_of, found_given_up, found_of_arrival, found_on_link, found_timed, found_with_packet, frame_in, fun_ext, get_or-set_other, get_or-set_same, given_up, if◌then◌else◌, inl, inr, is_both, left_waiting, length, length-set, line_on, link_after, link_at, link_in, link_plan_at, link_stream, nearness_of, new_link, number_in, pairing_with, place_of, refl, same_net, size_deviation, slice_set, subst, sym, tag_of, times_with, true, twin_deviation, verdict, with_arrival, with_verdict, ℕ, [], ◌++◌, ◌<◌, ◌∙◌, ◌∷◌, ◌≡◌, ◌≢◌, AreFit, IsRecord, packets_of}
 use Rattle.judge_laws.proofs.Line.{IsDelayed, IsLine, IsTaken, faultless, line_taken, line_then, measure_at, of_profile}
 use Rattle.judge_laws.proofs.Message.{port_at}
 use Rattle.judge_laws.proofs.Reading.{number_of, with_other, with_own}

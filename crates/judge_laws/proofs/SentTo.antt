@@ -1,9 +1,6 @@
 -- Nothing missed: findings only grow, so where none is found in the end, no packet has one, each line is clear, and what was
 -- recorded of each network was sent legally.
-use Rattle.judge_laws.proofs.Names.{layout_broken, layout_is_profile, Admitted, All, All-cons, All-nil, All-tail, AreKnown, Bool, Entry, Finding, IsAllowed, IsKnown, IsPlan, Judging, Link, LinkPlan, List, Nearness, Net, None, Ok, OnNet, Option, Options, Plan, PortPlan, Recorded, Refused, Result, Sent, Setting, Some, Tag, Times, admitted, after_packet, ap, append-nil, arith, arrived, blanked, cases_Bool, cases_eq, cases_lt, eq-eqb, false, filter, findings, found_at_end, found_from, found_left, found_missing, found_of_arrival, found_on_link, found_timed, found_with_end, found_with_packet, fragments, frame_in, get_or, inl, inr, length, length-filter_both, length-map, length-replicate, length-set, line_on, link_at, link_in, link_plan_at, link_stream, map, map-map, names, nat_tests, ne_eqb, new_line, new_link, new_sub, nil_begins, no_times, not, place_of, placed, refl, room_of, same_net, size_deviation, sub_in, sub_stream, subst, suc, sym, tag_of, those_with, times_with, told, true, unchecked, verdict, with_map, with_verdict, zero, ℕ, [], ◌+◌, ◌-◌, ◌<◌, ◌^◌, ◌∙◌, ◌∷◌, ◌≡◌, ◌≤◌}
-use Rattle.judge_laws.specs.NoFalseAlarm.{packets_of}
-use Rattle.judge_laws.specs.NothingFound.{time_of}
-use Rattle.judge_laws.specs.NothingMissed.{EndsWhole, IsOctets, IsSentTo, IsStrict, NothingMissed, entry_of, frames_of, sent_to}
+use Rattle.judge_laws.proofs.Names.{layout_broken, layout_is_profile, Admitted, All, All-cons, All-nil, All-tail, AreKnown, Bool, Entry, Finding, IsAllowed, IsKnown, IsPlan, Judging, Link, LinkPlan, List, Nearness, Net, None, Ok, OnNet, Option, Options, Plan, PortPlan, Recorded, Refused, Result, Sent, Setting, Some, Tag, Times, admitted, after_packet, ap, append-nil, arith, arrived, blanked, cases_Bool, cases_eq, cases_lt, eq-eqb, false, filter, findings, found_at_end, found_from, found_left, found_missing, found_of_arrival, found_on_link, found_timed, found_with_end, found_with_packet, fragments, frame_in, get_or, inl, inr, length, length-filter_both, length-map, length-replicate, length-set, line_on, link_at, link_in, link_plan_at, link_stream, map, map-map, names, nat_tests, ne_eqb, new_line, new_link, new_sub, nil_begins, no_times, not, place_of, placed, refl, room_of, same_net, size_deviation, sub_in, sub_stream, subst, suc, sym, tag_of, those_with, times_with, told, true, unchecked, verdict, with_map, with_verdict, zero, ℕ, [], ◌+◌, ◌-◌, ◌<◌, ◌^◌, ◌∙◌, ◌∷◌, ◌≡◌, ◌≤◌, packets_of, time_of, EndsWhole, IsOctets, IsSentTo, IsStrict, NothingMissed, entry_of, frames_of, sent_to}
 use Rattle.judge_laws.proofs.Begin.{line_is_new, links_at_start, new_is, own_options}
 use Rattle.judge_laws.proofs.Line.{IsFaultless, faultless, line_then, of_profile}
 use Rattle.judge_laws.proofs.Message.{port_at}

@@ -1,7 +1,5 @@
 -- A judge over a whole recording, in the order of time: nothing is found.
-use Rattle.judge_laws.proofs.Names.{get_or, None, AllZip-long, A, Accepted, All, All-cons, All-filter, All-from_get_or, All-map, All-nil, All-tail, All-weaker, AllZip, B, Bool, Entry, Finding, IsPlan, Link, LinkPlan, List, Nearness, Net, OnNet, Option, Options, Pairing, Plan, Recorded, Setting, Some, Tag, Times, Wait, ap, append-nil, arith, bag_micros, cases_Bool, false, filter, findings, found_at_end, found_from, found_given_up, found_left, found_missing, found_with_end, inl, inr, is_both, le_refl, length, link_at, link_in, link_plan_at, link_stream, map, nat_eq, new_link, no_times, number_in, on_both, refl, same_net, side, stream_side, subst, sym, tag_of, take_all, times_with, true, unwrap_or, ℕ, [], ◌*◌, ◌++◌, ◌+◌, ◌<◌, ◌∙◌, ◌∷◌, ◌≡◌, ◌≤◌}
-use Rattle.judge_laws.specs.NoFalseAlarm.{AreFit, IsRecord, IsSent, packets_of}
-use Rattle.judge_laws.specs.NothingFound.{IsInOrder, NothingFound, time_of}
+use Rattle.judge_laws.proofs.Names.{get_or, None, AllZip-long, A, Accepted, All, All-cons, All-filter, All-from_get_or, All-map, All-nil, All-tail, All-weaker, AllZip, B, Bool, Entry, Finding, IsPlan, Link, LinkPlan, List, Nearness, Net, OnNet, Option, Options, Pairing, Plan, Recorded, Setting, Some, Tag, Times, Wait, ap, append-nil, arith, bag_micros, cases_Bool, false, filter, findings, found_at_end, found_from, found_given_up, found_left, found_missing, found_with_end, inl, inr, is_both, le_refl, length, link_at, link_in, link_plan_at, link_stream, map, nat_eq, new_link, no_times, number_in, on_both, refl, same_net, side, stream_side, subst, sym, tag_of, take_all, times_with, true, unwrap_or, ℕ, [], ◌*◌, ◌++◌, ◌+◌, ◌<◌, ◌∙◌, ◌∷◌, ◌≡◌, ◌≤◌, AreFit, IsRecord, IsSent, packets_of, IsInOrder, NothingFound, time_of}
 use Rattle.judge_laws.proofs.Begin.{IsOwn, both_copies, copies_begin, going_begins, handed_to, link_is_new, links_at_start, own_options, owns, stream_on_both}
 use Rattle.judge_laws.proofs.Copies.{AreCopied, IsStream, copies_go_on}
 use Rattle.judge_laws.proofs.Leading.{AllStay, AreOpen, ArePast, IsLedBy, IsWaitFor, LeadsOn, leads_on, other, past_later, rest_both, stay_kept}

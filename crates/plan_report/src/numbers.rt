@@ -1,4 +1,7 @@
 //! Numbers as text and page print them.
+ghost use Rattle.std.specs.Prelude.{option_map};
+ghost use Rattle.plan_report.specs.AnalysisText.{with_point};
+
 use std::fmt::{self, InlineText};
 
 /// A number whose digits are grouped by three.
@@ -35,9 +38,6 @@ pub(crate) struct Decimal(
 );
 
 impl fmt::Display for Decimal {
-    ghost use Rattle.std.specs.Prelude.{option_map};
-    ghost use Rattle.plan_report.specs.AnalysisText.{with_point};
-
     ghost output = { λ number. option_map (λ width. with_point number.1 width number.0) number.2 };
 
     #[tactic(auto, unfolding(crate::specs::AnalysisText::with_point))]

@@ -1,7 +1,7 @@
 //! The report of `check` on a plan.
-ghost use Rattle.std.specs.Prelude.{◌≡◌, OnOk, flat_map};
+ghost use Rattle.std.specs.Prelude.{◌≡◌, OnOk, flat_map, Some};
 ghost use Rattle.std.specs.Io.KnownBytes.{Appends};
-ghost use Rattle.plan_report.specs.Report.{kind_name as name_of_kind, checksum_text as text_of_checksum, networks_text as text_of_networks, end_system_line, jitter_line, report_of, link_line, way_text, flow_text, port_line};
+ghost use Rattle.plan_report.specs.Report.{kind_name as name_of_kind, checksum_text as text_of_checksum, networks_text as text_of_networks, end_system_line, jitter_line, report_of, link_line, way_text, flow_text, port_line, destination_text};
 
 use afdx_plan::{Config, Kind, LinkPlan, Networks, PortPlan, UdpSum, jitter_ns};
 use plan_analysis::JITTER_LIMIT;
@@ -120,9 +120,6 @@ fn write_flow<W: Write>(writer: &mut W, port: &PortPlan) -> io::Result<()>
 struct Address(Option<[u8; 4]>);
 
 impl fmt::Display for Address {
-    ghost use Rattle.std.specs.Prelude.{Some};
-    ghost use Rattle.plan_report.specs.Report.{destination_text};
-
     ghost output = { λ address. Some (destination_text address.0) };
 
     #[tactic(auto, unfolding(crate::specs::Report::destination_text))]

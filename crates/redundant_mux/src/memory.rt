@@ -1,7 +1,7 @@
 //! A network in memory.
 ghost use Rattle.std.specs.Prelude.{◌≡◌, ◌≢◌, ℕ, ◌+◌, ◌^◌, ◌<◌, ◌≤◌, List, [], ◌∷◌, ◌++◌, None, Some, true, false, length, OnOk, OnErr, IsErr, min, map, vec_len, vec_capacity};
 ghost use Rattle.redundant_mux.specs.Lines.{entry};
-ghost use Rattle.redundant_mux.specs.Memory.{entries};
+ghost use Rattle.redundant_mux.specs.Memory.{entries, entry_of, Memory, unused};
 
 use crate::network::{HandFault, Network};
 use afdx_frame::{Frame, FrameBuffer, GREATEST_FRAME};
@@ -16,8 +16,6 @@ pub struct Handed {
 }
 
 impl Handed {
-    ghost use Rattle.redundant_mux.specs.Memory.{entry_of};
-
     /// An entry without a frame, to be filled.
     pub(crate) fn empty() -> Handed {
         Handed {
@@ -55,9 +53,6 @@ pub struct MemNetwork {
 }
 
 impl Model for MemNetwork {
-    ghost use Rattle.std.specs.Prelude.{vec_capacity};
-    ghost use Rattle.redundant_mux.specs.Memory.{Memory, entries};
-
     ghost Value = { Memory };
 
     ghost view = { λ m. record {
@@ -70,8 +65,6 @@ impl Model for MemNetwork {
 }
 
 impl MemNetwork {
-    ghost use Rattle.redundant_mux.specs.Memory.{entries, unused};
-
     /// A network without frames. It fails only if an allocation fails.
     pub fn new(alloc: Global) -> MemNetwork
         ensures { result ≡ unused None }
@@ -110,8 +103,6 @@ impl MemNetwork {
 }
 
 impl Network for MemNetwork {
-    ghost use Rattle.redundant_mux.specs.Memory.{Memory};
-
     ghost handed = { λ m. m.handed };
 
     ghost failures = { λ m. m.failures };

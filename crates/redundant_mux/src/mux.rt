@@ -3,7 +3,7 @@ ghost use Rattle.std.specs.Prelude.{◌≡◌, ℕ, ◌≤◌, ◌↔◌, [], �
 ghost use Rattle.afdx_plan.specs.Plan.{carries_a, carries_b};
 ghost use Rattle.afdx_frame.specs.Header.{twin_of};
 ghost use Rattle.afdx_frame.specs.declared.net.Net.TheVariants.{A as ForA, B as ForB};
-ghost use Rattle.redundant_mux.specs.Lines.{entry, logged_for, Handing, BothEndure, StaysFailing, some_of, any_up, IsMirrored};
+ghost use Rattle.redundant_mux.specs.Lines.{entry, logged_for, Handing, BothEndure, StaysFailing, some_of, any_up, IsMirrored, Lines, AreInStep, lines_of, with_failing};
 
 use crate::network::{Failable, Network};
 use crate::trail::Trail;
@@ -43,8 +43,6 @@ pub struct Mux<A: Network + Drop, B: Network + Drop> {
 }
 
 impl<A: Network + Drop, B: Network + Drop> Model for Mux<A, B> {
-    ghost use Rattle.redundant_mux.specs.Lines.{Lines, AreInStep, lines_of};
-
     ghost Value = { Lines };
 
     ghost view = { λ m. lines_of (A.handed m.a) (B.handed m.b) (A.failures m.a) (B.failures m.b)
@@ -266,8 +264,6 @@ impl<A: Network + Drop, B: Network + Drop> Mux<A, B> {
 }
 
 impl<A: Failable + Drop, B: Failable + Drop> Mux<A, B> {
-    ghost use Rattle.redundant_mux.specs.Lines.{with_failing};
-
     /// Makes a network fail at each later frame. It stays up until then.
     pub fn fail(&mut self, net: Net)
         ensures { self.new ≡ with_failing net self.old }

@@ -1,6 +1,8 @@
 //! A network that keeps the last frames that it accepted.
-ghost use Rattle.std.specs.Prelude.{◌≡◌, ◌+◌, ◌-◌, ◌%◌, ◌≤◌, ◌^◌, ◌<◌, ◌||◌, nat_eq, [], ◌∷◌, ◌++◌, true, false, if◌then◌else◌, length, IfOk, OnOk, OnErr, IsErr};
-ghost use Rattle.redundant_mux.specs.Lines.{entry};
+ghost use Rattle.std.specs.Prelude.{◌≡◌, ◌+◌, ◌-◌, ◌%◌, ◌≤◌, ◌^◌, ◌<◌, ◌||◌, nat_eq, [], ◌∷◌, ◌++◌, true, false, if◌then◌else◌, length, IfOk, OnOk, OnErr, IsErr, ◌↔◌, IsSome, IfSome};
+ghost use Rattle.redundant_mux.specs.Lines.{entry, entries_of};
+ghost use Rattle.std.specs.Box.{boxed_slice_items};
+ghost use Rattle.redundant_mux.specs.Memory.{OutboxView, KeepsLast, fresh_outbox, IsKept, entry_at, kept_entry, Refuses};
 
 use crate::network::{Failable, HandFault, Network};
 use crate::span::{LastFrames, LastTime, Span};
@@ -60,10 +62,6 @@ pub struct Outbox<S: Span = LastFrames> {
 }
 
 impl<S: Span> Model for Outbox<S> {
-    ghost use Rattle.std.specs.Box.{boxed_slice_items};
-    ghost use Rattle.redundant_mux.specs.Lines.{entries_of};
-    ghost use Rattle.redundant_mux.specs.Memory.{OutboxView, KeepsLast};
-
     ghost Value = { OutboxView };
 
     ghost view = { λ o. record {
@@ -90,9 +88,6 @@ fn make_slots(alloc: Global) -> Result<Vec<Kept>, AllocError>
 }
 
 impl Outbox<LastFrames> {
-    ghost use Rattle.std.specs.Prelude.{◌≡◌, IfOk};
-    ghost use Rattle.redundant_mux.specs.Memory.{fresh_outbox};
-
     /// An outbox without frames, which will keep the last 64. No later call allocates.
     pub fn new(alloc: Global) -> Result<Outbox<LastFrames>, AllocError>
         ensures { IfOk result (λ outbox. outbox ≡ fresh_outbox) }
@@ -102,9 +97,6 @@ impl Outbox<LastFrames> {
 }
 
 impl Outbox<LastTime> {
-    ghost use Rattle.std.specs.Prelude.{◌≡◌, IfOk};
-    ghost use Rattle.redundant_mux.specs.Memory.{fresh_outbox};
-
     /// An outbox without frames, which will keep those of the last time, at most 64. No later call allocates.
     pub fn of_last_time(alloc: Global) -> Result<Outbox<LastTime>, AllocError>
         ensures { IfOk result (λ outbox. outbox ≡ fresh_outbox) }
@@ -114,9 +106,6 @@ impl Outbox<LastTime> {
 }
 
 impl<S: Span> Outbox<S> {
-    ghost use Rattle.std.specs.Prelude.{◌≡◌, ◌↔◌, [], length, IsSome, IfSome, IfOk};
-    ghost use Rattle.redundant_mux.specs.Memory.{IsKept, entry_at, kept_entry, fresh_outbox, Refuses};
-
     /// An outbox without frames.
     fn empty(alloc: Global) -> Result<Outbox<S>, AllocError>
         ensures { IfOk result (λ outbox. outbox ≡ fresh_outbox) }
@@ -170,8 +159,6 @@ impl<S: Span> Outbox<S> {
 }
 
 impl<S: Span> Network for Outbox<S> {
-    ghost use Rattle.redundant_mux.specs.Memory.{OutboxView, Refuses};
-
     ghost handed = { λ o. o.handed };
 
     ghost failures = { λ o. o.failures };
@@ -228,8 +215,6 @@ impl<S: Span> Network for Outbox<S> {
 }
 
 impl<S: Span> Failable for Outbox<S> {
-    ghost use Rattle.redundant_mux.specs.Memory.{OutboxView};
-
     /// Makes each later call of `hand` and `hand_with` fail.
     fn fail(&mut self)
         ensures { self.new ≡ record self.old { failing = true } }

@@ -1,18 +1,6 @@
 -- The worked run of polls of an emitter, by computation.
-use Rattle.run_laws.proofs.Names.{None, inr, ◌⊎◌, DrainPolls, IsDrained, subst, IsLater, ◌≡◌, ◌≢◌, ℕ, zero, suc, ◌<◌, List, [], ◌∷◌, ◌++◌, length, refl, sym, arith, inl, true, All, All-cons, cases_eq, ⊎_elim, A, cutting, fragments_at, blanked, addresses, header_front, internet_header, link_header, udp_header, datagram, unnumbered, entry, Lines, BothEndure, log, any_up, may_release, turn_of, pace_in, slice_index, link_in, sub_in, number_in, interface_byte, Held, Passes, held_at, IsQueued, IsAllowed, Released, stream_at, EmitterPolls, IsReady, FindsIt, ArePolls, HasPlace, fragments_of, seen_of}
-use Rattle.afdx_plan.specs.declared.link_plan.Networks.TheVariants.{Both}
+use Rattle.run_laws.proofs.Names.{None, inr, ◌⊎◌, DrainPolls, IsDrained, subst, IsLater, ◌≡◌, ◌≢◌, ℕ, zero, suc, ◌<◌, List, [], ◌∷◌, ◌++◌, length, refl, sym, arith, inl, true, All, All-cons, cases_eq, ⊎_elim, A, cutting, fragments_at, blanked, addresses, header_front, internet_header, link_header, udp_header, datagram, unnumbered, entry, Lines, BothEndure, log, any_up, may_release, turn_of, pace_in, slice_index, link_in, sub_in, number_in, interface_byte, Held, Passes, held_at, IsQueued, IsAllowed, Released, stream_at, EmitterPolls, IsReady, FindsIt, ArePolls, HasPlace, fragments_of, seen_of, Both, logged_for, replicate, IsTied, Plan, LinkPlan, Served, link_stream, sub_stream, latest, IsPrefixOf, AreSameSubs, Serves, GivesFrame, IsSameSub, sent_by, message_fragments, Finds, taken_of, moves_of, gave_same, same_sub_here, same_sub_on, short_port, short_sent, short_frame, front_entry, three_link, three_plan, three_accepted, end_frame, line_after, long_sub, short_sub, subs_of, tx_of, ComesInTurn, ThirdReleased, WaitsItsTurn}
 use Rattle.afdx_frame.specs.Checksum.{checksum}
-use Rattle.redundant_mux.specs.Lines.{logged_for}
-use Rattle.std.specs.Prelude.{replicate}
-use Rattle.vl_link.specs.Kept.{IsTied}
-use Rattle.afdx_plan.specs.Config.{Plan}
-use Rattle.afdx_plan.specs.declared.link_plan.LinkPlan.{LinkPlan}
-use Rattle.vl_link.specs.declared.link.Served.{Served}
-use Rattle.afdx_legal.specs.Streams.{link_stream, sub_stream, latest, IsPrefixOf}
-use Rattle.vl_link.specs.Links.{AreSameSubs, Serves, GivesFrame, IsSameSub, sent_by, message_fragments}
-use Rattle.vl_link.specs.Seen.{Finds, taken_of}
-use Rattle.vl_link.proofs.SubInStep.{moves_of, gave_same, same_sub_here, same_sub_on}
-use Rattle.run_laws.specs.WorkedRun.{short_port, short_sent, short_frame, front_entry, three_link, three_plan, three_accepted, end_frame, line_after, long_sub, short_sub, subs_of, tx_of, ComesInTurn, ThirdReleased, WaitsItsTurn}
 use Rattle.run_laws.proofs.WorkedRuns.{has_room, not_released}
 use Rattle.run_laws.proofs.NextRun.{next_in_run_holds}
 use Rattle.run_laws.proofs.MessageRun.{message_in_run_holds}

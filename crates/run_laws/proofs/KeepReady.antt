@@ -1,7 +1,5 @@
 -- An emitter stays ready.
-use Rattle.run_laws.proofs.Names.{ℕ, ◌≡◌, ◌<◌, List, length, arith, ◌∙◌, sym, subst, All, Plan, LinkState, link_at, IsSameLink, turns_each, IsQueued, AreQueued, Tx, taken_in, IsFreshTx, IsRun, IsTurnAt, IsPlanned, IsReadyFor, IsReady, KeptReady}
-use Rattle.afdx_tx.specs.Calls.{ClosesTx, Publishes}
-use Rattle.afdx_tx.proofs.ClosedEmitter.{ClosedLinks, closes_links}
+use Rattle.run_laws.proofs.Names.{ℕ, ◌≡◌, ◌<◌, List, length, arith, ◌∙◌, sym, subst, All, Plan, LinkState, link_at, IsSameLink, turns_each, IsQueued, AreQueued, Tx, taken_in, IsFreshTx, IsRun, IsTurnAt, IsPlanned, IsReadyFor, IsReady, KeptReady, ClosesTx, Publishes, ClosedLinks, closes_links}
 
 by_own : (plan : Plan) (tx : Tx) → tx.plan ≡ plan → IsReadyFor plan tx → IsReady tx
 by_own plan tx of ready = grind arith

@@ -1,12 +1,9 @@
 -- The law of a message in a run of polls.
-use Rattle.run_laws.specs.MessageInRun.{AreReleasedBy}
-use Rattle.run_laws.proofs.Names.{all_back, Poll, released_by, lt-ltb, subst, IsAccepted, AreQueued, IsQueued, All-weaker, has_port, true, used_sub_vls, ℕ, ◌≡◌, ◌⊎◌, ◌+◌, ◌-◌, ◌*◌, ◌<◌, ◌≤◌, List, [], ◌∷◌, ◌++◌, Bool, nat_lt, length, map, take, drop, arith, refl, ap, ◌∙◌, sym, None, inl, inr, ⊎_elim, All, suc-mul, mul-le, cases_lt, le-ltb, append_assoc, length-append, take-append-drop, length-drop, All-head, All-drop, Plan, IsPlan, link_plan_at, bag_micros, link_place, room_of, LinkPlan, A, Sent, fragments_from, Entry, Lines, latest, IsPrefixOf, Accepted, IsAllowed, IsDrained, stream_at, cons_parts, all_front, pieces_of, port_pieces, most_pieces, queued_before, message_wait, worst_wait, AreTimely, fragments_of, seen_of, HasPlace, FindsIt, MessageInRun}
-use Rattle.afdx_tx.proofs.OwnLengths.{own_link}
+use Rattle.run_laws.proofs.Names.{AreReleasedBy, all_back, Poll, released_by, lt-ltb, subst, IsAccepted, AreQueued, IsQueued, All-weaker, has_port, true, used_sub_vls, ℕ, ◌≡◌, ◌⊎◌, ◌+◌, ◌-◌, ◌*◌, ◌<◌, ◌≤◌, List, [], ◌∷◌, ◌++◌, Bool, nat_lt, length, map, take, drop, arith, refl, ap, ◌∙◌, sym, None, inl, inr, ⊎_elim, All, suc-mul, mul-le, cases_lt, le-ltb, append_assoc, length-append, take-append-drop, length-drop, All-head, All-drop, Plan, IsPlan, link_plan_at, bag_micros, link_place, room_of, LinkPlan, A, Sent, fragments_from, Entry, Lines, latest, IsPrefixOf, Accepted, IsAllowed, IsDrained, stream_at, cons_parts, all_front, pieces_of, port_pieces, most_pieces, queued_before, message_wait, worst_wait, AreTimely, fragments_of, seen_of, HasPlace, FindsIt, MessageInRun, own_link, sum_by-le, sum_by-take-drop, sum_by_push}
 use Rattle.run_laws.proofs.PollStep.{StandsAt, StepsAt, emitter_step, drain_step, emitter_endures, drain_endures}
 use Rattle.run_laws.proofs.Ran.{HasOwed, Rise, Show, has_at, some_gap, at_of, seen_both, seen_append, adds_seen, timely_rise, splits, AreSteps, have_run}
 use Rattle.run_laws.proofs.Used.{queued_port}
 use Rattle.run_laws.proofs.Timely.{timely_released}
-use Rattle.std.proofs.lemmas.List.Sums.{sum_by-le, sum_by-take-drop, sum_by_push}
 use Rattle.run_laws.proofs.Pieces.{own_pieces, fragments_count, fragments_both, port_most}
 
 -- fewer than `many` fragments of a sub-VL were sent

@@ -1,15 +1,15 @@
 -- The names of other crates, and of this one's definitions, that the proofs here use.
-pub use Rattle.std.proofs.Common.{Bool, List, None, Option, Some, [], ap, arith, cond, drop, false, get_or, inl, inr, length, map, nat_eq, nat_le, nat_lt, refl, subst, suc, sym, take, true, zero, ℕ, ⊎_elim, ◌%◌, ◌&&◌, ◌*◌, ◌++◌, ◌+◌, ◌-◌, ◌<◌, ◌||◌, ◌∙◌, ◌∷◌, ◌≡◌, ◌≢◌, ◌≤◌, ◌⊎◌}
-pub use Rattle.std.proofs.lemmas.Bool.{and_from, both_ways, cases_eq, cases_lt, eq-eqb, false≢true, le-leb, le-ltb, lt-ltb}
+pub use Rattle.std.proofs.Common.{Bool, List, None, Option, Some, [], ap, arith, cond, drop, false, get_or, inl, inr, length, map, nat_eq, nat_le, nat_lt, refl, subst, suc, sym, take, true, zero, ℕ, ⊎_elim, ◌&&◌, ◌*◌, ◌++◌, ◌+◌, ◌-◌, ◌<◌, ◌||◌, ◌∙◌, ◌∷◌, ◌≡◌, ◌≢◌, ◌≤◌, ◌⊎◌}
+pub use Rattle.std.proofs.lemmas.Bool.{and_from, both_ways, cases_eq, cases_lt, eq-eqb, false≢true, le-ltb, lt-ltb}
 pub use Rattle.std.proofs.lemmas.Bool.Decides.{nat_tests}
-pub use Rattle.std.proofs.lemmas.List.{append-nil, append_assoc, length-append, length-drop, length-map, map-append, take-append-drop}
-pub use Rattle.std.proofs.lemmas.List.Elements.{All-cons, All-drop, All-from_recursion, All-head, All-nil, All-tail, All-weaker, filter-append}
+pub use Rattle.std.proofs.lemmas.List.{append-nil, append_assoc, length-append, length-drop, length-map, map-append, take-append-drop, get_or_default, append_cancel_left}
+pub use Rattle.std.proofs.lemmas.List.Elements.{All-cons, All-drop, All-head, All-nil, All-tail, All-weaker, filter-append, All-filter, All-map, filter_passes, All-contains_itself, All-push}
 pub use Rattle.std.proofs.lemmas.Nat.{mul-le}
 pub use Rattle.std.proofs.lemmas.Result.{on_ok_weaker}
-pub use Rattle.std.specs.Prelude.{All, Contains, slice_index}
-pub use native.Mathlib.Nat.{mul-suc, suc-mul}
-pub use Rattle.afdx_plan.specs.Config.{IsPlan, Plan, link_plan_at, link_place}
-pub use Rattle.afdx_plan.specs.Plan.{IsLink, bag_micros, bag_ms, room_of, step_of}
+pub use Rattle.std.specs.Prelude.{All, Contains, slice_index, replicate, ◌/◌, filter, not, unwrap_or, IfSome, is_some, sum_by}
+pub use native.Mathlib.Nat.{suc-mul}
+pub use Rattle.afdx_plan.specs.Config.{IsPlan, Plan, link_plan_at, link_place, port_plan_at}
+pub use Rattle.afdx_plan.specs.Plan.{bag_micros, bag_ms, room_of, step_of}
 pub use Rattle.afdx_plan.specs.declared.link_plan.LinkPlan.{LinkPlan}
 pub use Rattle.afdx_plan.specs.declared.port_plan.PortPlan.{PortPlan}
 pub use Rattle.afdx_frame.specs.Cutting.{cut_by, pieces_from}
@@ -20,26 +20,58 @@ pub use Rattle.afdx_frame.specs.Frame.{interface_byte}
 unfoldable pub use Rattle.afdx_frame.specs.Frame.{addresses, datagram, header_front, internet_header, link_header, udp_header, unnumbered}
 pub use Rattle.afdx_frame.specs.Header.{link_in, number_in, sub_in}
 pub use Rattle.afdx_frame.specs.declared.net.Net.TheVariants.{A}
-pub use Rattle.redundant_mux.proofs.MirroredLines.{both_none, stood_before}
-pub use Rattle.redundant_mux.specs.Lines.{Entry, entry, BothEndure, Endures, Lines, any_up}
+pub use Rattle.redundant_mux.proofs.MirroredLines.{stood_before}
+pub use Rattle.redundant_mux.specs.Lines.{Entry, entry, BothEndure, Lines, any_up, logged_for}
 unfoldable pub use Rattle.redundant_mux.specs.Lines.{log}
-pub use Rattle.vl_shaper.specs.Pace.{IsLater, Pace, is_due, turn_of, users_among}
-pub use Rattle.vl_shaper.specs.Polls.{ArePolled, AreServed, HasAtPolls, IsOfUser, IsServed, Poll, ServeUsers, is_of, latest_poll, released_by}
+pub use Rattle.vl_shaper.specs.Pace.{IsLater, is_due, turn_of, users_among}
+pub use Rattle.vl_shaper.specs.Polls.{AreServed, HasAtPolls, IsOfUser, IsServed, Poll, ServeUsers, is_of, released_by, last_after}
 pub use Rattle.afdx_legal.proofs.StreamLemmas.{latest_push}
-pub use Rattle.afdx_legal.specs.Accepted.{AreAllowed, AreQueued, IsAllowed, IsQueued}
+pub use Rattle.afdx_legal.specs.Accepted.{AreAllowed, AreQueued, IsAllowed, IsQueued, Owes}
 pub use Rattle.afdx_legal.specs.Legal.{Accepted}
-pub use Rattle.afdx_legal.specs.Streams.{IsPrefixOf, latest, link_stream, stamp_of, sub_stream, told}
-pub use Rattle.vl_link.proofs.TurnLaws.{turns_each, turns_endure, turns_seen}
-pub use Rattle.vl_link.specs.Links.{Held, IsSameLink, LinkState, Passes, held_at, held_view, link_at, no_link_plan, pace_of, taken_by}
-pub use Rattle.vl_link.specs.Kept.{begun_after, begun_by, none_begun}
+pub use Rattle.afdx_legal.specs.Streams.{IsPrefixOf, latest, link_stream, stamp_of, sub_stream, told, more_in, unnumbered_fragments}
+pub use Rattle.vl_link.proofs.TurnLaws.{turns_each, turns_endure, turns_seen, turn_endures}
+pub use Rattle.vl_link.specs.Links.{Held, IsSameLink, LinkState, Passes, held_at, held_view, link_at, pace_of, taken_by, AreSameSubs, Serves, GivesFrame, IsSameSub, sent_by, message_fragments, GoesOn, Starts, sent_of}
+pub use Rattle.vl_link.specs.Kept.{begun_after, begun_by, none_begun, IsTied}
 pub use Rattle.vl_link.specs.Turn.{AreTurns, Turn, TurnView, may_release}
 pub use Rattle.vl_link.specs.declared.link.Served.{Served}
 pub use Rattle.vl_link.specs.declared.link.Served.TheVariants.{Lost, Nothing, Released}
 pub use Rattle.afdx_tx.specs.Run.{Drains, DrainsAt, IsDrained, accepted_in, accepted_view, pace_in, IsRun, IsTurnAt}
 pub use Rattle.afdx_tx.specs.DrainEnds.{stream_at}
 pub use Rattle.afdx_tx.specs.Emitter.{IsFreshTx, Tx, taken_in}
-pub use Rattle.plan_analysis.specs.Wait.{has_port, message_wait, most_pieces, pieces_of, pieces_on, port_pieces, queued_before, used_sub_vls, worst_wait}
-pub use Rattle.afdx_laws.proofs.ListLemmas.{all_back, all_front, below_one, cons_parts, cons_same, nil_isnt_cons}
+pub use Rattle.plan_analysis.specs.Wait.{has_port, message_wait, most_pieces, pieces_of, pieces_on, port_pieces, queued_before, used_sub_vls, worst_wait, is_on}
+pub use Rattle.afdx_laws.proofs.ListLemmas.{all_back, all_front, below_one, cons_parts, nil_isnt_cons}
 pub use Rattle.afdx_laws.proofs.NextFragment.{wait_at}
-pub use Rattle.run_laws.specs.MessageInRun.{ApartAreTimely, AreFinding, AreTimely, ComesIn, FindsIt, HasPlace, IsAccepted, MessageInRun, fragments_of, seen_of}
+pub use Rattle.run_laws.specs.MessageInRun.{ApartAreTimely, AreFinding, AreTimely, ComesIn, FindsIt, HasPlace, IsAccepted, MessageInRun, fragments_of, seen_of, AreReleasedBy}
 pub use Rattle.run_laws.specs.Runs.{ArePolls, AreRuns, ComeWithin, ComesBy, DrainPolls, EmitterPolls, IsPlanned, IsReady, IsReadyFor, KeptReady, NextInRun, latest_of, next_wait}
+pub use Rattle.afdx_plan.specs.declared.link_plan.Networks.TheVariants.{Both}
+pub use Rattle.vl_link.specs.Seen.{Finds, taken_of, Seen, receiving, gathered}
+pub use Rattle.vl_link.proofs.SubInStep.{moves_of, gave_same, same_sub_here, same_sub_on}
+pub use Rattle.run_laws.specs.WorkedRun.{short_port, short_sent, short_frame, front_entry, three_link, three_plan, three_accepted, end_frame, line_after, long_sub, short_sub, subs_of, tx_of, ComesInTurn, ThirdReleased, WaitsItsTurn, other_frame, other_line, tight_link, byte_plan, bytes_accepted, no_line, byte_line, failed_line, NeedsItsPremises, fresh, sub_of, stray_frame, stray_line, both_at, lost_line, NeedsARun, small_link, small_plan, message_accepted, front_line, both_lines, ComesInRun, tight_plan, tight_sent, tight_accepted, tight_frame, tight_line, TightReleased, MeetsTheWait}
+pub use Rattle.afdx_tx.specs.Calls.{ClosesTx, Publishes}
+pub use Rattle.afdx_tx.proofs.ClosedEmitter.{ClosedLinks, closes_links}
+pub use Rattle.std.proofs.lemmas.List.Filters.{sum_by-filter_both}
+pub use Rattle.std.proofs.lemmas.List.Sums.{sum_by-cons, sum_by-le, sum_by-take-drop, sum_by_push, sum_by-append}
+pub use Rattle.afdx_plan.specs.declared.port_plan.PortId.{PortId}
+pub use Rattle.plan_analysis.specs.declared.traffic.Sender.{Sender}
+pub use Rattle.plan_analysis.specs.Traffic.{senders_on, have_periods, has_period, IsWaitByTraffic, arrived, arrived_before, flows_of, AreSendersOf, IsWaitOf, IsSubWait, flow_of, round_of}
+pub use Rattle.plan_analysis.proofs.Busy.{all_of_map, waits_by_traffic}
+pub use Rattle.run_laws.specs.TrafficInRun.{Arrival, AreApart, times_in, is_from, is_before, KeepPeriods, TrafficInRun, accepted_by, messages_in}
+pub use Rattle.afdx_tx.proofs.OwnLengths.{own_link}
+pub use Rattle.subvl_queue.specs.Views.{after_take, ReceiverView, looked}
+pub use Rattle.vl_link.proofs.MessageEnds.{not_begun}
+pub use Rattle.afdx_laws.specs.NextFragment.{longest_wait}
+pub use Rattle.vl_shaper.proofs.Users.{users_most, passed_lt}
+pub use Rattle.std.specs.Int.{div_ceil}
+pub use Rattle.std.proofs.lemmas.List.Recursion.{max_bounds}
+pub use Rattle.afdx_frame.specs.declared.net.Net.{Net}
+pub use Rattle.vl_shaper.proofs.OneEach.{turn_below}
+pub use Rattle.vl_link.proofs.Choosing.{stream_more}
+pub use Rattle.vl_link.proofs.LinkTurn.{other_turn, turn_at}
+pub use Rattle.vl_shaper.specs.declared.shaper.Stamp.{Stamp}
+pub use Rattle.vl_shaper.proofs.Polled.{counted, released_in_time}
+pub use Rattle.std.proofs.Math.Nat.{lt-mul-div-succ, mul-div-le, mul_right_comm}
+pub use Rattle.plan_analysis.specs.KeptPeriods.{IsBusyUntil}
+pub use Rattle.afdx_plan.specs.declared.link_plan.Bag.{Bag}
+pub use Rattle.run_laws.specs.TrafficRow.{NeedsTraffic, TakesItsWait, byte_arrivals, byte_sender, byte_senders, other_sent, other_senders}
+pub use Rattle.std.proofs.lemmas.List.Folds.{Any-from_list_any, list_any_at}
+pub use Rattle.afdx_laws.specs.WorkedDelivery.{back_frame}

@@ -1,17 +1,7 @@
 -- The cases in which a premise of the law of a message in a run fails, by computation.
-use Rattle.run_laws.proofs.Names.{nil_isnt_cons, blanked, cons_parts, true, Served, sym, append-nil, drop, IsQueued, All, ◌≡◌, ℕ, zero, suc, ◌<◌, [], ◌∷◌, ◌++◌, length, refl, arith, inr, ⊎_elim, below_one, false≢true, A, cutting, fragments_at, addresses, header_front, internet_header, link_header, udp_header, datagram, unnumbered, entry, Lines, log, Nothing, Released, Drains, Held, Passes, held_at, stream_at, EmitterPolls, AreTimely, AreFinding, HasPlace, IsAccepted, fragments_of, seen_of}
-use Rattle.std.specs.Prelude.{replicate}
+use Rattle.run_laws.proofs.Names.{nil_isnt_cons, blanked, cons_parts, true, Served, sym, append-nil, drop, IsQueued, All, ◌≡◌, ℕ, zero, suc, ◌<◌, [], ◌∷◌, ◌++◌, length, refl, arith, inr, ⊎_elim, below_one, false≢true, A, cutting, fragments_at, addresses, header_front, internet_header, link_header, udp_header, datagram, unnumbered, entry, Lines, log, Nothing, Released, Drains, Held, Passes, held_at, stream_at, EmitterPolls, AreTimely, AreFinding, HasPlace, IsAccepted, fragments_of, seen_of, replicate, after_take, ReceiverView, looked, IsTied, may_release, pace_in, sub_stream, IsPrefixOf, taken_by, IsSameSub, moves_of, same_sub_here, AreReleasedBy, other_frame, other_line, tight_link, short_port, byte_plan, short_sent, bytes_accepted, short_frame, no_line, byte_line, failed_line, NeedsItsPremises, fresh, sub_of}
 use Rattle.afdx_frame.specs.Checksum.{checksum}
-use Rattle.subvl_queue.specs.Views.{after_take, ReceiverView, looked}
-use Rattle.vl_link.specs.Kept.{IsTied}
-use Rattle.vl_link.specs.Turn.{may_release}
-use Rattle.afdx_tx.specs.Run.{pace_in}
-use Rattle.afdx_legal.specs.Streams.{sub_stream, IsPrefixOf}
 use Rattle.run_laws.proofs.EmitterRuns.{polls_by}
-use Rattle.vl_link.specs.Links.{taken_by, IsSameSub}
-use Rattle.vl_link.proofs.SubInStep.{moves_of, same_sub_here}
-use Rattle.run_laws.specs.MessageInRun.{AreReleasedBy}
-use Rattle.run_laws.specs.WorkedRun.{other_frame, other_line, tight_link, short_port, byte_plan, short_sent, bytes_accepted, short_frame, no_line, byte_line, failed_line, NeedsItsPremises, fresh, sub_of}
 use Rattle.run_laws.proofs.WorkedRuns.{releases, has_room, not_released}
 use Rattle.run_laws.proofs.Ran.{seen_append}
 

@@ -1,9 +1,5 @@
 -- The law of the next fragment in a run of polls.
-use Rattle.vl_link.proofs.MessageEnds.{not_begun}
-use Rattle.run_laws.proofs.Names.{all_back, cond, is_of, HasAtPolls, ◌-◌, ℕ, ◌≡◌, ◌≢◌, ◌⊎◌, ◌+◌, ◌<◌, ◌≤◌, List, [], ◌∷◌, ◌++◌, Bool, true, map, length, arith, refl, Option, Some, None, inl, inr, ⊎_elim, All, nat_tests, cases_eq, eq-eqb, append_assoc, All-nil, All-head, Plan, IsPlan, link_plan_at, sub_in, Entry, Poll, AreTimely, none_begun, begun_after, begun_by, stamp_of, latest, latest_push, stream_at, next_wait, used_sub_vls, LinkPlan, mul-le, seen_of, ComeWithin, NextInRun, EmitterPolls, DrainPolls, ComesBy, wait_at}
-use Rattle.afdx_legal.specs.Streams.{more_in}
-use Rattle.afdx_laws.specs.NextFragment.{longest_wait}
-use Rattle.vl_shaper.proofs.Users.{users_most}
+use Rattle.run_laws.proofs.Names.{not_begun, all_back, cond, is_of, HasAtPolls, ◌-◌, ℕ, ◌≡◌, ◌≢◌, ◌⊎◌, ◌+◌, ◌<◌, ◌≤◌, List, [], ◌∷◌, ◌++◌, Bool, true, map, length, arith, refl, Option, Some, None, inl, inr, ⊎_elim, All, nat_tests, cases_eq, eq-eqb, append_assoc, All-nil, All-head, Plan, IsPlan, link_plan_at, sub_in, Entry, Poll, AreTimely, none_begun, begun_after, begun_by, stamp_of, latest, latest_push, stream_at, next_wait, used_sub_vls, LinkPlan, mul-le, seen_of, ComeWithin, NextInRun, EmitterPolls, DrainPolls, ComesBy, wait_at, more_in, longest_wait, users_most}
 use Rattle.run_laws.proofs.Used.{has_port_below}
 use Rattle.run_laws.proofs.PollStep.{Adds, gap_at, subs_at, uses_at, emitter_step, emitter_lacks, drain_step, emitter_endures, drain_endures}
 use Rattle.run_laws.proofs.Timely.{apart_timely, timely_released}

@@ -1,10 +1,5 @@
 -- How many fragments messages have.
-use Rattle.run_laws.proofs.Names.{ℕ, suc, zero, ◌≡◌, ◌+◌, ◌-◌, ◌≤◌, List, [], ◌∷◌, ◌++◌, length, arith, refl, ap, inl, inr, All, Contains, cases_lt, length-append, length-map, append_assoc, step_of, cutting, cut_by, pieces_from, Plan, IsAllowed, link_plan_at, room_of, Sent, fragments_at, fragments_from, LinkPlan, PortPlan, pieces_of, port_pieces, pieces_on, most_pieces}
-use Rattle.std.specs.Int.{div_ceil}
-use Rattle.std.specs.Prelude.{sum_by}
-use Rattle.std.proofs.lemmas.List.Sums.{sum_by-cons}
-use Rattle.std.proofs.lemmas.List.Recursion.{max_bounds}
-use Rattle.afdx_frame.specs.declared.net.Net.{Net}
+use Rattle.run_laws.proofs.Names.{ℕ, suc, zero, ◌≡◌, ◌+◌, ◌-◌, ◌≤◌, List, [], ◌∷◌, ◌++◌, length, arith, refl, ap, inl, inr, All, Contains, cases_lt, length-append, length-map, append_assoc, step_of, cutting, cut_by, pieces_from, Plan, IsAllowed, link_plan_at, room_of, Sent, fragments_at, fragments_from, LinkPlan, PortPlan, pieces_of, port_pieces, pieces_on, most_pieces, div_ceil, sum_by, sum_by-cons, max_bounds, Net}
 
 ceil_less : (a s : ℕ) → 1 ≤ a → 1 ≤ s → div_ceil a s ≡ 1 + div_ceil (a - s) s
 ceil_less a s some step = grind arith

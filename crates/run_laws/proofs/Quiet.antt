@@ -1,15 +1,5 @@
 -- What the polls of a sub-VL whose ports keep periods release, from the last time on at which it had sent all.
-use Rattle.run_laws.proofs.Names.{ℕ, suc, zero, ◌≡◌, ◌+◌, ◌-◌, ◌*◌, ◌<◌, ◌≤◌, List, [], ◌∷◌, Bool, true, cond, nat_tests, arith, Option, Some, None, inl, inr, map, mul-le, cases_lt, cases_eq, IsLater, LinkPlan, users_among, Poll, is_of, released_by, AreServed, ServeUsers, AreTimely}
-use Rattle.vl_shaper.specs.Polls.{last_after}
-use Rattle.vl_shaper.specs.declared.shaper.Stamp.{Stamp}
-use Rattle.vl_shaper.proofs.Polled.{counted}
-use Rattle.vl_shaper.proofs.Users.{passed_lt}
-use Rattle.std.specs.Prelude.{◌/◌}
-use Rattle.std.proofs.Math.Nat.{lt-mul-div-succ, mul-div-le, mul_right_comm}
-use Rattle.plan_analysis.specs.declared.traffic.Sender.{Sender}
-use Rattle.plan_analysis.specs.Traffic.{IsWaitByTraffic, arrived, arrived_before, flows_of}
-use Rattle.plan_analysis.specs.KeptPeriods.{IsBusyUntil}
-use Rattle.plan_analysis.proofs.Busy.{waits_by_traffic}
+use Rattle.run_laws.proofs.Names.{ℕ, suc, zero, ◌≡◌, ◌+◌, ◌-◌, ◌*◌, ◌<◌, ◌≤◌, List, [], ◌∷◌, Bool, true, cond, nat_tests, arith, Option, Some, None, inl, inr, map, mul-le, cases_lt, cases_eq, IsLater, LinkPlan, users_among, Poll, is_of, released_by, AreServed, ServeUsers, AreTimely, last_after, Stamp, counted, passed_lt, ◌/◌, lt-mul-div-succ, mul-div-le, mul_right_comm, Sender, IsWaitByTraffic, arrived, arrived_before, flows_of, IsBusyUntil, waits_by_traffic}
 use Rattle.run_laws.proofs.Ran.{HasOwed, Rise, at_of, has_at, past_none, timely_rise}
 use Rattle.run_laws.proofs.Timely.{timely_released}
 

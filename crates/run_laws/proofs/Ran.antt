@@ -1,7 +1,5 @@
 -- A run of polls, as the polls of one link, and what it adds to the stream of the link.
-use Rattle.run_laws.proofs.Names.{ℕ, ◌≡◌, ◌+◌, ◌<◌, ◌≤◌, List, [], ◌∷◌, ◌++◌, Bool, true, ◌&&◌, cond, nat_eq, nat_le, arith, refl, Option, Some, None, inl, inr, ◌-◌, ◌*◌, length, map, All, nat_tests, cases_lt, filter-append, append_assoc, append-nil, length-append, map-append, Plan, bag_ms, sub_in, Entry, entry, Lines, BothEndure, stood_before, Poll, is_of, released_by, IsOfUser, IsServed, AreServed, ServeUsers, HasAtPolls, latest, latest_push, stream_at, ArePolls, AreTimely, seen_of}
-use Rattle.afdx_plan.specs.declared.link_plan.Bag.{Bag}
-use Rattle.vl_shaper.proofs.Polled.{counted}
+use Rattle.run_laws.proofs.Names.{ℕ, ◌≡◌, ◌+◌, ◌<◌, ◌≤◌, List, [], ◌∷◌, ◌++◌, Bool, true, ◌&&◌, cond, nat_eq, nat_le, arith, refl, Option, Some, None, inl, inr, ◌-◌, ◌*◌, length, map, All, nat_tests, cases_lt, filter-append, append_assoc, append-nil, length-append, map-append, Plan, bag_ms, sub_in, Entry, entry, Lines, BothEndure, stood_before, Poll, is_of, released_by, IsOfUser, IsServed, AreServed, ServeUsers, HasAtPolls, latest, latest_push, stream_at, ArePolls, AreTimely, seen_of, Bag, counted}
 use Rattle.run_laws.proofs.PollStep.{Adds, IsStep, StandsAt, gap_at, subs_at, uses_at, StepsAt}
 
 -- the entry that a poll released, if any, and those after it

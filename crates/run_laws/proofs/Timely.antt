@@ -1,7 +1,5 @@
 -- How long a sub-VL waits if polls come when its link is due.
-use Rattle.run_laws.proofs.Names.{Bool, ServeUsers, users_among, ℕ, ◌≡◌, ◌+◌, ◌*◌, ◌<◌, ◌≤◌, List, [], ◌∷◌, true, arith, Option, inl, inr, map, cases_lt, IsLater, Poll, AreServed, HasAtPolls, released_by, ComeWithin, latest_of, ComesIn, AreTimely, ApartAreTimely}
-use Rattle.vl_shaper.specs.declared.shaper.Stamp.{Stamp}
-use Rattle.vl_shaper.proofs.Polled.{released_in_time}
+use Rattle.run_laws.proofs.Names.{Bool, ServeUsers, users_among, ℕ, ◌≡◌, ◌+◌, ◌*◌, ◌<◌, ◌≤◌, List, [], ◌∷◌, true, arith, Option, inl, inr, map, cases_lt, IsLater, Poll, AreServed, HasAtPolls, released_by, ComeWithin, latest_of, ComesIn, AreTimely, ApartAreTimely, Stamp, released_in_time}
 use Rattle.run_laws.proofs.Ran.{at_of}
 
 comes_due : (gap late end before : ℕ) (moments : List ℕ) → AreTimely gap late end before moments → before + (gap + late) ≤ end

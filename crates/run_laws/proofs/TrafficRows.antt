@@ -1,15 +1,6 @@
 -- The worked runs of the law of a message whose sub-VL's ports keep periods, by computation.
-use Rattle.run_laws.proofs.Names.{ℕ, zero, suc, ◌≡◌, ◌≢◌, ◌∙◌, sym, Some, List, [], ◌∷◌, ◌++◌, length, refl, ap, arith, inl, inr, A, blanked, cutting, fragments_at, addresses, header_front, internet_header, link_header, udp_header, datagram, unnumbered, log, IsPrefixOf, PortPlan, Passes, Released, below_one, cons_parts, held_at, stream_at, FindsIt, fragments_of, seen_of}
+use Rattle.run_laws.proofs.Names.{ℕ, zero, suc, ◌≡◌, ◌≢◌, ◌∙◌, sym, Some, List, [], ◌∷◌, ◌++◌, length, refl, ap, arith, inl, inr, A, blanked, cutting, fragments_at, addresses, header_front, internet_header, link_header, udp_header, datagram, unnumbered, log, IsPrefixOf, PortPlan, Passes, Released, below_one, cons_parts, held_at, stream_at, FindsIt, fragments_of, seen_of, port_plan_at, AreSendersOf, IsWaitByTraffic, IsWaitOf, ReceiverView, after_take, GivesFrame, IsSameSub, gave_same, moves_of, same_sub_here, same_sub_on, AreReleasedBy, AreApart, KeepPeriods, NeedsTraffic, TakesItsWait, byte_arrivals, byte_sender, byte_senders, other_sent, other_senders, byte_line, byte_plan, bytes_accepted, no_line, other_frame, short_sent, tight_link, fresh, three_plan, line_after}
 use Rattle.afdx_frame.specs.Checksum.{checksum}
-use Rattle.afdx_plan.specs.Config.{port_plan_at}
-use Rattle.plan_analysis.specs.Traffic.{AreSendersOf, IsWaitByTraffic, IsWaitOf}
-use Rattle.subvl_queue.specs.Views.{ReceiverView, after_take}
-use Rattle.vl_link.specs.Links.{GivesFrame, IsSameSub}
-use Rattle.vl_link.proofs.SubInStep.{gave_same, moves_of, same_sub_here, same_sub_on}
-use Rattle.run_laws.specs.MessageInRun.{AreReleasedBy}
-use Rattle.run_laws.specs.TrafficInRun.{AreApart, KeepPeriods}
-use Rattle.run_laws.specs.TrafficRow.{NeedsTraffic, TakesItsWait, byte_arrivals, byte_sender, byte_senders, other_sent, other_senders}
-use Rattle.run_laws.specs.WorkedRun.{byte_line, byte_plan, bytes_accepted, no_line, other_frame, short_sent, tight_link, fresh, three_plan, line_after}
 use Rattle.run_laws.proofs.EmitterRuns.{finding, polls_by, waits_its_turn}
 use Rattle.run_laws.proofs.NeededRuns.{begins, held, in_time, misses_late, misses_second, needs_its_premises, one_is, other_bytes, sends}
 use Rattle.run_laws.proofs.Ran.{seen_append}

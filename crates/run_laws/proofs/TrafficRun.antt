@@ -1,15 +1,5 @@
 -- The law of a message in a run of polls if the ports of its sub-VL keep periods.
-use Rattle.run_laws.proofs.Names.{all_back, ℕ, suc, zero, ◌≡◌, ◌+◌, ◌-◌, ◌<◌, ◌≤◌, List, [], ◌∷◌, ◌++◌, true, Bool, nat_tests, append-nil, pieces_of, arith, sym, ap, subst, None, Some, Entry, inl, inr, map, length, append_assoc, map-append, lt-ltb, refl, All, All-cons, All-head, All-nil, All-tail, All-weaker, Contains, Plan, IsPlan, link_plan_at, link_place, LinkPlan, PortPlan, bag_micros, room_of, A, Sent, IsAllowed, has_port, latest, AreTimely, stream_at, fragments_of, seen_of}
-use Rattle.std.specs.Prelude.{◌/◌, filter, not, sum_by}
-use Rattle.std.specs.Int.{div_ceil}
-use Rattle.std.proofs.lemmas.List.Elements.{All-contains_itself, All-filter, All-push, filter_passes}
-use Rattle.std.proofs.lemmas.List.Filters.{sum_by-filter_both}
-use Rattle.std.proofs.lemmas.List.Sums.{sum_by-append, sum_by-cons}
-use Rattle.afdx_tx.proofs.OwnLengths.{own_link}
-use Rattle.plan_analysis.specs.declared.traffic.Sender.{Sender}
-use Rattle.plan_analysis.specs.Traffic.{AreSendersOf, IsSubWait, IsWaitOf, arrived, arrived_before, flow_of, flows_of, have_periods, round_of}
-use Rattle.plan_analysis.proofs.Busy.{all_of_map}
-use Rattle.run_laws.specs.TrafficInRun.{Arrival, AreApart, KeepPeriods, TrafficInRun, accepted_by, is_before, messages_in, times_in}
+use Rattle.run_laws.proofs.Names.{all_back, ℕ, suc, zero, ◌≡◌, ◌+◌, ◌-◌, ◌<◌, ◌≤◌, List, [], ◌∷◌, ◌++◌, true, Bool, nat_tests, append-nil, pieces_of, arith, sym, ap, subst, None, Some, Entry, inl, inr, map, length, append_assoc, map-append, lt-ltb, refl, All, All-cons, All-head, All-nil, All-tail, All-weaker, Contains, Plan, IsPlan, link_plan_at, link_place, LinkPlan, PortPlan, bag_micros, room_of, A, Sent, IsAllowed, has_port, latest, AreTimely, stream_at, fragments_of, seen_of, ◌/◌, filter, not, sum_by, div_ceil, All-contains_itself, All-filter, All-push, filter_passes, sum_by-filter_both, sum_by-append, sum_by-cons, own_link, Sender, AreSendersOf, IsSubWait, IsWaitOf, arrived, arrived_before, flow_of, flows_of, have_periods, round_of, all_of_map, Arrival, AreApart, KeepPeriods, TrafficInRun, accepted_by, is_before, messages_in, times_in}
 use Rattle.run_laws.proofs.KeptPeriods.{IsAmong, IsKept, IsTimed, by_senders, filter_all, has_none, is_within, most_is, most_of, still_kept, sum_between, weight_of}
 use Rattle.run_laws.proofs.MessageRun.{are_known, by_polls, finding_steps, wide_room}
 use Rattle.run_laws.proofs.Pieces.{fragments_count, pieces_in}

@@ -1,12 +1,5 @@
 -- The sub-VLs of a link that have a port, and that no other one sends.
-use Rattle.run_laws.proofs.Names.{nil_isnt_cons, ℕ, ◌≡◌, ◌<◌, List, [], ◌∷◌, ◌++◌, ◌≤◌, true, length, length-append, length-map, arith, refl, ap, ◌∙◌, sym, ⊎_elim, All, All-head, nat_tests, Plan, IsPlan, link_plan_at, Sent, IsQueued, Tx, IsReady, IsReadyFor, Held, taken_by, LinkPlan, Entry, told}
-use Rattle.afdx_legal.specs.Accepted.{Owes}
-use Rattle.std.proofs.lemmas.List.Folds.{Any-from_list_any, list_any_at}
-use Rattle.vl_link.specs.Kept.{IsTied}
-use Rattle.vl_link.specs.Links.{GivesFrame, GoesOn, Starts, sent_of}
-use Rattle.afdx_legal.specs.Streams.{unnumbered_fragments}
-use Rattle.vl_link.specs.Seen.{Finds, Seen, receiving, gathered, taken_of}
-use Rattle.plan_analysis.specs.Wait.{is_on, has_port}
+use Rattle.run_laws.proofs.Names.{nil_isnt_cons, ℕ, ◌≡◌, ◌<◌, List, [], ◌∷◌, ◌++◌, ◌≤◌, true, length, length-append, length-map, arith, refl, ap, ◌∙◌, sym, ⊎_elim, All, All-head, nat_tests, Plan, IsPlan, link_plan_at, Sent, IsQueued, Tx, IsReady, IsReadyFor, Held, taken_by, LinkPlan, Entry, told, Owes, Any-from_list_any, list_any_at, IsTied, GivesFrame, GoesOn, Starts, sent_of, unnumbered_fragments, Finds, Seen, receiving, gathered, taken_of, is_on, has_port}
 
 -- a sub-VL with a port is one of its link
 pub has_port_below : (plan : Plan) (k s : ℕ) → IsPlan plan → k < length plan.links

@@ -1,14 +1,7 @@
 -- The worked runs, by computation.
-use Rattle.run_laws.proofs.Names.{◌≡◌, ℕ, ◌+◌, ◌<◌, ◌≤◌, ◌⊎◌, List, [], ◌∷◌, ◌++◌, length, true, refl, ap, sym, ◌∙◌, arith, inl, inr, Some, false≢true, length-append, A, cutting, fragments_at, blanked, Sent, addresses, header_front, internet_header, link_header, udp_header, datagram, unnumbered, Entry, entry, Lines, BothEndure, log, any_up, LinkPlan, may_release, is_due, turn_of, Served, Nothing, Released, Lost, Drains, pace_in, stream_at, next_wait, EmitterPolls, DrainPolls, AreRuns, ComesBy, cons_parts, slice_index, link_in, sub_in, number_in, interface_byte, None, All, All-head, All-tail, IsPlan, IsLater, latest, IsPrefixOf, IsAccepted, HasPlace, AreFinding, fragments_of, seen_of}
-use Rattle.afdx_legal.specs.Accepted.{Owes}
-use Rattle.redundant_mux.specs.Lines.{logged_for}
-use Rattle.afdx_laws.specs.WorkedDelivery.{back_frame}
+use Rattle.run_laws.proofs.Names.{◌≡◌, ℕ, ◌+◌, ◌<◌, ◌≤◌, ◌⊎◌, List, [], ◌∷◌, ◌++◌, length, true, refl, ap, sym, ◌∙◌, arith, inl, inr, Some, false≢true, length-append, A, cutting, fragments_at, blanked, Sent, addresses, header_front, internet_header, link_header, udp_header, datagram, unnumbered, Entry, entry, Lines, BothEndure, log, any_up, LinkPlan, may_release, is_due, turn_of, Served, Nothing, Released, Lost, Drains, pace_in, stream_at, next_wait, EmitterPolls, DrainPolls, AreRuns, ComesBy, cons_parts, slice_index, link_in, sub_in, number_in, interface_byte, None, All, All-head, All-tail, IsPlan, IsLater, latest, IsPrefixOf, IsAccepted, HasPlace, AreFinding, fragments_of, seen_of, Owes, logged_for, back_frame, stray_frame, stray_line, both_at, lost_line, NeedsARun, small_link, small_plan, message_accepted, front_line, both_lines, front_entry, ComesInRun, tight_link, tight_plan, tight_sent, tight_accepted, tight_frame, tight_line, TightReleased, MeetsTheWait, append_cancel_left, Plan, link_plan_at, AreReleasedBy}
 use Rattle.afdx_frame.specs.Checksum.{checksum}
-use Rattle.run_laws.specs.WorkedRun.{stray_frame, stray_line, both_at, lost_line, NeedsARun, small_link, small_plan, message_accepted, front_line, both_lines, front_entry, ComesInRun, tight_link, tight_plan, tight_sent, tight_accepted, tight_frame, tight_line, TightReleased, MeetsTheWait}
-use Rattle.std.proofs.lemmas.List.{append_cancel_left}
-use Rattle.afdx_plan.specs.Config.{Plan, link_plan_at}
 use Rattle.run_laws.proofs.Ran.{seen_both}
-use Rattle.run_laws.specs.MessageInRun.{AreReleasedBy}
 use Rattle.run_laws.proofs.NextRun.{next_in_run_holds}
 use Rattle.run_laws.proofs.MessageRun.{message_in_run_holds}
 

@@ -1,7 +1,8 @@
 //! The bytes of a reader.
-ghost use Rattle.std.specs.Prelude.{◌≡◌, ◌≤◌, ◌<◌, IfOk, OnOk, OnErr, None, option_to_list, slice_range};
-ghost use Rattle.std.specs.Io.KnownBytes.{Consumes, IsAtEnd, Keeps};
+ghost use Rattle.std.specs.Prelude.{◌≡◌, ◌≤◌, ◌<◌, IfOk, OnOk, OnErr, None, option_to_list, slice_range, ℕ, List, Option};
+ghost use Rattle.std.specs.Io.KnownBytes.{Consumes, IsAtEnd, Keeps, prepend_known};
 ghost use Rattle.script_text.specs.Lines.{TakesPlain, before_feed};
+ghost use Rattle.script_text.specs.declared.bytes.TheConstants.{BUFFER_SIZE};
 
 use memchr::memchr;
 use std::alloc::AllocError;
@@ -22,10 +23,6 @@ pub struct Bytes<R: Read + Drop> {
 }
 
 impl<R: Read + Drop> Model for Bytes<R> {
-    ghost use Rattle.std.specs.Prelude.{ℕ, List, Option, ◌≤◌, slice_range};
-    ghost use Rattle.std.specs.Io.KnownBytes.{prepend_known};
-    ghost use Rattle.script_text.specs.declared.bytes.TheConstants.{BUFFER_SIZE};
-
     ghost Value = { Option (List ℕ) };
 
     ghost view = { λ b. prepend_known (slice_range b.buffer b.start b.end) (R.remaining b.reader) };

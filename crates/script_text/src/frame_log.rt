@@ -1,7 +1,7 @@
 //! A network that keeps its frames, and iterating over them.
 ghost use Rattle.std.specs.Prelude.{◌≡◌, ◌+◌, ◌^◌, ◌<◌, ◌≤◌, [], ◌∷◌, ◌++◌, true, false, length, OnOk, OnErr, vec_capacity, List, map};
 ghost use Rattle.redundant_mux.specs.Lines.{entry, Entry};
-ghost use Rattle.script_text.specs.FrameLog.{AreInLog, spelled, TakesFrame, first_moment};
+ghost use Rattle.script_text.specs.FrameLog.{AreInLog, spelled, TakesFrame, first_moment, FrameLog, LacksRoom};
 ghost use Rattle.std.specs.Iterator.{item_count};
 
 use afdx_frame::GREATEST_FRAME;
@@ -26,9 +26,6 @@ pub struct FrameLog {
 }
 
 impl Model for FrameLog {
-    ghost use Rattle.std.specs.Prelude.{vec_capacity};
-    ghost use Rattle.script_text.specs.FrameLog.{FrameLog, AreInLog, spelled};
-
     ghost Value = { FrameLog };
 
     ghost view = { λ l. record {
@@ -67,8 +64,6 @@ impl FrameLog {
 }
 
 impl Network for FrameLog {
-    ghost use Rattle.script_text.specs.FrameLog.{FrameLog, LacksRoom};
-
     ghost handed = { λ l. l.handed };
 
     ghost failures = { λ l. l.failures };
@@ -140,8 +135,6 @@ impl<'a> Model for LogFrames<'a> {
 }
 
 impl<'a> LogFrames<'a> {
-    ghost use Rattle.std.specs.Prelude.{◌≡◌};
-
     pub(crate) fn new(marks: &'a [Mark], bytes: &'a [u8]) -> LogFrames<'a>
         requires { AreInLog marks.now bytes.now }
         ensures { result ≡ spelled marks.now bytes.now }

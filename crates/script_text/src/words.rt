@@ -1,5 +1,5 @@
 //! The words of a line, numbers in decimal digits, and the message of a `send` line.
-ghost use Rattle.std.specs.Prelude.{◌≡◌, ◌<◌, ◌≤◌, ℕ, [], ◌∷◌, not, length, slice_index, MatchOption, ◌+◌, ◌-◌, ◌*◌, ◌^◌, IfSome};
+ghost use Rattle.std.specs.Prelude.{◌≡◌, ◌<◌, ◌≤◌, ℕ, [], ◌∷◌, not, length, slice_index, MatchOption, ◌+◌, ◌-◌, ◌*◌, ◌^◌, IfSome, List};
 ghost use Rattle.script_text.specs.Command.{is_blank as is_blank_byte, words_of, number_of, is_numeral as is_numeral_text};
 ghost use Rattle.std.specs.Char.{is_ascii_digit};
 ghost use Rattle.std.specs.List.{list_all};
@@ -87,8 +87,6 @@ pub struct Message {
 }
 
 impl Model for Message {
-    ghost use Rattle.std.specs.Prelude.{ℕ, List};
-
     ghost Value = { List ℕ };
 
     ghost view = { λ m. m.bytes.items };

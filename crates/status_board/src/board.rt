@@ -1,8 +1,10 @@
 //! The publishing end of the board, and of one link's cell.
-ghost use Rattle.std.specs.Prelude.{◌≡◌, ◌<◌, length, slice_set};
-ghost use Rattle.status_board.specs.Views.{NoFieldFalls, value_of, StartsWith, published, last_of, with_entry, IsReading};
-ghost use Rattle.status_board.specs.Rule.{hearing};
+ghost use Rattle.std.specs.Prelude.{◌≡◌, ◌<◌, length, slice_set, List, true, false};
+ghost use Rattle.status_board.specs.Views.{NoFieldFalls, value_of, StartsWith, published, last_of, with_entry, IsReading, Published};
+ghost use Rattle.status_board.specs.Rule.{hearing, counts_of};
 ghost use Rattle.crossbeam_utils.specs.Seq.{cell_view, IsSamePass};
+ghost use Rattle.std.specs.Box.{boxed_slice_items};
+ghost use Rattle.std.specs.Arc.{arc_value};
 
 use crate::counts::Counts;
 use crate::monitor::Reader;
@@ -18,10 +20,6 @@ pub struct Board {
 }
 
 impl Model for Board {
-    ghost use Rattle.std.specs.Prelude.{List};
-    ghost use Rattle.std.specs.Box.{boxed_slice_items};
-    ghost use Rattle.status_board.specs.Views.{Published};
-
     ghost Value = { List Published };
 
     ghost view = { λ b. boxed_slice_items b.links };
@@ -50,12 +48,6 @@ pub struct Writer {
 }
 
 impl Model for Writer {
-    ghost use Rattle.std.specs.Prelude.{◌≡◌, true, false};
-    ghost use Rattle.std.specs.Arc.{arc_value};
-    ghost use Rattle.crossbeam_utils.specs.Seq.{cell_view};
-    ghost use Rattle.status_board.specs.Rule.{counts_of};
-    ghost use Rattle.status_board.specs.Views.{Published};
-
     ghost Value = { Published };
 
     ghost view = { λ w. record { cell = w.pass.table_id; history = counts_of (cell_view w.pass).history } };

@@ -1,6 +1,10 @@
 //! The reading end of the board, and of one link's cell.
-ghost use Rattle.std.specs.Prelude.{◌≡◌, ◌<◌, slice_set};
-ghost use Rattle.status_board.specs.Views.{seen, links_of, IsReading};
+ghost use Rattle.std.specs.Prelude.{◌≡◌, ◌<◌, slice_set, List, true};
+ghost use Rattle.status_board.specs.Views.{seen, links_of, IsReading, Watched};
+ghost use Rattle.std.specs.Box.{boxed_slice_items};
+ghost use Rattle.std.specs.Arc.{arc_value};
+ghost use Rattle.crossbeam_utils.specs.Seq.{cell_view};
+ghost use Rattle.status_board.specs.Rule.{counts_of};
 
 use crate::counts::Counts;
 use crate::rule::{Cell, Knowing, Loads};
@@ -16,10 +20,6 @@ pub struct Monitor {
 }
 
 impl Model for Monitor {
-    ghost use Rattle.std.specs.Prelude.{List};
-    ghost use Rattle.std.specs.Box.{boxed_slice_items};
-    ghost use Rattle.status_board.specs.Views.{Watched};
-
     ghost Value = { List Watched };
 
     ghost view = { λ m. boxed_slice_items m.links };
@@ -48,12 +48,6 @@ pub struct Reader {
 }
 
 impl Model for Reader {
-    ghost use Rattle.std.specs.Prelude.{◌≡◌, true};
-    ghost use Rattle.std.specs.Arc.{arc_value};
-    ghost use Rattle.crossbeam_utils.specs.Seq.{cell_view};
-    ghost use Rattle.status_board.specs.Rule.{counts_of};
-    ghost use Rattle.status_board.specs.Views.{Watched};
-
     ghost Value = { Watched };
 
     ghost view = { λ r. record {

@@ -1,8 +1,5 @@
 -- What was published of the links of an emitter, in the cells of a board and of a monitor.
-use Rattle.storm.proofs.Names.{◌≡◌, ℕ, suc, ◌<◌, List, [], ◌∷◌, length, map, set, get_or, refl, sym, ap, ◌∙◌, arith, get_or-map, length-map, map-set_same, Published, Watched, published, seen, no_cell, AreNew, cells_of, cells_read, ◌+◌, ◌++◌, take, add-one, take-suc, take-length, Plan, link_plan_at, Entry, Counts, zeros, last_of, IsShown, own_counts, all_counts, Tx, IsFreshTx}
-use Rattle.atomic_table.specs.Seated.{TableId}
-use Rattle.status_board.proofs.Histories.{last_or-push}
-use Rattle.afdx_tx.specs.Calls.{Publishes}
+use Rattle.storm.proofs.Names.{◌≡◌, ℕ, suc, ◌<◌, List, [], ◌∷◌, length, map, set, get_or, refl, sym, ap, ◌∙◌, arith, get_or-map, length-map, map-set_same, Published, Watched, published, seen, no_cell, AreNew, cells_of, cells_read, ◌+◌, ◌++◌, take, add-one, take-suc, take-length, Plan, link_plan_at, Entry, Counts, zeros, last_of, IsShown, own_counts, all_counts, Tx, IsFreshTx, TableId, last_or-push, Publishes}
 
 abbrev written : Published → TableId
 written link = link.cell

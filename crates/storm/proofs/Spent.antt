@@ -1,7 +1,5 @@
 -- The ports of an emitter, once each of them sent its messages, and how many slots one requested.
-use Rattle.storm.proofs.Names.{◌≡◌, ◌∙◌, ℕ, zero, suc, ◌+◌, ◌*◌, ◌<◌, ◌≤◌, List, [], ◌∷◌, length, map, get_or, refl, ap, sym, arith, sum_by, get_or-map, length-map, length-append, Contains-get_or, Plan, port_plan_at, SenderView, Tx, queues_in, PortView, BelongsTo, AreOpenedWith, AreFreshPorts, HasEveryPlace, messages_to, named, sent_all, asked_by, asked_after, AreAtMost, IsSpent, AreSpent, ◌++◌, set, get_or-set_other, Counts, Watched, seen, IsReading, ReadsOnly}
-use Rattle.std.proofs.lemmas.List.Sums.{sum_by-cons}
-use Rattle.std.proofs.Common.{Result, IfOk, IsOkAnd}
+use Rattle.storm.proofs.Names.{◌≡◌, ◌∙◌, ℕ, zero, suc, ◌+◌, ◌*◌, ◌<◌, ◌≤◌, List, [], ◌∷◌, length, map, get_or, refl, ap, sym, arith, sum_by, get_or-map, length-map, length-append, Contains-get_or, Plan, port_plan_at, SenderView, Tx, queues_in, PortView, BelongsTo, AreOpenedWith, AreFreshPorts, HasEveryPlace, messages_to, named, sent_all, asked_by, asked_after, AreAtMost, IsSpent, AreSpent, ◌++◌, set, get_or-set_other, Counts, Watched, seen, IsReading, ReadsOnly, sum_by-cons, Result, IfOk, IsOkAnd}
 use Rattle.storm.proofs.SameCells.{cells_kept, no_seen}
 
 -- a fresh port that sent its messages

@@ -1,12 +1,5 @@
 -- The frames of a storm, once its ports are taken back and all is sent.
-use Rattle.storm.proofs.Names.{◌≡◌, ◌∙◌, ℕ, ◌<◌, List, length, All, ap, sym, subst, All-contains, Plan, Entry, log, Accepted, IsLegal, AreAllowed, AreOwn, AreOwnStreams, accepted_in, Tx, PortView, own_messages, AreSpent, ◌+◌, ◌≤◌, cond, take, get_or, arith, length-map, get_or-map, LinkPlan, entry_of, entries, AreKnown, is_on_both, on_both, refl}
-use Rattle.afdx_legal.specs.Accepted.{IsAllDone, IsHandedWhole}
-use Rattle.afdx_tx.specs.Gathering.{IsGatheredTx}
-use Rattle.std.proofs.lemmas.List.Filters.{length-filter_more}
-use Rattle.afdx_frame.specs.Header.{link_in}
-use Rattle.afdx_frame.specs.declared.net.Net.{Net}
-use Rattle.redundant_mux.specs.declared.memory.Handed.{Handed}
-use Rattle.afdx_legal.proofs.StreamLemmas.{known_all}
+use Rattle.storm.proofs.Names.{◌≡◌, ◌∙◌, ℕ, ◌<◌, List, length, All, ap, sym, subst, All-contains, Plan, Entry, log, Accepted, IsLegal, AreAllowed, AreOwn, AreOwnStreams, accepted_in, Tx, PortView, own_messages, AreSpent, ◌+◌, ◌≤◌, cond, take, get_or, arith, length-map, get_or-map, LinkPlan, entry_of, entries, AreKnown, is_on_both, on_both, refl, IsAllDone, IsHandedWhole, IsGatheredTx, length-filter_more, link_in, Net, Handed, known_all}
 
 -- what was accepted of each port is its own list
 gathered_own : (tx gathered : Tx) (n turns : ℕ) (ports : List PortView) → AreSpent tx n turns ports → IsGatheredTx tx ports gathered

@@ -1,9 +1,11 @@
 //! Comparing the frames of two networks over the links that both carry.
-ghost use Rattle.std.specs.Prelude.{◌≡◌, ◌↔◌, ◌≤◌, length, map, IsTrue, All};
+ghost use Rattle.std.specs.Prelude.{◌≡◌, ◌↔◌, ◌≤◌, length, map, IsTrue, All, List, take};
 ghost use Rattle.afdx_frame.specs.declared.net.Net.TheVariants.{A as ForA, B as ForB};
 ghost use Rattle.redundant_mux.specs.Lines.{side};
 ghost use Rattle.redundant_mux.specs.Memory.{entries};
 ghost use Rattle.afdx_legal.specs.Legal.{AreKnown, AreTwins, is_on_both, on_both};
+ghost use Rattle.afdx_plan.specs.declared.config.TheConstants.{LINKS_LIMIT};
+ghost use Rattle.afdx_plan.specs.declared.link_plan.LinkPlan.{LinkPlan};
 
 use afdx_frame::word_at;
 use afdx_plan::{LINKS_LIMIT, LinkPlan};
@@ -19,10 +21,6 @@ pub struct KeptLinks {
 }
 
 impl Model for KeptLinks {
-    ghost use Rattle.std.specs.Prelude.{◌≤◌, List, take};
-    ghost use Rattle.afdx_plan.specs.declared.config.TheConstants.{LINKS_LIMIT};
-    ghost use Rattle.afdx_plan.specs.declared.link_plan.LinkPlan.{LinkPlan};
-
     ghost Value = { List LinkPlan };
 
     ghost view = { λ kept. take kept.count kept.places };

@@ -20,9 +20,6 @@ pub(crate) struct SendsAll {
 }
 
 impl Promise<(TxPort, Result<(), Stop>)> for SendsAll {
-    ghost use Rattle.std.specs.Prelude.{◌≡◌, ◌≤◌, OnOk};
-    ghost use Rattle.storm.specs.Workers.{named, sent_all, asked_by, asked_after};
-
     ghost kept_by = { λ p r. OnOk r.1 (named r.0 ≡ sent_all p.load.messages p.before.value)
         × (asked_by r.0 ≤ asked_after p.load.turns p.before.value) };
 }

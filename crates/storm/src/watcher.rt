@@ -18,9 +18,6 @@ pub(crate) struct WatchesAll {
 }
 
 impl Promise<(Monitor, bool)> for WatchesAll {
-    ghost use Rattle.std.specs.Prelude.{◌≡◌, false};
-    ghost use Rattle.storm.specs.Threads.{ReadsEach};
-
     ghost kept_by = { λ p r. ReadsEach p.before.value r.0 p.times × (r.1 ≡ false) };
 }
 

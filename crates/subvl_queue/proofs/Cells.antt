@@ -1,8 +1,6 @@
 -- How the rule is kept when one cell and one seat change.
-use Rattle.subvl_queue.proofs.Names.{◌≡◌, ◌≢◌, ℕ, zero, suc, ◌+◌, ◌%◌, ◌<◌, ◌≤◌, ◌⊎◌, Bool, List, [], ◌∷◌, length, get_or, set, sym, refl, ◌∙◌, arith, length-set, get_or-set_other, some, Option, add-mod_right, ℕ_discrete, get_elem?, State, at_set, at_snoc, ◌++◌, ⊎_elim, subst, set_else, set_here, View, Role, Spent, Stage, Drew, Holding, owned, total, in_room, budget, shut_bit, Gone, Collects, Busy, Phase, free, writing, full, reading, Cell, holder, InPhase, CellOk, Has, Knows, Fits, Queue, AreGood}
+use Rattle.subvl_queue.proofs.Names.{◌≡◌, ◌≢◌, ℕ, zero, suc, ◌+◌, ◌%◌, ◌<◌, ◌≤◌, ◌⊎◌, Bool, List, [], ◌∷◌, length, get_or, set, sym, refl, ◌∙◌, arith, length-set, get_or-set_other, some, Option, add-mod_right, ℕ_discrete, get_elem?, State, at_set, at_snoc, ◌++◌, ⊎_elim, subst, set_else, set_here, View, Role, Spent, Stage, Drew, Holding, owned, total, in_room, budget, shut_bit, Gone, Collects, Busy, Phase, free, writing, full, reading, Cell, holder, InPhase, CellOk, Has, Knows, Fits, Queue, AreGood, false, hand_of, found_of, wait_of, Path}
 use Rattle.subvl_queue.proofs.Totals.{sums}
-use Rattle.subvl_queue.proofs.Names.{false, hand_of, found_of, wait_of, budget}
-use mathlib.Core.Path.{Path}
 use mathlib.Core.Option as maybe
 
 abbrev pick : {P : Type 0} → Dec P → Cell → Cell → Cell

@@ -1,10 +1,7 @@
 -- Each step keeps the rule.
-use Rattle.subvl_queue.proofs.Names.{◌≡◌, ◌≢◌, ℕ, zero, suc, ◌+◌, ◌-◌, ◌*◌, ◌^◌, ◌%◌, ◌<◌, ◌≤◌, ◌⊎◌, Bool, true, false, List, [], ◌∷◌, ◌++◌, length, get_or, set, sym, refl, ap, ◌∙◌, subst, ⊎_elim, arith, mod-lt, length-set, length-append, get_or-set_other, get_or-set_same, lt_of_not-le, cases_Bool, none, some, add-mod_right, ℕ_discrete, dec_le, get_elem?, Option, Some, None, IfSome, bit_or, take-append-le, step, Act, keeps, takes, gives, Valid, carried_after, stepped, Allows, set_here, at_last, at_longer, one_turn, View, Sender, Receiver, Stage, Idle, Asked, Refused, Drew, Late, Holding, total, hand_of, found_of, wait_of, shut_bit, in_hand, in_room, waiting, Gone, Whole, Busy, Phase, free, writing, full, reading, holder, shown, InPhase, Knows, Fits, Queue, Seated, with_ask, idle, drawn, with_look, holding, freed_of, lated, with_glance, with_total, with_all, reserves, unreserves, claims, publishes, finds_ready, takes_out, finds_closed, closes, gathers}
-use mathlib.Core.Logic.{dite}
-use lib.Seq.{set-get_or}
+use Rattle.subvl_queue.proofs.Names.{◌≡◌, ◌≢◌, ℕ, zero, suc, ◌+◌, ◌-◌, ◌*◌, ◌^◌, ◌%◌, ◌<◌, ◌≤◌, ◌⊎◌, Bool, true, false, List, [], ◌∷◌, ◌++◌, length, get_or, set, sym, refl, ap, ◌∙◌, subst, ⊎_elim, arith, mod-lt, length-set, length-append, get_or-set_other, get_or-set_same, lt_of_not-le, cases_Bool, none, some, add-mod_right, ℕ_discrete, dec_le, get_elem?, Option, Some, None, IfSome, bit_or, take-append-le, step, Act, keeps, takes, gives, Valid, carried_after, stepped, Allows, set_here, at_last, at_longer, one_turn, View, Sender, Receiver, Stage, Idle, Asked, Refused, Drew, Late, Holding, total, hand_of, found_of, wait_of, shut_bit, in_hand, in_room, waiting, Gone, Whole, Busy, Phase, free, writing, full, reading, holder, shown, InPhase, Knows, Fits, Queue, Seated, with_ask, idle, drawn, with_look, holding, freed_of, lated, with_glance, with_total, with_all, reserves, unreserves, claims, publishes, finds_ready, takes_out, finds_closed, closes, gathers, dite, set-get_or, or_shifted_r}
 use Rattle.subvl_queue.proofs.Totals.{sums, hands_small, total_le}
 use Rattle.subvl_queue.proofs.Parts.{owned_mine, owned_other, owned_at, take_next}
-use lib.Bits.{or_shifted_r}
 use Rattle.subvl_queue.proofs.Cells.{put, St, Homes, put_here, knows, fits, good_more, holds_none, holds_one, placed, quiet, moved}
 
 pub calm_at : (st st' : Stage) → st ≡ st' → (Busy st' → ⊥) → Busy st → ⊥

@@ -2,9 +2,9 @@
 ghost use Rattle.std.specs.Prelude.{◌≡◌, ◌^◌, ◌<◌, ◌≤◌, [], ◌∷◌, ◌++◌, take, drop, length, None, IfSome, IfNone, is_some, MatchBool};
 ghost use Rattle.subvl_queue.specs.declared.rule.Role.TheVariants.{Receiver as AsReceiver};
 ghost use Rattle.subvl_queue.specs.Messages.{IsMessage};
-ghost use Rattle.subvl_queue.specs.Queue.{RestsAs};
+ghost use Rattle.subvl_queue.specs.Queue.{RestsAs, IsSlotOf};
 ghost use Rattle.subvl_queue.specs.Room.{room_with};
-ghost use Rattle.subvl_queue.specs.Views.{IsGathered, whole, TellsLeft, HasPort, HasEvery, LacksOne, AreOf, brought_by_all};
+ghost use Rattle.subvl_queue.specs.Views.{IsGathered, whole, TellsLeft, HasPort, HasEvery, LacksOne, AreOf, brought_by_all, GatheredView};
 
 use crate::receiver::{Receiver, fetch};
 use crate::ring::{Knowing, Ring};
@@ -28,11 +28,6 @@ pub struct Gathered {
 }
 
 impl Model for Gathered {
-    ghost use Rattle.std.specs.Prelude.{drop};
-    ghost use Rattle.subvl_queue.specs.declared.rule.Role.TheVariants.{Receiver as AsReceiver};
-    ghost use Rattle.subvl_queue.specs.Queue.{RestsAs, IsSlotOf};
-    ghost use Rattle.subvl_queue.specs.Views.{IsGathered, whole, GatheredView};
-
     ghost Value = { GatheredView };
 
     ghost view = { λ g. record {

@@ -5,7 +5,7 @@ ghost use Rattle.subvl_queue.specs.Messages.{IsMessage, AreItems};
 ghost use Rattle.subvl_queue.specs.Room.{room_with};
 ghost use Rattle.subvl_queue.specs.Queue.{IsAtTable, RestsAs, IsSlotOf};
 ghost use Rattle.subvl_queue.specs.Steps.{IsNext, with_look, freed_of, holding};
-ghost use Rattle.subvl_queue.specs.Views.{new_receiver, new_sender, one_more, after_take, looked, closed, taken_back, accepted_of, brought_by_all, AreBack, LacksOne, AreOf, IsWhole};
+ghost use Rattle.subvl_queue.specs.Views.{new_receiver, new_sender, one_more, after_take, looked, closed, taken_back, accepted_of, brought_by_all, AreBack, LacksOne, AreOf, IsWhole, brought_back, ReceiverView};
 
 use crate::gathered::{Gathered, has_every, take_all_back};
 use crate::ring::{Knowing, Ring};
@@ -75,11 +75,6 @@ pub struct Receiver {
 }
 
 impl Model for Receiver {
-    ghost use Rattle.std.specs.Prelude.{◌≡◌, ◌^◌, ◌≤◌, [], length, None, IfSome};
-    ghost use Rattle.subvl_queue.specs.declared.rule.Role.TheVariants.{Receiver as AsReceiver};
-    ghost use Rattle.subvl_queue.specs.Queue.{RestsAs, IsSlotOf};
-    ghost use Rattle.subvl_queue.specs.Views.{brought_back, ReceiverView};
-
     ghost Value = { ReceiverView };
 
     ghost view = { λ r. record {

@@ -1,6 +1,7 @@
 //! Room for one message.
 ghost use Rattle.std.specs.Prelude.{◌≡◌, ◌≤◌, length, take, IfOk, Some, None};
-ghost use Rattle.subvl_queue.specs.Room.{room_with, bytes_of, port_of};
+ghost use Rattle.subvl_queue.specs.Room.{room_with, bytes_of, port_of, RoomView, item_of};
+ghost use Rattle.std.specs.Box.{boxed_slice_items};
 
 use std::alloc::{AllocError, Global};
 use std::boxed::BoxedSlice;
@@ -18,10 +19,6 @@ pub struct Room {
 }
 
 impl Model for Room {
-    ghost use Rattle.std.specs.Prelude.{◌≡◌, ◌≤◌, length, take};
-    ghost use Rattle.std.specs.Box.{boxed_slice_items};
-    ghost use Rattle.subvl_queue.specs.Room.{RoomView, room_with, item_of};
-
     ghost Value = { RoomView };
 
     ghost view = { λ r. room_with (length (boxed_slice_items r.block))

@@ -3,10 +3,10 @@ ghost use Rattle.std.specs.Prelude.{◌≡◌, ◌≢◌, ◌%◌, ◌^◌, ◌<
 ghost use Rattle.subvl_queue.specs.declared.rule.Role.TheVariants.{Sender as AsSender};
 ghost use Rattle.subvl_queue.specs.Messages.{IsMessage};
 ghost use Rattle.subvl_queue.specs.Room.{room_with};
-ghost use Rattle.subvl_queue.specs.Queue.{IsAtTable, RestsAs};
+ghost use Rattle.subvl_queue.specs.Queue.{IsAtTable, RestsAs, IsSlotOf};
 ghost use Rattle.subvl_queue.specs.declared.sender.Why.TheVariants.{Closed};
 ghost use Rattle.subvl_queue.specs.Steps.{new_seat, drawn, asked_with_room, RefusedBy};
-ghost use Rattle.subvl_queue.specs.Views.{own_of, places_of, new_sender, IsPlaced, IsRefused};
+ghost use Rattle.subvl_queue.specs.Views.{own_of, places_of, new_sender, IsPlaced, IsRefused, SenderView};
 
 use crate::ring::{CLOSED, Knowing, Ring};
 use crate::room::Room;
@@ -100,11 +100,6 @@ pub struct Sender {
 }
 
 impl Model for Sender {
-    ghost use Rattle.std.specs.Prelude.{◌≡◌, ◌^◌, ◌≤◌, length};
-    ghost use Rattle.subvl_queue.specs.declared.rule.Role.TheVariants.{Sender as AsSender};
-    ghost use Rattle.subvl_queue.specs.Queue.{RestsAs, IsSlotOf};
-    ghost use Rattle.subvl_queue.specs.Views.{own_of, places_of, SenderView};
-
     ghost Value = { SenderView };
 
     ghost view = { λ s. record {

@@ -1,8 +1,6 @@
 -- How a run goes on, how its lines end, and how it ends once its streams are written.
-use Rattle.tx_script.proofs.Names.{◌≡◌, ℕ, ◌+◌, ◌*◌, ◌<◌, ◌≤◌, List, [], ◌∷◌, append-nil, Option, Some, None, refl, ap, sym, ◌∙◌, subst, arith, true, inl, inr, ◌++◌, IfSome, Ok, Err, Result, Appends, Appends-nil, Appends-trans, All-cons, All-head, All-tail, IfSome_then, Plan, Tx, first_line, meaning_of, counted, HasFew, note_of, streams, ends_writing, Outcome, RunFault, AtBench, IsFreshBench, Obeys, OnlyTakes, ClosesOnly, AreTold, TellsTotal, IsGathered, AnsweredLine, Play, play, ClosesAt, transcript, left_after, AreRun, HasPlayed, IsWhole, Plays, Ends, Leaves, SaysLine, ReadsLine, Running, Halted, Stops, HandsOver, Finishes, EndsEarly, false≢true, FrameLog, Played, Whole, Broken}
-use Rattle.script_text.specs.declared.line.Line.{Line as Said}
+use Rattle.tx_script.proofs.Names.{◌≡◌, ℕ, ◌+◌, ◌*◌, ◌<◌, ◌≤◌, List, [], ◌∷◌, append-nil, Option, Some, None, refl, ap, sym, ◌∙◌, subst, arith, true, inl, inr, ◌++◌, IfSome, Ok, Err, Result, Appends, Appends-nil, Appends-trans, All-cons, All-head, All-tail, IfSome_then, Plan, Tx, first_line, meaning_of, counted, HasFew, note_of, streams, ends_writing, Outcome, RunFault, AtBench, IsFreshBench, Obeys, OnlyTakes, ClosesOnly, AreTold, TellsTotal, IsGathered, AnsweredLine, Play, play, ClosesAt, transcript, left_after, AreRun, HasPlayed, IsWhole, Plays, Ends, Leaves, SaysLine, ReadsLine, Running, Halted, Stops, HandsOver, Finishes, EndsEarly, false≢true, FrameLog, Played, Whole, Broken, Said, Sums}
 use Rattle.script_text.specs.declared.faults.RunFault.TheVariants as Fault
-use Rattle.script_text.specs.declared.notes.Summary.{Summary as Sums}
 use Rattle.tx_script.proofs.Matched.{same_totals, each_fresh}
 use Rattle.tx_script.proofs.Finding.{finds_first, totals_are}
 

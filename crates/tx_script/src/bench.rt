@@ -1,11 +1,11 @@
 //! An emitter with its ports, and obeying a line.
 ghost use Rattle.std.specs.Prelude.{◌≡◌, ◌≤◌, IfOk, IfErr};
-ghost use Rattle.script_text.specs.declared.line.Line.TheVariants as Said;
-ghost use Rattle.script_text.specs.declared.faults.RunFault.TheVariants as RunFault;
 ghost use Rattle.tx_script.specs.declared.obey_lines.TheConstants.{LINES_LIMIT};
 ghost use Rattle.subvl_queue.specs.Messages.{most_calls};
-ghost use Rattle.tx_script.specs.AtBench.{HaveAsked, Sends, Obeys, OnlyTakes};
+ghost use Rattle.tx_script.specs.AtBench.{HaveAsked, Sends, Obeys, OnlyTakes, AtBench, IsAtHand, IsFreshBench, IsGathered};
 ghost use Rattle.tx_script.specs.Play.{script_refusal};
+ghost use Rattle.script_text.specs.declared.line.Line.TheVariants as Said;
+ghost use Rattle.script_text.specs.declared.faults.RunFault.TheVariants as RunFault;
 
 use afdx_plan::{Config, PortId, VlId};
 use afdx_tx::{Emitter, TxPort, open_tx};
@@ -22,8 +22,6 @@ pub struct Bench {
 }
 
 impl Model for Bench {
-    ghost use Rattle.tx_script.specs.AtBench.{AtBench, IsAtHand};
-
     ghost Value = { AtBench };
 
     ghost view = { λ b. record { tx = b.emitter; ports = b.ports.items } };
@@ -32,9 +30,7 @@ impl Model for Bench {
 }
 
 impl Bench {
-    ghost use Rattle.std.specs.Prelude.{◌≡◌, IfOk, IfErr};
     ghost use Rattle.script_text.specs.declared.faults.RunFault.TheVariants as RunFault;
-    ghost use Rattle.tx_script.specs.AtBench.{IsFreshBench, IsGathered};
 
     /// A fresh bench. The only fault is Memory.
     #[tactic(auto, using(std::proofs::Common::arith))]

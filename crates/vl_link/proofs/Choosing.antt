@@ -1,8 +1,5 @@
 -- Sub-VLs polled in the order of turns, and the regulation of a link after a frame.
-use Rattle.vl_link.proofs.Names.{ℕ, zero, suc, ◌≡◌, ◌≢◌, ◌⊎◌, ◌+◌, ◌<◌, ◌≤◌, List, Bool, true, false, length, set, get_or, arith, inl, inr, ⊎_elim, length-set, get_or-set_same, get_or-set_other, get_or_default, cases_eq, Pace, turn_of, Held, held_at, nothing_held, Asks, Passes, PassedOver, [], ◌∷◌, ◌++◌, ap, ◌∙◌, sym, Some, length_push, sequence_number, link_in, sub_in, IsFrameOf, Entry, entry, Lines, log, log_more, link_stream, A, pace_of, latest_push, with_push_in, with_push_out}
-use Rattle.std.proofs.lemmas.Grind.{get_or-set_at}
-use Rattle.afdx_plan.specs.declared.link_plan.Networks.{Networks}
-use Rattle.redundant_mux.specs.Lines.{logged_for}
+use Rattle.vl_link.proofs.Names.{ℕ, zero, suc, ◌≡◌, ◌≢◌, ◌⊎◌, ◌+◌, ◌<◌, ◌≤◌, List, Bool, true, false, length, set, get_or, arith, inl, inr, ⊎_elim, length-set, get_or-set_same, get_or-set_other, get_or_default, cases_eq, Pace, turn_of, Held, held_at, nothing_held, Asks, Passes, PassedOver, [], ◌∷◌, ◌++◌, ap, ◌∙◌, sym, Some, length_push, sequence_number, link_in, sub_in, IsFrameOf, Entry, entry, Lines, log, log_more, link_stream, A, pace_of, latest_push, with_push_in, with_push_out, get_or-set_at, Networks, logged_for}
 
 -- The sub-VL that was set.
 pub held_same : (subs : List Held) (s : ℕ) (h : Held) → s < length subs → held_at (set subs s h) s ≡ h

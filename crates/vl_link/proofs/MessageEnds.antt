@@ -1,8 +1,5 @@
 -- If a sub-VL's stream is the fragments of whole messages, no message of it is begun.
-use Rattle.vl_link.proofs.Names.{ℕ, zero, suc, ◌≡◌, ◌+◌, ◌-◌, ◌<◌, ◌≤◌, List, [], ◌∷◌, ◌++◌, Bool, true, false, cond, eqb, length, map, arith, refl, All, get_or-take, length-take, All-head, All-tail, lt-leb, step_of, PortPlan, sub_in, cut_by, pieces_from, Sent, blanked, fragments_from, step_le, Entry, sub_stream, told, more_in, none_begun, begun_after, begun_by, unnumbered, link_header, internet_header, header_front, cutting, fragments_at}
-use Rattle.std.proofs.lemmas.Bool.Decides.{nat_tests}
-use Rattle.afdx_frame.specs.declared.net.Net.{Net}
-use Rattle.afdx_frame.specs.declared.field.Piece.{Piece}
+use Rattle.vl_link.proofs.Names.{ℕ, zero, suc, ◌≡◌, ◌+◌, ◌-◌, ◌<◌, ◌≤◌, List, [], ◌∷◌, ◌++◌, Bool, true, false, cond, eqb, length, map, arith, refl, All, get_or-take, length-take, All-head, All-tail, lt-leb, step_of, PortPlan, sub_in, cut_by, pieces_from, Sent, blanked, fragments_from, step_le, Entry, sub_stream, told, more_in, none_begun, begun_after, begun_by, unnumbered, link_header, internet_header, header_front, cutting, fragments_at, nat_tests, Net, Piece}
 
 -- a message whose pieces start within the range of the offset
 abbrev pub IsShort : Sent → Type 0

@@ -1,13 +1,5 @@
 -- A queue after a poll, the fragments left, and the invariant of its sub-VL.
-use Rattle.vl_link.proofs.Names.{ℕ, ◌≡◌, List, [], ◌∷◌, ◌++◌, arith, sym, subst, append_assoc, length-append, get_or_append_left, All-push, Seen, receiving, gathered, taken_of, known_of, ports_of, queue_of, total_of, FindsNothing, Finds, IsSameQueue, ◌+◌, SubVl, PortPlan, ◌≢◌, ◌<◌, length, map, refl, Bool, true, Some, None, ap, ◌∙◌, ◌%◌, sent_of, Held, Starts, IsSub, fragments_again, room_of, A, cutting, pieces_from, pieces_left, Sent, Option, cutting_some, left_of, message_fragments, fragments_at, unnumbered}
-use Rattle.afdx_plan.specs.Config.{port_plan_at}
-use Rattle.afdx_frame.specs.Cutting.{Remains, cut_of, whole}
-use Rattle.afdx_frame.proofs.Twins.{cut_whole}
-use Rattle.std.specs.Prelude.{is_some, IfSome, ◌≤◌}
-use Rattle.subvl_queue.specs.Messages.{IsItem, AreItems}
-use Rattle.vl_link.specs.Kept.{cut_among}
-use Rattle.subvl_queue.specs.Room.{RoomView, bytes_of, port_of, room_with}
-use Rattle.vl_link.specs.Seen.{most_of}
+use Rattle.vl_link.proofs.Names.{ℕ, ◌≡◌, List, [], ◌∷◌, ◌++◌, arith, sym, subst, append_assoc, length-append, get_or_append_left, All-push, Seen, receiving, gathered, taken_of, known_of, ports_of, queue_of, total_of, FindsNothing, Finds, IsSameQueue, ◌+◌, SubVl, PortPlan, ◌≢◌, ◌<◌, length, map, refl, Bool, true, Some, None, ap, ◌∙◌, ◌%◌, sent_of, Held, Starts, IsSub, fragments_again, room_of, A, cutting, pieces_from, pieces_left, Sent, Option, cutting_some, left_of, message_fragments, fragments_at, unnumbered, port_plan_at, Remains, cut_of, whole, cut_whole, is_some, IfSome, ◌≤◌, IsItem, AreItems, cut_among, RoomView, bytes_of, port_of, room_with, most_of}
 
 -- A poll that found a message took it.
 pub taken_finds : (old : Seen) (message : ℕ × List ℕ) (new : Seen) → Finds old message new

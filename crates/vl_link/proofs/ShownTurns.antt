@@ -1,7 +1,5 @@
 -- A stream that shows choices takes turns.
-use Rattle.vl_link.proofs.Names.{ℕ, ◌≡◌, ◌≢◌, ◌+◌, ◌<◌, ◌≤◌, List, [], ◌∷◌, ◌++◌, Bool, true, false, cond, eqb, length, arith, refl, ap, ◌∙◌, sym, subst, ⊎_elim, Option, Some, None, count_by, sum_by-cons, cases_eq, eq-eqb, ne_eqb, sub_in, Entry, turn_of, Stamp, turn_below, stamp_of, latest, sub_stream, link_stream, more_in, before_next, TakesTurns, begun_after, begun_by, shown_choice, ShowsChoices, none_begun, append-nil, All-map, room_of, A, Lines, log, taken_of, Releases, Held, LinkState, held_at, held_view, HasOwnItems, IsLinkOfPlan, Passes, sent_of, taken_by, IsLinkTied}
-use Rattle.vl_shaper.specs.Pace.{Choice, IsChosen, AreChosen, IsPassedOver}
-use Rattle.vl_shaper.proofs.OneEach.{one_each_holds}
+use Rattle.vl_link.proofs.Names.{ℕ, ◌≡◌, ◌≢◌, ◌+◌, ◌<◌, ◌≤◌, List, [], ◌∷◌, ◌++◌, Bool, true, false, cond, eqb, length, arith, refl, ap, ◌∙◌, sym, subst, ⊎_elim, Option, Some, None, count_by, sum_by-cons, cases_eq, eq-eqb, ne_eqb, sub_in, Entry, turn_of, Stamp, turn_below, stamp_of, latest, sub_stream, link_stream, more_in, before_next, TakesTurns, begun_after, begun_by, shown_choice, ShowsChoices, none_begun, append-nil, All-map, room_of, A, Lines, log, taken_of, Releases, Held, LinkState, held_at, held_view, HasOwnItems, IsLinkOfPlan, Passes, sent_of, taken_by, IsLinkTied, Choice, IsChosen, AreChosen, IsPassedOver, one_each_holds}
 use Rattle.vl_link.proofs.QueueLooks.{items_taken}
 use Rattle.vl_link.proofs.MessageEnds.{IsShort, not_begun}
 

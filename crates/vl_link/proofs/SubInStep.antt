@@ -1,6 +1,5 @@
 -- A sub-VL that was polled, chosen or gave a frame, and its stream.
-use Rattle.vl_link.proofs.Names.{ℕ, ◌≡◌, ◌≢◌, List, [], ◌∷◌, ◌++◌, true, length, arith, refl, ap, ◌∙◌, sym, inl, inr, ⊎_elim, cases_eq, append-nil, append_assoc, map-append, length-map, A, Sent, Entry, entry, Pace, SubVl, told, IsPrefixOf, Held, held_at, Starts, Asks, IsPicked, PassedOver, Gives, IsSameSub, AreSameSubs, sub_fragments, message_fragments, taken_by, IsTied, set, get_or, get_or_default, get_or-set_other, LinkPlan, IsFrameOf, nothing_held, AreSubsOf, held_view, IsChoice, NoneHas, turn_onto}
-use Rattle.afdx_frame.proofs.Twins.{fragments_more}
+use Rattle.vl_link.proofs.Names.{ℕ, ◌≡◌, ◌≢◌, List, [], ◌∷◌, ◌++◌, true, length, arith, refl, ap, ◌∙◌, sym, inl, inr, ⊎_elim, cases_eq, append-nil, append_assoc, map-append, length-map, A, Sent, Entry, entry, Pace, SubVl, told, IsPrefixOf, Held, held_at, Starts, Asks, IsPicked, PassedOver, Gives, IsSameSub, AreSameSubs, sub_fragments, message_fragments, taken_by, IsTied, set, get_or, get_or_default, get_or-set_other, LinkPlan, IsFrameOf, nothing_held, AreSubsOf, held_view, IsChoice, NoneHas, turn_onto, fragments_more}
 use Rattle.vl_link.proofs.Choosing.{Moves, moves_passed, each_set, held_same}
 use Rattle.vl_link.proofs.TurnLaws.{choice_other}
 use Rattle.vl_link.proofs.QueueLooks.{items_nothing, items_finds, same_nothing, same_finds}

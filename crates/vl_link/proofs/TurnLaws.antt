@@ -1,6 +1,5 @@
 -- A turn of a link, for any view of its sub-VLs.
-use Rattle.vl_link.proofs.Names.{ℕ, zero, suc, ◌≡◌, ◌≢◌, ◌⊎◌, ◌+◌, ◌<◌, ◌≤◌, List, true, arith, ⊎_elim, cases_eq, LinkPlan, Lines, BothEndure, Pace, turn_of, Served, TurnView, IsChoice, Turn, AreTurns, may_release}
-use Rattle.redundant_mux.proofs.MirroredLines.{both_on}
+use Rattle.vl_link.proofs.Names.{ℕ, zero, suc, ◌≡◌, ◌≢◌, ◌⊎◌, ◌+◌, ◌<◌, ◌≤◌, List, true, arith, ⊎_elim, cases_eq, LinkPlan, Lines, BothEndure, Pace, turn_of, Served, TurnView, IsChoice, Turn, AreTurns, may_release, both_on}
 use Rattle.vl_link.proofs.Choosing.{met}
 
 -- The chosen sub-VL is one of the link's.

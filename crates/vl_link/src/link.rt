@@ -1,14 +1,19 @@
 //! A link: its sub-VLs in turn.
-ghost use Rattle.std.specs.Prelude.{◌≡◌, ◌<◌, true, length, IfSome, IfNone, ◌≤◌, [], ◌∷◌, ◌++◌, List, nat_lt, if◌then◌else◌};
+ghost use Rattle.std.specs.Prelude.{◌≡◌, ◌<◌, true, length, IfSome, IfNone, ◌≤◌, [], ◌∷◌, ◌++◌, List, nat_lt, if◌then◌else◌, ℕ, ◌||◌, false, None, Some, IfOk, IfErr, MatchOption};
 ghost use Rattle.afdx_legal.specs.Counting.{counts_in};
-ghost use Rattle.vl_shaper.specs.Pace.{IsLater};
+ghost use Rattle.vl_shaper.specs.Pace.{IsLater, waits_until};
 ghost use Rattle.redundant_mux.specs.Lines.{BothEndure, log, Entry, entry};
 ghost use Rattle.afdx_legal.specs.Streams.{link_stream};
-ghost use Rattle.vl_link.specs.Links.{pace_of, AreSubsOf, AreSameSubs, Serves, Follows, IsPicked, PassedOver};
+ghost use Rattle.vl_link.specs.Links.{pace_of, AreSubsOf, AreSameSubs, Serves, Follows, IsPicked, PassedOver, LinkState, IsLinkOfPlan, AreNamed, IsSameLink, held_at};
 ghost use Rattle.vl_link.specs.Turn.{may_release, is_lost};
-ghost use Rattle.vl_link.specs.Calls.{TellsSubsDone, AreFullSubs, GathersSubs};
+ghost use Rattle.vl_link.specs.Calls.{TellsSubsDone, AreFullSubs, GathersSubs, BecomesDue, StaysAsIs, TellsLinkDone, GathersLink, LacksSender, LinkMakesSender, LinkTakesBack, ClosesLink};
 ghost use Rattle.afdx_frame.specs.Profile.{fragment_field};
 ghost use Rattle.afdx_frame.specs.Frame.{more_fragments};
+ghost use Rattle.std.specs.Box.{boxed_slice_items};
+ghost use Rattle.afdx_plan.specs.Plan.{sequence_number, IsLink, bag_micros};
+ghost use Rattle.status_board.specs.Views.{zeros};
+ghost use Rattle.subvl_queue.specs.Messages.{most_calls};
+ghost use Rattle.vl_link.specs.Seen.{IsReceiving, queue_of};
 
 use crate::sub::Sub;
 use afdx_frame::FrameBuffer;
@@ -117,9 +122,6 @@ pub struct Link {
 }
 
 impl Model for Link {
-    ghost use Rattle.std.specs.Box.{boxed_slice_items};
-    ghost use Rattle.vl_link.specs.Links.{LinkState, IsLinkOfPlan};
-
     ghost Value = { LinkState };
 
     ghost view = { λ l. record {
@@ -135,21 +137,6 @@ impl Model for Link {
 }
 
 impl Link {
-    ghost use Rattle.std.specs.Prelude.{◌≡◌, ℕ, ◌||◌, length, true, false, None};
-    ghost use Rattle.afdx_plan.specs.Plan.{sequence_number, IsLink, bag_micros};
-    ghost use Rattle.vl_shaper.specs.Pace.{IsLater, waits_until};
-    ghost use Rattle.redundant_mux.specs.Lines.{BothEndure, log};
-    ghost use Rattle.afdx_legal.specs.Streams.{link_stream};
-    ghost use Rattle.afdx_legal.specs.Counting.{counts_in};
-    ghost use Rattle.status_board.specs.Views.{zeros};
-    ghost use Rattle.vl_link.specs.Links.{LinkState, AreNamed, Serves, Follows, IsSameLink, pace_of};
-    ghost use Rattle.vl_link.specs.Turn.{is_lost, may_release};
-    ghost use Rattle.vl_link.specs.Calls.{BecomesDue, StaysAsIs, TellsLinkDone, AreFullSubs, GathersLink, LacksSender, LinkMakesSender, LinkTakesBack, ClosesLink};
-    ghost use Rattle.std.specs.Prelude.{◌<◌, ◌≤◌, Some, IfOk, IfErr, MatchOption};
-    ghost use Rattle.subvl_queue.specs.Messages.{most_calls};
-    ghost use Rattle.vl_link.specs.Seen.{IsReceiving, queue_of};
-    ghost use Rattle.vl_link.specs.Links.{held_at};
-
     /// A link of these sub-VLs, those of its plan, which has released nothing.
     pub fn new(end_system: u16, plan: LinkPlan, subs: Vec<Sub>) -> Link
         requires plan { IsLink plan }

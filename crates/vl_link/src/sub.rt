@@ -1,9 +1,16 @@
 //! A sub-VL: its queue, and the message being sent.
-ghost use Rattle.std.specs.Prelude.{◌≡◌, ◌≢◌, ◌≤◌, [], ◌∷◌, length, All, None, Some, IfOk, IfErr};
+ghost use Rattle.std.specs.Prelude.{◌≡◌, ◌≢◌, ◌≤◌, [], ◌∷◌, length, All, None, Some, IfOk, IfErr, IfSome, IfNone, is_some};
 ghost use Rattle.afdx_plan.specs.Plan.{IsLink};
 ghost use Rattle.afdx_frame.specs.declared.net.Net.TheVariants.{A as ForA};
 ghost use Rattle.afdx_frame.specs.Fragments.{blanked};
 ghost use Rattle.afdx_frame.specs.Header.{IsFrameOf};
+ghost use Rattle.subvl_queue.specs.Messages.{IsItem, most_calls};
+ghost use Rattle.subvl_queue.specs.Room.{room_with};
+ghost use Rattle.vl_link.specs.Seen.{most_of, ports_of, FindsNothing, Finds, TellsDrained, receiving, IsReceiving, queue_of};
+ghost use Rattle.vl_link.specs.Kept.{seen_of, IsSub, AreOfEndSystem, plans_of, cut_among, IsPortOf};
+ghost use Rattle.std.specs.Box.{boxed_slice_items};
+ghost use Rattle.vl_link.specs.Links.{Held, left_of, Asks};
+ghost use Rattle.vl_link.specs.Calls.{TellsSubDone, IsFullSub, GathersSub, LacksSender, SubMakesSender, SubTakesBack, ClosesSub};
 
 use afdx_frame::{FrameBuffer, Net, Rest, Template};
 use afdx_plan::LinkPlan;
@@ -24,12 +31,6 @@ pub enum Queue {
 }
 
 impl Queue {
-    ghost use Rattle.std.specs.Prelude.{◌≡◌, None, IfSome, IfNone, is_some};
-    ghost use Rattle.subvl_queue.specs.Messages.{IsItem};
-    ghost use Rattle.subvl_queue.specs.Room.{room_with};
-    ghost use Rattle.vl_link.specs.Seen.{most_of, ports_of, FindsNothing, Finds, TellsDrained};
-    ghost use Rattle.vl_link.specs.Kept.{seen_of};
-
     /// Exchanges an empty room for the one with the next message, if it is ready. Returns whether
     /// it was. Never waits.
     pub fn take(&mut self, room: &mut Room) -> bool
@@ -76,10 +77,6 @@ pub struct Sub {
 }
 
 impl Model for Sub {
-    ghost use Rattle.std.specs.Box.{boxed_slice_items};
-    ghost use Rattle.vl_link.specs.Links.{Held, left_of};
-    ghost use Rattle.vl_link.specs.Kept.{IsSub, AreOfEndSystem, plans_of, cut_among, seen_of};
-
     ghost Value = { Held };
 
     ghost view = { λ s. record {
@@ -94,14 +91,6 @@ impl Model for Sub {
 }
 
 impl Sub {
-    ghost use Rattle.vl_link.specs.Seen.{receiving};
-    ghost use Rattle.vl_link.specs.Links.{Held, Asks};
-    ghost use Rattle.vl_link.specs.Calls.{TellsSubDone, IsFullSub, GathersSub, LacksSender, SubMakesSender, SubTakesBack, ClosesSub};
-    ghost use Rattle.vl_link.specs.Kept.{IsPortOf, AreOfEndSystem, plans_of};
-    ghost use Rattle.subvl_queue.specs.Messages.{most_calls};
-    ghost use Rattle.subvl_queue.specs.Room.{room_with};
-    ghost use Rattle.vl_link.specs.Seen.{IsReceiving, queue_of};
-
     /// A sub-VL of the ports of these templates, over a queue with no more senders than ports, which has taken
     /// nothing, and an empty room of its size.
     pub fn new(of: SubVl, ports: Vec<Template>, receiver: Receiver, room: Room) -> Sub

@@ -1,8 +1,5 @@
 -- How long a message waits, by the polls of its link.
-use Rattle.vl_shaper.proofs.Names.{ℕ, Bool, mul-suc, zero, suc, ◌≡◌, ◌+◌, ◌-◌, ◌*◌, ◌%◌, ◌<◌, ◌≤◌, true, nat_le, ◌&&◌, cond, List, [], ◌∷◌, arith, refl, ap, ◌∙◌, ◌⊎◌, inl, inr, Option, Some, None, cases_eq, eq-eqb, le-leb, mul-le, sum_by-cons, Choice, next_turn, IsChosen, turn_of, IsLater, Stamp}
-use Rattle.std.proofs.Math.Nat.{mod-add-mod, mod-lt}
-use Rattle.vl_shaper.specs.Polls.{Poll, IsServed, AreServed, ArePolled, latest_poll, is_of, IsOfUser, ServeUsers, HasAtPolls, released_by, PolledInTime}
-use Rattle.vl_shaper.specs.Pace.{users_among}
+use Rattle.vl_shaper.proofs.Names.{ℕ, Bool, mul-suc, zero, suc, ◌≡◌, ◌+◌, ◌-◌, ◌*◌, ◌%◌, ◌<◌, ◌≤◌, true, nat_le, ◌&&◌, cond, List, [], ◌∷◌, arith, refl, ap, ◌∙◌, ◌⊎◌, inl, inr, Option, Some, None, cases_eq, eq-eqb, le-leb, mul-le, sum_by-cons, Choice, next_turn, IsChosen, turn_of, IsLater, Stamp, mod-add-mod, mod-lt, Poll, IsServed, AreServed, ArePolled, latest_poll, is_of, IsOfUser, ServeUsers, HasAtPolls, released_by, PolledInTime, users_among}
 use Rattle.vl_shaper.proofs.Users.{passed, passed_lt, passed_more, passed_self}
 use Rattle.vl_shaper.proofs.OneEach.{chosen_behind, turn_cases}
 

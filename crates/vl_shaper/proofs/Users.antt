@@ -1,8 +1,5 @@
 -- The sub-VLs that use a link, counted.
-use Rattle.vl_shaper.proofs.Names.{ℕ, zero, suc, ◌≡◌, ◌<◌, ◌≤◌, Bool, true, false, nat_le, ◌&&◌, arith, inl, inr, cases_eq, refl, ap}
-use Rattle.std.proofs.lemmas.Bool.Decides.{nat_tests}
-use Rattle.std.specs.Prelude.{nat_lt}
-use Rattle.vl_shaper.specs.Pace.{users_among}
+use Rattle.vl_shaper.proofs.Names.{ℕ, zero, suc, ◌≡◌, ◌<◌, ◌≤◌, Bool, true, false, nat_le, ◌&&◌, arith, inl, inr, cases_eq, refl, ap, nat_tests, nat_lt, users_among}
 use Rattle.vl_shaper.proofs.OneEach.{back, back_self}
 
 -- More users are more, and one more makes a difference.

@@ -1,7 +1,5 @@
 -- How many choices a sub-VL waits, and rounds in which it waits that long.
-use Rattle.vl_shaper.proofs.Names.{ℕ, Bool, true, zero, suc, ◌≡◌, ◌+◌, ◌-◌, ◌*◌, ◌<◌, ◌≤◌, List, [], ◌∷◌, length, take, arith, refl, ap, subst, inl, inr, mul-suc, lt_of_mul-lt-mul_left, Choice, next_turn, AreChosen, turns_of, HasUntil, QueuedMessage, BoundIsMet, busy_choice}
-use Rattle.std.proofs.lemmas.List.{take_all}
-use Rattle.vl_shaper.specs.Pace.{AreOfUsers, users_among}
+use Rattle.vl_shaper.proofs.Names.{ℕ, Bool, true, zero, suc, ◌≡◌, ◌+◌, ◌-◌, ◌*◌, ◌<◌, ◌≤◌, List, [], ◌∷◌, length, take, arith, refl, ap, subst, inl, inr, mul-suc, lt_of_mul-lt-mul_left, Choice, next_turn, AreChosen, turns_of, HasUntil, QueuedMessage, BoundIsMet, busy_choice, take_all, AreOfUsers, users_among}
 use Rattle.vl_shaper.proofs.Users.{passed, passed_lt, passed_more, passed_self}
 use Rattle.vl_shaper.proofs.OneEach.{back, back_cases, back_self, turn_cases, turn_lt, chosen_behind, count_cases}
 

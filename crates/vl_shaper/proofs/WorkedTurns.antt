@@ -1,6 +1,5 @@
 -- The worked choices, waits and polls, by computation.
-use Rattle.vl_shaper.proofs.Names.{ℕ, ◌≡◌, ◌≢◌, ◌<◌, ◌≤◌, true, arith, refl, Choice, next_turn, IsChosen, lone_choice, ChoosesOneEach, WaitsBehindOne, WaitsForUsers, pair_choice, LeavesOneBehind, nat_eq, turn_of}
-use Rattle.vl_shaper.specs.WorkedPolls.{served_at_0, ServesInTime, ServesUsersInTime, ReleasesAtOnce, PolledTooLate}
+use Rattle.vl_shaper.proofs.Names.{ℕ, ◌≡◌, ◌≢◌, ◌<◌, ◌≤◌, true, arith, refl, Choice, next_turn, IsChosen, lone_choice, ChoosesOneEach, WaitsBehindOne, WaitsForUsers, pair_choice, LeavesOneBehind, nat_eq, turn_of, served_at_0, ServesInTime, ServesUsersInTime, ReleasesAtOnce, PolledTooLate}
 
 -- A sub-VL that has the first turn and has something is chosen.
 pub first_chosen : (subs : ℕ) (order : ℕ → ℕ) (c : Choice) → 1 ≤ subs → c.sub ≡ order 0 → c.has c.sub ≡ true

@@ -1,7 +1,7 @@
 //! Sequence numbers, gap and cyclic order of a virtual link.
 ghost use Rattle.std.specs.Prelude.{◌≡◌, ℕ, ◌+◌, ◌-◌, ◌*◌, ◌%◌, ◌^◌, ◌<◌, ◌≤◌, None, Some, true, MatchOption};
 ghost use Rattle.afdx_plan.specs.Plan.{bag_micros, sequence_number};
-ghost use Rattle.vl_shaper.specs.Pace.{Pace, is_due, due_from, waits_until, IsLater, turn_of};
+ghost use Rattle.vl_shaper.specs.Pace.{Pace, is_due, due_from, waits_until, IsLater, turn_of, IsShaped};
 
 use afdx_plan::Bag;
 use std::marker::Model;
@@ -26,9 +26,6 @@ pub struct Shaper {
 }
 
 impl Model for Shaper {
-    ghost use Rattle.std.specs.Prelude.{◌≡◌};
-    ghost use Rattle.vl_shaper.specs.Pace.{Pace, IsShaped, waits_until};
-
     ghost Value = { Pace };
 
     ghost view = { λ s. record {

@@ -1,8 +1,5 @@
-use Rattle.std.proofs.lemmas.Result.{IfOk-weaker}
-use Rattle.afdx_config.proofs.Names.{◌≡◌, [], map, finding_of, table_view, sym, ◌∙◌}
+use Rattle.afdx_config.proofs.Names.{IfOk-weaker, ◌≡◌, [], map, finding_of, table_view, sym, ◌∙◌, TellsDocument, Explanation}
 use Rattle.afdx_config.proofs.OrderLemmas.{length_by_fault}
-use Rattle.afdx_config.specs.Explained.{TellsDocument}
-use Rattle.afdx_config.specs.declared.explaining.Explanation.{Explanation}
 use Rattle.afdx_config.proofs.explaining.explain_document.Goals as goal
 
 pub returns-clause-findings : goal.returns-clause-findings

@@ -1,7 +1,4 @@
-use Rattle.afdx_config.proofs.Names.{refl, rules, ap, map, take, finding_of, ◌∙◌}
-use Rattle.std.proofs.lemmas.List.{length-map}
-use Rattle.std.specs.List.{insert}
-use Rattle.afdx_config.specs.Findings.{found, lines_limit}
+use Rattle.afdx_config.proofs.Names.{refl, rules, ap, map, take, finding_of, ◌∙◌, length-map, insert, found, lines_limit}
 use Rattle.afdx_config.proofs.OrderLemmas.{adds_put, adds_past, map_insert}
 use Rattle.afdx_config.proofs.findings.add.Goals as goal
 

@@ -1,5 +1,4 @@
-use Rattle.afdx_config.proofs.Names.{◌≡◌, ◌∷◌, drop, map, Finding, finding_of}
-use Rattle.afdx_config.specs.Findings.{put}
+use Rattle.afdx_config.proofs.Names.{◌≡◌, ◌∷◌, drop, map, Finding, finding_of, put}
 use Rattle.afdx_config.proofs.findings.index_of.Given as goal
 
 abbrev pub invariant-loop-i : goal.invariant-loop-i

@@ -1,7 +1,5 @@
-use Rattle.afdx_config.proofs.Names.{◌∙◌}
+use Rattle.afdx_config.proofs.Names.{◌∙◌, address_cmp, get}
 use Rattle.afdx_config.proofs.SharingLemmas.{sharing}
-use Rattle.afdx_config.specs.Sharing.{address_cmp}
-use Rattle.std.specs.BTreeMap.{get}
 use Rattle.afdx_config.proofs.pairs.add_sharing.Goals as goal
 
 pub returns : goal.returns

@@ -1,6 +1,4 @@
-use Rattle.afdx_config.proofs.Names.{◌≡◌, ℕ, List, drop}
-use Rattle.std.specs.BTreeMap.{get}
-use Rattle.afdx_config.specs.Sharing.{address_cmp, first_at}
+use Rattle.afdx_config.proofs.Names.{◌≡◌, ℕ, List, drop, get, address_cmp, first_at}
 use Rattle.afdx_config.proofs.pairs.first_ports.Given as goal
 
 abbrev pub invariant-loop-i : goal.invariant-loop-i

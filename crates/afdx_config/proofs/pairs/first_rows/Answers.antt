@@ -1,5 +1,4 @@
-use Rattle.std.proofs.Common.{◌∙◌, sym, refl}
-use Rattle.afdx_config.specs.Sharing.{is_key}
+use Rattle.afdx_config.proofs.Names.{◌∙◌, sym, refl, is_key}
 use Rattle.afdx_config.proofs.KeyedLemmas.{first_from, none_left, all_left}
 use Rattle.afdx_config.proofs.pairs.first_rows.Goals as goal
 

@@ -1,7 +1,4 @@
-use Rattle.std.proofs.Common.{◌≡◌, drop}
-use Rattle.std.specs.List.{position_from}
-use Rattle.std.specs.BTreeMap.{get}
-use Rattle.afdx_config.specs.Sharing.{is_key}
+use Rattle.afdx_config.proofs.Names.{◌≡◌, drop, position_from, get, is_key}
 use Rattle.afdx_config.proofs.pairs.first_rows.Given as goal
 
 abbrev pub invariant-loop-i : goal.invariant-loop-i

@@ -1,5 +1,4 @@
-use Rattle.std.proofs.Common.{◌≡◌, map, take, option_and_then}
-use Rattle.std.specs.BTreeMap.{get}
+use Rattle.afdx_config.proofs.Names.{◌≡◌, map, take, option_and_then, get}
 use Rattle.afdx_config.proofs.pairs.first_same.Given as goal
 
 abbrev pub invariant-loop-key : goal.invariant-loop-key

@@ -1,6 +1,4 @@
-use Rattle.afdx_config.proofs.Names.{Limit, codes, arith, crowd_finding, get_or, unwrap_or, refl}
-use Rattle.std.specs.BTreeMap.{get}
-use Rattle.afdx_config.specs.Sharing.{sub_cmp}
+use Rattle.afdx_config.proofs.Names.{Limit, codes, arith, crowd_finding, get_or, unwrap_or, refl, get, sub_cmp}
 use Rattle.afdx_config.proofs.AddLemmas.{row_more}
 use Rattle.afdx_config.proofs.SharingLemmas.{count_more, count_small, crowd_is}
 use Rattle.afdx_config.proofs.plan_findings.add_crowded.Goals as goal

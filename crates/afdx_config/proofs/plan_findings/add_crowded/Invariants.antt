@@ -1,6 +1,4 @@
-use Rattle.afdx_config.proofs.Names.{Limit, codes, ◌≡◌, ℕ, take, count_by, unwrap_or, each_row, crowd_finding, Adds}
-use Rattle.std.specs.BTreeMap.{get}
-use Rattle.afdx_config.specs.Sharing.{sub_cmp, is_on_sub}
+use Rattle.afdx_config.proofs.Names.{Limit, codes, ◌≡◌, ℕ, take, count_by, unwrap_or, each_row, crowd_finding, Adds, get, sub_cmp, is_on_sub}
 use Rattle.afdx_config.proofs.plan_findings.add_crowded.Given as goal
 
 abbrev pub invariant-loop-i : goal.invariant-loop-i

@@ -1,5 +1,4 @@
-use Rattle.afdx_config.proofs.Names.{nat_cmp, ◌∙◌}
-use Rattle.std.specs.BTreeMap.{get}
+use Rattle.afdx_config.proofs.Names.{nat_cmp, ◌∙◌, get}
 use Rattle.afdx_config.proofs.KeyedLemmas.{link_found, link_within}
 use Rattle.afdx_config.proofs.plan_findings.link_place.Goals as goal
 

@@ -1,5 +1,4 @@
-use Rattle.std.proofs.Common.{[], arith, sym, ◌∙◌}
-use Rattle.std.proofs.lemmas.Grind.{common_steps}
+use Rattle.afdx_config.proofs.Names.{[], arith, sym, ◌∙◌, common_steps}
 use Rattle.afdx_config.proofs.FirstLemmas.{no_first}
 use Rattle.afdx_config.proofs.RuleLemmas.{fine}
 use Rattle.afdx_config.proofs.read.read_document.Goals as goal

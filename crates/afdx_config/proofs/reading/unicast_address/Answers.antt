@@ -1,8 +1,5 @@
-use Rattle.afdx_config.proofs.Names.{sym}
+use Rattle.afdx_config.proofs.Names.{sym, arith, common_steps, nat_tests}
 use Rattle.afdx_config.proofs.AddressLemmas.{address_of-dotted, address_of-none}
-use Rattle.std.proofs.Common.{arith}
-use Rattle.std.proofs.lemmas.Grind.{common_steps}
-use Rattle.std.proofs.lemmas.Bool.Decides.{nat_tests}
 use Rattle.afdx_config.proofs.reading.unicast_address.Goals as goal
 
 pub returns-in-Ok-clause-value : goal.returns-in-Ok-clause-value

@@ -1,9 +1,5 @@
-use Rattle.afdx_config.proofs.Names.{◌≡◌, Bor, Global, String, map, string_bytes, field_of, key_finding, key_fault, flat_map-map, append-nil, sym, ◌∙◌}
-use Rattle.std.specs.BTreeMap.{keys}
+use Rattle.afdx_config.proofs.Names.{◌≡◌, Bor, Global, String, map, string_bytes, field_of, key_finding, key_fault, flat_map-map, append-nil, sym, ◌∙◌, keys, arith, common_steps, nat_tests}
 use Rattle.afdx_config.proofs.AddLemmas.{each_more, keys_all}
-use Rattle.std.proofs.Common.{arith}
-use Rattle.std.proofs.lemmas.Grind.{common_steps}
-use Rattle.std.proofs.lemmas.Bool.Decides.{nat_tests}
 use Rattle.afdx_config.proofs.rows.add_keys.Goals as goal
 
 pub loop-key-preserved : goal.loop-key-preserved

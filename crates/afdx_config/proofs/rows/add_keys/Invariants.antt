@@ -1,5 +1,4 @@
-use Rattle.afdx_config.proofs.Names.{◌≡◌, ◌++◌, Bor, Global, String, map, string_bytes, field_of, flat_map, key_finding, key_fault, Adds}
-use Rattle.std.specs.BTreeMap.{keys}
+use Rattle.afdx_config.proofs.Names.{◌≡◌, ◌++◌, Bor, Global, String, map, string_bytes, field_of, flat_map, key_finding, key_fault, Adds, keys}
 use Rattle.afdx_config.proofs.rows.add_keys.Given as goal
 
 abbrev pub invariant-loop-key : goal.invariant-loop-key

@@ -1,5 +1,4 @@
-use Rattle.std.proofs.lemmas.List.{take-append-drop, take-append-le, take_all}
-use Rattle.afdx_frame.proofs.Names.{ℕ, ◌≡◌, ◌≤◌, ◌+◌, ◌-◌, ◌++◌, ◌∙◌, List, length, take, drop, ap, sym, arith, append_assoc, length-take-le, length-drop, take-append-add}
+use Rattle.afdx_frame.proofs.Names.{take-append-drop, take-append-le, take_all, ℕ, ◌≡◌, ◌≤◌, ◌+◌, ◌-◌, ◌++◌, ◌∙◌, List, length, take, drop, ap, sym, arith, append_assoc, length-take-le, length-drop, take-append-add}
 use Rattle.afdx_frame.proofs.buffer.put_ends.Goals as goal
 
 -- A beginning of a beginning.

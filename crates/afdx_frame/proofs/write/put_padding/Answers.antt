@@ -1,5 +1,4 @@
-use Rattle.std.proofs.lemmas.List.{take-take}
-use Rattle.afdx_frame.proofs.Names.{◌≡◌, ℕ, ◌+◌, ◌≤◌, List, ◌++◌, length, take, replicate, arith, length-take-le, take-replicate, take-append-add}
+use Rattle.afdx_frame.proofs.Names.{take-take, ◌≡◌, ℕ, ◌+◌, ◌≤◌, List, ◌++◌, length, take, replicate, arith, length-take-le, take-replicate, take-append-add}
 use Rattle.afdx_frame.proofs.write.put_padding.Goals as goal
 
 -- The first of more zeros.

@@ -1,6 +1,4 @@
-use Rattle.afdx_laws.proofs.Names.{arith, checksum, addresses, header_front, internet_header, link_header, udp_header, datagram, unnumbered}
-use Rattle.afdx_legal.proofs.StreamLemmas.{counts_more}
-use Rattle.afdx_laws.specs.Counted.{CountsTwo}
+use Rattle.afdx_laws.proofs.Names.{arith, checksum, addresses, header_front, internet_header, link_header, udp_header, datagram, unnumbered, counts_more, CountsTwo}
 use Rattle.afdx_laws.proofs.laws.counts_rise.Goals as goal
 
 counts_two : CountsTwo

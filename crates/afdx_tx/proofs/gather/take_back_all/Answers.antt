@@ -1,5 +1,4 @@
-use Rattle.afdx_tx.proofs.Names.{map-id, ◌≡◌, ◌<◌, length, get_or, set, arith, get_or_default, All-push, All-weaker, take_all, link_at, no_link, queues_in, BelongsTo, IsTakenBack}
-use Rattle.std.proofs.lemmas.Iterator.Consumers.{YieldsList-end, YieldsList-turn}
+use Rattle.afdx_tx.proofs.Names.{map-id, ◌≡◌, ◌<◌, length, get_or, set, arith, get_or_default, All-push, All-weaker, take_all, link_at, no_link, queues_in, BelongsTo, IsTakenBack, YieldsList-end, YieldsList-turn}
 use Rattle.afdx_tx.proofs.SoundEmitter.{count_is}
 use Rattle.afdx_tx.proofs.OpenedPorts.{queue_at_is}
 use Rattle.afdx_tx.proofs.PortMessages.{sub_within}

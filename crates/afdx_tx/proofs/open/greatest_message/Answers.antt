@@ -1,8 +1,4 @@
-use Rattle.std.proofs.Common.{rules, tests, Option, unwrap_or}
-use Rattle.std.proofs.lemmas.Iterator.{YieldsList-from_map, YieldsList-from_slice}
-use Rattle.std.proofs.lemmas.Iterator.Consumers.{YieldsList-at, YieldsList-from_filter, reduce_from_yields_List}
-use Rattle.std.proofs.lemmas.List.Folds.{max_of_map}
-use Rattle.afdx_tx.proofs.Names.{ℕ, ◌∙◌, ap, PortPlan, ports_of_sub}
+use Rattle.afdx_tx.proofs.Names.{rules, tests, Option, unwrap_or, YieldsList-from_map, YieldsList-from_slice, YieldsList-at, YieldsList-from_filter, reduce_from_yields_List, max_of_map, ℕ, ◌∙◌, ap, PortPlan, ports_of_sub}
 use Rattle.afdx_tx.proofs.PortLink.{on_sub_vl}
 use Rattle.afdx_tx.proofs.open.greatest_message.Goals as goal
 

@@ -1,5 +1,4 @@
-use Rattle.afdx_tx.proofs.Names.{◌≡◌, take, ports_of_sub}
-use Rattle.vl_link.specs.Kept.{AreOfEndSystem, plans_of}
+use Rattle.afdx_tx.proofs.Names.{◌≡◌, take, ports_of_sub, AreOfEndSystem, plans_of}
 use Rattle.afdx_tx.proofs.open.templates_of.Given as goal
 
 abbrev pub invariant-loop-port : goal.invariant-loop-port

@@ -1,5 +1,4 @@
-use Rattle.status_board.proofs.Histories.{falls_not_same, last_or-push}
-use Rattle.afdx_tx.proofs.Names.{link_at, arith}
+use Rattle.afdx_tx.proofs.Names.{falls_not_same, last_or-push, link_at, arith}
 use Rattle.afdx_tx.proofs.turns.publish_all.Goals as goal
 
 pub returns-clause-reaches : goal.returns-clause-reaches

@@ -1,5 +1,4 @@
-use Rattle.std.proofs.Common.{List}
-use Rattle.afdx_tx.proofs.Names.{AllWaitUntil, IsPolling, Release}
+use Rattle.afdx_tx.proofs.Names.{List, AllWaitUntil, IsPolling, Release}
 use Rattle.afdx_tx.proofs.turns.serve_all.Given as goal
 
 abbrev pub invariant-loop-link : goal.invariant-loop-link

@@ -1,4 +1,4 @@
-use Rattle.std.proofs.Common.{arith}
+use Rattle.capture.proofs.Names.{arith}
 use Rattle.capture.proofs.SoFar.{has_read_on, has_read_more, has_read_all}
 use Rattle.capture.proofs.recording.read_capture.Goals as goal
 

@@ -1,4 +1,4 @@
-use Rattle.std.proofs.Common.{◌-◌, length}
+use Rattle.capture.proofs.Names.{◌-◌, length}
 use Rattle.capture.proofs.SoFar.{HasRead}
 use Rattle.capture.proofs.recording.read_capture.Given as goal
 

@@ -1,8 +1,5 @@
-use Rattle.std.proofs.Common.{arith, ℕ, ◌+◌, ◌++◌, List, Option, length, subst}
-use Rattle.std.proofs.KnownBytes.{Appends-trans}
-use Rattle.std.specs.Io.KnownBytes.{Appends}
-use Rattle.redundant_mux.specs.Lines.{entry}
-use Rattle.capture.specs.Capture.{word, filled, packet_front, packet_block, interface_of}
+use Rattle.capture.proofs.Names.{arith, ℕ, ◌+◌, ◌++◌, List, Option, length, subst, Appends-trans, Appends, entry, word, filled, packet_front, interface_of}
+use Rattle.capture.specs.Capture.{packet_block}
 use Rattle.capture.proofs.Packets.{packet_is}
 use Rattle.capture.proofs.write.write_packet.Goals as goal
 

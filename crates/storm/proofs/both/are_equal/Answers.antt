@@ -1,5 +1,4 @@
-use Rattle.storm.proofs.Names.{◌≤◌, length, All, sym, subst, Entry}
-use Rattle.afdx_frame.specs.declared.net.Net.TheVariants.{A, B}
+use Rattle.storm.proofs.Names.{◌≤◌, length, All, sym, subst, Entry, A, B}
 use Rattle.storm.proofs.Whole.{have_links}
 use Rattle.storm.proofs.both.are_equal.Goals as goal
 

@@ -1,7 +1,4 @@
-use Rattle.storm.proofs.Names.{◌&&◌, nat_eq, rules, tests, LinkPlan}
-use Rattle.std.proofs.lemmas.Iterator.{YieldsList-from_slice}
-use Rattle.std.proofs.lemmas.Iterator.Search.{any_from_yields_List}
-use Rattle.afdx_plan.specs.Plan.{is_both}
+use Rattle.storm.proofs.Names.{◌&&◌, nat_eq, rules, tests, LinkPlan, YieldsList-from_slice, any_from_yields_List, is_both}
 use Rattle.storm.proofs.both.is_on_both.Goals as goal
 
 pub returns : goal.returns

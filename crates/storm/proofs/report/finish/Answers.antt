@@ -1,7 +1,4 @@
-use Rattle.storm.proofs.Names.{◌≡◌, ◌∙◌, List, length, map, ap, subst, arith, sum_by, IsPlan, Plan, LinkPlan, on_both, IsLegal, AreAllowed, accepted_in, Tx, PortView}
-use Rattle.std.specs.Prelude.{◌↔◌, IsTrue}
-use Rattle.afdx_frame.specs.declared.net.Net.TheVariants.{B}
-use Rattle.redundant_mux.specs.Lines.{side}
+use Rattle.storm.proofs.Names.{◌≡◌, ◌∙◌, List, length, map, ap, subst, arith, sum_by, IsPlan, Plan, LinkPlan, on_both, IsLegal, AreAllowed, accepted_in, Tx, PortView, ◌↔◌, IsTrue, B, side}
 use Rattle.storm.proofs.SameCells.{counts_kept}
 use Rattle.storm.proofs.Spent.{every_place, sum_spent}
 use Rattle.storm.proofs.Whole.{handed_whole}

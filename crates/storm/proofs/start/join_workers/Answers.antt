@@ -1,6 +1,5 @@
-use Rattle.storm.proofs.Names.{arith, common_steps, length-map}
+use Rattle.storm.proofs.Names.{arith, common_steps, length-map, map-append}
 use Rattle.storm.proofs.Spent.{at_most_push}
-use Rattle.std.proofs.lemmas.List.{map-append}
 use Rattle.storm.proofs.start.join_workers.Goals as goal
 
 pub loop-worker-preserved : goal.loop-worker-preserved

@@ -1,5 +1,4 @@
-use Rattle.std.proofs.Common.{Ok}
-use Rattle.storm.proofs.Names.{ℕ, ◌≡◌, map, length, named, sent_all, asked_by, asked_after, AreAtMost}
+use Rattle.storm.proofs.Names.{Ok, ℕ, ◌≡◌, map, length, named, sent_all, asked_by, asked_after, AreAtMost}
 use Rattle.storm.proofs.start.join_workers.Given as goal
 
 abbrev pub invariant-loop-worker : goal.invariant-loop-worker

@@ -1,6 +1,4 @@
-use Rattle.subvl_queue.proofs.Names.{arith, rules, append_assoc, append-nil, map-append, map-id}
-use Rattle.std.proofs.lemmas.Iterator.Adapters.{YieldsList-from_vec}
-use Rattle.std.proofs.lemmas.Iterator.Consumers.{YieldsList-turn, YieldsList-end}
+use Rattle.subvl_queue.proofs.Names.{arith, rules, append_assoc, append-nil, map-append, map-id, YieldsList-from_vec, YieldsList-turn, YieldsList-end}
 use Rattle.subvl_queue.proofs.gathered.take_all_back.Goals as goal
 
 pub loop-sender-init : goal.loop-sender-init

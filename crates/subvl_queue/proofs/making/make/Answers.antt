@@ -1,5 +1,4 @@
-use Rattle.subvl_queue.proofs.Names.{rules, ◌≡◌, ℕ, ◌+◌, ◌<◌, List, [], ◌∷◌, ◌++◌, length, get_or, ◌∙◌, ap, arith, get_or_append_left, get_or_push, new_sender, one_more}
-use Rattle.subvl_queue.specs.Messages.{most_bytes}
+use Rattle.subvl_queue.proofs.Names.{rules, ◌≡◌, ℕ, ◌+◌, ◌<◌, List, [], ◌∷◌, ◌++◌, length, get_or, ◌∙◌, ap, arith, get_or_append_left, get_or_push, new_sender, one_more, most_bytes}
 use Rattle.subvl_queue.proofs.making.make.Goals as goal
 
 -- One more row of a table.

@@ -1,5 +1,4 @@
-use Rattle.subvl_queue.proofs.Names.{◌≡◌, ℕ, ◌<◌, length, get_or, vec_len, vec_capacity, SenderView, new_sender, new_receiver}
-use Rattle.subvl_queue.specs.Messages.{most_bytes}
+use Rattle.subvl_queue.proofs.Names.{◌≡◌, ℕ, ◌<◌, length, get_or, vec_len, vec_capacity, SenderView, new_sender, new_receiver, most_bytes}
 use Rattle.subvl_queue.proofs.making.make.Given as goal
 
 abbrev pub invariant-loop-port : goal.invariant-loop-port

@@ -1,5 +1,4 @@
-use Rattle.std.proofs.Math.Nat.{mod-add-mod}
-use Rattle.subvl_queue.proofs.Names.{arith}
+use Rattle.subvl_queue.proofs.Names.{mod-add-mod, arith}
 use Rattle.subvl_queue.proofs.receiver.fetch.Goals as goal
 
 pub returns-clause-slot : goal.returns-clause-slot

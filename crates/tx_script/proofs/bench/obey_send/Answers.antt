@@ -1,4 +1,4 @@
-use Rattle.std.proofs.Common.{arith}
+use Rattle.tx_script.proofs.Names.{arith}
 use Rattle.tx_script.proofs.Sending.{sent_at, at_bench, obeys_nowhere}
 use Rattle.tx_script.proofs.bench.obey_send.Goals as goal
 

@@ -1,5 +1,4 @@
-use Rattle.std.proofs.Common.{arith}
-use Rattle.std.proofs.lemmas.Result.{err_from_is_err_and}
+use Rattle.tx_script.proofs.Names.{arith, err_from_is_err_and}
 use Rattle.tx_script.proofs.RunLemmas.{running_turn, within_more, stop_memory, stop_fault}
 use Rattle.tx_script.proofs.obey_lines.obey_lines.Goals as goal
 

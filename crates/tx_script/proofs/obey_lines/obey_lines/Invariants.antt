@@ -1,4 +1,4 @@
-use Rattle.tx_script.specs.AtBench.{HaveAsked}
+use Rattle.tx_script.proofs.Names.{HaveAsked}
 use Rattle.tx_script.proofs.RunLemmas.{IsRunning, IsWithin}
 use Rattle.tx_script.proofs.obey_lines.obey_lines.Given as goal
 

@@ -1,5 +1,4 @@
-use Rattle.vl_link.proofs.Names.{ℕ, ◌<◌, true, held_at}
-use Rattle.vl_link.specs.Calls.{TellsSubDone}
+use Rattle.vl_link.proofs.Names.{ℕ, ◌<◌, true, held_at, TellsSubDone}
 use Rattle.vl_link.proofs.link.subs_done.Given as goal
 
 abbrev pub invariant-loop-sub : goal.invariant-loop-sub

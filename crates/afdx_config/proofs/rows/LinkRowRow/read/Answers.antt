@@ -1,8 +1,5 @@
-use Rattle.afdx_config.proofs.Names.{table_view, codes, get_member, refl}
+use Rattle.afdx_config.proofs.Names.{table_view, codes, get_member, refl, field, Networks, networks_under}
 use Rattle.afdx_config.proofs.AddLemmas.{adds_both, last_key}
-use Rattle.afdx_config.specs.Format.{field}
-use Rattle.afdx_config.specs.declared.format.Content.TheVariants.{Networks}
-use Rattle.afdx_config.specs.Tables.{networks_under}
 use Rattle.afdx_config.proofs.rows.LinkRowRow.read.Goals as goal
 
 pub returns-clause-findings : goal.returns-clause-findings

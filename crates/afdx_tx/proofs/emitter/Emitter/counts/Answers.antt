@@ -1,5 +1,4 @@
-use Rattle.afdx_tx.proofs.Names.{◌≡◌, ◌∙◌, ◌<◌, length, arith, ap, sym, ℕ, refl, get_or_default, LinkState, no_link, own_stream, counts_in}
-use Rattle.afdx_tx.specs.Emitter.{IsLinkAt}
+use Rattle.afdx_tx.proofs.Names.{◌≡◌, ◌∙◌, ◌<◌, length, arith, ap, sym, ℕ, refl, get_or_default, LinkState, no_link, own_stream, counts_in, IsLinkAt}
 use Rattle.afdx_tx.proofs.PortLink.{none_has, found_at}
 use Rattle.afdx_tx.proofs.SoundEmitter.{count_is, sound_counts}
 use Rattle.afdx_tx.proofs.emitter.Emitter.counts.Given

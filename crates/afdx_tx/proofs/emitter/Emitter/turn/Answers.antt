@@ -1,6 +1,4 @@
-use Rattle.afdx_legal.proofs.StreamLemmas.{counts_more}
-use Rattle.status_board.proofs.Histories.{falls_not_through}
-use Rattle.afdx_tx.proofs.Names.{with_append, ◌≡◌, arith, refl, with_items_is, with_items, IsRun, IsSound, IsSteady, both_none}
+use Rattle.afdx_tx.proofs.Names.{counts_more, falls_not_through, with_append, ◌≡◌, arith, refl, with_items_is, with_items, IsRun, IsSound, IsSteady, both_none}
 use Rattle.afdx_tx.proofs.SoundEmitter.{links_apart, sound_after}
 use Rattle.afdx_tx.proofs.PollTurns.{polling_none}
 use Rattle.afdx_tx.proofs.Conforming.{keeps_phase, runs, sound_conforms, still_in}

@@ -1,4 +1,4 @@
-use Rattle.std.proofs.Common.{length}
+use Rattle.capture.proofs.Names.{length}
 use Rattle.capture.proofs.Options.{IsMidway}
 use Rattle.capture.proofs.interface.Interface.with_options.Given as goal
 

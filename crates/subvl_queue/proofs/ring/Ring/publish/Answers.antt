@@ -1,5 +1,4 @@
-use Rattle.atomic_table.specs.Table.{rest}
-use Rattle.subvl_queue.proofs.Names.{rules, None, sym, ap, ◌∙◌, ◌∷◌, [], arith, room_with}
+use Rattle.subvl_queue.proofs.Names.{rest, rules, None, sym, ap, ◌∙◌, ◌∷◌, [], arith, room_with}
 use Rattle.subvl_queue.proofs.Moves.{publishes_ok}
 use Rattle.subvl_queue.proofs.ring.Ring.publish.Goals as goal
 

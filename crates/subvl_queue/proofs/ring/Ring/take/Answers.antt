@@ -1,5 +1,4 @@
-use Rattle.atomic_table.specs.Table.{rest}
-use Rattle.subvl_queue.proofs.Names.{arith, rules, Some, ap, ◌∙◌, sym, ◌∷◌, room_with}
+use Rattle.subvl_queue.proofs.Names.{rest, arith, rules, Some, ap, ◌∙◌, sym, ◌∷◌, room_with}
 use Rattle.subvl_queue.proofs.Moves.{takes_out_ok}
 use Rattle.subvl_queue.proofs.ring.Ring.take.Goals as goal
 

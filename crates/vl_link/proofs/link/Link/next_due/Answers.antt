@@ -1,5 +1,4 @@
-use Rattle.vl_link.proofs.Names.{ℕ, ◌≡◌, ◌&&◌, Bool, true, false, inl, inr, refl, rules, cases_Bool, LinkPlan, Lines, any_up, Pace, is_due}
-use Rattle.vl_link.specs.Calls.{StaysAsIs}
+use Rattle.vl_link.proofs.Names.{ℕ, ◌≡◌, ◌&&◌, Bool, true, false, inl, inr, refl, rules, cases_Bool, LinkPlan, Lines, any_up, Pace, is_due, StaysAsIs}
 use Rattle.vl_link.proofs.link.Link.next_due.Goals.{then-due-via-then-due, then-due-via-else-due+then-not-any_up}
 use Rattle.vl_link.proofs.link.Link.next_due.Goals as goal
 
