@@ -43,8 +43,8 @@ abbrev pub has_fragment : List ℕ → Bool
 has_fragment f = nat_lt (fragment_field f) 16384
     && nat_le (8 * (fragment_field f % offset_modulus) + total_length f) (20 + greatest_datagram)
 
--- The internet header: version 4, a header of 20 bytes and type of service 0; time to live 1 and UDP. The type of service
--- and the time to live are this project's choice.
+-- The internet header: version 4, a header of 20 bytes and type of service 0; time to live 1 and UDP. The type of
+-- service and the time to live are this project's choice.
 unfoldable pub internet_broken : Bool → List ℕ → Option Breach
 internet_broken arinc f =
     kept_then (has_byte f 14 69 && (arinc || has_byte f 15 0)) Version 14 (

@@ -160,8 +160,8 @@ fn first_nonzero(bytes: &[u8]) -> Option<usize>
     bytes.iter().position(|byte| *byte != 0)
 }
 
-/// The rules of the internet addresses and of the padding. The source is 10, the end system of the source MAC address and
-/// a partition.
+/// The rules of the internet addresses and of the padding. The source is 10, the end system of the source MAC address,
+/// and a partition.
 #[tactic(auto, unfolding(crate::specs::Layout::end_broken))]
 fn end_broken(arinc: bool, b: &[u8]) -> Option<Breach>
     requires { IsReadable b.now }

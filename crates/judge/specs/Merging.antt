@@ -32,7 +32,8 @@ first_time (p ∷ ps) = Some (time_of p)
 -- the packets of both networks that are left from these places on, in the order of their times
 abbrev pub from_places : Bool → List Recorded → ℕ → List Recorded → ℕ → List OnNet
 from_places alone a on_a b on_b =
-    merged (λ (p : OnNet). time_of p.packet) (of_net alone A (on_a + 1) (drop on_a a)) (of_net alone B (on_b + 1) (drop on_b b))
+    merged (λ (p : OnNet). time_of p.packet) (of_net alone A (on_a + 1) (drop on_a a))
+    (of_net alone B (on_b + 1) (drop on_b b))
 
 -- there is no packet, or the first one is of the network
 abbrev pub BeginsOn : Bool → Net → List Recorded → Type 0
