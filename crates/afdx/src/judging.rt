@@ -36,8 +36,7 @@ pub extern "C" fn afdx_judge_pair(
     rows: &mut [FindingRow],
     judged: &mut Judged,
 ) -> u8
-    ensures judged { ¬ IsRefused result →
-        IsJudged text.now options.now true a.now b.now rows.old rows.new judged.new }
+    ensures judged { ¬ IsRefused result → IsJudged text.now options.now true a.now b.now rows.old rows.new judged.new }
     ensures answers { ¬ IsRefused result → result ≡ answer_of judged.new (length rows.old) }
     ensures fault { IsRefused result → IsFaultNumber text.now result }
     ensures unwritten { IsRefused result → (rows.new ≡ rows.old) × (judged.new ≡ judged.old) }

@@ -19,8 +19,7 @@ pub(crate) struct Document<'a> {
 
 /// Returns the tables of an array.
 fn tables_of<'a>(alloc: Global, values: &'a [Value]) -> Result<Vec<&'a Table>, AllocError>
-    ensures { IfOk result (λ rows.
-        map (λ r. table_view r.now) rows.items ≡ tables_among (items_view values.now)) }
+    ensures { IfOk result (λ rows. map (λ r. table_view r.now) rows.items ≡ tables_among (items_view values.now)) }
 {
     let mut rows = Vec::new(alloc);
     for value in values {
@@ -33,8 +32,7 @@ fn tables_of<'a>(alloc: Global, values: &'a [Value]) -> Result<Vec<&'a Table>, A
 
 /// Returns the tables of the array under a key.
 fn rows<'a>(alloc: Global, document: &'a Table, key: &str) -> Result<Vec<&'a Table>, AllocError>
-    ensures { IfOk result (λ rows.
-        map (λ r. table_view r.now) rows.items ≡ rows_at key.now (table_view document.now)) }
+    ensures { IfOk result (λ rows. map (λ r. table_view r.now) rows.items ≡ rows_at key.now (table_view document.now)) }
 {
     match value_at(document, key).and_then(|value| value.as_array()) {
         Some(values) => tables_of(alloc, values.as_slice()),
@@ -44,8 +42,7 @@ fn rows<'a>(alloc: Global, document: &'a Table, key: &str) -> Result<Vec<&'a Tab
 
 /// Returns the table under a key.
 fn section<'a>(document: &'a Table, key: &str) -> Option<&'a Table>
-    ensures { option_map (λ t. table_view t.now) result
-        ≡ section_at key.now (table_view document.now) }
+    ensures { option_map (λ t. table_view t.now) result ≡ section_at key.now (table_view document.now) }
 {
     value_at(document, key)?.as_table()
 }

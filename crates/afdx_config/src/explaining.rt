@@ -112,8 +112,7 @@ fn tell_toml(
     message: &str,
     name: Option<&str>,
 ) -> Result<Explanation, AllocError>
-    ensures findings { IfOk result (λ e.
-        TellsStop before.now message.now (map finding_of e.findings.items) e.count) }
+    ensures findings { IfOk result (λ e. TellsStop before.now message.now (map finding_of e.findings.items) e.count) }
     ensures text { IfOk result (λ e. HasLines e.count e.text.items) }
 {
     let mut found = Found::new(alloc);
@@ -126,8 +125,7 @@ fn tell_toml(
 /// has this one fault.
 /// `read_config` returns the fault of the first finding, or the plan if there is no finding.
 pub fn explain(alloc: Global, text: &[u8]) -> Result<Explanation, AllocError>
-    ensures { IfOk result (λ e.
-        Explains text.now (map finding_of e.findings.items) e.count e.text.items) }
+    ensures { IfOk result (λ e. Explains text.now (map finding_of e.findings.items) e.count e.text.items) }
 {
     explain_named(alloc, text, None)
 }
@@ -135,15 +133,13 @@ pub fn explain(alloc: Global, text: &[u8]) -> Result<Explanation, AllocError>
 /// Explains a configuration as `explain` does. Each line of a finding begins with the name of the file of the text, and
 /// with the number of the finding's line, if the text has the usual form up to that line.
 pub fn explain_file(alloc: Global, text: &[u8], name: &str) -> Result<Explanation, AllocError>
-    ensures { IfOk result (λ e.
-        Explains text.now (map finding_of e.findings.items) e.count e.text.items) }
+    ensures { IfOk result (λ e. Explains text.now (map finding_of e.findings.items) e.count e.text.items) }
 {
     explain_named(alloc, text, Some(name))
 }
 
 fn explain_named(alloc: Global, text: &[u8], name: Option<&str>) -> Result<Explanation, AllocError>
-    ensures { IfOk result (λ e.
-        Explains text.now (map finding_of e.findings.items) e.count e.text.items) }
+    ensures { IfOk result (λ e. Explains text.now (map finding_of e.findings.items) e.count e.text.items) }
 {
     match toml::table_from_slice(alloc, text) {
         Ok(table) => explain_document(alloc, &table, text, name),

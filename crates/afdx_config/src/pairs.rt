@@ -48,8 +48,7 @@ fn first_same<K: Ord + Copy>(
     alloc: Global,
     keys: &[Option<K>],
 ) -> Result<Vec<Option<usize>>, AllocError>
-    ensures { IfOk result (λ places.
-        places.items ≡ map (first_row K.cmp keys.now) keys.now) }
+    ensures { IfOk result (λ places. places.items ≡ map (first_row K.cmp keys.now) keys.now) }
 {
     let rows = first_rows(alloc, keys)?;
     let mut places = Vec::new(alloc);
@@ -72,8 +71,7 @@ fn add_pair(
     first: Option<usize>,
 ) -> Added
     requires { i < 2 ^ 63 }
-    ensures { OnOk result (Adds found.old found.new
-        (pair_finding fault key.now (row_like array) (i + 1) first)) }
+    ensures { OnOk result (Adds found.old found.new (pair_finding fault key.now (row_like array) (i + 1) first)) }
 {
     match first {
         Some(earlier) if earlier < i => {
@@ -200,8 +198,7 @@ fn sharing_places(
     firsts: &BTreeMap<Address, First>,
     ports: &[PortRow],
 ) -> Result<Vec<Option<usize>>, AllocError>
-    ensures { IfOk result (λ places. places.items
-        ≡ map (sharing_place (get address_cmp firsts.now)) ports.now) }
+    ensures { IfOk result (λ places. places.items ≡ map (sharing_place (get address_cmp firsts.now)) ports.now) }
 {
     ports
         .iter()

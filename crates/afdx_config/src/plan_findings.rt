@@ -127,8 +127,7 @@ fn add_misfits(
     rows: &Rows,
     by_id: &ById,
 ) -> Added
-    requires { (q : ℕ) → get nat_cmp by_id.now q
-        ≡ position (is_key nat_cmp q) (map (λ l. l.id) rows.now.links.items) }
+    requires { (q : ℕ) → get nat_cmp by_id.now q ≡ position (is_key nat_cmp q) (map (λ l. l.id) rows.now.links.items) }
     ensures { OnOk result (Adds found.old found.new
         (each_row (misfit_finding fault key.now misfit (cells_in rows.now)) 1 rows.now.ports.items)) }
 {

@@ -70,8 +70,7 @@ fn read_document(alloc: Global, document: &Document<'_>) -> Result<Config, Confi
 /// text has. May return `Memory` instead of any result.
 pub fn read_config(alloc: Global, text: &[u8]) -> Result<Config, ConfigFault>
     ensures plan { IfOk result (IsPlanOf text.now) }
-    ensures fault { IfErr result (λ least.
-        least ≢ ConfigFault.Memory → IsLeastFault text.now least) }
+    ensures fault { IfErr result (λ least. least ≢ ConfigFault.Memory → IsLeastFault text.now least) }
 {
     match toml::table_from_slice(alloc, text) {
         Ok(table) => match Document::of(alloc, &table) {

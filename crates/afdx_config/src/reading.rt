@@ -142,8 +142,7 @@ pub(crate) fn text_in<T: Named>(
     key: &str,
     missing: Result<T, ConfigFault>,
 ) -> Result<T, ConfigFault>
-    ensures { result
-        ≡ read missing as_str T.named ConfigFault.OutOfRange (get_member key.now (table_view table.now)) }
+    ensures { result ≡ read missing as_str T.named ConfigFault.OutOfRange (get_member key.now (table_view table.now)) }
 {
     let Some(value) = value_at(table, key) else {
         return missing;

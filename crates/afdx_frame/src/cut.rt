@@ -59,9 +59,7 @@ impl Model for Cut {
 fn next_piece(room: usize, len: usize, start: usize) -> Option<Piece>
     requires room { 25 ≤ room }
     requires len { len ≤ greatest_datagram }
-    ensures { MatchOption result
-        (len ≤ start)
-        (λ piece. (start < len) × (piece ≡ piece_at room len start)) }
+    ensures { MatchOption result (len ≤ start) (λ piece. (start < len) × (piece ≡ piece_at room len start)) }
 {
     if start >= len {
         return None;
@@ -133,19 +131,16 @@ impl Rest {
     ) -> bool
         requires over { SendsOver template.now.port link.now }
         requires message { self.old.end ≡ 8 + length bytes.now }
-        ensures frame { TakesFirst
-            (λ piece frame. frame.items ≡ frame_of
+        ensures frame { TakesFirst (λ piece frame. frame.items ≡ frame_of
             template.now.end_system template.now.port bytes.now self.old.place piece net number)
-            (pieces_left (room_of link.now.lmax) (cut_of template.now.port bytes.now self.old))
-            (written result out.new)
+            (pieces_left (room_of link.now.lmax) (cut_of template.now.port bytes.now self.old)) (written result out.new)
             (pieces_left (room_of link.now.lmax) (cut_of template.now.port bytes.now self.new)) }
         ensures same { (self.new.place ≡ self.old.place) × (self.new.end ≡ self.old.end) }
         ensures fragments { MatchOption (written result out.new)
             (fragments_left template.now.end_system (room_of link.now.lmax) net
             (cut_of template.now.port bytes.now self.old) ≡ [])
             (λ frame. fragments_left template.now.end_system (room_of link.now.lmax) net
-            (cut_of template.now.port bytes.now self.old)
-            ≡ blanked frame.items
+            (cut_of template.now.port bytes.now self.old) ≡ blanked frame.items
             ∷ fragments_left template.now.end_system (room_of link.now.lmax) net
             (cut_of template.now.port bytes.now self.new)) }
         ensures header { result ≡ true →
@@ -170,15 +165,10 @@ impl Cut {
         requires port { IsPort port.now }
         requires some { 1 ≤ vec_len bytes }
         requires most { vec_len bytes ≤ greatest_message }
-        ensures message { (result.port ≡ port.now)
-            × (result.place ≡ place)
-            × (result.bytes ≡ bytes.items) }
-        ensures pieces { (room : ℕ) →
-            pieces_left room result ≡ pieces_from 0 (cutting room (8 + length bytes.items)) }
-        ensures fragments { (end_system room : ℕ) (net : Network) →
-            fragments_left end_system room net result
-            ≡ fragments_at end_system room net place
-            (record { port = port.now; bytes = bytes.items }) }
+        ensures message { (result.port ≡ port.now) × (result.place ≡ place) × (result.bytes ≡ bytes.items) }
+        ensures pieces { (room : ℕ) → pieces_left room result ≡ pieces_from 0 (cutting room (8 + length bytes.items)) }
+        ensures fragments { (end_system room : ℕ) (net : Network) → fragments_left end_system room net result
+            ≡ fragments_at end_system room net place (record { port = port.now; bytes = bytes.items }) }
     {
         let rest = Rest::new(bytes.len(), place);
         Cut {
@@ -205,17 +195,12 @@ impl Cut {
         net: Net,
     ) -> Option<Frame>
         requires { SendsOver self.old.port link.now }
-        ensures frame { TakesFirst
-            (λ piece frame. frame.items ≡ frame_of
+        ensures frame { TakesFirst (λ piece frame. frame.items ≡ frame_of
             end_system self.old.port self.old.bytes self.old.place piece net number)
-            (pieces_left (room_of link.now.lmax) self.old)
-            result
-            (pieces_left (room_of link.now.lmax) self.new) }
+            (pieces_left (room_of link.now.lmax) self.old) result (pieces_left (room_of link.now.lmax) self.new) }
         ensures same { SameMessage self.old self.new }
-        ensures fragments { MatchOption result
-            (fragments_left end_system (room_of link.now.lmax) net self.old ≡ [])
-            (λ frame. fragments_left end_system (room_of link.now.lmax) net self.old
-            ≡ blanked frame.items
+        ensures fragments { MatchOption result (fragments_left end_system (room_of link.now.lmax) net self.old ≡ [])
+            (λ frame. fragments_left end_system (room_of link.now.lmax) net self.old ≡ blanked frame.items
             ∷ fragments_left end_system (room_of link.now.lmax) net self.new) }
     {
         let template = Template::new(end_system, &self.port);

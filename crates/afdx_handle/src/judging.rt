@@ -77,8 +77,7 @@ pub fn judge_into(
     rows: &mut [FindingRow],
     judged: &mut Judged,
 ) -> u8
-    ensures judged { ¬ IsRefused result →
-        IsJudged text.now options.now alone a.now b.now rows.old rows.new judged.new }
+    ensures judged { ¬ IsRefused result → IsJudged text.now options.now alone a.now b.now rows.old rows.new judged.new }
     ensures answers { ¬ IsRefused result → result ≡ answer_of judged.new (length rows.old) }
     ensures fault { IsRefused result → IsFaultNumber text.now result }
     ensures unwritten { IsRefused result → (rows.new ≡ rows.old) × (judged.new ≡ judged.old) }

@@ -20,8 +20,7 @@ impl<A: Network + Drop, B: Network + Drop> Emitter<A, B, Drain> {
     /// Whether at least one network accepted each fragment of each accepted message. After a frame
     /// was lost with the last network that carries its link, this stays false.
     pub fn is_done(&self) -> bool
-        ensures done { IsTrue result ↔ IsAllDone self.now.plan
-            (accepted_in self.now.links) (log self.now.lines) }
+        ensures done { IsTrue result ↔ IsAllDone self.now.plan (accepted_in self.now.links) (log self.now.lines) }
         ensures conforms { Conforms self.now }
     {
         all_done(&self.links)

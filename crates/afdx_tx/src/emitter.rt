@@ -298,8 +298,7 @@ impl<A: Network + Drop, B: Network + Drop> Emitter<A, B> {
         requires opened { AreOpenedWith self ports.items }
         ensures gathered { IfOk result (λ draining. IsGatheredTx self ports.items draining) }
         ensures conforms { IfOk result Conforms }
-        ensures allowed { IfOk result (λ draining.
-            AreAllowed draining.plan (accepted_in draining.links)) }
+        ensures allowed { IfOk result (λ draining. AreAllowed draining.plan (accepted_in draining.links)) }
         ensures emitter_back { IfErr result (λ back. back.0 ≡ self) }
         ensures ports_back { IfErr result (λ back. back.1 ≡ ports) }
         ensures missing { IfErr result (λ _. LacksPlace (length self.plan.ports) ports.items) }

@@ -32,8 +32,7 @@ fn is_port_of(port: &PortPlan, of: &SubVl) -> bool
 /// What the frames of each port of a sub-VL have in common, in the order of the configuration.
 fn templates_of(alloc: Global, ports: &[PortPlan], of: &SubVl) -> Result<Vec<Template>, AllocError>
     requires { All IsPort ports.now }
-    ensures ports { IfOk result
-        (λ own. plans_of own.items ≡ ports_of_sub ports.now of.now.link.id.0 of.now.sub) }
+    ensures ports { IfOk result (λ own. plans_of own.items ≡ ports_of_sub ports.now of.now.link.id.0 of.now.sub) }
     ensures end_system { IfOk result (λ own. AreOfEndSystem of.now.end_system own.items) }
 {
     let count = ports.iter().filter(|port| is_port_of(port, of)).count();
@@ -62,8 +61,7 @@ fn greatest_message(ports: &[PortPlan], of: &SubVl) -> usize
 fn open_sub(alloc: Global, config: &Config, of: SubVl) -> Result<Sub, AllocError>
     requires link { IsLink of.link }
     requires sub { of.sub < of.link.sub_vls }
-    ensures { IfOk result
-        (λ sub. IsOpenedSub of (ports_of_sub config.now.ports of.link.id.0 of.sub) 0 sub) }
+    ensures { IfOk result (λ sub. IsOpenedSub of (ports_of_sub config.now.ports of.link.id.0 of.sub) 0 sub) }
 {
     let ports = templates_of(alloc, config.ports(), &of)?;
     let most = greatest_message(config.ports(), &of);
@@ -75,8 +73,7 @@ fn open_sub(alloc: Global, config: &Config, of: SubVl) -> Result<Sub, AllocError
 /// A link of a configuration, without senders.
 fn open_link(alloc: Global, config: &Config, plan: &LinkPlan) -> Result<Link, AllocError>
     requires { IsLink plan.now }
-    ensures { IfOk result
-        (λ link. IsOpenedLink config.now.end_system config.now.ports [] plan.now link) }
+    ensures { IfOk result (λ link. IsOpenedLink config.now.end_system config.now.ports [] plan.now link) }
 {
     let mut subs = Vec::with_capacity(alloc, plan.sub_vls as usize)?;
     for sub in 0..plan.sub_vls {
@@ -92,8 +89,7 @@ fn open_link(alloc: Global, config: &Config, plan: &LinkPlan) -> Result<Link, Al
 
 /// The links of a configuration, without senders.
 fn open_links(alloc: Global, config: &Config) -> Result<Vec<Link>, AllocError>
-    ensures opened { IfOk result
-        (λ links. AreOpenedLinks config.now [] links.items (length config.now.links)) }
+    ensures opened { IfOk result (λ links. AreOpenedLinks config.now [] links.items (length config.now.links)) }
     ensures valid { IsPlan config.now }
 {
     let plans = config.links();
@@ -108,8 +104,7 @@ fn open_links(alloc: Global, config: &Config) -> Result<Vec<Link>, AllocError>
 fn open_ports(alloc: Global, config: &Config, links: &mut [Link]) -> Result<Vec<TxPort>, AllocError>
     requires opened { AreOpenedLinks config.now [] links.old (length config.now.links) }
     ensures links { IfOk result (λ _. AreFreshLinks config.now links.new) }
-    ensures ports { IfOk result
-        (λ ports. ArePortsOf config.now (queues_in links.new) ports.items) }
+    ensures ports { IfOk result (λ ports. ArePortsOf config.now (queues_in links.new) ports.items) }
 {
     let mut ports = Vec::with_capacity(alloc, config.ports().len())?;
     for place in 0..config.ports().len() {
@@ -127,8 +122,7 @@ fn open_parts(
     config: &Config,
 ) -> Result<(Vec<Link>, Vec<TxPort>, Board, Monitor), AllocError>
     ensures links { IfOk result (λ parts. AreFreshLinks config.now parts.0.items) }
-    ensures ports { IfOk result
-        (λ parts. ArePortsOf config.now (queues_in parts.0.items) parts.1.items) }
+    ensures ports { IfOk result (λ parts. ArePortsOf config.now (queues_in parts.0.items) parts.1.items) }
     ensures board { IfOk result (λ parts. length parts.2 ≡ length config.now.links) }
     ensures monitor { IfOk result (λ parts. links_of parts.3 ≡ length config.now.links) }
     ensures new { IfOk result (λ parts. AreNew parts.2 parts.3) }

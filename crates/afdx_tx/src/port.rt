@@ -121,8 +121,7 @@ impl TxPort {
         ensures sendable { IfOk result (λ _. MaySend self.old.plan (length bytes.items)) }
         ensures open { IfOk result (λ _. self.old.sender.asks < self.old.sender.calls) }
         ensures back { IfErr result (λ fault. fault.bytes.items ≡ bytes.items) }
-        ensures refused { IfErr result
-            (λ fault. Refuses self.old (length bytes.items) fault.why self.new) }
+        ensures refused { IfErr result (λ fault. Refuses self.old (length bytes.items) fault.why self.new) }
     {
         self.send_with(bytes, || {})
     }
@@ -138,8 +137,7 @@ impl TxPort {
         ensures open { IfOk result (λ _. self.old.sender.asks < self.old.sender.calls) }
         ensures paused { IfOk result (λ _. F.post pause tt) }
         ensures back { IfErr result (λ fault. fault.bytes.items ≡ bytes.items) }
-        ensures refused { IfErr result
-            (λ fault. Refuses self.old (length bytes.items) fault.why self.new) }
+        ensures refused { IfErr result (λ fault. Refuses self.old (length bytes.items) fault.why self.new) }
     {
         match self.send_slice_with(&bytes, pause) {
             Ok(()) => Ok(()),

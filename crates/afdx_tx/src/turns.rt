@@ -51,8 +51,7 @@ pub trait Notes {
     /// Notes the frame that a turn released, if any.
     fn note(&mut self, vl: VlId, did: &Served)
         requires { (rs : List Release) × noted self.old rs × (length rs < 64) }
-        ensures { (rs : List Release) → noted self.old rs →
-            noted self.new (rs ++ turn_release vl did.now) };
+        ensures { (rs : List Release) → noted self.old rs → noted self.new (rs ++ turn_release vl did.now) };
 }
 
 impl Notes for ArrayVec<Release, 64> {

@@ -40,11 +40,9 @@ impl<W: Write + Drop> Write for Halting<W> {
     /// Writes to the inner writer, unless that has failed.
     fn write(&mut self, buf: &[u8]) -> io::Result<usize>
         ensures bound { WritesAtMost result buf.now }
-        ensures bytes { WriteAppends (W.contents self.old.writer) (W.contents self.new.writer)
-            result buf.now }
+        ensures bytes { WriteAppends (W.contents self.old.writer) (W.contents self.new.writer) result buf.now }
         ensures halted { self.old.failed ≡ true → IsErr result × (self.new ≡ self.old) }
-        ensures failed { self.new.failed
-            ≡ (self.old.failed || write_fails (length buf.now) result) }
+        ensures failed { self.new.failed ≡ (self.old.failed || write_fails (length buf.now) result) }
     {
         if self.failed {
             return Err(failed_before());

@@ -21,10 +21,8 @@ pub const TEXT_LIMIT: u64 = 16_777_216;
 /// Reads the rest of a reader as a configuration. Returns `Read` if the reader fails or has more than
 /// `TEXT_LIMIT` bytes.
 pub fn read_plan<R: Read + Drop>(alloc: Global, reader: R) -> Result<Config, Failure>
-    ensures plan { IfOk result (λ config. IfSome (R.remaining reader) (λ text.
-        IsPlanOf text config)) }
-    ensures refused { IfErr result (λ failure. IfSome (R.remaining reader) (λ text.
-        IsRefusal text failure)) }
+    ensures plan { IfOk result (λ config. IfSome (R.remaining reader) (λ text. IsPlanOf text config)) }
+    ensures refused { IfErr result (λ failure. IfSome (R.remaining reader) (λ text. IsRefusal text failure)) }
 {
     let text = read_text(alloc, reader)?;
     read_config(alloc, text.as_slice()).map_err(Failure::Config)
@@ -32,12 +30,9 @@ pub fn read_plan<R: Read + Drop>(alloc: Global, reader: R) -> Result<Config, Fai
 
 /// Reads as `read_plan` does, and computes the digest of the text.
 pub fn read_digested<R: Read + Drop>(alloc: Global, reader: R) -> Result<Digested, Failure>
-    ensures plan { IfOk result (λ read. IfSome (R.remaining reader) (λ text.
-        IsPlanOf text read.config)) }
-    ensures digest { IfOk result (λ read. IfSome (R.remaining reader) (λ text.
-        read.digest ≡ sha256 text)) }
-    ensures refused { IfErr result (λ failure. IfSome (R.remaining reader) (λ text.
-        IsRefusal text failure)) }
+    ensures plan { IfOk result (λ read. IfSome (R.remaining reader) (λ text. IsPlanOf text read.config)) }
+    ensures digest { IfOk result (λ read. IfSome (R.remaining reader) (λ text. read.digest ≡ sha256 text)) }
+    ensures refused { IfErr result (λ failure. IfSome (R.remaining reader) (λ text. IsRefusal text failure)) }
 {
     let text = read_text(alloc, reader)?;
     let config = read_config(alloc, text.as_slice()).map_err(Failure::Config)?;
@@ -108,8 +103,7 @@ fn end_of(told: &Explanation) -> End
 
 /// Reads the rest of a reader, of at most `TEXT_LIMIT` bytes.
 pub fn read_text<R: Read + Drop>(alloc: Global, reader: R) -> Result<Vec<u8>, Failure>
-    ensures whole { IfOk result (λ text. IfSome (R.remaining reader) (λ bytes.
-        text.items ≡ bytes)) }
+    ensures whole { IfOk result (λ text. IfSome (R.remaining reader) (λ bytes. text.items ≡ bytes)) }
     ensures limit { IfOk result (λ text. vec_len text ≤ text_limit) }
     ensures failed { IfErr result (λ failure.
         (failure ≡ Failure.Run RunFault.Read) ⊎ (failure ≡ Failure.Run RunFault.Memory)) }

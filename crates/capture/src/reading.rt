@@ -153,8 +153,7 @@ impl Reading {
         order: Order,
         body: &'a [u8],
     ) -> Result<Option<Packet<'a>>, Fault>
-        ensures { Does self.old self.new result
-            (interface_content self.old.format self.old.interfaces order body.now) }
+        ensures { Does self.old self.new result (interface_content self.old.format self.old.interfaces order body.now) }
     {
         if body.len() < 8 {
             return Err(Fault::Length);

@@ -61,8 +61,7 @@ fn write_section<W: Write>(writer: &mut W) -> io::Result<()>
 /// length of the block again.
 #[tactic(auto, unfolding(crate::specs::Capture::interface_block, crate::specs::Capture::word, crate::specs::Capture::half))]
 fn write_interface<W: Write>(writer: &mut W, name: u8) -> io::Result<()>
-    ensures { OnOk result (Appends (W.contents writer.old) (W.contents writer.new)
-        (interface_block (name ∷ []))) }
+    ensures { OnOk result (Appends (W.contents writer.old) (W.contents writer.new) (interface_block (name ∷ []))) }
 {
     writer.write_all(&[
         1, 0, 0, 0, 32, 0, 0, 0, 1, 0, 0, 0, 0xea, 0x05, 0, 0, 2, 0, 1, 0, name, 0, 0, 0, 0, 0, 0,

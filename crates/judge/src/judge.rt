@@ -154,8 +154,7 @@ impl Judge {
         packet: &Packet<'_>,
         found: &mut Vec<Finding>,
     ) -> Result<(), AllocError>
-        ensures after { OnOk result (self.new
-            ≡ after_packet net number (recorded packet.now) self.old) }
+        ensures after { OnOk result (self.new ≡ after_packet net number (recorded packet.now) self.old) }
         ensures found { OnOk result (found.new.items
             ≡ found_with_packet net number (recorded packet.now) self.old found.old.items) }
     {
@@ -187,8 +186,7 @@ impl Judge {
         found: &mut Vec<Finding>,
     ) -> Result<(), AllocError>
         ensures after { OnOk result (self.new ≡ with_refusal why.now self.old) }
-        ensures found { OnOk result (found.new.items
-            ≡ found_refusal tag.now why.now self.old found.old.items) }
+        ensures found { OnOk result (found.new.items ≡ found_refusal tag.now why.now self.old found.old.items) }
     {
         if matches!(why.deviation.kind, Kind::Frame(Layout::Recorded)) {
             if self.told {
@@ -253,8 +251,7 @@ fn add_left(
     found: &mut Vec<Finding>,
 ) -> Result<(), AllocError>
     requires { length links.now ≡ length plans.now }
-    ensures { OnOk result (found.new.items
-        ≡ found_left nearness.now at plans.now links.now found.old.items) }
+    ensures { OnOk result (found.new.items ≡ found_left nearness.now at plans.now links.now found.old.items) }
 {
     let (mut left, mut rest) = (plans, links);
     'links: while let ([plan, more_plans @ ..], [link, more_links @ ..]) = (left, rest) {

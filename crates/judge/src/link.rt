@@ -131,8 +131,7 @@ impl Link {
         requires { AreSmall arrived.now.fields }
         ensures after { self.new ≡ with_line tag.now.net
             (line_after setting.now.measure port arrived.now (line_on tag.now.net self.old)) self.old }
-        ensures verdict { result
-            ≡ verdict setting.now.measure port arrived.now (line_on tag.now.net self.old) }
+        ensures verdict { result ≡ verdict setting.now.measure port arrived.now (line_on tag.now.net self.old) }
     {
         match tag.net {
             Net::A => self.a.take(&setting.measure, port, arrived),
@@ -154,8 +153,7 @@ impl Link {
         requires fields { fields.now ≡ fields_of frame.now }
         requires small { AreSmall fields.now }
         requires readable { IsReadable frame.now }
-        ensures after { OnOk result (self.new
-            ≡ link_after setting.now tag.now port frame.now self.old) }
+        ensures after { OnOk result (self.new ≡ link_after setting.now tag.now port frame.now self.old) }
         ensures found { OnOk result (found.new.items
             ≡ found_on_link setting.now tag.now port frame.now self.old found.old.items) }
     {

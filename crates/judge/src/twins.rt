@@ -260,8 +260,7 @@ impl Twins {
         at: u128,
         found: &mut Vec<Finding>,
     ) -> Result<(), AllocError>
-        ensures { OnOk result (found.new.items
-            ≡ found_at_end nearness.now vl at self.now.waiting found.old.items) }
+        ensures { OnOk result (found.new.items ≡ found_at_end nearness.now vl at self.now.waiting found.old.items) }
     {
         let waiting = self.waiting.as_slice();
         for w in waiting {

@@ -14,8 +14,7 @@ use std::io::{self, Write};
 /// words, so a script can split it.
 #[tactic(auto, unfolding(crate::specs::AnalysisText::text_of))]
 pub fn write_analysis<W: Write>(writer: &mut W, analysis: &Analysis) -> io::Result<()>
-    ensures { OnOk result (Appends (W.contents writer.old) (W.contents writer.new)
-        (text_of analysis.now)) }
+    ensures { OnOk result (Appends (W.contents writer.old) (W.contents writer.new) (text_of analysis.now)) }
 {
     write_head(writer, analysis.end_system, analysis.lateness)?;
     write_links_table(writer, analysis.links.as_slice(), analysis.jitter)?;
@@ -27,8 +26,7 @@ pub fn write_analysis<W: Write>(writer: &mut W, analysis: &Analysis) -> io::Resu
 
 #[tactic(auto, unfolding(crate::specs::AnalysisText::links_table))]
 fn write_links_table<W: Write>(writer: &mut W, links: &[LinkRow], jitter: u64) -> io::Result<()>
-    ensures { OnOk result (Appends (W.contents writer.old) (W.contents writer.new)
-        (links_table links.now jitter)) }
+    ensures { OnOk result (Appends (W.contents writer.old) (W.contents writer.new) (links_table links.now jitter)) }
 {
     write_links_head(writer)?;
     write_links(writer, links)?;
@@ -37,8 +35,7 @@ fn write_links_table<W: Write>(writer: &mut W, links: &[LinkRow], jitter: u64) -
 
 #[tactic(auto, unfolding(crate::specs::AnalysisText::networks_table, crate::specs::AnalysisText::networks_head))]
 fn write_networks_table<W: Write>(writer: &mut W, a: &NetworkRow, b: &NetworkRow) -> io::Result<()>
-    ensures { OnOk result (Appends (W.contents writer.old) (W.contents writer.new)
-        (networks_table a.now b.now)) }
+    ensures { OnOk result (Appends (W.contents writer.old) (W.contents writer.new) (networks_table a.now b.now)) }
 {
     writer.write_all(b"network    load-kbit/s  share-%  exceeded  jitter-ns\n")?;
     write_network(writer, a)?;
@@ -47,8 +44,7 @@ fn write_networks_table<W: Write>(writer: &mut W, a: &NetworkRow, b: &NetworkRow
 
 #[tactic(auto, unfolding(crate::specs::AnalysisText::ports_table))]
 fn write_ports_table<W: Write>(writer: &mut W, ports: &[PortRow]) -> io::Result<()>
-    ensures { OnOk result (Appends (W.contents writer.old) (W.contents writer.new)
-        (ports_table ports.now)) }
+    ensures { OnOk result (Appends (W.contents writer.old) (W.contents writer.new) (ports_table ports.now)) }
 {
     write_ports_head(writer)?;
     write_ports(writer, ports)
@@ -71,8 +67,7 @@ fn write_memory_table<W: Write>(
 
 #[tactic(auto, unfolding(crate::specs::AnalysisText::head_line))]
 fn write_head<W: Write>(writer: &mut W, end_system: u16, lateness: u64) -> io::Result<()>
-    ensures { OnOk result (Appends (W.contents writer.old) (W.contents writer.new)
-        (head_line end_system lateness)) }
+    ensures { OnOk result (Appends (W.contents writer.old) (W.contents writer.new) (head_line end_system lateness)) }
 {
     writeln!(
         writer,
@@ -82,15 +77,13 @@ fn write_head<W: Write>(writer: &mut W, end_system: u16, lateness: u64) -> io::R
 
 #[tactic(auto, unfolding(crate::specs::AnalysisText::links_head))]
 fn write_links_head<W: Write>(writer: &mut W) -> io::Result<()>
-    ensures { OnOk result (Appends (W.contents writer.old) (W.contents writer.new)
-        links_head) }
+    ensures { OnOk result (Appends (W.contents writer.old) (W.contents writer.new) links_head) }
 {
     writer.write_all(b" link bag-ms lmax subs  nets    load-kbit/s  share-%  jitter-ns\n")
 }
 
 fn write_links<W: Write>(writer: &mut W, links: &[LinkRow]) -> io::Result<()>
-    ensures { OnOk result (Appends (W.contents writer.old) (W.contents writer.new)
-        (flat_map link_line links.now)) }
+    ensures { OnOk result (Appends (W.contents writer.old) (W.contents writer.new) (flat_map link_line links.now)) }
 {
     for link in links {
         write_link(writer, link)?;
@@ -100,8 +93,7 @@ fn write_links<W: Write>(writer: &mut W, links: &[LinkRow]) -> io::Result<()>
 
 #[tactic(auto, unfolding(crate::specs::AnalysisText::link_line))]
 fn write_link<W: Write>(writer: &mut W, row: &LinkRow) -> io::Result<()>
-    ensures { OnOk result (Appends (W.contents writer.old) (W.contents writer.new)
-        (link_line row.now)) }
+    ensures { OnOk result (Appends (W.contents writer.old) (W.contents writer.new) (link_line row.now)) }
 {
     let id = row.plan.id.0;
     let bag = row.plan.bag.ms();
@@ -129,8 +121,7 @@ pub(crate) fn networks_cell(networks: Networks) -> &'static str
 
 #[tactic(auto, unfolding(crate::specs::AnalysisText::network_line))]
 fn write_network<W: Write>(writer: &mut W, row: &NetworkRow) -> io::Result<()>
-    ensures { OnOk result (Appends (W.contents writer.old) (W.contents writer.new)
-        (network_line row.now)) }
+    ensures { OnOk result (Appends (W.contents writer.old) (W.contents writer.new) (network_line row.now)) }
 {
     let name = network_name(row.net);
     let load = Decimal(row.load, THOUSANDTHS, Some(11));
@@ -157,15 +148,13 @@ fn exceeded_cell(exceeded: bool) -> &'static str
 
 #[tactic(auto, unfolding(crate::specs::AnalysisText::ports_head))]
 fn write_ports_head<W: Write>(writer: &mut W) -> io::Result<()>
-    ensures { OnOk result (Appends (W.contents writer.old) (W.contents writer.new)
-        ports_head) }
+    ensures { OnOk result (Appends (W.contents writer.old) (W.contents writer.new) ports_head) }
 {
     writer.write_all(b" port  link sub fragments        wait-us   messages/s\n")
 }
 
 fn write_ports<W: Write>(writer: &mut W, ports: &[PortRow]) -> io::Result<()>
-    ensures { OnOk result (Appends (W.contents writer.old) (W.contents writer.new)
-        (flat_map port_line ports.now)) }
+    ensures { OnOk result (Appends (W.contents writer.old) (W.contents writer.new) (flat_map port_line ports.now)) }
 {
     for port in ports {
         write_port(writer, port)?;
@@ -175,8 +164,7 @@ fn write_ports<W: Write>(writer: &mut W, ports: &[PortRow]) -> io::Result<()>
 
 #[tactic(auto, unfolding(crate::specs::AnalysisText::port_line))]
 fn write_port<W: Write>(writer: &mut W, row: &PortRow) -> io::Result<()>
-    ensures { OnOk result (Appends (W.contents writer.old) (W.contents writer.new)
-        (port_line row.now)) }
+    ensures { OnOk result (Appends (W.contents writer.old) (W.contents writer.new) (port_line row.now)) }
 {
     let id = row.id.0;
     let link = row.vl.0;
@@ -192,15 +180,13 @@ fn write_port<W: Write>(writer: &mut W, row: &PortRow) -> io::Result<()>
 
 #[tactic(auto, unfolding(crate::specs::AnalysisText::memory_head))]
 fn write_memory_head<W: Write>(writer: &mut W) -> io::Result<()>
-    ensures { OnOk result (Appends (W.contents writer.old) (W.contents writer.new)
-        memory_head) }
+    ensures { OnOk result (Appends (W.contents writer.old) (W.contents writer.new) memory_head) }
 {
     writer.write_all(b" link sub capacity ports greatest         bytes\n")
 }
 
 fn write_subs<W: Write>(writer: &mut W, subs: &[SubRow]) -> io::Result<()>
-    ensures { OnOk result (Appends (W.contents writer.old) (W.contents writer.new)
-        (flat_map sub_line subs.now)) }
+    ensures { OnOk result (Appends (W.contents writer.old) (W.contents writer.new) (flat_map sub_line subs.now)) }
 {
     for sub in subs {
         write_sub(writer, sub)?;
@@ -210,8 +196,7 @@ fn write_subs<W: Write>(writer: &mut W, subs: &[SubRow]) -> io::Result<()>
 
 #[tactic(auto, unfolding(crate::specs::AnalysisText::sub_line))]
 fn write_sub<W: Write>(writer: &mut W, row: &SubRow) -> io::Result<()>
-    ensures { OnOk result (Appends (W.contents writer.old) (W.contents writer.new)
-        (sub_line row.now)) }
+    ensures { OnOk result (Appends (W.contents writer.old) (W.contents writer.new) (sub_line row.now)) }
 {
     let link = row.vl.0;
     let sub = row.sub;
@@ -227,8 +212,7 @@ fn write_sub<W: Write>(writer: &mut W, row: &SubRow) -> io::Result<()>
 
 #[tactic(auto, unfolding(crate::specs::AnalysisText::total_line))]
 fn write_total<W: Write>(writer: &mut W, bytes: u64, large: &Option<SubRow>) -> io::Result<()>
-    ensures { OnOk result (Appends (W.contents writer.old) (W.contents writer.new)
-        (total_line bytes large.now)) }
+    ensures { OnOk result (Appends (W.contents writer.old) (W.contents writer.new) (total_line bytes large.now)) }
 {
     match large {
         Some(row) => {

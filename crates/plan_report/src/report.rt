@@ -13,8 +13,7 @@ use std::net::Ipv4Addr;
 /// order of the configuration, and a last one for the jitter.
 #[tactic(auto, unfolding(crate::specs::Report::report_of))]
 pub fn write_report<W: Write>(writer: &mut W, config: &Config) -> io::Result<()>
-    ensures { OnOk result (Appends (W.contents writer.old) (W.contents writer.new)
-        (report_of config.now)) }
+    ensures { OnOk result (Appends (W.contents writer.old) (W.contents writer.new) (report_of config.now)) }
 {
     write_end_system(writer, config.end_system())?;
     write_links(writer, config.links())?;
@@ -24,15 +23,13 @@ pub fn write_report<W: Write>(writer: &mut W, config: &Config) -> io::Result<()>
 
 #[tactic(auto, unfolding(crate::specs::Report::end_system_line))]
 fn write_end_system<W: Write>(writer: &mut W, id: u16) -> io::Result<()>
-    ensures { OnOk result (Appends (W.contents writer.old) (W.contents writer.new)
-        (end_system_line id)) }
+    ensures { OnOk result (Appends (W.contents writer.old) (W.contents writer.new) (end_system_line id)) }
 {
     writeln!(writer, "end system {id}")
 }
 
 fn write_links<W: Write>(writer: &mut W, links: &[LinkPlan]) -> io::Result<()>
-    ensures { OnOk result (Appends (W.contents writer.old) (W.contents writer.new)
-        (flat_map link_line links.now)) }
+    ensures { OnOk result (Appends (W.contents writer.old) (W.contents writer.new) (flat_map link_line links.now)) }
 {
     for link in links {
         write_link(writer, link)?;
@@ -41,8 +38,7 @@ fn write_links<W: Write>(writer: &mut W, links: &[LinkPlan]) -> io::Result<()>
 }
 
 fn write_link<W: Write>(writer: &mut W, link: &LinkPlan) -> io::Result<()>
-    ensures { OnOk result (Appends (W.contents writer.old) (W.contents writer.new)
-        (link_line link.now)) }
+    ensures { OnOk result (Appends (W.contents writer.old) (W.contents writer.new) (link_line link.now)) }
 {
     let id = link.id.0;
     let gap = link.bag.ms();
@@ -67,8 +63,7 @@ fn networks_text(networks: Networks) -> &'static str
 }
 
 fn write_ports<W: Write>(writer: &mut W, ports: &[PortPlan]) -> io::Result<()>
-    ensures { OnOk result (Appends (W.contents writer.old) (W.contents writer.new)
-        (flat_map port_line ports.now)) }
+    ensures { OnOk result (Appends (W.contents writer.old) (W.contents writer.new) (flat_map port_line ports.now)) }
 {
     for port in ports {
         write_port(writer, port)?;
@@ -78,8 +73,7 @@ fn write_ports<W: Write>(writer: &mut W, ports: &[PortPlan]) -> io::Result<()>
 
 #[tactic(auto, unfolding(crate::specs::Report::port_line))]
 fn write_port<W: Write>(writer: &mut W, port: &PortPlan) -> io::Result<()>
-    ensures { OnOk result (Appends (W.contents writer.old) (W.contents writer.new)
-        (port_line port.now)) }
+    ensures { OnOk result (Appends (W.contents writer.old) (W.contents writer.new) (port_line port.now)) }
 {
     write_way(writer, port)?;
     write_flow(writer, port)?;
@@ -90,8 +84,7 @@ fn write_port<W: Write>(writer: &mut W, port: &PortPlan) -> io::Result<()>
 
 #[tactic(auto, unfolding(crate::specs::Report::way_text))]
 fn write_way<W: Write>(writer: &mut W, port: &PortPlan) -> io::Result<()>
-    ensures { OnOk result (Appends (W.contents writer.old) (W.contents writer.new)
-        (way_text port.now)) }
+    ensures { OnOk result (Appends (W.contents writer.old) (W.contents writer.new) (way_text port.now)) }
 {
     let id = port.id.0;
     let link = port.vl.0;
@@ -105,8 +98,7 @@ fn write_way<W: Write>(writer: &mut W, port: &PortPlan) -> io::Result<()>
 
 #[tactic(auto, unfolding(crate::specs::Report::flow_text))]
 fn write_flow<W: Write>(writer: &mut W, port: &PortPlan) -> io::Result<()>
-    ensures { OnOk result (Appends (W.contents writer.old) (W.contents writer.new)
-        (flow_text port.now)) }
+    ensures { OnOk result (Appends (W.contents writer.old) (W.contents writer.new) (flow_text port.now)) }
 {
     let kind = kind_name(port.kind);
     let source = port.source;
@@ -152,8 +144,7 @@ fn checksum_text(checksum: UdpSum) -> &'static str
 /// Writes the line of the jitter, with words before its limit.
 #[tactic(auto, unfolding(crate::specs::Report::jitter_line))]
 pub(crate) fn write_jitter<W: Write>(writer: &mut W, words: &str, jitter: u64) -> io::Result<()>
-    ensures { OnOk result (Appends (W.contents writer.old) (W.contents writer.new)
-        (jitter_line words.now jitter)) }
+    ensures { OnOk result (Appends (W.contents writer.old) (W.contents writer.new) (jitter_line words.now jitter)) }
 {
     let exceeded = if jitter > JITTER_LIMIT {
         ", exceeded"

@@ -172,8 +172,7 @@ fn close_told(rt: &HostRuntime, tx: &mut Sending)
 /// Sends a message of two frames and polls for them, publishes, reads, sends the next message and closes its sub-VL.
 fn use_opened<W: Wait>(rt: &HostRuntime, wait: &W, letters: &mut Vec<Letter>, opened: &mut Opened)
     requires { 0 < links_of opened.old.monitor }
-    ensures { IsPortOfTx opened.old.tx opened.old.port
-        → IsPortOfTx opened.new.tx opened.new.port }
+    ensures { IsPortOfTx opened.old.tx opened.old.port → IsPortOfTx opened.new.tx opened.new.port }
 {
     send_and_poll(rt, letters, &mut opened.tx, &mut opened.port);
     publish_and_read(rt, wait, &mut opened.tx, &mut opened.monitor);

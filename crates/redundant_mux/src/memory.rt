@@ -135,8 +135,7 @@ impl Network for MemNetwork {
     /// As `hand`, with the frame in its buffer, which is unchanged.
     fn hand_with(&mut self, at: u64, frame: &mut Box<FrameBuffer>) -> Result<(), HandFault>
         requires few { self.old.failures + 1 < 2 ^ 64 }
-        ensures ok { OnOk result
-            (self.new.handed ≡ self.old.handed ++ entry at frame.old.value.items ∷ []) }
+        ensures ok { OnOk result (self.new.handed ≡ self.old.handed ++ entry at frame.old.value.items ∷ []) }
         ensures ok_failures { OnOk result (self.new.failures ≡ self.old.failures) }
         ensures err { OnErr result (self.new.handed ≡ self.old.handed) }
         ensures err_failures { OnErr result (self.new.failures ≡ self.old.failures + 1) }
@@ -171,8 +170,7 @@ fn counts_to(asked: &mut u64, fails_at: Option<u64>) -> bool
 /// Appends a frame, filled in place. Returns false if an allocation fails.
 fn keep(handed: &mut Vec<Handed>, at: u64, frame: &[u8]) -> bool
     requires { length frame.now ≤ GREATEST_FRAME }
-    ensures kept { result ≡ true →
-        entries handed.new.items ≡ entries handed.old.items ++ entry at frame.now ∷ [] }
+    ensures kept { result ≡ true → entries handed.new.items ≡ entries handed.old.items ++ entry at frame.now ∷ [] }
     ensures same { result ≡ false → entries handed.new.items ≡ entries handed.old.items }
     ensures full { result ≡ false → vec_capacity handed.old ≤ vec_len handed.old }
     ensures capacity { vec_capacity handed.old ≤ vec_capacity handed.new }

@@ -63,8 +63,7 @@ fn hand_to<N: Network + Drop>(
     requires short { length frame.now ≤ GREATEST_FRAME }
     requires unfailed { stands.old ≡ true → N.failures network.old ≡ 0 }
     ensures handing { Handing named (entry at frame.now) stands.old stands.new
-        (N.handed network.old) (N.handed network.new)
-        (N.failures network.old) (N.failures network.new) }
+        (N.handed network.old) (N.handed network.new) (N.failures network.old) (N.failures network.new) }
     ensures unfailed { stands.new ≡ true → N.failures network.new ≡ 0 }
     ensures failing { StaysFailing (N.failing network.old) (N.failing network.new) (N.handed network.old) (N.handed network.new) }
 {
@@ -83,8 +82,7 @@ fn hand_with<N: Network + Drop>(
 )
     requires unfailed { stands.old ≡ true → N.failures network.old ≡ 0 }
     ensures handing { Handing named (entry at frame.old.value.items) stands.old stands.new
-        (N.handed network.old) (N.handed network.new)
-        (N.failures network.old) (N.failures network.new) }
+        (N.handed network.old) (N.handed network.new) (N.failures network.old) (N.failures network.new) }
     ensures unfailed { stands.new ≡ true → N.failures network.new ≡ 0 }
     ensures failing { StaysFailing (N.failing network.old) (N.failing network.new) (N.handed network.old) (N.handed network.new) }
 {
@@ -188,11 +186,9 @@ impl<A: Network + Drop, B: Network + Drop> Mux<A, B> {
         ensures down { IsErr result ↔ ((self.old.a_stands ≡ false) × (self.old.b_stands ≡ false)) }
         ensures err { OnErr result (self.new ≡ self.old) }
         ensures a { Handing (carries_a networks) (entry at (twin_of ForA frame.now.items))
-            self.old.a_stands self.new.a_stands
-            self.old.a self.new.a self.old.a_failures self.new.a_failures }
+            self.old.a_stands self.new.a_stands self.old.a self.new.a self.old.a_failures self.new.a_failures }
         ensures b { Handing (carries_b networks) (entry at (twin_of ForB frame.now.items))
-            self.old.b_stands self.new.b_stands
-            self.old.b self.new.b self.old.b_failures self.new.b_failures }
+            self.old.b_stands self.new.b_stands self.old.b self.new.b self.old.b_failures self.new.b_failures }
         ensures enters { any_up networks self.new ≡ true →
             self.new.logged ≡ self.old.logged ++ logged_for networks (entry at frame.now.items) ∷ [] }
         ensures lost { any_up networks self.new ≡ false → self.new.logged ≡ self.old.logged }
@@ -235,11 +231,9 @@ impl<A: Network + Drop, B: Network + Drop> Mux<A, B> {
         ensures down { IsErr result ↔ ((self.old.a_stands ≡ false) × (self.old.b_stands ≡ false)) }
         ensures err { OnErr result (self.new ≡ self.old) }
         ensures a { Handing (carries_a networks) (entry at (twin_of ForA frame.old.value.items))
-            self.old.a_stands self.new.a_stands
-            self.old.a self.new.a self.old.a_failures self.new.a_failures }
+            self.old.a_stands self.new.a_stands self.old.a self.new.a self.old.a_failures self.new.a_failures }
         ensures b { Handing (carries_b networks) (entry at (twin_of ForB frame.old.value.items))
-            self.old.b_stands self.new.b_stands
-            self.old.b self.new.b self.old.b_failures self.new.b_failures }
+            self.old.b_stands self.new.b_stands self.old.b self.new.b self.old.b_failures self.new.b_failures }
         ensures enters { any_up networks self.new ≡ true → self.new.logged
             ≡ self.old.logged ++ logged_for networks (entry at frame.old.value.items) ∷ [] }
         ensures lost { any_up networks self.new ≡ false → self.new.logged ≡ self.old.logged }

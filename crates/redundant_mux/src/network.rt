@@ -33,8 +33,7 @@ pub trait Network {
     /// What the buffer has afterwards is open.
     fn hand_with(&mut self, at: u64, frame: &mut Box<FrameBuffer>) -> Result<(), HandFault>
         requires few { failures self.old + 1 < 2 ^ 64 }
-        ensures ok { OnOk result
-            (handed self.new ≡ handed self.old ++ entry at frame.old.value.items ∷ []) }
+        ensures ok { OnOk result (handed self.new ≡ handed self.old ++ entry at frame.old.value.items ∷ []) }
         ensures ok_failures { OnOk result (failures self.new ≡ failures self.old) }
         ensures err { OnErr result (handed self.new ≡ handed self.old) }
         ensures err_failures { OnErr result (failures self.new ≡ failures self.old + 1) }

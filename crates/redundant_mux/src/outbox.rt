@@ -193,8 +193,7 @@ impl<S: Span> Network for Outbox<S> {
     /// As `hand`, without a copy: exchanges the buffer for that of an older frame.
     fn hand_with(&mut self, at: u64, frame: &mut Box<FrameBuffer>) -> Result<(), HandFault>
         requires few { self.old.failures + 1 < 2 ^ 64 }
-        ensures ok { OnOk result
-            (self.new.handed ≡ self.old.handed ++ entry at frame.old.value.items ∷ []) }
+        ensures ok { OnOk result (self.new.handed ≡ self.old.handed ++ entry at frame.old.value.items ∷ []) }
         ensures ok_failures { OnOk result (self.new.failures ≡ self.old.failures) }
         ensures err { OnErr result (self.new.handed ≡ self.old.handed) }
         ensures err_failures { OnErr result (self.new.failures ≡ self.old.failures + 1) }

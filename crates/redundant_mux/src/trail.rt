@@ -54,8 +54,7 @@ impl Trail {
 
     /// The trail `before` with one frame appended.
     pub fn with(before: &Trail, networks: &Networks, at: &u64, frame: &[u8]) -> Trail
-        ensures { result.logged ≡
-            before.now.logged ++ logged_for networks.now (entry at.now frame.now) ∷ [] }
+        ensures { result.logged ≡ before.now.logged ++ logged_for networks.now (entry at.now frame.now) ∷ [] }
     {
         Trail::of::<(&Trail, &Networks, &u64, &[u8]), Longer>(&(before, networks, at, frame))
     }

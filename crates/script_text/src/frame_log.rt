@@ -97,8 +97,7 @@ fn keep(marks: &mut Vec<Mark>, bytes: &mut Vec<u8>, at: u64, frame: &[u8]) -> bo
     requires before { AreInLog marks.old.items bytes.old.items }
     ensures kept { result ≡ true → spelled marks.new.items bytes.new.items
         ≡ spelled marks.old.items bytes.old.items ++ entry at frame.now ∷ [] }
-    ensures same { result ≡ false →
-        spelled marks.new.items bytes.new.items ≡ spelled marks.old.items bytes.old.items }
+    ensures same { result ≡ false → spelled marks.new.items bytes.new.items ≡ spelled marks.old.items bytes.old.items }
     ensures full { result ≡ false → length marks.old.items < vec_capacity marks.old →
         vec_capacity bytes.old < length bytes.old.items + length frame.now }
     ensures marks_capacity { vec_capacity marks.old ≤ vec_capacity marks.new }

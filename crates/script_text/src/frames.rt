@@ -26,8 +26,7 @@ pub fn write_streams<W: Write>(writer: &mut W, a: &FrameLog, b: &FrameLog) -> Re
 // Writes a line for each frame of a network, under its name.
 #[tactic(auto, using(crate::proofs::Written::written_none, crate::proofs::Written::written_all), unfolding(crate::specs::Transcript::frame_lines))]
 fn write_lines<W: Write>(writer: &mut W, net: Net, log: &FrameLog) -> io::Result<()>
-    ensures { OnOk result (Appends (W.contents writer.old) (W.contents writer.new)
-        (frame_lines net log.now.handed)) }
+    ensures { OnOk result (Appends (W.contents writer.old) (W.contents writer.new) (frame_lines net log.now.handed)) }
 {
     let mut digits = [0; DIGITS];
     for (at, frame) in log.frames() {

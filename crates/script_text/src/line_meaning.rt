@@ -54,8 +54,7 @@ pub fn read_line(alloc: Global, line: &[u8]) -> Result<Line, LineFault>
 #[tactic(auto, using(crate::proofs::MeaningLemmas::send_rules))]
 fn read_send(alloc: Global, rest: &[u8]) -> Result<Line, LineFault>
     ensures ok { IfOk result (IsSaidSend (words_of rest.now)) }
-    ensures fault { IfErr result (λ fault.
-        fault ≢ LineFault.Memory → send_fault (words_of rest.now) ≡ Some fault) }
+    ensures fault { IfErr result (λ fault. fault ≢ LineFault.Memory → send_fault (words_of rest.now) ≡ Some fault) }
 {
     let Some((port, rest)) = next_word(rest) else {
         return Err(LineFault::Word);

@@ -74,8 +74,7 @@ pub fn next_line<R: Read + Drop>(
     bytes: &mut Bytes<R>,
     line: &mut Vec<u8>,
 ) -> Result<Next, ReadFault>
-    ensures taken { IfOk result (λ n.
-        n ≡ Next.Line → TakesLine bytes.old bytes.new line.new.items) }
+    ensures taken { IfOk result (λ n. n ≡ Next.Line → TakesLine bytes.old bytes.new line.new.items) }
     ensures long { IfOk result (λ n. n ≡ Next.Long → BeginsLong bytes.old) }
     ensures ended { IfOk result (λ n. n ≡ Next.End → IsAtEnd bytes.old) }
 {

@@ -12,8 +12,7 @@ use std::io::Write;
 /// nothing otherwise.
 #[inline(always)]
 pub fn write_note<W: Write>(writer: &mut W, line: u64, outcome: Outcome) -> Result<(), RunFault>
-    ensures ok { OnOk result (Appends (W.contents writer.old) (W.contents writer.new)
-        (note_of line outcome)) }
+    ensures ok { OnOk result (Appends (W.contents writer.old) (W.contents writer.new) (note_of line outcome)) }
     ensures err { IfErr result (λ fault. fault ≡ RunFault.Write) }
 {
     write_text(writer, line, outcome).map_err(|_| RunFault::Write)
@@ -21,8 +20,7 @@ pub fn write_note<W: Write>(writer: &mut W, line: u64, outcome: Outcome) -> Resu
 
 #[tactic(auto, unfolding(crate::specs::Transcript::note_of))]
 fn write_text<W: Write>(writer: &mut W, line: u64, outcome: Outcome) -> io::Result<()>
-    ensures { OnOk result (Appends (W.contents writer.old) (W.contents writer.new)
-        (note_of line outcome)) }
+    ensures { OnOk result (Appends (W.contents writer.old) (W.contents writer.new) (note_of line outcome)) }
 {
     match outcome {
         Outcome::Refused(refusal) => {

@@ -29,8 +29,7 @@ fn first_at(line: &[u8], blank: bool) -> usize
 /// The first word of a line and what follows it, if there is a word.
 #[tactic(auto, using(crate::proofs::WordLemmas::next_none))]
 pub fn next_word(line: &[u8]) -> Option<(&[u8], &[u8])>
-    ensures { MatchOption result (words_of line.now ≡ [])
-        (λ p. words_of line.now ≡ p.0.now ∷ words_of p.1.now) }
+    ensures { MatchOption result (words_of line.now ≡ []) (λ p. words_of line.now ≡ p.0.now ∷ words_of p.1.now) }
 {
     let (_blanks, text) = line.split_at(first_at(line, false));
     if text.is_empty() {
@@ -73,8 +72,7 @@ fn has_digits_alone(word: &[u8]) -> bool
 
 // The number with one more digit at its end, if it fits.
 fn with_digit(value: u64, digit: u8) -> Option<u64>
-    ensures { let next = value * 10 + (digit - 48) in
-        MatchOption result (2 ^ 64 ≤ next) (λ sum. sum ≡ next) }
+    ensures { let next = value * 10 + (digit - 48) in MatchOption result (2 ^ 64 ≤ next) (λ sum. sum ≡ next) }
 {
     let tens = value.checked_mul(10)?;
     tens.checked_add(u64::from(digit.saturating_sub(b'0')))

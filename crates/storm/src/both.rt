@@ -78,10 +78,8 @@ fn count_on_both(links: &[LinkPlan], handed: &[Handed]) -> usize
 pub(crate) fn are_equal(links: &[LinkPlan], a: &MemNetwork, b: &MemNetwork) -> bool
     requires known_a { AreKnown links.now ForA a.now.handed }
     requires known_b { AreKnown links.now ForB b.now.handed }
-    requires twins { AreTwins side (on_both links.now a.now.handed)
-        (on_both links.now b.now.handed) }
-    ensures { IsTrue result ↔ (on_both links.now b.now.handed
-        ≡ map (side ForB) (on_both links.now a.now.handed)) }
+    requires twins { AreTwins side (on_both links.now a.now.handed) (on_both links.now b.now.handed) }
+    ensures { IsTrue result ↔ (on_both links.now b.now.handed ≡ map (side ForB) (on_both links.now a.now.handed)) }
 {
     count_on_both(links, a.handed()) == count_on_both(links, b.handed())
 }

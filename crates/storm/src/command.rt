@@ -26,10 +26,8 @@ pub fn throw_storm<W: Write, G: Gate + Sync, R: Threads + Wait + Sync>(
 ) -> Result<(), ThrowFault>
     requires messages { (1 ≤ messages) × (messages ≤ 65535) }
     requires turns { (1 ≤ turns) × (turns ≤ 1000000000) }
-    ensures ok { OnOk result
-        (ReportsPlan config messages (W.contents writer.old) (W.contents writer.new)) }
-    ensures short { IfErr result (λ fault.
-        (fault ≡ ThrowFault.Storm StormFault.Short) ↔ HasShortPort config) }
+    ensures ok { OnOk result (ReportsPlan config messages (W.contents writer.old) (W.contents writer.new)) }
+    ensures short { IfErr result (λ fault. (fault ≡ ThrowFault.Storm StormFault.Short) ↔ HasShortPort config) }
     ensures unchanged { IfErr result (λ fault. fault ≢ ThrowFault.Write →
         Keeps (W.contents writer.old) (W.contents writer.new)) }
 {

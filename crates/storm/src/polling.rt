@@ -103,8 +103,7 @@ pub(crate) fn drain<G: Gate, R: Wait>(
     requires shown { IsShown draining.old }
     ensures plan { draining.new.plan ≡ draining.old.plan }
     ensures accepted { accepted_in draining.new.links ≡ accepted_in draining.old.links }
-    ensures done { OnOk result (IsAllDone draining.new.plan
-        (accepted_in draining.new.links) (log draining.new.lines)) }
+    ensures done { OnOk result (IsAllDone draining.new.plan (accepted_in draining.new.links) (log draining.new.lines)) }
     ensures streams { OnOk result (AreOwnStreams draining.new.plan
         (log draining.new.lines) draining.new.lines.a draining.new.lines.b) }
     ensures shown { IsShown draining.new }

@@ -118,8 +118,7 @@ fn open(alloc: Global, config: Config, a: MemNetwork, b: MemNetwork) -> Result<O
     requires a_new { a.failures ≡ 0 }
     requires b_new { b.failures ≡ 0 }
     ensures plan { IfOk result (λ opened. opened.tx.plan ≡ config) }
-    ensures ready { IfOk result (λ opened.
-        IsReady opened.tx opened.ports.items opened.monitor) }
+    ensures ready { IfOk result (λ opened. IsReady opened.tx opened.ports.items opened.monitor) }
 {
     match open_tx(alloc, config, a, b) {
         Ok((tx, ports, monitor)) => Ok(Opened { tx, ports, monitor }),

@@ -97,8 +97,7 @@ pub(crate) fn join_workers<R: Threads>(
     ensures polls { IfOk result (λ joined. polls ≡ Ok joined.0) }
     ensures sent { IfOk result (λ joined. IsOkAnd started (λ workers. map named joined.1.items
         ≡ map (λ w. sent_all w.promise.load.messages w.promise.before.value) workers.items)) }
-    ensures asks { IfOk result (λ joined. IsOkAnd started (λ workers.
-        AreAtMost (map asked_by joined.1.items)
+    ensures asks { IfOk result (λ joined. IsOkAnd started (λ workers. AreAtMost (map asked_by joined.1.items)
         (map (λ w. asked_after w.promise.load.turns w.promise.before.value) workers.items))) }
 {
     let workers = started?;
@@ -118,8 +117,7 @@ pub(crate) fn join_workers<R: Threads>(
 /// The worse of two ends, that of the polls and a worker's: out of memory, then turns.
 fn worse(worst: Result<u64, Stop>, ended: Result<(), Stop>) -> Result<u64, Stop>
     ensures ok { IfOk result (λ polls. (worst ≡ Ok polls) × (ended ≡ Ok tt)) }
-    ensures memory { result ≡ Err Stop.Memory
-        ↔ ((worst ≡ Err Stop.Memory) ⊎ (ended ≡ Err Stop.Memory)) }
+    ensures memory { result ≡ Err Stop.Memory ↔ ((worst ≡ Err Stop.Memory) ⊎ (ended ≡ Err Stop.Memory)) }
 {
     match (worst, ended) {
         (worst, Ok(())) => worst,

@@ -18,8 +18,7 @@ pub fn write_totals<W: Write>(
     report: &StormReport,
 ) -> io::Result<()>
     requires { length report.now.links.items ≡ length links.now }
-    ensures { OnOk result (Appends (W.contents writer.old) (W.contents writer.new)
-        (totals_of links.now report.now)) }
+    ensures { OnOk result (Appends (W.contents writer.old) (W.contents writer.new) (totals_of links.now report.now)) }
 {
     let accepted = report.accepted;
     let networks = either(report.equal, "equal", "differ");
@@ -43,8 +42,7 @@ fn write_links<W: Write>(writer: &mut W, links: &[LinkPlan], report: &StormRepor
 
 #[tactic(auto, unfolding(crate::specs::Storms::link_line))]
 fn write_link<W: Write>(writer: &mut W, id: VlId, counts: &Counts) -> io::Result<()>
-    ensures { OnOk result (Appends (W.contents writer.old) (W.contents writer.new)
-        (link_line id.0 counts.now)) }
+    ensures { OnOk result (Appends (W.contents writer.old) (W.contents writer.new) (link_line id.0 counts.now)) }
 {
     let link = id.0;
     let frames = counts.frames;

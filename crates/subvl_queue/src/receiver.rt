@@ -31,8 +31,7 @@ pub fn fetch(
     ensures seat { IsAtTable ring.now.table.shared.table_id seat.new × (seat.new.me.1 ≡ []) }
     ensures told { result ≡ is_some room.new.item }
     ensures most { room.new.most ≡ ring.now.most }
-    ensures some { IfSome room.new.item
-        (λ x. seat.new.me.0 ≡ freed_of (holding seat.old.me.0 taken.old x) x) }
+    ensures some { IfSome room.new.item (λ x. seat.new.me.0 ≡ freed_of (holding seat.old.me.0 taken.old x) x) }
     ensures next { IfSome room.new.item (λ x. IsNext seat.old.me.0 taken.old x) }
     ensures message { IfSome room.new.item (λ x. IsMessage x.1) }
     ensures counted { IfSome room.new.item (λ _. taken.new ≡ taken.old + 1) }
@@ -218,8 +217,7 @@ impl Receiver {
         ensures most { IfOk result (λ g. g.most ≡ self.most) }
         ensures taken { IfOk result (λ g. g.taken ≡ self.taken) }
         ensures ports { IfOk result (λ g. g.ports ≡ self.ports) }
-        ensures whole { IfOk result (λ g.
-            IsWhole self.ports (brought_by_all senders.items) (accepted_of g)) }
+        ensures whole { IfOk result (λ g. IsWhole self.ports (brought_by_all senders.items) (accepted_of g)) }
         ensures items { IfOk result (λ g. AreItems self.ports (accepted_of g)) }
         ensures total { IfOk result (λ g. IfSome self.total (λ t. t ≡ length (accepted_of g))) }
         ensures few { IfOk result (λ g. length (accepted_of g) ≤ 2 ^ 46) }

@@ -57,11 +57,9 @@ fn serve_due<A: Network + Drop, B: Network + Drop>(
     requires named { AreSubsOf plan.now subs.old }
     requires later { IsLater shaper.old.last now }
     requires may { may_release now plan.now shaper.old mux.old ≡ true }
-    requires paced { shaper.old ≡ pace_of shaper.old.gap shaper.old.sub_vls
-        (link_stream plan.now.id.0 (log mux.old)) }
+    requires paced { shaper.old ≡ pace_of shaper.old.gap shaper.old.sub_vls (link_stream plan.now.id.0 (log mux.old)) }
     requires counted { counts.old ≡ counts_in (link_stream plan.now.id.0 (log mux.old)) }
-    ensures serves { Serves now plan.now shaper.old
-        subs.old subs.new mux.old mux.new result }
+    ensures serves { Serves now plan.now shaper.old subs.old subs.new mux.old mux.new result }
     ensures paced { Follows plan.now.id.0 shaper.new mux.new result }
     ensures counted { counts.new ≡ counts_in (link_stream plan.now.id.0 (log mux.new)) }
     ensures later { IsLater shaper.new.last now }
@@ -239,8 +237,7 @@ impl Link {
         requires paced { self.old.pace ≡ pace_of self.old.pace.gap self.old.pace.sub_vls
             (link_stream self.old.plan.id.0 (log mux.old)) }
         requires counted { self.old.counts ≡ counts_in (link_stream self.old.plan.id.0 (log mux.old)) }
-        ensures serves { Serves now self.old.plan self.old.pace
-            self.old.subs self.new.subs mux.old mux.new result }
+        ensures serves { Serves now self.old.plan self.old.pace self.old.subs self.new.subs mux.old mux.new result }
         ensures paced { Follows self.new.plan.id.0 self.new.pace mux.new result }
         ensures counted { self.new.counts ≡ counts_in (link_stream self.new.plan.id.0 (log mux.new)) }
         ensures later { IsLater self.new.pace.last now }

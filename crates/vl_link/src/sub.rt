@@ -38,8 +38,7 @@ impl Queue {
         ensures most { room.new.most ≡ most_of (seen_of self.old) }
         ensures told { result ≡ is_some room.new.item }
         ensures none { IfNone room.new.item (FindsNothing (seen_of self.old) (seen_of self.new)) }
-        ensures some { IfSome room.new.item
-            (λ item. Finds (seen_of self.old) item (seen_of self.new)) }
+        ensures some { IfSome room.new.item (λ item. Finds (seen_of self.old) item (seen_of self.new)) }
         ensures item { IfSome room.new.item (IsItem (ports_of (seen_of self.old))) }
     {
         match self {

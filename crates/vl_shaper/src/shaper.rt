@@ -114,8 +114,7 @@ impl Shaper {
         requires { k < self.now.sub_vls }
         ensures turn { result ≡ turn_of self.now.sub_vls self.now.last k }
         ensures below { result < self.now.sub_vls }
-        ensures apart { (j : ℕ) → j < self.now.sub_vls →
-            turn_of self.now.sub_vls self.now.last j ≡ result → j ≡ k }
+        ensures apart { (j : ℕ) → j < self.now.sub_vls → turn_of self.now.sub_vls self.now.last j ≡ result → j ≡ k }
     {
         if self.sub_vls == 1 {
             // The only one, before it is known which was served last.
@@ -141,8 +140,7 @@ impl Shaper {
         requires due { is_due self.old.gap self.old.last now ≡ true }
         requires sub { sub < self.old.sub_vls }
         ensures number { result ≡ self.old.next }
-        ensures next { (i : ℕ) →
-            self.old.next ≡ sequence_number i → self.new.next ≡ sequence_number (i + 1) }
+        ensures next { (i : ℕ) → self.old.next ≡ sequence_number i → self.new.next ≡ sequence_number (i + 1) }
         ensures last { self.new.last ≡ Some (record { at = now; sub = sub }) }
         ensures gap { self.new.gap ≡ self.old.gap }
         ensures sub_vls { self.new.sub_vls ≡ self.old.sub_vls }
