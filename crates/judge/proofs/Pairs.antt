@@ -1,10 +1,5 @@
 -- The first element that passes a test.
-use Rattle.std.proofs.Common.{◌≡◌, ℕ, ◌≤◌, Bool, true, false, List, length, get_or, Some, None, refl, cond}
-use Rattle.std.specs.Prelude.{find, position, nat_lt}
-use Rattle.std.specs.List.{position_or_len}
-use Rattle.std.proofs.lemmas.List.Folds.{find_at}
-use Rattle.std.proofs.lemmas.List.Quantifiers.{position-Some}
-use Rattle.std.proofs.lemmas.Option.{slice_get_read, slice_get_past}
+use Rattle.judge.proofs.Names.{◌≡◌, ℕ, ◌≤◌, Bool, true, false, List, length, get_or, Some, None, refl, cond, find, position, nat_lt, position_or_len, find_at, position-Some, slice_get_read, slice_get_past}
 use borrow.Author.Tests.{ltb-false}
 
 -- its place

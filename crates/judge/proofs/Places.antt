@@ -1,14 +1,5 @@
 -- What is left of the packets of two networks from places on.
-use Rattle.std.proofs.Common.{◌≡◌, ℕ, ◌+◌, ◌-◌, ◌<◌, List, [], ◌∷◌, map, length, drop, get_or, Bool, Some, arith, refl, length-drop}
-use Rattle.std.proofs.lemmas.List.{drop_more, get_or-map, length-map, take_all, drop-map}
-use Rattle.std.specs.Prelude.{slice_range}
-use Rattle.afdx_frame.specs.declared.net.Net.TheVariants.{A, B}
-use Rattle.capture.specs.Order.{merged, next_net}
-use Rattle.capture.specs.Recording.{Recorded, recorded}
-use Rattle.capture.specs.declared.packet.Packet.{Packet}
-use Rattle.judge.specs.Judging.{OnNet, Judging, after_packet, found_with_packet, found_from}
-use Rattle.judge.specs.declared.finding.Finding.{Finding}
-use Rattle.judge.specs.Merging.{on_net, of_net, first_time, from_places, time_of, BeginsOn}
+use Rattle.judge.proofs.Names.{◌≡◌, ℕ, ◌+◌, ◌-◌, ◌<◌, List, [], ◌∷◌, map, length, drop, get_or, Bool, Some, arith, refl, length-drop, drop_more, get_or-map, length-map, take_all, drop-map, slice_range, A, B, merged, next_net, Recorded, recorded, Packet, OnNet, Judging, after_packet, found_with_packet, found_from, Finding, on_net, of_net, first_time, from_places, time_of, BeginsOn}
 
 -- the packet at a place begins what is left from there on
 pub at_place : (ps : List Packet) (i : ℕ) (d : Packet) → i < length ps

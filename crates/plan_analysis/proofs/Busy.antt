@@ -1,20 +1,6 @@
 -- What ports with periods hand over, the longest busy time of their sub-VL, and the times at which waits are greatest.
-use Rattle.std.proofs.Common.{ℕ, zero, suc, ◌≡◌, ◌+◌, ◌-◌, ◌*◌, ◌/◌, ◌<◌, ◌≤◌, List, [], ◌∷◌, length, get_or, arith, refl, ap, ◌∙◌, sym, inl, inr, ◌⊎◌, max, below_more, ◌++◌, map, Option, subst}
-use Rattle.std.proofs.lemmas.List.{get_or_append_left, get_or_default, get_or_push}
-use Rattle.std.specs.Prelude.{All}
-use Rattle.std.specs.Int.{div_ceil}
-use Rattle.std.proofs.lemmas.Bool.{cases_eq, cases_lt}
-use Rattle.std.proofs.lemmas.List.Elements.{All-cons, All-head, All-nil, All-tail, All-weaker}
-use Rattle.std.proofs.lemmas.List.Sums.{sum_by-cons, sum_by-le-sum_by}
-use Rattle.std.proofs.lemmas.Nat.{le-div, mul-le}
-use Rattle.std.proofs.Math.Nat.{div-le_self, div-mul-le_self, div-zero}
+use Rattle.plan_analysis.proofs.Names.{ℕ, zero, suc, ◌≡◌, ◌+◌, ◌-◌, ◌*◌, ◌/◌, ◌<◌, ◌≤◌, List, [], ◌∷◌, length, get_or, arith, refl, ap, ◌∙◌, sym, inl, inr, ◌⊎◌, max, below_more, ◌++◌, map, Option, subst, get_or_append_left, get_or_default, get_or_push, All, div_ceil, cases_eq, cases_lt, All-cons, All-head, All-nil, All-tail, All-weaker, sum_by-cons, sum_by-le-sum_by, le-div, mul-le, div-le_self, div-mul-le_self, div-zero, Flow, Plan, IsPlan, IsPort, IsBusyUntil, MeetsByTraffic, WaitsByTraffic, Sender, IsFlow, arrived, arrived_before, wait_at, IsWaitWithin, IsBusyTime, busy_limit, HasGoodPeriod, AreSendersOf, IsWaitOf, sender_at}
 use native.Mathlib.Nat.{mul-suc}
-use Rattle.plan_analysis.specs.declared.traffic.Flow.{Flow}
-use Rattle.afdx_plan.specs.Config.{Plan, IsPlan}
-use Rattle.afdx_plan.specs.Plan.{IsPort}
-use Rattle.plan_analysis.specs.KeptPeriods.{IsBusyUntil, MeetsByTraffic, WaitsByTraffic}
-use Rattle.plan_analysis.specs.declared.traffic.Sender.{Sender}
-use Rattle.plan_analysis.specs.Traffic.{IsFlow, arrived, arrived_before, wait_at, IsWaitWithin, IsBusyTime, busy_limit, HasGoodPeriod, AreSendersOf, IsWaitOf, sender_at}
 
 -- the fragments of one flow
 abbrev pub term : ℕ → Flow → ℕ

@@ -1,2 +1,3 @@
 pub mod Busy
 pub mod Rooms
+pub mod Names

@@ -1,13 +1,5 @@
 -- Bounds of the memory of sub-VLs.
-use Rattle.std.proofs.Common.{ℕ, ◌+◌, ◌*◌, ◌≤◌, ◌≡◌, ◌++◌, List, [], ◌∷◌, length, map, arith}
-use Rattle.std.specs.Prelude.{Bool, count_by}
-use Rattle.std.proofs.lemmas.List.Sums.{count_by-le-length}
-use Rattle.std.specs.List.{range_with_len}
-use Rattle.std.proofs.lemmas.List.FromFn.{map-range_with_len_more}
-use Rattle.std.proofs.lemmas.Nat.{mul-le}
-use Rattle.afdx_plan.specs.declared.link_plan.LinkPlan.{LinkPlan}
-use Rattle.afdx_plan.specs.declared.port_plan.PortPlan.{PortPlan}
-use Rattle.plan_analysis.specs.Memory.{sub_row}
+use Rattle.plan_analysis.proofs.Names.{ℕ, ◌+◌, ◌*◌, ◌≤◌, ◌≡◌, ◌++◌, List, [], ◌∷◌, length, map, arith, Bool, count_by, count_by-le-length, range_with_len, map-range_with_len_more, mul-le, LinkPlan, PortPlan, sub_row}
 
 -- of some ports no more are on a sub-VL
 pub ports_few : (on : PortPlan → Bool) (ports : List PortPlan) → count_by on ports ≤ length ports

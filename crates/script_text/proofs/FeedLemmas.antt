@@ -1,11 +1,5 @@
 -- The bytes before a line feed in a buffer.
-use Rattle.std.proofs.Common.{◌≡◌, ℕ, ◌+◌, ◌-◌, ◌≤◌, ◌<◌, ◌==◌, Bool, true, false, List, [], ◌∷◌, ◌++◌, zero, suc, length, take, drop, get_or, refl, ap, arith, append_assoc, if◌then◌else◌, length-take, length-append, drop-drop, Option, Some, None}
-use Rattle.std.proofs.lemmas.Bool.{false_from_ne_true}
-use Rattle.std.proofs.lemmas.List.{take_all, drop-take}
-use Rattle.std.proofs.Math.Seq.{drop-append_seam}
-use Rattle.std.specs.Prelude.{slice_range}
-use Rattle.std.specs.Io.KnownBytes.{Consumes, prepend_known}
-use Rattle.script_text.specs.Lines.{before_feed, IsPlain, TakesPlain}
+use Rattle.script_text.proofs.Names.{◌≡◌, ℕ, ◌+◌, ◌-◌, ◌≤◌, ◌<◌, ◌==◌, Bool, true, false, List, [], ◌∷◌, ◌++◌, zero, suc, length, take, drop, get_or, refl, ap, arith, append_assoc, if◌then◌else◌, length-take, length-append, drop-drop, Option, Some, None, false_from_ne_true, take_all, drop-take, drop-append_seam, slice_range, Consumes, prepend_known, before_feed, IsPlain, TakesPlain}
 
 -- `place` bytes, none of them a line feed, before a line feed or the end
 pub before_at : (text : List ℕ) (place : ℕ) → ((k : ℕ) → k < place → ¬ ((get_or text k 0 == 10) ≡ true))

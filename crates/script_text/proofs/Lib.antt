@@ -4,3 +4,4 @@ mod LogLemmas
 mod MeaningLemmas
 mod WordLemmas
 pub mod Written
+pub mod Names

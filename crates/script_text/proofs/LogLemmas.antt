@@ -1,12 +1,5 @@
 -- What a log of frames holds after one more, and without its first.
-use Rattle.std.proofs.Common.{◌≡◌, ℕ, ◌+◌, ◌<◌, ◌≤◌, List, [], ◌∷◌, ◌++◌, length, take, drop, refl, ap, arith, length-drop, suc, ◌⊎◌}
-use Rattle.std.specs.List.{sum_by}
-use Rattle.std.proofs.lemmas.List.{take_all, take-append-le, drop-append-le, length-take-le}
-use Rattle.std.proofs.lemmas.List.Sums.{sum_by-cons}
-use Rattle.std.proofs.lemmas.Bool.{cases_lt}
-use Rattle.redundant_mux.specs.Lines.{Entry, entry}
-use Rattle.script_text.specs.FrameLog.{spelled, AreInLog, bytes_in}
-use Rattle.script_text.specs.declared.frame_log.Mark.{Mark}
+use Rattle.script_text.proofs.Names.{◌≡◌, ℕ, ◌+◌, ◌<◌, ◌≤◌, List, [], ◌∷◌, ◌++◌, length, take, drop, refl, ap, arith, length-drop, suc, ◌⊎◌, sum_by, take_all, take-append-le, drop-append-le, length-take-le, sum_by-cons, cases_lt, Entry, entry, spelled, AreInLog, bytes_in, Mark}
 
 -- the frames that are spelled with one more at their end
 pub spelled_more : (marks : List Mark) (bytes : List ℕ) (mark : Mark) (frame : List ℕ)

@@ -1,10 +1,5 @@
 -- The faults of a line, by its words.
-use Rattle.std.proofs.Common.{◌≡◌, ℕ, List, [], ◌∷◌, arith, Some, None}
-use Rattle.script_text.specs.Command.{message_of, port_number, moment_of, link_number, sub_number}
-use Rattle.script_text.specs.Faults.{send_fault, at_fault, close_fault}
-use Rattle.script_text.specs.Meaning.{IsSaidSend, IsSaidAt, IsSaidClose}
-use Rattle.script_text.specs.declared.line.Line.TheVariants.{Send, At, Close}
-use Rattle.script_text.specs.declared.faults.LineFault.TheVariants.{Word, Number, Hex, Extra}
+use Rattle.script_text.proofs.Names.{◌≡◌, ℕ, List, [], ◌∷◌, arith, Some, None, message_of, port_number, moment_of, link_number, sub_number, send_fault, at_fault, close_fault, IsSaidSend, IsSaidAt, IsSaidClose, Send, At, Close, Word, Number, Hex, Extra}
 
 -- the words after `send`
 pub send_none : (ws : List (List ℕ)) → ws ≡ [] → send_fault ws ≡ Some Word

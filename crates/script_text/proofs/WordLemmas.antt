@@ -1,9 +1,6 @@
 -- Words, the blanks between them, and digits that follow.
-use Rattle.std.proofs.Common.{◌≡◌, ℕ, ◌<◌, ◌≤◌, true, false, List, [], ◌∷◌, length, take, drop, get_or, refl, suc, zero, ◌∙◌, arith, filter, length-take, length-drop, add-zero, ◌+◌, ◌-◌, ◌*◌}
-use Rattle.std.specs.List.{slice_split}
-use Rattle.std.proofs.lemmas.List.{get_or-drop, drop_more, drop_all}
-use Rattle.script_text.specs.Command.{is_blank, is_some_text, words_of, read_on, number_of, is_numeral}
-use Rattle.std.specs.Prelude.{Some, None}
+use Rattle.script_text.proofs.Names.{◌≡◌, ℕ, ◌<◌, ◌≤◌, true, false, List, [], ◌∷◌, length, take, drop, get_or, refl, suc, zero, ◌∙◌, arith, filter, length-take, length-drop, add-zero, ◌+◌, ◌-◌, ◌*◌, slice_split, get_or-drop, drop_more, drop_all, is_blank, is_some_text, read_on, is_numeral, Some, None}
+use Rattle.script_text.specs.Command.{words_of, number_of}
 
 -- blanks in front make no word
 skip_front : (line : List ℕ) (n : ℕ) → ((k : ℕ) → k < n → is_blank (get_or line k 0) ≡ true)

@@ -1,9 +1,6 @@
 -- Pieces that are written one after the other.
-use Rattle.std.proofs.Common.{◌≡◌, ℕ, List, [], ◌∷◌, ◌++◌, Option, ap, sym, ◌∙◌, append_assoc, append-nil, subst}
-use Rattle.std.specs.Io.KnownBytes.{Appends}
-use Rattle.std.specs.List.{flat_map}
-use Rattle.std.proofs.KnownBytes.{Appends-trans}
-use Rattle.std.proofs.lemmas.List.{flat_map_more}
+use Rattle.script_text.proofs.Names.{◌≡◌, ℕ, List, [], ◌∷◌, ◌++◌, Option, ap, sym, ◌∙◌, append_assoc, subst, Appends, flat_map, Appends-trans, flat_map_more}
+use Rattle.std.proofs.Common.{append-nil}
 
 -- The front and the first pieces were appended, and the others are left.
 pub record HasWritten {T : Type 0} (piece : T → List ℕ) (front : List ℕ) (all left : List T) (old new : Option (List ℕ))

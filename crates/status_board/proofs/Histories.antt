@@ -1,10 +1,5 @@
 -- Histories that grow.
-use Rattle.std.proofs.Common.{◌≡◌, ℕ, ◌+◌, List, [], ◌∷◌, ◌++◌, refl, sym, ap, ◌∙◌, append-nil, append_assoc, length, length-append, arith}
-use Rattle.std.proofs.lemmas.List.{map-append, nil_from_length}
-use Rattle.status_board.specs.declared.counts.Counts.{Counts}
-use Rattle.status_board.specs.declared.rule.Stamped.{Stamped}
-use Rattle.status_board.specs.Views.{NoFieldFalls, last_or, RisesFrom, value_of, IsRising, StartsWith}
-use Rattle.status_board.specs.Rule.{counts_of, AreAfter}
+use Rattle.status_board.proofs.Names.{◌≡◌, ℕ, ◌+◌, List, [], ◌∷◌, ◌++◌, refl, sym, ap, ◌∙◌, append-nil, append_assoc, length, length-append, arith, map-append, nil_from_length, Counts, Stamped, NoFieldFalls, last_or, RisesFrom, value_of, IsRising, StartsWith, counts_of, AreAfter}
 
 -- an entry that is added is the last
 pub last_or-push : (c : Counts) (history : List Counts) (x : Counts) → last_or c (history ++ x ∷ []) ≡ x

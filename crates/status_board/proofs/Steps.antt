@@ -1,15 +1,5 @@
 -- Each step on a link's cell keeps the rule.
-use Rattle.std.proofs.Common.{arith, ◌≡◌, ◌≢◌, ℕ, zero, suc, ◌+◌, List, [], ◌∷◌, ◌++◌, length, set, true, false, refl, sym, ap, ◌∙◌, subst, append-nil}
-use mathlib.Core.Option.{some, some-ne-none, some-injective}
-use lib.ListN.{get_elem?}
-use Rattle.crossbeam_utils.specs.Register.{Turns, Forks, Merges}
-use Rattle.atomic_table.specs.Seated.{TableId}
-use Rattle.atomic_table.proofs.Lists.{at_set, set_again, set_else}
-use Rattle.status_board.specs.declared.counts.Counts.{Counts}
-use Rattle.status_board.specs.declared.rule.Stamped.{Stamped}
-use Rattle.status_board.specs.declared.rule.View.{View}
-use Rattle.status_board.specs.Views.{NoFieldFalls, value_of, zeros, Watched, IsReading}
-use Rattle.status_board.specs.Rule.{stamped, counts_of, opener, Fits, KeepsHistory, Adds, FindsEntry, Agrees, without_reading, as_monitor, as_told, hearing, nobody}
+use Rattle.status_board.proofs.Names.{arith, ◌≡◌, ◌≢◌, ℕ, zero, suc, ◌+◌, List, [], ◌∷◌, ◌++◌, length, set, true, false, refl, sym, ap, ◌∙◌, subst, append-nil, some, some-ne-none, some-injective, get_elem?, Turns, Forks, Merges, TableId, at_set, set_again, set_else, Counts, Stamped, View, NoFieldFalls, value_of, zeros, Watched, IsReading, stamped, counts_of, opener, Fits, KeepsHistory, Adds, FindsEntry, Agrees, without_reading, as_monitor, as_told, hearing, nobody}
 use Rattle.status_board.proofs.Histories.{last_or-push, rises-push, starts_same, starts_more, starts_none, counts_of-append, counts_start, are_after-push, never_behind}
 
 -- P of each view after one has changed

@@ -1,5 +1,4 @@
-use Rattle.std.proofs.Common.{◌≡◌, drop}
-use Rattle.judge.specs.CheckSequence.{remainder_of}
+use Rattle.judge.proofs.Names.{◌≡◌, drop, remainder_of}
 use Rattle.judge.proofs.check_sequence.check_sequence.Given as goal
 
 abbrev pub invariant-loop-byte : goal.invariant-loop-byte

@@ -1,5 +1,4 @@
-use Rattle.std.proofs.Common.{◌≡◌, length}
-use Rattle.judge.specs.Judging.{found_left}
+use Rattle.judge.proofs.Names.{◌≡◌, length, found_left}
 use Rattle.judge.proofs.judge.add_left.Given as goal
 
 abbrev pub invariant-links : goal.invariant-links

@@ -1,5 +1,4 @@
-use Rattle.std.proofs.Common.{◌≡◌, ◌-◌, ◌≤◌, vec_len, replicate}
-use Rattle.judge.specs.Judging.{new_link}
+use Rattle.judge.proofs.Names.{◌≡◌, ◌-◌, ◌≤◌, vec_len, replicate, new_link}
 use Rattle.judge.proofs.judge.make_links.Given as goal
 
 abbrev pub invariant-links : goal.invariant-links

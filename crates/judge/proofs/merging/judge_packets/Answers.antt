@@ -1,4 +1,4 @@
-use Rattle.std.proofs.Common.{arith}
+use Rattle.judge.proofs.Names.{arith}
 use Rattle.judge.proofs.Places.{next_a, next_b, found_on, rest_is}
 use Rattle.judge.proofs.merging.judge_packets.Goals as goal
 

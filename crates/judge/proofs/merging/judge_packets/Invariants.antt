@@ -1,8 +1,4 @@
-use Rattle.std.proofs.Common.{◌≡◌, ◌≤◌, ◌+◌, ◌-◌, map, length, drop}
-use Rattle.afdx_frame.specs.declared.net.Net.TheVariants.{A, B}
-use Rattle.capture.specs.Recording.{recorded}
-use Rattle.judge.specs.Judging.{found_from, findings}
-use Rattle.judge.specs.Merging.{from_places, BeginsOn}
+use Rattle.judge.proofs.Names.{◌≡◌, ◌≤◌, ◌+◌, ◌-◌, map, length, drop, A, B, recorded, found_from, findings, from_places, BeginsOn}
 use Rattle.judge.proofs.merging.judge_packets.Given as goal
 
 abbrev pub invariant-packets : goal.invariant-packets

@@ -1,6 +1,4 @@
-use Rattle.std.proofs.Common.{◌≡◌, ◌≤◌, ◌+◌, ◌-◌, map, length, drop}
-use Rattle.capture.specs.Recording.{recorded}
-use Rattle.judge.specs.Merging.{of_net}
+use Rattle.judge.proofs.Names.{◌≡◌, ◌≤◌, ◌+◌, ◌-◌, map, length, drop, recorded, of_net}
 use Rattle.judge.proofs.merging.place_from.Given as goal
 
 abbrev pub invariant-others : goal.invariant-others

@@ -1,5 +1,4 @@
-use Rattle.std.proofs.Common.{◌≡◌, ◌+◌, length}
-use Rattle.judge.specs.Twins.{first_other}
+use Rattle.judge.proofs.Names.{◌≡◌, ◌+◌, length, first_other}
 use Rattle.judge.proofs.twins.first_other.Given as goal
 
 abbrev pub invariant-bytes : goal.invariant-bytes

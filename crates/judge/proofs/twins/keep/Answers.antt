@@ -1,6 +1,4 @@
-use Rattle.std.proofs.Common.{rules}
-use Rattle.std.proofs.lemmas.Fn.{filter_same}
-use Rattle.judge.specs.Twins.{stays}
+use Rattle.judge.proofs.Names.{rules, filter_same, stays}
 use Rattle.judge.proofs.twins.keep.Goals as goal
 
 pub returns : goal.returns

@@ -1,6 +1,4 @@
-use Rattle.std.proofs.Common.{ℕ, ◌+◌, ◌-◌, ◌*◌, ◌≤◌, arith}
-use Rattle.std.proofs.lemmas.Nat.{mul-le}
-use Rattle.afdx_plan.specs.Plan.{bag_micros}
+use Rattle.plan_analysis.proofs.Names.{ℕ, ◌+◌, ◌-◌, ◌*◌, ◌≤◌, arith, mul-le, bag_micros}
 use Rattle.plan_analysis.proofs.fragments.message_wait.Goals as goal
 
 pub overflow_mul-result-2 : goal.overflow_mul-result-2

@@ -1,7 +1,4 @@
-use Rattle.std.proofs.Common.{arith, refl}
-use Rattle.std.proofs.lemmas.Grind.{common_steps}
-use Rattle.std.proofs.lemmas.List.Recursion.{max_push}
-use Rattle.plan_analysis.specs.Wait.{pieces_on, most_pieces}
+use Rattle.plan_analysis.proofs.Names.{arith, refl, common_steps, max_push, pieces_on, most_pieces}
 use Rattle.plan_analysis.proofs.fragments.most_pieces.Goals as goal
 
 pub loop-port-preserved : goal.loop-port-preserved

@@ -1,5 +1,4 @@
-use Rattle.std.proofs.Common.{◌≡◌, ◌≤◌, take}
-use Rattle.plan_analysis.specs.Wait.{most_pieces}
+use Rattle.plan_analysis.proofs.Names.{◌≡◌, ◌≤◌, take, most_pieces}
 use Rattle.plan_analysis.proofs.fragments.most_pieces.Given as goal
 
 abbrev pub invariant-loop-port : goal.invariant-loop-port

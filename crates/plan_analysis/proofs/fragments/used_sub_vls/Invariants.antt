@@ -1,6 +1,4 @@
-use Rattle.std.proofs.Common.{◌≡◌, ◌≤◌}
-use Rattle.vl_shaper.specs.Pace.{users_among}
-use Rattle.plan_analysis.specs.Wait.{has_port}
+use Rattle.plan_analysis.proofs.Names.{◌≡◌, ◌≤◌, users_among, has_port}
 use Rattle.plan_analysis.proofs.fragments.used_sub_vls.Given as goal
 
 abbrev pub invariant-loop-sub : goal.invariant-loop-sub

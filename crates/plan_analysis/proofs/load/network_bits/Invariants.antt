@@ -1,5 +1,4 @@
-use Rattle.std.proofs.Common.{◌≡◌, ◌*◌, ◌≤◌, take}
-use Rattle.plan_analysis.specs.Load.{line_bits}
+use Rattle.plan_analysis.proofs.Names.{◌≡◌, ◌*◌, ◌≤◌, take, line_bits}
 use Rattle.plan_analysis.proofs.load.network_bits.Given as goal
 
 abbrev pub invariant-loop-link : goal.invariant-loop-link

@@ -1,5 +1,4 @@
-use Rattle.std.proofs.Common.{◌≡◌, ◌+◌, ◌*◌, ◌≤◌, take}
-use Rattle.plan_analysis.specs.Analysis.{network_jitter}
+use Rattle.plan_analysis.proofs.Names.{◌≡◌, ◌+◌, ◌*◌, ◌≤◌, take, network_jitter}
 use Rattle.plan_analysis.proofs.load.network_jitter.Given as goal
 
 abbrev pub invariant-loop-link : goal.invariant-loop-link

@@ -1,7 +1,4 @@
-use Rattle.std.proofs.Common.{arith, refl}
-use Rattle.std.proofs.lemmas.Grind.{common_steps}
-use Rattle.std.proofs.lemmas.List.Recursion.{max_push}
-use Rattle.plan_analysis.specs.Memory.{greatest_on, max_on}
+use Rattle.plan_analysis.proofs.Names.{arith, refl, common_steps, max_push, greatest_on, max_on}
 use Rattle.plan_analysis.proofs.memory.greatest_on.Goals as goal
 
 pub loop-port-preserved : goal.loop-port-preserved

@@ -1,5 +1,4 @@
-use Rattle.std.proofs.Common.{◌≡◌, ◌≤◌, take}
-use Rattle.plan_analysis.specs.Memory.{greatest_on}
+use Rattle.plan_analysis.proofs.Names.{◌≡◌, ◌≤◌, take, greatest_on}
 use Rattle.plan_analysis.proofs.memory.greatest_on.Given as goal
 
 abbrev pub invariant-loop-port : goal.invariant-loop-port

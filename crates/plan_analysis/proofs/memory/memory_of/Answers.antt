@@ -1,6 +1,4 @@
-use Rattle.std.proofs.Common.{List, arith, subst}
-use Rattle.plan_analysis.specs.Memory.{IsHeaviest}
-use Rattle.plan_analysis.specs.declared.memory.SubRow.{SubRow}
+use Rattle.plan_analysis.proofs.Names.{List, arith, subst, IsHeaviest, SubRow}
 use Rattle.plan_analysis.proofs.memory.memory_of.Goals as goal
 
 pub returns : goal.returns

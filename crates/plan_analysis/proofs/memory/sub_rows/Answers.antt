@@ -1,7 +1,4 @@
-use Rattle.std.proofs.Common.{◌≤◌, arith}
-use Rattle.std.proofs.lemmas.List.{append_assoc, length-append}
-use Rattle.std.proofs.lemmas.List.Elements.{All-push}
-use Rattle.plan_analysis.specs.declared.memory.SubRow.{SubRow}
+use Rattle.plan_analysis.proofs.Names.{◌≤◌, arith, append_assoc, length-append, All-push, SubRow}
 use Rattle.plan_analysis.proofs.Rooms.{rows_more}
 use Rattle.plan_analysis.proofs.memory.sub_rows.Goals as goal
 

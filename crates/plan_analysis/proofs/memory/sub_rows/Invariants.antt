@@ -1,8 +1,4 @@
-use Rattle.std.proofs.Common.{◌≡◌, ◌+◌, ◌*◌, ◌≤◌, ◌++◌, length, map, take}
-use Rattle.std.specs.Prelude.{All, flat_map}
-use Rattle.std.specs.List.{range_with_len}
-use Rattle.plan_analysis.specs.Memory.{rows_of_link, sub_row}
-use Rattle.plan_analysis.specs.declared.memory.SubRow.{SubRow}
+use Rattle.plan_analysis.proofs.Names.{◌≡◌, ◌+◌, ◌*◌, ◌≤◌, ◌++◌, length, map, take, All, flat_map, range_with_len, rows_of_link, sub_row, SubRow}
 use Rattle.plan_analysis.proofs.memory.sub_rows.Given as goal
 
 abbrev pub invariant-loop-link : goal.invariant-loop-link

@@ -1,6 +1,4 @@
-use Rattle.std.proofs.Common.{◌≡◌, ◌*◌, ◌≤◌, take}
-use Rattle.std.specs.Prelude.{sum_by}
-use Rattle.plan_analysis.specs.declared.memory.SubRow.{SubRow}
+use Rattle.plan_analysis.proofs.Names.{◌≡◌, ◌*◌, ◌≤◌, take, sum_by, SubRow}
 use Rattle.plan_analysis.proofs.memory.total.Given as goal
 
 abbrev pub invariant-loop-row : goal.invariant-loop-row

@@ -1,5 +1,4 @@
-use Rattle.std.proofs.Common.{◌≡◌, ◌*◌, ◌≤◌, take}
-use Rattle.plan_analysis.specs.Traffic.{arrived}
+use Rattle.plan_analysis.proofs.Names.{◌≡◌, ◌*◌, ◌≤◌, take, arrived}
 use Rattle.plan_analysis.proofs.traffic.arrived.Given as goal
 
 abbrev pub invariant-loop-flow : goal.invariant-loop-flow

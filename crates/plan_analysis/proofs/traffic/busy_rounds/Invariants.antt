@@ -1,5 +1,4 @@
-use Rattle.std.proofs.Common.{◌+◌, ◌-◌}
-use Rattle.plan_analysis.specs.Traffic.{busy_limit}
+use Rattle.plan_analysis.proofs.Names.{◌+◌, ◌-◌, busy_limit}
 use Rattle.plan_analysis.proofs.Busy.{IsBefore}
 use Rattle.plan_analysis.proofs.traffic.busy_rounds.Given as goal
 

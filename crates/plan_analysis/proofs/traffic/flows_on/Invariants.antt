@@ -1,6 +1,4 @@
-use Rattle.std.proofs.Common.{◌≡◌, ◌≤◌, true, length, take}
-use Rattle.std.specs.Prelude.{All}
-use Rattle.plan_analysis.specs.Traffic.{IsFlow, have_periods, flows_of}
+use Rattle.plan_analysis.proofs.Names.{◌≡◌, ◌≤◌, true, length, take, All, IsFlow, have_periods, flows_of}
 use Rattle.plan_analysis.proofs.traffic.flows_on.Given as goal
 
 abbrev pub invariant-loop-sender : goal.invariant-loop-sender

@@ -1,5 +1,4 @@
-use Rattle.std.proofs.Common.{ℕ, ◌*◌, ◌≤◌, arith, below_more}
-use Rattle.plan_analysis.specs.Traffic.{wait_at}
+use Rattle.plan_analysis.proofs.Names.{ℕ, ◌*◌, ◌≤◌, arith, below_more, wait_at}
 use Rattle.plan_analysis.proofs.Busy.{max_within, turn_below, turn_within}
 use Rattle.plan_analysis.proofs.traffic.longest_at.Goals as goal
 

@@ -1,5 +1,4 @@
-use Rattle.std.proofs.Common.{ℕ, ◌*◌, ◌<◌, ◌≤◌}
-use Rattle.plan_analysis.specs.Traffic.{IsWaitWithin, wait_at}
+use Rattle.plan_analysis.proofs.Names.{ℕ, ◌*◌, ◌<◌, ◌≤◌, IsWaitWithin, wait_at}
 use Rattle.plan_analysis.proofs.traffic.longest_at.Given as goal
 
 abbrev pub invariant-loop-turn : goal.invariant-loop-turn

@@ -1,4 +1,4 @@
-use Rattle.std.proofs.Common.{◌*◌, arith}
+use Rattle.plan_analysis.proofs.Names.{◌*◌, arith}
 use Rattle.plan_analysis.proofs.Busy.{by_multiples, cover_more, max_within}
 use Rattle.plan_analysis.proofs.traffic.longest_wait.Goals as goal
 

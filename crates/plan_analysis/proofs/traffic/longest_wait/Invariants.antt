@@ -1,4 +1,4 @@
-use Rattle.plan_analysis.specs.Traffic.{IsWaitWithin}
+use Rattle.plan_analysis.proofs.Names.{IsWaitWithin}
 use Rattle.plan_analysis.proofs.Busy.{AreCovered}
 use Rattle.plan_analysis.proofs.traffic.longest_wait.Given as goal
 

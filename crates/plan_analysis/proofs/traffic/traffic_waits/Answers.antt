@@ -1,5 +1,4 @@
-use Rattle.std.proofs.Common.{ℕ, ◌+◌, ◌<◌, List, None, Option, arith, get_or, subst, sym}
-use Rattle.plan_analysis.specs.Traffic.{IsWaitOf, sender_at}
+use Rattle.plan_analysis.proofs.Names.{ℕ, ◌+◌, ◌<◌, List, None, Option, arith, get_or, subst, sym, IsWaitOf, sender_at}
 use Rattle.plan_analysis.proofs.Busy.{each_push, good_senders, wait_here}
 use Rattle.plan_analysis.proofs.traffic.traffic_waits.Goals as goal
 

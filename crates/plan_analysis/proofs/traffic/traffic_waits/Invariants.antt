@@ -1,5 +1,4 @@
-use Rattle.std.proofs.Common.{ℕ, ◌≡◌, ◌<◌, length, get_or, None}
-use Rattle.plan_analysis.specs.Traffic.{IsWaitOf, sender_at}
+use Rattle.plan_analysis.proofs.Names.{ℕ, ◌≡◌, ◌<◌, length, get_or, None, IsWaitOf, sender_at}
 use Rattle.plan_analysis.proofs.traffic.traffic_waits.Given as goal
 
 abbrev pub invariant-loop-sender : goal.invariant-loop-sender

@@ -1,5 +1,4 @@
-use Rattle.std.proofs.Common.{◌∙◌, length, sym, arith}
-use Rattle.std.proofs.lemmas.List.{take_all}
+use Rattle.script_text.proofs.Names.{◌∙◌, length, sym, arith, take_all}
 use Rattle.script_text.proofs.FeedLemmas.{before_at}
 use Rattle.script_text.proofs.bytes.until_feed.Goals as goal
 

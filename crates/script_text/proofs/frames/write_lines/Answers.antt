@@ -1,6 +1,4 @@
-use Rattle.std.proofs.Common.{[]}
-use Rattle.redundant_mux.specs.Lines.{entry}
-use Rattle.script_text.specs.Transcript.{frame_line}
+use Rattle.script_text.proofs.Names.{[], entry, frame_line}
 use Rattle.script_text.proofs.Written.{written_turn}
 use Rattle.script_text.proofs.frames.write_lines.Goals as goal
 

@@ -1,5 +1,4 @@
-use Rattle.std.proofs.Common.{[]}
-use Rattle.script_text.specs.Transcript.{frame_line}
+use Rattle.script_text.proofs.Names.{[], frame_line}
 use Rattle.script_text.proofs.Written.{HasWritten}
 use Rattle.script_text.proofs.frames.write_lines.Given as goal
 

@@ -1,4 +1,4 @@
-use Rattle.std.proofs.Common.{◌<◌, length, arith}
+use Rattle.script_text.proofs.Names.{◌<◌, length, arith}
 use Rattle.script_text.proofs.LineLemmas.{read_plain, read_byte, eof_taken, eof_long, feed_taken, feed_long, byte_long}
 use Rattle.script_text.proofs.line_text.next_line.Goals as goal
 

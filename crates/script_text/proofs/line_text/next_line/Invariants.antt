@@ -1,4 +1,4 @@
-use Rattle.std.proofs.Common.{◌+◌, ◌-◌, length}
+use Rattle.script_text.proofs.Names.{◌+◌, ◌-◌, length}
 use Rattle.script_text.proofs.LineLemmas.{HasRead}
 use Rattle.script_text.proofs.line_text.next_line.Given as goal
 

@@ -1,5 +1,4 @@
-use Rattle.std.proofs.Common.{◌≡◌, ℕ, ◌<◌, get_or, not}
-use Rattle.script_text.specs.Command.{is_blank}
+use Rattle.script_text.proofs.Names.{◌≡◌, ℕ, ◌<◌, get_or, not, is_blank}
 use Rattle.script_text.proofs.words.first_at.Given as goal
 
 abbrev pub invariant-loop-place : goal.invariant-loop-place

@@ -1,4 +1,4 @@
-use Rattle.std.proofs.Common.{arith}
+use Rattle.script_text.proofs.Names.{arith}
 use Rattle.script_text.proofs.WordLemmas.{next_some}
 use Rattle.script_text.proofs.words.next_word.Goals as goal
 

@@ -1,4 +1,4 @@
-use Rattle.std.proofs.Common.{◌<◌, ◌+◌, ◌*◌, ◌-◌, arith, get_or}
+use Rattle.script_text.proofs.Names.{◌<◌, ◌+◌, ◌*◌, ◌-◌, arith, get_or}
 use Rattle.script_text.proofs.WordLemmas.{number_none, too_great}
 use Rattle.script_text.proofs.words.number.Goals as goal
 

@@ -1,5 +1,4 @@
-use Rattle.std.proofs.Common.{◌≡◌, drop}
-use Rattle.script_text.specs.Command.{read_on}
+use Rattle.script_text.proofs.Names.{◌≡◌, drop, read_on}
 use Rattle.script_text.proofs.words.number.Given as goal
 
 abbrev pub invariant-loop-digit : goal.invariant-loop-digit

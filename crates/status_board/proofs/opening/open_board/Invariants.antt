@@ -1,5 +1,4 @@
-use Rattle.std.proofs.Common.{◌≡◌, length}
-use Rattle.status_board.specs.Views.{AreNew}
+use Rattle.status_board.proofs.Names.{◌≡◌, length, AreNew}
 use Rattle.status_board.proofs.opening.open_board.Given as goal
 
 abbrev pub invariant-loop : goal.invariant-loop

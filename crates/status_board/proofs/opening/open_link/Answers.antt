@@ -1,4 +1,4 @@
-use Rattle.std.proofs.Common.{rules}
+use Rattle.status_board.proofs.Names.{rules}
 use Rattle.status_board.proofs.Steps.{begins}
 use Rattle.status_board.proofs.opening.open_link.Goals as goal
 

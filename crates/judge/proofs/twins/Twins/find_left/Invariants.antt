@@ -1,6 +1,4 @@
-use Rattle.std.proofs.Common.{◌≡◌, ◌++◌, drop}
-use Rattle.std.specs.Prelude.{filter}
-use Rattle.judge.specs.Twins.{is_left, missing_of}
+use Rattle.judge.proofs.Names.{◌≡◌, ◌++◌, drop, filter, is_left, missing_of}
 use Rattle.judge.proofs.twins.Twins.find_left.Given as goal
 
 abbrev pub invariant-loop-w : goal.invariant-loop-w

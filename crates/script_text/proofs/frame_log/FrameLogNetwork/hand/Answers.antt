@@ -1,5 +1,4 @@
-use Rattle.std.proofs.Common.{length, subst}
-use Rattle.script_text.specs.FrameLog.{FrameLog, LacksRoom}
+use Rattle.script_text.proofs.Names.{length, subst, FrameLog, LacksRoom}
 use Rattle.script_text.proofs.LogLemmas.{lacks_room}
 use Rattle.script_text.proofs.frame_log.FrameLogNetwork.hand.Goals as goal
 

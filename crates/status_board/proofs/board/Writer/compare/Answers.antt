@@ -1,6 +1,4 @@
-use Rattle.std.proofs.Common.{arith, rules, subst}
-use Rattle.status_board.specs.declared.rule.View.{View}
-use Rattle.status_board.specs.Views.{StartsWith}
+use Rattle.status_board.proofs.Names.{arith, rules, subst, View, StartsWith}
 use Rattle.status_board.proofs.Histories.{counts_start}
 use Rattle.status_board.proofs.Steps.{compares}
 use Rattle.status_board.proofs.board.Writer.compare.Goals as goal

@@ -1,7 +1,4 @@
-use Rattle.std.proofs.Common.{arith, ap, ◌∙◌}
-use Rattle.crossbeam_utils.specs.Seq.{cell_view}
-use Rattle.status_board.specs.Views.{value_of, zeros}
-use Rattle.status_board.specs.Rule.{counts_of}
+use Rattle.status_board.proofs.Names.{arith, ap, ◌∙◌, cell_view, value_of, zeros, counts_of}
 use Rattle.status_board.proofs.Histories.{last_or-push}
 use Rattle.status_board.proofs.Steps.{adds_entry}
 use Rattle.status_board.proofs.board.Writer.publish.Goals as goal

@@ -1,8 +1,4 @@
-use Rattle.std.proofs.Common.{arith, sym, subst}
-use Rattle.crossbeam_utils.specs.Seq.{cell_view}
-use Rattle.status_board.specs.declared.rule.View.{View}
-use Rattle.status_board.specs.Views.{StartsWith, Watched, IsReading}
-use Rattle.status_board.specs.Rule.{FindsEntry}
+use Rattle.status_board.proofs.Names.{arith, sym, subst, cell_view, View, StartsWith, Watched, IsReading, FindsEntry}
 use Rattle.status_board.proofs.Histories.{starts_both, counts_start}
 use Rattle.status_board.proofs.Steps.{reading}
 use Rattle.status_board.proofs.board.Writer.read_last.Goals as goal
