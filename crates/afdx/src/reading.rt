@@ -2,7 +2,7 @@
 ghost use Rattle.std.specs.Prelude.{◌≡◌, ◌≢◌, ◌⊎◌, ◌↔◌, ◌<◌, ◌≤◌, ◌++◌, [], ◌∷◌, IsSome, IsNone, false, length, drop};
 ghost use Rattle.afdx_tx.specs.Emitter.{LacksLink};
 ghost use Rattle.afdx_handle.specs.Numbers.{AreCountsOf, net_of};
-ghost use Rattle.afdx_handle.specs.Release.{IsReleaseOf};
+ghost use Rattle.afdx_handle.specs.Script.{IsReleaseOf};
 ghost use Rattle.afdx_handle.specs.EndSystem.{made_for, made_at, IsAllSent};
 ghost use Rattle.afdx_legal.specs.Counting.{counts_in};
 ghost use Rattle.afdx_legal.specs.Streams.{own_stream};

@@ -22,16 +22,12 @@ pub use Rattle.afdx_frame.specs.declared.field.Piece.{Piece}
 pub use Rattle.afdx_plan.specs.Address.{two_bytes}
 pub use Rattle.afdx_plan.specs.Plan.{identification, step_of, IsPort}
 pub use Rattle.afdx_plan.specs.declared.port_plan.PortPlan.{PortPlan}
-pub use Rattle.std.proofs.Common.{Bool, List, MatchOption, None, Option, Some, [], ap, append-nil, append_assoc, arith, drop, false, get_or, inl, inr, length-append}
-pub use Rattle.std.proofs.Common.{length, map, max, nat_le, nat_lt, not, refl, replicate, rules, set, slice_index, subst, suc, sum, sym, take, true}
-pub use Rattle.std.proofs.Common.{zero, ℕ, ◌%◌, ◌*◌, ◌++◌, ◌+◌, ◌-◌, ◌/◌, ◌<◌, ◌∙◌, ◌∷◌, ◌≡◌, ◌≢◌, ◌≤◌, ◌⊎◌, ◌==◌, ◌↔◌}
+pub use Rattle.std.proofs.Common.{Bool, List, MatchOption, None, Option, Some, [], ap, append-nil, append_assoc, arith, drop, false, get_or, inl, inr, length-append, length, map, max, nat_le, nat_lt, not, refl, replicate, rules, set, slice_index, subst, suc, sum, sym, take, true, zero, ℕ, ◌%◌, ◌*◌, ◌++◌, ◌+◌, ◌-◌, ◌/◌, ◌<◌, ◌∙◌, ◌∷◌, ◌≡◌, ◌≢◌, ◌≤◌, ◌⊎◌, ◌==◌, ◌↔◌}
 pub use Rattle.std.proofs.Math.ListN.{length-replicate}
 pub use Rattle.std.proofs.Math.Seq.{drop-append-add, get_or-append_right, take-append-add, take-append_seam, take-set-lt}
 pub use Rattle.std.proofs.lemmas.Bool.{cases_Bool, cases_lt, false_from_ne_true, le-ltb}
 pub use Rattle.std.proofs.lemmas.Bool.Decides.{nat_tests}
-pub use Rattle.std.proofs.lemmas.List.{drop-drop, drop_at, get_or-drop, get_or-map, get_or-replicate, get_or-set_other, get_or-set_same, get_or-take, take-take, take-append-drop, take-append-le, take_all}
-pub use Rattle.std.proofs.lemmas.List.{get_or_append_left, get_or_push, length-drop, length-map, length-set, length-take, length-take-le, map-append}
-pub use Rattle.std.proofs.lemmas.List.{set-get_or, set-set, set_past, take-replicate, take_at}
+pub use Rattle.std.proofs.lemmas.List.{drop-drop, drop_at, get_or-drop, get_or-map, get_or-replicate, get_or-set_other, get_or-set_same, get_or-take, take-take, take-append-drop, take-append-le, take_all, get_or_append_left, get_or_push, length-drop, length-map, length-set, length-take, length-take-le, map-append, set-get_or, set-set, set_past, take-replicate, take_at}
 pub use Rattle.std.proofs.lemmas.List.Sums.{fails_before_first, position_or_len_is, sum_by-cons}
 pub use Rattle.std.proofs.lemmas.List.Elements.{All-contains, All-contains_itself, All-from_recursion, All-head, All-map, All-tail, All-weaker, Contains-get_or, recursion_from_All}
 pub use Rattle.std.specs.List.{AllByRecursion, list_any}

@@ -11,9 +11,9 @@ use denote.Param.Laws.{arg_laws}
 use Rattle.std_heap.specs.contracts.Global as Heap
 use Rattle.std_heap.proofs.Global.TheLaws as heap
 use denote.Signature.{Slot, plain}
-use Rattle.afdx_handle.specs.contracts.home.Home as Home
+use Rattle.afdx_handle.specs.contracts.handle.Home as Home
 use Rattle.afdx_handle.specs.contracts.seal.parts.Parts as Parts
-use Rattle.afdx_handle.proofs.home.Home.TheLaws as home
+use Rattle.afdx_handle.proofs.handle.Home.TheLaws as home
 
 abbrev pub Content : RattleType
 Content = arg (raw (layout Home.the_row)) no Home.the_row

@@ -6,7 +6,7 @@ pub use Rattle.afdx_handle.specs.Listing.{bytes_of, first_made, lengths_of, link
 pub use Rattle.afdx_tx.specs.Phases.{Runs}
 pub use Rattle.afdx_handle.specs.Polling.{PollsTx, tx_of}
 pub use Rattle.afdx_handle.specs.contracts.end_system.EndSystem.{the_view}
-pub use Rattle.afdx_handle.specs.declared.home.Home.{Home}
+pub use Rattle.afdx_handle.specs.declared.handle.Home.{Home}
 pub use Rattle.afdx_handle.specs.declared.stage.Stage.{Stage}
 pub use Rattle.afdx_tx.specs.Run.{accepted_in, IsTurnAt, DrainsAt, accepted_view, pace_in}
 pub use Rattle.afdx_tx.specs.Emitter.{Tx}

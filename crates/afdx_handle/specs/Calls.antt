@@ -9,7 +9,7 @@ use Rattle.afdx_handle.specs.EndSystem.{EndView}
 use Rattle.afdx_handle.specs.Held.{port_of, HoldsNothing, HoldsEnd, HoldsSame}
 use Rattle.afdx_handle.specs.Numbers.{IsOneOf, net_of}
 use Rattle.afdx_handle.specs.declared.answer.TheConstants.{DONE, NOT_HELD, WRONG_HANDLE}
-use Rattle.afdx_handle.specs.declared.home.Home.{Home}
+use Rattle.afdx_handle.specs.declared.handle.Home.{Home}
 
 -- a call that reads an end system, with these further answers: the handle holds the same afterwards
 pub record ReadsEnd (old new : Option Home) (others : List ℕ) (answer : ℕ) : Type 0 where

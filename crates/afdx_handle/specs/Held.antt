@@ -3,11 +3,11 @@ use Rattle.std.specs.Prelude.{◌≡◌, ◌⊎◌, Option, Some, None, IsNone, 
 use Rattle.afdx_tx.specs.Ports.{PortView}
 use denote.RawPtr.{Ptr}
 use Rattle.afdx_handle.specs.EndSystem.{EndView}
-use Rattle.afdx_handle.specs.declared.home.Home.{Home}
-use Rattle.afdx_handle.specs.declared.home.Home as is
+use Rattle.afdx_handle.specs.declared.handle.Home.{Home}
+use Rattle.afdx_handle.specs.declared.handle.Home as is
 use Rattle.std.specs.Borrow.{Lends, MutBor, Fml}
 use Rattle.afdx_handle.specs.declared.seal.Sealed.{Sealed}
-use Rattle.afdx_handle.specs.contracts.home.Home.{the_row as home_row}
+use Rattle.afdx_handle.specs.contracts.handle.Home.{the_row as home_row}
 use Rattle.afdx_handle.specs.contracts.seal.Sealed.{the_row}
 
 -- the end system, if it holds one

@@ -5,7 +5,6 @@ pub mod Judged
 pub mod Listing
 pub mod Numbers
 pub mod Polling
-pub mod Release
 pub mod Rows
 pub mod Script
 pub mod Sealed

@@ -5,8 +5,8 @@ use Rattle.afdx_frame.specs.declared.layout.Layout.{Layout}
 use Rattle.afdx_frame.specs.declared.layout.Layout.TheVariants as layout
 use Rattle.afdx_frame.specs.declared.net.Net.TheVariants.{A, B}
 use Rattle.capture.specs.Recording.{Recording}
-use Rattle.capture.specs.declared.end.End.{End}
-use Rattle.capture.specs.declared.end.End.TheVariants.{Whole, CutOff, Broken}
+use Rattle.capture.specs.declared.stop.End.{End}
+use Rattle.capture.specs.declared.stop.End.TheVariants.{Whole, CutOff, Broken}
 use Rattle.capture.specs.declared.stop.Fault.{Fault}
 use Rattle.capture.specs.declared.stop.Fault.TheVariants as fault
 use Rattle.judge.specs.Deviations.{kind_number}
@@ -15,7 +15,7 @@ use Rattle.judge.specs.declared.finding.Ending.{Ending}
 use Rattle.judge.specs.declared.finding.Finding.{Finding}
 use Rattle.judge.specs.declared.finding.Kind.{Kind}
 use Rattle.judge.specs.declared.finding.Misfit.{Misfit}
-use Rattle.judge.specs.declared.options.Options.{Options}
+use Rattle.judge.specs.declared.judge.Options.{Options}
 use Rattle.judge.specs.declared.finding.Ending.TheVariants as ending
 use Rattle.judge.specs.declared.finding.Kind.TheVariants.{Frame, Fragment, Message}
 use Rattle.judge.specs.declared.finding.Misfit.TheVariants as misfit

@@ -5,7 +5,7 @@ use Rattle.std.specs.Prelude.{Option, Some, None}
 use Rattle.std.specs.Global.{Global}
 use Rattle.std.specs.contracts.impls.GlobalAllocator.TheImpl.{ghosts}
 use Rattle.std_alloc.specs.Box.Ownership.{box_owns}
-use Rattle.afdx_handle.specs.contracts.home.Home.{the_row}
+use Rattle.afdx_handle.specs.contracts.handle.Home.{the_row}
 
 abbrev pub sealed_owns : Global → Ptr → Option the_row.Denot → Fml
 sealed_owns alloc at None = ftrue

@@ -9,7 +9,7 @@ ghost use Rattle.afdx_handle.specs.Numbers.{IsOneOf};
 use crate::answer::{DONE, SMALL_BUFFER};
 use crate::block::Block;
 use crate::end_system::EndSystem;
-use crate::home::Home;
+use crate::handle::Home;
 use crate::stage::Stage;
 use afdx_config::{ConfigFault, read_config};
 use afdx_tx::open_tx;

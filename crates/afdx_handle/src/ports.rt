@@ -7,7 +7,7 @@ ghost use Rattle.afdx_handle.specs.Numbers.{IsOneOf};
 
 use crate::answer::{DONE, GATHERED, MEMORY, NO_PORT, NOT_HELD, PORT_MISSING, WRONG_HANDLE};
 use crate::end_system::EndSystem;
-use crate::home::{Home, OwnPort};
+use crate::handle::{Home, OwnPort};
 use crate::stage::Stage;
 use afdx_tx::TxPort;
 use std::alloc::Global;

@@ -1,6 +1,6 @@
 //! The link, sub-VL and number of a frame, in the layout of C.
 ghost use Rattle.std.specs.Prelude.{◌≡◌, slice_index};
-ghost use Rattle.afdx_handle.specs.Release.{IsReleaseOf};
+ghost use Rattle.afdx_handle.specs.Script.{IsReleaseOf};
 
 /// The virtual link of a frame, the index of its sub-VL, and its sequence number.
 #[repr(C)]

@@ -1,15 +1,15 @@
 //! A box, or nothing, behind a pointer that C holds.
 ghost use Rattle.std.specs.Prelude.{◌≡◌, Option, Some, None, IsSome};
-ghost use Rattle.afdx_handle.specs.declared.home.Home.{Home};
+ghost use Rattle.afdx_handle.specs.declared.handle.Home.{Home};
 ghost use Rattle.afdx_handle.specs.Sealed.{sealed_owns};
-ghost use Rattle.afdx_handle.specs.contracts.home.Home.{the_row as home_row};
+ghost use Rattle.afdx_handle.specs.contracts.handle.Home.{the_row as home_row};
 ghost use Rattle.std.specs.Coded.{coded_option};
 ghost use Rattle.std.specs.Borrow.{sem};
 ghost use Rattle.afdx_handle.specs.Held.{LendsHome};
 
 mod parts;
 
-use crate::home::Home;
+use crate::handle::Home;
 use parts::Parts;
 use std::alloc::Global;
 use std::marker::Model;

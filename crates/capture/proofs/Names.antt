@@ -26,8 +26,8 @@ unfoldable pub use Rattle.capture.specs.Recording.{block_content, body_of, conte
 pub use Rattle.capture.specs.Streaming.{IsRoomEnough, StepsOn, StopsThere}
 pub use Rattle.capture.specs.Units.{number_at, section_type}
 unfoldable pub use Rattle.capture.specs.Units.{block_size, header_unit, record_size, section_unit, size_of, unit_of}
-pub use Rattle.capture.specs.declared.end.End.{End}
-pub use Rattle.capture.specs.declared.end.End.TheVariants.{Whole}
+pub use Rattle.capture.specs.declared.stop.End.{End}
+pub use Rattle.capture.specs.declared.stop.End.TheVariants.{Whole}
 pub use Rattle.capture.specs.declared.interface.Interface.{Interface}
 pub use Rattle.capture.specs.declared.interface.OptionFront.{OptionFront}
 pub use Rattle.capture.specs.declared.order.Order.{Order}

@@ -4,8 +4,8 @@ use Rattle.afdx_frame.specs.declared.net.Net.{Net}
 use Rattle.afdx_frame.specs.declared.net.Net.TheVariants.{A}
 use Rattle.capture.specs.Interfaces.{◌>>=◌, plain, with_options, time_of, known, network_of}
 use Rattle.capture.specs.Units.{number_at, unit_of, size_of}
-use Rattle.capture.specs.declared.end.End.{End}
-use Rattle.capture.specs.declared.end.End.TheVariants.{Whole, CutOff, Broken}
+use Rattle.capture.specs.declared.stop.End.{End}
+use Rattle.capture.specs.declared.stop.End.TheVariants.{Whole, CutOff, Broken}
 use Rattle.capture.specs.declared.interface.Interface.{Interface}
 use Rattle.capture.specs.declared.interface.TheConstants.{MOST_INTERFACES}
 use Rattle.capture.specs.declared.order.Order.{Order}

@@ -1,7 +1,6 @@
 //! The frames of two networks, as one capture in the pcapng format.
 #![tactic(auto)]
 
-mod end;
 mod in_order;
 mod interface;
 pub mod laws;
@@ -13,13 +12,12 @@ mod stop;
 mod unit;
 mod write;
 
-pub use end::End;
 pub use in_order::next_net;
 pub use interface::{Interface, MOST_INTERFACES};
 pub use order::Order;
 pub use packet::Packet;
 pub use reading::{Reading, Step};
 pub use recording::{Recording, read_capture};
-pub use stop::{Fault, Stop};
+pub use stop::{End, Fault, Stop};
 pub use unit::{Clock, Format, GREATEST_UNIT};
 pub use write::write_capture;

@@ -2,7 +2,7 @@
 ghost use Rattle.std.specs.Prelude.{◌≡◌, IfOk};
 ghost use Rattle.capture.specs.Recording.{recording_of, read_capture as recording_in};
 
-use crate::end::End;
+use crate::stop::End;
 use crate::packet::Packet;
 use crate::reading::Reading;
 use std::alloc::{AllocError, Global};

@@ -1,4 +1,15 @@
-//! Why a reading stops.
+//! Why a reading stops, and how a capture ends.
+
+/// How a capture ends, after the packets that were read.
+#[derive(Clone, Copy, Debug, PartialEq, Eq)]
+pub enum End {
+    /// With its last block or record.
+    Whole,
+    /// In the block or the record that begins at this byte, or before its first one.
+    CutOff(u64),
+    /// The block or the record that begins at this byte is malformed.
+    Broken(u64, Fault),
+}
 
 /// What is wrong with a capture.
 #[derive(Clone, Copy, Debug, PartialEq, Eq)]

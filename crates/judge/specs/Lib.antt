@@ -10,4 +10,3 @@ pub mod State
 pub mod Twins
 pub mod Types
 pub mod Waiting
-pub mod Worked

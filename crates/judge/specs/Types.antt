@@ -27,7 +27,7 @@ pub use Rattle.judge.specs.declared.line.Sub.{Sub}
 pub use Rattle.judge.specs.declared.line.Verdict.{Verdict}
 pub use Rattle.judge.specs.declared.link.Link.{Link}
 pub use Rattle.judge.specs.declared.link.Setting.{Setting}
-pub use Rattle.judge.specs.declared.options.Options.{Options}
+pub use Rattle.judge.specs.declared.judge.Options.{Options}
 pub use Rattle.judge.specs.declared.rules.Refused.{Refused}
 pub use Rattle.judge.specs.declared.judge.Times.{Times}
 pub use Rattle.judge.specs.declared.twins.Nearness.{Nearness}

@@ -1,5 +1,5 @@
 //! Laws of the definitions. Their functions do nothing: the contract is the law.
-ghost use Rattle.judge.specs.Worked.{ChecksDigits};
+ghost use Rattle.judge.specs.CheckSequence.{ChecksDigits};
 
 /// The check sequence of the digits 1 to 9, which tables of such codes list.
 #[tactic(auto, unfolding(crate::specs::CheckSequence::check_sequence, crate::specs::CheckSequence::with_byte))]

@@ -10,13 +10,11 @@ pub mod laws;
 mod line;
 mod link;
 mod merging;
-mod options;
 mod rules;
 mod twins;
 
 pub use afdx_frame::Layout;
 pub use finding::{Ending, Finding, Kind, Misfit};
-pub use judge::Judge;
+pub use judge::{Judge, Options};
 pub use line::Figures;
 pub use merging::judge_packets;
-pub use options::Options;

@@ -6,7 +6,7 @@ ghost use Rattle.judge.specs.Merging.{is_of, first_time, of_net, from_places, Be
 
 use crate::finding::Finding;
 use crate::judge::Judge;
-use crate::options::Options;
+use crate::judge::Options;
 use afdx_frame::Net;
 use afdx_plan::Config;
 use capture::{Packet, next_net};

@@ -9,7 +9,7 @@ ghost use Rattle.afdx_frame.specs.Frame.{interface_byte};
 
 use crate::check_sequence::check_sequence;
 use crate::finding::{Deviation, Kind};
-use crate::options::Options;
+use crate::judge::Options;
 use afdx_frame::layout::framed;
 use afdx_frame::net::{INTERFACE_A, INTERFACE_B, SHORTEST_FRAME};
 use afdx_frame::{Layout, Net, field, layout_broken, word_at};

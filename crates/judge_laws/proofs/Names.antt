@@ -72,7 +72,7 @@ pub use Rattle.judge.specs.declared.finding.Finding.{Finding}
 pub use Rattle.judge.specs.declared.finding.Kind.TheVariants.{Missing}
 pub use Rattle.judge.specs.declared.finding.Misfit.{Misfit}
 pub use Rattle.judge.specs.declared.finding.Misfit.TheVariants.{Identification, Offset}
-pub use Rattle.judge.specs.declared.options.Options.{Options}
+pub use Rattle.judge.specs.declared.judge.Options.{Options}
 pub use Rattle.vl_shaper.specs.declared.shaper.Stamp.{Stamp}
 pub use Rattle.judge_laws.specs.NoFalseAlarm.{AreFit, IsMissing, IsRunOf, IsSent, NoFalseAlarm, packets_of, IsRecord, IsRecording}
 pub use Rattle.judge_laws.specs.Frames.{IsRecordedAs}

@@ -14,7 +14,7 @@ use Rattle.judge.specs.Judging.{OnNet, findings}
 use Rattle.judge.specs.Twins.{same_net}
 use Rattle.judge.specs.declared.finding.Finding.{Finding}
 use Rattle.judge.specs.declared.finding.Kind.TheVariants.{Missing}
-use Rattle.judge.specs.declared.options.Options.{Options}
+use Rattle.judge.specs.declared.judge.Options.{Options}
 use Rattle.judge_laws.specs.Frames.{IsRecordedAs}
 
 -- what an emitter of a valid plan sent to the two networks

@@ -7,7 +7,7 @@ use Rattle.redundant_mux.specs.Lines.{Entry}
 use Rattle.afdx_legal.specs.Legal.{Accepted, on_both}
 use Rattle.capture.specs.Recording.{Recorded}
 use Rattle.judge.specs.Judging.{OnNet, findings}
-use Rattle.judge.specs.declared.options.Options.{Options}
+use Rattle.judge.specs.declared.judge.Options.{Options}
 use Rattle.judge_laws.specs.NoFalseAlarm.{AreFit, IsRecord, IsSent, packets_of}
 
 -- a packet's time, which each has

@@ -9,7 +9,7 @@ use Rattle.afdx_legal.specs.Legal.{Accepted, IsLegalOn}
 use Rattle.afdx_legal.specs.Streams.{TakeTurnsOn, link_stream, more_in, sub_stream}
 use Rattle.capture.specs.Recording.{Recorded}
 use Rattle.judge.specs.Judging.{OnNet, findings}
-use Rattle.judge.specs.declared.options.Options.{Options}
+use Rattle.judge.specs.declared.judge.Options.{Options}
 use Rattle.judge_laws.specs.NoFalseAlarm.{packets_of}
 use Rattle.judge_laws.specs.NothingFound.{time_of}
 

@@ -7,7 +7,7 @@ use Rattle.afdx_legal.specs.Worked.{one_frame}
 use Rattle.afdx_laws.specs.Rows.{BothFail}
 use Rattle.afdx_laws.specs.WorkedPlan.{pair_at, second_frame, two_accepted, two_entries}
 use Rattle.judge.specs.Judging.{OnNet, findings}
-use Rattle.judge.specs.declared.options.Options.{Options}
+use Rattle.judge.specs.declared.judge.Options.{Options}
 use Rattle.judge_laws.specs.NoFalseAlarm.{AreFit, IsMissing, IsRecording, IsSent}
 use Rattle.judge_laws.specs.NothingFound.{IsWhole}
 use Rattle.judge_laws.specs.NothingMissed.{IsSentTo, IsStrict, sent_to}

@@ -1,5 +1,5 @@
 -- The text of an analysis: a table for the links, one for the networks, one for the ports and one for the sub-VLs.
-use Rattle.std.specs.Prelude.{codes, max, ℕ, ◌/◌, ◌%◌, List, [], ◌∷◌, ◌++◌, Bool, Option, Some, None, if◌then◌else◌, flat_map, decimal}
+use Rattle.std.specs.Prelude.{codes, max, ℕ, ◌/◌, ◌%◌, List, [], ◌∷◌, ◌++◌, Bool, Option, Some, None, if◌then◌else◌, flat_map, decimal, false, min, nat_lt}
 use Rattle.std.specs.Fmt.{styled_decimal, format_spec}
 use Rattle.afdx_frame.specs.declared.net.Net.{Net}
 use Rattle.afdx_frame.specs.declared.net.Net.TheVariants.{A, B}
@@ -119,3 +119,13 @@ text_of analysis = head_line analysis.end_system analysis.lateness
     ++ networks_table analysis.network_a analysis.network_b
     ++ ports_table analysis.ports.items
     ++ memory_table analysis.memory.subs.items analysis.memory.bytes analysis.memory.large
+
+-- the less of the wait by the queue and the wait by traffic, if there is one
+abbrev pub longest_wait : ℕ → Option ℕ → ℕ
+longest_wait queue None = queue
+longest_wait queue (Some traffic) = min traffic queue
+
+-- the longest wait is over the deadline
+abbrev pub is_missed : ℕ → Option ℕ → Option ℕ → Bool
+is_missed queue traffic None = false
+is_missed queue traffic (Some deadline) = nat_lt deadline (longest_wait queue traffic)

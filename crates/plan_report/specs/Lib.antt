@@ -1,3 +1,2 @@
 pub mod AnalysisText
 pub mod Report
-pub mod Assessed

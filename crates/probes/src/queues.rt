@@ -1,6 +1,6 @@
 //! Queues. What is printed of them allocates nothing.
 ghost use Rattle.std.specs.Prelude.{◌≡◌, None, length, slice_index_or};
-ghost use Rattle.subvl_queue.specs.Room.{room_with};
+ghost use Rattle.subvl_queue.specs.Messages.{room_with};
 ghost use Rattle.subvl_queue.specs.Views.{AreOf, SenderView};
 
 use crate::trouble::*;

@@ -15,6 +15,6 @@ pub use Rattle.script_text.specs.declared.frame_log.Mark.{Mark}
 pub use Rattle.script_text.specs.Command.{message_of, port_number, moment_of, link_number, sub_number, is_blank, is_some_text, read_on, is_numeral}
 pub use Rattle.script_text.specs.Faults.{send_fault, at_fault, close_fault}
 pub use Rattle.script_text.specs.Meaning.{IsSaidSend, IsSaidAt, IsSaidClose}
-pub use Rattle.script_text.specs.declared.line.Line.TheVariants.{Send, At, Close}
+pub use Rattle.script_text.specs.declared.line_meaning.Line.TheVariants.{Send, At, Close}
 pub use Rattle.script_text.specs.declared.faults.LineFault.TheVariants.{Word, Number, Hex, Extra}
 pub use Rattle.script_text.specs.Transcript.{frame_line}

@@ -2,8 +2,8 @@
 use Rattle.std.specs.Prelude.{◌≡◌, ℕ, if◌then◌else◌, List, [], ◌∷◌, unwrap_or, None, ◌+◌, ◌≤◌, ⊤}
 use Rattle.script_text.specs.Command.{command_of, is_send, is_at, is_close, port_number, moment_of, link_number, sub_number, message_of}
 use Rattle.script_text.specs.Faults.{send_fault, at_fault, close_fault}
-use Rattle.script_text.specs.declared.line.Line.{Line}
-use Rattle.script_text.specs.declared.line.Line.TheVariants.{Send, At, Close, Nothing}
+use Rattle.script_text.specs.declared.line_meaning.Line.{Line}
+use Rattle.script_text.specs.declared.line_meaning.Line.TheVariants.{Send, At, Close, Nothing}
 use Rattle.script_text.specs.declared.notes.Outcome.{Outcome}
 use Rattle.script_text.specs.declared.notes.Outcome.TheVariants.{Quiet, Accepted, Refused, Released, Closed}
 use Rattle.script_text.specs.declared.notes.Summary.{Summary as Sums}

@@ -5,10 +5,19 @@ ghost use Rattle.script_text.specs.Faults.{IsFirstFault, IsFaultless, send_fault
 ghost use Rattle.script_text.specs.Meaning.{meaning_of, IsSaidSend, IsSaidAt, IsSaidClose};
 
 use crate::faults::LineFault;
-use crate::line::Line;
 use crate::line_text::LINE_LIMIT;
 use crate::words::{Message, next_word, number};
 use std::alloc::Global;
+
+/// What a line says: a port sends a message, one poll at a time in microseconds, the close of a sub-VL of
+/// a virtual link, or nothing, as a blank line and a comment do.
+#[derive(Debug, Drop)]
+pub enum Line {
+    Send { port: u16, bytes: Message },
+    At(u64),
+    Close { vl: u16, sub: u8 },
+    Nothing,
+}
 
 /// A line without the byte order mark that may stand before it.
 fn after_mark(line: &[u8]) -> &[u8]

@@ -1,5 +1,5 @@
 -- Messages in a queue. Each is a pair of its sender's index and its bytes.
-use Rattle.std.specs.Prelude.{ℕ, ◌==◌, ◌^◌, ◌<◌, ◌≤◌, length, if◌then◌else◌, List, [], ◌∷◌, All}
+use Rattle.std.specs.Prelude.{ℕ, ◌==◌, ◌^◌, ◌<◌, ◌≤◌, length, if◌then◌else◌, List, [], ◌∷◌, All, Option, Some, None}
 
 -- the greatest length of a message in bytes
 abbrev pub most_bytes : ℕ
@@ -26,3 +26,26 @@ most_calls = 2 ^ 40
 abbrev pub part_of : ℕ → List (ℕ × List ℕ) → List (List ℕ)
 part_of port [] = []
 part_of port (item ∷ items) = if item.0 == port then item.1 ∷ part_of port items else part_of port items
+
+-- How many bytes there is room for, and the message with the index of its sender, if there is one.
+pub record RoomView : Type 0 where
+  pub most : ℕ
+  pub item : Option (ℕ × List ℕ)
+
+abbrev pub room_with : ℕ → Option (ℕ × List ℕ) → RoomView
+room_with most item = record { most = most; item = item }
+
+-- a message of these bytes; no bytes are no message
+abbrev pub item_of : ℕ → List ℕ → Option (ℕ × List ℕ)
+item_of port [] = None
+item_of port (x ∷ xs) = Some (port, x ∷ xs)
+
+-- the bytes of the message, or none
+abbrev pub bytes_of : Option (ℕ × List ℕ) → List ℕ
+bytes_of None = []
+bytes_of (Some item) = item.1
+
+-- the index of the message's sender, or 0
+abbrev pub port_of : Option (ℕ × List ℕ) → ℕ
+port_of None = 0
+port_of (Some item) = item.0

@@ -1,9 +1,8 @@
 //! All ends of a queue together.
 ghost use Rattle.std.specs.Prelude.{◌≡◌, ◌^◌, ◌<◌, ◌≤◌, [], ◌∷◌, ◌++◌, take, drop, length, None, IfSome, IfNone, is_some, MatchBool};
 ghost use Rattle.subvl_queue.specs.declared.rule.Role.TheVariants.{Receiver as AsReceiver};
-ghost use Rattle.subvl_queue.specs.Messages.{IsMessage};
+ghost use Rattle.subvl_queue.specs.Messages.{IsMessage, room_with};
 ghost use Rattle.subvl_queue.specs.Queue.{RestsAs, IsSlotOf};
-ghost use Rattle.subvl_queue.specs.Room.{room_with};
 ghost use Rattle.subvl_queue.specs.Views.{IsGathered, whole, TellsLeft, HasPort, HasEvery, LacksOne, AreOf, brought_by_all, GatheredView};
 
 use crate::receiver::{Receiver, fetch};

@@ -1,8 +1,7 @@
 //! Makes a queue.
 ghost use Rattle.std.specs.Prelude.{◌≡◌, ℕ, ◌^◌, ◌<◌, ◌≤◌, [], length, None, replicate, IfOk, slice_index_or};
-ghost use Rattle.subvl_queue.specs.Messages.{most_bytes};
+ghost use Rattle.subvl_queue.specs.Messages.{most_bytes, room_with};
 ghost use Rattle.subvl_queue.specs.Queue.{IsAtTable};
-ghost use Rattle.subvl_queue.specs.Room.{room_with};
 ghost use Rattle.subvl_queue.specs.Steps.{first_view};
 ghost use Rattle.subvl_queue.specs.Views.{SenderView, new_sender, new_receiver};
 

@@ -1,8 +1,7 @@
 //! The receiving end of a queue.
 ghost use Rattle.std.specs.Prelude.{◌≡◌, ◌+◌, ◌^◌, ◌<◌, ◌≤◌, [], length, IfOk, IfErr, IfSome, IfNone, None, false, is_some};
 ghost use Rattle.subvl_queue.specs.declared.rule.Role.TheVariants.{Receiver as AsReceiver};
-ghost use Rattle.subvl_queue.specs.Messages.{IsMessage, AreItems};
-ghost use Rattle.subvl_queue.specs.Room.{room_with};
+ghost use Rattle.subvl_queue.specs.Messages.{IsMessage, AreItems, room_with};
 ghost use Rattle.subvl_queue.specs.Queue.{IsAtTable, RestsAs, IsSlotOf};
 ghost use Rattle.subvl_queue.specs.Steps.{IsNext, with_look, freed_of, holding};
 ghost use Rattle.subvl_queue.specs.Views.{new_receiver, new_sender, one_more, after_take, looked, closed, taken_back, accepted_of, brought_by_all, AreBack, LacksOne, AreOf, IsWhole, brought_back, ReceiverView};

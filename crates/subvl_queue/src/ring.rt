@@ -4,8 +4,7 @@ ghost use mathlib.Core.Option.{some};
 ghost use lib.ListN.{get_elem?};
 ghost use Rattle.subvl_queue.specs.declared.rule.Role.TheVariants.{Sender, Receiver};
 ghost use Rattle.subvl_queue.specs.declared.rule.Stage.TheVariants.{Idle, Asked, Refused, Drew, Late, Holding};
-ghost use Rattle.subvl_queue.specs.Messages.{IsMessage, most_bytes};
-ghost use Rattle.subvl_queue.specs.Room.{room_with};
+ghost use Rattle.subvl_queue.specs.Messages.{IsMessage, most_bytes, room_with};
 ghost use Rattle.subvl_queue.specs.Queue.{IsAtTable, RestsAs, IsSlotOf};
 ghost use Rattle.subvl_queue.specs.Steps.{new_seat, Finds, Misses, IsLog, with_ask, idle, drawn, lated, with_glance, with_total, one_made, with_joined, with_all, freed_of};
 

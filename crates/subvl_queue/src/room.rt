@@ -1,6 +1,6 @@
 //! Room for one message.
 ghost use Rattle.std.specs.Prelude.{◌≡◌, ◌≤◌, length, take, IfOk, Some, None};
-ghost use Rattle.subvl_queue.specs.Room.{room_with, bytes_of, port_of, RoomView, item_of};
+ghost use Rattle.subvl_queue.specs.Messages.{room_with, bytes_of, port_of, RoomView, item_of};
 ghost use Rattle.std.specs.Box.{boxed_slice_items};
 
 use std::alloc::{AllocError, Global};

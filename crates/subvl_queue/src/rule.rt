@@ -1,9 +1,8 @@
 //! The rule, what a seat at the table knows, and the outcome of each step. No value of these types
 //! is made.
 ghost use Rattle.std.specs.Prelude.{ℕ, List, Option, None, length};
-ghost use Rattle.subvl_queue.specs.Messages.{IsMessage};
+ghost use Rattle.subvl_queue.specs.Messages.{IsMessage, room_with};
 ghost use Rattle.subvl_queue.specs.Queue.{Queue};
-ghost use Rattle.subvl_queue.specs.Room.{room_with};
 ghost use Rattle.subvl_queue.specs.Steps.{first_view, new_seat, spent_view, reserves, unreserves, claims, publishes, finds_ready, takes_out, finds_closed, closes, gathers, one_made, with_joined};
 
 use crate::room::Room;

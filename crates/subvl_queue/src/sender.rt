@@ -1,8 +1,7 @@
 //! The sending ends of a queue.
 ghost use Rattle.std.specs.Prelude.{◌≡◌, ◌≢◌, ◌%◌, ◌^◌, ◌<◌, ◌≤◌, [], ◌∷◌, length, IfOk, IfErr, None, Some};
 ghost use Rattle.subvl_queue.specs.declared.rule.Role.TheVariants.{Sender as AsSender};
-ghost use Rattle.subvl_queue.specs.Messages.{IsMessage};
-ghost use Rattle.subvl_queue.specs.Room.{room_with};
+ghost use Rattle.subvl_queue.specs.Messages.{IsMessage, room_with};
 ghost use Rattle.subvl_queue.specs.Queue.{IsAtTable, RestsAs, IsSlotOf};
 ghost use Rattle.subvl_queue.specs.declared.sender.Why.TheVariants.{Closed};
 ghost use Rattle.subvl_queue.specs.Steps.{new_seat, drawn, asked_with_room, RefusedBy};

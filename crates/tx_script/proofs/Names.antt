@@ -25,8 +25,8 @@ pub use Rattle.script_text.specs.Transcript.{ends_writing, note_of, streams}
 pub use Rattle.script_text.specs.declared.faults.Refusal.{Refusal}
 pub use Rattle.script_text.specs.declared.faults.Refusal.TheVariants.{Closed, Empty, Full, NoPort, NoSub, TooLong}
 pub use Rattle.script_text.specs.declared.faults.RunFault.{RunFault}
-pub use Rattle.script_text.specs.declared.line.Line.{Line, Line as Said}
-pub use Rattle.script_text.specs.declared.line.Line.TheVariants.{Close, Send}
+pub use Rattle.script_text.specs.declared.line_meaning.Line.{Line, Line as Said}
+pub use Rattle.script_text.specs.declared.line_meaning.Line.TheVariants.{Close, Send}
 pub use Rattle.script_text.specs.declared.notes.Outcome.{Outcome}
 pub use Rattle.std.proofs.Common.{Bool, Err, List, None, Ok, OnErr, OnOk, Option, Result, Some, [], ap, append-nil, append_assoc, arith, false, get_or, if◌then◌else◌, inl, inr, length, nat_eq, nat_lt, refl, set, subst, suc, sym, true, zero, ℕ, ⊎_elim, ◌*◌, ◌++◌, ◌+◌, ◌-◌, ◌<◌, ◌==◌, ◌∙◌, ◌∷◌, ◌≡◌, ◌≢◌, ◌≤◌}
 pub use Rattle.std.proofs.KnownBytes.{Appends-nil, Appends-trans}
@@ -45,8 +45,8 @@ pub use Rattle.tx_script.specs.EndSystem.{EndSystem, HasPolled, HasTurnAt, Progr
 pub use Rattle.tx_script.specs.Play.{Answer, AnsweredLine, AreTotals, ClosesAt, FindsFirst, IsTotal, Messages, Play, accepted_among, added, closed_at, closes, fills, found, is_on, leaves, link_of, outcome_of, passed_on, place_of, play, queued, script_refusal, takes, tells, told_by, transcript, with_messages}
 pub use Rattle.tx_script.specs.Run.{AreRun, Ends, HasPlayed, IsWhole, Leaves, Plays, left_after}
 pub use Rattle.tx_script.specs.Running.{EndsEarly, Finishes, Halted, HandsOver, ReadsLine, Running, SaysLine, Stops}
-pub use Rattle.tx_script.specs.declared.played.Played.{Played}
-pub use Rattle.tx_script.specs.declared.played.Played.TheVariants.{Broken, Whole}
+pub use Rattle.tx_script.specs.declared.script.Played.{Played}
+pub use Rattle.tx_script.specs.declared.script.Played.TheVariants.{Broken, Whole}
 pub use Rattle.vl_link.proofs.Choosing.{each_set}
 pub use Rattle.vl_link.proofs.QueueLooks.{taken_finds}
 pub use Rattle.vl_link.proofs.TurnLaws.{choice_other, turn_seen, turns_each, turns_seen}

@@ -12,8 +12,8 @@ use Rattle.afdx_tx.specs.Emitter.{Tx, IsFreshTx, taken_in, total_in}
 use Rattle.afdx_tx.specs.Gathering.{IsGatheredTx}
 use Rattle.afdx_tx.specs.Ports.{PortView, AreOpenedWith, AreFreshPorts, length_refusal}
 use Rattle.script_text.specs.Meaning.{meaning_of, HasFew}
-use Rattle.script_text.specs.declared.line.Line.{Line}
-use Rattle.script_text.specs.declared.line.Line.TheVariants.{Nothing}
+use Rattle.script_text.specs.declared.line_meaning.Line.{Line}
+use Rattle.script_text.specs.declared.line_meaning.Line.TheVariants.{Nothing}
 use Rattle.script_text.specs.declared.notes.Outcome.{Outcome}
 use Rattle.tx_script.specs.EndSystem.{EndSystem, Progress, handed}
 use Rattle.tx_script.specs.Play.{Answer, AnsweredLine, IsAnswer, Messages, added, passed_on, outcome_of, after, accepted_after, told_by, ClosesAt}

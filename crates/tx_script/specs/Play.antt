@@ -13,8 +13,8 @@ use Rattle.afdx_legal.specs.Accepted.{AreAllowed, port_messages}
 use Rattle.tx_script.specs.EndSystem.{EndSystem, HasPolled, fresh, handed}
 use Rattle.script_text.specs.Meaning.{meaning_of, counted}
 use Rattle.script_text.specs.Transcript.{note_of, streams}
-use Rattle.script_text.specs.declared.line.Line.{Line}
-use Rattle.script_text.specs.declared.line.Line.TheVariants.{Send, At, Close, Nothing}
+use Rattle.script_text.specs.declared.line_meaning.Line.{Line}
+use Rattle.script_text.specs.declared.line_meaning.Line.TheVariants.{Send, At, Close, Nothing}
 use Rattle.script_text.specs.declared.faults.Refusal.{Refusal}
 use Rattle.script_text.specs.declared.faults.Refusal.TheVariants.{Empty, TooLong, Closed, Exhausted, Full, NoPort, NoSub, TimeBack}
 use Rattle.script_text.specs.declared.notes.Outcome.{Outcome}

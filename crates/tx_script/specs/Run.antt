@@ -13,8 +13,8 @@ use Rattle.script_text.specs.declared.faults.RunFault.TheVariants.{Line, Lines, 
 use Rattle.script_text.specs.declared.notes.Summary.{Summary as Sums}
 use Rattle.tx_script.specs.EndSystem.{handed}
 use Rattle.tx_script.specs.Play.{AnsweredLine, Play, play, transcript, IsAnswer, FindsFirst, AreTotals}
-use Rattle.tx_script.specs.declared.played.Played.{Played}
-use Rattle.tx_script.specs.declared.played.Played.TheVariants.{Whole, Broken}
+use Rattle.tx_script.specs.declared.script.Played.{Played}
+use Rattle.tx_script.specs.declared.script.Played.TheVariants.{Whole, Broken}
 
 -- what these lines, the last of which comes first, leave of a text
 abbrev pub left_after : List ℕ → List AnsweredLine → List ℕ

@@ -7,7 +7,7 @@ use Rattle.script_text.specs.FrameLog.{FrameLog}
 use Rattle.script_text.specs.Lines.{first_line, after_feed}
 use Rattle.script_text.specs.Meaning.{meaning_of}
 use Rattle.script_text.specs.Transcript.{streams, ends_writing}
-use Rattle.script_text.specs.declared.line.Line.{Line as Said}
+use Rattle.script_text.specs.declared.line_meaning.Line.{Line as Said}
 use Rattle.script_text.specs.declared.faults.LineFault.{LineFault}
 use Rattle.script_text.specs.declared.faults.LineFault.TheVariants.{Memory as OutOfMemory}
 use Rattle.script_text.specs.declared.faults.RunFault.{RunFault}
@@ -16,8 +16,8 @@ use Rattle.script_text.specs.declared.notes.Summary.{Summary as Sums}
 use Rattle.tx_script.specs.AtBench.{AtBench, Matches, OnlyTakes, AreTold, OthersAreOpen, IsGathered}
 use Rattle.tx_script.specs.Play.{AnsweredLine, play}
 use Rattle.tx_script.specs.Run.{AreLines, Ends}
-use Rattle.tx_script.specs.declared.played.Played.{Played}
-use Rattle.tx_script.specs.declared.played.Played.TheVariants.{Whole, Broken}
+use Rattle.tx_script.specs.declared.script.Played.{Played}
+use Rattle.tx_script.specs.declared.script.Played.TheVariants.{Whole, Broken}
 
 -- a text's first line has no fault and says this, and the bytes after it are left
 pub record SaysLine (text : List ℕ) (left : Option (List ℕ)) (said : Said) : Type 0 where

@@ -4,7 +4,7 @@ ghost use Rattle.tx_script.specs.declared.obey_lines.TheConstants.{LINES_LIMIT};
 ghost use Rattle.subvl_queue.specs.Messages.{most_calls};
 ghost use Rattle.tx_script.specs.AtBench.{HaveAsked, Sends, Obeys, OnlyTakes, AtBench, IsAtHand, IsFreshBench, IsGathered};
 ghost use Rattle.tx_script.specs.Play.{script_refusal};
-ghost use Rattle.script_text.specs.declared.line.Line.TheVariants as Said;
+ghost use Rattle.script_text.specs.declared.line_meaning.Line.TheVariants as Said;
 ghost use Rattle.script_text.specs.declared.faults.RunFault.TheVariants as RunFault;
 
 use afdx_plan::{Config, PortId, VlId};

@@ -40,11 +40,9 @@
 
 mod bench;
 mod obey_lines;
-mod played;
 mod script;
 
-pub use played::Played;
-pub use script::{play_script, run_script};
+pub use script::{Played, play_script, run_script};
 pub use script_text::{
     FrameLog, Line, LineFault, Message, Outcome, Refusal, RunFault, Summary, read_line, write_note,
     write_streams,

@@ -5,11 +5,24 @@ ghost use Rattle.tx_script.specs.Running.{Finishes, EndsEarly};
 
 use crate::bench::Bench;
 use crate::obey_lines::obey_lines;
-use crate::played::Played;
 use afdx_plan::Config;
-use script_text::{Bytes, RunFault, Summary, write_streams};
+use script_text::{Bytes, RunFault, Summary, write_streams, FrameLog};
 use std::alloc::Global;
 use std::io::{Read, Write};
+
+/// How a run of a script ended, and the networks with their frames.
+#[derive(Drop)]
+pub enum Played {
+    /// The transcript is written whole: the script was run to its end, or up to a line's fault, `Lines`
+    /// or `Read`. Its streams are the frames of these two networks.
+    Whole {
+        ended: Result<Summary, RunFault>,
+        a: FrameLog,
+        b: FrameLog,
+    },
+    /// `Write` or `Memory` ended the run and the writing.
+    Broken(RunFault),
+}
 
 /// Writes the streams of a bench, at the end of a run.
 fn write_handed<W: Write>(writer: &mut W, bench: Bench, ended: Result<Summary, RunFault>) -> Played

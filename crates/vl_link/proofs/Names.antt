@@ -39,5 +39,4 @@ pub use Rattle.std.proofs.lemmas.Bool.Decides.{nat_tests}
 pub use Rattle.afdx_frame.specs.declared.net.Net.{Net}
 pub use Rattle.afdx_frame.specs.declared.field.Piece.{Piece}
 pub use Rattle.afdx_plan.specs.Config.{port_plan_at}
-pub use Rattle.subvl_queue.specs.Messages.{IsItem, AreItems}
-pub use Rattle.subvl_queue.specs.Room.{RoomView, bytes_of, port_of, room_with}
+pub use Rattle.subvl_queue.specs.Messages.{IsItem, AreItems, RoomView, bytes_of, port_of, room_with}

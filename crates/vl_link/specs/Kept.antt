@@ -18,7 +18,7 @@ use Rattle.vl_link.specs.declared.sub.SubVl.{SubVl}
 use Rattle.vl_link.specs.declared.sub.Queue.{Queue}
 use Rattle.vl_link.specs.declared.sub.Queue.TheVariants.{Receiving, Gathered, Empty}
 use Rattle.vl_link.specs.Seen.{Seen, receiving, gathered, nothing_seen, taken_of, most_of, ports_of}
-use Rattle.subvl_queue.specs.Room.{RoomView, bytes_of, port_of}
+use Rattle.subvl_queue.specs.Messages.{RoomView, bytes_of, port_of}
 
 -- the sub-VLs with a begun message that has more fragments to come: none at first
 abbrev pub none_begun : ℕ → Bool

@@ -1,6 +1,6 @@
 use Rattle.std.proofs.Common.{◌≡◌, Option, Some, sym, ap, arith, ◌∙◌}
 use Rattle.std.proofs.lemmas.Bool.{eqb-true}
-use Rattle.afdx_handle.specs.declared.home.Home.{Home}
+use Rattle.afdx_handle.specs.declared.handle.Home.{Home}
 use Rattle.afdx_handle.specs.Held.{end_of, port_of}
 use Rattle.afdx.proofs.opening.afdx_give_back.Goals as goal
 

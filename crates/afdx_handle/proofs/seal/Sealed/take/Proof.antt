@@ -4,7 +4,7 @@ use Rattle.std_alloc.specs.contracts.boxed.Box.from_raw as g
 use Rattle.std_heap.specs.contracts.Global as Heap
 use Rattle.std_heap.proofs.Global.TheLaws as heap
 use Rattle.std_heap.proofs.GlobalAllocator.TheImpl.Met as allocates
-use Rattle.afdx_handle.proofs.home.Home.TheLaws as home
+use Rattle.afdx_handle.proofs.handle.Home.TheLaws as home
 use Rattle.afdx_handle.specs.contracts.seal.Sealed.{the_row as S, the_type}
 use Rattle.afdx_handle.proofs.seal.Sealed.TheLaws.{mir as laid}
 use Rattle.afdx_handle.specs.contracts.seal.Sealed.take as f
