@@ -65,7 +65,8 @@ fn hand_to<N: Network + Drop>(
     ensures handing { Handing named (entry at frame.now) stands.old stands.new
         (N.handed network.old) (N.handed network.new) (N.failures network.old) (N.failures network.new) }
     ensures unfailed { stands.new ≡ true → N.failures network.new ≡ 0 }
-    ensures failing { StaysFailing (N.failing network.old) (N.failing network.new) (N.handed network.old) (N.handed network.new) }
+    ensures failing { StaysFailing (N.failing network.old) (N.failing network.new)
+        (N.handed network.old) (N.handed network.new) }
 {
     if named && *stands && network.hand(at, frame).is_err() {
         *stands = false;
@@ -84,7 +85,8 @@ fn hand_with<N: Network + Drop>(
     ensures handing { Handing named (entry at frame.old.value.items) stands.old stands.new
         (N.handed network.old) (N.handed network.new) (N.failures network.old) (N.failures network.new) }
     ensures unfailed { stands.new ≡ true → N.failures network.new ≡ 0 }
-    ensures failing { StaysFailing (N.failing network.old) (N.failing network.new) (N.handed network.old) (N.handed network.new) }
+    ensures failing { StaysFailing (N.failing network.old) (N.failing network.new)
+        (N.handed network.old) (N.handed network.new) }
 {
     if named && *stands && network.hand_with(at, frame).is_err() {
         *stands = false;
