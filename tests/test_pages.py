@@ -1,6 +1,7 @@
 #!/usr/bin/env python3
 """Tests what README.md and the guides show: the program prints what they say of the same plan, script and recording,
-code that they quote stands in the tree, and their paths and links lead to files, and to headings there. The last line is 'N passed, M failed'."""
+code that they quote stands in the tree, and their paths and links lead to files, and to headings there. And no line of a
+source or of definitions is wider than CONTRIBUTING.md says. The last line is 'N passed, M failed'."""
 import os
 import re
 import subprocess
@@ -87,6 +88,18 @@ def not_in_tree(page):
                 yield f"{page}: {part[:200]}"
 
 
+def too_wide(path):
+    """The lines of a source or of definitions that have over 120 columns: imports, tactics and texts may."""
+    is_in_text = False
+    for number, line in enumerate(text_of(path).splitlines(), 1):
+        is_code = not re.match(r" *(//|--|(ghost |unfoldable |pub )*use |#\[tactic)", line)
+        is_text = is_in_text or line.lstrip().startswith('"')
+        if is_code and len(re.findall(r"""(?<![\\'])\"""", line)) % 2:
+            is_in_text = not is_in_text
+        if len(line) > 120 and not is_text and not re.match(r" *((ghost |unfoldable |pub )*use |#\[tactic)", line):
+            yield f"{path}:{number}: {len(line)} columns"
+
+
 def tried(program):
     """Which of the commands that pages show prints something else."""
     with tempfile.TemporaryDirectory(prefix="pages-") as folder:
@@ -97,6 +110,8 @@ def main():
     tries = Tries()
     tries.show("paths and links", [link for page in PAGES for link in dead_links(page)])
     tries.show("texts in Rattle", [part for page in PAGES for part in not_in_tree(page)])
+    sources = glob("crates/*/src/*.rt", root_dir=ROOT) + glob("crates/*/specs/*.antt", root_dir=ROOT)
+    tries.show("widths", [line for path in sorted(sources) for line in too_wide(path)])
     made = subprocess.run([sys.executable, "-B", f"{ROOT}/tools/pages.py"], capture_output=True, text=True, check=False)
     tries.show("parts that tools/pages.py makes", [f"{made.stdout}{made.stderr}"] if made.returncode else [])
     for build, program in built("afdx_bench").items():

@@ -59,7 +59,8 @@ value_has document f = table_has (λ members. list_any
 
 -- the finding's key is in the table but not in its format
 abbrev pub key_has : Members → Finding → Bool
-key_has document f = table_has (λ members. (is_fault f.fault (Some UnknownKey) && not (is_key_of (fields_at document f.place) f.key))
+key_has document f = table_has (λ members.
+    (is_fault f.fault (Some UnknownKey) && not (is_key_of (fields_at document f.place) f.key))
     && list_any (bytes_eq f.key) (member_keys members)) document f.place
 
 -- row k, counted from 1, passes a test

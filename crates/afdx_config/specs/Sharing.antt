@@ -9,7 +9,8 @@ use Rattle.afdx_plan.specs.declared.rows.PortRow.{PortRow}
 use Rattle.std.specs.List.{position}
 
 -- five values, if there is each
-abbrev pub all_five : {A B C D E : Type 0} → Option A → Option B → Option C → Option D → Option E → Option (A × B × C × D × E)
+abbrev pub all_five : {A B C D E : Type 0} → Option A → Option B → Option C → Option D → Option E
+    → Option (A × B × C × D × E)
 all_five (Some a) (Some b) (Some c) (Some d) (Some e) = Some (a, b, c, d, e)
 all_five _ _ _ _ _ = None
 
@@ -29,7 +30,8 @@ address_of port = address_in port.vl port.partition port.unicast
 abbrev pub address_cmp : ℕ × List ℕ → ℕ × List ℕ → Ordering
 address_cmp x y = ordering_then (nat_cmp x.0 y.0) (slice_cmp nat_cmp x.1 y.1)
 
--- of the first port with an address, its link, and the first such port on another link: the first that is not on this link
+-- of the first port with an address, its link, and the first such port on another link: the first that is not on this
+-- link
 abbrev pub off_link : ℕ → Option (ℕ × ℕ × Option ℕ) → Option ℕ
 off_link link None = None
 off_link link (Some first) = if first.1 == link then first.2 else Some first.0

@@ -17,8 +17,8 @@ pub enum Layout {
     Snapped,
     /// The check sequence is `seen`, and the bytes give `wanted`.
     CheckSequence,
-    /// The frame has four bytes too many, as one that was recorded with its check sequence; only the first such frame of
-    /// a recording is a finding. `seen` is the length, `wanted` that without them.
+    /// The frame has four bytes too many, as one that was recorded with its check sequence; only the first such frame
+    /// of a recording is a finding. `seen` is the length, `wanted` that without them.
     Recorded,
     /// The length is `seen`, which is below 60 (then `wanted`) or above 1,514 (then `wanted`).
     Length,
@@ -41,7 +41,8 @@ pub enum Layout {
     Protocol,
     /// The checksum of the internet header (byte 24).
     HeaderSum,
-    /// The source address isn't that of the end system in the source MAC address, or the partition is above 31 (byte 26).
+    /// The source address isn't that of the end system in the source MAC address, or the partition is above 31 (byte
+    /// 26).
     SourceAddress,
     /// The destination address is neither that of the link in the destination MAC address nor in 10.0.0.0/8 (byte 30).
     DestinationAddress,

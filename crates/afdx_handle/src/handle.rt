@@ -1,9 +1,9 @@
 //! What C holds by pointer: a home, or nothing.
 ghost use Rattle.std.specs.Prelude.{◌≡◌, ◌<◌, Option, Some, None, IsSome, IsNone, is_none, MatchOption};
 
-use crate::seal::Sealed;
 use crate::block::Block;
 use crate::end_system::EndSystem;
+use crate::seal::Sealed;
 use afdx_tx::TxPort;
 
 /// A port, and the block whose address is the mark of its end system.

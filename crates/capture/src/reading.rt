@@ -3,11 +3,10 @@ ghost use Rattle.std.specs.Prelude.{◌≡◌, ℕ, ◌+◌, ◌≤◌, ◌<◌,
 ghost use Rattle.capture.specs.Units.{least_size};
 ghost use Rattle.capture.specs.Recording.{Progress, at_start, section_content, interface_content, block_content, header_content, body_of, content, content_of, Does, moved, next, ended, recorded_if};
 
-use crate::stop::End;
 use crate::interface::{Interface, MOST_INTERFACES};
 use crate::order::Order;
 use crate::packet::{Packet, enhanced, from_record, simple};
-use crate::stop::{Fault, Stop};
+use crate::stop::{End, Fault, Stop};
 use crate::unit::{Clock, Format, UNIT_FRONT, Unit};
 use arrayvec::ArrayVec;
 use std::marker::Model;

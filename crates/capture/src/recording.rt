@@ -2,9 +2,9 @@
 ghost use Rattle.std.specs.Prelude.{◌≡◌, IfOk};
 ghost use Rattle.capture.specs.Recording.{recording_of, read_capture as recording_in};
 
-use crate::stop::End;
 use crate::packet::Packet;
 use crate::reading::Reading;
+use crate::stop::End;
 use std::alloc::{AllocError, Global};
 
 /// What was read of a capture: its packets, in their order, and how it ends.

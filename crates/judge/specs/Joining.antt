@@ -1,4 +1,5 @@
--- The message of a sub-VL on a network, as its pieces come: which piece is next, and what is wrong with a whole message.
+-- The message of a sub-VL on a network, as its pieces come: which piece is next, and what is wrong with a whole
+-- message.
 use Rattle.std.specs.Prelude.{ℕ, ◌+◌, ◌-◌, ◌*◌, ◌%◌, nat_eq, nat_lt, nat_le, not, ◌&&◌, ◌||◌, Bool, true, false, if◌then◌else◌, List, find, option_map, option_and_then, Option, Some, None}
 use Rattle.std.specs.Option.{option_map_or}
 use Rattle.afdx_plan.specs.Address.{destination_address}
@@ -23,7 +24,8 @@ abbrev pub is_towards : Flow → PortPlan → Bool
 is_towards flow port = nat_eq flow.partition port.partition
     && nat_eq flow.address (address_number (destination_address port))
 
--- a first piece of a link is of a port: the UDP ports are its too, and so is the sub-VL, if the identification says which
+-- a first piece of a link is of a port: the UDP ports are its too, and so is the sub-VL, if the identification says
+-- which
 abbrev pub is_of_port : Bool → ℕ → ℕ → Flow → PortPlan → Bool
 is_of_port arinc vl sub flow port = nat_eq port.vl.0 vl && (arinc || nat_eq port.sub sub)
     && nat_eq flow.source port.source && nat_eq flow.destination port.destination && is_towards flow port

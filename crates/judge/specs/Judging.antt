@@ -81,12 +81,14 @@ arrived measure tag port frame line = record {
 -- a frame on its line
 abbrev pub with_frame : Setting → Tag → Option PortPlan → List ℕ → Link → Link
 with_frame setting tag port frame link = with_line tag.net
-    (line_after setting.measure port (arrived setting.measure tag port frame (line_on tag.net link)) (line_on tag.net link))
+    (line_after setting.measure port (arrived setting.measure tag port frame (line_on tag.net link))
+    (line_on tag.net link))
     link
 
 abbrev pub found_on_line : Setting → Tag → Option PortPlan → List ℕ → Link → List Finding → List Finding
 found_on_line setting tag port frame link found = with_verdict tag setting.plan.id
-    (verdict setting.measure port (arrived setting.measure tag port frame (line_on tag.net link)) (line_on tag.net link))
+    (verdict setting.measure port (arrived setting.measure tag port frame (line_on tag.net link))
+    (line_on tag.net link))
     (with_finding tag (Some setting.plan.id) (size_deviation setting.plan (length frame)) found)
 
 -- the link after a frame, and the findings with the frame's
@@ -219,7 +221,8 @@ tag_of net number at = record { packet = number; net = net; at = at }
 
 abbrev pub after_timed : Net → ℕ → Recorded → Judging → Option ℕ → Judging
 after_timed net number packet j None = j
-after_timed net number packet j (Some at) = judged (tag_of net number at) (admitted net packet (timed at j)) (timed at j)
+after_timed net number packet j (Some at) =
+    judged (tag_of net number at) (admitted net packet (timed at j)) (timed at j)
 
 abbrev pub found_timed : Net → ℕ → Recorded → Judging → List Finding → Option ℕ → List Finding
 found_timed net number packet j found None =

@@ -27,8 +27,8 @@ new_line late arinc = record {
 abbrev pub unknown_place : List Sub → Option ℕ
 unknown_place subs = position (λ (s : Sub). not (is_some (next_of s.joining))) subs
 
--- The sub-VL of a frame, if it is one of the four. Else the frame begins a message, unless it may be of a sub-VL of whose
--- message nothing is known.
+-- The sub-VL of a frame, if it is one of the four. Else the frame begins a message, unless it may be of a sub-VL of
+-- whose message nothing is known.
 abbrev pub other_sub : List Sub → Sub
 other_sub subs = record {
   joining = if is_some (unknown_place subs) then Any else After None;
@@ -192,8 +192,8 @@ abbrev pub settled : Measure → Arrived → Line → Line
 settled measure arrived line =
     after_turn (turn_deviation arrived.sub (numbered measure arrived line)) (numbered measure arrived line)
 
--- By ARINC 664 alone messages show the sub-VL of a piece: nothing is known of them after a piece that isn't the next one of
--- any, or is of no port.
+-- By ARINC 664 alone messages show the sub-VL of a piece: nothing is known of them after a piece that isn't the next
+-- one of any, or is of no port.
 abbrev pub traced_with : Measure → Option PortPlan → Arrived → Line → Line
 traced_with measure port arrived line =
     if measure.arinc && is_some (first_of (port_deviation arrived.fields port) (fragment_on measure arrived line))

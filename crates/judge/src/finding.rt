@@ -15,8 +15,8 @@ pub enum Misfit {
     Identification,
     /// The addresses aren't those of the message's first piece. Both numbers are 0.
     Addresses,
-    /// The piece has `seen` bytes. With more to follow it is `wanted`, the greatest multiple of 8 that fits into a frame.
-    /// A last piece has at least `wanted`, since fewer had fitted into the frame before it.
+    /// The piece has `seen` bytes. With more to follow it is `wanted`, the greatest multiple of 8 that fits into a
+    /// frame. A last piece has at least `wanted`, since fewer had fitted into the frame before it.
     Length,
     /// The identification is `seen`, and so is that of the message before. `wanted` is 0. Only by ARINC 664 alone.
     Repeated,

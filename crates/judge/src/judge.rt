@@ -35,8 +35,8 @@ pub struct Options {
     pub arinc: bool,
 }
 
-/// A judge of the packets of a recording, by a plan. A packet takes time that doesn't grow with the recording. Memory is
-/// that of the frames that wait for their twins: of each link those of the skew, at most 512 of at most 1,514 bytes.
+/// A judge of the packets of a recording, by a plan. A packet takes time that doesn't grow with the recording. Memory
+/// is that of the frames that wait for their twins: of each link those of the skew, at most 512 of at most 1,514 bytes.
 #[derive(Drop)]
 pub struct Judge {
     config: Config,
@@ -160,8 +160,8 @@ impl Judge {
     }
 
     /// Takes a packet that was recorded on a network, and appends what it does wrong, and before that which frames it
-    /// shows to be missing. The packets of each network come in their order. Fails if memory runs out: then nothing more
-    /// can be said of the recording.
+    /// shows to be missing. The packets of each network come in their order. Fails if memory runs out: then nothing
+    /// more can be said of the recording.
     #[tactic(auto, unfolding(crate::specs::Judging::after_packet, crate::specs::Judging::found_with_packet, crate::specs::Judging::admitted))]
     pub fn take(
         &mut self,
@@ -246,8 +246,8 @@ impl Judge {
         link.arrive(&setting, tag, port, frame, &fields, found)
     }
 
-    /// Appends which frames are missing at the end of the recording: those within the skew of its latest packet may have
-    /// no twin.
+    /// Appends which frames are missing at the end of the recording: those within the skew of its latest packet may
+    /// have no twin.
     #[tactic(auto, unfolding(crate::specs::Judging::found_with_end))]
     pub fn end(&self, found: &mut Vec<Finding>) -> Result<(), AllocError>
         ensures { OnOk result (found.new.items ≡ found_with_end self.now found.old.items) }

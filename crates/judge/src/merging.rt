@@ -5,8 +5,7 @@ ghost use Rattle.judge.specs.Judging.{findings};
 ghost use Rattle.judge.specs.Merging.{is_of, first_time, of_net, from_places, BeginsOn};
 
 use crate::finding::Finding;
-use crate::judge::Judge;
-use crate::judge::Options;
+use crate::judge::{Judge, Options};
 use afdx_frame::Net;
 use afdx_plan::Config;
 use capture::{Packet, next_net};
@@ -50,7 +49,8 @@ fn place_from(packets: &[Packet<'_>], from: usize, alone: bool, net: Net) -> usi
 
 /// What is wrong with the packets of two networks, by the plan of their end system: with `alone` the packets `a` of a
 /// capture of network A alone and `b` of one of B, otherwise twice those of a capture of both. The packets of a network
-/// stay in their order; of two networks' the earlier one comes first, and A's at one time. Fails only if memory runs out.
+/// stay in their order; of two networks' the earlier one comes first, and A's at one time. Fails only if memory runs
+/// out.
 #[tactic(auto, using(crate::proofs::Places::rest_is))]
 pub fn judge_packets<'a>(
     alloc: Global,

@@ -26,8 +26,8 @@ impl Model for Waiting {
 }
 
 /// The frames of a link that wait for their twins, in the order in which they came. Each came within the skew of the
-/// link's last frame, and no network has two of one number: so they are at most 512, and at most those that the networks
-/// send within the skew.
+/// link's last frame, and no network has two of one number: so they are at most 512, and at most those that the
+/// networks send within the skew.
 #[derive(Drop)]
 pub(crate) struct Twins {
     waiting: Vec<Waiting>,

@@ -19,9 +19,10 @@ abbrev pub IsInOrder : ℕ → List OnNet → Type 0
 IsInOrder latest [] = Unit {0}
 IsInOrder latest (p ∷ ps) = (latest ≤ time_of p.packet) × IsInOrder (time_of p.packet) ps
 
--- All that was sent is recorded, in the order of time. Of the links on both networks as many frames were sent to the one
--- as to the other.
-pub record IsWhole (plan : Plan) (origin : ℕ) (options : Options) (a b : List Entry) (recording : List OnNet) : Type 0 where
+-- All that was sent is recorded, in the order of time. Of the links on both networks as many frames were sent to the
+-- one as to the other.
+pub record IsWhole (plan : Plan) (origin : ℕ) (options : Options) (a b : List Entry) (recording : List OnNet)
+    : Type 0 where
   pub of_a : AllZip (IsRecord origin options) a (packets_of A recording)
   pub of_b : AllZip (IsRecord origin options) b (packets_of B recording)
   pub same : length (on_both plan.links a) ≡ length (on_both plan.links b)

@@ -62,9 +62,9 @@ abbrev pub PairRecorded : Options → List OnNet → Type 0
 PairRecorded options recording = IsRecording 0 options (two_entries A) (two_entries B) recording
 
 -- Each premise is needed. Frames a microsecond less than a gap apart are not sent legally, and one is early. So is one
--- that is recorded a nanosecond before its time. A frame that is delayed by more than a gap may come after the next one,
--- and a frame without its check sequence isn't one with it. A recording that began late, unless the judge is told, lacks
--- a number.
+-- that is recorded a nanosecond before its time. A frame that is delayed by more than a gap may come after the next
+-- one, and a frame without its check sequence isn't one with it. A recording that began late, unless the judge is told,
+-- lacks a number.
 pub record NeedsItsPremises : Type 0 where
   pub sent : BothFail (PairSent 999) (OnlyMissing strict (both_at 0 999000))
   pub early : BothFail (PairRecorded strict (both_at 0 999999)) (OnlyMissing strict (both_at 0 999999))

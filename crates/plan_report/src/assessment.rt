@@ -1,5 +1,5 @@
-//! An analysis beside the traffic of its ports: which bound of a wait holds, which deadlines are kept, and a verdict; as
-//! text and as CSV.
+//! An analysis beside the traffic of its ports: which bound of a wait holds, which deadlines are kept, and a verdict;
+//! as text and as CSV.
 ghost use Rattle.std.specs.Prelude.{◌≡◌, ◌≤◌, Option, Some, None, nat_lt, IfOk, IfSome, false};
 ghost use Rattle.plan_report.specs.AnalysisText.{longest_wait, is_missed as is_missed_by};
 ghost use Rattle.plan_analysis.specs.Traffic.{AreSendersOf};

@@ -114,8 +114,8 @@ fn log2(value: u64) -> u64 {
     log
 }
 
-/// A scale of times, from a power of ten below each of them to one that none is above. `Display` prints its axis: labels
-/// of decades.
+/// A scale of times, from a power of ten below each of them to one that none is above. `Display` prints its axis:
+/// labels of decades.
 #[derive(Clone, Copy)]
 struct Scale {
     // the time at its start, in nanoseconds

@@ -81,7 +81,8 @@ with_failing B lines = record lines { b_failing = true }
 
 -- One network at a hand of an entry. `named` says whether the entry is for it, `stood` and `stands`
 -- whether it is up before and afterwards.
-abbrev pub Handing : (named : Bool) (handed : Entry) (stood stands : Bool) (old new : List Entry) (failures_old failures_new : ℕ) → Type 0
+abbrev pub Handing : (named : Bool) (handed : Entry) (stood stands : Bool) (old new : List Entry)
+    (failures_old failures_new : ℕ) → Type 0
 -- The entry isn't for this network.
 Handing false handed stood stands old new f g = (stands ≡ stood) × (new ≡ old) × (g ≡ f)
 -- The network accepts the entry.

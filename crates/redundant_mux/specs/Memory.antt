@@ -55,7 +55,8 @@ pub record IsKept (earlier : Bool) (handed : List Entry) (number : ℕ) : Type 0
 
 -- Of the frames that it accepted, the last 64 from number `first` on are kept, frame n in slot n - first modulo 64.
 -- If those of earlier times are, `first` is 0. Otherwise all from `first` on are of the last time.
-pub record KeepsLast (earlier : Bool) (slots : List Kept) (latest : Latest) (count : ℕ) (handed : List Entry) : Type 0 where
+pub record KeepsLast (earlier : Bool) (slots : List Kept) (latest : Latest) (count : ℕ) (handed : List Entry)
+    : Type 0 where
   pub room : length slots ≡ 64
   pub counted : count ≡ length handed
   pub begun : latest.first ≤ count

@@ -70,7 +70,8 @@ impl<S: Span> Model for Outbox<S> {
       failing = o.failing;
     } };
 
-    ghost invariant = { λ o. KeepsLast S.EARLIER (boxed_slice_items o.slots) o.latest o.count (entries_of o.trail.logged) };
+    ghost invariant = { λ o. KeepsLast S.EARLIER (boxed_slice_items o.slots) o.latest o.count
+        (entries_of o.trail.logged) };
 }
 
 /// 64 empty slots.

@@ -24,9 +24,11 @@ refusal_name NoPort = codes "NoPort"
 refusal_name NoSub = codes "NoSub"
 refusal_name TimeBack = codes "TimeBack"
 
--- what a line that was run adds to the transcript, if it was refused or closed a sub-VL, which accepted `total` messages
+-- what a line that was run adds to the transcript, if it was refused or closed a sub-VL, which accepted `total`
+-- messages
 unfoldable pub note_of : ℕ → Outcome → List ℕ
-note_of line (Became.Refused refusal) = codes "line " ++ decimal line ++ codes ": refused " ++ refusal_name refusal ++ 10 ∷ []
+note_of line (Became.Refused refusal) =
+    codes "line " ++ decimal line ++ codes ": refused " ++ refusal_name refusal ++ 10 ∷ []
 note_of line (Became.Closed total) = codes "line " ++ decimal line ++ codes ": closed " ++ decimal total ++ 10 ∷ []
 note_of line _ = []
 

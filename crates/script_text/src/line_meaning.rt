@@ -29,8 +29,8 @@ fn after_mark(line: &[u8]) -> &[u8]
     }
 }
 
-/// Parses a line, given without its end, whose byte order mark is left out. The error is its first fault in the order `Long`, `Word`,
-/// `Number`, `Hex`, `Extra`; `Memory` may be returned in place of any answer.
+/// Parses a line, given without its end, whose byte order mark is left out. The error is its first fault in the order
+/// `Long`, `Word`, `Number`, `Hex`, `Extra`; `Memory` may be returned in place of any answer.
 #[tactic(auto, unfolding(crate::specs::Command::is_send, crate::specs::Command::is_at, crate::specs::Command::is_close))]
 pub fn read_line(alloc: Global, line: &[u8]) -> Result<Line, LineFault>
     ensures ok { IfOk result (λ said. said ≡ meaning_of line.now) }

@@ -91,8 +91,10 @@ impl Ring {
         requires seat { IsAtTable self.now.table.shared.table_id seat.old × (seat.old.me.1 ≡ []) }
         requires view { (seat.old.me.0.role ≡ Sender) × (seat.old.me.0.stage ≡ Asked) }
         ensures seat { IsAtTable self.now.table.shared.table_id seat.new }
-        ensures drawn { result < 2 ^ 63 → seat.new.me ≡ ( drawn seat.old.me.0 result (_port, _bytes.now),
-          (result % self.now.capacity, room_with self.now.most None) ∷ [], ) }
+        ensures drawn { result < 2 ^ 63 → seat.new.me ≡ (
+          drawn seat.old.me.0 result (_port, _bytes.now),
+          (result % self.now.capacity, room_with self.now.most None) ∷ [],
+        ) }
         ensures late { 2 ^ 63 ≤ result → seat.new.me ≡ (lated seat.old.me.0, []) }
     {
         self.table.shared.fetch_add::<Claim<W>>(seat, TAIL, 1)

@@ -52,7 +52,8 @@ fn claim_place(
     ensures place { IfOk result (λ place. place < 2 ^ 63) }
     ensures drawn { IfOk result (λ place. seat.new.me ≡ (
       drawn (asked_with_room seat.old.me.0 seat.new.me.0.load) place (port, bytes.now),
-      (place % ring.now.capacity, room_with ring.now.most None) ∷ [], )) }
+      (place % ring.now.capacity, room_with ring.now.most None) ∷ [],
+    )) }
     ensures size { room.new.most ≡ ring.now.most }
     ensures copied { IfOk result (λ _. room.new ≡ room_with ring.now.most (Some (port, bytes.now))) }
     ensures uncopied { IfErr result (λ why. why ≢ Closed → room.new ≡ room.old) }
