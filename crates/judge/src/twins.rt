@@ -18,6 +18,9 @@ pub(crate) struct Waiting {
 }
 
 impl Model for Waiting {
+    ghost use Rattle.std.specs.Prelude.{◌≤◌, length};
+    ghost use Rattle.judge.specs.Waiting.{Wait};
+
     ghost Value = { Wait };
 
     ghost view = { λ w. record { tag = w.tag; number = w.number; bytes = w.bytes.items } };
@@ -36,6 +39,8 @@ pub(crate) struct Twins {
 }
 
 impl Model for Twins {
+    ghost use Rattle.judge.specs.Waiting.{Pairing};
+
     ghost Value = { Pairing };
 
     ghost view = { λ t. record { waiting = t.waiting.items; lead = t.lead } };
