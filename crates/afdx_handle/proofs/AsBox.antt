@@ -1,13 +1,16 @@
 -- A seal owns what a box at the same types owns.
 --     held_of     what an `Option` holds, if it holds something
-use Rattle.afdx_handle.proofs.Names.{◌≡◌, false≢true, Option, None, Some, IsSome, Bx, ghosts, dict}
-use Rattle.std.proofs.Common.{[], ◌∷◌, refl}
+use Rattle.std.proofs.Common.{◌≡◌, [], ◌∷◌, refl}
+use Rattle.std.proofs.lemmas.Bool.{false≢true}
+use Rattle.std.specs.Prelude.{Option, None, Some, IsSome}
 use mir.Syntax.{impl, tnil, tcons, dnil}
 use mir.Raw.{raw}
 use denote.Exit.{no}
 use denote.RattleType.{RattleType}
 use denote.Param.{layout, arg}
 use denote.Param.Laws.{arg_laws}
+use Rattle.std_alloc.proofs.BoxSteps.Form.{Bx}
+use Rattle.std_heap.specs.contracts.GlobalAllocator.TheImpl.{ghosts, dict}
 use Rattle.std_heap.specs.contracts.Global as Heap
 use Rattle.std_heap.proofs.Global.TheLaws as heap
 use denote.Signature.{Slot, plain}

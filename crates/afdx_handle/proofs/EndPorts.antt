@@ -1,7 +1,12 @@
 -- The ports in an end system are those of its emitter.
-use Rattle.afdx_handle.proofs.Names.{ℕ, ◌≡◌, length, sym, subst, Some, true, false, eqb-true, All-push, All-head, All, IsPermutation, get_or, swap_remove, Tx, PortView, IsPortOfTx, LacksPlace, IsGatheredTx, EndView, has_id, IsEndSystem, TakesPort, position, Net, A, with_failing, mirrored_failing, position-Some, All-permutation, IsPermutation-swap_remove}
+use Rattle.afdx_handle.proofs.Names.{ℕ, ◌≡◌, length, sym, subst, Some, true, false, eqb-true, All-push, All-head, All, IsPermutation, get_or, swap_remove, Tx, PortView, IsPortOfTx, LacksPlace, IsGatheredTx, EndView, has_id, IsEndSystem, TakesPort, position}
 use Rattle.std.proofs.Common.{List, [], ◌∷◌, ◌++◌, refl}
-use Rattle.afdx_frame.specs.declared.net.Net.TheVariants.{B}
+use Rattle.afdx_frame.specs.declared.net.Net.{Net}
+use Rattle.afdx_frame.specs.declared.net.Net.TheVariants.{A, B}
+use Rattle.redundant_mux.specs.Lines.{with_failing}
+use Rattle.redundant_mux.proofs.MirroredLines.{mirrored_failing}
+use Rattle.std.proofs.lemmas.List.Quantifiers.{position-Some}
+use Rattle.std.proofs.lemmas.List.Sorted.{All-permutation, IsPermutation-swap_remove}
 
 -- If no port is missing, gathering has all of them.
 pub gathered_whole : (it : EndView) (new : Tx) → IsGatheredTx it.tx it.ports new → LacksPlace (length it.tx.plan.ports) it.ports → ⊥

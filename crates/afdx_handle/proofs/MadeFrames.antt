@@ -1,6 +1,9 @@
 -- Lists that are written from their front on: the frames of a poll, and others.
-use Rattle.afdx_handle.proofs.Names.{ℕ, zero, suc, ◌≡◌, ◌≤◌, ◌+◌, ◌∙◌, length, ap, arith, EndView, length-map, append-nil, concat, Net, made_at, first_made, bytes_of, lengths_of, sym, ◌<◌, set, take, map, append_assoc, drop-cons, length-take-le, get_or, map_more, drop-drop, with_front, length-append, drop, concat-append, map-range_with_len_more, length-map-range_with_len, drop-append-add, set-append_seam, take-append_seam}
-use Rattle.std.proofs.Common.{List, [], ◌∷◌, ◌++◌}
+use Rattle.afdx_handle.proofs.Names.{ℕ, zero, suc, ◌≡◌, ◌≤◌, ◌+◌, ◌∙◌, length, ap, arith, EndView, length-map, append-nil, concat, Net, made_at, first_made, bytes_of, lengths_of, sym, ◌<◌, set, take, map, append_assoc, drop-cons, length-take-le, get_or, map_more, drop-drop, with_front}
+use Rattle.std.proofs.Common.{List, [], ◌∷◌, ◌++◌, length-append, drop}
+use Rattle.std.proofs.lemmas.List.Folds.{concat-append}
+use Rattle.std.proofs.lemmas.List.FromFn.{map-range_with_len_more, length-map-range_with_len}
+use Rattle.std.proofs.Math.Seq.{drop-append-add, set-append_seam, take-append_seam}
 
 -- One frame more.
 pub first_more : (net : Net) (k : ℕ) (it : EndView) → first_made net (k + 1) it ≡ first_made net k it ++ made_at net k it ∷ []

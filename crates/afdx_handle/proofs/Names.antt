@@ -1,33 +1,33 @@
 -- Names of other crates, and of this crate's definitions, for the proofs here.
 pub use Rattle.afdx_frame.specs.declared.net.Net.{Net}
 pub use Rattle.afdx_handle.specs.EndSystem.{AreOfPoll, ClosesEnd, EndView, IsAllSent, IsEndSystem, TakesPort, end_view, has_id, made_at, made_for}
-pub use Rattle.afdx_handle.specs.Held.{port_of, with_home}
+pub use Rattle.afdx_handle.specs.Held.{port_of}
 pub use Rattle.afdx_handle.specs.Listing.{bytes_of, first_made, lengths_of, link_id, port_id, with_front}
 pub use Rattle.afdx_tx.specs.Phases.{Runs}
 pub use Rattle.afdx_handle.specs.Polling.{PollsTx, tx_of}
 pub use Rattle.afdx_handle.specs.contracts.end_system.EndSystem.{the_view}
 pub use Rattle.afdx_handle.specs.declared.handle.Home.{Home}
 pub use Rattle.afdx_handle.specs.declared.stage.Stage.{Stage}
-pub use Rattle.afdx_tx.specs.Run.{accepted_in, IsTurnAt, DrainsAt, accepted_view, pace_in}
+pub use Rattle.afdx_tx.specs.Run.{accepted_in}
 pub use Rattle.afdx_tx.specs.Emitter.{Tx}
 pub use Rattle.afdx_tx.specs.Gathering.{IsGatheredTx}
 pub use Rattle.afdx_tx.specs.Ports.{IsPortOfTx, LacksPlace, PortView}
 pub use Rattle.core.proofs.alloc.Calls.{Goes-blank, handle_tells, token}
 pub use Rattle.core.proofs.mem.Facts.{says_two}
 unfoldable pub use Rattle.redundant_mux.specs.Lines.{log}
-pub use Rattle.redundant_mux.specs.Lines.{Endures, Keeps, Lines, with_failing, Entry, entry, Logged, logged_for, names, sent_to, side}
-pub use Rattle.std.proofs.Common.{Bool, Some, ap, append_assoc, arith, drop-cons, false, inl, inr, length, length-take-le, map, position, rules, set, subst, suc, sym, take, true, vec_capacity, zero, ℕ, ◌*◌, ◌+◌, ◌-◌, ◌<◌, ◌∙◌, ◌≡◌, ◌≤◌, MutBor, length-append, drop}
-pub use Rattle.std.proofs.lemmas.Bool.{cases_Bool, eqb-true, false≢true}
-pub use Rattle.std.proofs.lemmas.List.{append-nil, drop-drop, length-map, map-append, map_more, take_min, take-map}
-pub use Rattle.std.proofs.lemmas.List.Elements.{All-head, All-push, filter-append, All-nil, All-append, All-map, All-filter, All-get_or}
+pub use Rattle.redundant_mux.specs.Lines.{Endures, Keeps, Lines}
+pub use Rattle.std.proofs.Common.{Bool, Some, ap, append_assoc, arith, drop-cons, false, inl, inr, length, length-take-le, map, position, rules, set, subst, suc, sym, take, true, vec_capacity, zero, ℕ, ◌*◌, ◌+◌, ◌-◌, ◌<◌, ◌∙◌, ◌≡◌, ◌≤◌, MutBor}
+pub use Rattle.std.proofs.lemmas.Bool.{cases_Bool, eqb-true}
+pub use Rattle.std.proofs.lemmas.List.{append-nil, drop-drop, length-map, map-append, map_more}
+pub use Rattle.std.proofs.lemmas.List.Elements.{All-head, All-push, filter-append}
 pub use Rattle.std.proofs.raw_atomic.Walks.{proved, proved_at}
 pub use Rattle.std.specs.List.{concat}
-pub use Rattle.std.specs.Prelude.{All, IsPermutation, IsSome, None, Option, get_or, not, swap_remove, ◌↔◌}
+pub use Rattle.std.specs.Prelude.{All, IsPermutation, IsSome, None, Option, filter, get_or, not, swap_remove, ◌↔◌}
 pub use Rattle.std_alloc.proofs.BoxSteps.Form.{B, Bx, D, P, R, box_ty, box_typed, word, τ, handle}
 pub use Rattle.std_alloc.proofs.BoxSteps.Steps.{box_in, box_out}
 pub use Rattle.std_alloc.proofs.VecSteps.Shapes.{after}
 pub use Rattle.std_alloc.specs.Box.Ownership.{box_owns}
-pub use Rattle.std_heap.specs.contracts.GlobalAllocator.TheImpl.{ghosts, dict}
+pub use Rattle.std_heap.specs.contracts.GlobalAllocator.TheImpl.{ghosts}
 pub use base.Fml.{flft, fsep, ftrue, GName, fat}
 pub use base.Fraction.{full_share}
 pub use base.Logic.{emp, ent, fst∗, id⊢, never, sep}
@@ -56,34 +56,6 @@ pub use denote.Triple.Walked.{Goes-dropped, Stays, ends_at, says, stay_dropped, 
 pub use lib.Dec.{T}
 pub use mathlib.Core.List.{List, [], ◌++◌, ◌∷◌}
 pub use mathlib.Core.Path.{refl}
-pub use Rattle.afdx_frame.specs.declared.net.Net.TheVariants.{A}
-pub use Rattle.redundant_mux.proofs.MirroredLines.{mirrored_failing}
-pub use Rattle.std.proofs.lemmas.List.Quantifiers.{position-Some}
-pub use Rattle.std.proofs.lemmas.List.Sorted.{All-permutation, IsPermutation-swap_remove}
-pub use Rattle.std.proofs.lemmas.List.Folds.{concat-append}
-pub use Rattle.std.proofs.lemmas.List.FromFn.{map-range_with_len_more, length-map-range_with_len}
-pub use Rattle.std.proofs.Math.Seq.{drop-append-add, set-append_seam, take-append_seam, get_or-append_right}
-pub use Rattle.std.proofs.Math.ListN.{get_or-append}
-pub use Rattle.std.proofs.lemmas.List.Filters.{length-filter_both}
-pub use Rattle.afdx_plan.specs.declared.link_plan.LinkPlan.{LinkPlan}
-pub use Rattle.redundant_mux.specs.Memory.{entry_at}
-pub use Rattle.vl_link.specs.declared.link.Served.{Served}
-pub use Rattle.vl_link.specs.declared.link.Served.TheVariants.{Nothing, Released, Lost}
-pub use Rattle.vl_link.specs.Turn.{TurnView, Turn, AreTurns}
-pub use Rattle.vl_shaper.specs.Pace.{Pace}
-pub use Rattle.afdx_tx.specs.Report.{release_of}
-pub use Rattle.afdx_plan.specs.Config.{link_plan_at}
-pub use Rattle.afdx_frame.specs.Fragments.{Sent}
-pub use Rattle.afdx_legal.specs.Streams.{link_stream}
-pub use Rattle.vl_link.specs.Links.{LinkState, held_view, link_at, pace_of}
-pub use Rattle.afdx_tx.specs.declared.turns.Report.{Report}
-pub use Rattle.afdx_tx.specs.Calls.{LacksSub}
-pub use Rattle.afdx_legal.specs.Accepted.{IsAllDone}
-pub use Rattle.afdx_plan.specs.declared.fault.ConfigFault.TheVariants.{Memory}
-pub use Rattle.std.proofs.lemmas.Grind.{common_steps}
-pub use Rattle.afdx_handle.specs.Rows.{row_of}
-pub use Rattle.afdx_handle.specs.Sealed.{sealed_owns}
-pub use Rattle.std_alloc.proofs.boxed.Box.from_raw.Met.{met}
 pub use mir.MapTy.{inst_fn}
 pub use mir.Syntax.{Args, a_type, dcons, dnil, named}
 pub use mir.Val.{Val, WT, has_ty, of_list, vptr, vstruct}

@@ -1,8 +1,26 @@
 -- The frames that a poll makes for a network: at most as many as it reports, all at its time.
-use Rattle.afdx_handle.proofs.Names.{ℕ, zero, suc, ◌≡◌, ◌≤◌, ◌+◌, ◌-◌, length, sym, ap, ◌∙◌, arith, inl, inr, not, get_or, map-append, append-nil, append_assoc, All, cases_Bool, filter-append, Lines, Endures, Keeps, Tx, EndView, end_view, AreOfPoll, IsEndSystem, Runs, PollsTx, Bool, true, false, length-map, Net, log, get_or-append, get_or-append_right, All-nil, All-push, All-append, All-map, All-filter, All-get_or, length-filter_both, LinkPlan, A, Entry, entry, Logged, logged_for, names, sent_to, side, entry_at, Served, Nothing, Released, Lost, TurnView, Turn, AreTurns, Pace, release_of, IsTurnAt, DrainsAt, accepted_in, accepted_view, pace_in, link_plan_at, Sent, link_stream, LinkState, held_view, link_at, pace_of, Report}
+use Rattle.afdx_handle.proofs.Names.{ℕ, zero, suc, ◌≡◌, ◌≤◌, ◌+◌, ◌-◌, length, sym, ap, ◌∙◌, arith, inl, inr, not, get_or, map-append, append-nil, append_assoc, All, cases_Bool, filter-append, Lines, Endures, Keeps, Tx, EndView, end_view, AreOfPoll, IsEndSystem, Runs, PollsTx, Bool, true, false, length-map, Net, log}
 use Rattle.std.proofs.Common.{List, [], ◌∷◌, ◌++◌, refl}
+use Rattle.std.proofs.Math.ListN.{get_or-append}
+use Rattle.std.proofs.Math.Seq.{get_or-append_right}
+use Rattle.std.proofs.lemmas.List.Elements.{All-nil, All-push, All-append, All-map, All-filter, All-get_or}
+use Rattle.std.proofs.lemmas.List.Filters.{length-filter_both}
 use Rattle.std.proofs.lemmas.List.{length-append}
-use Rattle.afdx_frame.specs.declared.net.Net.TheVariants.{B}
+use Rattle.afdx_plan.specs.declared.link_plan.LinkPlan.{LinkPlan}
+use Rattle.afdx_frame.specs.declared.net.Net.TheVariants.{A, B}
+use Rattle.redundant_mux.specs.Lines.{Entry, entry, Logged, logged_for, names, sent_to, side}
+use Rattle.redundant_mux.specs.Memory.{entry_at}
+use Rattle.vl_link.specs.declared.link.Served.{Served}
+use Rattle.vl_link.specs.declared.link.Served.TheVariants.{Nothing, Released, Lost}
+use Rattle.vl_link.specs.Turn.{TurnView, Turn, AreTurns}
+use Rattle.vl_shaper.specs.Pace.{Pace}
+use Rattle.afdx_tx.specs.Report.{release_of}
+use Rattle.afdx_tx.specs.Run.{IsTurnAt, DrainsAt, accepted_in, accepted_view, pace_in}
+use Rattle.afdx_plan.specs.Config.{link_plan_at}
+use Rattle.afdx_frame.specs.Fragments.{Sent}
+use Rattle.afdx_legal.specs.Streams.{link_stream}
+use Rattle.vl_link.specs.Links.{LinkState, held_view, link_at, pace_of}
+use Rattle.afdx_tx.specs.declared.turns.Report.{Report}
 
 -- these were logged at this time
 abbrev LoggedAt : ℕ → List Logged → Type 0

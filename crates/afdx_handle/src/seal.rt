@@ -4,8 +4,6 @@ ghost use Rattle.afdx_handle.specs.declared.handle.Home.{Home};
 ghost use Rattle.afdx_handle.specs.Sealed.{sealed_owns};
 ghost use Rattle.afdx_handle.specs.contracts.handle.Home.{the_row as home_row};
 ghost use Rattle.std.specs.Coded.{coded_option};
-ghost use Rattle.std.specs.Borrow.{sem};
-ghost use Rattle.afdx_handle.specs.Held.{LendsHome};
 
 mod parts;
 
@@ -28,6 +26,9 @@ impl Model for Sealed {
 }
 
 impl Sealed {
+    ghost use Rattle.std.specs.Borrow.{sem};
+    ghost use Rattle.afdx_handle.specs.Held.{LendsHome};
+
     fn of_parts(parts: Parts<Home, Global>) -> Sealed
         ensures { result.home ≡ Some parts.value }
     {

@@ -1,4 +1,5 @@
-use Rattle.afdx_handle.proofs.Names.{refl, Memory}
+use Rattle.afdx_handle.proofs.Names.{refl}
+use Rattle.afdx_plan.specs.declared.fault.ConfigFault.TheVariants.{Memory}
 use Rattle.afdx_handle.proofs.judging.judge_into.Goals as goal
 
 pub returns-then-not-alone-clause-fault : goal.returns-then-not-alone-clause-fault

@@ -1,4 +1,5 @@
-use Rattle.afdx_handle.proofs.Names.{arith, common_steps}
+use Rattle.afdx_handle.proofs.Names.{arith}
+use Rattle.std.proofs.lemmas.Grind.{common_steps}
 use Rattle.afdx_handle.proofs.EndPorts.{gathered_whole}
 use Rattle.afdx_handle.proofs.ports.gather.Goals.{in-Draining, in-Sending+in-Ok, in-Sending+in-Err}
 use Rattle.afdx_handle.proofs.ports.gather.Goals as goal

@@ -1,4 +1,6 @@
-use Rattle.afdx_handle.proofs.Names.{arith, take_min, take-map, row_of}
+use Rattle.afdx_handle.proofs.Names.{arith}
+use Rattle.std.proofs.lemmas.List.{take_min, take-map}
+use Rattle.afdx_handle.specs.Rows.{row_of}
 use Rattle.afdx_handle.proofs.MadeFrames.{set_map}
 use Rattle.afdx_handle.proofs.rows.write_rows.Goals as goal
 

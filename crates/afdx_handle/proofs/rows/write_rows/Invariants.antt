@@ -1,4 +1,6 @@
-use Rattle.afdx_handle.proofs.Names.{◌≡◌, map, take, with_front, row_of}
+use Rattle.std.proofs.Common.{◌≡◌, map, take}
+use Rattle.afdx_handle.specs.Listing.{with_front}
+use Rattle.afdx_handle.specs.Rows.{row_of}
 use Rattle.afdx_handle.proofs.rows.write_rows.Given as goal
 
 abbrev pub invariant-loop-k : goal.invariant-loop-k

@@ -1,5 +1,7 @@
-use Rattle.afdx_handle.proofs.Names.{map-append, append-nil, ◌≡◌, ◌+◌, arith, take, set, ◌-◌, concat, made_for, made_at, first_made, bytes_of, lengths_of, with_front, concat-append, drop}
+use Rattle.afdx_handle.proofs.Names.{map-append, append-nil, ◌≡◌, ◌+◌, arith, take, set, ◌-◌, concat, made_for, made_at, first_made, bytes_of, lengths_of, with_front}
+use Rattle.std.proofs.lemmas.List.Folds.{concat-append}
 use Rattle.afdx_handle.proofs.MadeFrames.{first_more, set_front, put_front, bytes_more, bytes_rise, count_made}
+use Rattle.std.proofs.Common.{drop}
 use Rattle.afdx_handle.proofs.end_system.EndSystem.all_frames.Goals as goal
 
 pub put_at-requires : goal.put_at-requires

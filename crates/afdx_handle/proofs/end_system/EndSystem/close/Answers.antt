@@ -1,4 +1,5 @@
-use Rattle.afdx_handle.proofs.Names.{◌≡◌, subst, false, rules, vec_capacity, EndView, end_view, ◌↔◌, ClosesEnd, LacksSub}
+use Rattle.afdx_handle.proofs.Names.{◌≡◌, subst, false, rules, vec_capacity, EndView, end_view, ◌↔◌, ClosesEnd}
+use Rattle.afdx_tx.specs.Calls.{LacksSub}
 use Rattle.afdx_handle.proofs.end_system.EndSystem.close.Goals.{in-Ok, in-Err, Joined-close}
 use Rattle.afdx_handle.proofs.end_system.EndSystem.close.Goals as goal
 

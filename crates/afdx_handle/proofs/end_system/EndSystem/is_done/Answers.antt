@@ -1,4 +1,5 @@
-use Rattle.afdx_handle.proofs.Names.{◌≡◌, sym, subst, ◌∙◌, true, false, arith, log, accepted_in, Stage, tx_of, IsAllSent, IsAllDone}
+use Rattle.afdx_handle.proofs.Names.{◌≡◌, sym, subst, ◌∙◌, true, false, arith, log, accepted_in, Stage, tx_of, IsAllSent}
+use Rattle.afdx_legal.specs.Accepted.{IsAllDone}
 use Rattle.afdx_handle.proofs.end_system.EndSystem.is_done.Goals as goal
 
 pub returns-else-is_done-clause-done : goal.returns-else-is_done-clause-done

@@ -1,7 +1,10 @@
 -- `get_mut` lends the content, and the seal follows it.
-use Rattle.afdx_handle.proofs.Names.{MutBor, List, [], ◌∷◌, refl, sym, ap, ◌∙◌, Option, IsSome, proved, after, box_owns, full_share, ent, sep, fst∗, never, id⊢, GName, ftrue, fsep, flft, fact, tables, named, Val, vptr, ‵, raw, ◌⊛◌, some, later, at_ret, ◌$◌, ◌∵◌, !, qed, done, move, keep, use1, split, join, fsplit, fsplit3, fjoin, fjoin3, fpack, split3, pick, await, rewrite, suffices, frame, group, sem, whole, sub, look_in, enter, of_opd, addr, load, stop, fld, first, blocks, exec, returns, alloc_all, pass_all, free_all, look_at, get, through, sets, sets_last, env, no, follows, Part, lends_Part, shows, cell_at, part_at, part_of, mem, lone, Ptr, block_ptr, null_ptr, in_a_block, MutRef, mut_vals, mut_Tells, plain, mut_ref_to, nothing, opens, heard, peeks, Stays, walk_of, says, stay_dropped, Goes-spent_ref, ends_at, ghosts, shape, to, Struct, sealed_owns, with_home, Home}
+use Rattle.afdx_handle.proofs.Names.{MutBor, List, [], ◌∷◌, refl, sym, ap, ◌∙◌, Option, IsSome, proved, after, box_owns, full_share, ent, sep, fst∗, never, id⊢, GName, ftrue, fsep, flft, fact, tables, named, Val, vptr, ‵, raw, ◌⊛◌, some, later, at_ret, ◌$◌, ◌∵◌, !, qed, done, move, keep, use1, split, join, fsplit, fsplit3, fjoin, fjoin3, fpack, split3, pick, await, rewrite, suffices, frame, group, sem, whole, sub, look_in, enter, of_opd, addr, load, stop, fld, first, blocks, exec, returns, alloc_all, pass_all, free_all, look_at, get, through, sets, sets_last, env, no, follows, Part, lends_Part, shows, cell_at, part_at, part_of, mem, lone, Ptr, block_ptr, null_ptr, in_a_block, MutRef, mut_vals, mut_Tells, plain, mut_ref_to, nothing, opens, heard, peeks, Stays, walk_of, says, stay_dropped, Goes-spent_ref, ends_at, ghosts, shape, to, Struct}
 use mir.Raw.{raw as bare}
 use Rattle.afdx_handle.proofs.AsBox.{held_of}
+use Rattle.afdx_handle.specs.Sealed.{sealed_owns}
+use Rattle.afdx_handle.specs.Held.{with_home}
+use Rattle.afdx_handle.specs.declared.handle.Home.{Home}
 use Rattle.afdx_handle.specs.contracts.handle.Home.{the_row as R}
 use Rattle.afdx_handle.specs.contracts.seal.Sealed.{the_row as S, the_type}
 use Rattle.afdx_handle.specs.contracts.seal.Sealed.get_mut as f

@@ -1,9 +1,11 @@
 -- `take` hands out the content, and what is left owns nothing.
-use Rattle.afdx_handle.proofs.Names.{◌≡◌, List, [], ◌∷◌, refl, sym, ap, subst, ◌∙◌, Option, None, Some, IsSome, says_two, proved, after, full_share, emp, id⊢, fat, ftrue, fsep, flft, ◌⊑◌, fact, fact_i, tables, T, named, Val, vptr, has_ty, WT, Item, ‵, raw, ◌⊛◌, some, later, at_ret, ◌$◌, ◌∵◌, !, qed, done, move, keep, drop, use0, use1, split, join, fsplit3, fjoin, fpack, feq_i, split3, pick, await, rewrite, suffices, frame, group, whole, sub, look_in, enter, of_opd, load, stop, fld, first, blocks, exec, returns, and_then, no_more, lft_new, lft_end, alloc_all, pass_all, free_all, look_at, get, through, sets, lands_last, env, cell_at, Valss, Ptr, block_ptr, ptr_val, MutRef, mut_vals, mut_Tells, plain, nothing, opens, closes, heard, only, copy, fields, shape, to, within, glues, calls_at_last, triple_of, framed, Stays, walk_of, stay_ref, Goes-ref, ends_at, D, B, word, handle, box_ty, box_typed, box_out, box_in, met, Home}
+use Rattle.afdx_handle.proofs.Names.{◌≡◌, List, [], ◌∷◌, refl, sym, ap, subst, ◌∙◌, Option, None, Some, IsSome, says_two, proved, after, full_share, emp, id⊢, fat, ftrue, fsep, flft, ◌⊑◌, fact, fact_i, tables, T, named, Val, vptr, has_ty, WT, Item, ‵, raw, ◌⊛◌, some, later, at_ret, ◌$◌, ◌∵◌, !, qed, done, move, keep, drop, use0, use1, split, join, fsplit3, fjoin, fpack, feq_i, split3, pick, await, rewrite, suffices, frame, group, whole, sub, look_in, enter, of_opd, load, stop, fld, first, blocks, exec, returns, and_then, no_more, lft_new, lft_end, alloc_all, pass_all, free_all, look_at, get, through, sets, lands_last, env, cell_at, Valss, Ptr, block_ptr, ptr_val, MutRef, mut_vals, mut_Tells, plain, nothing, opens, closes, heard, only, copy, fields, shape, to, within, glues, calls_at_last, triple_of, framed, Stays, walk_of, stay_ref, Goes-ref, ends_at, D, B, word, handle, box_ty, box_typed, box_out, box_in}
 use Rattle.std_alloc.specs.contracts.boxed.Box.from_raw as g
+use Rattle.std_alloc.proofs.boxed.Box.from_raw.Met.{met}
 use Rattle.std_heap.specs.contracts.Global as Heap
 use Rattle.std_heap.proofs.Global.TheLaws as heap
 use Rattle.std_heap.proofs.GlobalAllocator.TheImpl.Met as allocates
+use Rattle.afdx_handle.specs.declared.handle.Home.{Home}
 use Rattle.afdx_handle.proofs.handle.Home.TheLaws as home
 use Rattle.afdx_handle.specs.contracts.seal.Sealed.{the_row as S, the_type}
 use Rattle.afdx_handle.proofs.seal.Sealed.TheLaws.{mir as laid}
