@@ -195,7 +195,7 @@ def in_python(names, room):
 
 def try_findings(tries, room):
     """Each kind of findings and each rule has the judge's own name in C, C++ and Python, and no other number has one."""
-    lists = dict(re.findall(r"(?ms)^pub enum (\w+) \{\n(.*?)^\}", text_of("crates/judge/src/finding.rt")))
+    lists = dict(re.findall(r"(?ms)^pub enum (\w+) \{\n(.*?)^\}", text_of("crates/judge/src/finding.rt") + text_of("crates/afdx_frame/src/layout.rt")))
     names = {}
     for k, (kind, of) in enumerate(re.findall(r"(?m)^    (\w+)(?:\((\w+)\))?,$", lists["Kind"]), 1):
         rules = re.findall(r"(?m)^    (\w+),$", lists.get(of, ""))

@@ -204,7 +204,7 @@ def prefixes(polls: int) -> Iterator[tuple[str, bytes, int]]:
 
 def guide() -> list[str]:
     """What is wrong with the example of the guide: the run of `program.md` without the second frame of network B."""
-    starts = {"configuration": "version", "program": "send", "judge": "3 A"}
+    starts = {"plan": "version", "program": "send", "judge": "3 A"}
     pages = {name: re.findall(r"(?ms)^```\n(.*?)^```", trying.text_of(f"docs/guide/{name}.md")) for name in starts}
     plan, script, wanted = (next(it for it in pages[name] if it.startswith(start)) for name, start in starts.items())
     files = {"guide.toml": plan, "guide.txt": script}

@@ -235,7 +235,7 @@ def turns() -> Iterator[Row]:
 
 def guide() -> Iterator[Row]:
     """The script of `docs/guide/program.md` over the plan of `docs/guide/plan.md`."""
-    pages = [re.findall(r"(?ms)^```\n(.*?)^```$", text_of(f"docs/guide/{page}.md")) for page in ("configuration", "program")]
+    pages = [re.findall(r"(?ms)^```\n(.*?)^```$", text_of(f"docs/guide/{page}.md")) for page in ("plan", "program")]
     (plan, *_), (script, out, *_) = pages
     note, *of_a = out.splitlines(keepends=True)
     # (they differ in byte 11 alone)

@@ -30,7 +30,8 @@ fn plans<R: Row>(alloc: Global, rows: &[R]) -> Result<Vec<R::Plan>, AllocError>
     requires { All R.Fits rows.now }
     ensures { IfOk result (λ plans. plans.items ≡ map R.plan_of rows.now) }
 {
-    let mut plans = Vec::with_capacity(alloc, rows.len())?;
+    // (room for four at least, as a list that grows has: memory is known by that)
+    let mut plans = Vec::with_capacity(alloc, rows.len().max(4))?;
     for row in rows {
         plans.push(row.plan())?;
     }
