@@ -297,18 +297,19 @@ def of_links(frames: list[str]) -> dict[str, list[str]]:
 
 def try_clock(rig, stalls: int) -> tuple[list[str], str]:
     """By the clock each link's frames are those of the script, but for the last ones, and a player that was held up doesn't
-    catch up: of the gaps less than a BAG none is short by more than a poll was late, and none by half a BAG."""
+    catch up: no gap is short by more than a poll was late, and by half a BAG at most one of each link, if the player was
+    held up between a frame and the reading of its time."""
     played = Played(rig, plan_of(3), script_of(3, 600, 11, 4), by_clock=True, stalls=stalls)
     faults = played.said()
     for name in NETWORKS:
         came, wanted = of_links([data for _, data in played.captured[name]]), of_links(all_of(played)[name])
         for link, frames in wanted.items():
             got = came.get(link, [])
-            is_front = got == frames[: len(got)] and len(got) + 60 * stalls + 5 >= len(frames)
+            is_front = got == frames[: len(got)] and len(got) + 60 * stalls + played.late // BAG + 5 >= len(frames)
             faults += [] if is_front else [f"network {name}, link {link}: {len(got)} frames of {len(frames)}"]
         faults += gaps(played.captured[name], 3, played.late)
         short = close_gaps(played.captured[name])
-        faults += [f"network {name}: {short} gaps under half a BAG"] if short and stalls else []
+        faults += [f"network {name}: {short} gaps under half a BAG"] if stalls and short > 3 * stalls else []
     return faults, ""
 
 
@@ -316,7 +317,7 @@ def try_written(rig) -> tuple[list[str], str]:
     """As written, a player that was held up catches up, and sends frames of a link too close together."""
     played = Played(rig, plan_of(3), script_of(3, 600, 11, 4), stalls=2)
     short = close_gaps(played.captured["A"])
-    return played.differences(all_of(played)) + ([] if short > 5 else [f"{short} gaps under half a BAG"]), ""
+    return played.differences(all_of(played)) + ([] if short > 6 else [f"{short} gaps under half a BAG"]), f"{short} close gaps"
 
 
 def close_gaps(captured: list[tuple[int, str]]) -> int:
