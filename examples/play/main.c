@@ -168,6 +168,7 @@ static int obey(struct play *play, size_t k) {
     else if (!play->words.as_written) answer = serve_until(play, next_at(&play->script, k));
     if (answer == AFDX_MEMORY) fprintf(stderr, "out of memory\n");
     if (answer == AFDX_MEMORY || answer == AFDX_BOTH_DOWN) return ENDS_BROKEN;
+    if (stopped_by != 0) return 0;
     if (says->kind == AFDX_SAYS_SEND) answer = send_by(&play->tx, command);
     if (says->kind == AFDX_SAYS_CLOSE) answer = afdx_close(&play->tx.end_system, says->id, says->sub, &total);
     if (answer != AFDX_OK) {

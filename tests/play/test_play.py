@@ -276,12 +276,13 @@ MORE = [
 ]
 
 
-def try_stop(rig, by: int) -> tuple[list[str], str]:
+def try_stop(rig, by: int, by_clock: bool) -> tuple[list[str], str]:
     """A run that a signal stops prints its last lines, ends with 128 and the signal's number, and keeps what it captured. The
     fault of a line that it didn't reach isn't told."""
-    played = Played(rig, plan_of(1), f"{script_of(1, 2000, 8)}at x\n", stop=by)
+    # (few messages, so that by the clock, too, none finds its queue full)
+    played = Played(rig, plan_of(1), f"{script_of(1, 2000, 8, 12)}at x\n", stop=by, by_clock=by_clock)
     frames, captured = all_of(played)["A"], [data for _, data in played.captured["A"]]
-    is_cut = captured == frames[: len(captured)] == [data for _, data in played.came["A"]["frames"]] and 0 < len(captured) < len(frames) - 500
+    is_cut = captured == frames[: len(captured)] == [data for _, data in played.came["A"]["frames"]] and 0 < len(captured) < len(frames) // 2
     is_told = re.fullmatch(r"(line .*\n)*link .*\n(network .*\n){2}lines refused .*\npolls .*\n", played.ran.stdout)
     is_well = is_cut and is_told and (played.ran.returncode, played.ran.stderr) == (128 + by, "")
     return [] if is_well else [f"{played.ran}, {len(captured)} frames of {len(frames)}"], ""
@@ -418,8 +419,9 @@ def inside(program: str, millis: int) -> int:
             tries.attempt(f"--fault '{text}'", lambda text=text: try_fault(rig, text))
         for row in MORE:
             tries.attempt(f"faults {row}", lambda row=row: try_more(rig, *row))
-        for by in (signal.SIGINT, signal.SIGTERM):
-            tries.attempt(f"stopped by {by.name}", lambda by=by: try_stop(rig, by))
+        for by, by_clock in itertools.product((signal.SIGINT, signal.SIGTERM), (False, True)):
+            name = f"stopped by {by.name}, {'by the clock' if by_clock else 'as written'}"
+            tries.attempt(name, lambda by=by, by_clock=by_clock: try_stop(rig, by, by_clock))
         for stalls in (0, 2):
             tries.attempt(f"by the clock, held up {stalls} times", lambda stalls=stalls: try_clock(rig, stalls))
         tries.attempt("as written, held up twice", lambda: try_written(rig))
