@@ -50,6 +50,27 @@ bool read_fault(struct faults *faults, const char *text) {
     return false;
 }
 
+/* Whether a fault, if it comes true, keeps another one of its network from coming true. */
+static bool hinders(const struct fault *one, const struct fault *other) {
+    if (one->network != other->network) return false;
+    bool is_same = one->frame == other->frame;
+    bool is_after = other->frame >= one->frame || (other->kind == SWAP && other->value >= one->frame);
+    if (one->kind == DOWN) return is_after;
+    if (one->kind == LOSE) return is_same && other->kind != SWAP && other->kind != DOWN;
+    return one->kind == other->kind && is_same && (one->kind == EARLY || one->kind == REPEAT || one->kind == NUMBER || one->value == other->value);
+}
+
+bool find_clash(const struct faults *faults, const char **one, const char **other) {
+    for (size_t k = 0; k < faults->count; k++)
+        for (size_t i = 0; i < faults->count; i++)
+            if (i != k && hinders(&faults->list[k], &faults->list[i])) {
+                *one = faults->list[k].text;
+                *other = faults->list[i].text;
+                return true;
+            }
+    return false;
+}
+
 bool has_to_rehearse(const struct faults *faults) {
     for (size_t k = 0; k < faults->count; k++)
         if (faults->list[k].kind == SWAP || faults->list[k].kind == EARLY) return true;

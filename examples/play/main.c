@@ -1,6 +1,8 @@
 /* Plays a script by the clock: the proved AFDX end system of a plan over two network interfaces.
 
-       afdx_play PLAN SCRIPT INTERFACE_A INTERFACE_B [--as-written] [--speed X] [--capture FILE] [--fault TEXT].. [--priority]
+       afdx_play PLAN SCRIPT INTERFACE_A INTERFACE_B [--as-written] [--speed X] [--repeat N] [--capture FILE]
+                 [--fault TEXT].. [--priority]
+       afdx_play PLAN INTERFACE_A INTERFACE_B --traffic CSV --seconds N [--seed N] ..
 
    docs/guide/program.md says what it prints, how it ends, and what a fault on purpose is. */
 #define _GNU_SOURCE
@@ -17,19 +19,6 @@
 #include <sys/stat.h>
 #include <time.h>
 #include <unistd.h>
-
-/* A run: the time of its start, the times of the first `at`, of the last one and of the last poll, and how late each poll's
- * frames were sent, in nanoseconds. Frames that a fault sends early count with the poll after them. */
-struct play {
-    struct tx tx;
-    struct script script;
-    struct network networks[2];
-    struct capture capture;
-    struct words words;
-    uint64_t begun, offset, first, asked, last;
-    uint64_t *late;
-    size_t polls, room, refused;
-};
 
 /* The number of the signal that stops the run, or 0. */
 static volatile sig_atomic_t stopped_by;
@@ -142,10 +131,16 @@ static uint8_t serve_until(struct play *play, uint64_t at) {
     return answer;
 }
 
+/* The time of an `at` in the present round. */
+static uint64_t time_of(const struct play *play, const struct command *at) {
+    return at->says.at <= UINT64_MAX - play->shift ? at->says.at + play->shift : UINT64_MAX;
+}
+
 /* The time of the first `at` from a line of the script on; 0 if none follows. */
-static uint64_t next_at(const struct script *script, size_t k) {
+static uint64_t next_at(const struct play *play, size_t k) {
+    const struct script *script = &play->script;
     while (k < script->count && script->commands[k].says.kind != AFDX_SAYS_AT) k++;
-    return k < script->count ? script->commands[k].says.at : 0;
+    return k < script->count ? time_of(play, &script->commands[k]) : 0;
 }
 
 /* Polls for an `at`. Returns the number of afdx_poll. */
@@ -164,8 +159,8 @@ static int obey(struct play *play, size_t k) {
     const afdx_line *says = &command->says;
     uint64_t total = 0;
     uint8_t answer = AFDX_OK;
-    if (says->kind == AFDX_SAYS_AT) answer = obey_at(play, says->at);
-    else if (!play->words.as_written) answer = serve_until(play, next_at(&play->script, k));
+    if (says->kind == AFDX_SAYS_AT) answer = obey_at(play, time_of(play, command));
+    else if (!play->words.as_written) answer = serve_until(play, next_at(play, k));
     if (answer == AFDX_MEMORY) fprintf(stderr, "out of memory\n");
     if (answer == AFDX_MEMORY || answer == AFDX_BOTH_DOWN) return ENDS_BROKEN;
     if (stopped_by != 0) return 0;
@@ -211,21 +206,31 @@ static void ask_for_priority(void) {
 /* Whether a file is one of the two that are read. */
 static bool is_read(const struct words *words) {
     struct stat one, other;
+    const char *read[] = {words->plan, words->script == NULL ? words->traffic : words->script};
     if (words->capture == NULL || stat(words->capture, &one) != 0) return false;
     for (int k = 0; k < 2; k++)
-        if (stat(words->paths[k], &other) == 0 && one.st_dev == other.st_dev && one.st_ino == other.st_ino) return true;
+        if (stat(read[k], &other) == 0 && one.st_dev == other.st_dev && one.st_ino == other.st_ino) return true;
     return false;
+}
+
+/* Opens the end system, reads the script, and plays it without the clock if a fault has to know frames. Returns how the player
+ * ends if that fails, or 0. */
+static int read_all_texts(struct play *play) {
+    size_t length = 0, script_length = 0;
+    uint8_t *text = read_file(play->words.plan, &length), *script = NULL;
+    if (text == NULL) return ENDS_BROKEN;
+    int failed = open_tx(&play->tx, text, length);
+    if (!failed) script = read_text(&play->words, &script_length, &failed);
+    if (script != NULL) failed = read_script(script, script_length, &play->script);
+    if (!failed && has_to_rehearse(&play->words.faults)) failed = rehearse(play, text, length);
+    free(script);
+    free(text);
+    return failed;
 }
 
 /* Opens all. Returns how the player ends if that fails, or 0. */
 static int prepare(struct play *play) {
-    size_t length = 0;
-    uint8_t *text = read_file(play->words.paths[0], &length);
-    if (text == NULL) return ENDS_BROKEN;
-    int failed = open_tx(&play->tx, text, length);
-    if (!failed) failed = read_script(play->words.paths[1], &play->script);
-    if (!failed && has_to_rehearse(&play->words.faults)) failed = rehearse(play, text, length);
-    free(text);
+    int failed = read_all_texts(play);
     if (failed) return failed;
     play->room = play->script.polls + 2;
     play->late = calloc(play->room, sizeof *play->late);
@@ -238,10 +243,26 @@ static int prepare(struct play *play) {
         return ENDS_BROKEN;
     }
     for (int n = 0; n < 2; n++) {
-        play->networks[n] = (struct network){.which = (uint8_t)n, .interface = play->words.paths[2 + n], .socket = -1};
+        play->networks[n].which = (uint8_t)n;
+        play->networks[n].interface = play->words.interfaces[n];
         if (!open_network(&play->networks[n])) return ENDS_BROKEN;
     }
     return play->words.capture == NULL || open_capture(&play->capture, play->words.capture) ? 0 : ENDS_BROKEN;
+}
+
+/* Obeys the script, again and again if that is wanted. Returns how the run ends, or 0. */
+static int run_rounds(struct play *play) {
+    /* (one with a fault ends there, and one whose times don't go on would never end) */
+    bool is_whole = play->script.faulty == 0 && !play->script.is_too_long;
+    for (uint64_t round = 1; stopped_by == 0; round++) {
+        for (size_t k = 0; k < play->script.count && stopped_by == 0; k++) {
+            int ends = obey(play, k);
+            if (ends != 0) return ends;
+        }
+        play->shift = play->asked - play->first;
+        if (!is_whole || play->shift == 0 || round == play->words.rounds) return 0;
+    }
+    return 0;
 }
 
 /* Runs the script. Returns how that ends. */
@@ -259,54 +280,10 @@ static int run(struct play *play) {
     play->begun = nanos_now();
     play->offset = (uint64_t)day.tv_sec * 1000000000 + (uint64_t)day.tv_nsec - play->begun;
     play->begun += 10000000; /* (the first poll's time has to come) */
-    for (size_t k = 0; k < play->script.count && stopped_by == 0; k++) {
-        int ends = obey(play, k);
-        if (ends != 0) return ends;
-    }
+    int ends = run_rounds(play);
+    if (ends != 0) return ends;
     send_early(play, UINT64_MAX);
     return stopped_by == 0 ? 0 : ENDS_STOPPED + stopped_by;
-}
-
-static int by_size(const void *one, const void *other) {
-    uint64_t a = *(const uint64_t *)one, b = *(const uint64_t *)other;
-    return (a > b) - (a < b);
-}
-
-/* The lateness of the poll of this rank, in microseconds, rounded up. */
-static uint64_t late_micros(const struct play *play, size_t rank) {
-    return play->polls == 0 ? 0 : (play->late[rank < play->polls ? rank : play->polls - 1] + 999) / 1000;
-}
-
-/* Prints the faults that came true, or those that didn't. */
-static void tell_faults(const struct play *play, bool came_true, const char *front) {
-    const char *before = front;
-    for (size_t k = 0; k < play->words.faults.count; k++) {
-        const struct fault *fault = &play->words.faults.list[k];
-        if ((play->networks[fault->network].faults >> k & 1) != came_true) continue;
-        printf("%s %s", before, fault->text);
-        before = ",";
-    }
-    if (before != front) printf("\n");
-}
-
-/* Prints what was sent, and how late. */
-static void tell(struct play *play) {
-    uint16_t ids[AFDX_MOST_LINKS];
-    size_t count = 0;
-    afdx_counts counts;
-    afdx_links(&play->tx.end_system, ids, AFDX_MOST_LINKS, &count);
-    for (size_t k = 0; k < count; k++)
-        if (afdx_link_counts(&play->tx.end_system, ids[k], &counts) == AFDX_OK)
-            printf("link %u: frames %" PRIu64 ", bytes %" PRIu64 ", messages %" PRIu64 "\n", ids[k], counts.frames, counts.bytes, counts.messages);
-    for (int n = 0; n < 2; n++)
-        printf("network %c, %s: took %" PRIu64 " of %" PRIu64 " frames%s\n", "AB"[n], play->networks[n].interface,
-               play->networks[n].taken, play->networks[n].made, play->networks[n].failed ? ", failed" : "");
-    qsort(play->late, play->polls, sizeof *play->late, by_size);
-    printf("lines refused %zu\n", play->refused);
-    printf("polls %zu, late in microseconds: half %" PRIu64 ", 99.99 %% %" PRIu64 ", greatest %" PRIu64 "\n", play->polls,
-           late_micros(play, play->polls / 2), late_micros(play, play->polls - play->polls / 10000 - 1), late_micros(play, play->polls));
-    tell_faults(play, true, "faults on purpose, after the library:");
-    tell_faults(play, false, "faults that weren't made:");
 }
 
 static void let_go(struct play *play) {
@@ -321,14 +298,17 @@ static void let_go(struct play *play) {
 int main(int argc, char **argv) {
     static struct play play;
     play.words.speed = 1;
+    play.words.rounds = 1;
+    play.networks[AFDX_A].socket = play.networks[AFDX_B].socket = -1;
     int ends = read_words(argc, argv, &play.words);
     if (ends >= 0) return ends;
     ends = prepare(&play);
     bool is_ready = ends == 0;
     if (is_ready) {
         ends = run(&play);
-        tell(&play);
+        int told = tell(&play);
         if (ends == 0) ends = play.networks[0].failed || play.networks[1].failed ? ENDS_BROKEN : tell_end(&play.script);
+        if (ends == 0) ends = told;
         if (ends == 0 && play.refused > 0) ends = ENDS_REFUSED;
     }
     bool is_kept = close_capture(&play.capture) && fflush(stdout) == 0;

@@ -29,8 +29,11 @@ struct script {
 /* Reads a file; NULL, with a message, if that fails. */
 uint8_t *read_file(const char *path, size_t *length);
 
-/* Reads the lines of a script. Returns how the player ends if that fails, or 0. */
-int read_script(const char *path, struct script *script);
+/* Reads what is left of a stream; NULL if that fails. */
+uint8_t *read_all(FILE *file, size_t *length);
+
+/* Reads the lines of a script's text. Returns how the player ends if there is no memory for them, or 0. */
+int read_script(const uint8_t *text, size_t length, struct script *script);
 
 /* Prints how the script ended, if not at its end. Returns how the player ends, or 0. */
 int tell_end(const struct script *script);
@@ -84,6 +87,10 @@ struct faults {
 /* Reads a fault, as "lose A 100". Returns whether it is one. */
 bool read_fault(struct faults *faults, const char *text);
 
+/* The first two faults that can't both come true, as a frame that isn't sent can't be changed. Returns whether there are
+   any. */
+bool find_clash(const struct faults *faults, const char **one, const char **other);
+
 /* Whether a fault has to know frames before they are made. */
 bool has_to_rehearse(const struct faults *faults);
 
@@ -102,7 +109,9 @@ struct fault *next_early(struct faults *faults);
 
 /* The words of the command line. */
 struct words {
-    const char *paths[4];
+    const char *plan, *script, *interfaces[2];
+    const char *traffic, *seconds, *seed; /* in place of a script */
+    uint64_t rounds;                      /* how many times the script is played; 0: until a signal */
     double speed;
     const char *capture;
     bool has_priority, as_written;
@@ -111,6 +120,10 @@ struct words {
 
 /* Reads the words. Returns -1, or how the player ends at once. */
 int read_words(int argc, char **argv, struct words *words);
+
+/* Reads the text of the script, or has `afdx_bench schedule` make one of the traffic. Returns NULL, with a message and how the
+   player ends, if that fails. */
+uint8_t *read_text(const struct words *words, size_t *length, int *ends);
 
 /* A capture: pcapng with nanoseconds. */
 struct capture {
@@ -123,6 +136,21 @@ bool open_capture(struct capture *capture, const char *path);
 void add_packet(struct capture *capture, uint8_t network, uint64_t nanos, const uint8_t *bytes, size_t length);
 bool close_capture(struct capture *capture);
 
+/* What an interface has counted: frames sent, frames dropped and frames not sent for an error, each modulo 2^32. */
+struct counters {
+    uint32_t sent, dropped, errors;
+};
+
+enum { LINKS = UINT16_MAX + 1, LAST_FRAMES = 1 << 16 };
+
+/* The times at which the kernel gave frames to an interface, in nanoseconds. */
+struct stamps {
+    bool are_asked;                     /* the kernel tells times */
+    uint64_t count;                     /* how many it told */
+    uint16_t links[LAST_FRAMES];        /* the link of each of the last frames, by its number from 0 */
+    uint64_t last[LINKS], least[LINKS]; /* of each link: the last time, and the least gap; 0 if there is none */
+};
+
 /* A network: an interface, and the frames that it took. */
 struct network {
     uint8_t which;
@@ -131,6 +159,9 @@ struct network {
     bool failed;
     uint64_t made, taken;
     uint32_t faults; /* a bit for each fault that came true */
+    bool has_counters;
+    struct counters before;
+    struct stamps stamps;
 };
 
 /* Nanoseconds of the monotonic clock. */
@@ -142,5 +173,38 @@ bool open_network(struct network *network);
 /* Writes the frames to the interface, which fails if it doesn't take one, and those that it took to the capture, with
    the present time and `offset` nanoseconds. */
 void transmit(struct network *network, struct frame *frames, size_t count, struct capture *capture, uint64_t offset);
+
+/* Asks the kernel to tell when it gives a socket's frames to the interface. Returns whether it will. */
+bool ask_for_stamps(int socket);
+
+/* Notes the link of frame `number`, before it is sent. */
+void number_frame(struct stamps *stamps, uint64_t number, const struct frame *frame);
+
+/* Reads the times that the kernel has told since the last call. */
+void read_stamps(struct network *network);
+
+/* Reads what an interface has counted. Returns whether it could. */
+bool read_counters(const char *interface, struct counters *counters);
+
+/* Waits up to a tenth of a second for the last times and counts of an interface. Returns how many of the frames that it took
+   it didn't send, by its counters, and how far these went. A driver that counts nothing has sent nothing. */
+uint64_t find_losses(struct network *network, struct counters *counted);
+
+/* A run: the time of its start, the times of the script's first `at`, of the last one obeyed and of the last poll, how much
+ * later than written the present round is, and how late each poll's frames were sent, in nanoseconds. Frames that a fault sends
+ * early count with the poll after them. */
+struct play {
+    struct tx tx;
+    struct script script;
+    struct network networks[2];
+    struct capture capture;
+    struct words words;
+    uint64_t begun, offset, first, asked, last, shift;
+    uint64_t *late;
+    size_t polls, room, refused;
+};
+
+/* Prints what was sent, and how late. Returns how the player ends for it, with lost frames or faults that weren't made, or 0. */
+int tell(struct play *play);
 
 #endif

@@ -3,6 +3,7 @@
 #include "play.h"
 
 #include <ctype.h>
+#include <errno.h>
 #include <stdlib.h>
 #include <string.h>
 
@@ -24,26 +25,31 @@ const char *short_name(afdx_call call, uint8_t answer) {
     return name;
 }
 
-uint8_t *read_file(const char *path, size_t *length) {
-    FILE *file = fopen(path, "rb");
-    size_t room = FIRST_ROOM, got = 0;
+uint8_t *read_all(FILE *file, size_t *length) {
+    size_t room = FIRST_ROOM;
     uint8_t *text = malloc(room);
-    while (file != NULL && text != NULL) {
-        got += fread(text + got, 1, room - got, file);
-        if (got < room || room >= GREATEST_FILE) break;
+    *length = 0;
+    while (text != NULL) {
+        *length += fread(text + *length, 1, room - *length, file);
+        if (*length < room || room >= GREATEST_FILE) break;
         uint8_t *more = realloc(text, room *= 2);
         if (more == NULL) free(text);
         text = more;
     }
-    bool is_read = file != NULL && text != NULL && feof(file) && !ferror(file);
-    if (!is_read) {
-        fprintf(stderr, text == NULL ? "out of memory\n" : "read failed\n");
+    if (text == NULL || (feof(file) && !ferror(file))) return text;
+    free(text);
+    return NULL;
+}
+
+uint8_t *read_file(const char *path, size_t *length) {
+    FILE *file = fopen(path, "rb");
+    uint8_t *text = file == NULL ? NULL : read_all(file, length);
+    if (text == NULL) {
+        fprintf(stderr, errno == ENOMEM ? "out of memory\n" : "read failed\n");
         perror(path);
-        free(text);
     }
     if (file != NULL) fclose(file);
-    *length = got;
-    return is_read ? text : NULL;
+    return text;
 }
 
 /* Adds what a line says. Returns 0, the number of the line's fault, or AFDX_MEMORY. */
@@ -67,10 +73,8 @@ static uint8_t add_line(struct script *script, size_t number, const uint8_t *lin
     return AFDX_OK;
 }
 
-int read_script(const char *path, struct script *script) {
-    size_t length = 0, number = 0;
-    uint8_t *text = read_file(path, &length);
-    if (text == NULL) return ENDS_BROKEN;
+int read_script(const uint8_t *text, size_t length, struct script *script) {
+    size_t number = 0;
     const uint8_t *at = text, *end = text + length;
     while (at < end && script->faulty == 0 && !script->is_too_long) {
         const uint8_t *feed = memchr(at, '\n', (size_t)(end - at)), *stop = feed == NULL ? end : feed;
@@ -82,7 +86,6 @@ int read_script(const char *path, struct script *script) {
         }
         at = feed == NULL ? end : feed + 1;
     }
-    free(text);
     if (script->fault != AFDX_MEMORY) return 0;
     fprintf(stderr, "out of memory\n");
     return ENDS_BROKEN;

@@ -27,16 +27,19 @@ bool open_network(struct network *network) {
     }
     if (setsockopt(network->socket, SOL_SOCKET, SO_SNDBUFFORCE, &room, sizeof room) != 0)
         setsockopt(network->socket, SOL_SOCKET, SO_SNDBUF, &room, sizeof room);
+    network->stamps.are_asked = ask_for_stamps(network->socket);
+    network->has_counters = read_counters(network->interface, &network->before);
     return true;
 }
 
 /* Writes the frames from `from` on. Returns how many the interface took by one call, or -1. */
-static int send_from(const struct network *network, struct frame *frames, size_t from, size_t count) {
+static int send_from(struct network *network, struct frame *frames, size_t from, size_t count) {
     static struct mmsghdr messages[2 * AFDX_MOST_FRAMES];
     static struct iovec parts[2 * AFDX_MOST_FRAMES];
     for (size_t k = from; k < count; k++) {
         parts[k] = (struct iovec){.iov_base = frames[k].bytes, .iov_len = frames[k].length};
         messages[k] = (struct mmsghdr){.msg_hdr = {.msg_iov = &parts[k], .msg_iovlen = 1}};
+        number_frame(&network->stamps, network->taken + k - from, &frames[k]);
     }
     int took;
     do took = sendmmsg(network->socket, messages + from, (unsigned)(count - from), 0);
@@ -59,6 +62,7 @@ void transmit(struct network *network, struct frame *frames, size_t count, struc
             add_packet(capture, network->which, now, frames[from].bytes, frames[from].length);
         }
     }
+    read_stamps(network);
 }
 
 /* Writes a block of pcapng: its body is `front`, and then `bytes` with zeros up to a multiple of four. */

@@ -1,50 +1,91 @@
 /* The words of the command line of afdx_play. */
+#define _GNU_SOURCE
 #include "play.h"
 
+#include <errno.h>
 #include <stdlib.h>
 #include <string.h>
+#include <sys/wait.h>
+#include <unistd.h>
 
 static const char USAGE[] =
-    "usage: afdx_play PLAN SCRIPT INTERFACE_A INTERFACE_B [--as-written] [--speed X] [--capture FILE] [--fault TEXT]..\n"
-    "                 [--priority]\n";
+    "usage: afdx_play PLAN SCRIPT INTERFACE_A INTERFACE_B [--as-written] [--speed X] [--repeat N] [--capture FILE]\n"
+    "                 [--fault TEXT].. [--priority]\n"
+    "       afdx_play PLAN INTERFACE_A INTERFACE_B --traffic CSV --seconds N [--seed N] ..\n";
 static const char HELP[] =
     "\n"
     "Plays a script (as afdx_bench run) by the clock, over two network interfaces. It needs the right to open packet\n"
     "sockets. At the time of each `at` it sends the messages before it. It polls then, and whenever a link becomes due, with\n"
     "the present time: a late player sends late, and never catches up.\n"
     "\n"
+    "  --traffic CSV   plays the script that afdx_bench schedule makes of these periods: --seconds N of it, from offsets by\n"
+    "                  --seed N\n"
     "  --as-written    polls at each `at` alone and with its time, as afdx_bench run: a late player then sends frames of a\n"
     "                  link too close together\n"
     "  --speed X       X times as fast: 0.001 to 1000\n"
+    "  --repeat N      plays the script N times, each from the last time of the one before; 0: until a signal\n"
     "  --capture FILE  records what the interfaces took: pcapng with nanoseconds\n"
     "  --priority      locks memory and asks for SCHED_FIFO\n"
     "  --fault TEXT    a fault on purpose, after the library: lose A 100, repeat B 7, swap A 5 6, number A 9 200,\n"
     "                  early A 12 300 (microseconds), flip B 20 1a (index of a byte), down A 1000. Frames of a network\n"
-    "                  count from 1. With swap and early, whose frames have to be known before, the run is as written\n";
+    "                  count from 1. With swap and early, whose frames have to be known before, the run is as written.\n"
+    "                  Two of which one keeps the other from coming true are refused\n";
+
+/* Where a word with a value keeps it, or NULL if it isn't one that keeps its text. */
+static const char **text_of(struct words *words, const char *word) {
+    if (strcmp(word, "--capture") == 0) return &words->capture;
+    if (strcmp(word, "--traffic") == 0) return &words->traffic;
+    if (strcmp(word, "--seconds") == 0) return &words->seconds;
+    return strcmp(word, "--seed") == 0 ? &words->seed : NULL;
+}
+
+/* Reads the value of --speed, --repeat or --fault. Returns whether the word is one of these, and whether its value is right. */
+static bool read_value(struct words *words, const char *word, const char *value, bool *is_right) {
+    char *end = NULL;
+    if (strcmp(word, "--speed") == 0) {
+        words->speed = strtod(value, &end);
+        *is_right = end != value && *end == '\0' && words->speed >= 0.001 && words->speed <= 1000;
+    } else if (strcmp(word, "--repeat") == 0) {
+        errno = 0;
+        words->rounds = strtoull(value, &end, 10);
+        *is_right = *value >= '0' && *value <= '9' && *end == '\0' && errno == 0;
+    } else if (strcmp(word, "--fault") == 0) {
+        *is_right = read_fault(&words->faults, value);
+    } else {
+        return false;
+    }
+    return true;
+}
+
+/* Gives the words that are no options their meaning. Returns whether they are as many as are wanted. */
+static bool place_words(struct words *words, const char *const *paths, size_t count) {
+    size_t k = 0;
+    bool is_right = count == (words->traffic == NULL ? 4U : 3U) && (words->traffic == NULL) == (words->seconds == NULL)
+        && (words->traffic != NULL || words->seed == NULL);
+    if (!is_right) return false;
+    words->plan = paths[k++];
+    if (words->traffic == NULL) words->script = paths[k++];
+    words->interfaces[0] = paths[k++];
+    words->interfaces[1] = paths[k];
+    return true;
+}
 
 int read_words(int argc, char **argv, struct words *words) {
+    const char *paths[4], *one, *other;
     size_t count = 0;
     for (int k = 1; k < argc; k++) {
-        const char *word = argv[k], *value = k + 1 < argc ? argv[k + 1] : "";
+        const char *word = argv[k], *value = k + 1 < argc ? argv[k + 1] : "", **text = text_of(words, word);
         if (strcmp(word, "--help") == 0) return printf("%s%s", USAGE, HELP) < 0 ? ENDS_BROKEN : ENDS_WELL;
         if (strcmp(word, "--version") == 0) return printf("afdx_play %s\n", AFDX_VERSION) < 0 ? ENDS_BROKEN : ENDS_WELL;
-        bool has_value = true, is_right = true;
-        if (strcmp(word, "--speed") == 0) {
-            char *end = NULL;
-            words->speed = strtod(value, &end);
-            is_right = end != value && *end == '\0' && words->speed >= 0.001 && words->speed <= 1000;
-        } else if (strcmp(word, "--capture") == 0) {
-            words->capture = value;
-        } else if (strcmp(word, "--fault") == 0) {
-            is_right = read_fault(&words->faults, value);
-        } else {
-            has_value = false;
+        bool is_right = true, has_value = text != NULL || read_value(words, word, value, &is_right);
+        if (text != NULL) *text = value;
+        if (!has_value) {
             bool is_path = word[0] != '-' && count < 4, is_priority = strcmp(word, "--priority") == 0;
             bool is_as_written = strcmp(word, "--as-written") == 0;
             is_right = is_path || is_priority || is_as_written;
             words->has_priority |= is_priority;
             words->as_written |= is_as_written;
-            if (is_path) words->paths[count++] = word;
+            if (is_path) paths[count++] = word;
         }
         k += has_value;
         if (!is_right || k >= argc) {
@@ -53,7 +94,47 @@ int read_words(int argc, char **argv, struct words *words) {
         }
     }
     words->as_written |= has_to_rehearse(&words->faults);
-    if (count == 4) return -1;
+    if (find_clash(&words->faults, &one, &other)) {
+        fprintf(stderr, "--fault %s: with `%s` it can't come true\n%s", other, one, USAGE);
+        return ENDS_UNREAD;
+    }
+    if (place_words(words, paths, count)) return -1;
     fputs(USAGE, stderr);
     return ENDS_UNREAD;
+}
+
+/* Becomes `afdx_bench schedule`: the program beside this one, or else on the PATH. */
+static void become_schedule(const struct words *words, int out) {
+    char path[4096] = "";
+    const char *command[] = {"afdx_bench", "schedule", words->plan, "--traffic", words->traffic, "--seconds", words->seconds,
+                             words->seed == NULL ? NULL : "--seed", words->seed, NULL};
+    ssize_t length = readlink("/proc/self/exe", path, sizeof path - sizeof "afdx_bench");
+    char *name = length < 0 ? NULL : strrchr(path, '/');
+    if (dup2(out, STDOUT_FILENO) < 0) _exit(ENDS_BROKEN);
+    if (name != NULL) {
+        strcpy(name + 1, "afdx_bench");
+        execv(path, (char *const *)command);
+    }
+    execvp("afdx_bench", (char *const *)command);
+    fprintf(stderr, "read failed\nafdx_bench: %s\n", strerror(errno));
+    _exit(ENDS_BROKEN);
+}
+
+uint8_t *read_text(const struct words *words, size_t *length, int *ends) {
+    int ways[2], status = 0;
+    *ends = ENDS_BROKEN;
+    if (words->script != NULL) return read_file(words->script, length);
+    if (pipe(ways) != 0) return perror("afdx_bench"), NULL;
+    pid_t child = fork();
+    if (child == 0) become_schedule(words, ways[1]);
+    close(ways[1]);
+    FILE *file = fdopen(ways[0], "rb");
+    uint8_t *text = child < 0 || file == NULL ? NULL : read_all(file, length);
+    if (text == NULL) perror("afdx_bench");
+    if (file != NULL) fclose(file);
+    bool is_made = child > 0 && waitpid(child, &status, 0) == child && WIFEXITED(status) && WEXITSTATUS(status) == 0;
+    if (is_made) return text;
+    if (WIFEXITED(status) && WEXITSTATUS(status) != 0) *ends = WEXITSTATUS(status);
+    free(text);
+    return NULL;
 }

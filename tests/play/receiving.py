@@ -6,6 +6,7 @@ runs it.
 It prints a line once it listens. For each line that it reads it prints what came since the last one, as JSON: `frames`, pairs
 of the kernel's time in nanoseconds and the bytes in hexadecimal, and `messages`, by UDP port.
 """
+import errno
 import json
 import os
 import socket
@@ -61,6 +62,11 @@ def frames_of(one: socket.socket) -> list[tuple[int, str]]:
             data, more, *_ = one.recvmsg(2048, 64, socket.MSG_DONTWAIT)
         except BlockingIOError:
             return frames
+        except OSError as error:
+            # (the interface was down meanwhile)
+            if error.errno != errno.ENETDOWN:
+                raise
+            continue
         times = [value for _, kind, value in more if kind == TIMESTAMPS]
         seconds, nanos = struct.unpack("qq", times[0]) if times else (0, 0)
         if data.startswith(FRONT):

@@ -81,16 +81,31 @@ def stalled(command: list[str], stalls: int) -> subprocess.CompletedProcess:
     return subprocess.CompletedProcess(command, process.returncode, out, error)
 
 
+def cut_off(command: list[str], receiver: Receiver, name: str) -> subprocess.CompletedProcess:
+    """A run in which the peer of an interface is down for a fifth of a second."""
+    process = subprocess.Popen(command, stdout=subprocess.PIPE, stderr=subprocess.PIPE, text=True)
+    for state in ("down", "up"):
+        time.sleep(0.2)
+        inside_of = ["nsenter", "-t", str(receiver.process.pid), "-n"]
+        subprocess.run([*inside_of, "ip", "link", "set", f"peer{name}", state], check=True)
+    out, error = process.communicate(timeout=120)
+    return subprocess.CompletedProcess(command, process.returncode, out, error)
+
+
 class Played:
     """A run of the player: how it ended, what came on each network, and its capture."""
 
-    def __init__(self, rig, plan: str, script: str, *words: str, stop: int = 0, by_clock: bool = False, stalls: int = 0) -> None:
+    def __init__(self, rig, plan: str, script: str, *words: str, stop: int = 0, by_clock: bool = False, stalls: int = 0,
+                 cut: str = "") -> None:
         for name, text in (("plan.toml", plan), ("script.txt", script)):
             with open(name, "w", encoding="utf-8") as file:
                 file.write(text)
         command = [rig.program, "plan.toml", "script.txt", "wireA", "wireB", "--capture", "frames.pcapng", *words]
         command += [] if by_clock else ["--as-written"]
-        self.ran = stopped(command, stop) if stop else stalled(command, stalls)
+        if cut:
+            self.ran = cut_off(command, rig.receivers[cut], cut)
+        else:
+            self.ran = stopped(command, stop) if stop else stalled(command, stalls)
         time.sleep(0.3)
         self.came = {name: receiver.take() for name, receiver in rig.receivers.items()}
         status, out, error = model.run(plan, script.encode())
@@ -124,6 +139,12 @@ class Played:
                     at = next((k for k, (one, other) in enumerate(zip(found, wanted[name])) if one != other), min(len(found), len(wanted[name])))
                     faults.append(f"network {name}: {len(found)} frames {where} for {len(wanted[name])}, the first other one is {at + 1}")
         return faults
+
+    def least_gap(self, link: int, name: str) -> float:
+        """The least gap of a link in a network by the kernel's times, in microseconds, as the last lines tell it."""
+        row = re.search(rf"(?m)^link {link}: .*, least gap in microseconds:.*? {name} (\d+\.\d)", self.ran.stdout)
+        trying.check(row, self.ran.stdout)
+        return float(row[1])
 
     def said(self) -> list[str]:
         """What is wrong with the run's end and notes."""
@@ -165,11 +186,27 @@ def try_clean(played: Played) -> tuple[list[str], str]:
         own = [data for data in wanted["A"] if data[8:12] == link]
         row = f"link {int(link, 16)}: frames {len(own)}, bytes {sum(map(len, own)) // 2}, messages "
         faults += [] if row in played.ran.stdout else [f"not said: {row}"]
+    for name, frames in played.came.items():
+        faults += wrong_gaps(played, name, frames["frames"])
     found = played.found()
     faults += [f"the judge finds {dict(found)}"] if found else []
     late = re.search(r"(?m)^polls (\d+), late in microseconds: half (\d+), 99.99 % (\d+), greatest (\d+)$", played.ran.stdout)
     faults += [] if late and int(late[2]) <= int(late[3]) <= int(late[4]) else ["lateness isn't said"]
     return faults, late[0] if late else ""
+
+
+def wrong_gaps(played: Played, name: str, came: list[tuple[int, str]]) -> list[str]:
+    """What is wrong with the least gaps that are told, beside those at the receiver: its kernel has the time of each frame a
+    little after the sender's."""
+    last, least = {}, {}
+    for at, data in came:
+        link = int(data[8:12], 16)
+        if link in last:
+            least[link] = min(least.get(link, at), at - last[link])
+        last[link] = at
+    far = {link: (played.least_gap(link, name), gap / 1000) for link, gap in least.items()}
+    return [f"network {name}, link {link}: a least gap of {told} us told, of {seen} seen"
+            for link, (told, seen) in far.items() if abs(told - seen) > max(300, played.late / 1000)]
 
 
 def gaps(captured: list[tuple[int, str]], links: int, late: int) -> list[str]:
@@ -185,10 +222,10 @@ def gaps(captured: list[tuple[int, str]], links: int, late: int) -> list[str]:
 
 
 def changed(frames: list[str], word: str, first: int, second: str = "") -> list[str]:
-    """The frames with a fault on purpose."""
+    """The frames with a fault on purpose; one that isn't sent is empty."""
     frames, k = list(frames), first - 1
     if word == "lose":
-        del frames[k]
+        frames[k] = ""
     elif word == "repeat":
         frames.insert(k, frames[k])
     elif word == "swap":
@@ -238,7 +275,7 @@ def try_fault(rig, text: str) -> tuple[list[str], str]:
     played = Played(rig, plan_of(1), script_of(1, 60, 7), "--fault", text)
     word, network, first, *second = text.split()
     wanted = all_of(played)
-    wanted[network] = changed(wanted[network], word, int(first), *second)
+    wanted[network] = [*filter(None, changed(wanted[network], word, int(first), *second))]
     faults = played.differences(wanted) + played.said()
     is_last = played.ran.stdout.splitlines()[-1] == f"faults on purpose, after the library: {text}"
     faults += [] if is_last else [played.ran.stdout[-200:]]
@@ -248,27 +285,31 @@ def try_fault(rig, text: str) -> tuple[list[str], str]:
             early = (played.frames[name][at][0] - played.frames[name][at - 1][0]) * 1000 - (int(second[0]) * 1000 if name == network else 0)
             gap = played.captured[name][at][0] - played.captured[name][at - 1][0]
             faults += [] if abs(gap - early) <= played.late else [f"network {name}: a gap of {gap} ns for {early}, late {played.late}"]
+            faults += wrong_gaps(played, name, played.came[name]["frames"])
     return faults + misjudged(played, text), ""
 
 
 def try_more(rig, came_true: list[str], others: list[str]) -> tuple[list[str], str]:
     """A run with faults on purpose, some of which don't come true: frames are changed by those that do, and swapped as they are
-    then. The last lines name both."""
+    then. The last lines name both, and the status is 3 if there are others."""
     played = Played(rig, plan_of(1), script_of(1, 60, 7), *(it for text in others + came_true for it in ("--fault", text)))
     wanted = all_of(played)
     for word, network, *more in sorted((text.split() for text in came_true), key=lambda words: words[0] == "swap"):
         wanted[network] = changed(wanted[network], word, int(more[0]), *more[1:])
+    wanted = {name: [*filter(None, frames)] for name, frames in wanted.items()}
     fronts = (("faults on purpose, after the library:", came_true), ("faults that weren't made:", others))
     last = "".join(f"{front} {', '.join(texts)}\n" for front, texts in fronts if texts)
     is_told = "".join(played.ran.stdout.partition("faults ")[1:]) == last
+    played.wanted = (3 if others else played.wanted[0], played.wanted[1])
     return played.differences(wanted) + played.said() + ([] if is_told else [played.ran.stdout[-200:]]), ""
 
 
 MORE = [
     ([], ["lose A 999999"]),
-    (["lose A 10"], ["lose B 999999", "flip A 20 5e9", "swap A 5 999999", "early B 999999 800"]),
-    (["down A 20"], ["early A 25 800"]),
-    (["lose A 12"], ["early A 12 300", "repeat A 12", "number A 12 200"]),
+    (["lose A 10"], ["lose B 999999", "flip A 20 5e9", "swap A 5 999999", "early B 888888 800"]),
+    (["lose A 5", "swap A 5 6"], []),
+    (["down A 20", "early A 12 300"], []),
+    (["flip A 5 1a", "flip A 5 1b"], []),
     (["number A 5 200", "swap A 5 6"], []),
     (["swap A 5 6", "flip A 6 1a", "number A 6 7"], []),
     (["swap A 5 6", "swap A 6 7"], []),
@@ -345,6 +386,32 @@ def try_down(rig) -> tuple[list[str], str]:
     return faults + ([] if is_told else [f"{played.ran}"]), ""
 
 
+def try_lost_carrier(rig) -> tuple[list[str], str]:
+    """A carrier that is lost for a while: the interface takes all frames, and sends some of them. The last lines tell how many
+    it lost, and the status is 4."""
+    played = Played(rig, plan_of(1), script_of(1, 600, 8, 12), by_clock=True, cut="B")
+    sent = {name: len(played.came[name]["frames"]) for name in NETWORKS}
+    took = {name: int(re.search(rf"(?m)^network {name}, .*: took (\d+) of \1 frames$", played.ran.stdout)[1]) for name in NETWORKS}
+    line = f"network B, wireB: lost {took['B'] - sent['B']} of these, by its counters: sent {sent['B']}, "
+    is_told = line in played.ran.stdout and "wireA: lost" not in played.ran.stdout
+    is_well = is_told and played.ran.returncode == 4 and sent["A"] == took["A"] and 5 < took["B"] - sent["B"] < took["B"] - 5
+    return [] if is_well else [f"{played.ran}, came {sent}"], f"{took['B'] - sent['B']} of {took['B']} frames lost"
+
+
+def try_repeat(rig) -> tuple[list[str], str]:
+    """Three rounds of a script are one of its lines three times, each round from the last time of the one before. A script of
+    one time is played once."""
+    lines, faults = script_of(2, 60, 9).splitlines()[:-2], []
+    last = max(int(line.split()[1]) for line in lines if line.startswith("at "))
+    longer = [f"at {int(line.split()[1]) + k * last}" if line.startswith("at ") else line for k in range(3) for line in lines]
+    for text, wanted in (("\n".join(lines), "\n".join(longer)), ("send 11 00\nat 5\n", "send 11 00\nat 5\n")):
+        played = Played(rig, plan_of(2), text, "--repeat", "3")
+        status, out, _ = model.run(plan_of(2), wanted.encode())
+        frames = {name: [line.split()[2] for line in out.splitlines() if line.startswith(f"{name} ")] for name in NETWORKS}
+        faults += played.differences(frames) + ([] if played.ran.returncode == status else [f"{played.ran}"])
+    return faults, f"{len(frames['A'])} frames at one time"
+
+
 def try_speed(rig) -> tuple[list[str], str]:
     """Four times as fast, a script of 400 ms takes 100 ms, and the frames are the same."""
     faults = []
@@ -385,15 +452,24 @@ def try_words(program: str) -> Iterator[tuple[str, list[str]]]:
     bad = ["", "lose", "lose A", "lose C 1", "lose A 0", "lose A 1 2", "lose A x", "swap A 6 5", "swap A 5", "number A 1 256", "flip A 1 zz",
            "flip A 1 5ea", "early A 1", "down A 1 1", "frob A 1", "lose A -1", "lose A +1", "lose A 18446744073709551616", "swap A 1 -1",
            "number A 1 -1", "flip A 1 -1"]
+    clashes = [("down A 20", "early A 25 800"), ("lose A 12", "early A 12 300"), ("lose B 12", "number B 12 200"), ("down A 9", "swap A 5 9"),
+               ("early A 9 1", "early A 9 2"), ("number A 9 1", "number A 9 2"), ("repeat A 9", "repeat A 9"), ("flip A 9 1", "flip A 9 1")]
     rows += [(["demo.toml", *rest, "--fault", it], 2, "--fault") for it in bad]
+    rows += [(["demo.toml", *rest, *(it for text in pair for it in ("--fault", text))], 2, f"--fault {last}: with `")
+             for first, second in clashes
+             for pair, last in (((first, second), second), ((second, first), first if first[:5] == second[:5] else second))]
     rows += [(["demo.toml", *rest, "--speed", it], 2, "--speed") for it in ("", "0", "x", "1001", "2x", "-1", "nan")]
-    rows += [(["demo.toml", *rest, it], 2, it) for it in ("--speed", "--fault", "--capture")]
+    rows += [(["demo.toml", *rest, "--repeat", it], 2, "--repeat") for it in ("", "x", "2x", "-1", "+1", "18446744073709551616")]
+    rows += [(["demo.toml", *rest, it], 2, it) for it in ("--speed", "--fault", "--capture", "--repeat", "--traffic")]
+    traffic = ["--traffic", "none.csv", "--seconds", "1"]
+    rows += [(["demo.toml", *rest, *traffic], 2, USAGE), (["demo.toml", *rest[1:], *traffic[:2]], 2, USAGE),
+             (["demo.toml", *rest, "--seed", "1"], 2, USAGE), (["demo.toml", *rest[1:], *traffic], 4, "read failed\nnone.csv: No such file")]
     for words, status, start in rows:
         ran = subprocess.run([program, *words], capture_output=True, text=True, check=False)
         is_well = ran.returncode == status and ran.stderr.startswith(start) and not ran.stdout
         yield f"afdx_play {' '.join(words)}: status {status}", [] if is_well else [f"{ran}"]
     told = subprocess.run([program, "--help"], capture_output=True, text=True, check=False)
-    lacks = [word for word in ("--as-written", "--speed", "--capture", "--fault", "--priority", *(it.split()[0] for it in FAULTS)) if word not in told.stdout]
+    lacks = [word for word in ("--as-written", "--speed", "--repeat", "--traffic", "--capture", "--fault", "--priority", *(it.split()[0] for it in FAULTS)) if word not in told.stdout]
     yield "afdx_play --help", [f"it lacks {lacks}: {told}"] if lacks or told.returncode or told.stderr else []
     version = subprocess.run([program, "--version"], capture_output=True, text=True, check=False).stdout
     yield "afdx_play --version", [] if version == f"afdx_play {re.search('AFDX_VERSION .(.*).', trying.text_of('crates/afdx/afdx.h'))[1]}\n" else [version]
@@ -426,6 +502,8 @@ def inside(program: str, millis: int) -> int:
             tries.attempt(f"by the clock, held up {stalls} times", lambda stalls=stalls: try_clock(rig, stalls))
         tries.attempt("as written, held up twice", lambda: try_written(rig))
         tries.attempt("an interface that is down", lambda: try_down(rig))
+        tries.attempt("a carrier that is lost", lambda: try_lost_carrier(rig))
+        tries.attempt("--repeat 3", lambda: try_repeat(rig))
         tries.attempt("--speed 4", lambda: try_speed(rig))
         tries.attempt("ends", lambda: try_ends(rig))
     finally:
