@@ -3,9 +3,8 @@ ghost use Rattle.std.specs.Prelude.{◌≡◌, ◌+◌, ◌≤◌, ◌↔◌, fa
 ghost use Rattle.afdx_frame.specs.Layout.{breach, link_broken, framed, has_total, has_fragment, internet_broken, has_destination, first_nonzero, end_broken, layout_broken, IsReadable};
 ghost use Rattle.afdx_frame.specs.Profile.{total_length, IsFrame};
 
-use crate::field::{self, GREATEST_DATAGRAM, MORE_FRAGMENTS, OFFSET_MODULUS, word_at};
+use crate::field::{self, GREATEST_DATAGRAM, MORE_FRAGMENTS, OFFSET_MODULUS, word_at, word_sum};
 use crate::net::{GREATEST_FRAME, INTERFACE_A, INTERFACE_B, SHORTEST_FRAME};
-use crate::sum::word_sum;
 
 /// A rule of the layout of frames, in the order in which they are tested. `seen` is the byte at which the field begins,
 /// and `wanted` is 0, unless the rule says otherwise.

@@ -6,8 +6,8 @@ ghost use Rattle.afdx_frame.specs.Template.{unfilled, Origin, IsTemplate};
 ghost use Rattle.afdx_frame.specs.Checksum.{word_sum};
 ghost use Rattle.afdx_frame.specs.Frame.{addresses};
 
+use crate::field::word_sum;
 use crate::net::{GREATEST_FRAME, INTERFACE_A};
-use crate::sum::word_sum;
 use afdx_plan::PortPlan;
 use std::marker::Model;
 

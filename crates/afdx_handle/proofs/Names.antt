@@ -7,7 +7,7 @@ pub use Rattle.afdx_tx.specs.Phases.{Runs}
 pub use Rattle.afdx_handle.specs.Polling.{PollsTx, tx_of}
 pub use Rattle.afdx_handle.specs.contracts.end_system.EndSystem.{the_view}
 pub use Rattle.afdx_handle.specs.declared.handle.Home.{Home}
-pub use Rattle.afdx_handle.specs.declared.stage.Stage.{Stage}
+pub use Rattle.afdx_handle.specs.declared.end_system.Stage.{Stage}
 pub use Rattle.afdx_tx.specs.Run.{accepted_in}
 pub use Rattle.afdx_tx.specs.Emitter.{Tx}
 pub use Rattle.afdx_tx.specs.Gathering.{IsGatheredTx}

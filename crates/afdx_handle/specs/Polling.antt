@@ -5,8 +5,8 @@ use Rattle.afdx_tx.specs.Calls.{TellsNextDue}
 use Rattle.afdx_tx.specs.Phases.{Runs, StaysLawful}
 use Rattle.afdx_tx.specs.Report.{Polls}
 use Rattle.afdx_tx.specs.declared.turns.Report.{Report}
-use Rattle.afdx_handle.specs.declared.stage.Stage.{Stage}
-use Rattle.afdx_handle.specs.declared.stage.Stage.TheVariants.{Sending, Draining}
+use Rattle.afdx_handle.specs.declared.end_system.Stage.{Stage}
+use Rattle.afdx_handle.specs.declared.end_system.Stage.TheVariants.{Sending, Draining}
 
 -- the first time after the last poll at which a link may release a frame and couldn't then, or the greatest number of
 -- 64 bits

@@ -4,7 +4,7 @@ use Rattle.script_text.specs.declared.line_meaning.Line.{Line}
 use Rattle.script_text.specs.declared.line_meaning.Line.TheVariants.{Send, At, Close, Nothing}
 use Rattle.afdx_handle.specs.declared.script.ScriptLine.{ScriptLine}
 use Rattle.afdx_frame.specs.Header.{link_in, sub_in, number_in}
-use Rattle.afdx_handle.specs.declared.release.FrameRelease.{FrameRelease}
+use Rattle.afdx_handle.specs.declared.answer.FrameRelease.{FrameRelease}
 
 -- the message of a line, no bytes if it isn't a send
 abbrev pub message_in : Line → List ℕ

@@ -1,7 +1,8 @@
 //! The numbers that calls return, as `afdx.h` has them, the meaning of the other numbers there, and
-//! the counts in the layout of C.
-ghost use Rattle.std.specs.Prelude.{◌≡◌};
+//! what they write: counts and releases in the layout of C, and bytes in a buffer.
+ghost use Rattle.std.specs.Prelude.{◌≡◌, ◌+◌, ◌≤◌, ◌++◌, length, take, drop, slice_index};
 ghost use Rattle.afdx_handle.specs.Numbers.{net_of, refusal_number, standing_bits};
+ghost use Rattle.afdx_handle.specs.Script.{IsReleaseOf};
 
 use afdx_frame::Net;
 use afdx_tx::Refusal;
@@ -98,4 +99,40 @@ pub struct LinkCounts {
     pub bytes: u64,
     pub messages: u64,
     pub last: u64,
+}
+
+/// The virtual link of a frame, the index of its sub-VL, and its sequence number.
+#[repr(C)]
+#[derive(Clone, Copy)]
+pub struct FrameRelease {
+    pub vl: u16,
+    pub sub: u8,
+    pub number: u8,
+}
+
+/// Returns the byte at an index, or 0 if there are fewer.
+fn byte_at(bytes: &[u8], i: usize) -> u8
+    ensures { result ≡ slice_index bytes.now i }
+{
+    if i < bytes.len() { bytes[i] } else { 0 }
+}
+
+/// Returns the release of a frame, or of any bytes: those that are missing count as 0.
+#[tactic(auto, using(std::proofs::Common::arith))]
+pub fn release_of(frame: &[u8]) -> FrameRelease
+    ensures { IsReleaseOf frame.now result }
+{
+    FrameRelease {
+        vl: 256 * byte_at(frame, 4) as u16 + byte_at(frame, 5) as u16,
+        sub: byte_at(frame, 19) % 4,
+        number: byte_at(frame, frame.len().saturating_sub(1)),
+    }
+}
+
+/// Writes bytes into a buffer from an index on.
+pub(crate) fn put_at(buffer: &mut [u8], at: usize, bytes: &[u8])
+    requires { at + length bytes.now ≤ length buffer.old }
+    ensures { buffer.new ≡ take at buffer.old ++ bytes.now ++ drop (at + length bytes.now) buffer.old }
+{
+    buffer[at..at + bytes.len()].copy_from_slice(bytes);
 }

@@ -1,25 +1,109 @@
-//! An end system, as a handle owns it.
-ghost use Rattle.std.specs.Prelude.{◌≡◌, ℕ, length, vec_capacity, ◌≢◌, ◌<◌, ◌≤◌, ◌+◌, ◌⊎◌, ◌↔◌, false, true};
+//! An end system, as a handle owns it, with its emitter before and after its ports are gathered.
+ghost use Rattle.std.specs.Prelude.{◌≡◌, ℕ, length, vec_capacity, ◌≢◌, ◌<◌, ◌≤◌, ◌+◌, ◌⊎◌, ◌↔◌, false, true, IsErr, OnErr, OnOk, IfOk, IsNone, IfSome, map};
 ghost use Rattle.afdx_handle.specs.Polling.{tx_of, is_gathered};
 ghost use Rattle.afdx_handle.specs.EndSystem.{EndView, IsEndSystem, end_view, PollsEnd, ClosesEnd, FailsEnd, before_of, made_for, made_at, IsAllSent};
-ghost use Rattle.redundant_mux.specs.Lines.{is_alive};
-ghost use Rattle.afdx_tx.specs.Calls.{LacksSub};
+ghost use Rattle.redundant_mux.specs.Lines.{is_alive, with_failing};
+ghost use Rattle.afdx_tx.specs.Calls.{LacksSub, TellsNextDue};
 ghost use Rattle.afdx_handle.specs.Numbers.{line_of, standing_bits};
-ghost use Rattle.afdx_handle.specs.Listing.{with_front, all_made, bytes_of, lengths_of};
+ghost use Rattle.afdx_handle.specs.Listing.{with_front, all_made, bytes_of, lengths_of, port_id, link_id};
 ghost use Rattle.std.specs.List.{concat};
+ghost use Rattle.afdx_tx.specs.Emitter.{LacksLink};
+ghost use Rattle.afdx_legal.specs.Counting.{counts_in};
+ghost use Rattle.afdx_legal.specs.Streams.{own_stream};
+ghost use Rattle.afdx_tx.specs.Phases.{Runs, StaysLawful};
+ghost use Rattle.afdx_tx.specs.Report.{PollsUnreported};
 
 use crate::answer::{
-    BOTH_DOWN, DONE, GATHERED, NO_SUB, NOT_GATHERED, SMALL_BUFFER, TIME_BACK, standing_bits,
+    BOTH_DOWN, DONE, GATHERED, NO_SUB, NOT_GATHERED, SMALL_BUFFER, TIME_BACK, put_at, standing_bits,
 };
 use crate::block::Block;
-use crate::listing::put_at;
-use crate::stage::Stage;
 use afdx_frame::Net;
-use afdx_plan::VlId;
-use afdx_tx::TxPort;
-use std::alloc::Global;
+use afdx_plan::{Config, LinkPlan, PortPlan, VlId};
+use afdx_tx::{Draining, Emitter, PollFault, TxPort};
+use redundant_mux::{LastTime, Outbox, Standing};
+use status_board::Counts;
 use std::marker::Model;
-use std::sync::Arc;
+
+/// An emitter over two outboxes, which keep the frames of one poll, before or after its ports are gathered.
+#[derive(Drop)]
+pub enum Stage {
+    Sending(Emitter<Outbox<LastTime>, Outbox<LastTime>>),
+    Draining(Draining<Outbox<LastTime>, Outbox<LastTime>>),
+}
+
+// The answer of `$answer` over the emitter of a stage, which both phases have.
+macro_rules! in_phase {
+    ($stage:expr, $it:ident => $answer:expr) => {
+        match $stage {
+            Stage::Sending($it) => $answer,
+            Stage::Draining($it) => $answer,
+        }
+    };
+}
+
+impl Stage {
+    /// The time of the last poll, in microseconds.
+    pub fn now(&self) -> u64
+        ensures { result ≡ (tx_of self.now).moment }
+    {
+        in_phase!(self, it => it.now())
+    }
+
+    /// A network.
+    pub fn network(&self, net: Net) -> &Outbox<LastTime>
+        ensures { result.now.handed ≡ line_of net (tx_of self.now).lines }
+    {
+        match net {
+            Net::A => in_phase!(self, it => it.network_a()),
+            Net::B => in_phase!(self, it => it.network_b()),
+        }
+    }
+
+    /// Makes a network fail at each later frame.
+    pub fn fail(&mut self, net: Net)
+        ensures tx { tx_of self.new ≡ record (tx_of self.old) { lines = with_failing net (tx_of self.old).lines } }
+        ensures stage { is_gathered self.new ≡ is_gathered self.old }
+    {
+        in_phase!(self, it => it.fail(net))
+    }
+
+    /// The configuration.
+    pub fn config(&self) -> &Config
+        ensures { result.now ≡ (tx_of self.now).plan }
+    {
+        in_phase!(self, it => it.config())
+    }
+
+    /// The first time after the last poll at which a link may release a frame and couldn't then.
+    pub fn next_due(&self) -> Option<u64>
+        ensures { TellsNextDue (tx_of self.now) result }
+    {
+        in_phase!(self, it => it.next_due())
+    }
+
+    /// The counts of a link, by its identifier.
+    pub fn counts(&self, vl: VlId) -> Option<Counts>
+        ensures missing { IsNone result ↔ LacksLink (tx_of self.now).plan vl.0 }
+        ensures counts { IfSome result (λ counts.
+            counts ≡ counts_in (own_stream vl.0 (tx_of self.now).lines.a (tx_of self.now).lines.b)) }
+    {
+        in_phase!(self, it => it.counts(vl))
+    }
+
+    /// Gives each link its turn at `now`, in microseconds, and returns which networks are up. An error changes
+    /// nothing.
+    pub fn poll(&mut self, now: u64) -> Result<Standing, PollFault>
+        requires { (tx_of self.old).moment ≤ now }
+        ensures both_down { IsErr result ↔ (is_alive (tx_of self.old).lines ≡ false) }
+        ensures unchanged { OnErr result (self.new ≡ self.old) }
+        ensures stage { is_gathered self.new ≡ is_gathered self.old }
+        ensures lawful { StaysLawful (is_gathered self.old) (tx_of self.old) (tx_of self.new) }
+        ensures told { IfOk result (λ standing. PollsUnreported now (tx_of self.old) standing (tx_of self.new)) }
+        ensures run { OnOk result (Runs (is_gathered self.old) now (tx_of self.old) (tx_of self.new)) }
+    {
+        in_phase!(self, it => Ok(it.poll_unreported(now)?))
+    }
+}
 
 /// An end system: its emitter, the ports in it, how many frames each network had accepted before the last poll, and the
 /// block whose address is its mark. Each port that is out owns that block too. So no other end system has the
@@ -194,5 +278,25 @@ impl EndSystem {
         };
         *done = if draining.is_done() { 1 } else { 0 };
         DONE
+    }
+}
+
+/// Writes the identifiers of ports.
+pub fn write_port_ids(ports: &[PortPlan], ids: &mut [u16])
+    requires { length ports.now ≤ length ids.old }
+    ensures { ids.new ≡ with_front (map port_id ports.now) ids.old }
+{
+    for k in 0..ports.len() {
+        ids[k] = ports[k].id.0;
+    }
+}
+
+/// Writes the identifiers of links.
+pub fn write_link_ids(links: &[LinkPlan], ids: &mut [u16])
+    requires { length links.now ≤ length ids.old }
+    ensures { ids.new ≡ with_front (map link_id links.now) ids.old }
+{
+    for k in 0..links.len() {
+        ids[k] = links[k].id.0;
     }
 }

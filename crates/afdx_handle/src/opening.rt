@@ -8,9 +8,8 @@ ghost use Rattle.afdx_handle.specs.Numbers.{IsOneOf};
 
 use crate::answer::{DONE, SMALL_BUFFER};
 use crate::block::Block;
-use crate::end_system::EndSystem;
+use crate::end_system::{EndSystem, Stage};
 use crate::handle::Home;
-use crate::stage::Stage;
 use afdx_config::{ConfigFault, read_config};
 use afdx_tx::open_tx;
 use redundant_mux::Outbox;

@@ -6,9 +6,8 @@ ghost use Rattle.afdx_handle.specs.Held.{end_of, port_of, port_block, HoldsNothi
 ghost use Rattle.afdx_handle.specs.Numbers.{IsOneOf};
 
 use crate::answer::{DONE, GATHERED, MEMORY, NO_PORT, NOT_HELD, PORT_MISSING, WRONG_HANDLE};
-use crate::end_system::EndSystem;
+use crate::end_system::{EndSystem, Stage};
 use crate::handle::{Home, OwnPort};
-use crate::stage::Stage;
 use afdx_tx::TxPort;
 use std::alloc::Global;
 use std::mem;

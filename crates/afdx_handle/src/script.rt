@@ -4,8 +4,7 @@ ghost use Rattle.afdx_handle.specs.Listing.{with_front};
 ghost use Rattle.afdx_handle.specs.Numbers.{IsOneOf};
 ghost use Rattle.afdx_handle.specs.Script.{laid_out, message_in};
 
-use crate::answer::{DONE, SMALL_BUFFER};
-use crate::listing::put_at;
+use crate::answer::{DONE, SMALL_BUFFER, put_at};
 use script_text::Line;
 
 /// The version of the library: 10,000 times its first number, 100 times its second, and its third.

@@ -4,13 +4,39 @@ ghost use Rattle.afdx_handle.specs.declared.handle.Home.{Home};
 ghost use Rattle.afdx_handle.specs.Sealed.{sealed_owns};
 ghost use Rattle.afdx_handle.specs.contracts.handle.Home.{the_row as home_row};
 ghost use Rattle.std.specs.Coded.{coded_option};
-
-mod parts;
+ghost use Rattle.std.specs.Box.Ownership.{box_owns};
 
 use crate::handle::Home;
 use parts::Parts;
 use std::alloc::Global;
 use std::marker::Model;
+
+// A `Box` whose fields the parent module can name.
+mod parts {
+    use std::alloc::Allocator;
+    use std::marker::Model;
+
+    pub struct Parts<T, A: Allocator> {
+        pub(super) ptr: *mut T,
+        pub(super) alloc: A,
+        pub ghost value: { T },
+    }
+
+    impl<T, A: Allocator> Model for Parts<T, A> {
+        ghost also_owns = { λ p. box_owns (A.dealloc_token p.alloc) T.row p.ptr p.value };
+    }
+
+    impl<T, A: Allocator> Parts<T, A> {
+        pub fn of(b: Box<T, A>) -> Parts<T, A>
+        where
+            T: Drop,
+            ensures { result.value ≡ b.value }
+        {
+            let (ptr, alloc) = Box::into_raw_with_allocator(b);
+            Parts { ptr, alloc }
+        }
+    }
+}
 
 /// A box whose type names no other type, or nothing. Dropping it frees nothing: its content is then C's.
 #[repr(C)]

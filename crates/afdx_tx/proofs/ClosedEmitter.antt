@@ -1,5 +1,5 @@
 -- An emitter with one closed sub-VL is still sound, and the total is what it accepted.
-use Rattle.afdx_tx.proofs.Names.{ℕ, ◌≡◌, ◌<◌, ◌≤◌, List, length, set, arith, subst, Result, OnErr, IfOk, cases_lt, length-set, get_or_past, Plan, IsPlan, link_plan_at, queue_of, Held, LinkState, held_at, link_at, no_link, ClosesLink, Tx, queues_in, LacksSub, ClosesTx, Some, length-map, total_in, PortView, accepted_in, IsGatheredTx, AreReceiving, IsReceiving, Seen, receiving, gathered}
+use Rattle.afdx_tx.proofs.Names.{ℕ, ◌≡◌, ◌<◌, ◌≤◌, List, length, set, arith, subst, cases_lt, length-set, get_or_past, Plan, IsPlan, link_plan_at, queue_of, Held, LinkState, held_at, link_at, no_link, ChangesSub, ChangesQueue, Closes, Tx, queues_in, LacksSub, ClosesTx, Some, length-map, total_in, PortView, accepted_in, IsGatheredTx, AreReceiving, IsReceiving, Seen, receiving, gathered}
 use Rattle.afdx_tx.proofs.SoundEmitter.{alike_queues}
 use Rattle.afdx_tx.proofs.KeptLinks.{KeepsSub, KeepLinks, one_link, one_count, one_each}
 
@@ -20,7 +20,7 @@ pub record ClosedLinks (old new : List LinkState) : Type 0 where
 
 -- One link had one sub-VL closed.
 pub links_closed : (old : List LinkState) (place sub total : ℕ) (new : LinkState)
-    → ClosesLink (link_at old place) sub total new → place < length old → ClosedLinks old (set old place new)
+    → ChangesSub (ChangesQueue (Closes total)) sub (link_at old place) new → place < length old → ClosedLinks old (set old place new)
 links_closed old place sub total new c within = record {
   count = length-set old place new;
   same = grind (arith, one_link);
@@ -60,11 +60,6 @@ pub closes_links : (old : Tx) (vl sub total : ℕ) (new : Tx) → ClosesTx old v
 closes_links old vl sub total new c =
     subst (ClosedLinks old.links) (grind arith)
     (links_closed old.links c.place sub total (link_at new.links c.place) c.closes (closes_within old vl sub total new c))
-
--- Closed or refused, the queues have the same identities.
-pub answered_queues : {E : Type 0} (answer : Result ℕ E) (old : Tx) (vl sub : ℕ) (new : Tx) → OnErr answer (new ≡ old)
-    → IfOk answer (λ (total : ℕ). ClosesTx old vl sub total new) → queues_in new.links ≡ queues_in old.links
-answered_queues answer old vl sub new unchanged closed = grind (arith, queues_same, closes_links)
 
 -- The total of a sub-VL is the number of its accepted messages once the ports are gathered.
 pub total_whole : (old : Tx) (ports : List PortView) (new : Tx) (k s total : ℕ) → IsGatheredTx old ports new

@@ -41,7 +41,7 @@ pub use Rattle.vl_link.proofs.Choosing.{each_set, stream_more}
 pub use Rattle.vl_link.proofs.LinkTurn.{HasItems, IsOwn, Turned, kept_stream, kept_turn, link_turn, other_stream, other_turn, turn_at}
 pub use Rattle.vl_link.proofs.QueueLooks.{items_taken, same_name, same_total, fragments_some}
 pub use Rattle.vl_link.proofs.TurnLaws.{turn_endures, turn_seen, turns_endure, turns_push, turns_seen}
-pub use Rattle.vl_link.specs.Calls.{ClosesLink, BecomesDue, RestsUntil, StaysAsIs, GathersLink, LacksSender, LinkMakesSender, LinkTakesBack, TakesBack, back_of, TellsLinkDone}
+pub use Rattle.vl_link.specs.Calls.{ChangesSub, ChangesQueue, Closes, MakesSender, BecomesDue, RestsUntil, StaysAsIs, GathersLink, LacksSender, TakesBack, back_of, TellsLinkDone}
 pub use Rattle.vl_link.specs.Kept.{IsKept, IsLinkTied, IsPortOf, AreOfEndSystem, plans_of}
 pub use Rattle.vl_link.specs.Links.{Asks, Follows, HasOwnItems, Held, IsLinkOfPlan, IsSameLink, LinkState, Serves, held_at, held_view, link_at, no_link, no_link_plan, nothing_held, sent_by, sent_of, taken_by}
 pub use Rattle.vl_link.specs.Seen.{IsKnownWhole, IsReceiving, Seen, gathered, known_of, queue_of, receiving, taken_of}

@@ -1,5 +1,5 @@
 -- New links, while the senders of their ports are made, and an emitter before its first call.
-use Rattle.afdx_tx.proofs.Names.{ℕ, ◌≤◌, true, subst, All, All-head, All-tail, All-filter, All-cons, IsPort, greatest_of, ◌≡◌, ◌+◌, ◌<◌, List, [], ◌∷◌, ◌++◌, length, take, get_or, set, arith, refl, ap, ◌∙◌, below_more, Option, None, and_right, ne_eqb, length-append, get_or_append_left, get_or_push, length-set, LinkPlan, PortPlan, Plan, IsPlan, link_plan_at, port_plan_at, link_place, most_calls, QueueName, SenderView, SubVl, queue_of, Held, LinkState, held_at, link_at, nothing_held, no_link, LacksSender, LinkMakesSender, ports_of_sub, held_queue, link_queues, queues_in, IsOpenedSub, AreOpenedSubs, IsOpenedLink, AreOpenedLinks, queue_at, IsFreshPort, each_set, both_ways, ext_get_or, fresh_lines, fresh_log, fresh_in_step, no_link_plan, AreFreshLinks, plans, IsSound, max, fold}
+use Rattle.afdx_tx.proofs.Names.{ℕ, ◌≤◌, true, subst, All, All-head, All-tail, All-filter, All-cons, IsPort, greatest_of, ◌≡◌, ◌+◌, ◌<◌, List, [], ◌∷◌, ◌++◌, length, take, get_or, set, arith, refl, ap, ◌∙◌, below_more, Option, None, and_right, ne_eqb, length-append, get_or_append_left, get_or_push, length-set, LinkPlan, PortPlan, Plan, IsPlan, link_plan_at, port_plan_at, link_place, most_calls, QueueName, SenderView, SubVl, queue_of, Held, LinkState, held_at, link_at, nothing_held, no_link, LacksSender, ChangesSub, ChangesQueue, MakesSender, ports_of_sub, held_queue, link_queues, queues_in, IsOpenedSub, AreOpenedSubs, IsOpenedLink, AreOpenedLinks, queue_at, IsFreshPort, each_set, both_ways, ext_get_or, fresh_lines, fresh_log, fresh_in_step, no_link_plan, AreFreshLinks, plans, IsSound, max, fold}
 use Rattle.std.proofs.Math.ListN.{get_or-map}
 use Rattle.afdx_tx.proofs.KeptLinks.{one_count, one_each}
 use Rattle.afdx_tx.proofs.PortLink.{few_ports, IsAt, seats, seats_more, seats_within, on_own, on_sub_vl, seat_at, others_at}
@@ -47,7 +47,7 @@ with_subs own ports first more link state subs opened these = grind arith
 -- The link of the next port, after its sender was made.
 pub link_more : (config : Plan) (old : LinkState) (place k s calls : ℕ) (sender : SenderView) (new : LinkState) → IsAt config place k s
     → IsOpenedLink config.end_system config.ports (take place config.ports) (link_plan_at config.links k) old
-    → LinkMakesSender old s calls sender new
+    → ChangesSub (ChangesQueue (MakesSender calls sender)) s old new
     → IsOpenedLink config.end_system config.ports (take (place + 1) config.ports) (link_plan_at config.links k) new
 link_more config old place k s calls sender new at opened makes =
     let plan = link_plan_at config.links k in
@@ -66,7 +66,7 @@ link_more config old place k s calls sender new at opened makes =
 -- All links, one of which made the sender of the next port.
 pub opened_more : (config : Plan) (links : List LinkState) (place k s calls : ℕ) (sender : SenderView) (new : LinkState) → IsPlan config
     → IsAt config place k s → AreOpenedLinks config (take place config.ports) links (length config.links)
-    → LinkMakesSender (link_at links k) s calls sender new
+    → ChangesSub (ChangesQueue (MakesSender calls sender)) s (link_at links k) new
     → AreOpenedLinks config (take (place + 1) config.ports) (set links k new) (length config.links)
 opened_more config links place k s calls sender new valid at are makes =
     let within : k < length links = grind arith in
@@ -81,7 +81,7 @@ opened_more config links place k s calls sender new valid at are makes =
     }
 
 pub names_more : (links : List LinkState) (k s calls : ℕ) (sender : SenderView) (new : LinkState) → k < length links
-    → LinkMakesSender (link_at links k) s calls sender new → queues_in (set links k new) ≡ queues_in links
+    → ChangesSub (ChangesQueue (MakesSender calls sender)) s (link_at links k) new → queues_in (set links k new) ≡ queues_in links
 names_more links k s calls sender new within makes = alike_queues links (set links k new) (length-set links k new)
     (grind (arith, one_count))
     (λ m t _. one_each links k s new within makes.same (λ old held. held_queue held ≡ held_queue old) (λ held. refl)
@@ -90,7 +90,7 @@ names_more links k s calls sender new within makes = alike_queues links (set lin
 -- The port at the next place, with its sender.
 pub fresh_port : (config : Plan) (links : List LinkState) (place k s : ℕ) (plan : PortPlan) (sender : SenderView) (new : LinkState)
     → IsAt config place k s → AreOpenedLinks config (take place config.ports) links (length config.links)
-    → LinkMakesSender (link_at links k) s most_calls sender new
+    → ChangesSub (ChangesQueue (MakesSender most_calls sender)) s (link_at links k) new
     → plan ≡ port_plan_at config.ports place → k ≡ link_place config plan → s ≡ plan.sub
     → IsFreshPort config (queues_in links) place (record { place = place; plan = plan; sender = sender })
 fresh_port config links place k s plan sender new at are makes is link sub = grind (arith, queue_at_is)

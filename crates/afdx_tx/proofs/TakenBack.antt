@@ -1,5 +1,5 @@
 -- The queues of an emitter take back the senders of its ports.
-use Rattle.afdx_tx.proofs.Names.{ℕ, zero, suc, ◌≡◌, ◌+◌, ◌<◌, ◌≤◌, List, [], ◌∷◌, Bool, true, false, cond, length, set, arith, refl, ap, subst, ◌∙◌, sym, ⊎_elim, All, Contains, and_parts, eqb-true, length-set, get_or-set_same, All-contains, Contains-push, Contains-append_left, PortPlan, Plan, IsPlan, link_plan_at, port_plan_at, link_place, SenderView, Brought, brought_by, Seen, receiving, gathered, Held, LinkState, held_at, link_at, no_link, TakesBack, back_of, LinkTakesBack, AreLinksOf, AreReceiving, ports_of_sub, queues_in, PortView, HasEveryPlace, BelongsTo, HasOwnMessages, index_of, OnlyTakesBack, OnlyTakeBack, IsTakenBack, AreFull, take-length, YieldsList, YieldsList-from_shown, drain_items, drain_steps, Drain}
+use Rattle.afdx_tx.proofs.Names.{ℕ, zero, suc, ◌≡◌, ◌+◌, ◌<◌, ◌≤◌, List, [], ◌∷◌, Bool, true, false, cond, length, set, arith, refl, ap, subst, ◌∙◌, sym, ⊎_elim, All, Contains, and_parts, eqb-true, length-set, get_or-set_same, All-contains, Contains-push, Contains-append_left, PortPlan, Plan, IsPlan, link_plan_at, port_plan_at, link_place, SenderView, Brought, brought_by, Seen, receiving, gathered, Held, LinkState, held_at, link_at, no_link, TakesBack, back_of, ChangesSub, ChangesQueue, AreLinksOf, AreReceiving, ports_of_sub, queues_in, PortView, HasEveryPlace, BelongsTo, HasOwnMessages, index_of, OnlyTakesBack, OnlyTakeBack, IsTakenBack, AreFull, take-length, YieldsList, YieldsList-from_shown, drain_items, drain_steps, Drain}
 use Rattle.afdx_tx.proofs.KeptLinks.{one_link, one_count, one_each}
 use Rattle.afdx_tx.proofs.SoundEmitter.{plan_is, count_is}
 use Rattle.afdx_tx.proofs.PortLink.{seats, seats_more, on_sub_vl, link_within}
@@ -10,44 +10,39 @@ drains_all {A} {Z} {s} xs e = subst (YieldsList (drain_steps {X = A} {Z = Z}) (�
     (YieldsList-from_shown (drain_steps {X = A} {Z = Z}) (λ x. x) drain_items (λ u t p. ap length p.0) (λ u x t p. p.0) s)
 
 -- The senders that were back still are, and so is this one.
-more_back : (old : Seen) (sender : SenderView) (new : Seen) (b : Brought) → TakesBack old sender new → Contains (back_of old) b
+more_back : (old : Seen) (sender : SenderView) (new : Seen) (b : Brought) → TakesBack sender old new → Contains (back_of old) b
     → Contains (back_of new) b
 more_back (receiving old) sender new b takes was = rw takes (Contains-append_left old.back (brought_by sender ∷ []) b
     was)
 more_back (gathered old) sender new b takes was = absurd takes
 
-one_back : (old : Seen) (sender : SenderView) (new : Seen) → TakesBack old sender new → Contains (back_of new) (brought_by sender)
+one_back : (old : Seen) (sender : SenderView) (new : Seen) → TakesBack sender old new → Contains (back_of new) (brought_by sender)
 one_back (receiving old) sender new takes = rw takes (Contains-push old.back (brought_by sender))
 one_back (gathered old) sender new takes = absurd takes
 
--- a sub-VL whose queue took back a sender; all else is unchanged
-record SubTakes (old new : Held) : Type 0 where
-  pub same : new ≡ record old { seen = new.seen }
-  pub queue : OnlyTakesBack old.seen new.seen
-
 -- One sender was taken back.
 pub take_one : (links : List LinkState) (k s : ℕ) (sender : SenderView) (new : LinkState) → k < length links
-    → LinkTakesBack (link_at links k) s sender new → OnlyTakeBack links (set links k new)
+    → ChangesSub (ChangesQueue (TakesBack sender)) s (link_at links k) new → OnlyTakeBack links (set links k new)
 take_one links k s sender new within takes =
-    let here : SubTakes (held_at (link_at links k).subs s) (held_at new.subs s) = grind arith in
-    let all = one_each links k s new within takes.same SubTakes
+    let here : ChangesQueue OnlyTakesBack (held_at (link_at links k).subs s) (held_at new.subs s) = grind arith in
+    let all = one_each links k s new within takes.same (ChangesQueue OnlyTakesBack)
     (grind arith) here in
     grind (arith, length-set, one_link, one_count)
 
 -- A port that was taken back still is.
 pub stays_back : (config : Plan) (links : List LinkState) (k s : ℕ) (sender : SenderView) (new : LinkState) (port : PortView)
-    → k < length links → LinkTakesBack (link_at links k) s sender new → IsTakenBack config links port
+    → k < length links → ChangesSub (ChangesQueue (TakesBack sender)) s (link_at links k) new → IsTakenBack config links port
     → IsTakenBack config (set links k new) port
 stays_back config links k s sender new port within takes was =
     let all = one_each links k s new within takes.same
     (λ (old after : Held). Contains (back_of old.seen) (brought_by port.sender) → Contains (back_of after.seen) (brought_by port.sender))
-    (λ _ h. h) (more_back _ sender _ (brought_by port.sender) takes.takes.queue) in
+    (λ _ h. h) (more_back _ sender _ (brought_by port.sender) takes.change.queue) in
     grind arith
 
 -- The port of the sender is taken back.
 pub comes_back : (config : Plan) (links : List LinkState) (k s : ℕ) (new : LinkState) (port : PortView)
     → k < length links → k ≡ link_place config port.plan → s ≡ port.plan.sub
-    → LinkTakesBack (link_at links k) s port.sender new → HasOwnMessages port → IsTakenBack config (set links k new) port
+    → ChangesSub (ChangesQueue (TakesBack port.sender)) s (link_at links k) new → HasOwnMessages port → IsTakenBack config (set links k new) port
 comes_back config links k s new port within link sub takes messages = grind (arith, get_or-set_same, no_link, one_back)
 
 -- the port of a sub-VL with this index is at this place

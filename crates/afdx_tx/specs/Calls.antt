@@ -2,7 +2,7 @@
 use Rattle.std.specs.Prelude.{ℕ, ◌≡◌, ◌<◌, length, slice_set, ◌^◌, List, false, min, Option, Some, None, ◌↔◌, IsNone, IfSome}
 use Rattle.afdx_plan.specs.Config.{Plan, link_plan_at}
 use Rattle.vl_link.specs.Links.{link_at, LinkState}
-use Rattle.vl_link.specs.Calls.{ClosesLink, RestsUntil, BecomesDue}
+use Rattle.vl_link.specs.Calls.{ChangesSub, ChangesQueue, Closes, RestsUntil, BecomesDue}
 use Rattle.afdx_tx.specs.Emitter.{Tx, IsLinkAt, LacksLink}
 use Rattle.redundant_mux.specs.Lines.{Lines}
 use Rattle.vl_link.specs.Turn.{may_release}
@@ -26,7 +26,7 @@ pub record ClosesTx (old : Tx) (vl sub total : ℕ) (new : Tx) : Type 0 where
   pub place : ℕ
   pub at : IsSubAt old.plan vl sub place
   pub same : new ≡ record old { links = slice_set old.links place (link_at new.links place) }
-  pub closes : ClosesLink (link_at old.links place) sub total (link_at new.links place)
+  pub closes : ChangesSub (ChangesQueue (Closes total)) sub (link_at old.links place) (link_at new.links place)
 
 -- none of the first `many` links that may not release a frame now may do so before this time
 abbrev pub NoneDueBefore : (now : ℕ) → List LinkState → Lines → (many at : ℕ) → Type 0

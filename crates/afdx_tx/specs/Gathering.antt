@@ -10,7 +10,7 @@ use Rattle.vl_link.specs.Links.{Held, LinkState, held_at, link_at}
 use Rattle.afdx_tx.specs.Emitter.{Tx}
 use Rattle.afdx_tx.specs.Ports.{PortView, HasOwnMessages, index_of}
 use Rattle.afdx_tx.specs.Run.{accepted_in}
-use Rattle.vl_link.specs.Calls.{back_of, BecomesWhole, GathersLink, AreFullSubs}
+use Rattle.vl_link.specs.Calls.{ChangesQueue, back_of, BecomesWhole, GathersLink, AreFullSubs}
 
 -- a queue that may have taken back senders; all else is unchanged
 abbrev pub OnlyTakesBack : (old new : Seen) → Type 0
@@ -68,16 +68,11 @@ pub record HasOwnPart (tx : Tx) (ports : List PortView) (place : ℕ) : Type 0 w
       (index_of tx.plan.ports place) port.sender.own port.sender.places
   pub accepted : port_messages tx.plan (accepted_in tx.links) place ≡ port.sender.own
 
--- a sub-VL whose queue's accepted messages are known whole; all else is unchanged
-pub record IsGatheredSub (old new : Held) : Type 0 where
-  pub same : new ≡ record old { seen = new.seen }
-  pub queue : BecomesWhole old.seen new.seen
-
 -- a link whose queues' accepted messages are known whole; all else is unchanged
 pub record IsGatheredLink (old new : LinkState) : Type 0 where
   pub same : new ≡ record old { subs = new.subs }
   pub count : length new.subs ≡ length old.subs
-  pub each : (s : ℕ) → s < length old.subs → IsGatheredSub (held_at old.subs s) (held_at new.subs s)
+  pub each : (s : ℕ) → s < length old.subs → ChangesQueue BecomesWhole (held_at old.subs s) (held_at new.subs s)
 
 -- An emitter whose accepted messages are known whole, and those of each port are its own list, in
 -- order; all else is unchanged.

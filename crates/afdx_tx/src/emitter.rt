@@ -1,20 +1,19 @@
 //! The emitter, while its ports send and after they were taken back.
-ghost use Rattle.std.specs.Prelude.{Bool, false, true, length, ◌≡◌, ◌≤◌, ◌↔◌, List, [], IsErr, OnErr, OnOk, IfOk, ℕ, IfErr};
+ghost use Rattle.std.specs.Prelude.{Bool, false, true, length, ◌≡◌, ◌≤◌, ◌↔◌, List, [], IsErr, OnErr, OnOk, IfOk, ℕ, IfErr, ◌<◌, slice_set, IsTrue};
 ghost use Rattle.std.specs.Box.{boxed_slice_items};
 ghost use Rattle.afdx_tx.specs.Emitter.{AllWaitUntil, Tx, IsSound, IsFreshTx, AreFreshLinks, queues_in};
 ghost use Rattle.afdx_tx.specs.Calls.{Reaches, Publishes, ShowsCounts, TellsNextDue, LacksSub, ClosesTx};
 ghost use Rattle.afdx_tx.specs.Phases.{IsInPhase, Conforms, AreOfPorts, Runs, StaysLawful};
-ghost use Rattle.redundant_mux.specs.Lines.{is_alive, with_failing};
+ghost use Rattle.redundant_mux.specs.Lines.{is_alive, with_failing, log};
 ghost use Rattle.afdx_tx.specs.declared.turns.Release.{Release};
 ghost use Rattle.afdx_tx.specs.Report.{IsTold, Polls, PollsUnreported};
-ghost use Rattle.status_board.specs.Views.{published};
+ghost use Rattle.status_board.specs.Views.{published, seen, last_of, links_of, IsReading};
 ghost use Rattle.afdx_plan.specs.Config.{IsPlan};
-ghost use Rattle.afdx_legal.specs.Accepted.{AreAllowed};
+ghost use Rattle.afdx_legal.specs.Accepted.{AreAllowed, IsAllDone};
 ghost use Rattle.afdx_tx.specs.Run.{accepted_in};
 ghost use Rattle.afdx_tx.specs.Ports.{AreOpenedWith, LacksPlace};
 ghost use Rattle.afdx_tx.specs.Gathering.{IsGatheredTx};
 
-use crate::draining::Draining;
 use crate::fault::{NoSuchSub, PollFault};
 use crate::gather::{gather_links, has_every_place};
 use crate::open::link_of_sub;
@@ -24,7 +23,7 @@ use afdx_frame::{FrameBuffer, Net};
 use afdx_plan::{Config, Networks, VlId};
 use arrayvec::ArrayVec;
 use redundant_mux::{Failable, Mux, Network, Standing};
-use status_board::{Board, Counts};
+use status_board::{Board, Counts, Monitor, laws};
 use std::boxed::BoxedSlice;
 use std::marker::{Model, PhantomData};
 use std::sync::Wait;
@@ -328,5 +327,36 @@ impl<A: Network + Drop, B: Network + Drop> Emitter<A, B> {
             emptied: Some(ports),
             phase: PhantomData,
         })
+    }
+}
+
+/// Transmits what is left in the queues after the ports were taken back. No more messages are accepted.
+/// A due link has something to send exactly if one of its accepted messages isn't wholly released.
+pub type Draining<A, B> = Emitter<A, B, Drain>;
+
+impl<A: Network + Drop, B: Network + Drop> Emitter<A, B, Drain> {
+    /// Whether at least one network accepted each fragment of each accepted message. After a frame
+    /// was lost with the last network that carries its link, this stays false.
+    pub fn is_done(&self) -> bool
+        ensures done { IsTrue result ↔ IsAllDone self.now.plan (accepted_in self.now.links) (log self.now.lines) }
+        ensures conforms { Conforms self.now }
+    {
+        all_done(&self.links)
+    }
+
+    /// Reads the link at a place of the configuration by the emitter's monitor, as `Monitor::read`
+    /// does, with one load. Since both ends of the board are here, it returns the last published
+    /// counts of the link, or zeros before the first. Allocates nothing.
+    pub fn read_last<R: Wait>(&mut self, rt: &R, monitor: &mut Monitor, link: usize) -> Counts
+        requires published { link < length self.old.board }
+        requires read { link < links_of monitor.old }
+        requires same { (published self.old.board link).cell ≡ (seen monitor.old link).cell }
+        ensures draining { self.new ≡ self.old }
+        ensures reading { IsReading (seen monitor.old link) result (seen monitor.new link) }
+        ensures others { monitor.new ≡ slice_set monitor.old link (seen monitor.new link) }
+        ensures links { links_of monitor.new ≡ links_of monitor.old }
+        ensures last { result ≡ last_of self.old.board link }
+    {
+        laws::read_last(rt, &mut self.board, monitor, link)
     }
 }

@@ -2,7 +2,6 @@
 //! are transmitted as numbered, spaced frames on two networks.
 #![tactic(auto)]
 
-mod draining;
 mod emitter;
 mod fault;
 mod gather;
@@ -11,8 +10,7 @@ mod open;
 mod port;
 mod turns;
 
-pub use draining::Draining;
-pub use emitter::{Drain, Emitter, Phase, Sending};
+pub use emitter::{Drain, Draining, Emitter, Phase, Sending};
 pub use fault::{NoSuchSub, OpenFault, PollFault, Refusal, SendFault};
 pub use open::open_tx;
 pub use port::TxPort;

@@ -19,7 +19,7 @@ pub use Rattle.capture.specs.Interfaces.{known, network_of, ◌>>=◌}
 unfoldable pub use Rattle.capture.specs.Interfaces.{first_option, time_of, with_option, with_options}
 pub use Rattle.capture.specs.Order.{Captured, IsInTime, RiseFrom, captured_moments, moments, next_net, on}
 unfoldable pub use Rattle.capture.specs.Order.{in_order}
-pub use Rattle.script_text.specs.FrameLog.{first_moment}
+pub use Rattle.redundant_mux.specs.Memory.{first_moment}
 pub use Rattle.capture.specs.ReadBack.{Fits, ReadsBack, packet_for, packets_on}
 pub use Rattle.capture.specs.Recording.{Content, Moved, Progress, Recorded, Recording, at_start, content, ended, moved, no_packet, or_stop, read_capture, read_from, recorded, recorded_if, then_read, with_bytes, with_packet}
 unfoldable pub use Rattle.capture.specs.Recording.{block_content, body_of, content_of, enhanced, interface_content, next, read_within, section_content}

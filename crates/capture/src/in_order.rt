@@ -4,7 +4,7 @@ ghost use Rattle.std.specs.Iterator.{item_count};
 ghost use Rattle.capture.specs.Order.{TakesPacket, Captured, in_order, next_net as net_of_next};
 
 use afdx_frame::Net;
-use script_text::{FrameLog, LogFrames};
+use redundant_mux::{FrameLog, LogFrames};
 use std::marker::Model;
 
 /// A frame of a network, with its time in microseconds.

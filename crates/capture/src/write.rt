@@ -7,7 +7,7 @@ ghost use Rattle.capture.specs.Order.{shown};
 use crate::in_order::{InOrder, SentFrame};
 use afdx_frame::{GREATEST_FRAME, Net};
 use byteorder::{LittleEndian, WriteBytesExt};
-use script_text::FrameLog;
+use redundant_mux::FrameLog;
 use std::io::{self, Write};
 
 // The section header block: its type, its length, the byte-order magic, version 1.0, a section of

@@ -1,5 +1,5 @@
 -- The frames that two networks accepted, in one log and by network, and which networks are up.
-use Rattle.std.specs.Prelude.{ℕ, List, Bool, map, filter, ◌≡◌, ◌⊎◌, ◌↔◌, ◌+◌, ◌≤◌, [], ◌∷◌, ◌++◌, true, false, ◌&&◌, ◌||◌, All}
+use Rattle.std.specs.Prelude.{OnOk, OnErr, Result, ℕ, List, Bool, map, filter, ◌≡◌, ◌⊎◌, ◌↔◌, ◌+◌, ◌≤◌, [], ◌∷◌, ◌++◌, true, false, ◌&&◌, ◌||◌, All}
 use Rattle.afdx_plan.specs.declared.link_plan.Networks.{Networks}
 use Rattle.afdx_plan.specs.declared.link_plan.Networks.TheVariants.{OnlyA, OnlyB}
 use Rattle.afdx_plan.specs.Plan.{carries_a, carries_b}
@@ -14,6 +14,12 @@ pub record Entry : Type 0 where
 
 abbrev pub entry : ℕ → List ℕ → Entry
 entry at frame = record { at = at; frame = frame }
+
+-- the answer to one frame: the network accepts the entry, or has the same frames and one failure more
+pub record IsAnswer {X E : Type 0} (answer : Result X E) (e : Entry) (old new : List Entry)
+    (failures_old failures_new : ℕ) : Type 0 where
+  pub ok : OnOk answer ((new ≡ old ++ e ∷ []) × (failures_new ≡ failures_old))
+  pub err : OnErr answer ((new ≡ old) × (failures_new ≡ failures_old + 1))
 
 -- an entry, with its frame for network A, and the networks that it is for
 pub record Logged : Type 0 where

@@ -1,6 +1,10 @@
--- Networks in memory: one that keeps all frames, and one that keeps the last that it accepted.
-use Rattle.std.specs.Prelude.{ℕ, List, [], Option, map, ◌≡◌, ◌≢◌, ◌⊎◌, ◌↔◌, ◌+◌, ◌-◌, ◌%◌, ◌^◌, ◌<◌, ◌≤◌, ◌∷◌, ◌++◌, Bool, true, false, length, get_or}
+-- Networks in memory: two that keep all frames, of which one has their bytes in one buffer, and one that keeps the last.
+use Rattle.std.specs.Prelude.{ℕ, List, [], Option, Some, None, All, take, drop, map, ◌≡◌, ◌≢◌, ◌⊎◌, ◌↔◌, ◌+◌, ◌-◌, ◌%◌, ◌^◌, ◌<◌, ◌≤◌, ◌∷◌, ◌++◌, Bool, true, false, length, get_or}
+use Rattle.std.specs.List.{sum_by}
+use Rattle.std.specs.Borrow.{Bor}
+use Rattle.afdx_frame.specs.declared.net.TheConstants.{GREATEST_FRAME}
 use Rattle.redundant_mux.specs.Lines.{Entry, entry}
+use Rattle.redundant_mux.specs.declared.frame_log.Mark.{Mark}
 use Rattle.redundant_mux.specs.declared.memory.Handed.{Handed}
 use Rattle.redundant_mux.specs.declared.outbox.Kept.{Kept}
 use Rattle.redundant_mux.specs.declared.outbox.Latest.{Latest}
@@ -65,3 +69,40 @@ pub record KeepsLast (earlier : Bool) (slots : List Kept) (latest : Latest) (cou
   pub other : 0 < latest.first → (latest.first < count) × ((entry_at handed (latest.first - 1)).at ≢ latest.at)
   pub each : (number : ℕ) (slot : Kept) → latest.first ≤ number → number < count → count ≤ number + 64
       → kept_entry (get_or slots ((number - latest.first) % 64) slot) ≡ entry_at handed number
+
+-- the frames, for how many frames and for how many bytes there is memory, and how often a hand failed
+pub record FrameLog : Type 0 where
+  pub handed : List Entry
+  pub frames_capacity : ℕ
+  pub bytes_capacity : ℕ
+  pub failures : ℕ
+
+-- how many bytes frames have
+abbrev pub bytes_in : List Entry → ℕ
+bytes_in handed = sum_by (λ (e : Entry). length e.frame) handed
+
+-- a log has no memory for one more frame, of `size` bytes
+abbrev pub LacksRoom : FrameLog → ℕ → Type 0
+LacksRoom log size =
+    (log.frames_capacity ≤ length log.handed) ⊎ (log.bytes_capacity < bytes_in log.handed + size)
+
+-- the frames whose bytes follow one another
+abbrev pub spelled : List Mark → List ℕ → List Entry
+spelled [] bytes = []
+spelled (mark ∷ marks) bytes = entry mark.at (take mark.len bytes) ∷ spelled marks (drop mark.len bytes)
+
+-- the bytes are those of these frames, of which each is at most the longest
+pub record AreInLog (marks : List Mark) (bytes : List ℕ) : Type 0 where
+  pub all : sum_by (λ (mark : Mark). mark.len) marks ≡ length bytes
+  pub short : All (λ (mark : Mark). mark.len ≤ GREATEST_FRAME) marks
+
+-- the time of the first frame
+abbrev pub first_moment : List Entry → Option ℕ
+first_moment [] = None
+first_moment (e ∷ es) = Some e.at
+
+-- the first frame is given, with its time, and the others are left
+abbrev pub TakesFrame : List Entry → Option (ℕ × Bor (List ℕ)) → List Entry → Type 0
+TakesFrame old None new = (old ≡ []) × (new ≡ [])
+TakesFrame old (Some given) new =
+    (old ≡ entry given.0 given.1.now ∷ new) × (length given.1.now ≤ GREATEST_FRAME)

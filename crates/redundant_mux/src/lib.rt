@@ -1,17 +1,16 @@
 //! Sends each frame to the networks that it is for, and abandons a network at its first failure.
-//! Has two networks: one keeps all frames in memory, the other the last 64, or those of its last time.
+//! Has three networks in memory: two keep all frames, one of them the bytes of all in one buffer, and the third keeps the
+//! last 64, or those of its last time.
 #![tactic(auto)]
 
+mod frame_log;
 mod memory;
 mod mux;
 mod network;
 mod outbox;
-mod span;
-mod trail;
 
+pub use frame_log::{FrameLog, LogFrames};
 pub use memory::{Handed, MemNetwork};
-pub use mux::{BothDown, Mux, Standing};
+pub use mux::{BothDown, Mux, Standing, Trail};
 pub use network::{Failable, HandFault, Network};
-pub use outbox::{Kept, Outbox, ROOM};
-pub use span::{LastFrames, LastTime, Span};
-pub use trail::Trail;
+pub use outbox::{Kept, LastFrames, LastTime, Outbox, ROOM, Span};

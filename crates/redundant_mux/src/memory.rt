@@ -1,6 +1,6 @@
 //! A network in memory.
 ghost use Rattle.std.specs.Prelude.{◌≡◌, ◌≢◌, ℕ, ◌+◌, ◌^◌, ◌<◌, ◌≤◌, List, [], ◌∷◌, ◌++◌, None, Some, true, false, length, OnOk, OnErr, IsErr, min, map, vec_len, vec_capacity};
-ghost use Rattle.redundant_mux.specs.Lines.{entry};
+ghost use Rattle.redundant_mux.specs.Lines.{IsAnswer, entry};
 ghost use Rattle.redundant_mux.specs.Memory.{entries, entry_of, Memory, unused};
 
 use crate::network::{HandFault, Network};
@@ -112,11 +112,8 @@ impl Network for MemNetwork {
     fn hand(&mut self, at: u64, frame: &[u8]) -> Result<(), HandFault>
         requires short { length frame.now ≤ GREATEST_FRAME }
         requires few { self.old.failures + 1 < 2 ^ 64 }
-        ensures ok { OnOk result (self.new.handed ≡ self.old.handed ++ entry at frame.now ∷ []) }
-        ensures ok_failures { OnOk result (self.new.failures ≡ self.old.failures) }
-        ensures err { OnErr result (self.new.handed ≡ self.old.handed) }
-        ensures err_failures { OnErr result (self.new.failures ≡ self.old.failures + 1) }
-
+        ensures answer { IsAnswer result (entry at frame.now)
+            self.old.handed self.new.handed self.old.failures self.new.failures }
         ensures fails { self.old.fails_at ≡ Some (self.old.asked + 1) → IsErr result }
         ensures only { OnErr result (self.old.fails_at ≢ Some (self.old.asked + 1) →
             self.old.capacity ≤ length self.old.handed) }
@@ -135,11 +132,8 @@ impl Network for MemNetwork {
     /// As `hand`, with the frame in its buffer, which is unchanged.
     fn hand_with(&mut self, at: u64, frame: &mut Box<FrameBuffer>) -> Result<(), HandFault>
         requires few { self.old.failures + 1 < 2 ^ 64 }
-        ensures ok { OnOk result (self.new.handed ≡ self.old.handed ++ entry at frame.old.value.items ∷ []) }
-        ensures ok_failures { OnOk result (self.new.failures ≡ self.old.failures) }
-        ensures err { OnErr result (self.new.handed ≡ self.old.handed) }
-        ensures err_failures { OnErr result (self.new.failures ≡ self.old.failures + 1) }
-
+        ensures answer { IsAnswer result (entry at frame.old.value.items)
+            self.old.handed self.new.handed self.old.failures self.new.failures }
         ensures fails { self.old.fails_at ≡ Some (self.old.asked + 1) → IsErr result }
         ensures only { OnErr result (self.old.fails_at ≢ Some (self.old.asked + 1) →
             self.old.capacity ≤ length self.old.handed) }

@@ -1,6 +1,6 @@
 //! The interface of a network.
 ghost use Rattle.std.specs.Prelude.{◌≡◌, ℕ, ◌+◌, ◌^◌, ◌<◌, ◌≤◌, Bool, true, false, List, [], ◌∷◌, ◌++◌, length, OnOk, OnErr, IsErr};
-ghost use Rattle.redundant_mux.specs.Lines.{Entry, entry};
+ghost use Rattle.redundant_mux.specs.Lines.{Entry, entry, IsAnswer};
 
 use afdx_frame::{FrameBuffer, GREATEST_FRAME};
 
@@ -22,10 +22,8 @@ pub trait Network {
     fn hand(&mut self, at: u64, frame: &[u8]) -> Result<(), HandFault>
         requires short { length frame.now ≤ GREATEST_FRAME }
         requires few { failures self.old + 1 < 2 ^ 64 }
-        ensures ok { OnOk result (handed self.new ≡ handed self.old ++ entry at frame.now ∷ []) }
-        ensures ok_failures { OnOk result (failures self.new ≡ failures self.old) }
-        ensures err { OnErr result (handed self.new ≡ handed self.old) }
-        ensures err_failures { OnErr result (failures self.new ≡ failures self.old + 1) }
+        ensures answer { IsAnswer result (entry at frame.now)
+            (handed self.old) (handed self.new) (failures self.old) (failures self.new) }
         ensures failing { failing self.new ≡ failing self.old }
         ensures fails { failing self.old ≡ true → IsErr result };
 
@@ -33,10 +31,8 @@ pub trait Network {
     /// What the buffer has afterwards is open.
     fn hand_with(&mut self, at: u64, frame: &mut Box<FrameBuffer>) -> Result<(), HandFault>
         requires few { failures self.old + 1 < 2 ^ 64 }
-        ensures ok { OnOk result (handed self.new ≡ handed self.old ++ entry at frame.old.value.items ∷ []) }
-        ensures ok_failures { OnOk result (failures self.new ≡ failures self.old) }
-        ensures err { OnErr result (handed self.new ≡ handed self.old) }
-        ensures err_failures { OnErr result (failures self.new ≡ failures self.old + 1) }
+        ensures answer { IsAnswer result (entry at frame.old.value.items)
+            (handed self.old) (handed self.new) (failures self.old) (failures self.new) }
         ensures failing { failing self.new ≡ failing self.old }
         ensures fails { failing self.old ≡ true → IsErr result }
     {

@@ -1,12 +1,11 @@
 //! A network that keeps the last frames that it accepted.
-ghost use Rattle.std.specs.Prelude.{◌≡◌, ◌+◌, ◌-◌, ◌%◌, ◌≤◌, ◌^◌, ◌<◌, ◌||◌, nat_eq, [], ◌∷◌, ◌++◌, true, false, if◌then◌else◌, length, IfOk, OnOk, OnErr, IsErr, ◌↔◌, IsSome, IfSome};
-ghost use Rattle.redundant_mux.specs.Lines.{entry, entries_of};
+ghost use Rattle.std.specs.Prelude.{Bool, ◌≡◌, ◌+◌, ◌-◌, ◌%◌, ◌≤◌, ◌^◌, ◌<◌, ◌||◌, nat_eq, [], ◌∷◌, ◌++◌, true, false, if◌then◌else◌, length, IfOk, OnOk, OnErr, IsErr, ◌↔◌, IsSome, IfSome};
+ghost use Rattle.redundant_mux.specs.Lines.{IsAnswer, entry, entries_of};
 ghost use Rattle.std.specs.Box.{boxed_slice_items};
 ghost use Rattle.redundant_mux.specs.Memory.{OutboxView, KeepsLast, fresh_outbox, IsKept, entry_at, kept_entry, Refuses};
 
+use crate::mux::Trail;
 use crate::network::{Failable, HandFault, Network};
-use crate::span::{LastFrames, LastTime, Span};
-use crate::trail::Trail;
 use afdx_frame::{FrameBuffer, GREATEST_FRAME};
 use afdx_plan::Networks;
 use std::alloc::{AllocError, Global};
@@ -16,6 +15,35 @@ use std::mem::swap;
 
 /// The greatest number of frames that are kept: the most of one poll, one per virtual link.
 pub const ROOM: usize = 64;
+
+/// Which of the last 64 frames that it accepted an outbox keeps: those of earlier times too, or only those of the last
+/// time.
+pub trait Span {
+    const EARLIER: bool;
+
+    ghost EARLIER: { Bool };
+}
+
+/// The last 64 frames.
+#[derive(Clone, Copy)]
+pub struct LastFrames;
+
+impl Span for LastFrames {
+    const EARLIER: bool = true;
+
+    ghost EARLIER = { true };
+}
+
+/// The frames of the last time, at most the last 64. They are written from the first slot on, so that few of them use
+/// little of the cache.
+#[derive(Clone, Copy)]
+pub struct LastTime;
+
+impl Span for LastTime {
+    const EARLIER: bool = false;
+
+    ghost EARLIER = { false };
+}
 
 /// A frame that is kept, and its time in microseconds.
 #[derive(Drop)]
@@ -171,11 +199,8 @@ impl<S: Span> Network for Outbox<S> {
     fn hand(&mut self, at: u64, frame: &[u8]) -> Result<(), HandFault>
         requires short { length frame.now ≤ GREATEST_FRAME }
         requires few { self.old.failures + 1 < 2 ^ 64 }
-        ensures ok { OnOk result (self.new.handed ≡ self.old.handed ++ entry at frame.now ∷ []) }
-        ensures ok_failures { OnOk result (self.new.failures ≡ self.old.failures) }
-        ensures err { OnErr result (self.new.handed ≡ self.old.handed) }
-        ensures err_failures { OnErr result (self.new.failures ≡ self.old.failures + 1) }
-
+        ensures answer { IsAnswer result (entry at frame.now)
+            self.old.handed self.new.handed self.old.failures self.new.failures }
         ensures failing { self.new.failing ≡ self.old.failing }
         ensures fails { Refuses self.old (IsErr result) }
     {
@@ -194,11 +219,8 @@ impl<S: Span> Network for Outbox<S> {
     /// As `hand`, without a copy: exchanges the buffer for that of an older frame.
     fn hand_with(&mut self, at: u64, frame: &mut Box<FrameBuffer>) -> Result<(), HandFault>
         requires few { self.old.failures + 1 < 2 ^ 64 }
-        ensures ok { OnOk result (self.new.handed ≡ self.old.handed ++ entry at frame.old.value.items ∷ []) }
-        ensures ok_failures { OnOk result (self.new.failures ≡ self.old.failures) }
-        ensures err { OnErr result (self.new.handed ≡ self.old.handed) }
-        ensures err_failures { OnErr result (self.new.failures ≡ self.old.failures + 1) }
-
+        ensures answer { IsAnswer result (entry at frame.old.value.items)
+            self.old.handed self.new.handed self.old.failures self.new.failures }
         ensures failing { self.new.failing ≡ self.old.failing }
         ensures fails { Refuses self.old (IsErr result) }
     {

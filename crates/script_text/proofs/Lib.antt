@@ -1,6 +1,5 @@
 mod FeedLemmas
 mod LineLemmas
-mod LogLemmas
 mod MeaningLemmas
 mod WordLemmas
 pub mod Written

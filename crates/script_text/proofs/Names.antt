@@ -10,8 +10,6 @@ pub use Rattle.std.proofs.KnownBytes.{Consumes-trans, Appends-trans}
 pub use Rattle.std.specs.List.{sum_by, slice_split, flat_map}
 pub use Rattle.std.proofs.lemmas.List.Sums.{sum_by-cons}
 pub use Rattle.redundant_mux.specs.Lines.{Entry, entry}
-pub use Rattle.script_text.specs.FrameLog.{spelled, AreInLog, bytes_in, FrameLog, LacksRoom}
-pub use Rattle.script_text.specs.declared.frame_log.Mark.{Mark}
 pub use Rattle.script_text.specs.Command.{message_of, port_number, moment_of, link_number, sub_number, is_blank, is_some_text, read_on, is_numeral}
 pub use Rattle.script_text.specs.Faults.{send_fault, at_fault, close_fault}
 pub use Rattle.script_text.specs.Meaning.{IsSaidSend, IsSaidAt, IsSaidClose}

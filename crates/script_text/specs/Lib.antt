@@ -1,6 +1,5 @@
 pub mod Command
 pub mod Faults
-pub mod FrameLog
 pub mod Lines
 pub mod Meaning
 pub mod Transcript

@@ -5,8 +5,8 @@ ghost use Rattle.redundant_mux.specs.Lines.{entry};
 ghost use Rattle.script_text.specs.Transcript.{net_name as name_of_net, frame_line, frame_lines, streams};
 
 use crate::faults::RunFault;
-use crate::frame_log::FrameLog;
 use afdx_frame::{GREATEST_FRAME, Net};
+use redundant_mux::FrameLog;
 use std::io;
 use std::io::Write;
 

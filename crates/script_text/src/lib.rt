@@ -4,7 +4,6 @@
 
 mod bytes;
 mod faults;
-mod frame_log;
 mod frames;
 mod line_meaning;
 mod line_text;
@@ -13,7 +12,6 @@ mod words;
 
 pub use bytes::Bytes;
 pub use faults::{LineFault, Refusal, RunFault};
-pub use frame_log::{FrameLog, LogFrames};
 pub use frames::write_streams;
 pub use line_meaning::{Line, read_line};
 pub use line_text::{LINE_LIMIT, Next, ReadFault, next_line};

@@ -2,7 +2,6 @@
 //! It has no lock, and no call waits.
 #![tactic(auto)]
 
-mod gathered;
 mod making;
 mod receiver;
 mod ring;
@@ -10,8 +9,7 @@ mod room;
 mod rule;
 mod sender;
 
-pub use gathered::Gathered;
 pub use making::{make, open_queue};
-pub use receiver::Receiver;
+pub use receiver::{Gathered, Receiver};
 pub use room::Room;
 pub use sender::{Sender, Why};

@@ -27,7 +27,7 @@ closes_totals old vl sub total new c k s =
     shut : LinkState
     shut = link_at new.links c.place
 
-    again : (before after : Seen) → Closes before total after → (t : ℕ) → total_of before ≡ Some t → total_of after ≡ Some t
+    again : (before after : Seen) → Closes total before after → (t : ℕ) → total_of before ≡ Some t → total_of after ≡ Some t
     again (receiving r) after closes t is = grind arith
     again (gathered g) after closes t is = absurd closes
 

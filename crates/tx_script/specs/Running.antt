@@ -3,7 +3,7 @@ use Rattle.std.specs.Prelude.{◌≡◌, ℕ, true, false, ◌<◌, List, [], le
 use Rattle.std.specs.Io.KnownBytes.{Appends, Keeps}
 use Rattle.afdx_plan.specs.Config.{Plan}
 use Rattle.script_text.specs.Faults.{IsFirstFault, IsFaultless}
-use Rattle.script_text.specs.FrameLog.{FrameLog}
+use Rattle.redundant_mux.specs.Memory.{FrameLog}
 use Rattle.script_text.specs.Lines.{first_line, after_feed}
 use Rattle.script_text.specs.Meaning.{meaning_of}
 use Rattle.script_text.specs.Transcript.{streams, ends_writing}

@@ -9,7 +9,8 @@ ghost use Rattle.script_text.specs.declared.faults.RunFault.TheVariants as RunFa
 
 use afdx_plan::{Config, PortId, VlId};
 use afdx_tx::{Emitter, TxPort, open_tx};
-use script_text::{FrameLog, Line, Message, Outcome, Refusal, RunFault};
+use redundant_mux::FrameLog;
+use script_text::{Line, Message, Outcome, Refusal, RunFault};
 use std::alloc::Global;
 use std::marker::Model;
 

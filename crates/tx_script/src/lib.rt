@@ -44,6 +44,6 @@ mod script;
 
 pub use script::{Played, play_script, run_script};
 pub use script_text::{
-    FrameLog, Line, LineFault, Message, Outcome, Refusal, RunFault, Summary, read_line, write_note,
+    Line, LineFault, Message, Outcome, Refusal, RunFault, Summary, read_line, write_note,
     write_streams,
 };

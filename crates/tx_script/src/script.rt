@@ -6,7 +6,8 @@ ghost use Rattle.tx_script.specs.Running.{Finishes, EndsEarly};
 use crate::bench::Bench;
 use crate::obey_lines::obey_lines;
 use afdx_plan::Config;
-use script_text::{Bytes, FrameLog, RunFault, Summary, write_streams};
+use redundant_mux::FrameLog;
+use script_text::{Bytes, RunFault, Summary, write_streams};
 use std::alloc::Global;
 use std::io::{Read, Write};
 

@@ -11,23 +11,23 @@ use Rattle.subvl_queue.specs.Messages.{AreItems}
 
 -- The queue is closed with this total, the final number of accepted messages. It has given no more
 -- than those, and if it was closed before, the total is the same.
-abbrev pub Closes : (old : Seen) → ℕ → (new : Seen) → Type 0
-Closes (receiving old) total new =
+abbrev pub Closes : (total : ℕ) → (old new : Seen) → Type 0
+Closes total (receiving old) new =
     (new ≡ receiving (closed old total))
     × (length old.taken ≤ total)
     × IfSome old.total (λ before. total ≡ before)
-Closes (gathered old) total new = ⊥
+Closes total (gathered old) new = ⊥
 
--- a sub-VL whose queue is closed; all else is unchanged
-pub record ClosesSub (old : Held) (total : ℕ) (new : Held) : Type 0 where
+-- a sub-VL whose queue changes in this way; all else is unchanged
+pub record ChangesQueue (Change : Seen → Seen → Type 0) (old new : Held) : Type 0 where
   pub same : new ≡ record old { seen = new.seen }
-  pub queue : Closes old.seen total new.seen
+  pub queue : Change old.seen new.seen
 
--- a link one of whose sub-VLs is closed; all else is unchanged
-pub record ClosesLink (old : LinkState) (sub total : ℕ) (new : LinkState) : Type 0 where
+-- a link whose sub-VL with this index changes in this way; all else is unchanged
+pub record ChangesSub (Change : Held → Held → Type 0) (sub : ℕ) (old new : LinkState) : Type 0 where
   pub within : sub < length old.subs
   pub same : new ≡ record old { subs = slice_set old.subs sub (held_at new.subs sub) }
-  pub closes : ClosesSub (held_at old.subs sub) total (held_at new.subs sub)
+  pub change : Change (held_at old.subs sub) (held_at new.subs sub)
 
 -- the link may not release a frame from one time until another
 abbrev pub RestsUntil : (from until : ℕ) → LinkPlan → Pace → Lines → Type 0
@@ -66,10 +66,10 @@ TellsLinkDone true link = (link.lost ≡ false) × TellsSubsDone true link.subs
 TellsLinkDone false link = (link.lost ≡ true) ⊎ HasSubLeft link.subs
 
 -- the queue has one more sender, with the next index and this limit of calls
-abbrev pub MakesSender : (old : Seen) (calls : ℕ) → SenderView → (new : Seen) → Type 0
-MakesSender (receiving old) calls sender new =
+abbrev pub MakesSender : (calls : ℕ) → SenderView → (old new : Seen) → Type 0
+MakesSender calls sender (receiving old) new =
     (sender ≡ new_sender old.queue old.capacity old.most calls old.ports) × (new ≡ receiving (one_more old))
-MakesSender (gathered old) calls sender new = ⊥
+MakesSender calls sender (gathered old) new = ⊥
 
 -- the queue has fewer than 64 senders, and none is back
 abbrev pub MayHaveMore : Seen → Type 0
@@ -77,9 +77,9 @@ MayHaveMore (receiving r) = (r.ports < 64) × (r.back ≡ [])
 MayHaveMore (gathered g) = ⊥
 
 -- the queue took this sender back
-abbrev pub TakesBack : (old : Seen) → SenderView → (new : Seen) → Type 0
-TakesBack (receiving old) sender new = new ≡ receiving (taken_back old sender)
-TakesBack (gathered old) sender new = ⊥
+abbrev pub TakesBack : SenderView → (old new : Seen) → Type 0
+TakesBack sender (receiving old) new = new ≡ receiving (taken_back old sender)
+TakesBack sender (gathered old) new = ⊥
 
 -- what the senders that are back brought
 abbrev pub back_of : Seen → List Brought
@@ -90,26 +90,6 @@ back_of (gathered g) = []
 pub record LacksSender (held : Held) : Type 0 where
   pub below : ports_of held.seen < length held.ports
   pub more : MayHaveMore held.seen
-
--- a sub-VL whose queue has one more sender; all else is unchanged
-pub record SubMakesSender (old : Held) (calls : ℕ) (sender : SenderView) (new : Held) : Type 0 where
-  pub same : new ≡ record old { seen = new.seen }
-  pub queue : MakesSender old.seen calls sender new.seen
-
--- a sub-VL whose queue took a sender back; all else is unchanged
-pub record SubTakesBack (old : Held) (sender : SenderView) (new : Held) : Type 0 where
-  pub same : new ≡ record old { seen = new.seen }
-  pub queue : TakesBack old.seen sender new.seen
-
--- a link one of whose sub-VLs has one more sender; all else is unchanged
-pub record LinkMakesSender (old : LinkState) (sub calls : ℕ) (sender : SenderView) (new : LinkState) : Type 0 where
-  pub same : new ≡ record old { subs = slice_set old.subs sub (held_at new.subs sub) }
-  pub makes : SubMakesSender (held_at old.subs sub) calls sender (held_at new.subs sub)
-
--- a link one of whose sub-VLs took a sender back; all else is unchanged
-pub record LinkTakesBack (old : LinkState) (sub : ℕ) (sender : SenderView) (new : LinkState) : Type 0 where
-  pub same : new ≡ record old { subs = slice_set old.subs sub (held_at new.subs sub) }
-  pub takes : SubTakesBack (held_at old.subs sub) sender (held_at new.subs sub)
 
 -- The accepted messages of the queue are known whole from now on: those taken, and those left. Each
 -- is of one of its ports, and if the queue was closed, their number is its total.

@@ -6,7 +6,7 @@ ghost use Rattle.redundant_mux.specs.Lines.{BothEndure, log, Entry, entry};
 ghost use Rattle.afdx_legal.specs.Streams.{link_stream};
 ghost use Rattle.vl_link.specs.Links.{pace_of, AreSubsOf, AreSameSubs, Serves, Follows, IsPicked, PassedOver, LinkState, IsLinkOfPlan, AreNamed, IsSameLink, held_at};
 ghost use Rattle.vl_link.specs.Turn.{may_release, is_lost};
-ghost use Rattle.vl_link.specs.Calls.{TellsSubsDone, AreFullSubs, GathersSubs, BecomesDue, StaysAsIs, TellsLinkDone, GathersLink, LacksSender, LinkMakesSender, LinkTakesBack, ClosesLink};
+ghost use Rattle.vl_link.specs.Calls.{TellsSubsDone, AreFullSubs, GathersSubs, BecomesDue, StaysAsIs, TellsLinkDone, GathersLink, LacksSender, ChangesSub, ChangesQueue, Closes, MakesSender, TakesBack};
 ghost use Rattle.afdx_frame.specs.Profile.{fragment_field};
 ghost use Rattle.afdx_frame.specs.Frame.{more_fragments};
 ghost use Rattle.std.specs.Box.{boxed_slice_items};
@@ -265,7 +265,7 @@ impl Link {
     pub fn close(&mut self, sub: u8) -> u64
         requires within { sub < length self.old.subs }
         requires receiving { IsReceiving (held_at self.old.subs sub).seen }
-        ensures { ClosesLink self.old sub result self.new }
+        ensures { ChangesSub (ChangesQueue (Closes result)) sub self.old self.new }
     {
         self.subs[sub as usize].close()
     }
@@ -277,7 +277,7 @@ impl Link {
         requires within { sub < length self.old.subs }
         requires lacks { LacksSender (held_at self.old.subs sub) }
         requires calls { calls ≤ most_calls }
-        ensures sender { IfOk result (λ sender. LinkMakesSender self.old sub calls sender self.new) }
+        ensures sender { IfOk result (λ sender. ChangesSub (ChangesQueue (MakesSender calls sender)) sub self.old self.new) }
         ensures unchanged { IfErr result (λ _. self.new ≡ self.old) }
     {
         self.subs[sub as usize].new_sender(alloc, calls)
@@ -288,7 +288,7 @@ impl Link {
     pub fn take_back(&mut self, sub: u8, sender: Sender)
         requires within { sub < length self.old.subs }
         requires own { queue_of (held_at self.old.subs sub).seen ≡ Some sender.queue }
-        ensures { LinkTakesBack self.old sub sender self.new }
+        ensures { ChangesSub (ChangesQueue (TakesBack sender)) sub self.old self.new }
     {
         self.subs[sub as usize].take_back(sender);
     }

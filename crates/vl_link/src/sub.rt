@@ -9,7 +9,7 @@ ghost use Rattle.vl_link.specs.Seen.{most_of, ports_of, FindsNothing, Finds, Tel
 ghost use Rattle.vl_link.specs.Kept.{seen_of, IsSub, AreOfEndSystem, plans_of, cut_among, IsPortOf};
 ghost use Rattle.std.specs.Box.{boxed_slice_items};
 ghost use Rattle.vl_link.specs.Links.{Held, left_of, Asks};
-ghost use Rattle.vl_link.specs.Calls.{TellsSubDone, IsFullSub, GathersSub, LacksSender, SubMakesSender, SubTakesBack, ClosesSub};
+ghost use Rattle.vl_link.specs.Calls.{TellsSubDone, IsFullSub, GathersSub, LacksSender, ChangesQueue, Closes, MakesSender, TakesBack};
 
 use afdx_frame::{FrameBuffer, Net, Rest, Template};
 use afdx_plan::LinkPlan;
@@ -167,7 +167,7 @@ impl Sub {
     /// then on, and each later close returns the same. Never waits.
     pub fn close(&mut self) -> u64
         requires receiving { IsReceiving self.old.seen }
-        ensures { ClosesSub self.old result self.new }
+        ensures { ChangesQueue (Closes result) self.old self.new }
     {
         match &mut self.queue {
             Queue::Receiving(receiver) => receiver.close(),
@@ -180,7 +180,7 @@ impl Sub {
     pub fn new_sender(&mut self, alloc: Global, calls: u64) -> Result<Sender, AllocError>
         requires lacks { LacksSender self.old }
         requires calls { calls ≤ most_calls }
-        ensures sender { IfOk result (λ sender. SubMakesSender self.old calls sender self.new) }
+        ensures sender { IfOk result (λ sender. ChangesQueue (MakesSender calls sender) self.old self.new) }
         ensures unchanged { IfErr result (λ _. self.new ≡ self.old) }
     {
         match &mut self.queue {
@@ -192,7 +192,7 @@ impl Sub {
     /// Takes a sender of its queue back.
     pub fn take_back(&mut self, sender: Sender)
         requires own { queue_of self.old.seen ≡ Some sender.queue }
-        ensures { SubTakesBack self.old sender self.new }
+        ensures { ChangesQueue (TakesBack sender) self.old self.new }
     {
         match &mut self.queue {
             Queue::Receiving(receiver) => receiver.take_back(sender),

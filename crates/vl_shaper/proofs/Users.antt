@@ -21,11 +21,7 @@ pub users_none : (n : ℕ) (uses : ℕ → Bool) → ((y : ℕ) → y < n → us
 users_none zero uses none = refl
 users_none (suc n) uses none = grind (arith, users_none n uses, none n)
 
--- All sub-VLs of a link are as many as it has, and no more are.
-pub users_all : (n : ℕ) → users_among n (λ y. true) ≡ n
-users_all zero = refl
-users_all (suc n) = ap suc (users_all n)
-
+-- At most all sub-VLs of a link are its users.
 pub users_most : (n : ℕ) (uses : ℕ → Bool) → users_among n uses ≤ n
 users_most zero uses = omega arith
 users_most (suc n) uses = grind (arith, users_most n uses)
