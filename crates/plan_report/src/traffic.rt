@@ -1,6 +1,7 @@
 //! The traffic of a plan: names, periods and deadlines of its ports, read from a CSV text.
 use afdx_plan::Config;
 use csv::{ByteRecord, ReaderBuilder};
+use interface_sheet::{Others, bare, column_of, is_empty, line_of, separator_of, whole};
 use script_text::number;
 use std::alloc::{AllocError, Global};
 use std::fmt;
@@ -36,6 +37,8 @@ pub struct Traffic {
     pub faults: Vec<TrafficFault>,
     /// The number of all faults.
     pub count: usize,
+    /// The columns that neither a traffic text nor an interface document has: they are left alone.
+    pub others: Others,
 }
 
 /// A fault of a traffic text: its line from 1, the name of its column, if it is of one that has a name, and what is
@@ -58,8 +61,6 @@ impl fmt::Display for TrafficFault {
 pub enum Wrong {
     #[error("a header is missing")]
     NoHeader,
-    #[error("column {0} is none of port, name, period_us and deadline_us")]
-    UnknownColumn(u64),
     #[error("the column occurs twice")]
     SecondColumn,
     #[error("the column is missing")]
@@ -93,6 +94,7 @@ pub fn no_traffic(alloc: Global, config: &Config) -> Result<Traffic, AllocError>
         demands,
         faults: Vec::new(alloc),
         count: 0,
+        others: Others::new(alloc),
     })
 }
 
@@ -127,12 +129,16 @@ impl Reading<'_> {
         let rows = ReaderBuilder::new()
             .has_headers(false)
             .flexible(true)
+            .delimiter(separator_of(alloc, text, &COLUMNS)?)
             .from_reader(alloc, text);
         for row in rows.into_byte_records() {
             let Ok(row) = row else {
                 return Err(AllocError);
             };
-            self.line = row.position().map_or(0, |at| at.line());
+            if is_empty(&row) {
+                continue;
+            }
+            self.line = line_of(text, row.position());
             match self.width {
                 Some(wanted) => self.row(alloc, wanted, &row)?,
                 None => self.head(&row)?,
@@ -161,8 +167,9 @@ impl Reading<'_> {
     fn head(&mut self, row: &ByteRecord) -> Result<(), AllocError> {
         for place in 0..row.len() {
             let field = row.get(place).unwrap_or(b"");
-            match COLUMNS.iter().position(|name| name.as_bytes() == field) {
-                None => return self.add(None, Wrong::UnknownColumn(place as u64 + 1)),
+            match column_of(&COLUMNS, field) {
+                None if column_of(&interface_sheet::COLUMNS, field).is_some() => {}
+                None => self.traffic.others.add(field)?,
                 Some(column) if self.places[column].is_some() => {
                     return self.add(Some(COLUMNS[column]), Wrong::SecondColumn);
                 }
@@ -183,13 +190,13 @@ impl Reading<'_> {
             return self.add(None, Wrong::Fields { found, wanted });
         }
         let [port, name, period, deadline] = self.places.map(|place| field(row, place));
-        let name = read_name(alloc, name)?;
+        let name = read_name(alloc, bare(name))?;
         if name.is_none() {
             self.add(Some("name"), Wrong::Name)?;
         }
         let period = self.time(period, "period_us")?;
         let deadline = self.time(deadline, "deadline_us")?;
-        let Some(id) = number(port, 65_535) else {
+        let Some(id) = number(whole(port), 65_535) else {
             return self.add(Some("port"), Wrong::PortNumber);
         };
         let mut ports = self.config.ports().iter();
@@ -212,6 +219,7 @@ impl Reading<'_> {
 
     /// Reads a time, which an empty field leaves out.
     fn time(&mut self, field: &[u8], column: &'static str) -> Result<Option<u64>, AllocError> {
+        let field = whole(field);
         let time = match number(field, PERIOD_LIMIT) {
             Some(0) => None,
             time => time,

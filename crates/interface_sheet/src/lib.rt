@@ -1,0 +1,12 @@
+//! Tables of a spreadsheet as CSV texts: columns by name, rows without empty ones, cells without what surrounds them.
+#![tactic(auto)]
+
+mod cells;
+mod columns;
+mod others;
+mod rows;
+
+pub use cells::{bare, quoted, whole};
+pub use columns::{COLUMNS, column_of};
+pub use others::Others;
+pub use rows::{is_empty, line_of, separator_of};
