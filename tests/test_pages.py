@@ -44,7 +44,7 @@ def shown(program, folder):
 
     quick, wanted, *_ = blocks("README.md")
     yield "README.md", ran(input=re.search("'(.*)'", quick)[1].encode().decode("unicode_escape")), wanted
-    script, transcript, faults, memory, traffic, storm, *_ = blocks("docs/guide/program.md")
+    script, transcript, document, refused, scheduled, faults, memory, traffic, storm, *_ = blocks("docs/guide/program.md")
     plan = blocks("docs/guide/plan.md")[0]
     for name, text in {"plan.toml": plan, "script.txt": script, "traffic.csv": traffic}.items():
         write(name, text.encode())
@@ -54,6 +54,9 @@ def shown(program, folder):
     verdict = "loads within limits, jitter within limits, deadlines kept of accepted messages; queues aren't judged"
     yield "report", ran("report", "plan.toml", "--traffic", "traffic.csv").partition("\n")[0], verdict
     yield "report, memory", ran("report", "plan.toml")[-len(memory) :], memory
+    write("interface.csv", document.encode())
+    yield "import", ran("import", "interface.csv"), refused
+    yield "schedule", ran("schedule", "plan.toml", "--traffic", "traffic.csv", "--seconds", "1", "--seed", "1")[: len(scheduled)], scheduled
     yield "storm", ran("storm", "plan.toml", "--messages", "1000", "--turns", "1000000000"), storm
     with open(f"{folder}/run.pcapng", "rb") as file:
         write("run.pcapng", without_packet(file.read(), 4))
@@ -61,6 +64,30 @@ def shown(program, folder):
     yield "judge", ran("judge", "plan.toml", "run.pcapng", "--skew", "100"), wanted
     write("plan.toml", FAULTY.encode())
     yield "explain", ran("explain", "plan.toml"), faults
+
+
+def bench_day(program, folder):
+    """The commands of the page on a bench day, each with its run and what the page says that it prints."""
+    def ran(*words):
+        return started(program, words, cwd=folder, stdout=subprocess.PIPE, stderr=subprocess.STDOUT, text=True).stdout
+
+    def save(name, text):
+        with open(f"{folder}/{name}", "w", encoding="utf-8") as file:
+            file.write(text)
+
+    document, plan, refused, begins, judged = blocks("docs/guide/bench.md")
+    save("interface.csv", document.replace("trim,1", "trim,2").replace("queuing,1002", "queing,1002"))
+    yield "bench day, faults", ran("import", "interface.csv"), refused
+    save("interface.csv", document)
+    save("plan.toml", ran("import", "interface.csv"))
+    yield "bench day, import", ran("import", "interface.csv"), plan
+    report = ran("report", "plan.toml", "--traffic", "interface.csv", "--html", "report.html").splitlines()
+    yield "bench day, report", [line.split()[-1] for line in report[-3:]], ["speed", "trim", "left"]
+    save("script.txt", ran("schedule", "plan.toml", "--traffic", "interface.csv", "--seconds", "10", "--seed", "1"))
+    with open(f"{folder}/script.txt", encoding="utf-8") as file:
+        yield "bench day, schedule", file.read()[: len(begins)], begins
+    yield "bench day, run", ran("run", "plan.toml", "script.txt", "--capture", "run.pcapng")[:2], "A "
+    yield "bench day, judge", ran("judge", "plan.toml", "run.pcapng"), judged
 
 
 def dead_links(page):
@@ -103,7 +130,8 @@ def too_wide(path):
 def tried(program):
     """Which of the commands that pages show prints something else."""
     with tempfile.TemporaryDirectory(prefix="pages-") as folder:
-        return [f"{name}: printed {printed}, shown {wanted}" for name, printed, wanted in shown(program, folder) if printed != wanted], ""
+        rows = [*shown(program, folder), *bench_day(program, folder)]
+        return [f"{name}: printed {printed}, shown {wanted}" for name, printed, wanted in rows if printed != wanted], ""
 
 
 def main():

@@ -34,12 +34,14 @@ A transmitting AFDX end system. Without words it runs a script from standard inp
 Usage: afdx_bench [COMMAND]
 
 Commands:
-  run      Runs a script over a configuration and prints the frames of both networks
-  check    Prints the plan and the jitter of a configuration; `explain` locates its faults
-  explain  Prints the faults of a configuration, each with its place and what is allowed there
-  report   Prints the loads, the jitter and the longest waits of a configuration
-  judge    Prints what is wrong with a recording of an end system
-  storm    Has all ports of a configuration send at once, and prints what came of it
+  run       Runs a script over a configuration and prints the frames of both networks
+  check     Prints the plan and the jitter of a configuration; `explain` locates its faults
+  explain   Prints the faults of a configuration, each with its place and what is allowed there
+  import    Prints the configuration of an interface document, a CSV file with a row for each port
+  report    Prints the loads, the jitter and the longest waits of a configuration
+  schedule  Prints a script in which the ports of a configuration send at their periods
+  judge     Prints what is wrong with a recording of an end system
+  storm     Has all ports of a configuration send at once, and prints what came of it
 
 Options:
   -h, --help     Print help

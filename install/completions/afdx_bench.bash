@@ -4,12 +4,13 @@ _afdx_bench() {
     case $before in
     --capture | --html | --traffic | --csv) words= ;;
     --profile) mapfile -t COMPREPLY < <(compgen -W 'own arinc' -- "$word") && return ;;
-    --lateness | --date | --jitter | --skew | --messages | --turns) COMPREPLY=() && return ;;
+    --lateness | --date | --seconds | --seed | --jitter | --skew | --messages | --turns) COMPREPLY=() && return ;;
     *)
         case ${COMP_CWORD}:${COMP_WORDS[1]-} in
-        1:*) words='run check explain report judge storm --help --version' ;;
+        1:*) words='run check explain import report schedule judge storm --help --version' ;;
         *:run) words='--capture --help' ;;
         *:report) words='--lateness --html --traffic --csv --date --strict --help' ;;
+        *:schedule) words='--traffic --seconds --seed --help' ;;
         *:judge) words='--jitter --skew --late --fcs --profile --html --help' ;;
         *:storm) words='--messages --turns --help' ;;
         *) words=--help ;;

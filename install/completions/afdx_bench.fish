@@ -1,11 +1,13 @@
 # Completions of afdx_bench for fish.
-set -l commands run check explain report judge storm
+set -l commands run check explain import report schedule judge storm
 complete -c afdx_bench -l help -s h -d 'Print help'
 complete -c afdx_bench -f -n "not __fish_seen_subcommand_from $commands" -l version -s V -d 'Print version'
 complete -c afdx_bench -f -n "not __fish_seen_subcommand_from $commands" -a run -d 'Runs a script over a configuration'
 complete -c afdx_bench -f -n "not __fish_seen_subcommand_from $commands" -a check -d 'Prints the plan and the jitter'
 complete -c afdx_bench -f -n "not __fish_seen_subcommand_from $commands" -a explain -d 'Prints the faults, each with its place'
+complete -c afdx_bench -f -n "not __fish_seen_subcommand_from $commands" -a import -d 'Prints the configuration of an interface document'
 complete -c afdx_bench -f -n "not __fish_seen_subcommand_from $commands" -a report -d 'Prints the loads and the longest waits'
+complete -c afdx_bench -f -n "not __fish_seen_subcommand_from $commands" -a schedule -d 'Prints a script in which ports send at their periods'
 complete -c afdx_bench -f -n "not __fish_seen_subcommand_from $commands" -a judge -d 'Prints what is wrong with a recording'
 complete -c afdx_bench -f -n "not __fish_seen_subcommand_from $commands" -a storm -d 'Has all ports send at once'
 complete -c afdx_bench -n '__fish_seen_subcommand_from run' -l capture -r -F -d 'Also writes the frames to a file'
@@ -15,6 +17,9 @@ complete -c afdx_bench -n '__fish_seen_subcommand_from report' -l traffic -r -F 
 complete -c afdx_bench -n '__fish_seen_subcommand_from report' -l csv -r -F -d 'Also writes a row for each port and each sub-VL'
 complete -c afdx_bench -n '__fish_seen_subcommand_from report' -l date -x -d 'The date that the page names'
 complete -c afdx_bench -n '__fish_seen_subcommand_from report' -l strict -d 'Ends with status 2 if a limit or a deadline is missed'
+complete -c afdx_bench -n '__fish_seen_subcommand_from schedule' -l traffic -r -F -d 'The periods of the ports'
+complete -c afdx_bench -n '__fish_seen_subcommand_from schedule' -l seconds -x -d 'How many seconds the script takes'
+complete -c afdx_bench -n '__fish_seen_subcommand_from schedule' -l seed -x -d 'Which times the ports begin to send at'
 complete -c afdx_bench -n '__fish_seen_subcommand_from judge' -l jitter -x -d 'How much closer than a BAG frames may come'
 complete -c afdx_bench -n '__fish_seen_subcommand_from judge' -l skew -x -d 'How far the networks may be apart'
 complete -c afdx_bench -n '__fish_seen_subcommand_from judge' -l late -d 'The recording began after the end system'

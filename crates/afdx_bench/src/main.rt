@@ -8,6 +8,7 @@ ghost use Rattle.bench_words.specs.Status.{IsInRange};
 mod files;
 mod findings;
 mod hearing;
+mod interface;
 mod judging;
 mod report;
 mod source;
@@ -19,6 +20,7 @@ use bench_words::{
 };
 use capture::write_capture;
 use files::{buffered, create, open, open_plan, stand_in, written};
+use interface::{import_file, schedule};
 use judging::judge_files;
 use report::report;
 use std::alloc::{AllocError, Global};
@@ -136,7 +138,21 @@ fn obey<'a, W: Write, T: Threads + Wait + Sync>(
             let told = tell_faults(alloc, open(rt, path.as_str())?, path.as_str(), writer);
             of_file(told, path.as_str(), Cause::UnreadPlan)
         }
+        Words::Import(path) => import_file(rt, path.as_str(), writer),
         Words::Report(asked) => report(rt, asked, writer),
+        Words::Schedule {
+            config,
+            traffic,
+            seconds,
+            seed,
+        } => schedule(
+            rt,
+            config.as_str(),
+            traffic.as_str(),
+            *seconds,
+            *seed,
+            writer,
+        ),
         Words::Judge(case) => judge_files(rt, case, writer),
         Words::Storm {
             config,

@@ -2,6 +2,7 @@
 ghost use Rattle.std.specs.Prelude.{◌≤◌};
 
 use crate::files::{buffered, create, differ, open, open_given, written};
+use crate::interface::tell_others;
 use crate::stop::{Cause, Stop, of_file};
 use afdx_plan::Config;
 use bench_words::{Asked, End, read_digested, read_text};
@@ -30,6 +31,9 @@ pub fn report<'a, W: Write>(
     let plan = of_file(read_digested(alloc, &text), path, Cause::UnreadPlan)?;
     let file = open_given(rt, &asked.traffic)?;
     let traffic = traffic_of(alloc, &plan.config, asked, file.as_ref())?;
+    if let Some(path) = &asked.traffic {
+        tell_others(rt, path.as_str(), &traffic.others);
+    }
     if !traffic.faults.is_empty() {
         return Ok(tell(&traffic, writer)?);
     }

@@ -57,12 +57,16 @@ impl<'a> Stop<'a> {
         }
     }
 
-    /// Writes the file, the reason or what to do next to standard error: on a terminal, and for the commands `explain`,
-    /// `report` and `judge`.
+    /// Writes the file, the reason or what to do next to standard error: on a terminal, and for all commands but `run`,
+    /// `check` and `storm`.
     pub fn tell_more(&self, rt: &HostRuntime, words: &Words) {
         let is_always = matches!(
             words,
-            Words::Explain(_) | Words::Report(_) | Words::Judge(_)
+            Words::Explain(_)
+                | Words::Import(_)
+                | Words::Report(_)
+                | Words::Schedule { .. }
+                | Words::Judge(_)
         );
         if is_always || rt.stderr().is_terminal() {
             let _told = match &self.file {
@@ -101,6 +105,8 @@ fn plan_of(words: &Words) -> &str {
     match words {
         Words::Run { config, .. } | Words::Storm { config, .. } => config.as_str(),
         Words::Check(config) | Words::Explain(config) => config.as_str(),
+        Words::Import(document) => document.as_str(),
+        Words::Schedule { config, .. } => config.as_str(),
         Words::Report(asked) => asked.config.as_str(),
         Words::Judge(case) => case.config.as_str(),
         Words::Script => "standard input",

@@ -6,7 +6,7 @@ use Rattle.bench_words.specs.declared.status.End.{End}
 use Rattle.bench_words.specs.declared.status.End.TheVariants.{Told, Ran, FaultsTold, Missed, WordsRefused, Failed}
 use Rattle.script_text.specs.declared.faults.RunFault.TheVariants.{Line, Lines, Write, Memory}
 use Rattle.bench_words.specs.declared.words.Words.{Words}
-use Rattle.bench_words.specs.declared.words.Words.TheVariants.{Report, Judge, Storm}
+use Rattle.bench_words.specs.declared.words.Words.TheVariants.{Report, Schedule, Judge, Storm}
 use Rattle.clap.specs.declared.error.kind.ErrorKind.{ErrorKind}
 use Rattle.clap.specs.declared.error.kind.ErrorKind.TheVariants.{DisplayHelp, DisplayVersion, OutOfMemory}
 use Rattle.afdx_plan.specs.declared.fault.ConfigFault.TheVariants as Plan
@@ -32,11 +32,12 @@ exit_status Missed = 2
 exit_status WordsRefused = 2
 exit_status (Failed failure) = failure_status failure
 
--- the numbers of a storm, of a report and of a judgment lie in their ranges
+-- the numbers of a storm, of a report, of a schedule and of a judgment lie in their ranges
 abbrev pub IsInRange : Words → Type 0
 IsInRange (Storm config messages turns) =
     ((1 ≤ messages) × (messages ≤ 65535)) × ((1 ≤ turns) × (turns ≤ 1000000000))
 IsInRange (Report asked) = asked.lateness ≤ 1000000
+IsInRange (Schedule config traffic seconds seed) = (1 ≤ seconds) × (seconds ≤ 999)
 IsInRange (Judge case) = (case.jitter ≤ 1000000) × (case.skew ≤ 1000000)
 IsInRange _ = ⊤
 

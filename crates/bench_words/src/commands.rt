@@ -1,5 +1,5 @@
 //! The commands of the program, and the words of each.
-use crate::words::{MESSAGES_LIMIT, MICROS_LIMIT, TURNS_LIMIT};
+use crate::words::{MESSAGES_LIMIT, MICROS_LIMIT, SECONDS_LIMIT, TURNS_LIMIT};
 use clap::builder::ValueParser;
 use clap::{Arg, ArgAction, Command};
 use plan_report::VERSION;
@@ -9,7 +9,7 @@ const ABOUT: &str =
     "A transmitting AFDX end system. Without words it runs a script from standard input.";
 
 /// The names of the commands, and what each does.
-const COMMANDS: [(&str, &str); 6] = [
+const COMMANDS: [(&str, &str); 8] = [
     (
         "run",
         "Runs a script over a configuration and prints the frames of both networks",
@@ -23,8 +23,16 @@ const COMMANDS: [(&str, &str); 6] = [
         "Prints the faults of a configuration, each with its place and what is allowed there",
     ),
     (
+        "import",
+        "Prints the configuration of an interface document, a CSV file with a row for each port",
+    ),
+    (
         "report",
         "Prints the loads, the jitter and the longest waits of a configuration",
+    ),
+    (
+        "schedule",
+        "Prints a script in which the ports of a configuration send at their periods",
     ),
     (
         "judge",
@@ -48,9 +56,11 @@ enum Kind {
     Flag,
     /// A flag, and a text with this name.
     Text(&'static str),
+    /// A flag that must be given, and a text with this name.
+    Given(&'static str),
     Profile,
-    /// A flag, and microseconds.
-    Micros,
+    /// A flag, and a number with this name, at most this one.
+    Upto(&'static str, u64),
     /// A flag that must be given, and a number from 1 to this one.
     Count(u64),
 }
@@ -59,7 +69,7 @@ enum Kind {
 struct Word(&'static str, &'static str, Kind, &'static str);
 
 /// The words after that of the configuration, in the order of the help.
-const WORDS: [Word; 18] = [
+const WORDS: [Word; 21] = [
     Word("run", "script", Kind::Needed, "The file of the script"),
     Word(
         "run",
@@ -70,7 +80,7 @@ const WORDS: [Word; 18] = [
     Word(
         "report",
         "lateness",
-        Kind::Micros,
+        Kind::Upto("micros", MICROS_LIMIT),
         "How late polls come at most, in microseconds: 0 if left out",
     ),
     Word(
@@ -104,6 +114,24 @@ const WORDS: [Word; 18] = [
         "Ends with status 2 if a limit or a deadline is missed",
     ),
     Word(
+        "schedule",
+        "traffic",
+        Kind::Given("file"),
+        "The periods of the ports, from a CSV file; a port without one sends nothing",
+    ),
+    Word(
+        "schedule",
+        "seconds",
+        Kind::Count(SECONDS_LIMIT),
+        "How many seconds the script takes, with a poll each millisecond",
+    ),
+    Word(
+        "schedule",
+        "seed",
+        Kind::Upto("seed", u64::MAX),
+        "Which times the ports begin to send at: 0, all at once, if left out",
+    ),
+    Word(
         "judge",
         "capture",
         Kind::Needed,
@@ -118,13 +146,13 @@ const WORDS: [Word; 18] = [
     Word(
         "judge",
         "jitter",
-        Kind::Micros,
+        Kind::Upto("micros", MICROS_LIMIT),
         "How much closer than a BAG frames may come, in microseconds: 0 if left out",
     ),
     Word(
         "judge",
         "skew",
-        Kind::Micros,
+        Kind::Upto("micros", MICROS_LIMIT),
         "How far the networks may be apart, in microseconds: 10000 if left out",
     ),
     Word(
@@ -172,21 +200,19 @@ pub(crate) fn command<'a>(alloc: Global) -> Result<Command<'a>, AllocError> {
         .about(ABOUT)
         .disable_help_subcommand(true);
     for &(name, about) in COMMANDS.iter() {
-        program = program.subcommand(over_config(alloc, name, about)?)?;
+        program = program.subcommand(over_file(alloc, name, about)?)?;
     }
     Ok(program)
 }
 
-/// A command over the file of a configuration.
-fn over_config<'a>(
-    alloc: Global,
-    name: &'a str,
-    about: &'a str,
-) -> Result<Command<'a>, AllocError> {
-    let config = Arg::new(alloc, "config")
-        .help("The file of the configuration")
-        .required(true);
-    let mut command = Command::new(alloc, name).about(about).arg(config)?;
+/// A command over the file of a configuration, or of an interface document.
+fn over_file<'a>(alloc: Global, name: &'a str, about: &'a str) -> Result<Command<'a>, AllocError> {
+    let (id, help) = match name {
+        "import" => ("document", "The file of the interface document"),
+        _ => ("config", "The file of the configuration"),
+    };
+    let file = Arg::new(alloc, id).help(help).required(true);
+    let mut command = Command::new(alloc, name).about(about).arg(file)?;
     for word in WORDS.iter() {
         if word.0 == name {
             command = command.arg(arg_of(alloc, word))?;
@@ -203,10 +229,11 @@ fn arg_of<'a>(alloc: Global, word: &Word) -> Arg<'a> {
         Kind::Needed => arg.required(true),
         Kind::Flag => arg.long(id).action(ArgAction::SetTrue),
         Kind::Text(name) => arg.long(id).value_name(name),
+        Kind::Given(name) => arg.long(id).value_name(name).required(true),
         Kind::Profile => arg.long(id).value_parser(PROFILES.as_slice()),
-        Kind::Micros => {
-            let micros = ValueParser::unsigned(0, MICROS_LIMIT);
-            arg.long(id).value_name("micros").value_parser(micros)
+        Kind::Upto(name, most) => {
+            let number = ValueParser::unsigned(0, *most);
+            arg.long(id).value_name(name).value_parser(number)
         }
         Kind::Count(most) => {
             let count = ValueParser::unsigned(1, *most);

@@ -18,6 +18,9 @@ pub(crate) const MICROS_LIMIT: u64 = 1_000_000;
 /// The greatest number of messages of a port.
 pub(crate) const MESSAGES_LIMIT: u64 = 65_535;
 
+/// The greatest number of seconds of a script, which has a poll each millisecond and at most 1,000,000 lines.
+pub(crate) const SECONDS_LIMIT: u64 = 999;
+
 /// The greatest number of turns of a thread.
 pub(crate) const TURNS_LIMIT: u64 = 1_000_000_000;
 
@@ -36,8 +39,17 @@ pub enum Words {
     Check(String),
     /// `explain <config>`
     Explain(String),
+    /// `import <document>`
+    Import(String),
     /// `report <config>`
     Report(Asked),
+    /// `schedule <config> --traffic <file> --seconds <n>`, and `--seed <s>`
+    Schedule {
+        config: String,
+        traffic: String,
+        seconds: u64,
+        seed: u64,
+    },
     /// `judge <config> <capture> [<capture_b>]`
     Judge(Case),
     /// `storm <config> --messages <n> --turns <t>`
@@ -120,10 +132,13 @@ pub fn parse<'a>(alloc: Global, words: &'a [String]) -> Result<Words, Error>
     }
 }
 
-/// The words of a command, by its name. Each names a configuration.
+/// The words of a command, by its name.
 fn words_of(alloc: Global, name: &str, matches: &ArgMatches<'_>) -> Result<Words, Error>
     ensures { IfOk result IsInRange }
 {
+    if name == "import" {
+        return Ok(Words::Import(path(alloc, matches, "document")?));
+    }
     let config = path(alloc, matches, "config")?;
     match name {
         "run" => Ok(Words::Run {
@@ -134,6 +149,12 @@ fn words_of(alloc: Global, name: &str, matches: &ArgMatches<'_>) -> Result<Words
         "check" => Ok(Words::Check(config)),
         "explain" => Ok(Words::Explain(config)),
         "report" => report_words(alloc, matches, config),
+        "schedule" => Ok(Words::Schedule {
+            config,
+            traffic: path(alloc, matches, "traffic")?,
+            seconds: count(alloc, matches, "seconds", "", 1, SECONDS_LIMIT)?,
+            seed: count(alloc, matches, "seed", "0", 0, u64::MAX)?,
+        }),
         "judge" => judge_words(alloc, matches, config),
         _ => Ok(Words::Storm {
             config,
