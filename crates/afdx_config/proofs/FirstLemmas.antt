@@ -1,7 +1,7 @@
 -- The first finding has the fault of the least number, and so has the text.
-use Rattle.afdx_config.proofs.Names.{◌≡◌, ◌≢◌, ℕ, ◌<◌, List, [], ◌∷◌, ◌++◌, true, false, Some, None, refl, ap, subst, ◌∙◌, arith, eq-eqb, list_any, same_Some, Result, Ok, Err, IfOk, IfErr, Members, map, nat_tests, fault_number, cells_of, ConfigFault, Memory, Plan, plan_of, shows, Reads, HasFault, IsLeastFault, IsPlanOf, Finding, finding_of, findings, has, FirstIsAnswered, by_fault, number_of, plan_findings, value_findings, Holds, IsOrdered, fault_of, Kept}
-use Rattle.afdx_config.proofs.OrderLemmas.{are_ordered, no_finding, r_map}
-use Rattle.afdx_config.proofs.ShownLemmas.{faults_are_found, no_toml, none_has}
+use Rattle.afdx_config.proofs.Names.{◌≡◌, ◌≢◌, ℕ, ◌<◌, List, [], ◌∷◌, ◌++◌, true, false, Some, None, refl, ap, subst, ◌∙◌, arith, eq-eqb, list_any, same_Some, Result, Ok, Err, IfOk, IfErr, Members, map, nat_tests, fault_number, cells_of, ConfigFault, Memory, Plan, plan_of, shows, Reads, HasFault, IsLeastFault, IsLeastShown, IsPlanOf, plan_shows, whole, sym, Finding, finding_of, findings, has, FirstIsAnswered, by_fault, number_of, plan_findings, value_findings, Holds, IsOrdered, fault_of, Kept}
+use Rattle.afdx_config.proofs.OrderLemmas.{any_by_fault, are_ordered, no_finding, r_map}
+use Rattle.afdx_config.proofs.ShownLemmas.{faults_are_found, no_toml, none_has, plan_shown}
 use Rattle.afdx_config.proofs.SoundLemmas.{none}
 
 -- a fault that a document lacks, its text lacks: a text is one document
@@ -53,6 +53,25 @@ first_kept found all holds = grind (arith, nat_tests, fault_of)
 
 pub no_first : (xs : List Finding) → fault_of xs ≡ None → xs ≡ []
 no_first xs is = grind (arith, nat_tests)
+
+-- the first finding of a plan's rules has the least fault that it shows
+pub least_shown : (plan : Plan) (fault : ConfigFault) → fault_of (by_fault (plan_findings (whole plan))) ≡ Some fault → IsLeastShown fault plan
+least_shown plan fault is = here (by_fault (plan_findings (whole plan))) refl is
+  where
+    shown : (f : ConfigFault) → plan_shows f plan ≡ list_any (has f) (by_fault (plan_findings (whole plan)))
+    shown f = sym (plan_shown f (whole plan)) ∙ sym (any_by_fault (has f) (plan_findings (whole plan)))
+
+    here : (xs : List Finding) → by_fault (plan_findings (whole plan)) ≡ xs → fault_of xs ≡ Some fault → IsLeastShown fault plan
+    here [] all at = cc
+    here (x ∷ rest) all at =
+        let same = same_Some x.fault fault at in
+        let number = eq-eqb (number_of x) (number_of x) refl in
+        let first : list_any (has x.fault) (x ∷ rest) ≡ true = rw number refl in
+        let ordered : IsOrdered (x ∷ rest) = subst IsOrdered all (are_ordered (plan_findings (whole plan))) in
+        rw (← same) (
+          shown x.fault ∙ ap (list_any (has x.fault)) all ∙ first,
+          λ f below. shown f ∙ ap (list_any (has f)) all ∙ lower f x rest below ordered,
+        )
 
 -- without findings, values have none
 pub no_value : (doc : Members) → findings doc ≡ [] → value_findings doc ≡ []

@@ -20,4 +20,4 @@ pub use afdx_plan::{
 };
 pub use explaining::{Explanation, explain, explain_file};
 pub use findings::{Finding, Place};
-pub use read::read_config;
+pub use read::{config_of, read_config};

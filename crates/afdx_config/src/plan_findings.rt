@@ -155,7 +155,7 @@ fn add_count(found: &mut Found, key: &str, has_array: bool, most: usize, count: 
 
 /// Adds the findings of links and ports, rule by rule.
 #[tactic(auto, unfolding(crate::specs::Findings::plan_findings))]
-fn add_plan(found: &mut Found, rows: &Rows) -> Added
+pub(crate) fn add_plan(found: &mut Found, rows: &Rows) -> Added
     ensures { OnOk result (Adds found.old found.new (plan_findings (cells_in rows.now))) }
 {
     let alloc = found.alloc();
