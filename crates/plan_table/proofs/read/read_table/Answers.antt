@@ -1,0 +1,33 @@
+use Rattle.std.proofs.Common.{◌≡◌, ◌∙◌, arith, get_or, rules}
+use Rattle.std.proofs.lemmas.Slice.Eq.{bytes_eq-Decides}
+use Rattle.afdx_plan.specs.Config.{plan_of_parts}
+use Rattle.plan_table.specs.Table.{IsInRange, IsTableOf, table_of}
+use Rattle.plan_table.specs.Reading.{cells_of, links_from, ports_from}
+use Rattle.plan_table.proofs.ReadLemmas.{no_table}
+use Rattle.plan_table.proofs.read.read_table.Goals as goal
+
+pub returns-then-ne-clause-fault : goal.returns-then-ne-clause-fault
+returns-then-ne-clause-fault c = λ other.
+    let bytes = c.args.bytes.now in
+    let plan = plan_of_parts c.cell-end_system.result c.in-Ok.links.items c.in-Ok.ports.items in
+    let of : c.in-Ok-write_parts.table.items ≡ table_of plan = search rules in
+    let end : c.cell-end_system.result ≡ get_or (cells_of bytes) 5 0 = search rules in
+    let links : c.in-Ok.links.items ≡ links_from bytes = search rules in
+    let ports : c.in-Ok.ports.items ≡ ports_from bytes = search rules in
+    let differ : c.in-Ok-write_parts.table.items ≡ bytes → ⊥ = λ same. grind (arith, bytes_eq-Decides) in
+    no_table bytes c.in-Ok-write_parts.table.items plan other of end links ports differ
+
+pub returns-clause-fault : goal.returns-clause-fault
+returns-clause-fault c = λ real.
+    let bytes = c.args.bytes.now in
+    let plan = plan_of_parts c.cell-end_system.result c.in-Ok.links.items c.in-Ok.ports.items in
+    let of : c.in-Ok-write_parts.table.items ≡ table_of plan = search rules in
+    let same : bytes ≡ c.in-Ok-write_parts.table.items = grind (arith, bytes_eq-Decides) in
+    let ranges : IsInRange plan = record {
+      end_system = omega arith;
+      links = c.in-Ok.ensures.links.0;
+      ports = c.in-Ok.ensures.ports.0;
+      few_links = c.in-Ok.ensures.links.1;
+      few_ports = c.in-Ok.ensures.ports.1;
+    } in
+    (plan, record { ranges = ranges; table = same ∙ of }, c.in-Err.ensures.fault real)

@@ -1,0 +1,4 @@
+pub mod Table
+pub mod Sum
+pub mod Reading
+pub mod Laws
