@@ -1,10 +1,11 @@
 -- A table is read as the plan that it is of.
-use Rattle.std.proofs.Common.{◌≡◌, ℕ, zero, suc, ◌+◌, ◌*◌, ◌/◌, ◌%◌, ◌-◌, ◌<◌, ◌≤◌, List, [], ◌∷◌, ◌++◌, length, drop, get_or, refl, sym, ◌∙◌, ap, arith, All, append_assoc, Some, None, Option, slice_index, IfSome, rules}
+use Rattle.std.proofs.Common.{◌≡◌, ℕ, zero, suc, ◌+◌, ◌*◌, ◌/◌, ◌%◌, ◌-◌, ◌<◌, ◌≤◌, List, [], ◌∷◌, ◌++◌, length, drop, get_or, refl, sym, ◌∙◌, ap, arith, All, append_assoc, Some, None, Option, slice_index, length-append, true, false, IfSome, rules}
 use Rattle.std.specs.List.{flat_map, AllByRecursion}
 use Rattle.std.specs.Int.{to_be_bytes, w32}
 use Rattle.std.proofs.lemmas.List.{drop-drop}
 use Rattle.std.proofs.lemmas.Bool.Decides.{nat_tests}
-use Rattle.std.proofs.Math.Seq.{drop-append-add}
+use Rattle.std.proofs.lemmas.Slice.Eq.{bytes_eq-Decides}
+use Rattle.std.proofs.Math.Seq.{drop-append-add, drop-append_seam, take-append_seam}
 use Rattle.plan_table.specs.Sum.{crc_32}
 use Rattle.std.proofs.lemmas.List.Elements.{All-from_recursion, recursion_from_All, All-cons}
 use Rattle.afdx_plan.specs.Config.{Plan}
@@ -14,7 +15,9 @@ use Rattle.afdx_plan.specs.declared.link_plan.Bag.TheVariants.{Ms1, Ms2, Ms4, Ms
 use Rattle.afdx_plan.specs.declared.link_plan.LinkPlan.{LinkPlan}
 use Rattle.afdx_plan.specs.declared.port_plan.PortPlan.{PortPlan}
 use Rattle.plan_table.specs.Table.{address_high, address_low, checked, half, front_cells, IsInRange, IsTableOf, link_cells, plan_cells, port_cells, table_of}
-use Rattle.plan_table.specs.Reading.{address_from, bag_from, cells_of, link_from, links_from, link_count, parts_from, port_count, port_from, ports_from}
+use Rattle.plan_table.specs.Reading.{address_from, bag_from, cells_of, link_from, links_from, link_count, parts_from, port_count, port_from, ports_from, IsFaultOf, table_fault_number}
+use Rattle.plan_table.specs.declared.fault.TableFault.{TableFault}
+use Rattle.plan_table.specs.declared.fault.TableFault.TheVariants.{Plan as OfPlan, NoTable, OtherLayout, WrongLength, WrongSum, WrongValue}
 
 -- a number of 16 bits
 abbrev pub IsSmall : ℕ → Type 0
@@ -34,8 +37,12 @@ parts_back : {P : Type 0} (from : List ℕ → P) (cells : P → List ℕ) (widt
     → AllByRecursion Is parts → parts_from from width (length parts) (flat_map cells parts ++ rest) ≡ parts
 parts_back from cells width Is [] rest back past are = refl
 parts_back from cells width Is (p ∷ ps) rest back past are =
-    rw (append_assoc (cells p) (flat_map cells ps) rest, back p (flat_map cells ps ++ rest) are.0, past p (flat_map cells ps ++ rest),
-    parts_back from cells width Is ps rest back past are.1) refl
+    rw (
+      append_assoc (cells p) (flat_map cells ps) rest,
+      back p (flat_map cells ps ++ rest) are.0,
+      past p (flat_map cells ps ++ rest),
+      parts_back from cells width Is ps rest back past are.1,
+    ) refl
 
 -- and what is past them
 parts_past : {P : Type 0} (cells : P → List ℕ) (width : ℕ) (parts : List P) (rest : List ℕ)
@@ -102,9 +109,31 @@ small-plan : (plan : Plan) → IsInRange plan → AllByRecursion IsSmall (plan_c
 unfolding plan_cells
 small-plan plan is =
     let links = small-parts link_cells IsLink plan.links small-link (recursion_from_All IsLink plan.links is.links) in
-    let ports = small-parts port_cells IsPort plan.ports small-port (recursion_from_All IsPort plan.ports is.ports) in
-    (omega arith, (omega arith, (omega arith, (omega arith, (omega arith, (is.end_system, (is.few_links, (is.few_ports,
-    small-append (flat_map link_cells plan.links) (flat_map port_cells plan.ports) links ports))))))))
+    let ports = small-parts port_cells IsPort plan.ports small-port (recursion_from_All IsPort plan.ports is.ports) in (
+      omega arith,
+      (
+        omega arith,
+        (
+          omega arith,
+          (
+            omega arith,
+            (
+              omega arith,
+              (
+                is.end_system,
+                (
+                  is.few_links,
+                  (
+                    is.few_ports,
+                    small-append (flat_map link_cells plan.links) (flat_map port_cells plan.ports) links ports,
+                  ),
+                ),
+              ),
+            ),
+          ),
+        ),
+      ),
+    )
 
 -- the values that are read from the table of a plan
 pub record IsReadAs (bytes : List ℕ) (plan : Plan) : Type 0 where
@@ -138,3 +167,48 @@ no_table bytes table plan other of end links ports differ is =
     let read = table_back bytes other is in
     let same : plan ≡ other = grind (arith, read.end_system, read.links, read.ports) in
     differ (of ∙ ap table_of same ∙ sym is.table)
+
+-- the length of the numbers of a plan
+length-cells : (plan : Plan) → length (plan_cells plan) ≡ 8 + 6 * length plan.links + 11 * length plan.ports
+unfolding plan_cells
+length-cells plan =
+    let links = length-parts link_cells 6 plan.links (λ p. refl) in
+    let ports = length-parts port_cells 11 plan.ports (λ p. refl) in
+    grind (arith, length-append, links, ports)
+  where
+    length-parts : {P : Type 0} (cells : P → List ℕ) (width : ℕ) (parts : List P) → ((p : P) → length (cells p) ≡ width)
+        → length (flat_map cells parts) ≡ width * length parts
+    length-parts cells width [] is = omega arith
+    length-parts cells width (p ∷ ps) is = grind (arith, length-append, is p, length-parts cells width ps is)
+
+length-halves : (cells : List ℕ) → length (flat_map half cells) ≡ 2 * length cells
+length-halves [] = refl
+length-halves (n ∷ cells) = let rest = length-halves cells in omega arith
+
+-- the table of a plan has none of the faults of bytes
+pub no_fault : (bytes : List ℕ) (plan : Plan) → IsTableOf bytes plan → (fault : TableFault) → 16 ≤ table_fault_number fault → ¬ IsFaultOf bytes fault
+unfolding plan_cells
+no_fault bytes plan is = here
+  where
+    front : List ℕ
+    front = flat_map half (plan_cells plan)
+
+    sum : List ℕ
+    sum = to_be_bytes w32 (crc_32 front)
+
+    cells : cells_of bytes ≡ plan_cells plan ++ cells_of sum
+    cells = ap cells_of is.table ∙ cells_back (plan_cells plan) _ (small-plan plan is.ranges)
+
+    long : length bytes ≡ 20 + 12 * length plan.links + 22 * length plan.ports
+    long = ap length is.table ∙ length-append front sum ∙ grind (arith, length-halves (plan_cells plan), length-cells plan)
+
+    before : length bytes - 4 ≡ length front
+    before = let one = length-halves (plan_cells plan) in let two = length-cells plan in let three = long in omega arith
+
+    here : (fault : TableFault) → 16 ≤ table_fault_number fault → ¬ IsFaultOf bytes fault
+    here (OfPlan fault) own is_fault = absurd (grind (arith, nat_tests))
+    here NoTable own is_fault = is_fault (let one = long in omega arith, rw cells refl)
+    here OtherLayout own is_fault = is_fault.1 (rw cells refl)
+    here WrongLength own is_fault = is_fault.1 (rw cells long)
+    here WrongSum own is_fault = absurd (grind (arith, nat_tests, bytes_eq-Decides, before, is.table, take-append_seam, drop-append_seam))
+    here WrongValue own is_fault = is_fault.2 plan is

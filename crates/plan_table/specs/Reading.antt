@@ -108,12 +108,22 @@ starts bytes = nat_eq (get_or (cells_of bytes) 0 0) 16710 && nat_eq (get_or (cel
 abbrev pub ends : List ℕ → Bool
 ends bytes = bytes_eq (drop (length bytes - 4) bytes) (to_be_bytes w32 (crc_32 (take (length bytes - 4) bytes)))
 
--- The fault of bytes. Of their own faults the first that they have counts; without one they are the table of a plan,
--- whose fault is that of its text.
+-- bytes begin as a table does; with this version of the layout; and are as many as the counts want
+abbrev pub HasFront : List ℕ → Type 0
+HasFront bytes = (20 ≤ length bytes) × (starts bytes ≡ true)
+
+abbrev pub HasLayout : List ℕ → Type 0
+HasLayout bytes = HasFront bytes × (get_or (cells_of bytes) 4 0 ≡ 1)
+
+abbrev pub HasLength : List ℕ → Type 0
+HasLength bytes = HasLayout bytes × (length bytes ≡ 20 + 12 * link_count bytes + 22 * port_count bytes)
+
+-- The fault of bytes: of their own faults the one of the least number. Without one they are the table of a plan, and its
+-- fault is the one that its text would have.
 abbrev pub IsFaultOf : List ℕ → TableFault → Type 0
-IsFaultOf bytes NoTable = nat_lt (length bytes) 20 || not (starts bytes) ≡ true
-IsFaultOf bytes OtherLayout = get_or (cells_of bytes) 4 0 ≢ 1
-IsFaultOf bytes WrongLength = length bytes ≢ 20 + 12 * link_count bytes + 22 * port_count bytes
-IsFaultOf bytes WrongSum = ends bytes ≡ false
-IsFaultOf bytes WrongValue = (plan : Plan) → ¬ IsTableOf bytes plan
+IsFaultOf bytes NoTable = ¬ HasFront bytes
+IsFaultOf bytes OtherLayout = HasFront bytes × (get_or (cells_of bytes) 4 0 ≢ 1)
+IsFaultOf bytes WrongLength = HasLayout bytes × (length bytes ≢ 20 + 12 * link_count bytes + 22 * port_count bytes)
+IsFaultOf bytes WrongSum = HasLength bytes × (ends bytes ≡ false)
+IsFaultOf bytes WrongValue = HasLength bytes × (ends bytes ≡ true) × ((plan : Plan) → ¬ IsTableOf bytes plan)
 IsFaultOf bytes (OfPlan fault) = fault ≢ Memory → (plan : Plan) × IsTableOf bytes plan × IsLeastShown fault plan

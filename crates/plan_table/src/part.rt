@@ -124,8 +124,22 @@ impl Part for PortPlan {
         let partition = u16::from(self.partition);
         let kind = kind_cell(self.kind);
         let [high, low] = address_cells(self.unicast);
-        put(table, &[self.id.0, self.vl.0, sub, partition, kind, self.source, self.destination])?;
-        put(table, &[self.max as u16, high, low, checksum_cell(self.checksum)])
+        put(
+            table,
+            &[
+                self.id.0,
+                self.vl.0,
+                sub,
+                partition,
+                kind,
+                self.source,
+                self.destination,
+            ],
+        )?;
+        put(
+            table,
+            &[self.max as u16, high, low, checksum_cell(self.checksum)],
+        )
     }
 }
 

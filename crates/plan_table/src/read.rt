@@ -1,8 +1,8 @@
 //! Reading a table.
-ghost use Rattle.std.specs.Prelude.{◌≡◌, ◌*◌, ◌+◌, ◌≤◌, ◌<◌, All, length, drop, IfOk, IfErr, IfSome, IsNone};
+ghost use Rattle.std.specs.Prelude.{◌≡◌, ◌*◌, ◌+◌, ◌≤◌, ◌<◌, All, length, drop, IfOk, IfErr, IfSome, IsNone, true};
 ghost use Rattle.plan_table.specs.Table.{IsTableOf, front_cells};
 ghost use Rattle.afdx_plan.specs.Plan.{IsLink, IsPort};
-ghost use Rattle.plan_table.specs.Reading.{cells_of, ends, IsFaultOf, link_count, links_from, parts_from, port_count, ports_from, starts};
+ghost use Rattle.plan_table.specs.Reading.{cells_of, ends, HasLength, IsFaultOf, links_from, parts_from, ports_from, starts};
 
 use crate::fault::TableFault;
 use crate::part::{Part, cell};
@@ -37,7 +37,8 @@ fn parts_in<P: Part>(
 /// Returns the fault of bytes that don't begin or end as a table does.
 fn front_fault(bytes: &[u8]) -> Option<TableFault>
     ensures fault { IfSome result (IsFaultOf bytes.now) }
-    ensures length { IsNone result → length bytes.now ≡ 20 + 12 * link_count bytes.now + 22 * port_count bytes.now }
+    ensures length { IsNone result → HasLength bytes.now }
+    ensures sum { IsNone result → ends bytes.now ≡ true }
 {
     if bytes.len() < 20 || !has_front(bytes) {
         return Some(TableFault::NoTable);
@@ -78,7 +79,7 @@ fn has_sum(bytes: &[u8]) -> bool
 
 /// Reads the parts of a table that begins and ends as one.
 fn read_parts(alloc: Global, bytes: &[u8]) -> Result<(Vec<LinkPlan>, Vec<PortPlan>), AllocError>
-    requires { length bytes.now ≡ 20 + 12 * link_count bytes.now + 22 * port_count bytes.now }
+    requires { HasLength bytes.now }
     ensures value { IfOk result (λ parts. (parts.0.items ≡ links_from bytes.now) × (parts.1.items ≡ ports_from bytes.now)) }
     ensures links { IfOk result (λ parts. All IsLink parts.0.items × (length parts.0.items < 65536)) }
     ensures ports { IfOk result (λ parts. All IsPort parts.1.items × (length parts.1.items < 65536)) }

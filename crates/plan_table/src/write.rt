@@ -44,7 +44,10 @@ pub fn write_parts(
     let mut table = Vec::new(alloc);
     put(&mut table, &FRONT)?;
     let counts = [links.len() as u16, ports.len() as u16];
-    put(&mut table, &[TABLE_LAYOUT, end_system, counts[0], counts[1]])?;
+    put(
+        &mut table,
+        &[TABLE_LAYOUT, end_system, counts[0], counts[1]],
+    )?;
     put_parts(&mut table, links)?;
     put_parts(&mut table, ports)?;
     let sum = crc_32(table.as_slice());

@@ -7,7 +7,7 @@ use Rattle.plan_table.proofs.ReadLemmas.{no_table}
 use Rattle.plan_table.proofs.read.read_table.Goals as goal
 
 pub returns-then-ne-clause-fault : goal.returns-then-ne-clause-fault
-returns-then-ne-clause-fault c = λ other.
+returns-then-ne-clause-fault c =
     let bytes = c.args.bytes.now in
     let plan = plan_of_parts c.cell-end_system.result c.in-Ok.links.items c.in-Ok.ports.items in
     let of : c.in-Ok-write_parts.table.items ≡ table_of plan = search rules in
@@ -15,7 +15,7 @@ returns-then-ne-clause-fault c = λ other.
     let links : c.in-Ok.links.items ≡ links_from bytes = search rules in
     let ports : c.in-Ok.ports.items ≡ ports_from bytes = search rules in
     let differ : c.in-Ok-write_parts.table.items ≡ bytes → ⊥ = λ same. grind (arith, bytes_eq-Decides) in
-    no_table bytes c.in-Ok-write_parts.table.items plan other of end links ports differ
+    (search rules, search rules, λ other. no_table bytes c.in-Ok-write_parts.table.items plan other of end links ports differ)
 
 pub returns-clause-fault : goal.returns-clause-fault
 returns-clause-fault c = λ real.
