@@ -42,7 +42,12 @@ enum class ConfigFault : std::uint8_t {
     SamplingTooLong = AFDX_CONFIG_SAMPLING_TOO_LONG,
     SameFlow = AFDX_CONFIG_SAME_FLOW,
     SharedUnicast = AFDX_CONFIG_SHARED_UNICAST,
-    Limit = AFDX_CONFIG_LIMIT
+    Limit = AFDX_CONFIG_LIMIT,
+    TableNone = AFDX_TABLE_NONE, /* of a table alone, as the next four */
+    TableLayout = AFDX_TABLE_LAYOUT,
+    TableLength = AFDX_TABLE_LENGTH,
+    TableSum = AFDX_TABLE_SUM,
+    TableValue = AFDX_TABLE_VALUE
 };
 
 /* Why a message is refused. */
@@ -251,6 +256,11 @@ public:
     explicit EndSystem(const std::string &text) {
         const auto *bytes = reinterpret_cast<const std::uint8_t *>(text.data());
         detail::want(afdx_open(handle_.get(), bytes, text.size()), AFDX_CALL_OPEN);
+    }
+
+    /* Opens an end system from the table of a plan (docs/table.md). Throws ConfigError or OutOfMemory. */
+    EndSystem(const std::uint8_t *table, std::size_t length) {
+        detail::want(afdx_open_table(handle_.get(), table, length), AFDX_CALL_OPEN);
     }
 
     /* Takes the port with an identifier. Throws Misuse (NoPort if there is none or it is out, Gathered). */

@@ -315,6 +315,8 @@ def driven_runs() -> None:
     import driven
     done = [driven.run(seed) for seed in range(400)]
     check(50 < sum(done) < 350, sum(done))
+    told = driven.damaged(7, 20_000)
+    check({"NoTable", "OtherLayout", "WrongLength", "WrongSum", "WrongValue", "", "NoSuchVl", "DuplicatePort"} <= told.keys(), told)
     driven.sizes()
 
 

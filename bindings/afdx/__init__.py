@@ -35,7 +35,7 @@ from ._findings import Finding, captured_of, finding_of
 from ._library import BytesLike, FindingRow, FrameRelease, Handle, Judged, JudgeOptions, LinkCounts, bytes_of, fits, lib, want
 from .errors import *
 from .errors import (
-    CONFIG_ERRORS, POLL_ERRORS, SEND_ERRORS, AfdxError, BadCapture, ConfigError, Full, NotHeld, OutOfMemory, SmallBuffer,
+    CONFIG_ERRORS, POLL_ERRORS, SEND_ERRORS, TABLE_ERRORS, AfdxError, BadCapture, ConfigError, Full, NotHeld, OutOfMemory, SmallBuffer,
 )
 
 __all__ = [
@@ -211,6 +211,17 @@ class EndSystem:
     def __init__(self, text: str | BytesLike) -> None:
         data = _encoded(text)
         _want_plan(lib.afdx_open(byref(self._handle), data, len(data)), data)
+        self._begin()
+
+    @classmethod
+    def of_table(cls, table: BytesLike) -> EndSystem:
+        """The end system of the table of a plan (docs/table.md). Raises `TableError`, `ConfigError` or `OutOfMemory`."""
+        it, data = cls.__new__(cls), bytes_of(table)
+        want(lib.afdx_open_table(byref(it._handle), data, len(data)), TABLE_ERRORS)
+        it._begin()
+        return it
+
+    def _begin(self) -> None:
         self._buffer = ctypes.create_string_buffer(MOST_FRAMES * GREATEST_FRAME)
         self._lengths = (c_size_t * MOST_FRAMES)()
 

@@ -69,6 +69,7 @@ def _calls(library: ctypes.CDLL) -> None:
     data, rows = [ctypes.c_char_p, size], [POINTER(FindingRow), size, POINTER(Judged)]
     calls: dict[str, list[Any]] = {
         "open": [handle, ctypes.c_char_p, size],
+        "open_table": [handle, ctypes.c_char_p, size],
         "explain": [ctypes.c_char_p, size, c_void_p, size, POINTER(size)],
         "judge": [*data, POINTER(JudgeOptions), *data, *rows],
         "judge_pair": [*data, POINTER(JudgeOptions), *data, *data, *rows],

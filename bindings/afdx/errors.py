@@ -9,10 +9,10 @@ if TYPE_CHECKING:
 __all__ = [
     "AfdxError", "OutOfMemory", "ConfigError", "Toml", "MissingKey", "UnknownKey", "WrongKind", "OutOfRange",
     "BadBag", "DuplicateVl", "DuplicatePort", "NoSuchVl", "NoSuchSub", "SamplingTooLong", "SameFlow",
-    "SharedUnicast", "Limit", "SendError", "Empty", "TooLong", "Closed", "Exhausted", "Full", "PollError",
+    "SharedUnicast", "Limit", "TableError", "NoTable", "OtherLayout", "WrongLength", "WrongSum", "WrongValue", "SendError", "Empty", "TooLong", "Closed", "Exhausted", "Full", "PollError",
     "BothDown", "Misuse", "NotHeld", "WrongHandle", "Held", "TimeBack", "NoPort", "NoSub", "NoLink",
     "NoNetwork", "NoFrame", "SmallBuffer", "PortMissing", "Gathered", "NotGathered", "JudgeError",
-    "BadCapture", "CONFIG_ERRORS", "SEND_ERRORS", "POLL_ERRORS", "JUDGE_ERRORS", "MISUSES",
+    "BadCapture", "CONFIG_ERRORS", "TABLE_ERRORS", "SEND_ERRORS", "POLL_ERRORS", "JUDGE_ERRORS", "MISUSES",
 ]
 
 
@@ -119,6 +119,40 @@ class Limit(ConfigError):
     """There are too few or too many virtual links or ports."""
 
     number = 14
+
+
+class TableError(AfdxError):
+    """The bytes aren't the table of a plan."""
+
+
+class NoTable(TableError):
+    """The bytes don't begin as a table does."""
+
+    number = 16
+
+
+class OtherLayout(TableError):
+    """The table has another version of the layout."""
+
+    number = 17
+
+
+class WrongLength(TableError):
+    """The bytes are more or fewer than the numbers of links and of ports want."""
+
+    number = 18
+
+
+class WrongSum(TableError):
+    """The check isn't that of the bytes before it."""
+
+    number = 19
+
+
+class WrongValue(TableError):
+    """A number is none that the table of a plan has there."""
+
+    number = 20
 
 
 class SendError(AfdxError):
@@ -273,3 +307,5 @@ def _errors(kind: type[AfdxError], *more: type[AfdxError]) -> Errors:
 # A send and a poll allocate nothing.
 SEND_ERRORS, POLL_ERRORS = _errors(SendError), _errors(PollError)
 CONFIG_ERRORS, JUDGE_ERRORS, MISUSES = (_errors(kind, OutOfMemory) for kind in (ConfigError, JudgeError, Misuse))
+# A table has the faults of its plan too.
+TABLE_ERRORS = CONFIG_ERRORS | _errors(TableError)

@@ -123,6 +123,15 @@ enum {
     AFDX_MEMORY = 15 /**< an allocation failed */
 };
 
+/** Why afdx_open_table refuses a table, beside the faults of plans: the least number of these counts. */
+enum {
+    AFDX_TABLE_NONE = 16,   /**< the bytes don't begin as a table does */
+    AFDX_TABLE_LAYOUT = 17, /**< the table has another version of the layout */
+    AFDX_TABLE_LENGTH = 18, /**< the bytes are more or fewer than its numbers of links and of ports want */
+    AFDX_TABLE_SUM = 19,    /**< the check isn't that of the bytes before it */
+    AFDX_TABLE_VALUE = 20   /**< a number is none that the table of a plan has there */
+};
+
 /** Why afdx_send refuses a message. */
 enum { AFDX_EMPTY = 1, AFDX_TOO_LONG = 2, AFDX_CLOSED = 3, AFDX_EXHAUSTED = 4, AFDX_FULL = 5 };
 
@@ -164,6 +173,15 @@ enum {
    @return AFDX_OK. Refused: AFDX_HELD; or the number of the fault, 1 to 15. After a refusal the handle is
    unchanged. */
 uint8_t afdx_open(afdx_end_system *out, const uint8_t *text, size_t length);
+
+/** Opens an end system from the table of a plan, which `afdx_bench compile` writes and docs/table.md lays out. The end system
+   is that of the plan's text; nothing is parsed. The bytes are copied; memory is as in afdx_open.
+   @param out the handle to fill
+   @param table the table
+   @param length its length in bytes
+   @return AFDX_OK. Refused: AFDX_HELD; a number of the table, AFDX_TABLE_NONE to AFDX_TABLE_VALUE; or the number of the
+   fault that the plan's text would have, AFDX_CONFIG_DUPLICATE_VL to AFDX_MEMORY. After a refusal the handle is unchanged. */
+uint8_t afdx_open_table(afdx_end_system *out, const uint8_t *table, size_t length);
 
 /** Explains a refused plan: its faults, each with its place, as `afdx_bench explain` prints them
    (docs/guide/program.md) after the file and the line, in lines that end in a line feed; "no faults" if there is none.
@@ -357,7 +375,7 @@ uint8_t afdx_script_line(const uint8_t *line, size_t length, afdx_line *out, uin
    @return 10,000 times its first number, 100 times its second, and its third: AFDX_VERSION_NUMBER of its header */
 uint32_t afdx_version_number(void);
 
-/** The calls, by the meaning of their least numbers: those of afdx_open, afdx_send, afdx_poll and afdx_script_line are
+/** The calls, by the meaning of their least numbers: those of afdx_open and afdx_open_table, afdx_send, afdx_poll and afdx_script_line are
    faults of their own. */
 typedef enum { AFDX_CALL_OPEN, AFDX_CALL_SEND, AFDX_CALL_POLL, AFDX_CALL_OTHER, AFDX_CALL_LINE } afdx_call;
 
@@ -375,6 +393,8 @@ static inline const char *afdx_answer_name(afdx_call call, uint8_t answer) {
         "AFDX_CONFIG_OUT_OF_RANGE", "AFDX_CONFIG_BAD_BAG", "AFDX_CONFIG_DUPLICATE_VL", "AFDX_CONFIG_DUPLICATE_PORT",
         "AFDX_CONFIG_NO_SUCH_VL", "AFDX_CONFIG_NO_SUCH_SUB", "AFDX_CONFIG_SAMPLING_TOO_LONG", "AFDX_CONFIG_SAME_FLOW",
         "AFDX_CONFIG_SHARED_UNICAST", "AFDX_CONFIG_LIMIT"};
+    static const char *const of_table[] = {
+        "AFDX_TABLE_NONE", "AFDX_TABLE_LAYOUT", "AFDX_TABLE_LENGTH", "AFDX_TABLE_SUM", "AFDX_TABLE_VALUE"};
     static const char *const of_send[] = {"AFDX_EMPTY", "AFDX_TOO_LONG", "AFDX_CLOSED", "AFDX_EXHAUSTED", "AFDX_FULL"};
     static const char *const of_line[] = {"AFDX_LINE_WORD", "AFDX_LINE_NUMBER", "AFDX_LINE_HEX", "AFDX_LINE_EXTRA", "AFDX_LINE_LONG"};
     static const char *const of_any[] = {
@@ -386,6 +406,7 @@ static inline const char *afdx_answer_name(afdx_call call, uint8_t answer) {
     if (k == AFDX_MEMORY) return "AFDX_MEMORY";
     if (k >= AFDX_NOT_HELD && k - AFDX_NOT_HELD < sizeof of_any / sizeof *of_any) return of_any[k - AFDX_NOT_HELD];
     if (call == AFDX_CALL_OPEN && k <= sizeof of_open / sizeof *of_open) return of_open[k - 1];
+    if (call == AFDX_CALL_OPEN && k >= AFDX_TABLE_NONE && k <= AFDX_TABLE_VALUE) return of_table[k - AFDX_TABLE_NONE];
     if (call == AFDX_CALL_SEND && k <= sizeof of_send / sizeof *of_send) return of_send[k - 1];
     if (call == AFDX_CALL_POLL && k == AFDX_BOTH_DOWN) return "AFDX_BOTH_DOWN";
     if (call == AFDX_CALL_LINE && k <= sizeof of_line / sizeof *of_line) return of_line[k - 1];

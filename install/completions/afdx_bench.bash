@@ -2,13 +2,14 @@
 _afdx_bench() {
     local word=${COMP_WORDS[COMP_CWORD]} before=${COMP_WORDS[COMP_CWORD - 1]} words
     case $before in
-    --capture | --html | --traffic | --csv) words= ;;
+    --capture | --c | --html | --traffic | --csv) words= ;;
     --profile) mapfile -t COMPREPLY < <(compgen -W 'own arinc' -- "$word") && return ;;
     --lateness | --date | --seconds | --seed | --jitter | --skew | --messages | --turns) COMPREPLY=() && return ;;
     *)
         case ${COMP_CWORD}:${COMP_WORDS[1]-} in
-        1:*) words='run check explain import report schedule judge storm --help --version' ;;
+        1:*) words='run check explain import compile report schedule judge storm --help --version' ;;
         *:run) words='--capture --help' ;;
+        *:compile) words='--c --help' ;;
         *:report) words='--lateness --html --traffic --csv --date --strict --help' ;;
         *:schedule) words='--traffic --seconds --seed --help' ;;
         *:judge) words='--jitter --skew --late --fcs --profile --html --help' ;;

@@ -1,10 +1,12 @@
 # Completions of afdx_bench for fish.
-set -l commands run check explain import report schedule judge storm
+set -l commands run check explain import compile report schedule judge storm
 complete -c afdx_bench -l help -s h -d 'Print help'
 complete -c afdx_bench -f -n "not __fish_seen_subcommand_from $commands" -l version -s V -d 'Print version'
 complete -c afdx_bench -f -n "not __fish_seen_subcommand_from $commands" -a run -d 'Runs a script over a configuration'
 complete -c afdx_bench -f -n "not __fish_seen_subcommand_from $commands" -a check -d 'Prints the plan and the jitter'
 complete -c afdx_bench -f -n "not __fish_seen_subcommand_from $commands" -a explain -d 'Prints the faults, each with its place'
+complete -c afdx_bench -f -n "not __fish_seen_subcommand_from $commands" -a compile -d 'Prints the table of a plan'
+complete -c afdx_bench -n '__fish_seen_subcommand_from compile' -l c -r -d 'Writes a file of C with the table instead'
 complete -c afdx_bench -f -n "not __fish_seen_subcommand_from $commands" -a import -d 'Prints the configuration of an interface document'
 complete -c afdx_bench -f -n "not __fish_seen_subcommand_from $commands" -a report -d 'Prints the loads and the longest waits'
 complete -c afdx_bench -f -n "not __fish_seen_subcommand_from $commands" -a schedule -d 'Prints a script in which ports send at their periods'

@@ -1,13 +1,18 @@
 """An end system by its calls, next to the model: each call has to answer as the model says, with networks that fail, links on
-one network, closes and drains. `tests/test_python.py` runs it."""
+one network, closes and drains, opened from the plan's text or from its table. `tests/test_python.py` runs it."""
 import random
 import struct
+import zlib
 
 import model
 from test_run import random_line, random_plan, text_of
 from trying import check
 
 import afdx
+
+
+# The faults that a plan may have beside those of its values.
+PLAN_FAULTS = ("", "DuplicateVl", "DuplicatePort", "NoSuchVl", "NoSuchSub", "SamplingTooLong", "SameFlow", "SharedUnicast", "Limit")
 
 
 def said(call, *words) -> str:
@@ -25,7 +30,7 @@ class Driven(model.EndSystem):
     def __init__(self, plan: model.Table, rng: random.Random) -> None:
         super().__init__(plan)
         self.text = text_of(plan, rng)
-        self.it = afdx.EndSystem(self.text)
+        self.it = afdx.EndSystem.of_table(model.table_of(plan)) if rng.randrange(2) else afdx.EndSystem(self.text)
         self.out = {number: self.it.port(number) for number in self.ports}
         self.accepted = dict.fromkeys(self.ports, 0)
         self.recorded: dict[str, list[tuple[int, bytes]]] = {name: [] for name in model.NETWORKS}
@@ -98,6 +103,26 @@ def run(seed: int) -> bool:
     for name in rng.choice(("", "", "A", "B", "AB")):
         driven.fail(name)
     return driven.drain(rng.choice((1000, 4000)), 60)
+
+
+def damaged(seed: int, many: int) -> dict[str, int]:
+    """Opens so many damaged tables of random plans. Returns how often each fault was told: none is opened, but those whose bytes
+    are the table of another plan."""
+    rng, told, whole = random.Random(seed), {}, b""
+    for k in range(many):
+        whole = whole if k % 20 else model.table_of(random_plan(rng))
+        table = bytearray(whole)
+        for _ in range(rng.choice((1, 1, 2, 5))):
+            table[rng.randrange(len(table))] ^= rng.randrange(1, 256)
+        table = table[: rng.randrange(len(table))] if rng.random() < 0.1 else table + bytes(rng.choice((0, 0, 0, 1, 22)))
+        if rng.random() < 0.6 and len(table) > 20:
+            # (with a check that is right)
+            table[-4:] = struct.pack(">I", zlib.crc32(table[:-4]))
+        fault = said(afdx.EndSystem.of_table, bytes(table)).removeprefix("refused ")
+        wanted = model.table_fault(bytes(table))
+        check(fault == wanted or (wanted == "" and fault in PLAN_FAULTS), (bytes(table).hex(), fault, wanted))
+        told[fault] = told.get(fault, 0) + 1
+    return told
 
 
 def size(ports: int) -> model.Table:

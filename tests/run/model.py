@@ -4,6 +4,7 @@ import re
 import struct
 import sys
 import tomllib
+import zlib
 from collections.abc import Iterator
 
 # A number may have thousands of leading zeros.
@@ -46,6 +47,44 @@ def packets(end_system: int, link: Table, port: Table, place: int, message: byte
         front = struct.pack(">BBHHHBB", 0x45, 0, 20 + len(piece), identification, more << 13 | offset // 8, 1, 17)
         yield front + struct.pack(">H", complement(front + addresses)) + addresses + piece
         offset += len(piece)
+
+
+def table_of(plan: Table) -> bytes:
+    """The table of a plan, by `docs/table.md`."""
+    cells = [1, plan["end_system"]["id"], len(plan["vl"]), len(plan["port"])]
+    for vl in plan["vl"]:
+        cells += [vl[key] for key in ("id", "bag_ms", "lmax", "sub_vls", "capacity")] + [("both", "a", "b").index(vl.get("networks", "both"))]
+    for port in plan["port"]:
+        a, b, c, d = map(int, port.get("dest_ip", "0.0.0.0").split("."))
+        cells += [port[key] for key in ("id", "vl", "sub", "partition")] + [("sampling", "queuing").index(port["kind"])]
+        cells += [port[key] for key in ("source", "destination", "max")] + [256 * a + b, 256 * c + d, int(port.get("checksum") == "udp")]
+    front = b"AFDXPLAN" + struct.pack(f">{len(cells)}H", *cells)
+    return front + struct.pack(">I", zlib.crc32(front))
+
+
+# What the numbers of a link and of a port may be, by `docs/guide/plan.md`.
+LINK_NUMBERS = (range(65_536), (1, 2, 4, 8, 16, 32, 64, 128), range(64, 1519), range(1, 5), range(1, 257), range(3))
+PORT_NUMBERS = (range(65_536), range(65_536), range(4), range(32), range(2), range(1, 65_536), range(1, 65_536), range(1, 8193),
+                (0, *range(10 * 256, 11 * 256)), range(65_536), range(2))
+
+
+def table_fault(table: bytes) -> str:
+    """The fault of bytes that are no table of a plan whose numbers are in their ranges, or ''."""
+    if len(table) < 20 or table[:8] != b"AFDXPLAN":
+        return "NoTable"
+    layout, _, links, ports = struct.unpack(">4H", table[8:16])
+    if layout != 1:
+        return "OtherLayout"
+    if len(table) != 20 + 12 * links + 22 * ports:
+        return "WrongLength"
+    if int.from_bytes(table[-4:], "big") != zlib.crc32(table[:-4]):
+        return "WrongSum"
+    cells = struct.unpack(f">{6 * links + 11 * ports}H", table[16:-4])
+    rows = [(cells[6 * k : 6 * k + 6], LINK_NUMBERS) for k in range(links)]
+    rows += [(cells[6 * links + 11 * k :][:11], PORT_NUMBERS) for k in range(ports)]
+    is_sound = all(number in may for row, allowed in rows for number, may in zip(row, allowed, strict=True))
+    is_sound = is_sound and all(row[9] == 0 for row, allowed in rows if allowed is PORT_NUMBERS and row[8] == 0)
+    return "" if is_sound else "WrongValue"
 
 
 class SubVl:

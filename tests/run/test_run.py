@@ -159,6 +159,22 @@ def checksums() -> Iterator[tuple[str, str, bytes]]:
         yield f"two bytes from {first:04x} on", plan, "".join(lines).encode()
 
 
+def table_faults(seed: int) -> list[str]:
+    """What is wrong with the table of a random plan, as bytes and in a file of C, and with the ends of both commands."""
+    rng = random.Random(seed)
+    plan = random_plan(rng)
+    with open("table.toml", "w", encoding="utf-8") as file:
+        file.write(text_of(plan, rng))
+    wanted = model.table_of(plan)
+    told = [subprocess.run([PROGRAM, "compile", "table.toml", *more], capture_output=True, check=False) for more in ([], ["--c", "table.c"])]
+    with open("table.c", encoding="ascii") as file:
+        source = file.read()
+    listed = bytes(int(number, 16) for number in re.findall(r"0x([0-9a-f]{2}),", source))
+    ends = [(it.returncode, it.stdout, it.stderr) for it in told]
+    is_well = ends == [(0, wanted, b""), (0, b"", b"")] and listed == wanted and "const uint8_t afdx_plan_table[] = {\n" in source
+    return [] if is_well else [f"seed {seed}: {ends}\n{source[:500]}\nfor {wanted.hex()}"]
+
+
 def main() -> int:
     """Runs all tests."""
     count = int(sys.argv[1]) if sys.argv[1:] else 400
@@ -186,6 +202,7 @@ def main() -> int:
         tries.attempt("each script of one to five lines", lambda: (all_faults(model_faults, every_script()), ""))
         tries.attempt(f"{count} random scripts over random plans", lambda: (all_faults(model_faults, random_runs(count)), ""))
         tries.attempt("messages of each length, and of each two bytes", lambda: (all_faults(model_faults, checksums()), ""))
+        tries.attempt("tables of 40 random plans", lambda: ([fault for seed in range(40) for fault in table_faults(seed)], ""))
     return tries.end()
 
 

@@ -1,14 +1,16 @@
 //! The calls that open, gather and free an end system, and that pass its ports.
 ghost use Rattle.std.specs.Prelude.{◌≡◌, ◌≢◌, ◌⊎◌, ◌↔◌, ◌<◌, ◌≤◌, [], ◌∷◌, None, Some, IsSome, IsNone, true, false, length, drop, position};
 ghost use Rattle.afdx_tx.specs.Ports.{PortView, IsPortOfTx, LacksPlace};
-ghost use Rattle.afdx_handle.specs.Calls.{ChangesEnd, IsFaultNumber};
+ghost use Rattle.afdx_handle.specs.Calls.{ChangesEnd, IsFaultNumber, IsTableFaultNumber};
+ghost use Rattle.afdx_config.specs.Faults.{IsPlanOf};
+ghost use Rattle.plan_table.specs.Table.{IsTableOf};
 ghost use Rattle.afdx_handle.specs.Numbers.{IsOneOf};
 ghost use Rattle.afdx_handle.specs.EndSystem.{EndView, has_id, GathersEnd, GivesBack, TakesPort, IsOpened};
 ghost use Rattle.afdx_handle.specs.Listing.{IsExplainedIn};
 ghost use Rattle.afdx_handle.specs.Held.{end_of, port_of, port_block, HoldsNothing, HoldsOne, HoldsEnd, HoldsPort, HoldsSame, EndDoes};
 
 use crate::content::{at_end, with_end, with_port};
-use afdx_config::explain;
+use afdx_config::{Config, explain, read_config};
 use afdx_handle::answer::{
     DONE, GATHERED, HELD, MEMORY, NO_PORT, NOT_HELD, PORT_MISSING, SMALL_BUFFER, WRONG_HANDLE,
 };
@@ -16,6 +18,7 @@ use afdx_handle::{
     Handle, Home, Marked, Opening, gather, give_to, is_nothing, keep_box, open_home, take_port,
     write_front,
 };
+use plan_table::read_table;
 use std::alloc::Global;
 use std::mem;
 
@@ -23,7 +26,7 @@ use std::mem;
 #[unsafe(no_mangle)]
 pub extern "C" fn afdx_open(alloc: Global, out: &mut Opening, text: &[u8]) -> u8
     ensures held { (result ≡ HELD) ↔ IsSome out.old.handle.kept.home }
-    ensures opened { result ≡ DONE → HoldsEnd out.new.handle.kept.home (IsOpened text.now) }
+    ensures opened { result ≡ DONE → HoldsEnd out.new.handle.kept.home (IsOpened (IsPlanOf text.now)) }
     ensures marked { result ≡ DONE → HoldsEnd out.new.handle.kept.home (λ end. out.new.mark ≡ end.block) }
     ensures fault { result ≢ DONE → result ≢ HELD → IsFaultNumber text.now result }
     ensures refused { result ≢ DONE → (out.new.handle.kept.home ≡ out.old.handle.kept.home)
@@ -32,13 +35,47 @@ pub extern "C" fn afdx_open(alloc: Global, out: &mut Opening, text: &[u8]) -> u8
     if !out.handle.is_empty() {
         return HELD;
     }
-    match open_home(alloc, text) {
+    match read_config(alloc, text) {
+        Ok(config) => put_end(alloc, out, config),
+        Err(fault) => fault.number(),
+    }
+}
+
+/// Opens an end system from the table of a plan.
+#[unsafe(no_mangle)]
+pub extern "C" fn afdx_open_table(alloc: Global, out: &mut Opening, table: &[u8]) -> u8
+    ensures held { (result ≡ HELD) ↔ IsSome out.old.handle.kept.home }
+    ensures opened { result ≡ DONE → HoldsEnd out.new.handle.kept.home (IsOpened (IsTableOf table.now)) }
+    ensures marked { result ≡ DONE → HoldsEnd out.new.handle.kept.home (λ end. out.new.mark ≡ end.block) }
+    ensures fault { result ≢ DONE → result ≢ HELD → IsTableFaultNumber table.now result }
+    ensures refused { result ≢ DONE → (out.new.handle.kept.home ≡ out.old.handle.kept.home)
+        × (out.new.mark ≡ out.old.mark) }
+{
+    if !out.handle.is_empty() {
+        return HELD;
+    }
+    match read_table(alloc, table) {
+        Ok(config) => put_end(alloc, out, config),
+        Err(fault) => fault.number(),
+    }
+}
+
+/// Opens an end system of a plan in an empty handle. Returns `DONE` or `MEMORY`.
+fn put_end(alloc: Global, out: &mut Opening, config: Config) -> u8
+    requires { IsNone out.old.handle.kept.home }
+    ensures answers { IsOneOf result (DONE ∷ MEMORY ∷ []) }
+    ensures opened { result ≡ DONE → HoldsEnd out.new.handle.kept.home (IsOpened (λ plan. plan ≡ config)) }
+    ensures marked { result ≡ DONE → HoldsEnd out.new.handle.kept.home (λ end. out.new.mark ≡ end.block) }
+    ensures refused { result ≡ MEMORY → (out.new.handle.kept.home ≡ out.old.handle.kept.home)
+        × (out.new.mark ≡ out.old.mark) }
+{
+    match open_home(alloc, config) {
         Ok((home, mark)) => {
             out.handle.put(home);
             out.mark = mark;
             DONE
         }
-        Err(fault) => fault.number(),
+        Err(_) => MEMORY,
     }
 }
 

@@ -5,6 +5,7 @@
 ghost use Rattle.std.specs.Prelude.{◌≤◌};
 ghost use Rattle.bench_words.specs.Status.{IsInRange};
 
+mod compiling;
 mod files;
 mod findings;
 mod hearing;
@@ -19,6 +20,7 @@ use bench_words::{
     End, Failure, Halting, Words, check, read_words, status_of, tell_faults, tell_words,
 };
 use capture::write_capture;
+use compiling::compile;
 use files::{buffered, create, open, open_plan, stand_in, written};
 use interface::{import_file, schedule};
 use judging::judge_files;
@@ -138,6 +140,7 @@ fn obey<'a, W: Write, T: Threads + Wait + Sync>(
             let told = tell_faults(alloc, open(rt, path.as_str())?, path.as_str(), writer);
             of_file(told, path.as_str(), Cause::UnreadPlan)
         }
+        Words::Compile { config, source } => compile(rt, config.as_str(), source, writer),
         Words::Import(path) => import_file(rt, path.as_str(), writer),
         Words::Report(asked) => report(rt, asked, writer),
         Words::Schedule {

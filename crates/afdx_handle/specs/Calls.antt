@@ -5,6 +5,8 @@ use Rattle.afdx_frame.specs.declared.net.Net.{Net}
 use Rattle.afdx_plan.specs.declared.fault.ConfigFault.{ConfigFault}
 use Rattle.afdx_plan.specs.declared.fault.ConfigFault.TheVariants.{Memory}
 use Rattle.afdx_plan.specs.PlanFaults.{fault_number}
+use Rattle.plan_table.specs.Reading.{IsFaultOf, table_fault_number}
+use Rattle.plan_table.specs.declared.fault.TableFault.{TableFault}
 use Rattle.afdx_handle.specs.EndSystem.{EndView}
 use Rattle.afdx_handle.specs.Held.{port_of, HoldsNothing, HoldsEnd, HoldsSame}
 use Rattle.afdx_handle.specs.Numbers.{IsOneOf, net_of}
@@ -33,3 +35,7 @@ HoldsNet held network Is = HoldsEnd held (λ end. IsSomeAnd (net_of network) (λ
 abbrev pub IsFaultNumber : List ℕ → ℕ → Type 0
 IsFaultNumber text answer = (fault : ConfigFault) × (answer ≡ fault_number fault)
     × (fault ≢ Memory → IsLeastFault text fault)
+
+-- the number of a table's fault, or of an allocation that failed
+abbrev pub IsTableFaultNumber : List ℕ → ℕ → Type 0
+IsTableFaultNumber table answer = (fault : TableFault) × (answer ≡ table_fault_number fault) × IsFaultOf table fault

@@ -6,7 +6,6 @@ use Rattle.redundant_mux.specs.Memory.{entry_at}
 use Rattle.redundant_mux.specs.Lines.{Entry, log, with_failing, IsMirrored}
 use Rattle.afdx_legal.specs.Accepted.{IsAllDone}
 use Rattle.afdx_plan.specs.Config.{Plan}
-use Rattle.afdx_config.specs.Faults.{IsPlanOf}
 use denote.RawPtr.{Ptr}
 use Rattle.afdx_tx.specs.Emitter.{Tx, IsFreshTx}
 use Rattle.afdx_tx.specs.Run.{accepted_in}
@@ -114,11 +113,11 @@ pub record TakesPort (old : EndView) (id : ℕ) (port : PortView) (new : EndView
 pub record GivesBack (old : EndView) (port : PortView) (new : EndView) : Type 0 where
   pub same : new ≡ record old { ports = old.ports ++ port ∷ [] }
 
--- An end system of this text: nothing was accepted, polled or transmitted, and all its ports are in it,
+-- An end system of such a plan: nothing was accepted, polled or transmitted, and all its ports are in it,
 -- in a list with room for all of them.
-pub record IsOpened (text : List ℕ) (it : EndView) : Type 0 where
+pub record IsOpened (Of : Plan → Type 0) (it : EndView) : Type 0 where
   pub plan : Plan
-  pub of : IsPlanOf text plan
+  pub of : Of plan
   pub fresh : IsFreshTx plan it.tx
   pub ports : AreFreshPorts it.tx it.ports
   pub room : length it.tx.plan.ports ≤ it.room

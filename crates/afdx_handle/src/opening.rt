@@ -1,6 +1,5 @@
-//! The text of a configuration: an end system of it, or its faults explained to C.
-ghost use Rattle.std.specs.Prelude.{◌≡◌, ◌≢◌, ◌<◌, ◌≤◌, [], ◌∷◌, length, take, Some, IfOk, IfErr};
-ghost use Rattle.afdx_config.specs.Faults.{IsLeastFault};
+//! An end system of a plan, and texts that C reads.
+ghost use Rattle.std.specs.Prelude.{◌≡◌, ◌<◌, ◌≤◌, [], ◌∷◌, length, take, Some, IfOk};
 ghost use Rattle.afdx_handle.specs.EndSystem.{IsOpened};
 ghost use Rattle.afdx_handle.specs.Held.{HoldsEnd};
 ghost use Rattle.afdx_handle.specs.Listing.{with_front};
@@ -10,24 +9,21 @@ use crate::answer::{DONE, SMALL_BUFFER};
 use crate::block::Block;
 use crate::end_system::{EndSystem, Stage};
 use crate::handle::Home;
-use afdx_config::{ConfigFault, read_config};
+use afdx_config::Config;
 use afdx_tx::open_tx;
 use redundant_mux::Outbox;
 use std::alloc::{AllocError, Global};
 
-/// An end system of a configuration, with all its ports. Allocates all memory that polling, closing and gathering need.
-/// Fails with the fault of the least number, or with `Memory` if an allocation fails.
-fn open_end(alloc: Global, text: &[u8]) -> Result<EndSystem, ConfigFault>
-    ensures opened { IfOk result (IsOpened text.now) }
-    ensures fault { IfErr result (λ fault. fault ≢ ConfigFault.Memory → IsLeastFault text.now fault) }
+/// Opens an end system of a plan, with all its ports. Allocates all memory that polling, closing and gathering need.
+fn open_end(alloc: Global, config: Config) -> Result<EndSystem, AllocError>
+    ensures { IfOk result (IsOpened (λ plan. plan ≡ config)) }
 {
-    let config = read_config(alloc, text)?;
-    let outbox_a = Outbox::of_last_time(alloc).map_err(|_| ConfigFault::Memory)?;
-    let outbox_b = Outbox::of_last_time(alloc).map_err(|_| ConfigFault::Memory)?;
+    let outbox_a = Outbox::of_last_time(alloc)?;
+    let outbox_b = Outbox::of_last_time(alloc)?;
     let Ok((emitter, ports, _monitor)) = open_tx(alloc, config, outbox_a, outbox_b) else {
-        return Err(ConfigFault::Memory);
+        return Err(AllocError);
     };
-    let block = Block::new(alloc).map_err(|_| ConfigFault::Memory)?;
+    let block = Block::new(alloc)?;
     let stage = Stage::Sending(emitter);
     Ok(EndSystem {
         stage,
@@ -52,24 +48,20 @@ fn empty_boxes(alloc: Global, ports: usize) -> Result<Vec<Box<Home>>, AllocError
     Ok(boxes)
 }
 
-/// The content of a handle of an end system of a configuration, and the mark of the end system.
-/// Fails as `open_end` does.
-pub fn open_home(alloc: Global, text: &[u8]) -> Result<(Box<Home>, *const u8), ConfigFault>
-    ensures opened { IfOk result (λ made. HoldsEnd (Some made.0.value) (IsOpened text.now)) }
+/// Makes the content of a handle of an end system of a plan, and the mark of the end system.
+pub fn open_home(alloc: Global, config: Config) -> Result<(Box<Home>, *const u8), AllocError>
+    ensures opened { IfOk result (λ made. HoldsEnd (Some made.0.value) (IsOpened (λ plan. plan ≡ config))) }
     ensures marked { IfOk result (λ made. HoldsEnd (Some made.0.value) (λ end. made.1 ≡ end.block)) }
-    ensures fault { IfErr result (λ fault. fault ≢ ConfigFault.Memory → IsLeastFault text.now fault) }
 {
-    let end_system = open_end(alloc, text)?;
+    let end_system = open_end(alloc, config)?;
     let mark = end_system.block.address();
-    let Ok(boxes) = empty_boxes(alloc, end_system.ports.len()) else {
-        return Err(ConfigFault::Memory);
-    };
+    let boxes = empty_boxes(alloc, end_system.ports.len())?;
     let Some(boxed) = Box::new(alloc, Some(end_system)).ok() else {
-        return Err(ConfigFault::Memory);
+        return Err(AllocError);
     };
     match Box::new(alloc, Home::EndSystem(boxed, boxes)).ok() {
         Some(home) => Ok((home, mark)),
-        None => Err(ConfigFault::Memory),
+        None => Err(AllocError),
     }
 }
 

@@ -9,7 +9,7 @@ const ABOUT: &str =
     "A transmitting AFDX end system. Without words it runs a script from standard input.";
 
 /// The names of the commands, and what each does.
-const COMMANDS: [(&str, &str); 8] = [
+const COMMANDS: [(&str, &str); 9] = [
     (
         "run",
         "Runs a script over a configuration and prints the frames of both networks",
@@ -25,6 +25,10 @@ const COMMANDS: [(&str, &str); 8] = [
     (
         "import",
         "Prints the configuration of an interface document, a CSV file with a row for each port",
+    ),
+    (
+        "compile",
+        "Prints the table of a plan, which an end system opens without its text",
     ),
     (
         "report",
@@ -69,13 +73,19 @@ enum Kind {
 struct Word(&'static str, &'static str, Kind, &'static str);
 
 /// The words after that of the configuration, in the order of the help.
-const WORDS: [Word; 21] = [
+const WORDS: [Word; 22] = [
     Word("run", "script", Kind::Needed, "The file of the script"),
     Word(
         "run",
         "capture",
         Kind::Text("file"),
         "Also writes the frames of both networks to a file in the pcapng format",
+    ),
+    Word(
+        "compile",
+        "c",
+        Kind::Text("file"),
+        "Writes a file of C with the table instead",
     ),
     Word(
         "report",

@@ -41,6 +41,11 @@ pub enum Words {
     Explain(String),
     /// `import <document>`
     Import(String),
+    /// `compile <config>`
+    Compile {
+        config: String,
+        source: Option<String>,
+    },
     /// `report <config>`
     Report(Asked),
     /// `schedule <config> --traffic <file> --seconds <n>`, and `--seed <s>`
@@ -148,6 +153,10 @@ fn words_of(alloc: Global, name: &str, matches: &ArgMatches<'_>) -> Result<Words
         }),
         "check" => Ok(Words::Check(config)),
         "explain" => Ok(Words::Explain(config)),
+        "compile" => Ok(Words::Compile {
+            config,
+            source: given(alloc, matches, "c")?,
+        }),
         "report" => report_words(alloc, matches, config),
         "schedule" => Ok(Words::Schedule {
             config,
