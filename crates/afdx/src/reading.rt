@@ -3,10 +3,9 @@ ghost use Rattle.std.specs.Prelude.{◌≡◌, ◌≢◌, ◌⊎◌, ◌↔◌, 
 ghost use Rattle.afdx_tx.specs.Emitter.{LacksLink};
 ghost use Rattle.afdx_handle.specs.Numbers.{AreCountsOf, net_of};
 ghost use Rattle.afdx_handle.specs.Script.{IsReleaseOf};
-ghost use Rattle.afdx_handle.specs.EndSystem.{made_for, made_at, IsAllSent};
+ghost use Rattle.afdx_handle.specs.EndSystem.{IsNextDue, made_for, made_at, IsAllSent};
 ghost use Rattle.afdx_legal.specs.Counting.{counts_in};
 ghost use Rattle.afdx_legal.specs.Streams.{own_stream};
-ghost use Rattle.afdx_handle.specs.Polling.{IsNextDue};
 ghost use Rattle.afdx_handle.specs.Listing.{with_front, port_ids, link_ids, all_made, bytes_of, lengths_of};
 ghost use Rattle.std.specs.List.{concat};
 ghost use Rattle.afdx_handle.specs.Calls.{ReadsEnd, HoldsNet};

@@ -1,6 +1,6 @@
 //! The line of a finding, and how many findings there are.
 use afdx_frame::Net;
-use judge::{Finding, Kind, Layout, Misfit};
+use judge::{Finding, FindingKind, FragmentMisfit, Layout};
 use plan_report::Cell;
 use std::fmt;
 
@@ -34,21 +34,24 @@ pub(crate) fn network_name(net: Net) -> &'static str {
 fn write_kind<W: fmt::Write>(f: &mut fmt::Formatter<W>, finding: &Finding) -> fmt::Result {
     let (kind, seen, wanted) = (finding.kind, finding.seen, finding.wanted);
     match kind {
-        Kind::Frame(rule) => match rule {
+        FindingKind::Frame(rule) => match rule {
             Layout::Time => f.write_str("Frame Time"),
             Layout::Snapped | Layout::CheckSequence | Layout::Recorded | Layout::Length => {
                 write!(f, "Frame {rule:?}: seen {seen}, wanted {wanted}")
             }
             _ => write!(f, "Frame {rule:?}: byte {seen}"),
         },
-        Kind::Link => f.write_str("Link"),
-        Kind::Fragment(Misfit::Addresses) => f.write_str("Fragment Addresses"),
-        Kind::Fragment(Misfit::Repeated) => write!(f, "Fragment Repeated: seen {seen}"),
-        Kind::Fragment(rule) => write!(f, "Fragment {rule:?}: seen {seen}, wanted {wanted}"),
-        Kind::Message(rule) => write!(f, "Message {rule:?}: seen {seen}, wanted {wanted}"),
-        Kind::Turn => write!(f, "Turn: sub-VL {seen}, between pieces of sub-VL {wanted}"),
-        Kind::Twin => write!(f, "Twin: byte {seen}, packet {wanted}"),
-        Kind::Port | Kind::Missing => write!(f, "{kind:?}: seen {seen}"),
+        FindingKind::Link => f.write_str("Link"),
+        FindingKind::Fragment(FragmentMisfit::Addresses) => f.write_str("Fragment Addresses"),
+        FindingKind::Fragment(FragmentMisfit::Repeated) => write!(
+            f,
+            "Fragment Repeated: seen {seen}"
+        ),
+        FindingKind::Fragment(rule) => write!(f, "Fragment {rule:?}: seen {seen}, wanted {wanted}"),
+        FindingKind::Message(rule) => write!(f, "Message {rule:?}: seen {seen}, wanted {wanted}"),
+        FindingKind::Turn => write!(f, "Turn: sub-VL {seen}, between pieces of sub-VL {wanted}"),
+        FindingKind::Twin => write!(f, "Twin: byte {seen}, packet {wanted}"),
+        FindingKind::Port | FindingKind::Missing => write!(f, "{kind:?}: seen {seen}"),
         _ => write!(f, "{kind:?}: seen {seen}, wanted {wanted}"),
     }
 }
@@ -80,7 +83,7 @@ impl Tally {
     }
 
     /// Counts a finding.
-    pub fn add(&mut self, kind: Kind) {
+    pub fn add(&mut self, kind: FindingKind) {
         let place = kind.number() as usize;
         if place < KINDS {
             self.counts[place] = self.counts[place].saturating_add(1);

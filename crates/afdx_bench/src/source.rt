@@ -4,7 +4,7 @@ ghost use Rattle.std.specs.Prelude.{◌≤◌, length, vec_len, IfSome};
 use crate::hearing::Hearing;
 use crate::stop::{Cause, Stop};
 use afdx_frame::Net;
-use capture::{End, GREATEST_UNIT, Reading, Stop as Halt};
+use capture::{CaptureEnd, GREATEST_UNIT, NoStep, Reading};
 use std::alloc::{AllocError, Global};
 use std::fmt;
 use std::fs::File;
@@ -54,7 +54,7 @@ pub struct Source<'a> {
     others: u64,
     // The time of the next packet, at first the least, and the end of the capture once it is read.
     next: u128,
-    ended: Option<End>,
+    ended: Option<CaptureEnd>,
     ghost ordered: { start ≤ end },
     ghost within: { end ≤ vec_len window },
 }
@@ -122,7 +122,7 @@ impl<'a> Source<'a> {
                     self.used = self.used.saturating_add(step.used as u64);
                 }
                 Err(stop) => {
-                    if stop != Halt::More || !self.fill()? {
+                    if stop != NoStep::More || !self.fill()? {
                         let rest = &self.window.as_slice()[self.start..self.end];
                         self.ended = Some(self.reading.end(self.used, rest, stop));
                         return Ok(());
@@ -150,13 +150,13 @@ impl<'a> Source<'a> {
     }
 
     /// How the capture ended.
-    fn ending(&self) -> End {
-        self.ended.unwrap_or(End::CutOff(self.used))
+    fn ending(&self) -> CaptureEnd {
+        self.ended.unwrap_or(CaptureEnd::CutOff(self.used))
     }
 
     /// Whether it was read to its end.
     pub fn is_whole(&self) -> bool {
-        self.ending() == End::Whole
+        self.ending() == CaptureEnd::Whole
     }
 
     /// Whether it is a capture: it has a packet, or was read to its end.
@@ -173,9 +173,9 @@ impl fmt::Display for Source<'_> {
             write!(f, ", {others} of other interfaces")?;
         }
         match self.ending() {
-            End::Whole => Ok(()),
-            End::CutOff(at) => write!(f, ", cut off at byte {at}"),
-            End::Broken(at, fault) => write!(f, ", malformed at byte {at}: {fault:?}"),
+            CaptureEnd::Whole => Ok(()),
+            CaptureEnd::CutOff(at) => write!(f, ", cut off at byte {at}"),
+            CaptureEnd::Broken(at, fault) => write!(f, ", malformed at byte {at}: {fault:?}"),
         }
     }
 }

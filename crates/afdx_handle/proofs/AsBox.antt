@@ -15,7 +15,7 @@ use Rattle.std_heap.specs.contracts.Global as Heap
 use Rattle.std_heap.proofs.Global.TheLaws as heap
 use denote.Signature.{Slot, plain}
 use Rattle.afdx_handle.specs.contracts.handle.Home as Home
-use Rattle.afdx_handle.specs.contracts.seal.parts.Parts as Parts
+use Rattle.afdx_handle.specs.contracts.seal.parts.BoxParts as BoxParts
 use Rattle.afdx_handle.proofs.handle.Home.TheLaws as home
 
 abbrev pub Content : RattleType
@@ -38,7 +38,7 @@ E = record {
 }
 
 abbrev pub FromParts : Slot 0
-FromParts = plain (λ _. Parts.the_row Home.the_row Heap.the_row ghosts)
+FromParts = plain (λ _. BoxParts.the_row Home.the_row Heap.the_row ghosts)
 
 pub held_of : {A : Type 0} (o : Option A) → IsSome o → (held : A) × (o ≡ Some held)
 held_of None is = absurd (false≢true is)

@@ -1,10 +1,9 @@
 -- Names of other crates, and of this crate's definitions, for the proofs here.
 pub use Rattle.afdx_frame.specs.declared.net.Net.{Net}
-pub use Rattle.afdx_handle.specs.EndSystem.{AreOfPoll, ClosesEnd, EndView, IsAllSent, IsEndSystem, TakesPort, end_view, has_id, made_at, made_for}
+pub use Rattle.afdx_handle.specs.EndSystem.{PollsTx, tx_of, AreOfPoll, ClosesEnd, EndView, IsAllSent, IsEndSystem, TakesPort, end_view, has_id, made_at, made_for}
 pub use Rattle.afdx_handle.specs.Held.{port_of}
 pub use Rattle.afdx_handle.specs.Listing.{bytes_of, first_made, lengths_of, link_id, port_id, with_front}
 pub use Rattle.afdx_tx.specs.Phases.{Runs}
-pub use Rattle.afdx_handle.specs.Polling.{PollsTx, tx_of}
 pub use Rattle.afdx_handle.specs.contracts.end_system.EndSystem.{the_view}
 pub use Rattle.afdx_handle.specs.declared.handle.Home.{Home}
 pub use Rattle.afdx_handle.specs.declared.end_system.Stage.{Stage}

@@ -1,5 +1,5 @@
 -- An end system as contracts see it, and the effect of each of its calls.
-use Rattle.std.specs.Prelude.{ℕ, ◌≡◌, ◌≤◌, ◌<◌, ◌+◌, ◌-◌, List, [], ◌∷◌, ◌++◌, length, Bool, true, false, nat_eq, IsPermutation}
+use Rattle.std.specs.Prelude.{ℕ, ◌≡◌, ◌≤◌, ◌<◌, ◌+◌, ◌-◌, List, [], ◌∷◌, ◌++◌, length, Bool, true, false, nat_eq, IsPermutation, ◌^◌, unwrap_or, Option}
 use Rattle.afdx_frame.specs.declared.net.Net.{Net}
 use Rattle.afdx_frame.specs.declared.net.Net.TheVariants.{A, B}
 use Rattle.redundant_mux.specs.Memory.{entry_at}
@@ -10,11 +10,29 @@ use denote.RawPtr.{Ptr}
 use Rattle.afdx_tx.specs.Emitter.{Tx, IsFreshTx}
 use Rattle.afdx_tx.specs.Run.{accepted_in}
 use Rattle.afdx_tx.specs.Ports.{PortView, IsPortOfTx, AreOpenedWith, AreFreshPorts}
-use Rattle.afdx_tx.specs.Calls.{ClosesTx}
+use Rattle.afdx_tx.specs.Calls.{ClosesTx, TellsNextDue}
+use Rattle.afdx_tx.specs.Phases.{Runs, StaysLawful}
+use Rattle.afdx_tx.specs.Report.{Polls}
 use Rattle.afdx_tx.specs.Gathering.{IsGatheredTx}
 use Rattle.afdx_tx.specs.declared.turns.Report.{Report}
 use Rattle.afdx_handle.specs.Numbers.{line_of}
-use Rattle.afdx_handle.specs.Polling.{PollsTx}
+use Rattle.afdx_handle.specs.declared.end_system.Stage.{Stage}
+use Rattle.afdx_handle.specs.declared.end_system.Stage.TheVariants.{Sending, Draining}
+
+-- the first time after the last poll at which a link may release a frame and couldn't then, or the greatest number of
+-- 64 bits
+abbrev pub IsNextDue : Tx → ℕ → Type 0
+IsNextDue tx at = (next : Option ℕ) × TellsNextDue tx next × (at ≡ unwrap_or next (2 ^ 64 - 1))
+
+-- whether the ports are gathered
+abbrev pub is_gathered : Stage → Bool
+is_gathered (Sending tx) = false
+is_gathered (Draining tx) = true
+
+-- the emitter
+abbrev pub tx_of : Stage → Tx
+tx_of (Sending tx) = tx
+tx_of (Draining tx) = tx
 
 -- An end system: whether its ports are gathered, its emitter, the ports in it and the capacity of
 -- their list, the number of frames that each network had accepted before the last poll, and the address
@@ -69,6 +87,12 @@ pub record IsEndSystem (it : EndView) : Type 0 where
   pub own : it.gathered ≡ false → AreOpenedWith it.tx it.ports
   pub made_a : AreOfPoll it.tx.moment it.a_before it.tx.lines.a
   pub made_b : AreOfPoll it.tx.moment it.b_before it.tx.lines.b
+
+-- A poll at `now`: its report, the turns of the links, and that the emitter stays lawful.
+pub record PollsTx (gathered : Bool) (now : ℕ) (old : Tx) (report : Report) (new : Tx) : Type 0 where
+  pub told : Polls now old report new
+  pub run : Runs gathered now old new
+  pub lawful : StaysLawful gathered old new
 
 -- A poll: the frames that it makes for a network are those after the frames accepted before.
 pub record PollsEnd (now : ℕ) (old new : EndView) : Type 0 where

@@ -10,8 +10,8 @@ use Rattle.afdx_handle.specs.Listing.{with_front}
 use Rattle.afdx_handle.specs.Rows.{row_of, captured_of, options_of}
 use Rattle.afdx_handle.specs.declared.answer.TheConstants.{DONE, MEMORY, SMALL_BUFFER, BAD_CAPTURE}
 use Rattle.afdx_handle.specs.declared.judging.Judged.{Judged}
-use Rattle.afdx_handle.specs.declared.rows.FindingRow.{FindingRow}
-use Rattle.afdx_handle.specs.declared.rows.JudgeOptions.{JudgeOptions}
+use Rattle.afdx_handle.specs.declared.judging.FindingRow.{FindingRow}
+use Rattle.afdx_handle.specs.declared.judging.JudgeOptions.{JudgeOptions}
 
 -- the answer to a caller who has this much room: a capture isn't read to its end, or findings have no room
 abbrev pub answer_of : Judged → ℕ → ℕ

@@ -4,7 +4,6 @@ pub mod Held
 pub mod Judged
 pub mod Listing
 pub mod Numbers
-pub mod Polling
 pub mod Rows
 pub mod Script
 pub mod Sealed

@@ -5,23 +5,23 @@ use Rattle.afdx_frame.specs.declared.layout.Layout.{Layout}
 use Rattle.afdx_frame.specs.declared.layout.Layout.TheVariants as layout
 use Rattle.afdx_frame.specs.declared.net.Net.TheVariants.{A, B}
 use Rattle.capture.specs.Recording.{Recording}
-use Rattle.capture.specs.declared.stop.End.{End}
-use Rattle.capture.specs.declared.stop.End.TheVariants.{Whole, CutOff, Broken}
+use Rattle.capture.specs.declared.stop.CaptureEnd.{CaptureEnd}
+use Rattle.capture.specs.declared.stop.CaptureEnd.TheVariants.{Whole, CutOff, Broken}
 use Rattle.capture.specs.declared.stop.Fault.{Fault}
 use Rattle.capture.specs.declared.stop.Fault.TheVariants as fault
 use Rattle.judge.specs.Deviations.{kind_number}
 use Rattle.judge.specs.Types.{Net, VlId}
 use Rattle.judge.specs.declared.finding.Ending.{Ending}
 use Rattle.judge.specs.declared.finding.Finding.{Finding}
-use Rattle.judge.specs.declared.finding.Kind.{Kind}
-use Rattle.judge.specs.declared.finding.Misfit.{Misfit}
+use Rattle.judge.specs.declared.finding.FindingKind.{FindingKind}
+use Rattle.judge.specs.declared.finding.FragmentMisfit.{FragmentMisfit}
 use Rattle.judge.specs.declared.judge.Options.{Options}
 use Rattle.judge.specs.declared.finding.Ending.TheVariants as ending
-use Rattle.judge.specs.declared.finding.Kind.TheVariants.{Frame, Fragment, Message}
-use Rattle.judge.specs.declared.finding.Misfit.TheVariants as misfit
-use Rattle.afdx_handle.specs.declared.rows.Captured.{Captured}
-use Rattle.afdx_handle.specs.declared.rows.FindingRow.{FindingRow}
-use Rattle.afdx_handle.specs.declared.rows.JudgeOptions.{JudgeOptions}
+use Rattle.judge.specs.declared.finding.FindingKind.TheVariants.{Frame, Fragment, Message}
+use Rattle.judge.specs.declared.finding.FragmentMisfit.TheVariants as misfit
+use Rattle.afdx_handle.specs.declared.judging.Captured.{Captured}
+use Rattle.afdx_handle.specs.declared.judging.FindingRow.{FindingRow}
+use Rattle.afdx_handle.specs.declared.judging.JudgeOptions.{JudgeOptions}
 
 -- the options of the judge; a flag is on unless it is 0
 abbrev pub options_of : JudgeOptions → Options
@@ -53,7 +53,7 @@ layout_number layout.SourceAddress = 15
 layout_number layout.DestinationAddress = 16
 layout_number layout.Padding = 17
 
-abbrev pub misfit_number : Misfit → ℕ
+abbrev pub misfit_number : FragmentMisfit → ℕ
 misfit_number misfit.Offset = 1
 misfit_number misfit.Identification = 2
 misfit_number misfit.Addresses = 3
@@ -66,7 +66,7 @@ ending_number ending.Size = 2
 ending_number ending.UdpChecksum = 3
 
 -- that of a kind's rule, 0 if the kind has none
-abbrev pub rule_number : Kind → ℕ
+abbrev pub rule_number : FindingKind → ℕ
 rule_number (Frame rule) = layout_number rule
 rule_number (Fragment rule) = misfit_number rule
 rule_number (Message rule) = ending_number rule
@@ -106,7 +106,7 @@ capture_number fault.Captured = 13
 capture_number fault.Time = 14
 
 -- what was read of a capture: the number of its packets, how it ends, and at which byte
-abbrev pub ended : ℕ → End → Captured
+abbrev pub ended : ℕ → CaptureEnd → Captured
 ended packets Whole = record { packets = packets; at = 0; end = 0 }
 ended packets (CutOff place) = record { packets = packets; at = place; end = 1 }
 ended packets (Broken place fault) = record { packets = packets; at = place; end = capture_number fault }

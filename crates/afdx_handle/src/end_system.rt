@@ -1,7 +1,6 @@
 //! An end system, as a handle owns it, with its emitter before and after its ports are gathered.
 ghost use Rattle.std.specs.Prelude.{◌≡◌, ℕ, length, vec_capacity, ◌≢◌, ◌<◌, ◌≤◌, ◌+◌, ◌⊎◌, ◌↔◌, false, true, IsErr, OnErr, OnOk, IfOk, IsNone, IfSome, map};
-ghost use Rattle.afdx_handle.specs.Polling.{tx_of, is_gathered};
-ghost use Rattle.afdx_handle.specs.EndSystem.{EndView, IsEndSystem, end_view, PollsEnd, ClosesEnd, FailsEnd, before_of, made_for, made_at, IsAllSent};
+ghost use Rattle.afdx_handle.specs.EndSystem.{tx_of, is_gathered, EndView, IsEndSystem, end_view, PollsEnd, ClosesEnd, FailsEnd, before_of, made_for, made_at, IsAllSent};
 ghost use Rattle.redundant_mux.specs.Lines.{is_alive, with_failing};
 ghost use Rattle.afdx_tx.specs.Calls.{LacksSub, TellsNextDue};
 ghost use Rattle.afdx_handle.specs.Numbers.{line_of, standing_bits};
@@ -16,7 +15,7 @@ ghost use Rattle.afdx_tx.specs.Report.{PollsUnreported};
 use crate::answer::{
     BOTH_DOWN, DONE, GATHERED, NO_SUB, NOT_GATHERED, SMALL_BUFFER, TIME_BACK, put_at, standing_bits,
 };
-use crate::block::Block;
+use crate::handle::Block;
 use afdx_frame::Net;
 use afdx_plan::{Config, LinkPlan, PortPlan, VlId};
 use afdx_tx::{Draining, Emitter, PollFault, TxPort};

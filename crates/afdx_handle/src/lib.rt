@@ -3,23 +3,19 @@
 #![tactic(auto)]
 
 pub mod answer;
-mod block;
 mod end_system;
 mod handle;
 mod judging;
 mod opening;
 mod ports;
-mod rows;
 mod script;
 mod seal;
 
 pub use answer::{FrameRelease, LinkCounts, release_of};
-pub use block::Block;
 pub use end_system::{EndSystem, Stage, write_link_ids, write_port_ids};
-pub use handle::{Handle, Home, Marked, Opening, OwnPort};
-pub use judging::{Judged, judge_into};
+pub use handle::{Block, Handle, Home, Marked, Opening, OwnPort};
+pub use judging::{FindingRow, JudgeOptions, Judged, judge_into};
 pub use opening::{open_home, write_front};
 pub use ports::{gather, give_to, is_nothing, keep_box, take_port};
-pub use rows::{FindingRow, JudgeOptions};
 pub use script::{ScriptLine, VERSION, laid_out, write_message};
 pub use seal::Sealed;

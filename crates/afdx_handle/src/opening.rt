@@ -6,9 +6,8 @@ ghost use Rattle.afdx_handle.specs.Listing.{with_front};
 ghost use Rattle.afdx_handle.specs.Numbers.{IsOneOf};
 
 use crate::answer::{DONE, SMALL_BUFFER};
-use crate::block::Block;
 use crate::end_system::{EndSystem, Stage};
-use crate::handle::Home;
+use crate::handle::{Block, Home};
 use afdx_config::Config;
 use afdx_tx::open_tx;
 use redundant_mux::Outbox;

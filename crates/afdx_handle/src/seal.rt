@@ -7,7 +7,7 @@ ghost use Rattle.std.specs.Coded.{coded_option};
 ghost use Rattle.std.specs.Box.Ownership.{box_owns};
 
 use crate::handle::Home;
-use parts::Parts;
+use parts::BoxParts;
 use std::alloc::Global;
 use std::marker::Model;
 
@@ -16,24 +16,24 @@ mod parts {
     use std::alloc::Allocator;
     use std::marker::Model;
 
-    pub struct Parts<T, A: Allocator> {
+    pub struct BoxParts<T, A: Allocator> {
         pub(super) ptr: *mut T,
         pub(super) alloc: A,
         pub ghost value: { T },
     }
 
-    impl<T, A: Allocator> Model for Parts<T, A> {
+    impl<T, A: Allocator> Model for BoxParts<T, A> {
         ghost also_owns = { λ p. box_owns (A.dealloc_token p.alloc) T.row p.ptr p.value };
     }
 
-    impl<T, A: Allocator> Parts<T, A> {
-        pub fn of(b: Box<T, A>) -> Parts<T, A>
+    impl<T, A: Allocator> BoxParts<T, A> {
+        pub fn of(b: Box<T, A>) -> BoxParts<T, A>
         where
             T: Drop,
             ensures { result.value ≡ b.value }
         {
             let (ptr, alloc) = Box::into_raw_with_allocator(b);
-            Parts { ptr, alloc }
+            BoxParts { ptr, alloc }
         }
     }
 }
@@ -55,10 +55,10 @@ impl Sealed {
     ghost use Rattle.std.specs.Borrow.{sem};
     ghost use Rattle.afdx_handle.specs.Held.{LendsHome};
 
-    fn of_parts(parts: Parts<Home, Global>) -> Sealed
+    fn of_parts(parts: BoxParts<Home, Global>) -> Sealed
         ensures { result.home ≡ Some parts.value }
     {
-        let Parts { ptr, alloc } = parts;
+        let BoxParts { ptr, alloc } = parts;
         Sealed {
             ptr: ptr as *mut u8,
             alloc,
@@ -69,7 +69,7 @@ impl Sealed {
     pub fn of(home: Box<Home>) -> Sealed
         ensures { result.home ≡ Some home.value }
     {
-        Sealed::of_parts(Parts::of(home))
+        Sealed::of_parts(BoxParts::of(home))
     }
 
     /// Its content, which stays in place.

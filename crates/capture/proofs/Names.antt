@@ -26,16 +26,16 @@ unfoldable pub use Rattle.capture.specs.Recording.{block_content, body_of, conte
 pub use Rattle.capture.specs.Streaming.{IsRoomEnough, StepsOn, StopsThere}
 pub use Rattle.capture.specs.Units.{number_at, section_type}
 unfoldable pub use Rattle.capture.specs.Units.{block_size, header_unit, record_size, section_unit, size_of, unit_of}
-pub use Rattle.capture.specs.declared.stop.End.{End}
-pub use Rattle.capture.specs.declared.stop.End.TheVariants.{Whole}
+pub use Rattle.capture.specs.declared.stop.CaptureEnd.{CaptureEnd}
+pub use Rattle.capture.specs.declared.stop.CaptureEnd.TheVariants.{Whole}
 pub use Rattle.capture.specs.declared.interface.Interface.{Interface}
 pub use Rattle.capture.specs.declared.interface.OptionFront.{OptionFront}
 pub use Rattle.capture.specs.declared.order.Order.{Order}
 pub use Rattle.capture.specs.declared.order.Order.TheVariants.{Big, Little}
 pub use Rattle.capture.specs.declared.packet.Packet.{Packet}
 pub use Rattle.capture.specs.declared.stop.Fault.{Fault}
-pub use Rattle.capture.specs.declared.stop.Stop.{Stop}
-pub use Rattle.capture.specs.declared.stop.Stop.TheVariants.{Malformed, More}
+pub use Rattle.capture.specs.declared.stop.NoStep.{NoStep}
+pub use Rattle.capture.specs.declared.stop.NoStep.TheVariants.{Malformed, More}
 pub use Rattle.capture.specs.declared.unit.Format.{Format}
 pub use Rattle.capture.specs.declared.unit.Format.TheVariants.{Blocks, Records, Unknown}
 pub use Rattle.capture.specs.declared.unit.TheConstants.{GREATEST_UNIT}

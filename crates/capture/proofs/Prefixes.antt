@@ -1,5 +1,5 @@
 -- A step reads no byte past its unit, so it is the same whatever follows the bytes that it was given.
-use Rattle.capture.proofs.Names.{GREATEST_UNIT, block_size, record_size, nat_tests, Big, Block, Blocks, Err, Format, Header, List, Little, More, Moved, Ok, Order, Progress, Record, Records, Result, Section, Stop, Unknown, arith, big_from-append, content_of, drop, drop-append-le, header_unit, length, length-append, length-drop, little_from-append, moved, next, number_at, or_stop, refl, section_unit, size_of, take, take-append-le, unit_of, with_bytes, ℕ, ◌++◌, ◌+◌, ◌>>=◌, ◌≡◌, ◌≤◌, CaptureUnit}
+use Rattle.capture.proofs.Names.{GREATEST_UNIT, block_size, record_size, nat_tests, Big, Block, Blocks, Err, Format, Header, List, Little, More, Moved, Ok, Order, Progress, Record, Records, Result, Section, NoStep, Unknown, arith, big_from-append, content_of, drop, drop-append-le, header_unit, length, length-append, length-drop, little_from-append, moved, next, number_at, or_stop, refl, section_unit, size_of, take, take-append-le, unit_of, with_bytes, ℕ, ◌++◌, ◌+◌, ◌>>=◌, ◌≡◌, ◌≤◌, CaptureUnit}
 
 -- a number that is within the bytes
 pub number_at-append : (order : Order) (n i : ℕ) (bytes more : List ℕ) → i + n ≤ length bytes
@@ -46,23 +46,23 @@ size_range (Header order clock) bytes size is = grind arith
 size_range (Record order clock) bytes size is = grind arith
 
 -- enough bytes stay enough
-with_bytes-append : {X : Type 0} (len : ℕ) (bytes more : List ℕ) (inside inside' : Result X Stop)
+with_bytes-append : {X : Type 0} (len : ℕ) (bytes more : List ℕ) (inside inside' : Result X NoStep)
     → (with_bytes len bytes inside ≡ Err More → ⊥) → (len ≤ length bytes → (inside ≡ Err More → ⊥) → inside' ≡ inside)
     → with_bytes len (bytes ++ more) inside' ≡ with_bytes len bytes inside
 with_bytes-append len bytes more inside inside' other same = grind (arith, nat_tests, length-append)
 
 -- what follows a step that may stop
-then-same : {X Y : Type 0} (first : Result X Stop) (f g : X → Result Y Stop) → (first >>= f ≡ Err More → ⊥)
+then-same : {X Y : Type 0} (first : Result X NoStep) (f g : X → Result Y NoStep) → (first >>= f ≡ Err More → ⊥)
     → ((x : X) → (f x ≡ Err More → ⊥) → g x ≡ f x) → first >>= g ≡ first >>= f
 then-same (Ok x) f g other same = same x other
 then-same (Err stop) f g other same = refl
 
 -- a step from its unit's length on, and from its unit on
-abbrev pub from_size : Progress → List ℕ → CaptureUnit → ℕ → Result Moved Stop
+abbrev pub from_size : Progress → List ℕ → CaptureUnit → ℕ → Result Moved NoStep
 from_size p bytes unit size =
     with_bytes size bytes (or_stop (content_of p unit (take size bytes)) >>= (λ does. Ok (moved size does)))
 
-abbrev pub from_unit : Progress → List ℕ → CaptureUnit → Result Moved Stop
+abbrev pub from_unit : Progress → List ℕ → CaptureUnit → Result Moved NoStep
 from_unit p bytes unit = or_stop (size_of unit bytes) >>= from_size p bytes unit
 
 -- the step is the same

@@ -1,5 +1,5 @@
 -- Packets that were read, and those that follow them.
-use Rattle.capture.proofs.Names.{End, Err, List, None, Ok, Option, Packet, Progress, Recorded, Recording, Some, Stop, ap, append-nil, append_assoc, arith, content, drop, drop-drop, ended, length, length-drop, map, map-append, moved, next, read_capture, read_from, read_within, recorded, recorded_if, refl, slice_range, sym, take_all, with_packet, [], ℕ, ◌++◌, ◌+◌, ◌-◌, ◌∙◌, ◌∷◌, ◌≡◌, ◌≤◌}
+use Rattle.capture.proofs.Names.{CaptureEnd, Err, List, None, Ok, Option, Packet, Progress, Recorded, Recording, Some, NoStep, ap, append-nil, append_assoc, arith, content, drop, drop-drop, ended, length, length-drop, map, map-append, moved, next, read_capture, read_from, read_within, recorded, recorded_if, refl, slice_range, sym, take_all, with_packet, [], ℕ, ◌++◌, ◌+◌, ◌-◌, ◌∙◌, ◌∷◌, ◌≡◌, ◌≤◌}
 use Rattle.capture.proofs.Steps.{steps_on, used_of}
 
 -- packets in front of a recording
@@ -67,7 +67,7 @@ has_read_more bytes used took p after packets packet so left =
     }
 
 -- nothing more is read
-pub has_read_all : (bytes : List ℕ) (used : ℕ) (p : Progress) (packets : List Packet) (stop : Stop)
+pub has_read_all : (bytes : List ℕ) (used : ℕ) (p : Progress) (packets : List Packet) (stop : NoStep)
     → HasRead bytes used p packets → next p (left_of bytes used) ≡ Err stop
     → (let r : Recording = record {
       packets = map recorded packets;
@@ -81,7 +81,7 @@ has_read_all bytes used p packets stop so left =
     rw left_is (
     let none : read_from used p (drop used bytes)
     ≡ record { packets = []; end = ended p.format used (drop used bytes) stop } = rw is refl in
-    let end : End = ended p.format used (drop used bytes) stop in
+    let end : CaptureEnd = ended p.format used (drop used bytes) stop in
     ap (λ (l : List Recorded). let r : Recording = record { packets = l; end = end } in r) (sym (append-nil
     (map recorded packets)))
     ∙ ap (after_packets (map recorded packets)) (sym none) ∙ so.same)

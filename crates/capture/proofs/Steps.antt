@@ -1,14 +1,14 @@
 -- Reading on from a step.
-use Rattle.capture.proofs.Names.{nat_tests, Err, Fault, List, Malformed, Moved, Ok, Progress, Result, StepsOn, Stop, StopsThere, ap, arith, content_of, drop, drop-append-le, length, length-append, length-drop, moved, next, or_stop, read_within, refl, size_of, suc, take, then_read, unit_of, with_bytes, with_packet, zero, ℕ, ◌++◌, ◌+◌, ◌<◌, ◌>>=◌, ◌∙◌, ◌≡◌, ◌≤◌}
+use Rattle.capture.proofs.Names.{nat_tests, Err, Fault, List, Malformed, Moved, Ok, Progress, Result, StepsOn, NoStep, StopsThere, ap, arith, content_of, drop, drop-append-le, length, length-append, length-drop, moved, next, or_stop, read_within, refl, size_of, suc, take, then_read, unit_of, with_bytes, with_packet, zero, ℕ, ◌++◌, ◌+◌, ◌<◌, ◌>>=◌, ◌∙◌, ◌≡◌, ◌≤◌}
 use Rattle.capture.proofs.Prefixes.{steps_alike, from_size, from_unit, size_range}
 
 -- what it takes to give something
-then_ok : {X Y : Type 0} (first : Result X Fault) (f : X → Result Y Stop) (y : Y) → or_stop first >>= f ≡ Ok y
+then_ok : {X Y : Type 0} (first : Result X Fault) (f : X → Result Y NoStep) (y : Y) → or_stop first >>= f ≡ Ok y
     → (x : X) × (first ≡ Ok x) × (f x ≡ Ok y)
 then_ok (Ok x) f y is = (x, refl, is)
 then_ok (Err fault) f y is = absurd (cc)
 
-enough_ok : {Y : Type 0} (len : ℕ) (bytes : List ℕ) (inside : Result Y Stop) (y : Y)
+enough_ok : {Y : Type 0} (len : ℕ) (bytes : List ℕ) (inside : Result Y NoStep) (y : Y)
     → with_bytes len bytes inside ≡ Ok y
     → (len ≤ length bytes) × (inside ≡ Ok y)
 enough_ok len bytes inside y is = grind (arith, nat_tests)
@@ -31,7 +31,7 @@ used_of p bytes step is =
 -- more steps than bytes are enough, however many
 turn_same : (n m at : ℕ) (p : Progress) (bytes : List ℕ) → length bytes < suc n → length bytes < suc m
     → ((at : ℕ) (p : Progress) (rest : List ℕ) → length rest < n → length rest < m
-    → read_within n at p rest ≡ read_within m at p rest) → (r : Result Moved Stop) → next p bytes ≡ r
+    → read_within n at p rest ≡ read_within m at p rest) → (r : Result Moved NoStep) → next p bytes ≡ r
     → then_read p.format at bytes (λ after used. read_within n (at + used) after (drop used bytes)) r
     ≡ then_read p.format at bytes (λ after used. read_within m (at + used) after (drop used bytes)) r
 turn_same n m at p bytes lt lt' same (Err stop) is = refl

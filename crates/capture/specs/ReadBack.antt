@@ -6,7 +6,7 @@ use Rattle.afdx_frame.specs.declared.net.TheConstants.{GREATEST_FRAME}
 use Rattle.redundant_mux.specs.Lines.{Entry, entry}
 use Rattle.capture.specs.Capture.{capture_bytes, packet_blocks, interface_of}
 use Rattle.capture.specs.Recording.{Recorded, Recording, read_capture}
-use Rattle.capture.specs.declared.stop.End.TheVariants.{Whole}
+use Rattle.capture.specs.declared.stop.CaptureEnd.TheVariants.{Whole}
 use Rattle.capture.specs.Order.{RiseFrom, captured_moments, on, in_order}
 
 -- a frame that fits a capture: its time has 64 bits, and it isn't too long

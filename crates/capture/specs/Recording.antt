@@ -4,17 +4,17 @@ use Rattle.afdx_frame.specs.declared.net.Net.{Net}
 use Rattle.afdx_frame.specs.declared.net.Net.TheVariants.{A}
 use Rattle.capture.specs.Interfaces.{◌>>=◌, plain, with_options, time_of, known, network_of}
 use Rattle.capture.specs.Units.{number_at, unit_of, size_of}
-use Rattle.capture.specs.declared.stop.End.{End}
-use Rattle.capture.specs.declared.stop.End.TheVariants.{Whole, CutOff, Broken}
+use Rattle.capture.specs.declared.stop.CaptureEnd.{CaptureEnd}
+use Rattle.capture.specs.declared.stop.CaptureEnd.TheVariants.{Whole, CutOff, Broken}
 use Rattle.capture.specs.declared.interface.Interface.{Interface}
 use Rattle.capture.specs.declared.interface.TheConstants.{MOST_INTERFACES}
 use Rattle.capture.specs.declared.order.Order.{Order}
 use Rattle.capture.specs.declared.packet.Packet.{Packet}
-use Rattle.capture.specs.declared.recording.Recording.{Recording as ReadRecording}
+use Rattle.capture.specs.declared.reading.Recording.{Recording as ReadRecording}
 use Rattle.capture.specs.declared.stop.Fault.{Fault}
 use Rattle.capture.specs.declared.stop.Fault.TheVariants.{Version, Length, EndLength, LinkType, Interfaces, Obsolete, Captured}
-use Rattle.capture.specs.declared.stop.Stop.{Stop}
-use Rattle.capture.specs.declared.stop.Stop.TheVariants.{More, Malformed}
+use Rattle.capture.specs.declared.stop.NoStep.{NoStep}
+use Rattle.capture.specs.declared.stop.NoStep.TheVariants.{More, Malformed}
 use Rattle.capture.specs.declared.unit.Clock.{Clock}
 use Rattle.capture.specs.declared.unit.Clock.TheVariants.{Micros, Nanos}
 use Rattle.capture.specs.declared.unit.Format.{Format}
@@ -182,12 +182,12 @@ content_of p (Header order clock) whole = header_content order clock whole
 content_of p (Record order clock) whole = Ok (content p (Some (from_record order clock whole)))
 
 -- a fault stops a reading
-abbrev pub or_stop : {X : Type 0} → Result X Fault → Result X Stop
+abbrev pub or_stop : {X : Type 0} → Result X Fault → Result X NoStep
 or_stop (Ok x) = Ok x
 or_stop (Err fault) = Err (Malformed fault)
 
 -- there are as many bytes, or more are needed
-abbrev pub with_bytes : {X : Type 0} → ℕ → List ℕ → Result X Stop → Result X Stop
+abbrev pub with_bytes : {X : Type 0} → ℕ → List ℕ → Result X NoStep → Result X NoStep
 with_bytes len bytes inside = if nat_lt (length bytes) len then Err More else inside
 
 -- what a step does: what its unit does, and how many bytes the unit has
@@ -199,7 +199,7 @@ abbrev pub moved : ℕ → Content → Moved
 moved used does = record { content = does; used = used }
 
 -- the next unit of these bytes
-unfoldable pub next : Progress → List ℕ → Result Moved Stop
+unfoldable pub next : Progress → List ℕ → Result Moved NoStep
 next p bytes =
     with_bytes UNIT_FRONT bytes (or_stop (unit_of p.format bytes) >>= (λ unit.
     or_stop (size_of unit bytes) >>= (λ size.
@@ -210,7 +210,7 @@ next p bytes =
 -- what was read of a capture: its packets, in their order, and how it ends
 pub record Recording : Type 0 where
   pub packets : List Recorded
-  pub end : End
+  pub end : CaptureEnd
 
 -- one that was read, with the bytes that its packets borrow
 abbrev pub recording_of : ReadRecording → Recording
@@ -223,7 +223,7 @@ is_end (Blocks order) bytes = nat_eq (length bytes) 0
 is_end (Records order clock) bytes = nat_eq (length bytes) 0
 
 -- how a capture ends where a reading stops: `at` bytes of it were read, and these are left
-abbrev pub ended : Format → ℕ → List ℕ → Stop → End
+abbrev pub ended : Format → ℕ → List ℕ → NoStep → CaptureEnd
 ended format at bytes More = if is_end format bytes then Whole else CutOff at
 ended format at bytes (Malformed fault) = Broken at fault
 
@@ -233,7 +233,7 @@ with_packet None rest = rest
 with_packet (Some packet) rest = record rest { packets = packet ∷ rest.packets }
 
 -- a step, and what is read after it; or the end
-abbrev pub then_read : Format → ℕ → List ℕ → (Progress → ℕ → Recording) → Result Moved Stop → Recording
+abbrev pub then_read : Format → ℕ → List ℕ → (Progress → ℕ → Recording) → Result Moved NoStep → Recording
 then_read format at bytes more (Ok step) = with_packet step.content.packet (more step.content.after step.used)
 then_read format at bytes more (Err stop) = record { packets = []; end = ended format at bytes stop }
 

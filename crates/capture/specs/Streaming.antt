@@ -1,9 +1,9 @@
 -- A capture that is read in windows, wherever they end, is read as a whole.
 use Rattle.std.specs.Prelude.{ℕ, ◌+◌, ◌<◌, ◌≡◌, List, [], ◌++◌, length, drop, Ok, Err}
 use Rattle.capture.specs.Recording.{Progress, Moved, next, with_packet, read_from}
-use Rattle.capture.specs.declared.stop.End.TheVariants.{Broken}
+use Rattle.capture.specs.declared.stop.CaptureEnd.TheVariants.{Broken}
 use Rattle.capture.specs.declared.stop.Fault.{Fault}
-use Rattle.capture.specs.declared.stop.Stop.TheVariants.{More, Malformed}
+use Rattle.capture.specs.declared.stop.NoStep.TheVariants.{More, Malformed}
 use Rattle.capture.specs.declared.unit.TheConstants.{GREATEST_UNIT}
 
 -- a step that isn't short of bytes is the same whatever follows the window

@@ -1,14 +1,15 @@
-//! Reading a capture, a unit at a time.
+//! Reading a capture, a unit at a time, or as a whole.
 ghost use Rattle.std.specs.Prelude.{◌≡◌, ℕ, ◌+◌, ◌≤◌, ◌<◌, length, IfOk, IfErr, OnOk, OnErr};
 ghost use Rattle.capture.specs.Units.{least_size};
-ghost use Rattle.capture.specs.Recording.{Progress, at_start, section_content, interface_content, block_content, header_content, body_of, content, content_of, Does, moved, next, ended, recorded_if};
+ghost use Rattle.capture.specs.Recording.{Progress, at_start, section_content, interface_content, block_content, header_content, body_of, content, content_of, Does, moved, next, ended, recorded_if, recording_of, read_capture as recording_in};
 
 use crate::interface::{Interface, MOST_INTERFACES};
 use crate::order::Order;
 use crate::packet::{Packet, enhanced, from_record, simple};
-use crate::stop::{End, Fault, Stop};
+use crate::stop::{CaptureEnd, Fault, NoStep};
 use crate::unit::{Clock, Format, UNIT_FRONT, Unit};
 use arrayvec::ArrayVec;
+use std::alloc::{AllocError, Global};
 use std::marker::Model;
 
 // The types of blocks.
@@ -52,19 +53,19 @@ impl Reading {
     }
 
     /// How the capture ends where the reading stopped: `at` bytes of it were read, and `rest` is all that is left.
-    pub fn end(&self, at: u64, rest: &[u8], stop: Stop) -> End
+    pub fn end(&self, at: u64, rest: &[u8], stop: NoStep) -> CaptureEnd
         ensures { result ≡ ended self.now.format at rest.now stop }
     {
         match stop {
-            Stop::Malformed(fault) => End::Broken(at, fault),
-            Stop::More if rest.len() == 0 && self.format != Format::Unknown => End::Whole,
-            Stop::More => End::CutOff(at),
+            NoStep::Malformed(fault) => CaptureEnd::Broken(at, fault),
+            NoStep::More if rest.len() == 0 && self.format != Format::Unknown => CaptureEnd::Whole,
+            NoStep::More => CaptureEnd::CutOff(at),
         }
     }
 
     /// Reads the unit that begins the window. The bytes that it used are left out of the next window.
     #[tactic(auto, unfolding(crate::specs::Recording::next))]
-    pub fn step<'a>(&mut self, window: &'a [u8]) -> Result<Step<'a>, Stop>
+    pub fn step<'a>(&mut self, window: &'a [u8]) -> Result<Step<'a>, NoStep>
         ensures ok { IfOk result (λ s. next self.old window.now
             ≡ Ok (moved s.used (content self.new (recorded_if s.packet)))) }
         ensures err { IfErr result (λ stop. next self.old window.now ≡ Err stop) }
@@ -73,15 +74,15 @@ impl Reading {
         ensures within { IfOk result (λ s. s.used ≤ length window.now) }
     {
         if window.len() < UNIT_FRONT {
-            return Err(Stop::More);
+            return Err(NoStep::More);
         }
-        let unit = Unit::of(self.format, window).map_err(Stop::Malformed)?;
-        let used = unit.size(window).map_err(Stop::Malformed)?;
+        let unit = Unit::of(self.format, window).map_err(NoStep::Malformed)?;
+        let used = unit.size(window).map_err(NoStep::Malformed)?;
         if window.len() < used {
-            return Err(Stop::More);
+            return Err(NoStep::More);
         }
         let taken = self.take(unit, &window[..used]);
-        let packet = taken.map_err(Stop::Malformed)?;
+        let packet = taken.map_err(NoStep::Malformed)?;
         Ok(Step { packet, used })
     }
 
@@ -201,4 +202,36 @@ fn body<'a>(order: Order, whole: &'a [u8]) -> Result<&'a [u8], Fault>
         return Err(Fault::EndLength);
     }
     Ok(&whole[8..end])
+}
+
+/// What was read of a capture: its packets, in their order, and how it ends.
+#[derive(Debug, Drop)]
+pub struct Recording<'a> {
+    pub packets: Vec<Packet<'a>>,
+    pub end: CaptureEnd,
+}
+
+/// Reads a capture that is in memory as a whole. It only fails if memory runs out; what is wrong with the
+/// capture is in `end`.
+pub fn read_capture<'a>(alloc: Global, bytes: &'a [u8]) -> Result<Recording<'a>, AllocError>
+    ensures { IfOk result (λ r. recording_of r ≡ recording_in bytes.now) }
+{
+    let mut reading = Reading::new();
+    let mut packets = Vec::new(alloc);
+    let mut used = 0;
+    'units: loop {
+        match reading.step(&bytes[used..]) {
+            Ok(step) => {
+                used += step.used;
+                match step.packet {
+                    Some(packet) => packets.push(packet)?,
+                    None => {}
+                }
+            }
+            Err(stop) => {
+                let end = reading.end(used as u64, &bytes[used..], stop);
+                return Ok(Recording { packets, end });
+            }
+        }
+    }
 }

@@ -2,7 +2,7 @@
 
 /// How a capture ends, after the packets that were read.
 #[derive(Clone, Copy, Debug, PartialEq, Eq)]
-pub enum End {
+pub enum CaptureEnd {
     /// With its last block or record.
     Whole,
     /// In the block or the record that begins at this byte, or before its first one.
@@ -44,7 +44,7 @@ pub enum Fault {
 
 /// Why no step was taken.
 #[derive(Clone, Copy, Debug, PartialEq, Eq)]
-pub enum Stop {
+pub enum NoStep {
     /// The window ends before the next block or record does.
     More,
     /// The next block or record is malformed.

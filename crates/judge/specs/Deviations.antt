@@ -1,11 +1,11 @@
 -- What is wrong with a frame, and the findings of packets.
 use Rattle.std.specs.Prelude.{ℕ, List, [], ◌∷◌, ◌++◌, Option, Some, None}
 use Rattle.std.specs.Option.{option_or}
-use Rattle.judge.specs.Types.{Deviation, Finding, Kind, Tag, VlId}
-use Rattle.judge.specs.declared.finding.Kind.TheVariants.{Frame, Source, Link, Network, Size, Number, Early, Port, Fragment, Message, Turn, Twin, Missing}
+use Rattle.judge.specs.Types.{Deviation, Finding, FindingKind, Tag, VlId}
+use Rattle.judge.specs.declared.finding.FindingKind.TheVariants.{Frame, Source, Link, Network, Size, Number, Early, Port, Fragment, Message, Turn, Twin, Missing}
 
 -- the number of a kind
-abbrev pub kind_number : Kind → ℕ
+abbrev pub kind_number : FindingKind → ℕ
 kind_number (Frame rule) = 1
 kind_number Source = 2
 kind_number Link = 3
@@ -20,7 +20,7 @@ kind_number Turn = 11
 kind_number Twin = 12
 kind_number Missing = 13
 
-abbrev pub deviation : Kind → ℕ → ℕ → Deviation
+abbrev pub deviation : FindingKind → ℕ → ℕ → Deviation
 deviation kind seen wanted = record { kind = kind; seen = seen; wanted = wanted }
 
 -- the first of two deviations

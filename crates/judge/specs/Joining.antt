@@ -7,10 +7,10 @@ use Rattle.afdx_plan.specs.Plan.{step_of}
 use Rattle.afdx_frame.specs.Frame.{udp_field}
 use Rattle.afdx_frame.specs.Profile.{word_at}
 use Rattle.judge.specs.Deviations.{deviation, first_of}
-use Rattle.judge.specs.Types.{Deviation, Ending, Fields, Flow, Head, Joining, Misfit, PieceIn, PortPlan}
+use Rattle.judge.specs.Types.{Deviation, Ending, Fields, Flow, Head, Joining, FragmentMisfit, PieceIn, PortPlan}
 use Rattle.judge.specs.declared.finding.Ending.TheVariants.{UdpLength, Size as TooLong, UdpChecksum}
-use Rattle.judge.specs.declared.finding.Kind.TheVariants.{Fragment, Message}
-use Rattle.judge.specs.declared.finding.Misfit.TheVariants.{Offset, Identification, Repeated, Addresses, Length}
+use Rattle.judge.specs.declared.finding.FindingKind.TheVariants.{Fragment, Message}
+use Rattle.judge.specs.declared.finding.FragmentMisfit.TheVariants.{Offset, Identification, Repeated, Addresses, Length}
 use Rattle.judge.specs.declared.joining.Joining.TheVariants.{Any, Between, After, Within}
 
 -- ---- ports
@@ -74,11 +74,11 @@ ident_before _ = None
 abbrev pub has_addresses : Option Head → Flow → Bool
 has_addresses head flow = option_map_or (λ (h : Head). is_towards flow h.port) head true
 
-abbrev pub misfit : Misfit → ℕ → ℕ → Option Deviation
+abbrev pub misfit : FragmentMisfit → ℕ → ℕ → Option Deviation
 misfit how seen wanted = Some (deviation (Fragment how) seen wanted)
 
 -- a number is the one that is wanted, if one is
-abbrev pub misfit_if : Misfit → Option ℕ → ℕ → Option Deviation
+abbrev pub misfit_if : FragmentMisfit → Option ℕ → ℕ → Option Deviation
 misfit_if how wanted seen =
     option_and_then (λ wanted. if nat_eq seen wanted then None else misfit how seen wanted) wanted
 

@@ -9,8 +9,8 @@ use Rattle.judge.specs.Joining.{port_of}
 use Rattle.judge.specs.Lines.{new_line, line_after, verdict, sub_in, sub_of}
 use Rattle.judge.specs.Rules.{frame_in, place_of, size_deviation}
 use Rattle.judge.specs.Twins.{found_missing, left_waiting, twin_deviation, pairing_with, found_at_end}
-use Rattle.judge.specs.Types.{Arrived, Fields, Figures, Finding, Kind, Line, Link, LinkPlan, Measure, Nearness, Net, Options, Plan, PortPlan, Recorded, Refused, Setting, Tag, Times, Verdict, VlId}
-use Rattle.judge.specs.declared.finding.Kind.TheVariants.{Frame}
+use Rattle.judge.specs.Types.{Arrived, Fields, Figures, Finding, FindingKind, Line, Link, LinkPlan, Measure, Nearness, Net, Options, Plan, PortPlan, Recorded, Refused, Setting, Tag, Times, Verdict, VlId}
+use Rattle.judge.specs.declared.finding.FindingKind.TheVariants.{Frame}
 use Rattle.afdx_frame.specs.declared.layout.Layout.TheVariants.{Time, Recorded as WithCheck}
 
 -- ---- a link
@@ -176,7 +176,7 @@ found_of_arrival tag place frame j found =
     found_on_link (setting_of j place) tag (port_on j place frame) frame (link_at j.links place) found
 
 -- why a packet is judged no further; that frames have their check sequences is found once
-abbrev pub is_with_check : Kind → Bool
+abbrev pub is_with_check : FindingKind → Bool
 is_with_check (Frame WithCheck) = true
 is_with_check _ = false
 

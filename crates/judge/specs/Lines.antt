@@ -4,7 +4,7 @@ use Rattle.std.specs.Option.{is_some, option_map_or}
 use Rattle.judge.specs.Deviations.{deviation, first_of}
 use Rattle.judge.specs.Joining.{fragment_deviation, head_now, end_deviation, joined, goes_on, next_of}
 use Rattle.judge.specs.Types.{Arrived, Deviation, Fields, Figures, Joining, Last, Line, Measure, PortPlan, Sub, Verdict}
-use Rattle.judge.specs.declared.finding.Kind.TheVariants.{Number, Early, Port, Turn}
+use Rattle.judge.specs.declared.finding.FindingKind.TheVariants.{Number, Early, Port, Turn}
 use Rattle.judge.specs.declared.joining.Joining.TheVariants.{Any, Between, After}
 
 -- ---- a line of which nothing came

@@ -9,11 +9,11 @@ use Rattle.afdx_frame.specs.Profile.{total_length, word_at}
 use Rattle.redundant_mux.specs.Lines.{names}
 use Rattle.judge.specs.CheckSequence.{check_sequence}
 use Rattle.judge.specs.Deviations.{deviation}
-use Rattle.judge.specs.Types.{Breach, Deviation, Kind, LinkPlan, Net, Options, Plan, Recorded, Refused, VlId}
-use Rattle.judge.specs.declared.finding.Kind.TheVariants.{Frame, Source, Link, Network, Size}
+use Rattle.judge.specs.Types.{Breach, Deviation, FindingKind, LinkPlan, Net, Options, Plan, Recorded, Refused, VlId}
+use Rattle.judge.specs.declared.finding.FindingKind.TheVariants.{Frame, Source, Link, Network, Size}
 use Rattle.afdx_frame.specs.declared.layout.Layout.TheVariants.{Snapped, CheckSequence, Recorded as WithCheck, Length}
 
-abbrev pub refused : Option VlId → Kind → ℕ → ℕ → Refused
+abbrev pub refused : Option VlId → FindingKind → ℕ → ℕ → Refused
 refused link kind seen wanted = record { deviation = deviation kind seen wanted; link = link }
 
 -- the bytes without their check sequence, the last four bytes, which is right

@@ -6,7 +6,7 @@ use Rattle.afdx_frame.specs.declared.net.Net.TheVariants.{A, B}
 use Rattle.judge.specs.Deviations.{deviation, finding_of}
 use Rattle.judge.specs.Waiting.{Wait, Pairing}
 use Rattle.judge.specs.Types.{Deviation, Finding, Nearness, Net, Tag, VlId}
-use Rattle.judge.specs.declared.finding.Kind.TheVariants.{Twin, Missing}
+use Rattle.judge.specs.declared.finding.FindingKind.TheVariants.{Twin, Missing}
 
 -- the time between two times
 abbrev pub apart : ℕ → ℕ → ℕ

@@ -13,8 +13,8 @@ pub use Rattle.judge.specs.declared.fields.PieceIn.{PieceIn}
 pub use Rattle.judge.specs.declared.finding.Deviation.{Deviation}
 pub use Rattle.judge.specs.declared.finding.Ending.{Ending}
 pub use Rattle.judge.specs.declared.finding.Finding.{Finding}
-pub use Rattle.judge.specs.declared.finding.Kind.{Kind}
-pub use Rattle.judge.specs.declared.finding.Misfit.{Misfit}
+pub use Rattle.judge.specs.declared.finding.FindingKind.{FindingKind}
+pub use Rattle.judge.specs.declared.finding.FragmentMisfit.{FragmentMisfit}
 pub use Rattle.judge.specs.declared.finding.Tag.{Tag}
 pub use Rattle.judge.specs.declared.joining.Head.{Head}
 pub use Rattle.judge.specs.declared.joining.Joining.{Joining}

@@ -8,7 +8,7 @@ use std::alloc::AllocError;
 
 /// How a frame isn't the next piece of its sub-VL's message.
 #[derive(Clone, Copy, Debug, PartialEq, Eq)]
-pub enum Misfit {
+pub enum FragmentMisfit {
     /// The piece begins at byte `seen` of the datagram; `wanted` is the byte after the piece before it, or 0.
     Offset,
     /// The identification is `seen`, and `wanted` is the message's, or the next message's.
@@ -35,7 +35,7 @@ pub enum Ending {
 
 /// What a frame does wrong.
 #[derive(Clone, Copy, Debug, PartialEq, Eq)]
-pub enum Kind {
+pub enum FindingKind {
     /// It isn't of the layout.
     Frame(Layout),
     /// It is of end system `seen`, and the plan is of `wanted`.
@@ -53,7 +53,7 @@ pub enum Kind {
     /// No port has its sub-VL, partition, destination and UDP ports. `seen` is its source UDP port, `wanted` is 0.
     Port,
     /// It isn't the next piece of its sub-VL's message.
-    Fragment(Misfit),
+    Fragment(FragmentMisfit),
     /// It ends a message that is wrong.
     Message(Ending),
     /// It is the second frame of sub-VL `seen` between two pieces of a message of sub-VL `wanted`.
@@ -64,25 +64,25 @@ pub enum Kind {
     Missing,
 }
 
-impl Kind {
+impl FindingKind {
     /// The number of the kind, 1 to 13.
     pub fn number(self) -> u8
         ensures { result ≡ kind_number self }
     {
         match self {
-            Kind::Frame(_) => 1,
-            Kind::Source => 2,
-            Kind::Link => 3,
-            Kind::Network => 4,
-            Kind::Size => 5,
-            Kind::Number => 6,
-            Kind::Early => 7,
-            Kind::Port => 8,
-            Kind::Fragment(_) => 9,
-            Kind::Message(_) => 10,
-            Kind::Turn => 11,
-            Kind::Twin => 12,
-            Kind::Missing => 13,
+            FindingKind::Frame(_) => 1,
+            FindingKind::Source => 2,
+            FindingKind::Link => 3,
+            FindingKind::Network => 4,
+            FindingKind::Size => 5,
+            FindingKind::Number => 6,
+            FindingKind::Early => 7,
+            FindingKind::Port => 8,
+            FindingKind::Fragment(_) => 9,
+            FindingKind::Message(_) => 10,
+            FindingKind::Turn => 11,
+            FindingKind::Twin => 12,
+            FindingKind::Missing => 13,
         }
     }
 }
@@ -90,7 +90,7 @@ impl Kind {
 /// A finding: what a packet does wrong.
 #[derive(Clone, Copy, Debug, PartialEq, Eq)]
 pub struct Finding {
-    pub kind: Kind,
+    pub kind: FindingKind,
     /// The number of the packet in its file, as it was given.
     pub packet: u64,
     /// The network on which it was recorded.
@@ -99,7 +99,7 @@ pub struct Finding {
     pub at: u128,
     /// Its link. None if the frame isn't of the layout, or is of another end system.
     pub link: Option<VlId>,
-    /// What was seen, and what was wanted: `Kind` says which number that is.
+    /// What was seen, and what was wanted: `FindingKind` says which number that is.
     pub seen: u64,
     pub wanted: u64,
 }
@@ -107,14 +107,14 @@ pub struct Finding {
 /// What is wrong with a frame: a finding without the frame's packet.
 #[derive(Clone, Copy)]
 pub(crate) struct Deviation {
-    pub(crate) kind: Kind,
+    pub(crate) kind: FindingKind,
     pub(crate) seen: u64,
     pub(crate) wanted: u64,
 }
 
 impl Deviation {
     /// A deviation of this kind, and its two numbers.
-    pub(crate) fn new(kind: Kind, seen: u64, wanted: u64) -> Deviation
+    pub(crate) fn new(kind: FindingKind, seen: u64, wanted: u64) -> Deviation
         ensures { result ≡ deviation kind seen wanted }
     {
         Deviation { kind, seen, wanted }

@@ -5,7 +5,7 @@ ghost use Rattle.judge.specs.Joining.{address_number, is_towards, is_of_port, po
 ghost use Rattle.afdx_plan.specs.Address.{destination_address};
 
 use crate::fields::{Fields, Flow, PieceIn};
-use crate::finding::{Deviation, Ending, Kind, Misfit};
+use crate::finding::{Deviation, Ending, FindingKind, FragmentMisfit};
 use afdx_plan::{PortPlan, UdpSum, VlId};
 
 /// What is known of the message of a sub-VL.
@@ -85,14 +85,14 @@ pub(crate) fn port_of<'a>(
 }
 
 /// A misfit of a piece, and its two numbers.
-fn misfit(how: Misfit, seen: u64, wanted: u64) -> Option<Deviation>
+fn misfit(how: FragmentMisfit, seen: u64, wanted: u64) -> Option<Deviation>
     ensures { result ≡ misfit how seen wanted }
 {
-    Some(Deviation::new(Kind::Fragment(how), seen, wanted))
+    Some(Deviation::new(FindingKind::Fragment(how), seen, wanted))
 }
 
 /// A misfit, unless a number is the one that is wanted.
-fn misfit_if(how: Misfit, wanted: u32, seen: u32) -> Option<Deviation>
+fn misfit_if(how: FragmentMisfit, wanted: u32, seen: u32) -> Option<Deviation>
     ensures { result ≡ misfit_if how (Some wanted) seen }
 {
     if seen == wanted {
@@ -106,7 +106,7 @@ fn addresses_deviation(head: Option<Head>, flow: &Flow) -> Option<Deviation>
     ensures { result ≡ addresses_deviation head flow.now }
 {
     match head {
-        Some(head) if !is_towards(flow, &head.port) => misfit(Misfit::Addresses, 0, 0),
+        Some(head) if !is_towards(flow, &head.port) => misfit(FragmentMisfit::Addresses, 0, 0),
         _ => None,
     }
 }
@@ -128,7 +128,7 @@ fn length_deviation(room: u16, piece: &PieceIn) -> Option<Deviation>
     if is_kept {
         return None;
     }
-    misfit(Misfit::Length, len as u64, wanted as u64)
+    misfit(FragmentMisfit::Length, len as u64, wanted as u64)
 }
 
 impl Joining {
@@ -142,17 +142,21 @@ impl Joining {
         match self {
             Joining::Any => len,
             Joining::Between(next) => {
-                let other = misfit_if(Misfit::Identification, *next as u32, ident as u32);
-                misfit_if(Misfit::Offset, 0, start).or(other.or(len))
+                let other = misfit_if(FragmentMisfit::Identification, *next as u32, ident as u32);
+                misfit_if(FragmentMisfit::Offset, 0, start).or(other.or(len))
             }
             Joining::After(Some(before)) if *before == ident => {
-                let repeated = misfit(Misfit::Repeated, ident as u64, 0);
-                misfit_if(Misfit::Offset, 0, start).or(repeated)
+                let repeated = misfit(FragmentMisfit::Repeated, ident as u64, 0);
+                misfit_if(FragmentMisfit::Offset, 0, start).or(repeated)
             }
-            Joining::After(_) => misfit_if(Misfit::Offset, 0, start).or(len),
+            Joining::After(_) => misfit_if(FragmentMisfit::Offset, 0, start).or(len),
             Joining::Within(open) => {
-                let offset = misfit_if(Misfit::Offset, open.next, start);
-                let other = misfit_if(Misfit::Identification, open.ident as u32, ident as u32);
+                let offset = misfit_if(FragmentMisfit::Offset, open.next, start);
+                let other = misfit_if(
+                    FragmentMisfit::Identification,
+                    open.ident as u32,
+                    ident as u32,
+                );
                 let addresses = addresses_deviation(open.head, &fields.flow);
                 offset.or(other.or(addresses.or(len)))
             }
@@ -217,7 +221,7 @@ fn right_sum(head: &Head, len: u32) -> u16
 fn ending(how: Ending, seen: u64, wanted: u64) -> Option<Deviation>
     ensures { result ≡ ending how seen wanted }
 {
-    Some(Deviation::new(Kind::Message(how), seen, wanted))
+    Some(Deviation::new(FindingKind::Message(how), seen, wanted))
 }
 
 /// What is wrong with a whole message, of a datagram of this length.

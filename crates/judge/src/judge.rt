@@ -6,7 +6,7 @@ ghost use Rattle.afdx_frame.specs.Layout.{IsReadable};
 ghost use Rattle.judge.specs.Judging.{Judging, Admitted, at_start, measure_of, nearness_of, setting_of, first_port, with_arrival, found_of_arrival, with_refusal, found_refusal, admitted, after_packet, found_with_packet, found_with_end, timed, found_left, is_with_check, new_link, figures_on, lead_of, no_times, times_with};
 
 use crate::fields::{Fields, fields_of};
-use crate::finding::{Deviation, Finding, Kind, Tag, add};
+use crate::finding::{Deviation, Finding, FindingKind, Tag, add};
 use crate::joining::port_of;
 use crate::line::{Figures, Measure, sub_in};
 use crate::link::{Link, Setting};
@@ -180,7 +180,7 @@ impl Judge {
             at: packet.at.unwrap_or(0),
         };
         let Some(at) = packet.at else {
-            let deviation = Deviation::new(Kind::Frame(Layout::Time), 0, 0);
+            let deviation = Deviation::new(FindingKind::Frame(Layout::Time), 0, 0);
             return add(found, &tag, None, Some(deviation));
         };
         self.times = self.times.with(at);
@@ -204,7 +204,7 @@ impl Judge {
         ensures after { OnOk result (self.new ≡ with_refusal why.now self.old) }
         ensures found { OnOk result (found.new.items ≡ found_refusal tag.now why.now self.old found.old.items) }
     {
-        if matches!(why.deviation.kind, Kind::Frame(Layout::Recorded)) {
+        if matches!(why.deviation.kind, FindingKind::Frame(Layout::Recorded)) {
             if self.told {
                 return Ok(());
             }

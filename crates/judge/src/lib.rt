@@ -14,7 +14,7 @@ mod rules;
 mod twins;
 
 pub use afdx_frame::Layout;
-pub use finding::{Ending, Finding, Kind, Misfit};
+pub use finding::{Ending, Finding, FindingKind, FragmentMisfit};
 pub use judge::{Judge, Options};
 pub use line::Figures;
 pub use merging::judge_packets;

@@ -4,7 +4,7 @@ ghost use Rattle.judge.specs.Fields.{AreSmall};
 ghost use Rattle.judge.specs.Lines.{new_sub, new_line, next_number, number_unless, number_deviation, gap_since, early_since, early_deviation, unsettled_sub, unsettled, excused_sub, excused, turn_deviation, due_before, unknown_place, going_on, sub_at, other_sub, port_deviation, sub_in, sub_shown, sub_of, least_of, figures_with, joining_after, message_after, line_joined, line_with, line_after, verdict, after_number, after_turn};
 
 use crate::fields::Fields;
-use crate::finding::{Deviation, Kind};
+use crate::finding::{Deviation, FindingKind};
 use crate::joining::{Joining, end_deviation, joined};
 use afdx_plan::PortPlan;
 
@@ -117,7 +117,7 @@ fn port_deviation(fields: &Fields, port: Option<PortPlan>) -> Option<Deviation>
     if fields.piece.start > 0 || port.is_some() {
         return None;
     }
-    Some(Deviation::new(Kind::Port, fields.flow.source as u64, 0))
+    Some(Deviation::new(FindingKind::Port, fields.flow.source as u64, 0))
 }
 
 /// The first sub-VL with a piece due whose last frame came before this one.
@@ -233,7 +233,7 @@ impl Line {
         if number == wanted {
             return None;
         }
-        Some(Deviation::new(Kind::Number, number as u64, wanted as u64))
+        Some(Deviation::new(FindingKind::Number, number as u64, wanted as u64))
     }
 
     /// A finding, if a frame comes less than a gap after the last one, or before it.
@@ -245,7 +245,7 @@ impl Line {
         if last.at <= at && gap as u128 <= since {
             return None;
         }
-        Some(Deviation::new(Kind::Early, since as u64, gap))
+        Some(Deviation::new(FindingKind::Early, since as u64, gap))
     }
 
     /// The line after a finding, if there is one: no piece is due, and after a loss nothing is known of messages.
@@ -274,7 +274,7 @@ impl Line {
         ensures { result ≡ turn_deviation sub self.now }
     {
         let due = passed_by(&self.subs, self.sub(sub).came)?;
-        Some(Deviation::new(Kind::Turn, sub as u64, due as u64))
+        Some(Deviation::new(FindingKind::Turn, sub as u64, due as u64))
     }
 
     /// The sub-VL of a frame; of a frame of none of the four, what is known of it.

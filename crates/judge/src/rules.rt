@@ -8,7 +8,7 @@ ghost use Rattle.redundant_mux.specs.Lines.{names};
 ghost use Rattle.afdx_frame.specs.Frame.{interface_byte};
 
 use crate::check_sequence::check_sequence;
-use crate::finding::{Deviation, Kind};
+use crate::finding::{Deviation, FindingKind};
 use crate::judge::Options;
 use afdx_frame::layout::framed;
 use afdx_frame::net::{INTERFACE_A, INTERFACE_B, SHORTEST_FRAME};
@@ -26,7 +26,7 @@ pub(crate) struct Refused {
 }
 
 /// A refusal, and its two numbers.
-fn refusal(link: Option<VlId>, kind: Kind, seen: u64, wanted: u64) -> Refused
+fn refusal(link: Option<VlId>, kind: FindingKind, seen: u64, wanted: u64) -> Refused
     ensures { result ≡ refused link kind seen wanted }
 {
     Refused {
@@ -43,7 +43,12 @@ fn checked(bytes: &[u8]) -> Result<&[u8], Refused>
 {
     if bytes.len() < 4 {
         let bound = SHORTEST_FRAME as u64;
-        return Err(refusal(None, Kind::Frame(Layout::Length), bytes.len() as u64, bound));
+        return Err(refusal(
+            None,
+            FindingKind::Frame(Layout::Length),
+            bytes.len() as u64,
+            bound,
+        ));
     }
     let end = bytes.len() - 4;
     let seen = LittleEndian::read_u32(&bytes[end..]);
@@ -51,7 +56,7 @@ fn checked(bytes: &[u8]) -> Result<&[u8], Refused>
     if seen == wanted {
         return Ok(&bytes[..end]);
     }
-    let kind = Kind::Frame(Layout::CheckSequence);
+    let kind = FindingKind::Frame(Layout::CheckSequence);
     Err(refusal(None, kind, seen as u64, wanted as u64))
 }
 
@@ -71,7 +76,7 @@ fn unchecked(bytes: &[u8]) -> Result<&[u8], Refused>
 {
     if has_four_more(bytes) {
         let len = bytes.len() as u64;
-        return Err(refusal(None, Kind::Frame(Layout::Recorded), len, len - 4));
+        return Err(refusal(None, FindingKind::Frame(Layout::Recorded), len, len - 4));
     }
     Ok(bytes)
 }
@@ -86,7 +91,7 @@ pub(crate) fn frame_in<'a>(packet: &Packet<'a>, options: &Options) -> Result<&'a
     let bytes = packet.bytes;
     let (len, original) = (bytes.len() as u64, packet.original as u64);
     if len < original {
-        return Err(refusal(None, Kind::Frame(Layout::Snapped), len, original));
+        return Err(refusal(None, FindingKind::Frame(Layout::Snapped), len, original));
     }
     let frame = if options.fcs {
         checked(bytes)?
@@ -96,7 +101,7 @@ pub(crate) fn frame_in<'a>(packet: &Packet<'a>, options: &Options) -> Result<&'a
     match layout_broken(options.arinc, frame) {
         Some(why) => Err(refusal(
             None,
-            Kind::Frame(why.rule),
+            FindingKind::Frame(why.rule),
             why.seen as u64,
             why.wanted as u64,
         )),
@@ -124,18 +129,18 @@ pub(crate) fn place_of(config: &Config, net: Net, frame: &[u8]) -> Result<usize,
 {
     let (source, wanted) = (word_at(frame, field::END_SYSTEM), config.end_system());
     if source != wanted {
-        return Err(refusal(None, Kind::Source, source as u64, wanted as u64));
+        return Err(refusal(None, FindingKind::Source, source as u64, wanted as u64));
     }
     let vl = VlId(word_at(frame, field::LINK));
     let Some(place) = config.link_index(vl) else {
-        return Err(refusal(Some(vl), Kind::Link, vl.0 as u64, 0));
+        return Err(refusal(Some(vl), FindingKind::Link, vl.0 as u64, 0));
     };
     let (seen, wanted) = (
         frame[field::INTERFACE],
         interface_on(&config.links()[place], net),
     );
     if seen != wanted {
-        return Err(refusal(Some(vl), Kind::Network, seen as u64, wanted as u64));
+        return Err(refusal(Some(vl), FindingKind::Network, seen as u64, wanted as u64));
     }
     Ok(place)
 }
@@ -149,5 +154,5 @@ pub(crate) fn size_deviation(link: &LinkPlan, len: u64) -> Option<Deviation>
     if seen <= wanted {
         return None;
     }
-    Some(Deviation::new(Kind::Size, seen, wanted))
+    Some(Deviation::new(FindingKind::Size, seen, wanted))
 }

@@ -3,7 +3,7 @@ ghost use Rattle.std.specs.Prelude.{◌≡◌, ◌+◌, ◌^◌, ◌≤◌, ◌<
 ghost use Rattle.judge.specs.Waiting.{Wait, Pairing};
 ghost use Rattle.judge.specs.Twins.{apart, is_near, is_excused, same_net, is_passed, kept, is_lost, is_left, is_twin, missing, found_missing, left_waiting, first_other, twin_other, other_at, twin_deviation, greatest_of, pairing_with, found_at_end};
 
-use crate::finding::{Deviation, Finding, Kind, Tag};
+use crate::finding::{Deviation, Finding, FindingKind, Tag};
 use afdx_frame::Net;
 use afdx_plan::VlId;
 use std::alloc::{AllocError, Global};
@@ -155,7 +155,7 @@ impl Waiting {
     fn missing(&self, vl: VlId) -> Finding
         ensures { result ≡ missing vl self.now }
     {
-        let deviation = Deviation::new(Kind::Missing, self.number as u64, 0);
+        let deviation = Deviation::new(FindingKind::Missing, self.number as u64, 0);
         self.tag.finding(Some(vl), deviation)
     }
 
@@ -165,7 +165,7 @@ impl Waiting {
         ensures { result ≡ other_at self.now (twin_other self.now.bytes frame.now) }
     {
         let place = twin_other(&self.bytes, frame)?;
-        Some(Deviation::new(Kind::Twin, place as u64, self.tag.packet))
+        Some(Deviation::new(FindingKind::Twin, place as u64, self.tag.packet))
     }
 }
 

@@ -1,5 +1,5 @@
 -- A piece of a message that the judge hears when it is due: nothing is wrong with it, and what is known after it is true.
-use Rattle.judge_laws.proofs.Names.{Contains, Fields, Flow, Generated, Head, Identification, IfSome, IsAllowed, IsPiece, IsPlan, Joining, List, Misfit, None, Offset, Option, Piece, PieceIn, Plan, PortPlan, Sent, Some, UdpSum, VlId, addresses, addresses_deviation, ap, arith, begun, cases_Bool, cases_eq, cases_lt, checksums_pass, datagram, drop, end_deviation, false, fields_of, first_port, fragment_deviation, head_after, head_now, head_of, head_with, ident_before, ident_of, identification, if_known, is_of_port, is_towards, joined, judge_sub, length, length-append, length-take, length-udp_header, length_deviation, link_plan_at, message_deviation, misfit_if, nat_tests, next_of, piece_at, port_deviation, refl, right_sum, room_of, step_of, suc, take, take-add, take_all, true, udp_checksum, udp_field, udp_sum, word_sum, word_sum-append, ℕ, ◌%◌, ◌+◌, ◌-◌, ◌/◌, ◌<◌, ◌∙◌, ◌≡◌, ◌≤◌, ◌⊎◌}
+use Rattle.judge_laws.proofs.Names.{Contains, Fields, Flow, Generated, Head, Identification, IfSome, IsAllowed, IsPiece, IsPlan, Joining, List, FragmentMisfit, None, Offset, Option, Piece, PieceIn, Plan, PortPlan, Sent, Some, UdpSum, VlId, addresses, addresses_deviation, ap, arith, begun, cases_Bool, cases_eq, cases_lt, checksums_pass, datagram, drop, end_deviation, false, fields_of, first_port, fragment_deviation, head_after, head_now, head_of, head_with, ident_before, ident_of, identification, if_known, is_of_port, is_towards, joined, judge_sub, length, length-append, length-take, length-udp_header, length_deviation, link_plan_at, message_deviation, misfit_if, nat_tests, next_of, piece_at, port_deviation, refl, right_sum, room_of, step_of, suc, take, take-add, take_all, true, udp_checksum, udp_field, udp_sum, word_sum, word_sum-append, ℕ, ◌%◌, ◌+◌, ◌-◌, ◌/◌, ◌<◌, ◌∙◌, ◌≡◌, ◌≤◌, ◌⊎◌}
 use Rattle.judge_laws.proofs.Reading.{Carries, port_found, sum_field}
 
 -- what is known of a message of which `start` bytes came
@@ -119,7 +119,7 @@ IsTrueAt plan sub sent place start joining =
     IsTrue (identification place sub) start (head_at plan.end_system sent.port sent.bytes start) joining
 
 -- what is not false is no deviation
-no_misfit : (how : Misfit) (wanted : Option ℕ) (n seen : ℕ) → IfSome wanted (λ m. m ≡ n) → seen ≡ n → misfit_if how wanted seen ≡ None
+no_misfit : (how : FragmentMisfit) (wanted : Option ℕ) (n seen : ℕ) → IfSome wanted (λ m. m ≡ n) → seen ≡ n → misfit_if how wanted seen ≡ None
 no_misfit how wanted n seen is same = grind (arith, nat_tests)
 
 no_stranger : (known : Option Head) (head : Head) (flow : Flow) → IfSome known (λ h. h ≡ head) → is_towards flow head.port ≡ true

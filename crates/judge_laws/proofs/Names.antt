@@ -69,9 +69,9 @@ unfoldable pub use Rattle.judge.specs.Twins.{found_at_end, found_missing, left_w
 pub use Rattle.judge.specs.State.{Arrived, Fields, Flow, Head, Joining, Last, Line, Link, Measure, Nearness, PieceIn, Refused, Setting, Sub, Tag, Times, Verdict}
 pub use Rattle.judge.specs.Waiting.{Pairing, Wait}
 pub use Rattle.judge.specs.declared.finding.Finding.{Finding}
-pub use Rattle.judge.specs.declared.finding.Kind.TheVariants.{Missing}
-pub use Rattle.judge.specs.declared.finding.Misfit.{Misfit}
-pub use Rattle.judge.specs.declared.finding.Misfit.TheVariants.{Identification, Offset}
+pub use Rattle.judge.specs.declared.finding.FindingKind.TheVariants.{Missing}
+pub use Rattle.judge.specs.declared.finding.FragmentMisfit.{FragmentMisfit}
+pub use Rattle.judge.specs.declared.finding.FragmentMisfit.TheVariants.{Identification, Offset}
 pub use Rattle.judge.specs.declared.judge.Options.{Options}
 pub use Rattle.vl_shaper.specs.declared.shaper.Stamp.{Stamp}
 pub use Rattle.judge_laws.specs.NoFalseAlarm.{AreFit, IsMissing, IsRunOf, IsSent, NoFalseAlarm, packets_of, IsRecord, IsRecording}

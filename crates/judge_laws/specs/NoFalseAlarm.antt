@@ -13,7 +13,7 @@ use Rattle.capture.specs.Recording.{Recorded}
 use Rattle.judge.specs.Judging.{OnNet, findings}
 use Rattle.judge.specs.Twins.{same_net}
 use Rattle.judge.specs.declared.finding.Finding.{Finding}
-use Rattle.judge.specs.declared.finding.Kind.TheVariants.{Missing}
+use Rattle.judge.specs.declared.finding.FindingKind.TheVariants.{Missing}
 use Rattle.judge.specs.declared.judge.Options.{Options}
 use Rattle.judge_laws.specs.Frames.{IsRecordedAs}
 

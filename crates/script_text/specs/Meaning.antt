@@ -4,9 +4,9 @@ use Rattle.script_text.specs.Command.{command_of, is_send, is_at, is_close, port
 use Rattle.script_text.specs.Faults.{send_fault, at_fault, close_fault}
 use Rattle.script_text.specs.declared.line_meaning.Line.{Line}
 use Rattle.script_text.specs.declared.line_meaning.Line.TheVariants.{Send, At, Close, Nothing}
-use Rattle.script_text.specs.declared.notes.Outcome.{Outcome}
-use Rattle.script_text.specs.declared.notes.Outcome.TheVariants.{Quiet, Accepted, Refused, Released, Closed}
-use Rattle.script_text.specs.declared.notes.Summary.{Summary as Sums}
+use Rattle.script_text.specs.declared.transcript.Outcome.{Outcome}
+use Rattle.script_text.specs.declared.transcript.Outcome.TheVariants.{Quiet, Accepted, Refused, Released, Closed}
+use Rattle.script_text.specs.declared.transcript.Summary.{Summary as Sums}
 
 -- what the words after `send` say
 abbrev pub said_send : List (List ℕ) → Line

@@ -6,8 +6,8 @@ use Rattle.afdx_frame.specs.declared.net.Net.{Net}
 use Rattle.afdx_frame.specs.declared.net.Net.TheVariants.{A, B}
 use Rattle.hex.specs.Hex.{encode_lower}
 use Rattle.redundant_mux.specs.Lines.{Entry}
-use Rattle.script_text.specs.declared.notes.Outcome.{Outcome}
-use Rattle.script_text.specs.declared.notes.Outcome.TheVariants as Became
+use Rattle.script_text.specs.declared.transcript.Outcome.{Outcome}
+use Rattle.script_text.specs.declared.transcript.Outcome.TheVariants as Became
 use Rattle.script_text.specs.declared.faults.Refusal.{Refusal}
 use Rattle.script_text.specs.declared.faults.Refusal.TheVariants.{Empty, TooLong, Closed, Exhausted, Full, NoPort, NoSub, TimeBack}
 use Rattle.script_text.specs.declared.faults.RunFault.{RunFault}

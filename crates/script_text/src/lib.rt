@@ -4,16 +4,14 @@
 
 mod bytes;
 mod faults;
-mod frames;
 mod line_meaning;
 mod line_text;
-mod notes;
+mod transcript;
 mod words;
 
 pub use bytes::Bytes;
 pub use faults::{LineFault, Refusal, RunFault};
-pub use frames::write_streams;
 pub use line_meaning::{Line, read_line};
 pub use line_text::{LINE_LIMIT, Next, ReadFault, next_line};
-pub use notes::{Outcome, Summary, write_note};
+pub use transcript::{Outcome, Summary, write_note, write_streams};
 pub use words::{Message, number};

@@ -102,10 +102,4 @@ impl Message {
     {
         &self.bytes
     }
-
-    pub fn into_vec(self) -> Vec<u8>
-        ensures { result.items ≡ self }
-    {
-        self.bytes
-    }
 }

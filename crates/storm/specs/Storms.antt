@@ -4,7 +4,7 @@ use Rattle.afdx_plan.specs.Config.{link_plan_at, Plan}
 use Rattle.afdx_plan.specs.declared.link_plan.LinkPlan.{LinkPlan}
 use Rattle.status_board.specs.Views.{zeros}
 use Rattle.status_board.specs.declared.counts.Counts.{Counts}
-use Rattle.storm.specs.declared.report.StormReport.{StormReport}
+use Rattle.storm.specs.declared.storm_report.StormReport.{StormReport}
 use Rattle.std.specs.Io.KnownBytes.{Appends}
 use Rattle.std.specs.List.{Any}
 use Rattle.afdx_plan.specs.declared.port_plan.PortPlan.{PortPlan}

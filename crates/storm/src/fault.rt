@@ -1,6 +1,6 @@
 //! Why a storm gives no report.
 ghost use Rattle.std.specs.Prelude.{◌≡◌, ◌≢◌, ◌↔◌};
-ghost use Rattle.storm.specs.declared.fault.Stop.TheVariants.{Memory as OutOfMemory};
+ghost use Rattle.storm.specs.declared.fault.StormStop.TheVariants.{Memory as OutOfMemory};
 ghost use Rattle.storm.specs.declared.fault.StormFault.TheVariants.{Memory, Short};
 
 use std::alloc::{AllocError, AllocFailed};
@@ -30,34 +30,34 @@ pub enum ThrowFault {
 
 /// Why a running storm stops early.
 #[derive(Clone, Copy)]
-pub(crate) enum Stop {
+pub(crate) enum StormStop {
     Memory,
     Turns,
 }
 
-impl From<AllocError> for Stop {
+impl From<AllocError> for StormStop {
     ghost from_gives = { λ _ stop. stop ≡ OutOfMemory };
 
-    fn from(_error: AllocError) -> Stop {
-        Stop::Memory
+    fn from(_error: AllocError) -> StormStop {
+        StormStop::Memory
     }
 }
 
-impl<T: Drop> From<AllocFailed<T>> for Stop {
+impl<T: Drop> From<AllocFailed<T>> for StormStop {
     ghost from_gives = { λ _ stop. stop ≡ OutOfMemory };
 
-    fn from(_error: AllocFailed<T>) -> Stop {
-        Stop::Memory
+    fn from(_error: AllocFailed<T>) -> StormStop {
+        StormStop::Memory
     }
 }
 
-impl From<Stop> for StormFault {
+impl From<StormStop> for StormFault {
     ghost from_gives = { λ stop fault. (fault ≢ Short) × (fault ≡ Memory ↔ stop ≡ OutOfMemory) };
 
-    fn from(stop: Stop) -> StormFault {
+    fn from(stop: StormStop) -> StormFault {
         match stop {
-            Stop::Memory => StormFault::Memory,
-            Stop::Turns => StormFault::Turns,
+            StormStop::Memory => StormFault::Memory,
+            StormStop::Turns => StormFault::Turns,
         }
     }
 }

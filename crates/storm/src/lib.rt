@@ -3,21 +3,19 @@
 #![tactic(auto)]
 
 mod both;
-mod command;
 mod fault;
 mod gate;
 mod polling;
 mod progress;
-mod report;
 mod run;
 mod start;
+mod storm_report;
 mod totals;
 mod watcher;
 mod worker;
 
-pub use command::throw_storm;
 pub use fault::{StormFault, ThrowFault};
 pub use gate::{Gate, OpenGate};
 pub use progress::Progress;
-pub use report::{StormReport, storm, storm_over};
-pub use totals::write_totals;
+pub use storm_report::{StormReport, storm, storm_over};
+pub use totals::{throw_storm, write_totals};

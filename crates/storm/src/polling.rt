@@ -10,7 +10,7 @@ ghost use Rattle.afdx_tx.specs.Ports.{AreOpenedWith, HasEveryPlace};
 ghost use Rattle.afdx_tx.specs.Gathering.{IsGatheredTx};
 ghost use Rattle.storm.specs.Threads.{cells_of, IsShown};
 
-use crate::fault::Stop;
+use crate::fault::StormStop;
 use crate::gate::Gate;
 use crate::run::{StormDraining, StormTx};
 use afdx_tx::{Emitter, Phase, TxPort};
@@ -53,7 +53,7 @@ pub(crate) fn poll_while<G: Gate, R: Wait>(
     gate: &G,
     running: &AtomicU64,
     turns: u64,
-) -> Result<u64, Stop>
+) -> Result<u64, StormStop>
     requires first { tx.old.moment ≡ 0 }
     requires shown { IsShown tx.old }
     requires turns { turns ≤ 1000000000 }
@@ -69,7 +69,7 @@ pub(crate) fn poll_while<G: Gate, R: Wait>(
             return Ok(poll);
         }
         match poll_once(rt, tx, gate, poll * STEP) {
-            None => return Err(Stop::Memory),
+            None => return Err(StormStop::Memory),
             Some(0) => thread::yield_now(),
             Some(_) => {}
         }
@@ -96,7 +96,7 @@ pub(crate) fn drain<G: Gate, R: Wait>(
     gate: &G,
     first: u64,
     turns: u64,
-) -> Result<(), Stop>
+) -> Result<(), StormStop>
     requires moment { draining.old.moment ≤ first * STEP }
     requires first { first ≤ 1000000000 }
     requires turns { turns ≤ 1000000000 }
@@ -114,12 +114,12 @@ pub(crate) fn drain<G: Gate, R: Wait>(
             return Ok(());
         }
         if poll_once(rt, draining, gate, (first + turn) * STEP).is_none() {
-            return Err(Stop::Memory);
+            return Err(StormStop::Memory);
         }
     }
     if draining.is_done() {
         Ok(())
     } else {
-        Err(Stop::Turns)
+        Err(StormStop::Turns)
     }
 }

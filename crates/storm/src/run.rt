@@ -2,7 +2,7 @@
 ghost use Rattle.std.specs.Prelude.{◌≤◌, IfOk};
 ghost use Rattle.storm.specs.Threads.{IsReady, IsRunOf};
 
-use crate::fault::Stop;
+use crate::fault::StormStop;
 use crate::gate::Gate;
 use crate::polling::poll_while;
 use crate::start::{join_workers, start_workers};
@@ -50,7 +50,7 @@ fn run_in_scope<'s, E: 's, G: Gate + Sync, R: Threads + Wait + Sync>(
     load: Load,
     gate: &'s G,
     running: &'s AtomicU64,
-) -> Result<Joined, Stop>
+) -> Result<Joined, StormStop>
     requires ready { IsReady opened.tx opened.ports.items opened.monitor }
     requires turns { load.turns ≤ 1000000000 }
     ensures { IfOk result (IsRunOf opened load) }
@@ -86,7 +86,7 @@ pub(crate) fn run_threads<G: Gate + Sync, R: Threads + Wait + Sync>(
     opened: Opened,
     load: Load,
     gate: &G,
-) -> Result<Joined, Stop>
+) -> Result<Joined, StormStop>
     requires ready { IsReady opened.tx opened.ports.items opened.monitor }
     requires turns { load.turns ≤ 1000000000 }
     ensures { IfOk result (IsRunOf opened load) }
@@ -96,7 +96,7 @@ pub(crate) fn run_threads<G: Gate + Sync, R: Threads + Wait + Sync>(
     thread::scope(
         thread::scope_env(),
         rt,
-        move |scope| -> Result<Joined, Stop>
+        move |scope| -> Result<Joined, StormStop>
             requires ready { IsReady opened.tx opened.ports.items opened.monitor }
             requires turns { load.turns ≤ 1000000000 }
             ensures { IfOk result (IsRunOf opened load) }

@@ -2,7 +2,7 @@
 ghost use Rattle.std.specs.Prelude.{◌≡◌, ◌↔◌, ◌⊎◌, ◌≤◌, OnOk, IfOk, IsOkAnd, map};
 ghost use Rattle.storm.specs.Workers.{named, sent_all, asked_by, asked_after, AreAtMost};
 
-use crate::fault::Stop;
+use crate::fault::StormStop;
 use crate::gate::Gate;
 use crate::worker::{Load, work};
 use afdx_tx::TxPort;
@@ -19,12 +19,12 @@ pub(crate) struct SendsAll {
     pub load: Load,
 }
 
-impl Promise<(TxPort, Result<(), Stop>)> for SendsAll {
+impl Promise<(TxPort, Result<(), StormStop>)> for SendsAll {
     ghost kept_by = { λ p r. OnOk r.1 (named r.0 ≡ sent_all p.load.messages p.before.value)
         × (asked_by r.0 ≤ asked_after p.load.turns p.before.value) };
 }
 
-pub(crate) type Worker = PromisedHandle<(TxPort, Result<(), Stop>), SendsAll>;
+pub(crate) type Worker = PromisedHandle<(TxPort, Result<(), StormStop>), SendsAll>;
 
 /// Starts a worker, which is counted in before it runs, and counts itself out.
 fn start_worker<'s, E: 's, G: Gate + Sync>(
@@ -34,7 +34,7 @@ fn start_worker<'s, E: 's, G: Gate + Sync>(
     load: Load,
     gate: &'s G,
     running: &'s AtomicU64,
-) -> Result<Worker, Stop>
+) -> Result<Worker, StormStop>
     ensures port { IfOk result (λ started. started.promise.before.value ≡ port) }
     ensures load { IfOk result (λ started. started.promise.load ≡ load) }
 {
@@ -43,7 +43,7 @@ fn start_worker<'s, E: 's, G: Gate + Sync>(
         load,
     };
     running.fetch_add(1, Ordering::SeqCst);
-    let body = move || -> (TxPort, Result<(), Stop>)
+    let body = move || -> (TxPort, Result<(), StormStop>)
         ensures sent { OnOk result.1 (named result.0 ≡ sent_all load.messages port) }
         ensures asks { asked_by result.0 ≤ asked_after load.turns port }
     {
@@ -56,7 +56,7 @@ fn start_worker<'s, E: 's, G: Gate + Sync>(
         Ok(started) => Ok(started),
         Err(_) => {
             running.fetch_sub(1, Ordering::SeqCst);
-            Err(Stop::Memory)
+            Err(StormStop::Memory)
         }
     }
 }
@@ -69,7 +69,7 @@ pub(crate) fn start_workers<'s, E: 's, G: Gate + Sync>(
     load: Load,
     gate: &'s G,
     running: &'s AtomicU64,
-) -> Result<Vec<Worker>, Stop>
+) -> Result<Vec<Worker>, StormStop>
     ensures sent { IfOk result (λ workers.
         map (λ w. sent_all w.promise.load.messages w.promise.before.value) workers.items
         ≡ map (sent_all load.messages) ports.items) }
@@ -91,9 +91,9 @@ pub(crate) fn start_workers<'s, E: 's, G: Gate + Sync>(
 pub(crate) fn join_workers<R: Threads>(
     rt: &R,
     alloc: Global,
-    started: Result<Vec<Worker>, Stop>,
-    polls: Result<u64, Stop>,
-) -> Result<(u64, Vec<TxPort>), Stop>
+    started: Result<Vec<Worker>, StormStop>,
+    polls: Result<u64, StormStop>,
+) -> Result<(u64, Vec<TxPort>), StormStop>
     ensures polls { IfOk result (λ joined. polls ≡ Ok joined.0) }
     ensures sent { IfOk result (λ joined. IsOkAnd started (λ workers. map named joined.1.items
         ≡ map (λ w. sent_all w.promise.load.messages w.promise.before.value) workers.items)) }
@@ -115,14 +115,14 @@ pub(crate) fn join_workers<R: Threads>(
 }
 
 /// The worse of two ends, that of the polls and a worker's: out of memory, then turns.
-fn worse(worst: Result<u64, Stop>, ended: Result<(), Stop>) -> Result<u64, Stop>
+fn worse(worst: Result<u64, StormStop>, ended: Result<(), StormStop>) -> Result<u64, StormStop>
     ensures ok { IfOk result (λ polls. (worst ≡ Ok polls) × (ended ≡ Ok tt)) }
-    ensures memory { result ≡ Err Stop.Memory ↔ ((worst ≡ Err Stop.Memory) ⊎ (ended ≡ Err Stop.Memory)) }
+    ensures memory { result ≡ Err StormStop.Memory ↔ ((worst ≡ Err StormStop.Memory) ⊎ (ended ≡ Err StormStop.Memory)) }
 {
     match (worst, ended) {
         (worst, Ok(())) => worst,
         (Ok(_), Err(stop)) => Err(stop),
-        (Err(_), Err(Stop::Memory)) => Err(Stop::Memory),
-        (Err(worst), Err(Stop::Turns)) => Err(worst),
+        (Err(_), Err(StormStop::Memory)) => Err(StormStop::Memory),
+        (Err(worst), Err(StormStop::Turns)) => Err(worst),
     }
 }

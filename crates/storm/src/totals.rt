@@ -1,12 +1,18 @@
-//! Writing the totals of a storm.
-ghost use Rattle.std.specs.Prelude.{◌≡◌, if◌then◌else◌, length, OnOk};
-ghost use Rattle.std.specs.Io.KnownBytes.{Appends};
-ghost use Rattle.storm.specs.Storms.{link_line, link_lines_to, totals_of};
+//! The totals of a storm, and a storm whose totals are written.
+ghost use Rattle.std.specs.Prelude.{◌≡◌, if◌then◌else◌, length, OnOk, ◌≢◌, ◌≤◌, ◌↔◌, IfErr};
+ghost use Rattle.std.specs.Io.KnownBytes.{Appends, Keeps};
+ghost use Rattle.storm.specs.Storms.{link_line, link_lines_to, totals_of, HasShortPort, ReportsPlan};
 
-use crate::report::StormReport;
-use afdx_plan::{LinkPlan, VlId};
+use crate::both::KeptLinks;
+use crate::fault::{StormFault, ThrowFault};
+use crate::gate::Gate;
+use crate::storm_report::{StormReport, storm};
+use afdx_plan::{Config, LinkPlan, VlId};
 use status_board::Counts;
+use std::alloc::Global;
 use std::io::{self, Write};
+use std::sync::Wait;
+use std::thread::Threads;
 
 /// Writes the totals of a storm over these links, in the order of their plan: how many messages were
 /// accepted, the counts of each link, whether both networks have the same frames, and whether a count was
@@ -58,4 +64,31 @@ fn either(is: bool, yes: &'static str, no: &'static str) -> &'static str
     ensures { result.now ≡ (if is then yes.now else no.now) }
 {
     if is { yes } else { no }
+}
+
+/// Runs a storm over an end system of a configuration, and writes the totals. If it ends early, writes nothing.
+pub fn throw_storm<W: Write, G: Gate + Sync, R: Threads + Wait + Sync>(
+    rt: &R,
+    alloc: Global,
+    config: Config,
+    writer: &mut W,
+    messages: u32,
+    turns: u64,
+    gate: &G,
+) -> Result<(), ThrowFault>
+    requires messages { (1 ≤ messages) × (messages ≤ 65535) }
+    requires turns { (1 ≤ turns) × (turns ≤ 1000000000) }
+    ensures ok { OnOk result (ReportsPlan config messages (W.contents writer.old) (W.contents writer.new)) }
+    ensures short { IfErr result (λ fault. (fault ≡ ThrowFault.Storm StormFault.Short) ↔ HasShortPort config) }
+    ensures unchanged { IfErr result (λ fault. fault ≢ ThrowFault.Write →
+        Keeps (W.contents writer.old) (W.contents writer.new)) }
+{
+    let links = KeptLinks::of(config.links());
+    match storm(rt, alloc, config, messages, turns, gate) {
+        Ok(report) => match write_totals(writer, links.as_slice(), &report) {
+            Ok(()) => Ok(()),
+            Err(_) => Err(ThrowFault::Write),
+        },
+        Err(fault) => Err(ThrowFault::Storm(fault)),
+    }
 }

@@ -3,7 +3,7 @@ ghost use Rattle.std.specs.Prelude.{◌≡◌, ◌<◌, false, IfOk, ◌↔◌};
 ghost use Rattle.status_board.specs.Views.{NoFieldFalls, links_of};
 ghost use Rattle.storm.specs.Threads.{ReadsOnly, ReadsEach};
 
-use crate::fault::Stop;
+use crate::fault::StormStop;
 use crate::gate::Gate;
 use status_board::{Counts, Monitor};
 use std::snapshot::Snapshot;
@@ -87,7 +87,7 @@ pub(crate) fn start_watcher<'s, E: 's, G: Gate + Sync, R: Wait + Sync>(
     monitor: Monitor,
     links: usize,
     times: u32,
-) -> Result<Watching, Stop>
+) -> Result<Watching, StormStop>
     requires { links_of monitor ≡ links }
     ensures before { IfOk result (λ watching. watching.promise.before.value ≡ monitor) }
     ensures times { IfOk result (λ watching. watching.promise.times ≡ times) }
@@ -98,6 +98,6 @@ pub(crate) fn start_watcher<'s, E: 's, G: Gate + Sync, R: Wait + Sync>(
     };
     match scope.spawn_with(promise, move || watch(rt, gate, monitor, links, times)) {
         Ok(watching) => Ok(watching),
-        Err(_) => Err(Stop::Memory),
+        Err(_) => Err(StormStop::Memory),
     }
 }

@@ -2,7 +2,7 @@
 ghost use Rattle.std.specs.Prelude.{◌≡◌, ◌≤◌, [], ◌∷◌, OnOk};
 ghost use Rattle.storm.specs.Workers.{message, named, with_more, sent_all, asked_by, asked_after};
 
-use crate::fault::Stop;
+use crate::fault::StormStop;
 use crate::gate::Gate;
 use afdx_plan::PortId;
 use afdx_tx::TxPort;
@@ -30,7 +30,7 @@ fn make_message(port: PortId, call: u32) -> [u8; MESSAGE_BYTES]
 
 /// Sends a message, again and again if it is refused, as by a full queue. Each send is a turn.
 #[tactic(auto, using(std::proofs::Common::arith))]
-fn send_on(port: &mut TxPort, bytes: &[u8], turns: &mut u64) -> Result<(), Stop>
+fn send_on(port: &mut TxPort, bytes: &[u8], turns: &mut u64) -> Result<(), StormStop>
     ensures sent { OnOk result (named port.new ≡ with_more port.old (bytes.now ∷ [])) }
     ensures asks { asked_after turns.new port.new ≤ asked_after turns.old port.old }
 {
@@ -41,7 +41,7 @@ fn send_on(port: &mut TxPort, bytes: &[u8], turns: &mut u64) -> Result<(), Stop>
         }
         thread::yield_now();
     }
-    Err(Stop::Turns)
+    Err(StormStop::Turns)
 }
 
 /// Sends a port's messages from 1 on, each once the gate lets it in.
@@ -51,7 +51,7 @@ pub(crate) fn work<G: Gate>(
     worker: usize,
     load: Load,
     gate: &G,
-) -> Result<(), Stop>
+) -> Result<(), StormStop>
     ensures sent { OnOk result (named port.new ≡ sent_all load.messages port.old) }
     ensures asks { asked_by port.new ≤ asked_after load.turns port.old }
 {
@@ -59,7 +59,7 @@ pub(crate) fn work<G: Gate>(
     for sent in 0..load.messages {
         let call = sent + 1;
         if !gate.enter(worker, call) {
-            return Err(Stop::Turns);
+            return Err(StormStop::Turns);
         }
         send_on(port, &make_message(port.id(), call), &mut turns)?;
         gate.answered(worker, call);

@@ -27,7 +27,7 @@ pub use Rattle.script_text.specs.declared.faults.Refusal.TheVariants.{Closed, Em
 pub use Rattle.script_text.specs.declared.faults.RunFault.{RunFault}
 pub use Rattle.script_text.specs.declared.line_meaning.Line.{Line, Line as Said}
 pub use Rattle.script_text.specs.declared.line_meaning.Line.TheVariants.{Close, Send}
-pub use Rattle.script_text.specs.declared.notes.Outcome.{Outcome}
+pub use Rattle.script_text.specs.declared.transcript.Outcome.{Outcome}
 pub use Rattle.std.proofs.Common.{Bool, Err, List, None, Ok, OnErr, OnOk, Option, Result, Some, [], ap, append-nil, append_assoc, arith, false, get_or, if◌then◌else◌, inl, inr, length, nat_eq, nat_lt, refl, set, subst, suc, sym, true, zero, ℕ, ⊎_elim, ◌*◌, ◌++◌, ◌+◌, ◌-◌, ◌<◌, ◌==◌, ◌∙◌, ◌∷◌, ◌≡◌, ◌≢◌, ◌≤◌}
 pub use Rattle.std.proofs.KnownBytes.{Appends-nil, Appends-trans}
 pub use Rattle.std.proofs.lemmas.Bool.{and_parts, cases_eq, cases_lt, eq-eqb, eqb-true, false≢true, le-ltb, ne_eqb}
@@ -57,7 +57,7 @@ pub use Rattle.vl_link.specs.Turn.{AreTurns, IsChoice, Turn}
 pub use Rattle.vl_link.specs.declared.link.Served.{Served}
 pub use Rattle.vl_link.specs.declared.link.Served.TheVariants.{Lost, Nothing, Released}
 pub use Rattle.vl_shaper.specs.Pace.{Pace}
-pub use Rattle.script_text.specs.declared.notes.Summary.{Summary as Sums}
+pub use Rattle.script_text.specs.declared.transcript.Summary.{Summary as Sums}
 pub use Rattle.subvl_queue.specs.declared.sender.Why.{Why as QueueWhy}
 pub use Rattle.afdx_tx.specs.declared.fault.Refusal.{Refusal as SendRefusal}
 pub use Rattle.std.proofs.lemmas.Result.{err_from_is_err_and}

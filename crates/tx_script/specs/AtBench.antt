@@ -14,7 +14,7 @@ use Rattle.afdx_tx.specs.Ports.{PortView, AreOpenedWith, AreFreshPorts, length_r
 use Rattle.script_text.specs.Meaning.{meaning_of, HasFew}
 use Rattle.script_text.specs.declared.line_meaning.Line.{Line}
 use Rattle.script_text.specs.declared.line_meaning.Line.TheVariants.{Nothing}
-use Rattle.script_text.specs.declared.notes.Outcome.{Outcome}
+use Rattle.script_text.specs.declared.transcript.Outcome.{Outcome}
 use Rattle.tx_script.specs.EndSystem.{EndSystem, Progress, handed}
 use Rattle.tx_script.specs.Play.{Answer, AnsweredLine, IsAnswer, Messages, added, passed_on, outcome_of, after, accepted_after, told_by, ClosesAt}
 

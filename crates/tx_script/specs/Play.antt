@@ -17,9 +17,9 @@ use Rattle.script_text.specs.declared.line_meaning.Line.{Line}
 use Rattle.script_text.specs.declared.line_meaning.Line.TheVariants.{Send, At, Close, Nothing}
 use Rattle.script_text.specs.declared.faults.Refusal.{Refusal}
 use Rattle.script_text.specs.declared.faults.Refusal.TheVariants.{Empty, TooLong, Closed, Exhausted, Full, NoPort, NoSub, TimeBack}
-use Rattle.script_text.specs.declared.notes.Outcome.{Outcome}
-use Rattle.script_text.specs.declared.notes.Outcome.TheVariants as Became
-use Rattle.script_text.specs.declared.notes.Summary.{Summary as Sums}
+use Rattle.script_text.specs.declared.transcript.Outcome.{Outcome}
+use Rattle.script_text.specs.declared.transcript.Outcome.TheVariants as Became
+use Rattle.script_text.specs.declared.transcript.Summary.{Summary as Sums}
 
 -- a queue takes a message, is closed or is full, a poll leaves the end system so, or a close reports its
 -- total

@@ -10,7 +10,7 @@ use Rattle.script_text.specs.Meaning.{meaning_of}
 use Rattle.script_text.specs.Transcript.{ends_writing}
 use Rattle.script_text.specs.declared.faults.RunFault.{RunFault}
 use Rattle.script_text.specs.declared.faults.RunFault.TheVariants.{Line, Lines, Read, Write, Memory}
-use Rattle.script_text.specs.declared.notes.Summary.{Summary as Sums}
+use Rattle.script_text.specs.declared.transcript.Summary.{Summary as Sums}
 use Rattle.tx_script.specs.EndSystem.{handed}
 use Rattle.tx_script.specs.Play.{AnsweredLine, Play, play, transcript, IsAnswer, FindsFirst, AreTotals}
 use Rattle.tx_script.specs.declared.script.Played.{Played}

@@ -12,7 +12,7 @@ use Rattle.script_text.specs.declared.faults.LineFault.{LineFault}
 use Rattle.script_text.specs.declared.faults.LineFault.TheVariants.{Memory as OutOfMemory}
 use Rattle.script_text.specs.declared.faults.RunFault.{RunFault}
 use Rattle.script_text.specs.declared.faults.RunFault.TheVariants.{Line, Lines, Read, Write, Memory}
-use Rattle.script_text.specs.declared.notes.Summary.{Summary as Sums}
+use Rattle.script_text.specs.declared.transcript.Summary.{Summary as Sums}
 use Rattle.tx_script.specs.AtBench.{AtBench, Matches, OnlyTakes, AreTold, OthersAreOpen, IsGathered}
 use Rattle.tx_script.specs.Play.{AnsweredLine, play}
 use Rattle.tx_script.specs.Run.{AreLines, Ends}
