@@ -52,7 +52,7 @@ const COMMANDS: [(&str, &str); 9] = [
 const PROFILES: [&str; 2] = ["own", "arinc"];
 
 /// What a word is, and what follows it.
-enum Kind {
+enum WordKind {
     /// A path, which may be left out.
     Path,
     /// A path.
@@ -70,135 +70,135 @@ enum Kind {
 }
 
 /// A word: the name of its command, its own, what follows it, and what it means.
-struct Word(&'static str, &'static str, Kind, &'static str);
+struct Word(&'static str, &'static str, WordKind, &'static str);
 
 /// The words after that of the configuration, in the order of the help.
 const WORDS: [Word; 22] = [
-    Word("run", "script", Kind::Needed, "The file of the script"),
+    Word("run", "script", WordKind::Needed, "The file of the script"),
     Word(
         "run",
         "capture",
-        Kind::Text("file"),
+        WordKind::Text("file"),
         "Also writes the frames of both networks to a file in the pcapng format",
     ),
     Word(
         "compile",
         "c",
-        Kind::Text("file"),
+        WordKind::Text("file"),
         "Writes a file of C with the table instead",
     ),
     Word(
         "report",
         "lateness",
-        Kind::Upto("micros", MICROS_LIMIT),
+        WordKind::Upto("micros", MICROS_LIMIT),
         "How late polls come at most, in microseconds: 0 if left out",
     ),
     Word(
         "report",
         "html",
-        Kind::Text("file"),
+        WordKind::Text("file"),
         "Also writes the report as a page to a file",
     ),
     Word(
         "report",
         "traffic",
-        Kind::Text("file"),
+        WordKind::Text("file"),
         "The periods and deadlines of the ports, from a CSV file: two messages of a port are at least its period apart",
     ),
     Word(
         "report",
         "csv",
-        Kind::Text("file"),
+        WordKind::Text("file"),
         "Also writes a row for each port and each sub-VL to a CSV file",
     ),
     Word(
         "report",
         "date",
-        Kind::Text("text"),
+        WordKind::Text("text"),
         "The date that the page names",
     ),
     Word(
         "report",
         "strict",
-        Kind::Flag,
+        WordKind::Flag,
         "Ends with status 2 if a limit or a deadline is missed",
     ),
     Word(
         "schedule",
         "traffic",
-        Kind::Given("file"),
+        WordKind::Given("file"),
         "The periods of the ports, from a CSV file; a port without one sends nothing",
     ),
     Word(
         "schedule",
         "seconds",
-        Kind::Count(SECONDS_LIMIT),
+        WordKind::Count(SECONDS_LIMIT),
         "How many seconds the script takes, with a poll each millisecond",
     ),
     Word(
         "schedule",
         "seed",
-        Kind::Upto("seed", u64::MAX),
+        WordKind::Upto("seed", u64::MAX),
         "Which times the ports begin to send at: 0, all at once, if left out",
     ),
     Word(
         "judge",
         "capture",
-        Kind::Needed,
+        WordKind::Needed,
         "The recording, of both networks or of network A",
     ),
     Word(
         "judge",
         "capture_b",
-        Kind::Path,
+        WordKind::Path,
         "The recording of network B",
     ),
     Word(
         "judge",
         "jitter",
-        Kind::Upto("micros", MICROS_LIMIT),
+        WordKind::Upto("micros", MICROS_LIMIT),
         "How much closer than a BAG frames may come, in microseconds: 0 if left out",
     ),
     Word(
         "judge",
         "skew",
-        Kind::Upto("micros", MICROS_LIMIT),
+        WordKind::Upto("micros", MICROS_LIMIT),
         "How far the networks may be apart, in microseconds: 10000 if left out",
     ),
     Word(
         "judge",
         "late",
-        Kind::Flag,
+        WordKind::Flag,
         "The recording began after the end system",
     ),
     Word(
         "judge",
         "fcs",
-        Kind::Flag,
+        WordKind::Flag,
         "Frames were recorded with their check sequence",
     ),
     Word(
         "judge",
         "profile",
-        Kind::Profile,
+        WordKind::Profile,
         "By what frames are judged: by ARINC 664 Part 7 alone, or as this project's own, if left out",
     ),
     Word(
         "judge",
         "html",
-        Kind::Text("file"),
+        WordKind::Text("file"),
         "Also writes the summary as a page to a file",
     ),
     Word(
         "storm",
         "messages",
-        Kind::Count(MESSAGES_LIMIT),
+        WordKind::Count(MESSAGES_LIMIT),
         "How many messages each port sends, each about 3 KB of memory",
     ),
     Word(
         "storm",
         "turns",
-        Kind::Count(TURNS_LIMIT),
+        WordKind::Count(TURNS_LIMIT),
         "How often each thread may try",
     ),
 ];
@@ -235,17 +235,17 @@ fn arg_of<'a>(alloc: Global, word: &Word) -> Arg<'a> {
     let Word(_, id, kind, help) = word;
     let arg = Arg::new(alloc, id).help(help);
     match kind {
-        Kind::Path => arg,
-        Kind::Needed => arg.required(true),
-        Kind::Flag => arg.long(id).action(ArgAction::SetTrue),
-        Kind::Text(name) => arg.long(id).value_name(name),
-        Kind::Given(name) => arg.long(id).value_name(name).required(true),
-        Kind::Profile => arg.long(id).value_parser(PROFILES.as_slice()),
-        Kind::Upto(name, most) => {
+        WordKind::Path => arg,
+        WordKind::Needed => arg.required(true),
+        WordKind::Flag => arg.long(id).action(ArgAction::SetTrue),
+        WordKind::Text(name) => arg.long(id).value_name(name),
+        WordKind::Given(name) => arg.long(id).value_name(name).required(true),
+        WordKind::Profile => arg.long(id).value_parser(PROFILES.as_slice()),
+        WordKind::Upto(name, most) => {
             let number = ValueParser::unsigned(0, *most);
             arg.long(id).value_name(name).value_parser(number)
         }
-        Kind::Count(most) => {
+        WordKind::Count(most) => {
             let count = ValueParser::unsigned(1, *most);
             arg.long(id).required(true).value_parser(count)
         }

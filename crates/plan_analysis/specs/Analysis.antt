@@ -7,15 +7,15 @@ use Rattle.afdx_plan.specs.Plan.{jitter_of}
 use Rattle.afdx_plan.specs.declared.link_plan.LinkPlan.{LinkPlan}
 use Rattle.afdx_plan.specs.declared.port_plan.PortPlan.{PortPlan}
 use Rattle.plan_analysis.specs.declared.analysis.Analysis.{Analysis}
-use Rattle.plan_analysis.specs.declared.analysis.LinkRow.{LinkRow}
+use Rattle.plan_analysis.specs.declared.analysis.LinkAnalysis.{LinkAnalysis}
 use Rattle.plan_analysis.specs.declared.analysis.NetworkRow.{NetworkRow}
-use Rattle.plan_analysis.specs.declared.analysis.PortRow.{PortRow}
+use Rattle.plan_analysis.specs.declared.analysis.PortAnalysis.{PortAnalysis}
 use Rattle.plan_analysis.specs.Memory.{IsMemoryOf}
 use Rattle.plan_analysis.specs.Load.{window_bits, line_bits, bit_rate, share, is_over, carries}
 use Rattle.plan_analysis.specs.Wait.{link_of, port_pieces, worst_wait, sustained}
 
 -- the row of a link: its part of the jitter is 80 nanoseconds for each byte of its greatest frame on the wire
-abbrev pub link_row : LinkPlan → LinkRow
+abbrev pub link_row : LinkPlan → LinkAnalysis
 link_row link = record {
   plan = link;
   load = bit_rate (window_bits link);
@@ -38,7 +38,7 @@ network_row net links = record {
 }
 
 -- the row of a port, if polls come at most `late` microseconds late
-abbrev pub port_row : ℕ → Plan → PortPlan → PortRow
+abbrev pub port_row : ℕ → Plan → PortPlan → PortAnalysis
 port_row late plan port = record {
   id = port.id;
   vl = port.vl;

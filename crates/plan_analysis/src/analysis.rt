@@ -19,12 +19,12 @@ pub struct Analysis {
     pub end_system: u16,
     // the greatest lateness of a poll, in microseconds
     pub lateness: u64,
-    pub links: Vec<LinkRow>,
+    pub links: Vec<LinkAnalysis>,
     pub network_a: NetworkRow,
     pub network_b: NetworkRow,
     // in nanoseconds
     pub jitter: u64,
-    pub ports: Vec<PortRow>,
+    pub ports: Vec<PortAnalysis>,
     pub memory: Memory,
 }
 
@@ -49,14 +49,14 @@ pub fn analyze(alloc: Global, config: &Config, lateness: u64) -> Result<Analysis
 }
 
 /// The rows of the links.
-fn link_rows(alloc: Global, links: &[LinkPlan]) -> Result<Vec<LinkRow>, AllocError>
+fn link_rows(alloc: Global, links: &[LinkPlan]) -> Result<Vec<LinkAnalysis>, AllocError>
     ensures { IfOk result (λ rows. rows.items ≡ map row_of_link links.now) }
 {
     links.iter().map(link_row).collect(alloc)
 }
 
 /// The rows of the ports.
-fn port_rows(alloc: Global, config: &Config, late: u64) -> Result<Vec<PortRow>, AllocError>
+fn port_rows(alloc: Global, config: &Config, late: u64) -> Result<Vec<PortAnalysis>, AllocError>
     requires { late ≤ LATENESS_LIMIT }
     ensures { IfOk result (λ rows. rows.items ≡ map (row_of_port late config.now) config.now.ports) }
 {
@@ -69,7 +69,7 @@ fn port_rows(alloc: Global, config: &Config, late: u64) -> Result<Vec<PortRow>, 
 
 /// The analysis of a virtual link.
 #[derive(Clone, Copy, Debug, PartialEq, Eq)]
-pub struct LinkRow {
+pub struct LinkAnalysis {
     pub plan: LinkPlan,
     // the greatest load in bits per second on the wire, rounded up
     pub load: u64,
@@ -80,11 +80,11 @@ pub struct LinkRow {
 }
 
 /// Analyzes a link.
-pub(crate) fn link_row(plan: &LinkPlan) -> LinkRow
+pub(crate) fn link_row(plan: &LinkPlan) -> LinkAnalysis
     ensures { result ≡ row_of_link plan.now }
 {
     let bits = window_bits(plan);
-    LinkRow {
+    LinkAnalysis {
         plan: *plan,
         load: bit_rate(bits),
         share: share(bits),
@@ -123,7 +123,7 @@ pub(crate) fn network_row(net: Net, links: &[LinkPlan]) -> NetworkRow
 
 /// The analysis of a port.
 #[derive(Clone, Copy, Debug, PartialEq, Eq)]
-pub struct PortRow {
+pub struct PortAnalysis {
     pub id: PortId,
     pub vl: VlId,
     // the index of the sub-VL in its link
@@ -137,7 +137,7 @@ pub struct PortRow {
 }
 
 /// Analyzes a port of a plan whose polls come at most `late` microseconds late.
-pub(crate) fn port_row(late: u64, config: &Config, port: &PortPlan) -> PortRow
+pub(crate) fn port_row(late: u64, config: &Config, port: &PortPlan) -> PortAnalysis
     requires late { late ≤ LATENESS_LIMIT }
     requires port { IsPort port.now }
     ensures { result ≡ row_of_port late config.now port.now }
@@ -146,7 +146,7 @@ pub(crate) fn port_row(late: u64, config: &Config, port: &PortPlan) -> PortRow
     let fragments = port_pieces(link, port);
     let used = used_sub_vls(link, config.ports());
     let most = most_pieces(link, port.sub, config.ports());
-    PortRow {
+    PortAnalysis {
         id: port.id,
         vl: port.vl,
         sub: port.sub,

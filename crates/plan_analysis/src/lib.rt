@@ -9,7 +9,9 @@ mod load;
 mod memory;
 mod traffic;
 
-pub use analysis::{Analysis, JITTER_LIMIT, LATENESS_LIMIT, LinkRow, NetworkRow, PortRow, analyze};
+pub use analysis::{
+    Analysis, JITTER_LIMIT, LATENESS_LIMIT, LinkAnalysis, NetworkRow, PortAnalysis, analyze,
+};
 pub use fragments::used_sub_vls;
 pub use load::{OWN_JITTER, carries};
 pub use memory::{LARGE_MEMORY, Memory, SubRow};

@@ -8,9 +8,9 @@ use Rattle.afdx_plan.specs.declared.link_plan.Networks.{Networks}
 use Rattle.afdx_plan.specs.declared.link_plan.Networks.TheVariants.{Both, OnlyA, OnlyB}
 use Rattle.plan_report.specs.Report.{jitter_line}
 use Rattle.plan_analysis.specs.declared.analysis.Analysis.{Analysis}
-use Rattle.plan_analysis.specs.declared.analysis.LinkRow.{LinkRow}
+use Rattle.plan_analysis.specs.declared.analysis.LinkAnalysis.{LinkAnalysis}
 use Rattle.plan_analysis.specs.declared.analysis.NetworkRow.{NetworkRow}
-use Rattle.plan_analysis.specs.declared.analysis.PortRow.{PortRow}
+use Rattle.plan_analysis.specs.declared.analysis.PortAnalysis.{PortAnalysis}
 use Rattle.plan_analysis.specs.declared.memory.SubRow.{SubRow}
 
 -- a number at the right end of a column of `width` characters, as `{n:>width}` prints it
@@ -49,7 +49,7 @@ unfoldable pub links_head : List ℕ
 links_head = codes " link bag-ms lmax subs  nets    load-kbit/s  share-%  jitter-ns" ++ 10 ∷ []
 
 -- the row of a link
-unfoldable pub link_line : LinkRow → List ℕ
+unfoldable pub link_line : LinkAnalysis → List ℕ
 link_line row = right 5 row.plan.id.0 ++ right 7 (bag_ms row.plan.bag) ++ right 5 row.plan.lmax
     ++ right 5 row.plan.sub_vls ++ codes " " ++ networks_cell row.plan.networks ++ thousandths 11 row.load
     ++ hundredths 6 row.share ++ right 11 row.jitter ++ 10 ∷ []
@@ -77,12 +77,12 @@ unfoldable pub ports_head : List ℕ
 ports_head = codes " port  link sub fragments        wait-us   messages/s" ++ 10 ∷ []
 
 -- the row of a port
-unfoldable pub port_line : PortRow → List ℕ
+unfoldable pub port_line : PortAnalysis → List ℕ
 port_line row = right 5 row.id.0 ++ right 6 row.vl.0 ++ right 4 row.sub ++ right 10 row.fragments ++ right 15 row.wait
     ++ thousandths 9 row.sustained ++ 10 ∷ []
 
 -- the table of the links, with the jitter of all of them
-unfoldable pub links_table : List LinkRow → ℕ → List ℕ
+unfoldable pub links_table : List LinkAnalysis → ℕ → List ℕ
 links_table rows jitter = links_head ++ flat_map link_line rows ++ jitter_line (codes " ns of ") jitter
 
 -- the table of the networks
@@ -90,7 +90,7 @@ unfoldable pub networks_table : NetworkRow → NetworkRow → List ℕ
 networks_table a b = networks_head ++ network_line a ++ network_line b
 
 -- the table of the ports
-unfoldable pub ports_table : List PortRow → List ℕ
+unfoldable pub ports_table : List PortAnalysis → List ℕ
 ports_table rows = ports_head ++ flat_map port_line rows
 
 -- the column heads of the sub-VLs

@@ -3,11 +3,11 @@ ghost use Rattle.std.specs.Prelude.{◌≡◌, OnOk, flat_map};
 ghost use Rattle.std.specs.Io.KnownBytes.{Appends};
 ghost use Rattle.plan_report.specs.AnalysisText.{head_line, links_head, link_line, network_line, ports_head, port_line, sub_line, total_line, links_table, networks_table, ports_table, memory_head, memory_table, text_of, networks_cell as cell_of_networks, network_name as name_of_network, exceeded_cell as cell_of_exceeded};
 
+use crate::check_report::write_jitter;
 use crate::numbers::{Decimal, HUNDREDTHS, THOUSANDTHS};
-use crate::report::write_jitter;
 use afdx_frame::Net;
 use afdx_plan::Networks;
-use plan_analysis::{Analysis, LinkRow, NetworkRow, PortRow, SubRow};
+use plan_analysis::{Analysis, LinkAnalysis, NetworkRow, PortAnalysis, SubRow};
 use std::io::{self, Write};
 
 /// Writes an analysis as text: one table each for links, networks, ports and sub-VLs. Each row is a line of
@@ -25,7 +25,11 @@ pub fn write_analysis<W: Write>(writer: &mut W, analysis: &Analysis) -> io::Resu
 }
 
 #[tactic(auto, unfolding(crate::specs::AnalysisText::links_table))]
-fn write_links_table<W: Write>(writer: &mut W, links: &[LinkRow], jitter: u64) -> io::Result<()>
+fn write_links_table<W: Write>(
+    writer: &mut W,
+    links: &[LinkAnalysis],
+    jitter: u64,
+) -> io::Result<()>
     ensures { OnOk result (Appends (W.contents writer.old) (W.contents writer.new) (links_table links.now jitter)) }
 {
     write_links_head(writer)?;
@@ -43,7 +47,7 @@ fn write_networks_table<W: Write>(writer: &mut W, a: &NetworkRow, b: &NetworkRow
 }
 
 #[tactic(auto, unfolding(crate::specs::AnalysisText::ports_table))]
-fn write_ports_table<W: Write>(writer: &mut W, ports: &[PortRow]) -> io::Result<()>
+fn write_ports_table<W: Write>(writer: &mut W, ports: &[PortAnalysis]) -> io::Result<()>
     ensures { OnOk result (Appends (W.contents writer.old) (W.contents writer.new) (ports_table ports.now)) }
 {
     write_ports_head(writer)?;
@@ -82,7 +86,7 @@ fn write_links_head<W: Write>(writer: &mut W) -> io::Result<()>
     writer.write_all(b" link bag-ms lmax subs  nets    load-kbit/s  share-%  jitter-ns\n")
 }
 
-fn write_links<W: Write>(writer: &mut W, links: &[LinkRow]) -> io::Result<()>
+fn write_links<W: Write>(writer: &mut W, links: &[LinkAnalysis]) -> io::Result<()>
     ensures { OnOk result (Appends (W.contents writer.old) (W.contents writer.new) (flat_map link_line links.now)) }
 {
     for link in links {
@@ -92,7 +96,7 @@ fn write_links<W: Write>(writer: &mut W, links: &[LinkRow]) -> io::Result<()>
 }
 
 #[tactic(auto, unfolding(crate::specs::AnalysisText::link_line))]
-fn write_link<W: Write>(writer: &mut W, row: &LinkRow) -> io::Result<()>
+fn write_link<W: Write>(writer: &mut W, row: &LinkAnalysis) -> io::Result<()>
     ensures { OnOk result (Appends (W.contents writer.old) (W.contents writer.new) (link_line row.now)) }
 {
     let id = row.plan.id.0;
@@ -153,7 +157,7 @@ fn write_ports_head<W: Write>(writer: &mut W) -> io::Result<()>
     writer.write_all(b" port  link sub fragments        wait-us   messages/s\n")
 }
 
-fn write_ports<W: Write>(writer: &mut W, ports: &[PortRow]) -> io::Result<()>
+fn write_ports<W: Write>(writer: &mut W, ports: &[PortAnalysis]) -> io::Result<()>
     ensures { OnOk result (Appends (W.contents writer.old) (W.contents writer.new) (flat_map port_line ports.now)) }
 {
     for port in ports {
@@ -163,7 +167,7 @@ fn write_ports<W: Write>(writer: &mut W, ports: &[PortRow]) -> io::Result<()>
 }
 
 #[tactic(auto, unfolding(crate::specs::AnalysisText::port_line))]
-fn write_port<W: Write>(writer: &mut W, row: &PortRow) -> io::Result<()>
+fn write_port<W: Write>(writer: &mut W, row: &PortAnalysis) -> io::Result<()>
     ensures { OnOk result (Appends (W.contents writer.old) (W.contents writer.new) (port_line row.now)) }
 {
     let id = row.id.0;

@@ -8,7 +8,7 @@ use crate::html::Cell;
 use crate::traffic::{Demand, Traffic};
 use afdx_plan::Config;
 use csv::{Error, Writer};
-use plan_analysis::{Analysis, JITTER_LIMIT, PortRow, Sender, SubRow};
+use plan_analysis::{Analysis, JITTER_LIMIT, PortAnalysis, Sender, SubRow};
 use std::alloc::{AllocError, Global};
 use std::fmt::{self, InlineText};
 use std::io::{self, Write};
@@ -108,7 +108,7 @@ impl fmt::Display for Sentence {
 /// A port's waits by both bounds beside what its traffic text says.
 #[derive(Clone, Copy)]
 pub(crate) struct Row<'a> {
-    pub(crate) port: &'a PortRow,
+    pub(crate) port: &'a PortAnalysis,
     pub(crate) demand: &'a Demand,
     pub(crate) by_traffic: Option<u64>,
 }

@@ -3,19 +3,19 @@
 
 mod analysis_text;
 mod assessment;
+mod check_report;
 mod flow;
 mod html;
 mod numbers;
 mod page;
 mod page_loads;
 mod page_waits;
-mod report;
 mod time_line;
 mod traffic;
 
 pub use analysis_text::write_analysis;
 pub use assessment::{Assessment, senders_of, write_rows, write_traffic, write_verdict};
+pub use check_report::write_report;
 pub use html::{Cell, Parts};
 pub use page::{Digested, VERSION, write_head, write_page};
-pub use report::write_report;
 pub use traffic::{Demand, PERIOD_LIMIT, Traffic, TrafficFault, Wrong, no_traffic, read_traffic};

@@ -3,7 +3,9 @@ use crate::analysis_text::{network_name, networks_cell};
 use crate::html::{DRAWING, Parts, Rect, Time, WIDTH, place};
 use crate::numbers::{Decimal, Grouped, HUNDREDTHS, THOUSANDTHS};
 use afdx_frame::Net;
-use plan_analysis::{Analysis, JITTER_LIMIT, LinkRow, Memory, NetworkRow, OWN_JITTER, carries};
+use plan_analysis::{
+    Analysis, JITTER_LIMIT, LinkAnalysis, Memory, NetworkRow, OWN_JITTER, carries,
+};
 use std::io::{self, Write};
 
 /// The rate of a network in bits a second.
@@ -85,7 +87,7 @@ fn write_jitter_bar<W: Write>(
 }
 
 /// Writes the table of the links.
-pub(crate) fn write_links<W: Write>(writer: &mut W, links: &[LinkRow]) -> io::Result<()> {
+pub(crate) fn write_links<W: Write>(writer: &mut W, links: &[LinkAnalysis]) -> io::Result<()> {
     writer.write_all(
         b"<h2>Links</h2>\n<p>A bar is the load of a link beside what its BAG allows: a whole one is a \
         frame of 1,518 bytes each BAG. Shares are of 100&nbsp;Mbit/s.</p>\n\
@@ -98,7 +100,7 @@ pub(crate) fn write_links<W: Write>(writer: &mut W, links: &[LinkRow]) -> io::Re
     writer.write_all(b"</table>\n")
 }
 
-fn write_link<W: Write>(writer: &mut W, row: &LinkRow) -> io::Result<()> {
+fn write_link<W: Write>(writer: &mut W, row: &LinkAnalysis) -> io::Result<()> {
     let plan = &row.plan;
     let (id, subs) = (plan.id.0, plan.sub_vls);
     let gap = Time::of_micros(plan.bag.micros());
