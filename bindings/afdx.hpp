@@ -258,7 +258,7 @@ public:
         detail::want(afdx_open(handle_.get(), bytes, text.size()), AFDX_CALL_OPEN);
     }
 
-    /* Opens an end system from the table of a plan (docs/table.md). Throws ConfigError or OutOfMemory. */
+    /* Opens an end system from the table of a plan (docs/guide/table.md). Throws ConfigError or OutOfMemory. */
     EndSystem(const std::uint8_t *table, std::size_t length) {
         detail::want(afdx_open_table(handle_.get(), table, length), AFDX_CALL_OPEN);
     }

@@ -85,7 +85,7 @@ into share/bash-completion/completions install/completions/afdx_bench.bash
 mv "$prefix/share/bash-completion/completions/afdx_bench.bash" "$prefix/share/bash-completion/completions/afdx_bench"
 into share/zsh/site-functions install/completions/_afdx_bench
 into share/fish/vendor_completions.d install/completions/afdx_bench.fish
-into share/doc/afdx LICENSE-MIT LICENSE-APACHE CHANGELOG.md docs/guide/{bench,c,judge,laws,plan,program,speed}.md
+into share/doc/afdx LICENSE-MIT LICENSE-APACHE CHANGELOG.md docs/guide/{bench,c,judge,laws,plan,program,speed,table}.md
 into share/afdx bindings/afdx.lua
 into share/afdx/examples/c examples/c/example.c examples/c/demo.toml examples/c/wire.toml
 mode=755 into share/afdx/examples/c examples/c/build.sh examples/c/wire.sh examples/c/receive.py

@@ -32,12 +32,12 @@ lib/python/afdx/py.typed share/afdx/afdx-{VERSION}-py3-none-linux_x86_64.whl sha
 share/bash-completion/completions/afdx_bench share/zsh/site-functions/_afdx_bench
 share/fish/vendor_completions.d/afdx_bench.fish share/man/man1/afdx_bench.1 share/man/man1/afdx_play.1 share/doc/afdx/LICENSE-MIT
 share/doc/afdx/LICENSE-APACHE share/doc/afdx/CHANGELOG.md share/doc/afdx/bench.md share/doc/afdx/c.md share/doc/afdx/plan.md
-share/doc/afdx/judge.md share/doc/afdx/laws.md share/doc/afdx/program.md share/doc/afdx/speed.md share/afdx/examples/c/build.sh share/afdx/examples/c/receive.py share/afdx/examples/c/wire.sh
+share/doc/afdx/judge.md share/doc/afdx/laws.md share/doc/afdx/program.md share/doc/afdx/speed.md share/doc/afdx/table.md share/afdx/examples/c/build.sh share/afdx/examples/c/receive.py share/afdx/examples/c/wire.sh
 share/afdx/examples/c/wire.toml
 share/afdx/examples/c/demo.toml share/afdx/examples/c/example.c share/afdx/examples/cmake/CMakeLists.txt
 share/afdx/examples/cmake/main.c share/afdx/examples/cpp/main.cpp
 share/afdx/examples/play/main.c share/afdx/examples/play/script.c share/afdx/examples/play/faults.c
-share/afdx/examples/play/wire.c share/afdx/examples/play/words.c share/afdx/examples/play/play.h
+share/afdx/examples/play/stamps.c share/afdx/examples/play/tell.c share/afdx/examples/play/wire.c share/afdx/examples/play/words.c share/afdx/examples/play/play.h
 share/afdx/examples/python/bench.py share/afdx/examples/python/main.py""".split()
 
 

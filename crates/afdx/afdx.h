@@ -174,7 +174,7 @@ enum {
    unchanged. */
 uint8_t afdx_open(afdx_end_system *out, const uint8_t *text, size_t length);
 
-/** Opens an end system from the table of a plan, which `afdx_bench compile` writes and docs/table.md lays out. The end system
+/** Opens an end system from the table of a plan, which `afdx_bench compile` writes and docs/guide/table.md lays out. The end system
    is that of the plan's text; nothing is parsed. The bytes are copied; memory is as in afdx_open.
    @param out the handle to fill
    @param table the table

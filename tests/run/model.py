@@ -50,7 +50,7 @@ def packets(end_system: int, link: Table, port: Table, place: int, message: byte
 
 
 def table_of(plan: Table) -> bytes:
-    """The table of a plan, by `docs/table.md`."""
+    """The table of a plan, by `docs/guide/table.md`."""
     cells = [1, plan["end_system"]["id"], len(plan["vl"]), len(plan["port"])]
     for vl in plan["vl"]:
         cells += [vl[key] for key in ("id", "bag_ms", "lmax", "sub_vls", "capacity")] + [("both", "a", "b").index(vl.get("networks", "both"))]
