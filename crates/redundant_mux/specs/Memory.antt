@@ -1,4 +1,4 @@
--- Networks in memory: two that keep all frames, of which one has their bytes in one buffer, and one that keeps the last.
+-- Networks in memory: two that keep all frames, of which one has all bytes in one buffer, and one that keeps the last.
 use Rattle.std.specs.Prelude.{ℕ, List, [], Option, Some, None, All, take, drop, map, ◌≡◌, ◌≢◌, ◌⊎◌, ◌↔◌, ◌+◌, ◌-◌, ◌%◌, ◌^◌, ◌<◌, ◌≤◌, ◌∷◌, ◌++◌, Bool, true, false, length, get_or}
 use Rattle.std.specs.List.{sum_by}
 use Rattle.std.specs.Borrow.{Bor}

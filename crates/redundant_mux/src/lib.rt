@@ -1,6 +1,6 @@
 //! Sends each frame to the networks that it is for, and abandons a network at its first failure.
-//! Has three networks in memory: two keep all frames, one of them the bytes of all in one buffer, and the third keeps the
-//! last 64, or those of its last time.
+//! Has three networks in memory: two keep all frames, one of them all bytes in one buffer, and the third keeps the last
+//! 64, or those of its last time.
 #![tactic(auto)]
 
 mod frame_log;
