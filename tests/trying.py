@@ -14,7 +14,7 @@ def text_of(path):
         return file.read()
 
 
-# The demonstration configuration, a script of one message, and what the program prints of them.
+# The demonstration plan, a script of one message, and what the program prints of them.
 DEMO = text_of("examples/c/demo.toml")
 SCRIPT = text_of("crates/afdx_bench/stdin")
 ONE_FRAME = text_of("crates/afdx_bench/stdout")
@@ -34,26 +34,26 @@ A transmitting AFDX end system. Without words it runs a script from standard inp
 Usage: afdx_bench [COMMAND]
 
 Commands:
-  run       Runs a script over a configuration and prints the frames of both networks
-  check     Prints the plan and the jitter of a configuration; `explain` locates its faults
-  explain   Prints the faults of a configuration, each with its place and what is allowed there
-  import    Prints the configuration of an interface document, a CSV file with a row for each port
-  report    Prints the loads, the jitter and the longest waits of a configuration
-  schedule  Prints a script in which the ports of a configuration send at their periods
+  run       Runs a script over a plan and prints the frames of both networks
+  check     Prints a plan and its jitter; `explain` locates its faults
+  explain   Prints the faults of a plan, each with its place and what is allowed there
+  import    Prints the plan of an interface document, a CSV file with a row for each port
+  report    Prints the loads, the jitter and the longest waits of a plan
+  schedule  Prints a script in which the ports of a plan send at their periods
   judge     Prints what is wrong with a recording of an end system
-  storm     Has all ports of a configuration send at once, and prints what came of it
+  storm     Has all ports of a plan send at once, and prints what came of it
 
 Options:
   -h, --help     Print help
   -V, --version  Print version
 """
 STORM_HELP = """\
-Has all ports of a configuration send at once, and prints what came of it
+Has all ports of a plan send at once, and prints what came of it
 
 Usage: afdx_bench storm --messages <messages> --turns <turns> <config>
 
 Arguments:
-  <config>  The file of the configuration
+  <config>  The file of the plan
 
 Options:
       --messages <messages>  How many messages each port sends, each about 3 KB of memory

@@ -3,7 +3,7 @@
        example CONFIG INTERFACE_A INTERFACE_B PORT[:MESSAGES[:BYTES]]..
        example --dump CONFIG PORT[:MESSAGES[:BYTES]]..
 
-   CONFIG is the file of a configuration. Each PORT sends MESSAGES messages of BYTES bytes, 1 of each by default: byte i
+   CONFIG is the file of a plan. Each PORT sends MESSAGES messages of BYTES bytes, 1 of each by default: byte i
    of message k is k + 1 + i modulo 256, both counted from 0.
 
    In the first form each port has a thread that sends; the main thread polls by the monotonic clock and writes the frames
@@ -35,7 +35,7 @@
 #include <time.h>
 #include <unistd.h>
 
-/* The most ports of a configuration, the most bytes of a message and of a configuration's text. */
+/* The most ports of a plan, the most bytes of a message and of a plan's text. */
 enum { MOST_PORTS = 128, GREATEST_MESSAGE = 8192, GREATEST_TEXT = 1 << 20 };
 
 /* The time between polls of a dump, and how long a sender waits for room, in microseconds. */

@@ -1,4 +1,4 @@
-/* Sends one byte through port 10 of a configuration, and prints its frame for each network.
+/* Sends one byte through port 10 of a plan, and prints its frame for each network.
 
        main CONFIG */
 #include <afdx.h>

@@ -22,7 +22,7 @@ use plan_table::read_table;
 use std::alloc::Global;
 use std::mem;
 
-/// Opens an end system from the text of a configuration.
+/// Opens an end system from the text of a plan.
 #[unsafe(no_mangle)]
 pub extern "C" fn afdx_open(alloc: Global, out: &mut Opening, text: &[u8]) -> u8
     ensures held { (result ≡ HELD) ↔ IsSome out.old.handle.kept.home }
@@ -79,7 +79,7 @@ fn put_end(alloc: Global, out: &mut Opening, config: Config) -> u8
     }
 }
 
-/// Explains the faults of a configuration's text: writes as much of the explanation as fits, and its length.
+/// Explains the faults of a plan's text: writes as much of the explanation as fits, and its length.
 #[unsafe(no_mangle)]
 pub extern "C" fn afdx_explain(
     alloc: Global,

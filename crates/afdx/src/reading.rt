@@ -20,7 +20,7 @@ use afdx_handle::{
 };
 use afdx_plan::VlId;
 
-/// Writes the identifiers of the ports, in the order of the configuration, and their number. On
+/// Writes the identifiers of the ports, in the order of the plan, and their number. On
 /// `SMALL_BUFFER`, if there is room for fewer, writes only the number.
 #[unsafe(no_mangle)]
 pub extern "C" fn afdx_ports(it: &mut Handle, ids: &mut [u16], count: &mut usize) -> u8
@@ -44,7 +44,7 @@ pub extern "C" fn afdx_ports(it: &mut Handle, ids: &mut [u16], count: &mut usize
     })
 }
 
-/// Writes the identifiers of the links, in the order of the configuration, and their number. On
+/// Writes the identifiers of the links, in the order of the plan, and their number. On
 /// `SMALL_BUFFER`, if there is room for fewer, writes only the number.
 #[unsafe(no_mangle)]
 pub extern "C" fn afdx_links(it: &mut Handle, ids: &mut [u16], count: &mut usize) -> u8

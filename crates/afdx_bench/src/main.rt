@@ -1,5 +1,5 @@
 //! The bench of a transmitting end system: runs scripts over two networks in memory and prints their
-//! transcripts, reports on configurations, and throws storms of messages at an end system.
+//! transcripts, reports on plans, and throws storms of messages at an end system.
 #![tactic(auto)]
 
 ghost use Rattle.std.specs.Prelude.{◌≤◌};
@@ -40,7 +40,7 @@ fn end_of<'a>(ran: Result<Summary, RunFault>, path: &'a str) -> Result<End, Stop
     of_file(ran.map(End::Ran).map_err(Failure::Run), path, Cause::Unread)
 }
 
-/// Runs a script over a configuration, each by the path of its file. The configuration is read before the script is
+/// Runs a script over a plan, each by the path of its file. The plan is read before the script is
 /// opened, and the file of a capture is made after that. It gets the frames of both networks after the run, and stays
 /// empty if the transcript can't be written or an allocation fails.
 fn run_files<'a, W: Write>(
@@ -68,7 +68,7 @@ fn run_files<'a, W: Write>(
     }
 }
 
-/// Runs a storm over a configuration, by the path of its file. Shows its progress on standard error, if that is a
+/// Runs a storm over a plan, by the path of its file. Shows its progress on standard error, if that is a
 /// terminal.
 fn run_storm<'a, W: Write, T: Threads + Wait + Sync>(
     rt: &HostRuntime,

@@ -17,7 +17,7 @@ use std::fs::File;
 use std::io::{self, Write};
 use std::path::Path;
 
-/// Writes the verdict, the loads, the jitter and the longest waits of a configuration; and before that the page and the
+/// Writes the verdict, the loads, the jitter and the longest waits of a plan; and before that the page and the
 /// rows to their files. If the traffic has faults, writes these alone.
 pub fn report<'a, W: Write>(
     rt: &HostRuntime,

@@ -1,4 +1,4 @@
-//! The document of a configuration and its tables.
+//! The document of a plan and its tables.
 ghost use Rattle.std.specs.Prelude.{◌≡◌, map, IfOk, option_map};
 ghost use Rattle.toml.specs.View.{table_view, items_view};
 ghost use Rattle.afdx_config.specs.Tables.{tables_among, rows_at, section_at, is_version_2};

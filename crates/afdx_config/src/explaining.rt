@@ -1,4 +1,4 @@
-//! All faults of a configuration, each with its place.
+//! All faults of a plan, each with its place.
 ghost use Rattle.std.specs.Prelude.{◌≡◌, map, IfOk};
 ghost use Rattle.toml.specs.Errors.{IsWithin};
 ghost use Rattle.toml.specs.View.{table_view};
@@ -121,7 +121,7 @@ fn tell_toml(
     explanation_of(alloc, None, found, before, name)
 }
 
-/// Finds all faults of a configuration, and keeps the first 1,000, each with its place. A text that is not TOML
+/// Finds all faults of a plan, and keeps the first 1,000, each with its place. A text that is not TOML
 /// has this one fault.
 /// `read_config` returns the fault of the first finding, or the plan if there is no finding.
 pub fn explain(alloc: Global, text: &[u8]) -> Result<Explanation, AllocError>
@@ -130,7 +130,7 @@ pub fn explain(alloc: Global, text: &[u8]) -> Result<Explanation, AllocError>
     explain_named(alloc, text, None)
 }
 
-/// Explains a configuration as `explain` does. Each line of a finding begins with the name of the file of the text, and
+/// Explains a plan as `explain` does. Each line of a finding begins with the name of the file of the text, and
 /// with the number of the finding's line, if the text has the usual form up to that line.
 pub fn explain_file(alloc: Global, text: &[u8], name: &str) -> Result<Explanation, AllocError>
     ensures { IfOk result (λ e. Explains text.now (map finding_of e.findings.items) e.count e.text.items) }

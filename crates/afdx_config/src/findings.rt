@@ -1,4 +1,4 @@
-//! Faults of a configuration with their places.
+//! Faults of a plan with their places.
 ghost use Rattle.std.specs.Prelude.{◌≡◌, ◌∷◌, ◌≤◌, [], length, map, OnOk};
 ghost use Rattle.std.specs.List.{insert};
 ghost use Rattle.afdx_config.specs.Findings.{found as finding_at, Finding as Told, one_if, put, row_like};

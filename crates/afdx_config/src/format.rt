@@ -1,4 +1,4 @@
-//! The format of a configuration: the keys of its tables and their values.
+//! The format of a plan: the keys of its tables and their values.
 ghost use Rattle.std.specs.Prelude.{◌≡◌, map, find, bytes_eq, option_copied};
 ghost use Rattle.afdx_config.specs.Tables.{key_fault};
 ghost use Rattle.afdx_config.specs.Seen.{field_of};

@@ -1,4 +1,4 @@
-//! Configurations: plans of end systems as TOML texts.
+//! Plans of end systems as TOML texts.
 #![tactic(auto)]
 
 mod document;

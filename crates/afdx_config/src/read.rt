@@ -1,4 +1,4 @@
-//! Reading a configuration.
+//! Reading a plan.
 ghost use Rattle.std.specs.Prelude.{◌≡◌, ◌≢◌, All, List, Some, [], map, IfOk, IfErr};
 ghost use Rattle.afdx_plan.specs.declared.fault.ConfigFault.{ConfigFault};
 ghost use Rattle.afdx_plan.specs.Config.{IsPlan, plan_of_parts};
@@ -69,7 +69,7 @@ fn read_document(alloc: Global, document: &Document<'_>) -> Result<Config, Confi
     plan_of(alloc, &rows).map_err(|_| ConfigFault::Memory)
 }
 
-/// Reads a configuration from a TOML text. Returns its plan, or the fault of the least number that the
+/// Reads a plan from a TOML text. Returns it, or the fault of the least number that the
 /// text has. May return `Memory` instead of any result.
 pub fn read_config(alloc: Global, text: &[u8]) -> Result<Config, ConfigFault>
     ensures plan { IfOk result (IsPlanOf text.now) }

@@ -31,7 +31,7 @@ pub record ChangesEnd (old new : Option Home) (others : List ℕ) (answer : ℕ)
 abbrev pub HoldsNet : Option Home → ℕ → (Net → EndView → Type 0) → Type 0
 HoldsNet held network Is = HoldsEnd held (λ end. IsSomeAnd (net_of network) (λ net. Is net end))
 
--- the number of the least fault of a configuration's text, or of an allocation that failed
+-- the number of the least fault of a plan's text, or of an allocation that failed
 abbrev pub IsFaultNumber : List ℕ → ℕ → Type 0
 IsFaultNumber text answer = (fault : ConfigFault) × (answer ≡ fault_number fault)
     × (fault ≢ Memory → IsLeastFault text fault)

@@ -19,7 +19,7 @@ answer_of judged room =
     if nat_eq judged.a.end 0 && nat_eq judged.b.end 0
     then (if nat_lt room judged.findings then SMALL_BUFFER else DONE) else BAD_CAPTURE
 
--- the number of a configuration's fault, or of an allocation that failed
+-- the number of a plan's fault, or of an allocation that failed
 abbrev pub IsRefused : ℕ → Type 0
 IsRefused answer = (1 ≤ answer) × (answer ≤ MEMORY)
 

@@ -19,11 +19,11 @@ port_id port = port.id.0
 abbrev pub link_id : LinkPlan → ℕ
 link_id link = link.id.0
 
--- the identifiers of the ports, in the order of the configuration
+-- the identifiers of the ports, in the order of the plan
 abbrev pub port_ids : EndView → List ℕ
 port_ids it = map port_id it.tx.plan.ports
 
--- the identifiers of the links, in the order of the configuration
+-- the identifiers of the links, in the order of the plan
 abbrev pub link_ids : EndView → List ℕ
 link_ids it = map link_id it.tx.plan.links
 

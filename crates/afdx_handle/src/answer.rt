@@ -47,7 +47,7 @@ pub const NO_FRAME: u8 = 40;
 /// The frame has more bytes than the buffer.
 pub const SMALL_BUFFER: u8 = 41;
 
-/// A port of the configuration is out.
+/// A port of the plan is out.
 pub const PORT_MISSING: u8 = 42;
 
 /// The ports were gathered before.

@@ -66,7 +66,7 @@ impl Stage {
         in_phase!(self, it => it.fail(net))
     }
 
-    /// The configuration.
+    /// The plan.
     pub fn config(&self) -> &Config
         ensures { result.now ≡ (tx_of self.now).plan }
     {

@@ -177,7 +177,7 @@ fn judge_read<'a>(
     answer_of(judged, rows.len())
 }
 
-/// Judges the captures `a` and `b`, each of one network alone, or only `a`, of both, by the text of a configuration.
+/// Judges the captures `a` and `b`, each of one network alone, or only `a`, of both, by the text of a plan.
 /// The number of the text's least fault, or `MEMORY` if an allocation fails; then writes nothing.
 pub fn judge_into(
     alloc: Global,

@@ -37,7 +37,7 @@ fn give_back(it: &mut EndSystem, port: TxPort)
 }
 
 /// Starts draining. `GATHERED` if the ports were gathered before, `PORT_MISSING` if a port of the
-/// configuration is out; then nothing changes.
+/// plan is out; then nothing changes.
 pub fn gather(alloc: Global, it: EndSystem) -> (EndSystem, u8)
     ensures answers { (result.1 ≡ DONE) ⊎ ((result.1 ≡ GATHERED) ⊎ (result.1 ≡ PORT_MISSING)) }
     ensures gathered { (result.1 ≡ GATHERED) ↔ (it.gathered ≡ true) }

@@ -50,7 +50,7 @@ abbrev pub longest_wait : ℕ → List LinkPlan → ℕ
 longest_wait late [] = 0
 longest_wait late (link ∷ links) = max (link_wait late link) (longest_wait late links)
 
--- The bound for a whole configuration, in what was sent to a network.
+-- The bound for a whole plan, in what was sent to a network.
 abbrev pub NextInPlan : Type 0
 NextInPlan = (plan : Plan) (accepted : Accepted) (net : Net) (handed : List Entry) (late k : ℕ)
     (first : Entry) (between : List Entry) (next : Entry)

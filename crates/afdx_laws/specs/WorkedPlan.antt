@@ -1,4 +1,4 @@
--- Worked transmissions of a plan, the demonstration configuration. One message of one byte is accepted, and its frame
+-- Worked transmissions of the demonstration plan. One message of one byte is accepted, and its frame
 -- sent to both networks at time 0; also if that message was all that its port had accepted, and with the link on
 -- network A alone. Then two messages, the second sent some time after the first.
 use Rattle.std.specs.Prelude.{◌≡◌, ℕ, List, [], ◌∷◌, take, All, ◌≤◌, length}
@@ -87,7 +87,7 @@ pub record NeedsAll : Type 0 where
   pub lost_carry : AreCarriedOf 1 (frames_of 1 (one_entry A)) (frames_of 1 (one_entry B)) []
   pub lost : BothFail (length longer_of_one ≤ most_carried []) (OwnComes one_own [])
 
--- the demonstration configuration, its link on these networks
+-- the demonstration plan, its link on these networks
 abbrev pub demo_on : Networks → Plan
 demo_on carriers = record demo_plan { links = record demo_link { networks = carriers } ∷ [] }
 

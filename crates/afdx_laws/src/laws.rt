@@ -221,7 +221,7 @@ pub fn counts_rise()
 ///
 /// The sub-VLs of the emitter take turns (`turns` of both polls, of `gather` and of both `into_networks`). The fragment
 /// is released within one BAG and the lateness of a poll per sub-VL, if the link releases a frame in each such time
-/// while the fragment waits (`time`). `longest_wait` is that bound for a whole configuration. By polls, and for the
+/// while the fragment waits (`time`). `longest_wait` is that bound for a whole plan. By polls, and for the
 /// sub-VLs that have a port alone, see `next_in_run` of run_laws and `polled_in_time` of vl_shaper. The law does not
 /// cover frames that no network accepted.
 pub fn next_fragment()

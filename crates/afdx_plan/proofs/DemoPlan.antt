@@ -1,4 +1,4 @@
--- The demonstration configuration is a valid plan.
+-- The demonstration plan is valid.
 use Rattle.std.proofs.Common.{arith}
 use Rattle.afdx_plan.specs.Config.{IsPlan}
 use Rattle.afdx_plan.specs.Demo.{demo_plan, demo_port}

@@ -1,4 +1,4 @@
--- The demonstration configuration: one end system with one link and one port.
+-- The demonstration plan: one end system with one link and one port.
 use Rattle.std.specs.Prelude.{[], ◌∷◌, None}
 use Rattle.afdx_plan.specs.declared.link_plan.Bag.TheVariants.{Ms1}
 use Rattle.afdx_plan.specs.declared.port_plan.Kind.TheVariants.{Queuing}

@@ -45,7 +45,7 @@ impl Config {
         self.end_system
     }
 
-    /// The virtual links, in the order of the configuration.
+    /// The virtual links, in the order of the plan.
     pub fn links(&self) -> &[LinkPlan]
         ensures plan { result.now ≡ self.now.links }
         ensures valid { IsPlan self.now }
@@ -54,7 +54,7 @@ impl Config {
         &self.links
     }
 
-    /// The ports, in the order of the configuration.
+    /// The ports, in the order of the plan.
     pub fn ports(&self) -> &[PortPlan]
         ensures plan { result.now ≡ self.now.ports }
         ensures valid { IsPlan self.now }

@@ -1,4 +1,4 @@
-//! The demonstration configuration.
+//! The demonstration plan.
 ghost use Rattle.std.specs.Prelude.{◌≡◌, IfOk, IfErr};
 ghost use Rattle.afdx_plan.specs.Demo.{demo_link, demo_port, demo_plan};
 
@@ -8,7 +8,7 @@ use crate::link_plan::{Bag, LinkPlan, Lmax, Networks};
 use crate::port_plan::{Kind, PortId, PortPlan, UdpSum, VlId};
 use std::alloc::Global;
 
-/// The demonstration configuration: end system 1 with link 1 and port 10. Fails only if an allocation
+/// The demonstration plan: end system 1 with link 1 and port 10. Fails only if an allocation
 /// fails.
 pub fn demo_config(alloc: Global) -> Result<Config, ConfigFault>
     ensures plan { IfOk result (λ config. config ≡ demo_plan) }
@@ -19,7 +19,7 @@ pub fn demo_config(alloc: Global) -> Result<Config, ConfigFault>
     Ok(Config::new(1, links, ports))
 }
 
-/// The link of the demonstration configuration.
+/// The link of the demonstration plan.
 fn demo_link() -> LinkPlan
     ensures { result ≡ demo_link }
 {
@@ -33,7 +33,7 @@ fn demo_link() -> LinkPlan
     }
 }
 
-/// The port of the demonstration configuration.
+/// The port of the demonstration plan.
 fn demo_port() -> PortPlan
     ensures { result ≡ demo_port }
 {

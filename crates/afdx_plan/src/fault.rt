@@ -1,10 +1,10 @@
-//! The faults of a configuration.
+//! The faults of a plan.
 ghost use Rattle.std.specs.Prelude.{◌≡◌};
 ghost use Rattle.afdx_plan.specs.PlanFaults.{fault_number};
 
 use thiserror::Error;
 
-/// A fault of a configuration. If a text has several, `read_config` returns the one of the least
+/// A fault of a plan. If a text has several, `read_config` returns the one of the least
 /// number. It may return `Memory` instead of any result.
 #[derive(Clone, Copy, Debug, PartialEq, Eq, Error)]
 pub enum ConfigFault {

@@ -12,7 +12,7 @@ use redundant_mux::{MemNetwork, Network, Standing};
 use status_board::{Counts, Monitor};
 use std::marker::Model;
 
-/// An emitter, its ports in the order of the configuration, and its monitor.
+/// An emitter, its ports in the order of the plan, and its monitor.
 #[derive(Drop)]
 pub struct Rig<N: Network + Drop> {
     pub tx: Emitter<N, N>,

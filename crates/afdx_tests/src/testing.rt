@@ -36,7 +36,7 @@ pub type PortRow = (u16, u16, u8, u8, u16);
 /// The links and the ports of end system 1.
 pub type Plan = (&'static [LinkRow], &'static [PortRow]);
 
-/// The demonstration configuration.
+/// The demonstration plan.
 pub const DEMO: Plan = (&[(1, "both", 1, 1_518, 1, 2)], &[(10, 1, 0, 1, 8_192)]);
 
 /// The same, with room for six messages.
@@ -78,7 +78,7 @@ pub fn text_of(rt: &impl Host, (links, ports): Plan) -> String {
     text
 }
 
-/// The configuration of a plan's text.
+/// The `Config` of a plan's text.
 pub fn config_of(rt: &impl Host, text: String) -> Config {
     let config = read_config(rt.alloc(), text.as_bytes()).expect(rt, "a valid plan");
     drop(text);

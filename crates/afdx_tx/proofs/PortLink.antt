@@ -1,4 +1,4 @@
--- The link of a port, and the number of the first ports of a configuration that are of a sub-VL.
+-- The link of a port, and the number of the first ports of a plan that are of a sub-VL.
 use Rattle.afdx_tx.proofs.Names.{ℕ, ◌≡◌, ◌<◌, List, Bool, length, arith, ◌∙◌, sym, refl, Option, Some, None, unwrap_or, eq-eqb, lt-ltb, eqb-true, both_ways, cases_lt, position, position_or_len, ◌==◌, LinkPlan, PortPlan, SendsOver, Plan, IsPlan, HasLink, link_plan_at, link_place, ◌+◌, ◌≤◌, ◌++◌, true, false, ◌&&◌, nat_eq, cond, take, drop, add-zero, and_parts, length-append, take-append-drop, filter-append, All-filter, filter_passes, port_plan_at, IsPort, ports_of_sub, index_of, SubVl, All, fails_before_first, length-filter, position-Some, length-filter_more, IsPortOf}
 
 -- whether the link has this identifier
@@ -87,7 +87,7 @@ pub others_at : (config : Plan) (place vl t : ℕ) → place < length config.por
     → seats config.ports (place + 1) vl t ≡ seats config.ports place vl t
 others_at config place vl t lt off = grind (arith, seats_more, add-zero)
 
--- The port at a place, for a configuration behind a reference.
+-- The port at a place, for a plan behind a reference.
 pub place_at : (config shown : Plan) (place k s : ℕ) (plan : PortPlan) → shown ≡ config
     → plan ≡ port_plan_at shown.ports place → place < length shown.ports → k < length shown.links
     → SendsOver plan (link_plan_at shown.links k) → s ≡ plan.sub → IsAt config place k s
@@ -97,7 +97,7 @@ place_at config shown place k s plan e is within link over sub = grind arith
 pub few_ports : (config : Plan) (vl sub : ℕ) → IsPlan config → length (ports_of_sub config.ports vl sub) ≤ 64
 few_ports config vl sub valid = omega (arith, valid.few_ports vl sub, length-filter (on_sub_vl vl sub) config.ports)
 
--- Each is one of the configuration's, and of the sub-VL.
+-- Each is one of the plan's, and of the sub-VL.
 pub of_sub : (P : PortPlan → Type 0) (ports : List PortPlan) (vl sub : ℕ) → All P ports
     → All (λ (port : PortPlan). P port × (port.vl.0 ≡ vl) × (port.sub ≡ sub)) (ports_of_sub ports vl sub)
 of_sub P ports vl sub all k d lt =

@@ -42,7 +42,7 @@ module _ (config : Plan) (links : List LinkState) (of : AreLinksOf config links)
       let here : link_place config (port_plan_at config.ports place) < length links = grind (arith, count_is) in
       (here, sub_within _ _ here linked.1.sub, linked.1)
 
-  -- Messages of each sub-VL's own ports are of its ports in the configuration.
+  -- Messages of each sub-VL's own ports are of its ports in the plan.
   own_allowed : (read : Seen → List (ℕ × List ℕ))
       → ((k s : ℕ) → k < length links → s < length (link_at links k).subs
       → AreItems (length (held_at (link_at links k).subs s).ports) (read (held_at (link_at links k).subs s).seen))

@@ -14,7 +14,7 @@ pub record KeepPlans (old new : List LinkState) : Type 0 where
   pub ports : (k s : ℕ) → k < length old → s < length (link_at old k).subs
       → (held_at (link_at new k).subs s).ports ≡ (held_at (link_at old k).subs s).ports
 
--- They are still those of the configuration.
+-- They are still those of the plan.
 pub plans_after : (config : Plan) (old new : List LinkState) → AreLinksOf config old → KeepPlans old new → AreLinks new
     → AreLinksOf config new
 plans_after config old new of keep each = record {
@@ -24,12 +24,12 @@ plans_after config old new of keep each = record {
   ports = grind arith;
 }
 
--- The plan of a link, from the configuration.
+-- The entry of a link, from the plan.
 pub plan_is : (config : Plan) (links : List LinkState) → AreLinksOf config links → (k : ℕ) → k < length links
     → link_plan_at config.links k ≡ (link_at links k).plan
 plan_is config links of k lt = grind (arith, link_plan_at, plan_at_is)
 
--- There are as many links as the configuration has.
+-- There are as many links as the plan has.
 pub count_is : (config : Plan) (links : List LinkState) → AreLinksOf config links → length links ≡ length config.links
 count_is config links of = grind (arith, plans_length)
 

@@ -54,7 +54,7 @@ DrainEnds = (plan : Plan) (accepted : Accepted) (moments : List ℕ) (lines afte
     → ((k : ℕ) → k < length plan.links → owed_at plan accepted k lines < length moments)
     → IsAllDone plan accepted (log after)
 
--- A worked drain over the demonstration configuration. One message of one byte was accepted and not
+-- A worked drain over the demonstration plan. One message of one byte was accepted and not
 -- transmitted, and two polls follow, a gap apart. No frame was transmitted before them.
 abbrev pub no_lines : Lines
 no_lines = lines_of [] [] 0 0 true true false false []

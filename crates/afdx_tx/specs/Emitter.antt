@@ -44,7 +44,7 @@ abbrev pub AreApart : List LinkState → Type 0
 AreApart links = (i j : ℕ) → i < length links → j < length links
     → (link_at links i).plan.id ≡ (link_at links j).plan.id → i ≡ j
 
--- the ports of a sub-VL, in the order of the configuration
+-- the ports of a sub-VL, in the order of the plan
 abbrev pub ports_of_sub : List PortPlan → ℕ → ℕ → List PortPlan
 ports_of_sub ports vl sub =
     filter (λ (port : PortPlan). nat_eq port.vl.0 vl && nat_eq port.sub sub) ports

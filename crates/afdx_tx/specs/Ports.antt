@@ -10,7 +10,7 @@ use Rattle.afdx_tx.specs.declared.fault.Refusal.{Refusal}
 use Rattle.afdx_tx.specs.declared.fault.Refusal.TheVariants.{Empty, TooLong, Closed, Exhausted, Full}
 use Rattle.afdx_tx.specs.Emitter.{Tx, queues_in, greatest_of, ports_of_sub}
 
--- A port: its place in the configuration, its entry there, and its sender.
+-- A port: its place in the plan, its entry there, and its sender.
 pub record PortView : Type 0 where
   pub place : ℕ
   pub plan : PortPlan
@@ -43,7 +43,7 @@ Refuses old size Closed new = QueueRefuses old size QueueClosed new
 Refuses old size Exhausted new = QueueRefuses old size QueueExhausted new
 Refuses old size Full new = QueueRefuses old size QueueFull new
 
--- the index of a port among those of its sub-VL, by its place in the configuration
+-- the index of a port among those of its sub-VL, by its place in the plan
 abbrev pub index_of : List PortPlan → ℕ → ℕ
 index_of ports place =
     length (ports_of_sub (take place ports) (port_plan_at ports place).vl.0 (port_plan_at ports place).sub)
@@ -56,7 +56,7 @@ queue_at queues link sub = get_or (get_or queues link []) sub None
 abbrev pub queue_for : Plan → List (List (Option QueueName)) → PortPlan → Option QueueName
 queue_for config queues port = queue_at queues (link_place config port) port.sub
 
--- A port of a configuration over these queues: it has the entry at its place, and a sender of its
+-- A port of a plan over these queues: it has the entry at its place, and a sender of its
 -- sub-VL's queue, with its index there.
 pub record BelongsTo (config : Plan) (queues : List (List (Option QueueName)))
     (port : PortView) : Type 0 where
@@ -89,7 +89,7 @@ pub record IsFreshPort (config : Plan) (queues : List (List (Option QueueName)))
       (greatest_of (ports_of_sub config.ports port.plan.vl.0 port.plan.sub))
       (index_of config.ports place) port.sender
 
--- the ports of a configuration, new, in its order
+-- the ports of a plan, new, in its order
 pub record ArePortsOf (config : Plan) (queues : List (List (Option QueueName)))
     (ports : List PortView) : Type 0 where
   pub count : length ports ≡ length config.ports

@@ -85,7 +85,7 @@ impl<A: Network + Drop, B: Network + Drop, P: Phase> Model for Emitter<A, B, P> 
 }
 
 impl<A: Network + Drop, B: Network + Drop, P: Phase> Emitter<A, B, P> {
-    /// The configuration that it was opened with.
+    /// The plan that it was opened with.
     pub fn config(&self) -> &Config
         ensures { result.now ≡ self.now.plan }
     {
@@ -118,7 +118,7 @@ impl<A: Network + Drop, B: Network + Drop, P: Phase> Emitter<A, B, P> {
     /// The counts of a link, by its identifier, as `publish` would publish them now: the frames of
     /// the longer of its two streams, the sum of their lengths in bytes, the messages whose last
     /// frame is among them, and the time of the last frame in microseconds, or 0 if there is none.
-    /// Returns `None` exactly if the configuration has no such link. Reads no board, never waits,
+    /// Returns `None` exactly if the plan has no such link. Reads no board, never waits,
     /// and allocates nothing.
     pub fn counts(&self, vl: VlId) -> Option<Counts>
         ensures { ShowsCounts self.now vl.0 result }
@@ -177,7 +177,7 @@ impl<A: Network + Drop, B: Network + Drop, P: Phase> Emitter<A, B, P> {
         Ok(())
     }
 
-    /// Gives each link its turn at `now`, in microseconds, in the order of the configuration. A due
+    /// Gives each link its turn at `now`, in microseconds, in the order of the plan. A due
     /// link with something to send releases exactly one frame (ARINC 664 Part 7, bandwidth
     /// allocation gap), unless the last network that carries it fails with that frame. A link whose
     /// networks are all down is skipped. After `BothDown` nothing has changed. Apart from what the
@@ -213,7 +213,7 @@ impl<A: Network + Drop, B: Network + Drop, P: Phase> Emitter<A, B, P> {
         Ok(self.mux.standing())
     }
 
-    /// Publishes the counts of each link, once, in the order of the configuration: those of the
+    /// Publishes the counts of each link, once, in the order of the plan: those of the
     /// longer of its two streams. May wait for a monitor that is in the middle of a reading.
     /// Allocates nothing.
     pub fn publish<R: Wait>(&mut self, rt: &R)
@@ -233,7 +233,7 @@ impl<A: Failable + Drop, B: Failable + Drop, P: Phase> Emitter<A, B, P> {
 }
 
 impl<A: Network + Drop, B: Network + Drop> Emitter<A, B> {
-    // Over new links of a configuration, a buffer, networks that have accepted no frame, and an empty board.
+    // Over new links of a plan, a buffer, networks that have accepted no frame, and an empty board.
     pub(crate) fn over(
         config: Config,
         links: Vec<Link>,
@@ -270,7 +270,7 @@ impl<A: Network + Drop, B: Network + Drop> Emitter<A, B> {
     /// Closes a sub-VL, by its link and its index there, and returns the number of accepted
     /// messages. None is accepted from then on: each later close returns the same number, and
     /// after `gather` exactly that many are known. Accepted messages are still transmitted. Fails,
-    /// and changes nothing, exactly if the configuration has no such sub-VL. Never waits, and
+    /// and changes nothing, exactly if the plan has no such sub-VL. Never waits, and
     /// allocates nothing.
     pub fn close(&mut self, vl: VlId, sub: u8) -> Result<u64, NoSuchSub>
         ensures missing { IsErr result ↔ LacksSub self.old.plan vl.0 sub }
@@ -288,7 +288,7 @@ impl<A: Network + Drop, B: Network + Drop> Emitter<A, B> {
     }
 
     /// Takes back all ports, in any order, and starts draining: all accepted messages are then
-    /// known, and can be transmitted. Fails exactly if the list lacks a port of the configuration,
+    /// known, and can be transmitted. Fails exactly if the list lacks a port of the plan,
     /// and then returns both unchanged. Never waits, and allocates nothing.
     pub fn gather(
         self,
@@ -344,7 +344,7 @@ impl<A: Network + Drop, B: Network + Drop> Emitter<A, B, Drain> {
         all_done(&self.links)
     }
 
-    /// Reads the link at a place of the configuration by the emitter's monitor, as `Monitor::read`
+    /// Reads the link at a place of the plan by the emitter's monitor, as `Monitor::read`
     /// does, with one load. Since both ends of the board are here, it returns the last published
     /// counts of the link, or zeros before the first. Allocates nothing.
     pub fn read_last<R: Wait>(&mut self, rt: &R, monitor: &mut Monitor, link: usize) -> Counts

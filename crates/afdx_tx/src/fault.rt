@@ -41,7 +41,7 @@ pub enum PollFault {
     BothDown = 1,
 }
 
-/// The configuration has no such sub-VL. The emitter is unchanged.
+/// The plan has no such sub-VL. The emitter is unchanged.
 #[derive(Clone, Copy, Debug, PartialEq, Eq, Error)]
 #[error("NoSuchSub")]
 pub struct NoSuchSub;

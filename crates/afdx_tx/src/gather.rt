@@ -22,7 +22,7 @@ fn has_place(ports: &[TxPort], place: usize) -> bool
     false
 }
 
-/// Whether the list has the port at each place of a configuration.
+/// Whether the list has the port at each place of a plan.
 pub fn has_every_place(ports: &[TxPort], many: usize) -> bool
     ensures { MatchBool result (HasEveryPlace many ports.now) (LacksPlace many ports.now) }
 {
@@ -58,7 +58,7 @@ fn gather_all(links: &mut [Link])
     }
 }
 
-/// Takes back all ports of a configuration out of the list, and brings the ends of each sub-VL's queue together.
+/// Takes back all ports of a plan out of the list, and brings the ends of each sub-VL's queue together.
 pub fn gather_links(config: &Config, links: &mut [Link], ports: &mut Vec<TxPort>)
     requires valid { IsPlan config.now }
     requires of_plan { AreLinksOf config.now links.old }

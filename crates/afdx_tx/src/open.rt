@@ -29,7 +29,7 @@ fn is_port_of(port: &PortPlan, of: &SubVl) -> bool
     port.vl == of.link.id && port.sub == of.sub
 }
 
-/// What the frames of each port of a sub-VL have in common, in the order of the configuration.
+/// What the frames of each port of a sub-VL have in common, in the order of the plan.
 fn templates_of(alloc: Global, ports: &[PortPlan], of: &SubVl) -> Result<Vec<Template>, AllocError>
     requires { All IsPort ports.now }
     ensures ports { IfOk result (λ own. plans_of own.items ≡ ports_of_sub ports.now of.now.link.id.0 of.now.sub) }
@@ -56,7 +56,7 @@ fn greatest_message(ports: &[PortPlan], of: &SubVl) -> usize
     own.map(|port| port.max).max().unwrap_or(0)
 }
 
-/// A sub-VL of a configuration, without senders.
+/// A sub-VL of a plan, without senders.
 #[tactic(auto, using(crate::proofs::PortLink::own_ports))]
 fn open_sub(alloc: Global, config: &Config, of: SubVl) -> Result<Sub, AllocError>
     requires link { IsLink of.link }
@@ -70,7 +70,7 @@ fn open_sub(alloc: Global, config: &Config, of: SubVl) -> Result<Sub, AllocError
     Ok(Sub::new(of, ports, receiver, room))
 }
 
-/// A link of a configuration, without senders.
+/// A link of a plan, without senders.
 fn open_link(alloc: Global, config: &Config, plan: &LinkPlan) -> Result<Link, AllocError>
     requires { IsLink plan.now }
     ensures { IfOk result (λ link. IsOpenedLink config.now.end_system config.now.ports [] plan.now link) }
@@ -87,7 +87,7 @@ fn open_link(alloc: Global, config: &Config, plan: &LinkPlan) -> Result<Link, Al
     Ok(Link::new(config.end_system(), *plan, subs))
 }
 
-/// The links of a configuration, without senders.
+/// The links of a plan, without senders.
 fn open_links(alloc: Global, config: &Config) -> Result<Vec<Link>, AllocError>
     ensures opened { IfOk result (λ links. AreOpenedLinks config.now [] links.items (length config.now.links)) }
     ensures valid { IsPlan config.now }
@@ -100,7 +100,7 @@ fn open_links(alloc: Global, config: &Config) -> Result<Vec<Link>, AllocError>
     Ok(links)
 }
 
-/// The ports of a configuration, in its order, each with a sender of the queue of its sub-VL.
+/// The ports of a plan, in its order, each with a sender of the queue of its sub-VL.
 fn open_ports(alloc: Global, config: &Config, links: &mut [Link]) -> Result<Vec<TxPort>, AllocError>
     requires opened { AreOpenedLinks config.now [] links.old (length config.now.links) }
     ensures links { IfOk result (λ _. AreFreshLinks config.now links.new) }
@@ -134,8 +134,8 @@ fn open_parts(
     Ok((links, ports, board, monitor))
 }
 
-/// Opens an emitter for a configuration over two networks that have accepted no frame and have not
-/// failed. Returns it with its ports, in the order of the configuration, and the monitor that reads
+/// Opens an emitter for a plan over two networks that have accepted no frame and have not
+/// failed. Returns it with its ports, in the order of the plan, and the monitor that reads
 /// the counts of each link by its place there. Allocates all memory that sending, polling,
 /// publishing and gathering need. Nothing is accepted or published yet, both networks are up, and
 /// each port has 2^40 slot requests. If an allocation fails, returns all arguments unchanged.
@@ -169,7 +169,7 @@ pub fn open_tx<A: Network + Drop, B: Network + Drop>(
     }
 }
 
-/// The port at a place of the configuration.
+/// The port at a place of the plan.
 pub fn port_at(config: &Config, place: usize) -> PortPlan
     requires { place < length config.now.ports }
     ensures value { result ≡ port_plan_at config.now.ports place }
@@ -180,7 +180,7 @@ pub fn port_at(config: &Config, place: usize) -> PortPlan
     config.ports()[place]
 }
 
-/// The place of a port's link in the configuration.
+/// The place of a port's link in the plan.
 pub fn link_of(config: &Config, port: &PortPlan) -> usize
     requires valid { IsPlan config.now }
     requires linked { HasLink config.now.links port.now }
@@ -194,7 +194,7 @@ pub fn link_of(config: &Config, port: &PortPlan) -> usize
     }
 }
 
-/// The place in the configuration of the link with this identifier and a sub-VL of this index, if
+/// The place in the plan of the link with this identifier and a sub-VL of this index, if
 /// there is one.
 pub fn link_of_sub(config: &Config, vl: VlId, sub: u8) -> Option<usize>
     ensures none { IfNone result (LacksSub config.now vl.0 sub) }

@@ -9,7 +9,7 @@ use std::marker::Model;
 use subvl_queue::{Sender, Why};
 
 /// A port of an emitter, which may be moved to another thread. Contracts see its place in the
-/// configuration, its entry there, and its sender with the port's accepted messages.
+/// plan, its entry there, and its sender with the port's accepted messages.
 #[derive(Drop)]
 pub struct TxPort {
     plan: PortPlan,
@@ -31,7 +31,7 @@ impl Model for TxPort {
 }
 
 impl TxPort {
-    // The port at a place of a configuration, with a sender of its sub-VL's queue.
+    // The port at a place of a plan, with a sender of its sub-VL's queue.
     pub(crate) fn new(plan: PortPlan, place: usize, sender: Sender) -> TxPort
         requires port { IsPort plan }
         requires fresh { sender.own ≡ [] }
@@ -79,7 +79,7 @@ impl TxPort {
         None
     }
 
-    // Its place in the configuration.
+    // Its place in the plan.
     pub(crate) fn place(&self) -> usize
         ensures { result ≡ self.now.place }
     {

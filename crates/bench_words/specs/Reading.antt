@@ -1,4 +1,4 @@
--- Results of reading the text of a configuration.
+-- Results of reading the text of a plan.
 use Rattle.std.specs.Prelude.{◌≡◌, ◌≢◌, ◌==◌, if◌then◌else◌, ◌*◌, ◌^◌, ℕ, List, Option, ⊤}
 use Rattle.std.specs.Io.KnownBytes.{Appends}
 use Rattle.plan_report.specs.Report.{report_of}

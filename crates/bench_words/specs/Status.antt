@@ -11,7 +11,7 @@ use Rattle.clap.specs.declared.error.kind.ErrorKind.{ErrorKind}
 use Rattle.clap.specs.declared.error.kind.ErrorKind.TheVariants.{DisplayHelp, DisplayVersion, OutOfMemory}
 use Rattle.afdx_plan.specs.declared.fault.ConfigFault.TheVariants as Plan
 
--- 2 if the configuration or the script has a fault, or the configuration a port that a storm cannot use; 4 if an
+-- 2 if the plan or the script has a fault, or the plan a port that a storm cannot use; 4 if an
 -- allocation, a read or a write failed; 5 if a storm exhausted its turns
 abbrev pub failure_status : Failure → ℕ
 failure_status (Config Plan.Memory) = 4
@@ -22,7 +22,7 @@ failure_status (Run _) = 4
 failure_status Short = 2
 failure_status Turns = 5
 
--- 0 on success, 3 if lines of the script were refused, 2 if the command line was refused, faults of a configuration
+-- 0 on success, 3 if lines of the script were refused, 2 if the command line was refused, faults of a plan
 -- were written, or a strict report has a missed limit or deadline
 abbrev pub exit_status : End → ℕ
 exit_status Told = 0

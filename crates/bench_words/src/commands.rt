@@ -12,19 +12,19 @@ const ABOUT: &str =
 const COMMANDS: [(&str, &str); 9] = [
     (
         "run",
-        "Runs a script over a configuration and prints the frames of both networks",
+        "Runs a script over a plan and prints the frames of both networks",
     ),
     (
         "check",
-        "Prints the plan and the jitter of a configuration; `explain` locates its faults",
+        "Prints a plan and its jitter; `explain` locates its faults",
     ),
     (
         "explain",
-        "Prints the faults of a configuration, each with its place and what is allowed there",
+        "Prints the faults of a plan, each with its place and what is allowed there",
     ),
     (
         "import",
-        "Prints the configuration of an interface document, a CSV file with a row for each port",
+        "Prints the plan of an interface document, a CSV file with a row for each port",
     ),
     (
         "compile",
@@ -32,11 +32,11 @@ const COMMANDS: [(&str, &str); 9] = [
     ),
     (
         "report",
-        "Prints the loads, the jitter and the longest waits of a configuration",
+        "Prints the loads, the jitter and the longest waits of a plan",
     ),
     (
         "schedule",
-        "Prints a script in which the ports of a configuration send at their periods",
+        "Prints a script in which the ports of a plan send at their periods",
     ),
     (
         "judge",
@@ -44,7 +44,7 @@ const COMMANDS: [(&str, &str); 9] = [
     ),
     (
         "storm",
-        "Has all ports of a configuration send at once, and prints what came of it",
+        "Has all ports of a plan send at once, and prints what came of it",
     ),
 ];
 
@@ -72,7 +72,7 @@ enum WordKind {
 /// A word: the name of its command, its own, what follows it, and what it means.
 struct Word(&'static str, &'static str, WordKind, &'static str);
 
-/// The words after that of the configuration, in the order of the help.
+/// The words after that of the plan, in the order of the help.
 const WORDS: [Word; 22] = [
     Word("run", "script", WordKind::Needed, "The file of the script"),
     Word(
@@ -215,11 +215,11 @@ pub(crate) fn command<'a>(alloc: Global) -> Result<Command<'a>, AllocError> {
     Ok(program)
 }
 
-/// A command over the file of a configuration, or of an interface document.
+/// A command over the file of a plan, or of an interface document.
 fn over_file<'a>(alloc: Global, name: &'a str, about: &'a str) -> Result<Command<'a>, AllocError> {
     let (id, help) = match name {
         "import" => ("document", "The file of the interface document"),
-        _ => ("config", "The file of the configuration"),
+        _ => ("config", "The file of the plan"),
     };
     let file = Arg::new(alloc, id).help(help).required(true);
     let mut command = Command::new(alloc, name).about(about).arg(file)?;

@@ -1,4 +1,4 @@
-//! Reading of configurations, and the commands `check` and `explain`.
+//! Reading of plans, and the commands `check` and `explain`.
 ghost use Rattle.std.specs.Prelude.{◌≡◌, ◌≢◌, ◌≤◌, ◌⊎◌, nat_le, IfOk, IfErr, IfSome, OnOk, vec_len};
 ghost use Rattle.std.specs.Io.KnownBytes.{Keeps};
 ghost use Rattle.bench_words.specs.Reading.{IsRefusal, Reports, TellsFaults, end_of, text_limit};
@@ -14,11 +14,11 @@ use sha2::{Digest, Sha256};
 use std::alloc::Global;
 use std::io::{self, Read, Write};
 
-/// The most bytes of a configuration's text, including comments: about four hundred times the size of
+/// The most bytes of a plan's text, including comments: about four hundred times the size of
 /// the greatest plan.
 pub const TEXT_LIMIT: u64 = 16_777_216;
 
-/// Reads the rest of a reader as a configuration. Returns `Read` if the reader fails or has more than
+/// Reads the rest of a reader as a plan. Returns `Read` if the reader fails or has more than
 /// `TEXT_LIMIT` bytes.
 pub fn read_plan<R: Read + Drop>(alloc: Global, reader: R) -> Result<Config, Failure>
     ensures plan { IfOk result (λ config. IfSome (R.remaining reader) (λ text. IsPlanOf text config)) }
@@ -42,7 +42,7 @@ pub fn read_digested<R: Read + Drop>(alloc: Global, reader: R) -> Result<Digeste
     })
 }
 
-/// Reads a configuration and writes the report on its plan. Writes nothing if the configuration is
+/// Reads a plan and writes the report on it. Writes nothing if the plan is
 /// refused, an allocation fails, or the reader fails.
 pub fn check<R: Read + Drop, W: Write>(
     alloc: Global,
@@ -63,7 +63,7 @@ pub fn check<R: Read + Drop, W: Write>(
     }
 }
 
-/// Reads a configuration and writes the text of its explanation, whose lines begin with the name of its file. Writes
+/// Reads a plan and writes the text of its explanation, whose lines begin with the name of its file. Writes
 /// nothing if an allocation or the reader fails.
 pub fn tell_faults<R: Read + Drop, W: Write>(
     alloc: Global,

@@ -10,11 +10,11 @@ use std::fmt;
 /// The end of a run of the program.
 #[derive(Clone, Copy, Debug, PartialEq, Eq)]
 pub enum End {
-    /// The program wrote its help, or a report on a configuration.
+    /// The program wrote its help, or a report on a plan.
     Told,
     /// The script was run to its end.
     Ran(Summary),
-    /// The faults of a configuration or of its traffic were written.
+    /// The faults of a plan or of its traffic were written.
     FaultsTold,
     /// A strict report was written, in which a limit or a deadline is missed.
     Missed,
@@ -51,7 +51,7 @@ fn failure_status(failure: &Failure) -> u8
 /// A failure that ends a command early. `Display` prints the message for standard error.
 #[derive(Clone, Copy, Debug, PartialEq, Eq)]
 pub enum Failure {
-    /// The configuration was refused.
+    /// The plan was refused.
     Config(ConfigFault),
     /// The script has a fault; or, in any command, an allocation, a read or a write failed.
     Run(RunFault),

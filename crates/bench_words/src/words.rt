@@ -24,10 +24,10 @@ pub(crate) const SECONDS_LIMIT: u64 = 999;
 /// The greatest number of turns of a thread.
 pub(crate) const TURNS_LIMIT: u64 = 1_000_000_000;
 
-/// A parsed command line. Configurations and scripts are named by the paths of their files.
+/// A parsed command line. Plans and scripts are named by the paths of their files.
 #[derive(Drop)]
 pub enum Words {
-    /// No word: a script from standard input, over the demonstration configuration.
+    /// No word: a script from standard input, over the demonstration plan.
     Script,
     /// `run <config> <script>`, and `--capture <file>` for a capture
     Run {

@@ -1,4 +1,4 @@
--- Worked recordings of the demonstration configuration: two messages of one byte, a frame each, sent to both networks.
+-- Worked recordings of the demonstration plan: two messages of one byte, a frame each, sent to both networks.
 use Rattle.std.specs.Prelude.{◌≡◌, ◌≤◌, ℕ, true, false, List, [], ◌∷◌, All, None, Some, length}
 use Rattle.afdx_plan.specs.Demo.{demo_plan}
 use Rattle.afdx_frame.specs.declared.net.Net.{Net}

@@ -10,7 +10,7 @@ use std::io::{self, Write};
 use std::net::Ipv4Addr;
 
 /// Writes the report on a plan: a line each for the end system, every link and every port, in the
-/// order of the configuration, and a last one for the jitter.
+/// order of the plan, and a last one for the jitter.
 #[tactic(auto, unfolding(crate::specs::Report::report_of))]
 pub fn write_report<W: Write>(writer: &mut W, config: &Config) -> io::Result<()>
     ensures { OnOk result (Appends (W.contents writer.old) (W.contents writer.new) (report_of config.now)) }

@@ -24,7 +24,7 @@ pub fn tell_fields(rt: &HostRuntime, frame: &[u8]) {
     );
 }
 
-/// The first port of a configuration and the first link, if the port sends over it.
+/// The first port of a plan and the first link, if the port sends over it.
 fn first_flow(config: &Config) -> Result<(PortPlan, LinkPlan), Trouble>
     ensures port { IfOk result (λ flow. IsPort flow.0) }
     ensures over { IfOk result (λ flow. SendsOver flow.0 flow.1) }
@@ -53,7 +53,7 @@ fn use_shaper(rt: &HostRuntime) {
     );
 }
 
-/// Prints what a configuration says.
+/// Prints what a plan says.
 fn use_plan(rt: &HostRuntime, config: &Config) {
     flows_apart(config);
     let (end_system, jitter) = (config.end_system(), jitter_ns(config));

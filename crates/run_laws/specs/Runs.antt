@@ -15,7 +15,7 @@ use Rattle.afdx_tx.specs.DrainEnds.{stream_at}
 use Rattle.afdx_laws.specs.NextFragment.{AreNeighbours, longest_wait}
 use Rattle.plan_analysis.specs.Wait.{has_port, used_sub_vls}
 
--- the link at place `k` has the configuration, the gap and the number of sub-VLs that the plan gives
+-- the link at place `k` has the entry, the gap and the number of sub-VLs that the plan gives
 pub record IsPlanned (plan : Plan) (links : List LinkState) (k : ℕ) : Type 0 where
   pub plan_is : (link_at links k).plan ≡ link_plan_at plan.links k
   pub gap : (link_at links k).pace.gap ≡ bag_micros (link_plan_at plan.links k).bag
@@ -89,7 +89,7 @@ next_wait late plan k =
 
 -- The last entry of a link's stream is of a sub-VL with a port, and has the flag of more fragments. Polls follow it
 -- within the lateness, and continue until the bound; after them a network that carries the link is up. Then the next
--- fragment was released by the bound of the link, and so by that of the configuration.
+-- fragment was released by the bound of the link, and so by that of the plan.
 abbrev pub NextInRun : Type 0
 NextInRun = (plan : Plan) (moments : List ℕ) (lines after : Lines) (k late : ℕ) (earlier : List Entry) (first : Entry)
     → IsPlan plan → k < length plan.links → stream_at plan k lines ≡ earlier ++ first ∷ [] → more_in first.frame ≡ true

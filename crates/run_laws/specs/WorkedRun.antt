@@ -29,7 +29,7 @@ use Rattle.afdx_laws.specs.WorkedDelivery.{one_accepted, front_frame, back_frame
 use Rattle.run_laws.specs.Runs.{AreRuns, EmitterPolls, ComeWithin, latest_of, ComesBy, next_wait, ArePolls}
 use Rattle.run_laws.specs.MessageInRun.{AreTimely, fragments_of, seen_of, IsAccepted, HasPlace, AreFinding, AreReleasedBy, FindsIt}
 
--- The demonstration configuration with frames of up to 64 bytes: a message of two fragments was accepted, and its first
+-- The demonstration plan with frames of up to 64 bytes: a message of two fragments was accepted, and its first
 -- frame transmitted at time 0. Two polls follow, a gap apart.
 
 abbrev pub small_link : LinkPlan

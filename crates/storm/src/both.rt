@@ -12,7 +12,7 @@ use afdx_plan::{LINKS_LIMIT, LinkPlan};
 use redundant_mux::{Handed, MemNetwork};
 use std::marker::Model;
 
-/// A copy of a configuration's links that outlives it and allocates nothing. Contracts see their list.
+/// A copy of a plan's links that outlives it and allocates nothing. Contracts see their list.
 #[derive(Drop)]
 pub struct KeptLinks {
     // The first `count` are the links.

@@ -23,7 +23,7 @@ use std::thread::Threads;
 pub struct StormReport {
     /// How many messages of all ports were accepted.
     pub accepted: u64,
-    /// The counts of each link, in the order of the configuration, once all was sent: those of the longer of
+    /// The counts of each link, in the order of the plan, once all was sent: those of the longer of
     /// the link's two streams.
     pub links: Vec<Counts>,
     /// Whether over the links that both networks carry they have the same frames, each its twins, at the
@@ -54,7 +54,7 @@ fn count_accepted(ports: &[TxPort]) -> u64
     accepted
 }
 
-/// The last published counts of each link, in the order of the configuration.
+/// The last published counts of each link, in the order of the plan.
 fn read_links<R: Wait>(
     rt: &R,
     alloc: Global,
@@ -155,7 +155,7 @@ pub fn storm_over<G: Gate + Sync, R: Threads + Wait + Sync>(
     Ok(finish(rt, alloc, joined, load, gate)?)
 }
 
-/// Runs a whole end system of a configuration over two networks in memory: each of its ports sends its
+/// Runs a whole end system of a plan over two networks in memory: each of its ports sends its
 /// messages 1 to `messages` from a thread of its own, while this thread polls and publishes, and another
 /// one reads each link `messages` times. Then it joins the threads, takes back the ports, and sends what is
 /// left. A worker may send `turns` times, including repeats of a refused message. This thread may poll

@@ -66,7 +66,7 @@ fn either(is: bool, yes: &'static str, no: &'static str) -> &'static str
     if is { yes } else { no }
 }
 
-/// Runs a storm over an end system of a configuration, and writes the totals. If it ends early, writes nothing.
+/// Runs a storm over an end system of a plan, and writes the totals. If it ends early, writes nothing.
 pub fn throw_storm<W: Write, G: Gate + Sync, R: Threads + Wait + Sync>(
     rt: &R,
     alloc: Global,

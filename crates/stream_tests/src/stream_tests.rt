@@ -13,7 +13,7 @@ trait Host: Abort + AllocGlobal {}
 
 impl<R: Abort + AllocGlobal> Host for R {}
 
-/// The text of the demonstration configuration.
+/// The text of the demonstration plan.
 const DEMO: &str = "version = 2
 [end_system]
 id = 1
@@ -117,7 +117,7 @@ impl Write for Lapsing {
 /// The result of a run.
 type Ran = Result<Summary, RunFault>;
 
-/// A script over the demonstration configuration, and its summary; after how many bytes of it each of its notes is to
+/// A script over the demonstration plan, and its summary; after how many bytes of it each of its notes is to
 /// come, and the frame that it sends at the last time.
 type Script = (
     &'static str,
@@ -161,7 +161,7 @@ const FRAMES: &str = "\
     B 18446744073709551615 03000000000102000000014008004500001d000000000111cdee0a000101e0e0000103e807d\
     000090000010000000000000000000000000000000000\n";
 
-// Runs a script over the demonstration configuration.
+// Runs a script over the demonstration plan.
 fn run(rt: &impl Host, script: impl Read + Drop, text: &mut impl Write) -> Ran {
     let config = demo_config(rt.alloc()).expect(rt, "memory");
     run_script(rt.alloc(), config, script, text)
@@ -254,7 +254,7 @@ const UNREAD: Checked = Err(Failure::Run(RunFault::Read));
 
 const UNWRITTEN: Checked = Err(Failure::Run(RunFault::Write));
 
-// What `check` writes of the demonstration configuration.
+// What `check` writes of the demonstration plan.
 const REPORT: &str = "end system 1
 link 1: bag 1 ms, lmax 1518, sub-VLs 1, capacity 2
 port 10: link 1 sub 0, partition 1, queuing, 1000 to 2000, max 8192, multicast

@@ -56,7 +56,7 @@ counted plan k sub (sent ∷ more) valid all =
     first.port.1
     ∙ rw (counted plan k sub more valid (All-tail (IsAllowed plan k sub) sent more all)) (omega arith)
 
--- No port of the configuration is missing.
+-- No port of the plan is missing.
 pub none_missing : (tx : Tx) (ports : List PortView) → IsAtHand tx ports → LacksPlace (length tx.plan.ports) ports → ⊥
 none_missing tx [] h lacks = grind arith
 none_missing tx (port ∷ more) h lacks =

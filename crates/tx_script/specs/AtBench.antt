@@ -39,12 +39,12 @@ pub record MatchesTx (es : EndSystem) (tx : Tx) : Type 0 where
   pub b : tx.lines.b ≡ handed B es
   pub moment : tx.moment ≡ es.moment
 
--- an emitter, and its ports in the order of the configuration
+-- an emitter, and its ports in the order of the plan
 pub record AtBench : Type 0 where
   pub tx : Tx
   pub ports : List PortView
 
--- The ports of an emitter are in the order of its configuration, which is valid, and none has used up
+-- The ports of an emitter are in the order of its plan, which is valid, and none has used up
 -- its calls.
 pub record IsAtHand (tx : Tx) (ports : List PortView) : Type 0 where
   pub valid : IsPlan tx.plan

@@ -15,7 +15,7 @@ use std::alloc::Global;
 use std::marker::Model;
 
 /// The emitter of a script, over two networks in memory, and its ports in the order of the
-/// configuration.
+/// plan.
 #[derive(Drop)]
 pub struct Bench {
     emitter: Emitter<FrameLog, FrameLog>,

@@ -1,13 +1,13 @@
 //! Running a script of an end system.
 //!
-//! [`run_script`] takes a configuration and the lines of a script, obeys them one after the other, and writes the
+//! [`run_script`] takes a plan and the lines of a script, obeys them one after the other, and writes the
 //! transcript: the notes on lines, which are counted from 1, then the frames of network A, in their order, and
 //! those of B, each with its time and its bytes in hexadecimal. `docs/guide/program.md` has the lines, notes and
 //! ends of a run.
 //!
 //! # An example
 //!
-//! Over the demonstration configuration, whose port 10 sends on link 1, with room for two messages:
+//! Over the demonstration plan, whose port 10 sends on link 1, with room for two messages:
 //!
 //! ```text
 //! send 10 01

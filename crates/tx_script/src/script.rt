@@ -71,7 +71,7 @@ pub fn play_script<R: Read + Drop, W: Write>(
     }
 }
 
-/// Runs a script over a configuration and two networks in memory, and writes its transcript: the
+/// Runs a script over a plan and two networks in memory, and writes its transcript: the
 /// notes on lines that were refused or closed a sub-VL, in their order, then the frames of network A,
 /// then those of B. A script has at most 1,000,000 lines of at most 20,000 bytes each.
 ///

@@ -29,7 +29,7 @@ abbrev pub message_fragments : SubVl → ℕ → Sent → List (List ℕ)
 message_fragments of place sent =
     fragments_at of.end_system (room_of of.link.lmax) A place sent
 
--- A sub-VL: its ports in the order of the configuration, the fragments left of the message being sent, and its queue.
+-- A sub-VL: its ports in the order of the plan, the fragments left of the message being sent, and its queue.
 pub record Held : Type 0 where
   pub of : SubVl
   pub ports : List PortPlan

@@ -277,7 +277,8 @@ impl Link {
         requires within { sub < length self.old.subs }
         requires lacks { LacksSender (held_at self.old.subs sub) }
         requires calls { calls ≤ most_calls }
-        ensures sender { IfOk result (λ sender. ChangesSub (ChangesQueue (MakesSender calls sender)) sub self.old self.new) }
+        ensures sender { IfOk result (λ sender.
+            ChangesSub (ChangesQueue (MakesSender calls sender)) sub self.old self.new) }
         ensures unchanged { IfErr result (λ _. self.new ≡ self.old) }
     {
         self.subs[sub as usize].new_sender(alloc, calls)

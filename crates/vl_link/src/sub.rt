@@ -69,7 +69,7 @@ pub struct Sub {
     room: Room,
     // The place of the next message, modulo 16,384.
     place: u16,
-    // In the order of the configuration. A message's port is an index into them.
+    // In the order of the plan. A message's port is an index into them.
     ports: BoxedSlice<Template>,
     of: SubVl,
 }
