@@ -106,7 +106,7 @@ fn plan_of(words: &Words) -> &str {
         Words::Run { config, .. } | Words::Storm { config, .. } => config.as_str(),
         Words::Check(config) | Words::Explain(config) => config.as_str(),
         Words::Import(document) => document.as_str(),
-        Words::Schedule { config, .. } => config.as_str(),
+        Words::Compile { config, .. } | Words::Schedule { config, .. } => config.as_str(),
         Words::Report(asked) => asked.config.as_str(),
         Words::Judge(case) => case.config.as_str(),
         Words::Script => "standard input",
