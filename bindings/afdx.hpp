@@ -43,11 +43,11 @@ enum class ConfigFault : std::uint8_t {
     SameFlow = AFDX_CONFIG_SAME_FLOW,
     SharedUnicast = AFDX_CONFIG_SHARED_UNICAST,
     Limit = AFDX_CONFIG_LIMIT,
-    TableNone = AFDX_TABLE_NONE, /* of a table alone, as the next four */
-    TableLayout = AFDX_TABLE_LAYOUT,
-    TableLength = AFDX_TABLE_LENGTH,
-    TableSum = AFDX_TABLE_SUM,
-    TableValue = AFDX_TABLE_VALUE
+    NoTable = AFDX_NO_TABLE, /* of a table alone, as the next four */
+    OtherLayout = AFDX_OTHER_LAYOUT,
+    WrongLength = AFDX_WRONG_LENGTH,
+    WrongSum = AFDX_WRONG_SUM,
+    WrongValue = AFDX_WRONG_VALUE
 };
 
 /* Why a message is refused. */

@@ -11,6 +11,8 @@ import sys
 import tempfile
 import threading
 import time
+import tomllib
+import zlib
 from collections.abc import Iterator
 from contextlib import contextmanager, suppress
 from pathlib import Path
@@ -79,7 +81,7 @@ def first_message() -> None:
 def names() -> None:
     """Each answer of the header has an exception with its name and number."""
     header = re.sub(r"/\*.*?\*/", "", text_of("crates/afdx/afdx.h"), flags=re.DOTALL)
-    errors = [afdx.CONFIG_ERRORS, afdx.SEND_ERRORS, afdx.POLL_ERRORS, afdx.JUDGE_ERRORS, afdx.MISUSES]
+    errors = [afdx.TABLE_ERRORS, afdx.SEND_ERRORS, afdx.POLL_ERRORS, afdx.JUDGE_ERRORS, afdx.MISUSES]
     found = {error.__name__: number for table in errors for number, error in table.items()}
     wanted = {}
     for name, number in re.findall(r"\bAFDX_(\w+) = (\d+)", header):
@@ -110,6 +112,23 @@ def configurations() -> None:
     check((len(lines), lines[0], lines[-1]) == (1002, "1002 faults", "and 2 more"))
     with no_more_memory():
         check(raises(afdx.OutOfMemory, EndSystem, GREAT) == "An allocation failed.")
+
+
+def tables() -> None:
+    """A table is opened as its plan; each fault of a table is raised, and that of its plan."""
+    import model
+    table = model.table_of(tomllib.loads(DEMO) | {"version": 2})
+    with EndSystem.of_table(table) as it, EndSystem(DEMO) as other:
+        for end in (it, other):
+            end.port(10).send(b"\x01")
+        check(it.poll(0) == other.poll(0) and it.frames(0) == other.frames(0) != [])
+    checked = lambda data: data + zlib.crc32(data).to_bytes(4, "big")
+    for wrong, error in [
+        (b"", afdx.NoTable), (b"afdxplan" + table[8:], afdx.NoTable), (table[:9] + b"\2" + table[10:], afdx.OtherLayout),
+        (table + b"\0", afdx.WrongLength), (table[:-1], afdx.WrongLength), (table[:-1] + bytes([table[-1] ^ 1]), afdx.WrongSum),
+        (checked(table[:18] + b"\0\3" + table[20:-4]), afdx.WrongValue), (checked(table[:30] + b"\0\2" + table[32:-4]), afdx.NoSuchVl),
+    ]:
+        raises(error, EndSystem.of_table, wrong)
 
 
 def answers() -> None:
@@ -274,7 +293,7 @@ def lists() -> None:
 
 def all_raised() -> None:
     """The tests before have raised each exception but one."""
-    tables = (afdx.CONFIG_ERRORS, afdx.SEND_ERRORS, afdx.POLL_ERRORS, afdx.JUDGE_ERRORS, afdx.MISUSES)
+    tables = (afdx.TABLE_ERRORS, afdx.SEND_ERRORS, afdx.POLL_ERRORS, afdx.JUDGE_ERRORS, afdx.MISUSES)
     unmet = {error.__name__ for table in tables for error in table.values()} - RAISED
     check(unmet == {"Exhausted"}, unmet)
 
@@ -316,7 +335,7 @@ def driven_runs() -> None:
     done = [driven.run(seed) for seed in range(400)]
     check(50 < sum(done) < 350, sum(done))
     told = driven.damaged(7, 20_000)
-    check({"NoTable", "OtherLayout", "WrongLength", "WrongSum", "WrongValue", "", "NoSuchVl", "DuplicatePort"} <= told.keys(), told)
+    check({"NoTable", "OtherLayout", "WrongLength", "WrongSum", "WrongValue", "", "NoSuchVl", "SamplingTooLong"} <= told.keys(), told)
     driven.sizes()
 
 
@@ -347,7 +366,7 @@ def speed() -> None:
 
 def main() -> int:
     done = Tries()
-    for test in (first_message, names, configurations, answers, judging, lists, all_raised, bytes_like, tries, no_memory, version,
+    for test in (first_message, names, configurations, tables, answers, judging, lists, all_raised, bytes_like, tries, no_memory, version,
                  mypy, pylint, threads, driven_runs, bench, speed):
         try:
             test()

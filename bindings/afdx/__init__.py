@@ -216,7 +216,7 @@ class EndSystem:
     @classmethod
     def of_table(cls, table: BytesLike) -> EndSystem:
         """The end system of the table of a plan (docs/guide/table.md). Raises `TableError`, `ConfigError` or `OutOfMemory`."""
-        it, data = cls.__new__(cls), bytes_of(table)
+        it, data = cls.__new__(cls, b""), bytes_of(table)
         want(lib.afdx_open_table(byref(it._handle), data, len(data)), TABLE_ERRORS)
         it._begin()
         return it

@@ -125,11 +125,11 @@ enum {
 
 /** Why afdx_open_table refuses a table, beside the faults of plans: the least number of these counts. */
 enum {
-    AFDX_TABLE_NONE = 16,   /**< the bytes don't begin as a table does */
-    AFDX_TABLE_LAYOUT = 17, /**< the table has another version of the layout */
-    AFDX_TABLE_LENGTH = 18, /**< the bytes are more or fewer than its numbers of links and of ports want */
-    AFDX_TABLE_SUM = 19,    /**< the check isn't that of the bytes before it */
-    AFDX_TABLE_VALUE = 20   /**< a number is none that the table of a plan has there */
+    AFDX_NO_TABLE = 16,   /**< the bytes don't begin as a table does */
+    AFDX_OTHER_LAYOUT = 17, /**< the table has another version of the layout */
+    AFDX_WRONG_LENGTH = 18, /**< the bytes are more or fewer than its numbers of links and of ports want */
+    AFDX_WRONG_SUM = 19,    /**< the check isn't that of the bytes before it */
+    AFDX_WRONG_VALUE = 20   /**< a number is none that the table of a plan has there */
 };
 
 /** Why afdx_send refuses a message. */
@@ -179,7 +179,7 @@ uint8_t afdx_open(afdx_end_system *out, const uint8_t *text, size_t length);
    @param out the handle to fill
    @param table the table
    @param length its length in bytes
-   @return AFDX_OK. Refused: AFDX_HELD; a number of the table, AFDX_TABLE_NONE to AFDX_TABLE_VALUE; or the number of the
+   @return AFDX_OK. Refused: AFDX_HELD; a number of the table, AFDX_NO_TABLE to AFDX_WRONG_VALUE; or the number of the
    fault that the plan's text would have, AFDX_CONFIG_DUPLICATE_VL to AFDX_MEMORY. After a refusal the handle is unchanged. */
 uint8_t afdx_open_table(afdx_end_system *out, const uint8_t *table, size_t length);
 
@@ -394,7 +394,7 @@ static inline const char *afdx_answer_name(afdx_call call, uint8_t answer) {
         "AFDX_CONFIG_NO_SUCH_VL", "AFDX_CONFIG_NO_SUCH_SUB", "AFDX_CONFIG_SAMPLING_TOO_LONG", "AFDX_CONFIG_SAME_FLOW",
         "AFDX_CONFIG_SHARED_UNICAST", "AFDX_CONFIG_LIMIT"};
     static const char *const of_table[] = {
-        "AFDX_TABLE_NONE", "AFDX_TABLE_LAYOUT", "AFDX_TABLE_LENGTH", "AFDX_TABLE_SUM", "AFDX_TABLE_VALUE"};
+        "AFDX_NO_TABLE", "AFDX_OTHER_LAYOUT", "AFDX_WRONG_LENGTH", "AFDX_WRONG_SUM", "AFDX_WRONG_VALUE"};
     static const char *const of_send[] = {"AFDX_EMPTY", "AFDX_TOO_LONG", "AFDX_CLOSED", "AFDX_EXHAUSTED", "AFDX_FULL"};
     static const char *const of_line[] = {"AFDX_LINE_WORD", "AFDX_LINE_NUMBER", "AFDX_LINE_HEX", "AFDX_LINE_EXTRA", "AFDX_LINE_LONG"};
     static const char *const of_any[] = {
@@ -406,7 +406,7 @@ static inline const char *afdx_answer_name(afdx_call call, uint8_t answer) {
     if (k == AFDX_MEMORY) return "AFDX_MEMORY";
     if (k >= AFDX_NOT_HELD && k - AFDX_NOT_HELD < sizeof of_any / sizeof *of_any) return of_any[k - AFDX_NOT_HELD];
     if (call == AFDX_CALL_OPEN && k <= sizeof of_open / sizeof *of_open) return of_open[k - 1];
-    if (call == AFDX_CALL_OPEN && k >= AFDX_TABLE_NONE && k <= AFDX_TABLE_VALUE) return of_table[k - AFDX_TABLE_NONE];
+    if (call == AFDX_CALL_OPEN && k >= AFDX_NO_TABLE && k <= AFDX_WRONG_VALUE) return of_table[k - AFDX_NO_TABLE];
     if (call == AFDX_CALL_SEND && k <= sizeof of_send / sizeof *of_send) return of_send[k - 1];
     if (call == AFDX_CALL_POLL && k == AFDX_BOTH_DOWN) return "AFDX_BOTH_DOWN";
     if (call == AFDX_CALL_LINE && k <= sizeof of_line / sizeof *of_line) return of_line[k - 1];

@@ -63,10 +63,10 @@ pub extern "C" fn afdx_open_table(alloc: Global, out: &mut Opening, table: &[u8]
 /// Opens an end system of a plan in an empty handle. Returns `DONE` or `MEMORY`.
 fn put_end(alloc: Global, out: &mut Opening, config: Config) -> u8
     requires { IsNone out.old.handle.kept.home }
-    ensures answers { IsOneOf result (DONE ∷ MEMORY ∷ []) }
     ensures opened { result ≡ DONE → HoldsEnd out.new.handle.kept.home (IsOpened (λ plan. plan ≡ config)) }
     ensures marked { result ≡ DONE → HoldsEnd out.new.handle.kept.home (λ end. out.new.mark ≡ end.block) }
-    ensures refused { result ≡ MEMORY → (out.new.handle.kept.home ≡ out.old.handle.kept.home)
+    ensures memory { result ≢ DONE → result ≡ MEMORY }
+    ensures refused { result ≢ DONE → (out.new.handle.kept.home ≡ out.old.handle.kept.home)
         × (out.new.mark ≡ out.old.mark) }
 {
     match open_home(alloc, config) {

@@ -1,0 +1,6 @@
+use Rattle.afdx_plan.specs.declared.fault.ConfigFault.TheVariants.{Memory}
+use Rattle.plan_table.specs.declared.fault.TableFault.TheVariants.{Plan}
+use Rattle.afdx.proofs.opening.afdx_open_table.Goals as goal
+
+pub returns-in-Ok-clause-fault : goal.returns-in-Ok-clause-fault
+returns-in-Ok-clause-fault c = λ refused. λ held. (Plan Memory, c.put_end.ensures.memory refused, λ other. absurd (other refl))
