@@ -35,10 +35,10 @@ FAULTS = {
     HEAD + ",LMAX\n" + ROW + ",\n": ["row 1, lmax: the column occurs twice"],
     HEAD + "\n": ["row 1: a row of a port is missing"],
     HEAD + "\n" + ROW + ",\n1,2\n": ["row 2: the number of cells is 21, and that of the header 20", "row 3: the number of cells is 2, and that of the header 20"],
-    HEAD + "\n" + ROW + "\n\n" + ROW.replace("10,,0", "11,,0") + "\n": ["row 4, destination: row 2 has the same vl, partition, source, destination and dest_ip"],
+    HEAD + "\n" + ROW + "\n\n" + ROW.replace("10,,0", "11,,0") + "\n": ['row 4, destination: "2000" is seen, and row 2 has the same vl, partition, source, destination and dest_ip'],
     HEAD + "\n" + ROW + "\n" + ROW.replace("1000", "1001").replace("8,200,2", "4,,2") + "\n": [
         'row 3, bag_ms: "4" is seen, and row 2 has "8" for the same link', 'row 3, lmax: the cell is empty, and row 2 has "200" for the same link',
-        "row 3, port: row 2 has the same port",
+        'row 3, port: "10" is seen, and row 2 has the same port',
     ],
     HEAD + "\n" + ROW.replace("1,,,", '1,,"1\n\n",') + "\n" + ROW.replace("1,,8", "2,,8").replace("10,,0", "11,,2").replace("64,,,1", "154,,,2") + "\n": [
         'row 3, sub: a number below sub_vls, which is 2, is wanted, and "2" is seen',
@@ -46,7 +46,7 @@ FAULTS = {
         'row 3, end_system: "2" is seen, and row 2 has "1" for the same end system',
     ],
     HEAD + "\n" + ROW.replace("64,,", "64,10.1.1.1,") + "\n" + ROW.replace("1,,8", "2,,8").replace("10,,0", "11,,0").replace("64,,", "64,10.1.1.1,") + "\n": [
-        "row 3, dest_ip: row 2 has the same partition and dest_ip, but another vl"
+        'row 3, dest_ip: "10.1.1.1" is seen, and row 2 has the same partition and dest_ip, but another vl'
     ],
     HEAD + "\n" + "".join(ROW.replace("10,,0", f"{k},,0").replace("1000", f"{k}") + "\n" for k in range(1, 67)): [
         "row 66, sub: at most 64 ports of one sub-VL are wanted", "row 67, sub: at most 64 ports of one sub-VL are wanted"

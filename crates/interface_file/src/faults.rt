@@ -60,8 +60,9 @@ pub enum Wrong {
         whole: &'static str,
         other: String,
     },
-    #[error("row {first} has {what}")]
+    #[error("{seen}, and row {first} has {what}")]
     Same {
+        seen: String,
         first: u64,
         what: &'static str,
     },

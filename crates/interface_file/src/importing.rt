@@ -202,14 +202,21 @@ fn wrong_of(
     let first = rows.get(other).map_or(0, |row| row.row);
     let link = links.get(other).and_then(|first| rows.get(*first));
     Ok(match finding.fault {
-        ConfigFault::DuplicatePort => same(first, "the same port"),
+        ConfigFault::DuplicatePort => same(seen, first, "the same port"),
         ConfigFault::SameFlow => {
             same(
+                seen,
                 first,
                 "the same vl, partition, source, destination and dest_ip",
             )
         }
-        ConfigFault::SharedUnicast => same(first, "the same partition and dest_ip, but another vl"),
+        ConfigFault::SharedUnicast => {
+            same(
+                seen,
+                first,
+                "the same partition and dest_ip, but another vl",
+            )
+        }
         ConfigFault::NoSuchSub => Wrong::NoSuchSub {
             sub_vls: cell_in(alloc, link, SUB_VLS)?,
             seen,
@@ -224,8 +231,8 @@ fn wrong_of(
     })
 }
 
-fn same(first: u64, what: &'static str) -> Wrong {
-    Wrong::Same { first, what }
+fn same(seen: String, first: u64, what: &'static str) -> Wrong {
+    Wrong::Same { seen, first, what }
 }
 
 /// Returns that a cell has another value than one that is wanted in its column.

@@ -28,7 +28,7 @@ pub fn write_script<W: Write>(
     let mut done = 0;
     for poll in 0..polls {
         let now = 1_000 * poll;
-        for sending in sendings.iter().skip(done) {
+        for sending in sendings.get(done..).unwrap_or(&[]) {
             if now < sending.at {
                 break;
             }

@@ -70,7 +70,7 @@ pub fn line_of(text: &[u8], at: Option<Position>) -> u64 {
     let Some(at) = at else {
         return 0;
     };
-    let skipped = text.iter().skip(at.byte() as usize);
+    let skipped = text.get(at.byte() as usize..).unwrap_or(&[]).iter();
     let ends = skipped.take_while(|byte| matches!(**byte, b'\r' | b'\n'));
     at.line()
         .saturating_add(ends.filter(|byte| **byte == b'\n').count() as u64)
