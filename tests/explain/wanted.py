@@ -51,7 +51,7 @@ def allowed(content) -> str:
     if isinstance(content, range):
         return f"{content[0]} to {content[-1]}"
     if content is ADDRESS:
-        return "an address in 10.0.0.0/8"
+        return "an address in 10.0.0.0/8, without leading zeros"
     words = [str(word) for word in content] if not isinstance(content, str) else []
     return f"{', '.join(words[:-1])} or {words[-1]}" if words else content
 
@@ -97,6 +97,23 @@ def subject(document: Table, at: Place, key: str) -> str:
     return place(document, at) + (", " if k else "." if name else "") + f"{cut(key)} is {shown(table, key)}"
 
 
+def edits(one: str, other: str) -> int:
+    """How many letters have to be put in, left out or changed between two words."""
+    row = list(range(len(other) + 1))
+    for i, letter in enumerate(one, 1):
+        before, row[0] = row[0], i
+        for j, it in enumerate(other, 1):
+            before, row[j] = row[j], min(row[j] + 1, row[j - 1] + 1, before + (letter != it))
+    return row[-1]
+
+
+def meant(key: str, known: Iterable[str]) -> str:
+    """Which key may be meant by another one: the first of the nearest, if it is near for the length of the word."""
+    near = min(((edits(key, it), place, it) for place, it in enumerate(known)), default=(9, 0, ""))
+    size = len(key.encode())
+    return f"; did you mean {near[2]}?" if size <= 40 and near[0] < min(3, (size + 1) // 2) else ""
+
+
 def value_lines(document: Table, fault: int) -> Iterable[str]:
     """The lines of a fault from 2 to 6."""
     sites: list[tuple[Place, Table]] = [(("", 0), document)]
@@ -107,11 +124,14 @@ def value_lines(document: Table, fault: int) -> Iterable[str]:
         for key, content in known.items():
             found = fault_of(content, table[key]) if key in table else 0 if key in OPTIONAL else 2
             if found == fault:
-                yield f"{subject(document, at, key)}: " + (f"{kind_of(content)} is wanted" if found == 4 else allowed(content))
+                kind = f"{kind_of(content)} is wanted" + f": write [[{key}]]" * (content == "an array of tables" and isinstance(table.get(key), dict))
+                yield f"{subject(document, at, key)}: " + (kind if found == 4 else allowed(content))
         if fault == 3:
             others = sorted((key for key in table if key not in known), key=str.encode)
             keys = f"the keys are {' '.join(known)}"
-            yield from (f"{subject(document, at, key)}: {'only if version = 2' if key in FIELDS[at[0]] else keys}" for key in others)
+            for key in others:
+                said = "only if version = 2" if key in FIELDS[at[0]] else keys + meant(key, known)
+                yield f"{subject(document, at, key)}: {said}"
 
 
 def known(name: str, table: Table) -> Table:

@@ -15,6 +15,12 @@ use std::alloc::{AllocError, Global};
 use toml::Table;
 use toml::de::Error;
 
+/// The quotes of word processors, which are none of TOML.
+const CURLED_QUOTES: [&str; 5] = ["\u{201c}", "\u{201d}", "\u{201e}", "\u{2018}", "\u{2019}"];
+
+/// What is wrong with them.
+const CURLED: &str = "this quote is a word processor's, and a plain one is wanted";
+
 /// All faults of a text.
 #[derive(Debug, Drop)]
 pub struct Explanation {
@@ -101,8 +107,21 @@ fn explain_toml(
     ensures text { IfOk result (λ e. HasLines e.count e.text.items) }
 {
     let start = error.span().map_or(0, |span| span.start);
-    let (before, _rest) = text.split_at(start);
-    tell_toml(alloc, before, error.message(), name)
+    let (before, rest) = text.split_at(start);
+    let message = if has_curled_quote(rest) {
+        CURLED
+    } else {
+        error.message()
+    };
+    tell_toml(alloc, before, message, name)
+}
+
+/// Returns whether a text begins, after blanks, with a quote as word processors write it.
+fn has_curled_quote(text: &[u8]) -> bool {
+    let text = text.trim_ascii_start();
+    CURLED_QUOTES
+        .iter()
+        .any(|quote| text.starts_with(quote.as_bytes()))
 }
 
 /// Explains a text that stops being TOML after the bytes `before`.

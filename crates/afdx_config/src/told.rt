@@ -11,6 +11,7 @@ use crate::rows::Row;
 use afdx_plan::{ConfigFault, LinkRow, PortRow};
 use std::alloc::Global;
 use std::io::{Result, Write};
+use strsim::levenshtein;
 use toml::{Table, Value};
 
 /// The text of an explanation.
@@ -18,6 +19,9 @@ pub(crate) type Text = Vec<u8>;
 
 /// The most bytes of a key or a string that a finding prints.
 const TOLD_LIMIT: usize = 40;
+
+/// How many letters are too many for a key to be meant; of a short word, half of it.
+const NEAR_LIMIT: usize = 3;
 
 /// A byte is printable ASCII, but neither a quote nor a backslash.
 fn is_plain(byte: u8) -> bool {
@@ -121,7 +125,7 @@ fn write_content(out: &mut Text, content: Content) -> Result<()> {
         Content::Gap => "1, 2, 4, 8, 16, 32, 64 or 128",
         Content::Networks => "both, a or b",
         Content::PortKind => "sampling or queuing",
-        Content::Address => "an address in 10.0.0.0/8",
+        Content::Address => "an address in 10.0.0.0/8, without leading zeros",
         Content::Checksum => "none or udp",
         Content::Section => "a table",
         Content::Rows => "an array of tables",
@@ -146,10 +150,31 @@ fn write_known(out: &mut Text, document: &Document<'_>, finding: &Finding) -> Re
         return out.write_all(b"only if version = 2");
     }
     out.write_all(b"the keys are")?;
-    for field in fields_at(is_version_2(document), finding.place) {
+    let fields = fields_at(is_version_2(document), finding.place);
+    for field in fields {
         write!(out, " {}", field.0)?;
     }
-    Ok(())
+    match nearest(*out.allocator(), fields, finding.key.as_str())? {
+        Some(key) => write!(out, "; did you mean {key}?"),
+        None => Ok(()),
+    }
+}
+
+/// Returns the first key that differs from a word in the least number of letters, if these are few.
+fn nearest(alloc: Global, fields: &'static [Field], word: &str) -> Result<Option<&'static str>> {
+    if TOLD_LIMIT < word.len() {
+        return Ok(None);
+    }
+    let mut found = None;
+    let mut least = NEAR_LIMIT.min(word.len().div_ceil(2));
+    for field in fields {
+        let edits = levenshtein(alloc, field.0, word)?;
+        if edits < least {
+            least = edits;
+            found = Some(field.0);
+        }
+    }
+    Ok(found)
 }
 
 /// The allowed number of tables under a key, or of ports of a sub-VL.
@@ -177,6 +202,20 @@ fn write_bound(
     write_subject(out, document, Place::Link(k), key)
 }
 
+/// Writes how the tables of an array begin, if there is one table in its place.
+fn write_brackets(
+    out: &mut Text,
+    document: &Document<'_>,
+    finding: &Finding,
+    content: Content,
+) -> Result<()> {
+    let key = finding.key.as_str();
+    match (content, value_at(document.top, key)) {
+        (Content::Rows, Some(Value::Table(_))) => write!(out, ": write [[{key}]]"),
+        _ => Ok(()),
+    }
+}
+
 /// Writes what is allowed at the key of a finding.
 fn write_allowed(out: &mut Text, document: &Document<'_>, finding: &Finding) -> Result<()> {
     let content = content_at(document, finding);
@@ -184,7 +223,8 @@ fn write_allowed(out: &mut Text, document: &Document<'_>, finding: &Finding) -> 
     match (finding.fault, content) {
         (ConfigFault::UnknownKey, _) => write_known(out, document, finding),
         (ConfigFault::WrongKind, Some(content)) => {
-            write!(out, "{} is wanted", kind_text(content))
+            write!(out, "{} is wanted", kind_text(content))?;
+            write_brackets(out, document, finding, content)
         }
         (ConfigFault::NoSuchVl, _) => out.write_all(b"no vl has this id"),
         (ConfigFault::NoSuchSub, _) => {

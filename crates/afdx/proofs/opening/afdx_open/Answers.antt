@@ -1,3 +1,4 @@
+use Rattle.std.proofs.Common.{refl}
 use Rattle.afdx_plan.specs.declared.fault.ConfigFault.TheVariants.{Memory}
 use Rattle.afdx.proofs.opening.afdx_open.Goals as goal
 
