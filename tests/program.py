@@ -41,7 +41,7 @@ FULL, FULL_NOTED = "send 10 01\nsend 10 02\nsend 10 03\nat 0\n", "line 3: refuse
 TEXT_LIMIT, LINE_LIMIT = 16 * 2**20, 20_000
 FILES = {
     "six.toml": DEMO.replace("max = 8192", "max = 6"), **storms.PLANS,
-    "demo.toml": DEMO, "wrong.toml": DEMO.replace("bag_ms = 1", "bag_ms = 3"), "small.toml": DEMO.replace("max = 8192", "max = 5"),
+    "demo.toml": DEMO, "wrong.toml": DEMO.replace("bag_ms = 1", "bag_ms = 3"), "worse.toml": DEMO.replace("bag_ms = 1", "bag_ms = 3") + PORT, "small.toml": DEMO.replace("max = 8192", "max = 5"),
     "two.toml": TWO.replace("capacity = 2", "capacity = 100"), "old.pcapng": "\0" * 100_000,
     "short.txt": SCRIPT, "long.txt": LONG, "faulty.txt": SCRIPT + "at x\n", "full.txt": FULL, "lines.txt": "\n" * 1_000_001,
 }
@@ -54,9 +54,10 @@ BAD_BAG = "configuration refused: 6 BadBag\n"
 # The second line of some failures.
 NOT_THERE, UNREAD = "No such file or directory (os error 2)\n", "it can't be read, or has more than 16 MiB\n"
 NO_ROOM, WRITTEN = "No space left on device (os error 28)\n", "the command already writes this file, so name another\n"
-SEE_EXPLAIN = "wrong.toml: for all faults and their places, run `afdx_bench explain wrong.toml`\n"
+FOUND = "wrong.toml:6: 6 BadBag: vl 1 (id 1), bag_ms is 3: 1, 2, 4, 8, 16, 32, 64 or 128\n"
+SEE_EXPLAIN = "worse.toml: for all faults and their places, run `afdx_bench explain worse.toml`\n"
 EXPLAIN, ANALYSE, ANALYSIS = ["explain", "demo.toml"], ["report", "demo.toml"], ANALYSES[DEMO, 0]
-EXPLAINED = "1 fault\nwrong.toml:6: 6 BadBag: vl 1 (id 1), bag_ms is 3: 1, 2, 4, 8, 16, 32, 64 or 128\n"
+EXPLAINED = f"1 fault\n{FOUND}"
 NO_TEXT = WRONG.replace("unrecognized subcommand 'frob'", "a word is not UTF-8")
 
 # Words, and how a run of them ends: its status, standard output and standard error. Standard input is empty.
@@ -77,8 +78,9 @@ ROWS = [
     (["frob"], 2, "", WRONG),
     ([b"\xff"], 2, "", NO_TEXT),
     ([*CHECK, b"\xff"], 2, "", NO_TEXT),
-    (["check", "wrong.toml"], 2, "", BAD_BAG),
-    (["storm", "wrong.toml", *STORM[2:]], 2, "", BAD_BAG),
+    (["check", "wrong.toml"], 2, "", BAD_BAG + FOUND),
+    (["check", "worse.toml"], 2, "", BAD_BAG + FOUND.replace("wrong", "worse") + SEE_EXPLAIN),
+    (["storm", "wrong.toml", *STORM[2:]], 2, "", BAD_BAG + FOUND),
     (["run", "demo.toml", "faulty.txt"], 2, ONE_FRAME, "script line 3: 2 Number\n"),
     (["run", "demo.toml", "lines.txt"], 2, "", "script refused: too many lines\n"),
     (["storm", "small.toml", *STORM[2:]], 2, "", "storm refused: a port's max is below 6\n"),
@@ -95,21 +97,21 @@ ROWS = [
     ([*JUDGE, "--html", "nowhere/unmade"], 4, "", f"write failed\nnowhere/unmade: {NOT_THERE}"),
     ([*JUDGE, "--html", "./short.txt"], 4, "", "write failed\n./short.txt: the command reads this file, so name another\n"),
     ([*JUDGE, "full.txt", "--html", "full.txt"], 4, "", "write failed\nfull.txt: the command reads this file, so name another\n"),
-    (["judge", "wrong.toml", "none.pcap", "--html", "unmade"], 2, "", BAD_BAG + SEE_EXPLAIN),
+    (["judge", "wrong.toml", "none.pcap", "--html", "unmade"], 2, "", BAD_BAG + FOUND),
     (LATE, 5, "", "turns used up\n"),
     *storms.ROWS,
     # the configuration is read before the script, and both are opened before a capture is made
-    (["run", "wrong.toml", "none.txt", "--capture", "unmade"], 2, "", BAD_BAG),
+    (["run", "wrong.toml", "none.txt", "--capture", "unmade"], 2, "", BAD_BAG + FOUND),
     (["run", "demo.toml", "none.txt", "--capture", "unmade"], 4, "", "read failed\n"),
-    ([*RUN, "--capture", "nowhere/unmade"], 4, "", "write failed\n"),
-    (["report", "wrong.toml", "--html", "unmade"], 2, "", BAD_BAG + SEE_EXPLAIN),
+    ([*RUN, "--capture", "nowhere/unmade"], 4, "", f"write failed\nnowhere/unmade: {NOT_THERE}"),
+    (["report", "wrong.toml", "--html", "unmade"], 2, "", BAD_BAG + FOUND),
     (["report", "none.toml", "--html", "unmade"], 4, "", f"read failed\nnone.toml: {NOT_THERE}"),
     ([*ANALYSE, "--html", "nowhere/unmade"], 4, "", f"write failed\nnowhere/unmade: {NOT_THERE}"),
     ([*ANALYSE, "--html", "./demo.toml"], 4, "", "write failed\n./demo.toml: the command reads this file, so name another\n"),
     ([*ANALYSE, "--html", "made.html", "--csv", "./made.html"], 4, "", f"write failed\n./made.html: {WRITTEN}"),
     ([*ANALYSE, "--html", "/dev/full"], 4, "", f"write failed\n/dev/full: {NO_ROOM}"),
     ([*ANALYSE, "--csv", "/dev/full"], 4, "", f"write failed\n/dev/full: {NO_ROOM}"),
-    ([*RUN, "--capture", "/dev/full"], 4, ONE_FRAME, "write failed\n"),
+    ([*RUN, "--capture", "/dev/full"], 4, ONE_FRAME, f"write failed\n/dev/full: {NO_ROOM}"),
 ]
 
 # What a terminal is shown of a failure whose text is one line elsewhere: that line, and the file, why, and what next.
@@ -124,8 +126,8 @@ SHORT_MAX = ["storm", "small.toml", *STORM[2:]]
 TERMINAL = [
     (["check", "none.toml"], 4, "read failed\n", f"none.toml: {NOT_THERE}"),
     (["check", "."], 4, "read failed\n", f".: {UNREAD}"),
-    (["check", "wrong.toml"], 2, BAD_BAG, SEE_EXPLAIN),
-    (["run", "wrong.toml", "none.txt"], 2, BAD_BAG, SEE_EXPLAIN),
+    (["check", "wrong.toml"], 2, BAD_BAG, FOUND),
+    (["run", "wrong.toml", "none.txt"], 2, BAD_BAG, FOUND),
     (["run", "none.toml", "none.txt"], 4, "read failed\n", f"none.toml: {NOT_THERE}"),
     (["run", "demo.toml", "none.txt"], 4, "read failed\n", f"none.txt: {NOT_THERE}"),
     (["run", "demo.toml", "."], 4, "read failed\n", ".: it can't be read\n"),
@@ -134,10 +136,10 @@ TERMINAL = [
     ([*RUN, "--capture", "short.txt"], 4, "write failed\n", "short.txt: the command reads this file, so name another\n"),
     ([*RUN, "--capture", "/dev/full"], 4, "write failed\n", f"/dev/full: {NO_ROOM}"),
     (["storm", "none.toml", *STORM[2:]], 4, "read failed\n", f"none.toml: {NOT_THERE}"),
-    (["storm", "wrong.toml", *STORM[2:]], 2, BAD_BAG, SEE_EXPLAIN),
+    (["storm", "wrong.toml", *STORM[2:]], 2, BAD_BAG, FOUND),
     (SHORT_MAX, 2, "storm refused: a port's max is below 6\n", "small.toml: give each port a max of 6 or more\n"),
     (LATE, 5, "turns used up\n", "demo.toml: give more --turns, or fewer --messages\n"),
-    (["report", "wrong.toml"], 2, BAD_BAG, SEE_EXPLAIN),
+    (["report", "wrong.toml"], 2, BAD_BAG, FOUND),
     (RUN, 0, "", ""),
 ]
 
@@ -162,7 +164,7 @@ NO_NUMBERS = ["+5", " 5", "5 ", "-5", "", "0x5", "5.0", "1_000", "+", "٥", "0",
 NO_COMMANDS = """help,chekc demo.toml,check,check demo.toml short.txt,check --all demo.toml,check --version,run demo.toml,
 run demo.toml short.txt long.txt,run demo.toml short.txt --capture,run demo.toml short.txt --capture c --capture d,
 check demo.toml --capture c.pcapng,explain,explain demo.toml demo.toml,explain demo.toml --html made.html,report,
-report demo.toml demo.toml,report demo.toml --lateness 1000001,report demo.toml --html,report demo.toml --capture c.pcapng,
+report demo.toml demo.toml,report demo.toml --lateness 1000001,report demo.toml --html,report demo.toml --html made.html --csv made.html,report demo.toml --capture c.pcapng,
 judge demo.toml,judge demo.toml b c d,judge demo.toml b --jitter,judge demo.toml b --jitter 1000001,judge demo.toml b --profile none,storm demo.toml,
 storm demo.toml --messages 1,storm demo.toml --messages 65536 --turns 1,storm demo.toml --messages 1 --turns 1000000001"""
 
@@ -284,7 +286,7 @@ def great_plans(room):
         for words, status, out in PRINTED:
             if "demo.toml" in words:
                 words = [word.replace("demo.toml", "great.toml") for word in words]
-                told = f"read failed\ngreat.toml: {UNREAD}" if words[0] in ("explain", "report", "judge") else "read failed\n"
+                told = "read failed\ngreat.toml: it has more than 16 MiB\n"
                 room.ends(words, *((4, "", told) if more else (status, out, "")))
 
 
@@ -320,13 +322,15 @@ def own_files(room):
     for name in ("demo.toml", "short.txt"):
         os.link(f"{room.folder}/{name}", f"{room.folder}/inner/hard-{name}")
         os.symlink(f"../{name}", f"{room.folder}/inner/soft-{name}")
-    refused = (4, "", "write failed\n")
+    def refused(name):
+        return 4, "", f"write failed\n{name}: the command reads this file, so name another\n"
+
     for name in ("demo.toml", "short.txt"):
         for way in ("", "./", "inner/../", "inner/hard-", "inner/soft-", f"{room.folder}/"):
-            room.ends([*RUN, "--capture", way + name], *refused)
-    room.ends(["run", "inner/soft-demo.toml", "inner/hard-short.txt", "--capture", "short.txt"], *refused)
+            room.ends([*RUN, "--capture", way + name], *refused(way + name))
+    room.ends(["run", "inner/soft-demo.toml", "inner/hard-short.txt", "--capture", "short.txt"], *refused("short.txt"))
     with open(f"{room.folder}/short.txt", encoding="utf-8") as script:
-        room.ends(["run", "demo.toml", "/dev/stdin", "--capture", "short.txt"], *refused, stdin=script)
+        room.ends(["run", "demo.toml", "/dev/stdin", "--capture", "short.txt"], *refused("short.txt"), stdin=script)
     room.want((room.read("demo.toml"), room.read("short.txt")) == (DEMO.encode(), SCRIPT.encode()), "a file was changed")
 
 

@@ -118,9 +118,9 @@ def tried_closed(bench, program, words):
 
 
 def tried_writes(bench, program, words):
-    """Runs of a command, in each of which one write fails: it tries no write after that, and names the file of `--html` or
-    `--csv` that it writes then."""
-    files = [file for word, file in pairwise(words) if word in ("--html", "--csv")]
+    """Runs of a command, in each of which one write fails: it tries no write after that, and names the file that it
+    writes then."""
+    files = [file for word, file in pairwise(words) if word in ("--html", "--csv", "--capture")]
     why = f"{os.strerror(errno.ENOSPC)} (os error {errno.ENOSPC})"
     ends = {"write failed\n", *(f"write failed\n{file}: {why}\n" for file in files)}
     faults, ended = [], set()

@@ -152,6 +152,16 @@ def commands(many):
     ]
 
 
+def refused(plan, fault, line):
+    """A plan that `check` refuses. The line of its first fault is what `explain` has, which without memory is named alone."""
+    head = f"configuration refused: {fault}\n"
+    brief = f"{head}{plan}: for all faults and their places, run `afdx_bench explain {plan}`\n"
+    case = command(["check", plan], "", status=2, err=f"{head}{plan}{line}\n")
+    case.early.append(("told in brief", lambda ran: ran.ended(2, "", brief)))
+    case.ways.append("told in brief")
+    return case
+
+
 def storm(many):
     """Threads of four ports, which send 100 messages each."""
     text = "accepted 400\nlink 1: frames 400, bytes 24000, messages 400\nnetworks equal\nwatcher never back\n"
@@ -166,8 +176,8 @@ COMMANDS = [
     command(["run", "plan.toml", "hex.txt"], "", status=2, err="script line 1: 3 Hex\n"),
     command(["run", "plan.toml", "extra.txt"], "", status=2, err="script line 1: 4 Extra\n"),
     command(["check", "ports.toml"], expected.check_of(tomllib.loads(PORTS))),
-    command(["check", "flow.toml"], "", status=2, err="configuration refused: 12 SameFlow\n"),
-    command(["check", "broken.toml"], "", status=2, err="configuration refused: 1 Toml\n"),
+    refused("flow.toml", "12 SameFlow", ": 12 SameFlow: port 2 (id 2) and port 1 (id 1): the same vl, partition, source, destination and dest_ip"),
+    refused("broken.toml", "1 Toml", ":1: 1 Toml: line 1, column 7: invalid value, expected a string, number, boolean, date-time, array or inline table"),
     storm(1),
     *commands(0),
     storm(0),

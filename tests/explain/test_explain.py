@@ -60,6 +60,13 @@ def document_of(raw: bytes) -> dict:
     return tomllib.loads(raw.decode())
 
 
+def second_of(told: bytes) -> bytes:
+    """What `check` has after its first line: the first fault of an explanation, and how to see the others, if there are any."""
+    first, *others = told.splitlines(keepends=True)[1:]
+    file = first.partition(b":")[0]
+    return first + b"%s: for all faults and their places, run `afdx_bench explain %s`\n" % (file, file) * bool(others)
+
+
 def faults_of(text: str | bytes, lines: Iterable[str] = (), whole: str | None = None) -> list[str]:
     """What is wrong with the explanation of a text. It must have lines with these starts, and be `whole` if that is given."""
     raw = text.encode() if isinstance(text, str) else text
@@ -71,7 +78,7 @@ def faults_of(text: str | bytes, lines: Iterable[str] = (), whole: str | None = 
         wanted = told if re.fullmatch(r"1 fault\n1 Toml: line \d+, column \d+: [^\n]+\n", told) else "a fault of the text"
     head, *rest = told.splitlines() or [""]
     first = rest[0].partition(":")[0] if rest else ""
-    answer = (2, f"configuration refused: {first}\n".encode()) if rest else (0, b"")
+    answer = (2, f"configuration refused: {first}\n".encode() + second_of(explained.stdout)) if rest else (0, b"")
     faults += [f"told:\n{told}    wanted:\n{wanted}"] if told != wanted else []
     faults += [f"not told: {line}" for line in lines if not any(is_.startswith(line) for is_ in rest)]
     more = re.fullmatch(r"and (\d+) more", rest[-1]) if len(rest) == 1001 else None

@@ -197,9 +197,9 @@ def refusal_faults() -> Iterator[str]:
         ([*schedule, "bad.csv", "--seconds", "1"], 2, bad),
         ([*schedule, "none.csv", "--seconds", "1"], 4, "read failed\nnone.csv: No such file or directory (os error 2)\n"),
         (["schedule", "wrong.toml", "--traffic", "fast.csv", "--seconds", "1"], 2,
-         "configuration refused: 6 BadBag\nwrong.toml: for all faults and their places, run `afdx_bench explain wrong.toml`\n"),
+         "configuration refused: 6 BadBag\nwrong.toml:6: 6 BadBag: vl 1 (id 1), bag_ms is 3: 1, 2, 4, 8, 16, 32, 64 or 128\n"),
         (["import", "none.csv"], 4, "read failed\nnone.csv: No such file or directory (os error 2)\n"),
-        (["import", "long.csv"], 4, None),
+        (["import", "long.csv"], 4, "read failed\nlong.csv: it has more than 16 MiB\n"),
     ):
         done = ran(*words)
         if (done.returncode, done.stdout) != (status, b"") or error is not None and done.stderr.decode() != error:

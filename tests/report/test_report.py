@@ -313,8 +313,8 @@ def file_faults() -> Iterator[str]:
         (False, "made", "nowhere/x", "write failed\nnowhere/x: No such file or directory (os error 2)\n", "page"),
         (False, "made", "/dev/full", "write failed\n/dev/full: No space left on device (os error 28)\n", "page"),
         (False, "/dev/full", "made", "write failed\n/dev/full: No space left on device (os error 28)\n", None),
-        *((False, one, other, twice.format(other), "page") for one, other in (("made", "made"), ("./made", "soft"), ("soft", "made"))),
-        *((True, one, other, twice.format(other), old) for one, other in (("made", "made"), ("hard", f"{FOLDER}/../made"), ("made", "soft"))),
+        *((False, one, other, twice.format(other), "page") for one, other in (("./made", "made"), ("./made", "soft"), ("soft", "made"))),
+        *((True, one, other, twice.format(other), old) for one, other in (("./made", "made"), ("hard", f"{FOLDER}/../made"), ("made", "soft"))),
     ]:
         for name in ("made", "hard", "soft"):
             if os.path.lexists(name):

@@ -1,6 +1,8 @@
 //! Why a command stopped, and the second line on standard error, after the message of the failure.
-use bench_words::{Failure, Words};
+use afdx_config::{ConfigFault, explain_file};
+use bench_words::{Failure, TEXT_LIMIT, Words, read_text};
 use std::alloc::AllocError;
+use std::fs::{self, File};
 use std::io::{self, IsTerminal};
 use tx_script::{LineFault, RunFault};
 
@@ -57,18 +59,22 @@ impl<'a> Stop<'a> {
         }
     }
 
-    /// Writes the file, the reason or what to do next to standard error: on a terminal, and for all commands but `run`,
-    /// `check` and `storm`.
+    /// Returns whether the second line doesn't need a terminal: it is on a plan that was refused, a file that can't be
+    /// written, or a text that is too long.
+    fn is_told_always(&self) -> bool {
+        matches!(self.failure, Failure::Config(_))
+            || self.file.is_some() && matches!(self.failure, Failure::Run(RunFault::Write))
+            || matches!(self.file, Some((_, Cause::UnreadPlan)))
+    }
+
+    /// Writes the file, the reason or what to do next to standard error: on a terminal, for all commands but `run`,
+    /// `check` and `storm`, and for a plan that is refused and a file that can't be written.
     pub fn tell_more(&self, rt: &HostRuntime, words: &Words) {
-        let is_always = matches!(
+        let is_quiet = matches!(
             words,
-            Words::Explain(_)
-                | Words::Import(_)
-                | Words::Report(_)
-                | Words::Schedule { .. }
-                | Words::Judge(_)
+            Words::Script | Words::Run { .. } | Words::Check(_) | Words::Storm { .. }
         );
-        if is_always || rt.stderr().is_terminal() {
+        if !is_quiet || self.is_told_always() || rt.stderr().is_terminal() {
             let _told = match &self.file {
                 Some((path, Cause::System(error))) => eprintln!(rt; "{path}: {error}"),
                 Some((path, Cause::Same)) => {
@@ -78,12 +84,22 @@ impl<'a> Stop<'a> {
                     eprintln!(rt; "{path}: the command already writes this file, so name another")
                 }
                 Some((path, Cause::Unread)) => eprintln!(rt; "{path}: it can't be read"),
-                Some((path, Cause::UnreadPlan)) => {
-                    eprintln!(rt; "{path}: it can't be read, or has more than 16 MiB")
-                }
+                Some((path, Cause::UnreadPlan)) => match is_too_long(rt, path) {
+                    Some(true) => eprintln!(rt; "{path}: it has more than 16 MiB"),
+                    Some(false) => eprintln!(rt; "{path}: it can't be read"),
+                    None => eprintln!(rt; "{path}: it can't be read, or has more than 16 MiB"),
+                },
                 None => tell_next(rt, words, &self.failure),
             };
         }
+    }
+}
+
+/// Returns whether a file has more bytes than a text may have; `None` if it isn't a regular file.
+fn is_too_long(rt: &HostRuntime, path: &str) -> Option<bool> {
+    match fs::metadata(rt, path) {
+        Ok(found) if found.is_file() => Some(TEXT_LIMIT < found.len()),
+        _ => None,
     }
 }
 
@@ -113,6 +129,32 @@ fn plan_of(words: &Words) -> &str {
     }
 }
 
+/// Writes the line that `explain` has first of a plan with this fault, and where to find the other faults.
+fn tell_fault(rt: &HostRuntime, plan: &str, fault: ConfigFault) -> io::Result<()> {
+    if let Some((line, count)) = first_of(rt, plan, fault) {
+        eprintln!(rt; "{line}")?;
+        if count == 1 {
+            return Ok(());
+        }
+    }
+    eprintln!(rt; "{plan}: for all faults and their places, run `afdx_bench explain {plan}`")
+}
+
+/// Returns the first line of the faults of a plan, which is read again, and their number. `None` if it can't be read
+/// again, as from a pipe, or is another by now.
+fn first_of(rt: &HostRuntime, plan: &str, fault: ConfigFault) -> Option<(String, usize)> {
+    let alloc = rt.alloc();
+    let _is_regular = is_too_long(rt, plan)?;
+    let text = read_text(alloc, File::open(rt, plan).ok()?).ok()?;
+    let told = explain_file(alloc, text.as_slice(), plan).ok()?;
+    if told.findings.first()?.fault != fault {
+        return None;
+    }
+    let text = std::str::from_utf8(told.text.as_slice()).ok()?;
+    let line = text.lines().nth(1)?;
+    Some((String::from_str(alloc, line).ok()?, told.count))
+}
+
 /// What to do next after a failure that no file made.
 fn tell_next(rt: &HostRuntime, words: &Words, failure: &Failure) -> io::Result<()> {
     let plan = plan_of(words);
@@ -121,11 +163,7 @@ fn tell_next(rt: &HostRuntime, words: &Words, failure: &Failure) -> io::Result<(
         _ => plan,
     };
     match failure {
-        Failure::Config(fault) if fault.number() < 15 => {
-            eprintln!(rt;
-                "{plan}: for all faults and their places, run `afdx_bench explain {plan}`"
-            )
-        }
+        Failure::Config(fault) if fault.number() < 15 => tell_fault(rt, plan, *fault),
         Failure::Run(RunFault::Line { line, fault }) => {
             eprintln!(rt; "{script}:{line}: {}", wanted(*fault))
         }

@@ -176,10 +176,14 @@ fn words_of(alloc: Global, name: &str, matches: &ArgMatches<'_>) -> Result<Words
 fn report_words(alloc: Global, matches: &ArgMatches<'_>, config: String) -> Result<Words, Error>
     ensures { IfOk result IsInRange }
 {
+    let html = given(alloc, matches, "html")?;
+    if html.is_some() && matches.get_str("html") == matches.get_str("csv") {
+        return Err(refusal(alloc, "--html and --csv name one file")?);
+    }
     Ok(Words::Report(Asked {
         config,
         lateness: count(alloc, matches, "lateness", "0", 0, MICROS_LIMIT)?,
-        html: given(alloc, matches, "html")?,
+        html,
         date: given(alloc, matches, "date")?,
         traffic: given(alloc, matches, "traffic")?,
         csv: given(alloc, matches, "csv")?,
