@@ -44,15 +44,17 @@ def shown(program, folder):
 
     quick, wanted, *_ = blocks("README.md")
     yield "README.md", ran(input=re.search("'(.*)'", quick)[1].encode().decode("unicode_escape")), wanted
-    script, transcript, document, refused, scheduled, faults, memory, traffic, storm, *_ = blocks("docs/guide/program.md")
+    script, transcript, document, refused, scheduled, faults, memory, traffic, queues, storm, *_ = blocks("docs/guide/program.md")
     plan = blocks("docs/guide/plan.md")[0]
     for name, text in {"plan.toml": plan, "script.txt": script, "traffic.csv": traffic}.items():
         write(name, text.encode())
     # (the pages show the lines of A, from which those of B differ in byte 11)
     others = re.sub("(?m)^A (.* .{22})20", r"B \g<1>40", transcript.partition("\n")[2])
     yield "run", ran("run", "plan.toml", "script.txt", "--capture", "run.pcapng"), transcript + others
-    verdict = "loads within limits, jitter within limits, deadlines kept of accepted messages; queues aren't judged"
-    yield "report", ran("report", "plan.toml", "--traffic", "traffic.csv").partition("\n")[0], verdict
+    verdict = "loads within limits, jitter within limits, deadlines kept of accepted messages, queues suffice"
+    told = ran("report", "plan.toml", "--traffic", "traffic.csv")
+    yield "report", told.partition("\n")[0], verdict
+    yield "report, queues", told[-len(queues) :], queues
     yield "report, memory", ran("report", "plan.toml")[-len(memory) :], memory
     write("interface.csv", document.encode())
     yield "import", ran("import", "interface.csv"), refused

@@ -56,7 +56,7 @@ port = [
 # 10 waits 2 (3 * 7 - 1 + 1) 2,250 microseconds.
 ANALYSES = {
     (DEMO, 0): """\
-loads within limits, jitter within limits, deadlines not given
+loads within limits, jitter within limits, deadlines not given, queues not judged
 end system 1, polls up to 0 us late
  link bag-ms lmax subs  nets    load-kbit/s  share-%  jitter-ns
     1      1 1518    1   A+B      12304.000    12.31     123040
@@ -71,7 +71,7 @@ network    load-kbit/s  share-%  exceeded  jitter-ns
 memory 233809 bytes
 """,
     (UNEQUAL, 250): """\
-loads within limits, jitter within limits, deadlines not given
+loads within limits, jitter within limits, deadlines not given, queues not judged
 end system 1, polls up to 250 us late
  link bag-ms lmax subs  nets    load-kbit/s  share-%  jitter-ns
     1      2  200    4   A+B        880.000     0.88      17600

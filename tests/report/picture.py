@@ -46,13 +46,14 @@ class Cell:
 
 @dataclass
 class Source:
-    """What a report was made of. `rows` are those of its CSV file, `tables` those of its text."""
+    """What a report was made of. `rows` are those of its CSV file, `tables` and `queues` those of its text."""
 
     plan: Plan
     lateness: int
     has_traffic: bool
     tables: dict[str, list[list[str]]]
     rows: list[list[str]]
+    queues: list[list[str]]
     verdict: str
     file: str
     text: str
@@ -282,6 +283,17 @@ def wait_faults(page: Page, source: Source) -> Iterator[str]:
     yield from label_faults("the scale", found[0][-1].drawings, labels)
 
 
+def queue_faults(page: Page, source: Source) -> Iterator[str]:
+    """What is wrong with the table of the queues, which only a page with traffic has."""
+    if not source.has_traffic:
+        yield from ["there are queues"] * ("queues" in page.tables)
+        return
+    rows = []
+    for *front, need, word in source.queues:
+        rows.append([*plain(*front), (need or "\u2013", "over" if word == "no" else ""), *plain(word or "\u2013")])
+    yield from table_faults(page, "queues", ["link", "sub-VL", "capacity", "need", "suffices"], rows, [])
+
+
 def label_faults(what: str, drawings: list[Drawing], wanted: list[tuple[str, str]]) -> Iterator[str]:
     """What is wrong with the labels of an axis."""
     if len(drawings) != 1 or drawings[0].words != {"class": "axis"}:
@@ -380,7 +392,8 @@ def faults_of(text: str, source: Source) -> Iterator[str]:
         yield f"the page is {text[:40]} .. {text[-40:]}"
     page = Page(text)
     sentences = source.verdict.split(", ")
-    kinds = ["over" if "exceeded" in it or "missed" in it else "" if "not given" in it else "kept" for it in sentences]
+    over, open_ = ("exceeded", "missed", "may get full"), ("deadlines not given", "queues not judged")
+    kinds = ["over" if any(word in it for word in over) else "" if it in open_ else "kept" for it in sentences]
     if [(cell.text, cell.kind) for cell in page.verdict] != list(zip(sentences, kinds, strict=True)):
         yield f"the verdict is {page.verdict}"
     named = {"end-system": str(source.plan["end_system"]["id"]), "plan": source.file, "version": f"afdx_bench {source.version}"}
@@ -391,14 +404,14 @@ def faults_of(text: str, source: Source) -> Iterator[str]:
     yield from (f"the page has {what}" for what in page.elsewhere)
     if re.findall(r"\d[\d,]*\s\S+", page.prose) != PROSE + ["64\u00a0MiB"] * bool(heaviest(source.plan)):
         yield f"the prose is {page.prose}"
-    if source.has_traffic != ("if two messages of a port are at least its period apart. Queues aren't judged" in page.prose):
+    if source.has_traffic != ("if two messages of a port are at least its period apart. A message that a full queue" in page.prose):
         yield f"the premise of the wait by traffic is {not source.has_traffic}: {page.prose}"
     title = f"End system {source.plan['end_system']['id']}: {source.file}"
     if html.unescape(re.findall("<title>(.*)</title>", text)[0]) != title or safe(text.replace("\n", "")) != text.replace("\n", ""):
         yield f"the page isn't titled {title}, or has control characters"
-    if page.parts != ["thead", "tbody"] * 4:
+    if page.parts != ["thead", "tbody"] * (5 if source.has_traffic else 4):
         yield f"the tables have {page.parts}"
-    for check in (network_faults, wait_faults, line_faults, link_faults, memory_faults, flow_faults):
+    for check in (network_faults, wait_faults, queue_faults, line_faults, link_faults, memory_faults, flow_faults):
         yield from check(page, source)
     for kind in ("track", "one", "two", "mark"):
         color = re.search(rf"\.{kind}{{fill:var\(--(\w+)\)", page.style)

@@ -7,7 +7,7 @@ The last line is 'N passed, M failed'.
     python3 tests/report/test_report.py [PLANS]
 
 PLANS small plans, 500 by default, are run as scripts, in each of which one message meets the worst that the others can
-send. It is released at exactly its printed wait. In many plans some sub-VLs have no port.
+send. It is released at exactly its printed wait. In many plans some sub-VLs have no port. As many are run to fill a queue.
 """
 import csv
 import os
@@ -72,7 +72,8 @@ def tables_of(text: str) -> Tables:
     for line in text.splitlines():
         words = line.split()
         if words[0] in heads:
-            name = "traffic" if "period-us" in words else "memory" if "bytes" in words else heads[words[0]]
+            marks = {"period-us": "traffic", "bytes": "memory", "need": "queues"}
+            name = next((marks[word] for word in words if word in marks), heads[words[0]])
             tables[name] = []
         elif name and words[0] not in ("jitter", "memory"):
             tables[name].append(words)
@@ -96,7 +97,7 @@ def faults_of(text: str, lateness: int) -> Iterator[str]:
         yield f"last line {done.stdout.splitlines()[-1]}, and {memory_of(plan)} bytes are wanted, {notes}"
     exceeded = any(row[3] == "yes" for row in wanted(plan, lateness)["networks"])
     kept = {False: "within limits", True: "exceeded"}
-    verdict = f"loads {kept[exceeded]}, jitter {kept[jitter > 500_000]}, deadlines not given"
+    verdict = f"loads {kept[exceeded]}, jitter {kept[jitter > 500_000]}, deadlines not given, queues not judged"
     first = [verdict, f"end system {plan['end_system']['id']}, polls up to {lateness} us late"]
     if done.stdout.splitlines()[:2] != first:
         yield f"first lines {done.stdout.splitlines()[:2]}"
@@ -128,7 +129,8 @@ def page_faults(text: str, demands: dict[int, tuple], given: str, lateness: int)
     plan, tables = tomllib.loads(text), wanted(tomllib.loads(text), lateness)
     rows, verdict = traffic.rows_of(plan, demands, tables, lateness), done.stdout.splitlines()[0]
     name, date = picture.safe(os.path.basename(file)), date and picture.safe(date)
-    source = picture.Source(plan, lateness, bool(demands), tables, rows, verdict, name, text, VERSION, date)
+    queues = traffic.queues_of(plan, demands, tables, lateness)
+    source = picture.Source(plan, lateness, bool(demands), tables, rows, queues, verdict, name, text, VERSION, date)
     yield from picture.faults_of(pages[0], source)
 
 
@@ -226,20 +228,23 @@ def traffic_rows(text: str, demands: dict[int, tuple], given: str, lateness: int
     done = report(text, "--lateness", str(lateness), "--traffic", "traffic.csv", "--csv", "rows.csv", "--strict")
     rows = traffic.rows_of(plan, demands, wanted(plan, lateness), lateness)
     given_to, missed = [row for row in rows if row[11]], [row for row in rows if row[11] == "yes"]
-    kept = "kept of accepted messages; queues aren't judged"
-    ends = f"missed: {len(missed)} of {len(given_to)}" if missed else kept if given_to else "not given"
+    queues = traffic.queues_of(plan, demands, wanted(plan, lateness), lateness)
+    deadlines = f"missed: {len(missed)} of {len(given_to)}" if missed else "kept of accepted messages" if given_to else "not given"
+    ends = f", deadlines {deadlines}, {traffic.sentence_of(plan, queues)}"
     first = done.stdout.splitlines()[0] if done.stdout else ""
-    if not first.endswith(f", deadlines {ends}") or done.returncode != (2 if missed or "exceeded" in first else 0):
+    if not first.endswith(ends) or done.returncode != (2 if missed or "exceeded" in first or "may get full" in ends else 0):
         yield f"{done.returncode} {first}, and {ends} is wanted; {done.stderr}"
         return
     with open("rows.csv", encoding="utf-8", newline="") as file:
         head, *written = csv.reader(file)
-    sheet = traffic.sheet_of(rows, wanted(plan, lateness)["memory"], memory_of(plan))
+    sheet = traffic.sheet_of(rows, wanted(plan, lateness)["memory"], queues, memory_of(plan))
     if len(written) != len(sheet) or head != traffic.HEAD:
         yield f"CSV: {len(written)} rows for {len(sheet)}, head {head}"
     yield from (f"CSV: {is_} for {to_be}" for is_, to_be in zip(written, sheet, strict=False) if is_ != to_be)
     shown = tables_of(done.stdout)["traffic"]
     yield from (f"text: {is_} for {to_be}" for is_, to_be in zip(shown, map(traffic.text_row, rows), strict=True) if is_ != to_be)
+    if tables_of(done.stdout)["queues"] != [[cell or "-" for cell in row] for row in queues]:
+        yield f"queues: {tables_of(done.stdout)['queues']} for {queues}"
     yield from page_faults(text, demands, given, lateness)
 
 
@@ -287,6 +292,86 @@ def traffic_faults(seed: int) -> Iterator[str]:
         longest = max(traffic.waits_of(ran.stdout, port["sub"], accepted))
         if longest != wait - (0 if before or used == 1 else pause):
             yield f"plan {seed}: port {port['id']} waits {longest} after {before}, and its wait by traffic is {wait}, a turn {pause}\n{text}"
+
+
+def full_run(text: str, port: Plan, demands: dict[int, tuple], lateness: int) -> tuple[int | str, bool]:
+    """The places that a port's sub-VL needs, and whether one of its messages is refused as full in a run that brings the most."""
+    plan = tomllib.loads(text)
+    link, used = plan["vl"][0], len({other["sub"] for other in plan["port"]})
+    sizes = {other["id"]: pieces(link, other["max"]) for other in plan["port"]}
+    turn = used * (1000 * link["bag_ms"] + lateness)
+    flows = traffic.flows_of(plan, demands, sizes, link, port["sub"])
+    need, rounds = traffic.need_by_traffic(flows, turn), traffic.busy_rounds(flows, turn)
+    script = traffic.full_script(plan, port, demands, lateness, min(rounds or 400, 400) * turn, sizes[port["id"]])
+    save("script.txt", "\n".join(script) + "\n")
+    save("plan.toml", text)
+    ran = subprocess.run([PROGRAM, "run", "plan.toml", "script.txt"], capture_output=True, text=True, check=False, timeout=60)
+    mates = [other["id"] for other in plan["port"] if other["sub"] == port["sub"]]
+    return need, any(number in mates for number in traffic.full_ports(ran.stdout, script))
+
+
+def full_faults(plans: int) -> Iterator[str]:
+    """What is wrong with the needs of random plans: a queue with the places that it needs is never full, and of those with
+    fewer at least half are in a run that brings the most."""
+    fewer = met = 0
+    for seed in range(plans):
+        rng = random.Random(seed)
+        text, _, port = random_plan(rng, rng.choice((3, 3, 1, 2, 4, 5)))
+        lateness = rng.choice((0, 0, 1, 250, 999))
+        plan = tomllib.loads(text)
+        bag, capacity = 1000 * plan["vl"][0]["bag_ms"], plan["vl"][0]["capacity"]
+        demands = {other["id"]: ("", rng.choice((rng.randint(1, 400 * bag), bag * rng.randint(1, 64))), None) for other in plan["port"]}
+        need, is_full = full_run(text, port, demands, lateness)
+        if is_full and isinstance(need, int) and need <= capacity:
+            yield f"plan {seed}: port {port['id']} finds a queue of {capacity} full, and {need} are needed\n{text}{demands}"
+        fewer += isinstance(need, str) or need > capacity
+        met += is_full and (isinstance(need, str) or need > capacity)
+    if 2 * met < fewer or fewer < plans // 10:
+        yield f"of {fewer} queues with too few places {met} are full in a run"
+
+
+def queue_faults() -> Iterator[str]:
+    """What is wrong with reports on plans that lose messages, each with the end of its verdict and rows of its queues."""
+    busy = {"id": 1, "bag_ms": 8, "lmax": 64, "sub_vls": 1, "capacity": 4}
+    many = [{"id": k, "bag_ms": 128, "lmax": 64, "sub_vls": 1, "capacity": 1} for k in range(1, 41)]
+    pair = [port_of(k, k, 0, 20) for k in range(1, 41)] + [port_of(41, 40, 0, 20)]
+    three, close = [port_of(k, 1, 0, 1) for k in (10, 11, 12)], {10: 23_386, 11: 26_277, 12: 22_633}
+    for links, ports, periods, ends, row in [
+        ([busy], [port_of(10, 1, 0, 1)], {10: 500}, "queues may get full: 1 of 1; overloaded: 1", ["1", "0", "4", "overloaded", "no"]),
+        ([busy], [port_of(10, 1, 0, 1)], {10: 8000}, "queues suffice", ["1", "0", "4", "2", "yes"]),
+        ([busy | {"capacity": 1}], [port_of(10, 1, 0, 1)], {10: 8001}, "queues suffice", ["1", "0", "1", "1", "yes"]),
+        (many, pair, dict.fromkeys(range(1, 42), 1_000_000), "queues may get full: 1 of 40", ["40", "0", "1", "2", "no"]),
+        (many, pair, dict.fromkeys(range(1, 41), 1_000_000), "queues suffice; not judged: 1", ["40", "0", "1", "-", "-"]),
+        ([busy], three, close, "queues may get full: 1 of 1", ["1", "0", "4", "unknown", "no"]),
+    ]:
+        text, given = configuration(links, ports), traffic.PORTS + "".join(f"{k},,{period},100000000\n" for k, period in periods.items())
+        save("traffic.csv", given)
+        done = report(text, "--traffic", "traffic.csv", "--strict")
+        shown = tables_of(done.stdout).get("queues", [[]])[-1]
+        if not done.stdout.splitlines()[0].endswith(", " + ends) or shown != row or done.returncode != 2 * ("full" in ends):
+            yield f"{done.returncode} {done.stdout.splitlines()[0]}, {shown}, and {ends}, {row} are wanted"
+    save("plan.toml", configuration(many, pair))
+    script = [line for k in range(3) for line in ("send 40 5a", "send 41 5a", f"at {1_000_000 * k}")]
+    save("script.txt", "\n".join(script) + "\n")
+    ran = subprocess.run([PROGRAM, "run", "plan.toml", "script.txt"], capture_output=True, text=True, check=False, timeout=60)
+    if traffic.full_ports(ran.stdout, script) != [41, 41, 41]:
+        yield f"the port gets a message out: {ran.stdout}"
+
+
+def speed_faults() -> Iterator[str]:
+    """What is wrong with the processor time of a report on 256 ports that load their link to 99.94 %: a tenth of a second is
+    usual, and what is computed for each port anew takes over two."""
+    rng = random.Random(3)
+    links = [{"id": 1, "bag_ms": 1, "lmax": 1518, "sub_vls": 4, "capacity": 256}]
+    text, shares = configuration(links, [port_of(k, 1, k // 64, 1) for k in range(256)]), [rng.random() + 0.01 for _ in range(64)]
+    periods = [int(4000 * sum(shares) / share / 0.9994) + 1 for share in shares]
+    save("traffic.csv", traffic.PORTS + "".join(f"{k},,{periods[k % 64]},\n" for k in range(256)))
+    before = os.times()
+    done = report(text, "--traffic", "traffic.csv")
+    after = os.times()
+    spent = after.children_user + after.children_system - before.children_user - before.children_system
+    if spent > 0.5 or not done.stdout.splitlines()[0].endswith(", queues suffice"):
+        yield f"{spent} s for {done.stdout.splitlines()[:1]}"
 
 
 def traffic_text_faults() -> Iterator[str]:
@@ -367,10 +452,13 @@ def main() -> int:
         "refused memory and writes, with a page": lambda: refusal_faults(DEMO, "--html", "page.html"),
         "the greatest plan with its periods": lambda: traffic_rows(*greatest_traffic()),
         "traffic with faults": traffic_text_faults,
+        "plans that lose messages": queue_faults,
+        "256 ports that nearly overload their link": speed_faults,
         "files that can't be made, and one file named twice": file_faults,
         "refused memory and writes, with traffic": lambda: refusal_faults(DEMO, "--traffic", "demo.csv", "--csv", "rows.csv"),
         f"{plans // 5} plans of several links": lambda: (fault for seed in range(plans // 5) for fault in wide_faults(seed)),
         f"{plans} waits by traffic": lambda: (fault for seed in range(plans) for fault in traffic_faults(seed)),
+        f"{plans} queues of plans that bring the most": lambda: full_faults(plans),
         f"{plans} waits": lambda: (fault for seed in range(plans) for fault in wait_faults(seed)),
     }
     failed = 0

@@ -1,5 +1,6 @@
-"""The traffic of `afdx_bench report`: an independent model of the waits by traffic, texts with faults, and runs of the end
-system in which each port keeps its period, the other sub-VLs of its link are always full, and polls come as late as they may.
+"""The traffic of `afdx_bench report`: an independent model of the waits by traffic and of the places that queues need, texts
+with faults, and runs of the end system in which each port keeps its period, the other sub-VLs of its link are always full,
+and polls come as late as they may.
 """
 import csv
 import io
@@ -12,7 +13,7 @@ PORTS = "port,name,period_us,deadline_us\n"
 LIMIT = 1_000_000_000_000
 # The columns of the CSV file: those of a port, and after them those of a sub-VL.
 HEAD = "port name link sub_vl fragments period_us deadline_us wait_queue_us wait_traffic_us holds slack_us".split()
-HEAD += ["missed", "capacity", "ports", "greatest", "bytes"]
+HEAD += ["missed", "capacity", "ports", "greatest", "bytes", "need", "suffices"]
 
 # Traffic texts of the demonstration, whose one port is 10, and the faults that are printed of them.
 FAULTS = {
@@ -72,6 +73,53 @@ def by_traffic(flows: list[tuple[int, int]], turn: int) -> int | None:
     return max(turn * sum(size * (1 + t // period) for size, period in flows) - t for t in times)
 
 
+def need_by_traffic(flows: list[tuple[int, int]], turn: int) -> int | str:
+    """The places that the queue of a sub-VL needs that sends a fragment each `turn`: the less of two bounds. A message that
+    comes at t finds those that have come and aren't begun, by fragments of the greatest size; and none is older than a wait."""
+    if sum(Fraction(size * turn, period) for size, period in flows) > 1:
+        return "overloaded"
+    rounds, wait = busy_rounds(flows, turn), by_traffic(flows, turn)
+    if rounds is None:
+        return "unknown"
+    greatest = max(size for size, _ in flows)
+    times = {k * period for _, period in flows for k in range(rounds * turn // period + 1)}
+    backlog = max(sum(1 + t // period for _, period in flows) - -(-(max(t - 1, 0) // turn) // greatest) for t in times)
+    return min(backlog, sum(1 + wait // period for _, period in flows))
+
+
+def flows_of(plan: Plan, demands: dict[int, tuple], sizes: dict[int, int], link: Plan, sub: int) -> list[tuple[int, int | None]]:
+    """The fragments of a message and the period of each port of a sub-VL."""
+    mates = [port["id"] for port in plan["port"] if (port["vl"], port["sub"]) == (link["id"], sub)]
+    return [(sizes[mate], demands.get(mate, ("", None, None))[1]) for mate in mates]
+
+
+def queues_of(plan: Plan, demands: dict[int, tuple], tables: dict, lateness: int) -> list[list[str]]:
+    """A row for each sub-VL: link, sub-VL, capacity, the places that it needs, and whether it suffices."""
+    sizes, rows = {int(row[0]): int(row[3]) for row in tables["ports"]}, []
+    for link in plan["vl"]:
+        used = len({port["sub"] for port in plan["port"] if port["vl"] == link["id"]})
+        for sub in range(link["sub_vls"]):
+            flows = flows_of(plan, demands, sizes, link, sub)
+            row = [str(link["id"]), str(sub), str(link["capacity"]), "", ""]
+            if flows and None not in [period for _, period in flows]:
+                need = need_by_traffic(flows, used * (1000 * link["bag_ms"] + lateness))
+                row[3:] = [str(need), "yes" if isinstance(need, int) and need <= link["capacity"] else "no"]
+            rows.append(row)
+    return rows
+
+
+def sentence_of(plan: Plan, queues: list[list[str]]) -> str:
+    """What a verdict says of the queues."""
+    used = len({(port["vl"], port["sub"]) for port in plan["port"]})
+    judged, full = [row for row in queues if row[4]], [row for row in queues if row[4] == "no"]
+    if not judged:
+        return "queues not judged"
+    overloaded = len([row for row in full if row[3] == "overloaded"])
+    parts = [f"queues may get full: {len(full)} of {used}" if full else "queues suffice"]
+    parts += [f"overloaded: {overloaded}"] * (overloaded > 0) + [f"not judged: {used - len(judged)}"] * (used > len(judged))
+    return "; ".join(parts)
+
+
 def rows_of(plan: Plan, demands: dict[int, tuple], tables: dict, lateness: int) -> list[list[str]]:
     """The rows of a CSV file: `demands` has name, period and deadline by port, `tables` the rows of the report."""
     links, rows = {link["id"]: link for link in plan["vl"]}, []
@@ -91,10 +139,11 @@ def rows_of(plan: Plan, demands: dict[int, tuple], tables: dict, lateness: int) 
     return rows
 
 
-def sheet_of(rows: list[list[str]], subs: list[list[str]], total: int) -> list[list[str]]:
+def sheet_of(rows: list[list[str]], subs: list[list[str]], queues: list[list[str]], total: int) -> list[list[str]]:
     """All rows of a CSV file: those of the ports, those of the sub-VLs, and the bytes of the end system."""
-    ports = [[*row, "", "", "", ""] for row in rows]
-    return [*ports, *(["", "", *sub[:2], *[""] * 8, *sub[2:]] for sub in subs), [*[""] * 15, str(total)]]
+    ports = [[*row, *[""] * 6] for row in rows]
+    sheet = [["", "", *sub[:2], *[""] * 8, *sub[2:], *queue[3:]] for sub, queue in zip(subs, queues, strict=True)]
+    return [*ports, *sheet, [*[""] * 15, str(total), "", ""]]
 
 
 def text_row(row: list[str]) -> list[str]:
@@ -150,6 +199,30 @@ def script_of(
             accepted.append(moment)
         lines += [f"send {other['id']} {'5a' * other['max']}" for other in others] + [f"at {poll}"]
     return lines, accepted
+
+
+def full_script(plan: Plan, port: Plan, demands: dict[int, tuple], lateness: int, busy: int, before: int) -> list[str]:
+    """A run as in `script_of`, in which the port first sends a message of `before` fragments, just after whose last one the
+    ports of its sub-VL begin, the greatest messages first. What is due at the time of a poll is sent before it."""
+    pause = 1000 * plan["vl"][0]["bag_ms"] + lateness
+    mates = sorted((other for other in plan["port"] if other["sub"] == port["sub"]), key=lambda other: -other["max"])
+    others = [other for other in plan["port"] if other["sub"] != port["sub"]]
+    subs = sorted({other["sub"] for other in others})
+    start = pause * (sum(sub < port["sub"] for sub in subs) + (before - 1) * (len(subs) + 1))
+    due = sorted((start + t, place) for place, other in enumerate(mates) for t in range(0, busy + 1, demands[other["id"]][1]))
+    lines = [f"send {port['id']} {'5a' * port['max']}"]
+    for poll in range(0, start + busy + pause + 1, pause):
+        while due and due[0][0] <= poll and poll > start:
+            other = mates[due.pop(0)[1]]
+            lines.append(f"send {other['id']} {'5a' * other['max']}")
+        lines += [f"send {other['id']} {'5a' * other['max']}" for other in others] + [f"at {poll}"]
+    return lines
+
+
+def full_ports(printed: str, script: list[str]) -> list[int]:
+    """The ports whose messages were refused as full, by the transcript of a script."""
+    refused = [line.split() for line in printed.splitlines() if line.endswith("refused Full")]
+    return [int(script[int(words[1].rstrip(":")) - 1].split()[1]) for words in refused]
 
 
 def waits_of(printed: str, sub: int, accepted: list[int]) -> Iterator[int]:

@@ -7,17 +7,17 @@ use crate::stop::{Cause, Stop, of_file};
 use afdx_plan::Config;
 use bench_words::{Asked, End, read_digested, read_text};
 use csv::{ErrorKind, WriterBuilder};
-use plan_analysis::{LATENESS_LIMIT, analyze, traffic_waits};
+use plan_analysis::{LATENESS_LIMIT, analyze, traffic_bounds};
 use plan_report::{
     Assessment, Digested, Traffic, no_traffic, read_traffic, senders_of, write_analysis,
-    write_page, write_rows, write_traffic, write_verdict,
+    write_page, write_queues, write_rows, write_traffic, write_verdict,
 };
 use std::alloc::{AllocError, Global};
 use std::fs::File;
 use std::io::{self, Write};
 use std::path::Path;
 
-/// Writes the verdict, the loads, the jitter and the longest waits of a plan; and before that the page and the
+/// Writes the verdict, the loads, the jitter, the longest waits and the queues of a plan; and before that the page and the
 /// rows to their files. If the traffic has faults, writes these alone.
 pub fn report<'a, W: Write>(
     rt: &HostRuntime,
@@ -39,8 +39,8 @@ pub fn report<'a, W: Write>(
     }
     let analysis = analyze(alloc, &plan.config, lateness)?;
     let senders = senders_of(alloc, &plan.config, &traffic)?;
-    let waits = traffic_waits(alloc, &plan.config, lateness, senders.as_slice())?;
-    let assessment = Assessment::new(alloc, &analysis, &traffic, waits.as_slice())?;
+    let bounds = traffic_bounds(alloc, &plan.config, lateness, senders.as_slice())?;
+    let assessment = Assessment::new(alloc, &analysis, &traffic, bounds.as_slice())?;
     let read = [&text, file.as_ref().unwrap_or(&text)];
     differ(rt, &asked.html, &asked.csv)?;
     if let (Some(path), Some(page)) = (&asked.html, create(rt, &asked.html, &read)?) {
@@ -55,6 +55,7 @@ pub fn report<'a, W: Write>(
     write_analysis(writer, &analysis)?;
     if file.is_some() {
         write_traffic(writer, &assessment)?;
+        write_queues(writer, &assessment)?;
     }
     if asked.strict && !assessment.all_kept() {
         Ok(End::Missed)

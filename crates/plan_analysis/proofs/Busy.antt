@@ -1,5 +1,5 @@
 -- What ports with periods hand over, the longest busy time of their sub-VL, and the times at which waits are greatest.
-use Rattle.plan_analysis.proofs.Names.{ℕ, zero, suc, ◌≡◌, ◌+◌, ◌-◌, ◌*◌, ◌/◌, ◌<◌, ◌≤◌, List, [], ◌∷◌, length, get_or, arith, refl, ap, ◌∙◌, sym, inl, inr, ◌⊎◌, max, below_more, ◌++◌, map, Option, subst, get_or_append_left, get_or_default, get_or_push, All, div_ceil, cases_eq, cases_lt, All-cons, All-head, All-nil, All-tail, All-weaker, sum_by-cons, sum_by-le-sum_by, le-div, mul-le, div-le_self, div-mul-le_self, div-zero, Flow, Plan, IsPlan, IsPort, IsBusyUntil, MeetsByTraffic, WaitsByTraffic, Sender, IsFlow, arrived, arrived_before, wait_at, IsWaitWithin, IsBusyTime, busy_limit, HasGoodPeriod, AreSendersOf, IsWaitOf, sender_at}
+use Rattle.plan_analysis.proofs.Names.{ℕ, zero, suc, ◌≡◌, ◌+◌, ◌-◌, ◌*◌, ◌/◌, ◌<◌, ◌≤◌, List, [], ◌∷◌, length, get_or, arith, refl, ap, ◌∙◌, sym, inl, inr, ◌⊎◌, max, below_more, ◌++◌, map, subst, get_or_append_left, get_or_default, get_or_push, All, div_ceil, cases_eq, cases_lt, All-cons, All-head, All-nil, All-tail, sum_by-cons, sum_by-le-sum_by, le-div, mul-le, div-le_self, div-mul-le_self, div-zero, Flow, Plan, IsPlan, IsPort, IsBusyUntil, MeetsByTraffic, WaitsByTraffic, Sender, Bound, IsFlow, arrived, arrived_before, wait_at, IsWithin, IsBusyTime, busy_limit, HasGoodPeriod, AreSendersOf, IsBoundOf, IsSubBound, PortPlan, link_of, round_of, sender_at, messages, greatest_message, places_at}
 use native.Mathlib.Nat.{mul-suc}
 
 -- the fragments of one flow
@@ -14,11 +14,11 @@ pub arrived_mono : (flows : List Flow) (s t : ℕ) → s ≤ t → arrived flows
 arrived_mono flows s t le = sum_by-le-sum_by (term s) (term t) flows
     (λ f. let more = div_mono s t f.period le in mul-le f.fragments (1 + s / f.period) f.fragments (1 + t / f.period) (omega arith) (omega arith))
 
--- the most fragments of a flow in the longest busy time that is looked for
-pub term_most : (f : Flow) (t : ℕ) → IsFlow f → t ≤ 295698432000 → f.fragments * (1 + t / f.period) ≤ 101128863744342
+-- the most fragments of a flow in twice the longest busy time that is looked for
+pub term_most : (f : Flow) (t : ℕ) → IsFlow f → t ≤ 591396864000 → f.fragments * (1 + t / f.period) ≤ 202257727488342
 term_most f t own le =
     let part = div-le_self t f.period in
-    mul-le f.fragments (1 + t / f.period) 342 295698432001 own.most (omega arith)
+    mul-le f.fragments (1 + t / f.period) 342 591396864001 own.most (omega arith)
 
 ceil_is : (t p : ℕ) → 1 ≤ t → 1 ≤ p → div_ceil t p ≡ 1 + (t - 1) / p
 ceil_is t p some step = grind arith
@@ -154,34 +154,84 @@ same_arrived (f ∷ flows) s t good all le =
     let rest = same_arrived flows s t (All-tail IsFlow f flows good) (All-tail P f flows all) le in
     omega arith
 
--- the waits at the multiples of the first `many` periods, up to an end, are no longer
-abbrev pub AreCovered : (round : ℕ) → List Flow → (busy longest many : ℕ) → Type 0
-AreCovered round flows busy longest many = (i : ℕ) (d : Flow) → i < many → (turn : ℕ) → turn * (get_or flows i d).period ≤ busy
-    → wait_at round flows (turn * (get_or flows i d).period) ≤ longest
+-- Values at the multiples of the first `many` periods, up to an end, are no greater.
+abbrev pub AreCovered : (value_at : ℕ → ℕ) → List Flow → (busy greatest many : ℕ) → Type 0
+AreCovered value_at flows busy greatest many = (i : ℕ) (d : Flow) → i < many → (turn : ℕ)
+    → turn * (get_or flows i d).period ≤ busy → value_at (turn * (get_or flows i d).period) ≤ greatest
 
--- So a wait is no longer than that at some multiple of a period.
-pub by_multiples : (round : ℕ) (flows : List Flow) (busy longest : ℕ) → All IsFlow flows → 1 ≤ length flows
-    → AreCovered round flows busy longest (length flows)
-    → (t : ℕ) → t ≤ busy → wait_at round flows t ≤ longest
-by_multiples round flows busy longest good some covered zero le =
+-- a value that only a message can make greater
+abbrev pub Falls : List Flow → (value_at : ℕ → ℕ) → Type 0
+Falls flows value_at = (t : ℕ) → All (λ (f : Flow). multiple (suc t) f ≤ t) flows → value_at (suc t) ≤ value_at t
+
+-- So it is no greater than at some multiple of a period.
+by_multiples : (flows : List Flow) (value_at : ℕ → ℕ) (busy greatest : ℕ) → 1 ≤ length flows → Falls flows value_at
+    → AreCovered value_at flows busy greatest (length flows) → (t : ℕ) → t ≤ busy → value_at t ≤ greatest
+by_multiples flows value_at busy greatest some falls covered zero le =
     let start : 0 * (get_or flows 0 lone).period ≡ 0 = omega arith in rw start at (covered 0 lone (omega arith) 0 (omega arith))
-by_multiples round flows busy longest good some covered (suc t) le = elim (at_multiple t flows lone) [
+by_multiples flows value_at busy greatest some falls covered (suc t) le = elim (at_multiple t flows lone) [
   | inl here ↦
       let p : ℕ = (get_or flows here.0 lone).period in
       let below = div-mul-le_self (suc t) p in
       let is : suc t / p * p ≡ suc t = omega (arith, here.2) in
       rw is at (covered here.0 lone here.1 (suc t / p) (omega arith))
   | inr none ↦
-      let before = by_multiples round flows busy longest good some covered t (omega arith) in
-      let same = same_arrived flows t (suc t) good none (omega arith) in
-      let whole = mul-le round (arrived flows (suc t)) round (arrived flows t) (omega arith) same in
+      let before = by_multiples flows value_at busy greatest some falls covered t (omega arith) in
+      let less = falls t none in
       omega arith
 ]
 
--- the greater of two such waits
-pub max_within : (round : ℕ) (flows : List Flow) (end a b c : ℕ) → c ≡ max a b → IsWaitWithin round flows end a → IsWaitWithin round flows end b
-    → IsWaitWithin round flows end c
-max_within round flows end a b c is own other = elim (cases_lt a b) [
+wait_falls : (round : ℕ) (flows : List Flow) → All IsFlow flows → Falls flows (wait_at round flows)
+wait_falls round flows good t none =
+    let same = same_arrived flows t (suc t) good none (omega arith) in
+    let whole = mul-le round (arrived flows (suc t)) round (arrived flows t) (omega arith) same in
+    omega arith
+
+-- a wait is no longer than that at some multiple of a period
+pub wait_by_multiples : (round : ℕ) (flows : List Flow) (busy longest : ℕ) → All IsFlow flows → 1 ≤ length flows
+    → AreCovered (wait_at round flows) flows busy longest (length flows) → (t : ℕ) → t ≤ busy → wait_at round flows t ≤ longest
+wait_by_multiples round flows busy longest good some covered =
+    by_multiples flows (wait_at round flows) busy longest some (wait_falls round flows good) covered
+
+same_messages : (flows : List Flow) (s t : ℕ) → All IsFlow flows → All (λ (f : Flow). multiple t f ≤ s) flows → s ≤ t
+    → messages flows t ≤ messages flows s
+same_messages [] s t good all le = omega arith
+same_messages (f ∷ flows) s t good all le =
+    let P : Flow → Type 0 = λ g. multiple t g ≤ s in
+    let own = All-head IsFlow f flows good in
+    let turns = le-div (t / f.period) s f.period own.period (All-head P f flows all) in
+    let left = sum_by-cons (λ (g : Flow). 1 + t / g.period) f flows in
+    let right = sum_by-cons (λ (g : Flow). 1 + s / g.period) f flows in
+    let rest = same_messages flows s t (All-tail IsFlow f flows good) (All-tail P f flows all) le in
+    omega arith
+
+ceil_mono : (a b p : ℕ) → 1 ≤ p → a ≤ b → div_ceil a p ≤ div_ceil b p
+ceil_mono a b p step le =
+    let more = div_mono (a - 1) (b - 1) p (omega arith) in
+    elim (cases_lt 0 a) [
+      | inl some ↦ (let one = ceil_is a p some step in let two = ceil_is b p (omega arith) step in omega arith)
+      | inr none ↦ (let zero_is : a ≡ 0 = omega arith in rw zero_is (omega arith))
+    ]
+
+some_greatest : (flows : List Flow) → All IsFlow flows → 1 ≤ length flows → 1 ≤ greatest_message flows
+some_greatest [] good some = absurd (omega arith)
+some_greatest (f ∷ flows) good some = let own = All-head IsFlow f flows good in omega arith
+
+places_fall : (round : ℕ) (flows : List Flow) → All IsFlow flows → 1 ≤ length flows → Falls flows (places_at round flows)
+places_fall round flows good some t none =
+    let same = same_messages flows t (suc t) good none (omega arith) in
+    let more = ceil_mono ((t - 1) / round) ((suc t - 1) / round) (greatest_message flows) (some_greatest flows good some) (div_mono (t - 1) (suc t - 1) round (omega arith)) in
+    omega arith
+
+-- and so are the places that are taken
+pub places_by_multiples : (round : ℕ) (flows : List Flow) (busy most : ℕ) → All IsFlow flows → 1 ≤ length flows
+    → AreCovered (places_at round flows) flows busy most (length flows) → (t : ℕ) → t ≤ busy → places_at round flows t ≤ most
+places_by_multiples round flows busy most good some covered =
+    by_multiples flows (places_at round flows) busy most some (places_fall round flows good some) covered
+
+-- the greater of two values at times
+pub max_within : (value_at : ℕ → ℕ) (end a b c : ℕ) → c ≡ max a b → IsWithin value_at end a → IsWithin value_at end b
+    → IsWithin value_at end c
+max_within value_at end a b c is own other = elim (cases_lt a b) [
   | inl less ↦ (other.0, other.1, grind (arith, other.2))
   | inr more ↦ (own.0, own.1, grind (arith, own.2))
 ]
@@ -214,23 +264,44 @@ good_senders plan senders valid of k d lt =
     }
 
 -- one flow more is covered
-pub cover_more : (round : ℕ) (flows : List Flow) (busy old own new many : ℕ) (e : Flow) → many < length flows
-    → AreCovered round flows busy old many
-    → ((turn : ℕ) → turn * (get_or flows many e).period ≤ busy → wait_at round flows (turn * (get_or flows many e).period) ≤ own)
-    → new ≡ max old own → AreCovered round flows busy new (many + 1)
-cover_more round flows busy old own new many e within covered each is = λ i d lt turn le. elim (cases_eq i many) [
+pub cover_more : (value_at : ℕ → ℕ) (flows : List Flow) (busy old own new many : ℕ) (e : Flow) → many < length flows
+    → AreCovered value_at flows busy old many
+    → ((turn : ℕ) → turn * (get_or flows many e).period ≤ busy → value_at (turn * (get_or flows many e).period) ≤ own)
+    → new ≡ max old own → AreCovered value_at flows busy new (many + 1)
+cover_more value_at flows busy old own new many e within covered each is = λ i d lt turn le. elim (cases_eq i many) [
   | inl last ↦
-      let P : ℕ → Type 0 = λ p. turn * p ≤ busy → wait_at round flows (turn * p) ≤ new in
+      let P : ℕ → Type 0 = λ p. turn * p ≤ busy → value_at (turn * p) ≤ new in
       let at : (get_or flows many e).period ≡ (get_or flows i d).period =
       ap (λ (f : Flow). f.period) (get_or_default flows many e d within ∙ ap (λ (k : ℕ). get_or flows k d) (sym last)) in
       subst P at (λ h. let here = each turn h in omega arith) le
   | inr before ↦ (let here = covered i d (omega arith) turn le in omega arith)
 ]
 
--- the wait of a sender, at any default of its place
-pub wait_here : (late : ℕ) (plan : Plan) (senders : List Sender) (i : ℕ) (d : Sender) (wait : Option ℕ) → i < length senders
-    → IsWaitOf late plan senders (get_or senders i d) wait → IsWaitOf late plan senders (sender_at senders i) wait
-wait_here late plan senders i d wait lt own = subst (λ (s : Sender). IsWaitOf late plan senders s wait) (get_or_default senders i d _ lt) own
+-- what is known of a sender, at any default of its place
+pub bound_here : (late : ℕ) (plan : Plan) (senders : List Sender) (i : ℕ) (d : Sender) (bound : Bound) → i < length senders
+    → IsBoundOf late plan senders (get_or senders i d) bound → IsBoundOf late plan senders (sender_at senders i) bound
+bound_here late plan senders i d bound lt own = subst (λ (s : Sender). IsBoundOf late plan senders s bound) (get_or_default senders i d _ lt) own
+
+-- a wait is at most twice the longest busy time that is looked for
+pub wait_most : (round : ℕ) (flows : List Flow) (busy wait : ℕ) → round ≤ 4512000 → arrived flows busy ≤ 2 * busy_limit
+    → IsWithin (wait_at round flows) busy wait → wait ≤ 591396864000
+wait_most round flows busy wait short few met =
+    let mono = arrived_mono flows met.0 busy met.1 in
+    let most = mul-le round (arrived flows met.0) 4512000 (2 * busy_limit) short (omega arith) in
+    omega (arith, met.2)
+
+-- what is known of a sender is known of each other one on its sub-VL
+pub same_sub : (late : ℕ) (plan : Plan) (senders : List Sender) (s r : Sender) (bound known : Bound) → s.port.vl.0 ≡ r.port.vl.0
+    → s.port.sub ≡ r.port.sub → bound ≡ known → IsBoundOf late plan senders s known → IsBoundOf late plan senders r bound
+same_sub late plan senders s r bound known vl sub is own =
+    let port : ℕ → PortPlan = λ v. record s.port { vl = record { 0 = v } } in
+    let By : ℕ → ℕ → Bound → Type 0 = λ v n b. IsSubBound (round_of late plan (link_of plan (port v))) (link_of plan (port v)) n senders b in
+    subst (λ (v : ℕ). By v r.port.sub bound) vl (subst (λ (n : ℕ). By s.port.vl.0 n bound) sub
+    (subst (λ (b : Bound). By s.port.vl.0 s.port.sub b) (sym is) own))
+
+-- nothing more is handed over by an earlier time of a busy time
+pub arrived_within : (flows : List Flow) (s t most : ℕ) → s ≤ t → arrived flows t ≤ most → arrived flows s ≤ most
+arrived_within flows s t most le few = let mono = arrived_mono flows s t le in omega arith
 
 -- the message is accepted within the longest busy time
 in_busy : (round : ℕ) (flows : List Flow) (busy at : ℕ) (before by gone : ℕ → ℕ) → IsBusyTime round flows busy

@@ -1,3 +1,4 @@
 pub mod Busy
 pub mod Rooms
 pub mod Names
+pub mod Overload

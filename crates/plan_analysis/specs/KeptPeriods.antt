@@ -1,6 +1,6 @@
 -- How long a message waits if each port of its sub-VL keeps its period.
 use Rattle.std.specs.Prelude.{ℕ, ◌+◌, ◌*◌, ◌/◌, ◌≤◌, ◌<◌, List, [], ◌∷◌}
-use Rattle.plan_analysis.specs.declared.traffic.Flow.{Flow}
+use Rattle.plan_analysis.specs.declared.busy_time.Flow.{Flow}
 use Rattle.plan_analysis.specs.Traffic.{arrived, arrived_before, IsWaitByTraffic}
 
 -- A sub-VL from a time on before which it had nothing, in microseconds: `before` has the fragments accepted before each

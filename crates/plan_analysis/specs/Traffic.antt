@@ -1,11 +1,13 @@
--- The longest wait of a message if each port of its sub-VL keeps a period.
-use Rattle.std.specs.Prelude.{ℕ, Bool, true, false, ◌≡◌, ◌+◌, ◌-◌, ◌*◌, ◌/◌, ◌≤◌, ◌<◌, List, [], length, map, filter, sum_by, not, ◌||◌, All, Option, Some, None, IfSome, is_some, unwrap_or, get_or}
+-- The longest wait of a message, and the places that its queue needs, if each port of its sub-VL keeps a period.
+use Rattle.std.specs.Prelude.{ℕ, Bool, true, false, ◌≡◌, ◌+◌, ◌-◌, ◌*◌, ◌/◌, ◌^◌, ◌≤◌, ◌<◌, List, [], ◌∷◌, length, map, filter, sum_by, max, min, not, ◌||◌, All, Option, Some, None, IfSome, is_some, unwrap_or, get_or}
 use Rattle.std.specs.Int.{div_ceil}
 use Rattle.std.specs.List.{list_all}
 use Rattle.afdx_plan.specs.Config.{Plan, port_plan_at}
 use Rattle.afdx_plan.specs.Plan.{bag_micros, IsPort}
 use Rattle.afdx_plan.specs.declared.link_plan.LinkPlan.{LinkPlan}
-use Rattle.plan_analysis.specs.declared.traffic.Flow.{Flow}
+use Rattle.plan_analysis.specs.declared.traffic.Bound.{Bound}
+use Rattle.plan_analysis.specs.declared.traffic.Bound.TheVariants.{NoPeriod, Found, Overloaded, TooLong}
+use Rattle.plan_analysis.specs.declared.busy_time.Flow.{Flow}
 use Rattle.plan_analysis.specs.declared.traffic.Sender.{Sender}
 use Rattle.plan_analysis.specs.Wait.{is_on, link_of, port_pieces, used_sub_vls}
 
@@ -30,16 +32,58 @@ pub record IsBusyTime (round : ℕ) (flows : List Flow) (busy : ℕ) : Type 0 wh
 abbrev pub wait_at : ℕ → List Flow → ℕ → ℕ
 wait_at round flows t = round * arrived flows t - t
 
--- the wait at some time up to an end
-abbrev pub IsWaitWithin : (round : ℕ) → List Flow → (end wait : ℕ) → Type 0
-IsWaitWithin round flows end wait = (t : ℕ) × (t ≤ end) × (wait ≡ wait_at round flows t)
+-- a value at some time up to an end
+abbrev pub IsWithin : (value_at : ℕ → ℕ) → (end value : ℕ) → Type 0
+IsWithin value_at end value = (t : ℕ) × (t ≤ end) × (value ≡ value_at t)
 
 -- the greatest of these waits, over all times up to the longest busy time
 pub record IsWaitByTraffic (round : ℕ) (flows : List Flow) (wait : ℕ) : Type 0 where
   pub busy : ℕ
   pub is_busy : IsBusyTime round flows busy
-  pub met : IsWaitWithin round flows busy wait
+  pub met : IsWithin (wait_at round flows) busy wait
   pub most : (t : ℕ) → t ≤ busy → wait_at round flows t ≤ wait
+
+-- the most messages that ports hand over in the first `t` microseconds, both ends included
+abbrev pub messages : List Flow → ℕ → ℕ
+messages flows t = sum_by (λ (f : Flow). 1 + t / f.period) flows
+
+-- the most fragments of a message
+abbrev pub greatest_message : List Flow → ℕ
+greatest_message [] = 0
+greatest_message (f ∷ flows) = max f.fragments (greatest_message flows)
+
+-- The most messages that are handed over and not begun when one is, `t` after the start of a busy time, itself among
+-- them. The rounds that ended before then released a fragment each, which are those of this many messages at least.
+abbrev pub places_at : ℕ → List Flow → ℕ → ℕ
+places_at round flows t = messages flows t - div_ceil ((t - 1) / round) (greatest_message flows)
+
+-- the greatest number of these, over all times up to the longest busy time
+pub record IsBacklog (round : ℕ) (flows : List Flow) (backlog : ℕ) : Type 0 where
+  pub busy : ℕ
+  pub is_busy : IsBusyTime round flows busy
+  pub met : IsWithin (places_at round flows) busy backlog
+  pub most : (t : ℕ) → t ≤ busy → places_at round flows t ≤ backlog
+
+-- The places that a queue needs for its traffic. Its messages are no more than the backlog; and all of them were handed
+-- over within the wait of the oldest, as each is begun before its wait is over.
+pub record IsNeed (round : ℕ) (flows : List Flow) (need : ℕ) : Type 0 where
+  pub backlog : ℕ
+  pub is_backlog : IsBacklog round flows backlog
+  pub wait : ℕ
+  pub is_wait : IsWaitByTraffic round flows wait
+  pub less : need ≡ min backlog (messages flows wait)
+
+-- At no time is all that was handed over before it sent.
+abbrev pub IsOverloaded : (round : ℕ) → List Flow → Type 0
+IsOverloaded round flows = (t : ℕ) → 1 ≤ t → t < round * arrived_before flows t
+
+-- The share of its turns that the traffic of a sub-VL takes for ever, in parts of `whole_share`: what each port hands
+-- over in a round, rounded down.
+abbrev pub link_share : ℕ → List Flow → ℕ
+link_share round flows = sum_by (λ (f : Flow). f.fragments * round * 2 ^ 64 / f.period) flows
+
+abbrev pub whole_share : ℕ
+whole_share = 2 ^ 64
 
 -- a round of a link: a BAG and the lateness of a poll for each sub-VL that has a port
 abbrev pub round_of : ℕ → Plan → LinkPlan → ℕ
@@ -80,18 +124,47 @@ pub record IsFlow (flow : Flow) : Type 0 where
 abbrev pub busy_limit : ℕ
 busy_limit = 65536
 
--- The wait by traffic of a message on a sub-VL of a link. There is none if one of its senders has no period, or if its
--- longest busy time takes more than `busy_limit` rounds, as it may if the periods are too short.
-abbrev pub IsSubWait : (round : ℕ) → LinkPlan → ℕ → List Sender → Option ℕ → Type 0
-IsSubWait round link sub senders None = have_periods link sub senders ≡ true
-    → (busy : ℕ) → IsBusyTime round (flows_of link sub senders) busy → round * busy_limit < busy
-IsSubWait round link sub senders (Some wait) = (have_periods link sub senders ≡ true)
+-- The wait by traffic of a message on a sub-VL of a link, if each of its senders has a period.
+abbrev pub IsSubWait : (round : ℕ) → LinkPlan → ℕ → List Sender → ℕ → Type 0
+IsSubWait round link sub senders wait = (have_periods link sub senders ≡ true)
     × IsWaitByTraffic round (flows_of link sub senders) wait
 
 -- and of a message of a sender
-abbrev pub IsWaitOf : ℕ → Plan → List Sender → Sender → Option ℕ → Type 0
+abbrev pub IsWaitOf : ℕ → Plan → List Sender → Sender → ℕ → Type 0
 IsWaitOf late plan senders sender wait = IsSubWait (round_of late plan (link_of plan sender.port))
     (link_of plan sender.port) sender.port.sub senders wait
+
+-- The places that the queue of a sub-VL of a link needs, if each of its senders has a period.
+abbrev pub IsSubNeed : (round : ℕ) → LinkPlan → ℕ → List Sender → ℕ → Type 0
+IsSubNeed round link sub senders need = (have_periods link sub senders ≡ true)
+    × IsNeed round (flows_of link sub senders) need
+
+-- What is known of a sub-VL by what its senders hand over. It is told as overloaded exactly if its share of the link
+-- is more than the whole. No number is known if its longest busy time takes more than `busy_limit` rounds.
+abbrev pub IsBoundBy : (round : ℕ) → List Flow → Bound → Type 0
+IsBoundBy round flows NoPeriod = ⊥
+IsBoundBy round flows (Found worst) = IsWaitByTraffic round flows worst.wait × IsNeed round flows worst.need
+IsBoundBy round flows Overloaded = (whole_share < link_share round flows) × IsOverloaded round flows
+IsBoundBy round flows TooLong = (link_share round flows ≤ whole_share)
+    × ((busy : ℕ) → IsBusyTime round flows busy → round * busy_limit < busy)
+
+-- What is known of a sub-VL of a link: nothing if one of its senders has no period.
+abbrev pub IsSubBound : (round : ℕ) → LinkPlan → ℕ → List Sender → Bound → Type 0
+IsSubBound round link sub senders NoPeriod = have_periods link sub senders ≡ false
+IsSubBound round link sub senders bound = (have_periods link sub senders ≡ true)
+    × IsBoundBy round (flows_of link sub senders) bound
+
+-- the wait by traffic that is known
+abbrev pub wait_of : Bound → Option ℕ
+wait_of NoPeriod = None
+wait_of (Found worst) = Some worst.wait
+wait_of Overloaded = None
+wait_of TooLong = None
+
+-- what is known of the sub-VL of a sender
+abbrev pub IsBoundOf : ℕ → Plan → List Sender → Sender → Bound → Type 0
+IsBoundOf late plan senders sender bound = IsSubBound (round_of late plan (link_of plan sender.port))
+    (link_of plan sender.port) sender.port.sub senders bound
 
 -- a valid port, and a period of at least a microsecond, if there is one
 pub record HasGoodPeriod (sender : Sender) : Type 0 where
@@ -107,7 +180,8 @@ pub record AreSendersOf (plan : Plan) (senders : List Sender) : Type 0 where
 abbrev pub sender_at : List Sender → ℕ → Sender
 sender_at senders i = get_or senders i (record { port = port_plan_at [] 0; period = None })
 
--- the wait by traffic of each sender, in order
-pub record AreWaitsOf (late : ℕ) (plan : Plan) (senders : List Sender) (waits : List (Option ℕ)) : Type 0 where
-  pub count : length waits ≡ length senders
-  pub each : (i : ℕ) → i < length senders → IsWaitOf late plan senders (sender_at senders i) (get_or waits i None)
+-- what is known of the sub-VL of each sender, in order
+pub record AreBoundsOf (late : ℕ) (plan : Plan) (senders : List Sender) (bounds : List Bound) : Type 0 where
+  pub count : length bounds ≡ length senders
+  pub each : (i : ℕ) → i < length senders
+      → IsBoundOf late plan senders (sender_at senders i) (get_or bounds i NoPeriod)

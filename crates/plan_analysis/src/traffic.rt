@@ -1,9 +1,11 @@
-//! The longest wait of a message if each port of its sub-VL keeps a period.
-ghost use Rattle.std.specs.Prelude.{◌≡◌, ◌+◌, ◌*◌, ◌≤◌, ◌<◌, ℕ, All, IfOk, IfSome, IfNone, length, option_map};
+//! The longest wait of a message, and the places that its queue needs, if each port of its sub-VL keeps a period.
+ghost use Rattle.std.specs.Prelude.{◌≡◌, ◌+◌, ◌*◌, ◌≤◌, ◌<◌, ℕ, All, IfOk, IfSome, IfNone, length, option_map, get_or};
 ghost use Rattle.afdx_plan.specs.Plan.{IsLink};
-ghost use Rattle.plan_analysis.specs.Traffic.{arrived as arrived_by, wait_at as wait_at_time, IsBusyTime, IsWaitByTraffic, IsWaitOf, busy_limit, IsFlow, AreFlowsOf, AreSendersOf, AreWaitsOf, HasGoodPeriod, IsWaitWithin, round_of as round_of_link};
+ghost use Rattle.plan_analysis.specs.declared.traffic.Bound.TheVariants.{NoPeriod};
+ghost use Rattle.plan_analysis.specs.Traffic.{IsBusyTime, IsBoundOf, IsWaitByTraffic, IsNeed, IsBoundBy, IsSubBound, busy_limit, IsFlow, AreFlowsOf, AreSendersOf, AreBoundsOf, HasGoodPeriod, sender_at, wait_of, round_of as round_of_link};
 
 use crate::analysis::{LATENESS_LIMIT, link_of};
+use crate::busy_time::{Flow, Worst, busy_rounds, is_overloaded, worst_of};
 use crate::fragments::{is_on, port_pieces, used_sub_vls};
 use afdx_plan::{Config, LinkPlan, PortPlan};
 use std::alloc::{AllocError, Global};
@@ -15,54 +17,107 @@ pub struct Sender {
     pub period: Option<u64>,
 }
 
-/// What a port hands over: messages of at most this many fragments, two of them at least the period apart, in
-/// microseconds.
+/// What is known of a sub-VL by its traffic.
 #[derive(Clone, Copy, Debug, PartialEq, Eq)]
-pub(crate) struct Flow {
-    pub fragments: u64,
-    pub period: u64,
+pub enum Bound {
+    // a port of it has no period
+    NoPeriod,
+    Found(Worst),
+    // its ports hand over more than its link carries, so that it falls behind for ever
+    Overloaded,
+    // its longest busy time takes more than 65,536 rounds
+    TooLong,
 }
 
-/// The most fragments of a busy time that is looked for.
-const BUSY_LIMIT: u64 = 65_536;
+impl Bound {
+    /// Returns the longest wait by traffic of a message, in microseconds, if it is known.
+    pub fn wait(&self) -> Option<u64>
+        ensures { result ≡ wait_of self.now }
+    {
+        match *self {
+            Bound::Found(worst) => Some(worst.wait),
+            Bound::NoPeriod | Bound::Overloaded | Bound::TooLong => None,
+        }
+    }
+}
 
-/// The longest wait by traffic of a message of each sender, in microseconds. `None` if a sender of its
-/// sub-VL has no period, or if their longest busy time is too long. Fails only if an allocation fails.
-pub fn traffic_waits(
+/// Returns what is known of the sub-VL of each sender, in order, for polls that come at most `lateness` microseconds
+/// late. Fails only if an allocation fails.
+pub fn traffic_bounds(
     alloc: Global,
     config: &Config,
     lateness: u64,
     senders: &[Sender],
-) -> Result<Vec<Option<u64>>, AllocError>
+) -> Result<Vec<Bound>, AllocError>
     requires late { lateness ≤ LATENESS_LIMIT }
     requires senders { AreSendersOf config.now senders.now }
-    ensures { IfOk result (λ waits. AreWaitsOf lateness config.now senders.now waits.items) }
+    ensures { IfOk result (λ bounds. AreBoundsOf lateness config.now senders.now bounds.items) }
 {
-    let mut waits = Vec::with_capacity(alloc, config.ports().len())?;
+    let mut bounds = Vec::with_capacity(alloc, config.ports().len())?;
     for sender in senders {
-        waits.push(sender_wait(alloc, config, lateness, senders, sender)?)?;
+        let earlier = bounds.as_slice();
+        let bound = bound_of(alloc, config, lateness, senders, earlier, sender)?;
+        bounds.push(bound)?;
     }
-    Ok(waits)
+    Ok(bounds)
 }
 
-/// The longest wait by traffic of a sender.
-fn sender_wait(
+/// Returns what is known of the sub-VL of a sender, from an earlier sender of it if there is one.
+fn bound_of(
+    alloc: Global,
+    config: &Config,
+    lateness: u64,
+    senders: &[Sender],
+    earlier: &[Bound],
+    sender: &Sender,
+) -> Result<Bound, AllocError>
+    requires late { lateness ≤ LATENESS_LIMIT }
+    requires good { All HasGoodPeriod senders.now }
+    requires few { length senders.now ≤ 256 }
+    requires before { length earlier.now ≤ length senders.now }
+    requires known { (i : ℕ) → i < length earlier.now
+        → IsBoundOf lateness config.now senders.now (sender_at senders.now i) (get_or earlier.now i NoPeriod) }
+    ensures { IfOk result (IsBoundOf lateness config.now senders.now sender.now) }
+{
+    match known_bound(senders, earlier, &sender.port) {
+        Some(bound) => Ok(bound),
+        None => new_bound(alloc, config, lateness, senders, sender),
+    }
+}
+
+/// Returns the bound of the first of these senders that is on the sub-VL of a port.
+fn known_bound(senders: &[Sender], bounds: &[Bound], port: &PortPlan) -> Option<Bound>
+    requires { length bounds.now ≤ length senders.now }
+    ensures { IfSome result (λ bound. (i : ℕ) × (i < length bounds.now) × (bound ≡ get_or bounds.now i NoPeriod)
+        × ((sender_at senders.now i).port.vl.0 ≡ port.now.vl.0) × ((sender_at senders.now i).port.sub ≡ port.now.sub)) }
+{
+    for i in 0..bounds.len() {
+        let other = &senders[i].port;
+        if other.vl.0 == port.vl.0 && other.sub == port.sub {
+            return Some(bounds[i]);
+        }
+    }
+    None
+}
+
+/// Computes what is known of the sub-VL of a sender.
+fn new_bound(
     alloc: Global,
     config: &Config,
     lateness: u64,
     senders: &[Sender],
     sender: &Sender,
-) -> Result<Option<u64>, AllocError>
+) -> Result<Bound, AllocError>
     requires late { lateness ≤ LATENESS_LIMIT }
     requires good { All HasGoodPeriod senders.now }
     requires few { length senders.now ≤ 256 }
-    ensures { IfOk result (IsWaitOf lateness config.now senders.now sender.now) }
+    ensures { IfOk result (IsBoundOf lateness config.now senders.now sender.now) }
 {
     let link = link_of(config, &sender.port);
     let round = round_of(lateness, config, link);
     match flows_on(alloc, link, sender.port.sub, senders)? {
-        Some(flows) => Ok(sub_wait(round, flows.as_slice())),
-        None => Ok(None),
+        Some(flows) => Ok(bound_by(round, flows.as_slice())),
+        None => Ok(Bound::NoPeriod),
     }
 }
 
@@ -103,107 +158,21 @@ fn flows_on(
     Ok(Some(flows))
 }
 
-/// The longest wait of a message of these flows, if their longest busy time is within the limit.
-fn sub_wait(round: u64, flows: &[Flow]) -> Option<u64>
+/// Returns what is known of a sub-VL with these flows.
+fn bound_by(round: u64, flows: &[Flow]) -> Bound
     requires round { round ≤ 4512000 }
     requires flows { All IsFlow flows.now }
     requires few { length flows.now ≤ 256 }
-    ensures some { IfSome result (IsWaitByTraffic round flows.now) }
-    ensures none { IfNone result ((busy : ℕ) → IsBusyTime round flows.now busy → round * busy_limit < busy) }
+    ensures { IsBoundBy round flows.now result }
 {
+    if is_overloaded(round, flows) {
+        return Bound::Overloaded;
+    }
     if round == 0 || flows.is_empty() {
-        return None;
+        return Bound::TooLong;
     }
-    let rounds = busy_rounds(round, flows)?;
-    Some(longest_wait(round, flows, rounds))
-}
-
-/// The rounds of the longest busy time, if they are within the limit: as many as fragments are handed over
-/// before they have passed.
-#[tactic(auto, using(crate::proofs::Busy::first_rounds, crate::proofs::Busy::next_rounds, crate::proofs::Busy::last_rounds, crate::proofs::Busy::few_arrived, crate::proofs::Busy::too_long))]
-fn busy_rounds(round: u64, flows: &[Flow]) -> Option<u64>
-    requires some { (1 ≤ round) × (1 ≤ length flows.now) }
-    requires round { round ≤ 4512000 }
-    requires flows { All IsFlow flows.now }
-    requires few { length flows.now ≤ 256 }
-    ensures most { IfSome result (λ rounds. rounds ≤ busy_limit) }
-    ensures arrived { IfSome result (λ rounds. arrived_by flows.now (round * rounds) ≤ 2 * busy_limit) }
-    ensures some { IfSome result (λ rounds. IsBusyTime round flows.now (round * rounds)) }
-    ensures none { IfNone result ((busy : ℕ) → IsBusyTime round flows.now busy → round * busy_limit < busy) }
-{
-    let mut rounds = 1;
-    while rounds <= BUSY_LIMIT {
-        let next = arrived(flows, round * rounds - 1);
-        if next == rounds {
-            return Some(rounds);
-        }
-        rounds = next;
+    match busy_rounds(round, flows) {
+        Some(rounds) => Bound::Found(worst_of(round, flows, rounds)),
+        None => Bound::TooLong,
     }
-    None
-}
-
-/// The greatest wait in the longest busy time. What is handed over changes only at multiples of the periods.
-#[tactic(auto, using(crate::proofs::Busy::by_multiples, crate::proofs::Busy::arrived_mono))]
-fn longest_wait(round: u64, flows: &[Flow], rounds: u64) -> u64
-    requires some { (1 ≤ round) × (1 ≤ length flows.now) }
-    requires round { round ≤ 4512000 }
-    requires flows { All IsFlow flows.now }
-    requires few { length flows.now ≤ 256 }
-    requires rounds { rounds ≤ busy_limit }
-    requires arrived { arrived_by flows.now (round * rounds) ≤ 2 * busy_limit }
-    requires busy { IsBusyTime round flows.now (round * rounds) }
-    ensures { IsWaitByTraffic round flows.now result }
-{
-    let busy = round * rounds;
-    let mut longest = wait_at(round, flows, 0);
-    for flow in flows {
-        longest = longest.max(longest_at(round, flows, flow.period, busy));
-    }
-    longest
-}
-
-/// The greatest wait at a multiple of a period.
-#[tactic(auto, using(crate::proofs::Busy::arrived_mono))]
-fn longest_at(round: u64, flows: &[Flow], period: u64, busy: u64) -> u64
-    requires period { 1 ≤ period }
-    requires round { round ≤ 4512000 }
-    requires flows { All IsFlow flows.now }
-    requires few { length flows.now ≤ 256 }
-    requires time { busy ≤ 295698432000 }
-    requires arrived { arrived_by flows.now busy ≤ 2 * busy_limit }
-    ensures at { IsWaitWithin round flows.now busy result }
-    ensures most { (turn : ℕ) → turn * period ≤ busy → wait_at_time round flows.now (turn * period) ≤ result }
-{
-    let mut longest = wait_at(round, flows, 0);
-    for turn in 0..busy / period + 1 {
-        longest = longest.max(wait_at(round, flows, turn * period));
-    }
-    longest
-}
-
-/// The wait of a message that is accepted at this time of a busy time.
-fn wait_at(round: u64, flows: &[Flow], time: u64) -> u64
-    requires round { round ≤ 4512000 }
-    requires flows { All IsFlow flows.now }
-    requires few { length flows.now ≤ 256 }
-    requires time { time ≤ 295698432000 }
-    requires arrived { arrived_by flows.now time ≤ 2 * busy_limit }
-    ensures { result ≡ wait_at_time round flows.now time }
-{
-    (round * arrived(flows, time)).saturating_sub(time)
-}
-
-/// The most fragments that are handed over in the first `time` microseconds, both ends included.
-#[tactic(auto, using(crate::proofs::Busy::term_most))]
-fn arrived(flows: &[Flow], time: u64) -> u64
-    requires flows { All IsFlow flows.now }
-    requires few { length flows.now ≤ 256 }
-    requires time { time ≤ 295698432000 }
-    ensures { result ≡ arrived_by flows.now time }
-{
-    let mut fragments = 0;
-    for flow in flows {
-        fragments += flow.fragments * (1 + time / flow.period);
-    }
-    fragments
 }

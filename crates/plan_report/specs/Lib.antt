@@ -1,2 +1,3 @@
 pub mod AnalysisText
+pub mod Queues
 pub mod Report

@@ -1,14 +1,15 @@
-//! An analysis beside the traffic of its ports: which bound of a wait holds, which deadlines are kept, and a verdict;
-//! as text and as CSV.
+//! An analysis beside the traffic of its ports: which bound of a wait holds, which deadlines are kept, which queues
+//! suffice, and a verdict; as text and as CSV.
 ghost use Rattle.std.specs.Prelude.{◌≡◌, ◌≤◌, Option, Some, None, nat_lt, IfOk, IfSome, false};
 ghost use Rattle.plan_report.specs.AnalysisText.{longest_wait, is_missed as is_missed_by};
 ghost use Rattle.plan_analysis.specs.Traffic.{AreSendersOf};
 
 use crate::html::Cell;
+use crate::queues::{Judged, Queue, queues_of};
 use crate::traffic::{Demand, Traffic};
 use afdx_plan::Config;
 use csv::{Error, Writer};
-use plan_analysis::{Analysis, JITTER_LIMIT, PortAnalysis, Sender, SubRow};
+use plan_analysis::{Analysis, Bound, JITTER_LIMIT, PortAnalysis, Sender};
 use std::alloc::{AllocError, Global};
 use std::fmt::{self, InlineText};
 use std::io::{self, Write};
@@ -18,26 +19,32 @@ use std::io::{self, Write};
 pub struct Assessment<'a> {
     pub analysis: &'a Analysis,
     pub(crate) rows: Vec<Row<'a>>,
+    // the sub-VLs, in the order of the plan
+    pub(crate) queues: Vec<Queue<'a>>,
 }
 
 impl<'a> Assessment<'a> {
-    /// The assessment of the traffic of the ports, and of their waits by it.
+    /// The assessment of the traffic of the ports, and of what is known of their sub-VLs by it.
     pub fn new(
         alloc: Global,
         analysis: &'a Analysis,
         traffic: &'a Traffic,
-        waits: &[Option<u64>],
+        bounds: &[Bound],
     ) -> Result<Assessment<'a>, AllocError> {
-        let mut rows = Vec::with_capacity(alloc, waits.len())?;
+        let mut rows = Vec::with_capacity(alloc, bounds.len())?;
         let ports = analysis.ports.iter().zip(traffic.demands.iter());
-        for ((port, demand), by_traffic) in ports.zip(waits.iter()) {
+        for ((port, demand), bound) in ports.zip(bounds.iter()) {
             rows.push(Row {
                 port,
                 demand,
-                by_traffic: *by_traffic,
+                by_traffic: bound.wait(),
             })?;
         }
-        Ok(Assessment { analysis, rows })
+        Ok(Assessment {
+            analysis,
+            rows,
+            queues: queues_of(alloc, analysis, bounds)?,
+        })
     }
 
     /// Whether a traffic text has a row.
@@ -52,18 +59,19 @@ impl<'a> Assessment<'a> {
         (given.count(), missed.count())
     }
 
-    /// The verdict on loads, jitter and deadlines.
-    pub(crate) fn verdict(&self) -> [Sentence; 3] {
+    /// The verdict on loads, jitter, deadlines and queues.
+    pub(crate) fn verdict(&self) -> [Sentence; 4] {
         let is_over = self.analysis.network_a.exceeded || self.analysis.network_b.exceeded;
         let (given, missed) = self.deadlines();
         [
             Sentence::Limit("loads", is_over),
             Sentence::Limit("jitter", self.analysis.jitter > JITTER_LIMIT),
             Sentence::Deadlines(given, missed),
+            Sentence::Queues(Judged::of(self.queues.as_slice())),
         ]
     }
 
-    /// Whether loads, jitter and all deadlines are kept.
+    /// Whether loads, jitter and all deadlines are kept, and all queues that are judged suffice.
     pub fn all_kept(&self) -> bool {
         let verdict = self.verdict();
         !verdict
@@ -72,12 +80,13 @@ impl<'a> Assessment<'a> {
     }
 }
 
-/// A sentence of a verdict: whether the limit of something is exceeded, or how many ports have a deadline and how many
-/// of them miss it.
+/// A sentence of a verdict: whether the limit of something is exceeded, how many ports have a deadline and how many of
+/// them miss it, or which queues suffice.
 #[derive(Clone, Copy)]
 pub(crate) enum Sentence {
     Limit(&'static str, bool),
     Deadlines(usize, usize),
+    Queues(Judged),
 }
 
 impl Sentence {
@@ -87,6 +96,7 @@ impl Sentence {
             Sentence::Limit(_, exceeded) => Some(!exceeded),
             Sentence::Deadlines(0, _) => None,
             Sentence::Deadlines(_, missed) => Some(missed == 0),
+            Sentence::Queues(judged) => judged.suffice(),
         }
     }
 }
@@ -97,10 +107,9 @@ impl fmt::Display for Sentence {
             Sentence::Limit(what, true) => write!(f, "{what} exceeded"),
             Sentence::Limit(what, false) => write!(f, "{what} within limits"),
             Sentence::Deadlines(0, _) => f.write_str("deadlines not given"),
-            Sentence::Deadlines(_, 0) => {
-                f.write_str("deadlines kept of accepted messages; queues aren't judged")
-            }
+            Sentence::Deadlines(_, 0) => f.write_str("deadlines kept of accepted messages"),
             Sentence::Deadlines(of, missed) => write!(f, "deadlines missed: {missed} of {of}"),
+            Sentence::Queues(judged) => write!(f, "{judged}"),
         }
     }
 }
@@ -178,11 +187,11 @@ fn period_at(traffic: &Traffic, place: usize) -> Option<u64>
     }
 }
 
-/// Writes the verdict on a plan, one line: whether its loads and its jitter are within their limits, and
-/// whether its ports keep their deadlines.
+/// Writes the verdict on a plan, one line: whether its loads and its jitter are within their limits, whether its ports
+/// keep their deadlines, and whether its queues suffice.
 pub fn write_verdict<W: Write>(writer: &mut W, assessment: &Assessment<'_>) -> io::Result<()> {
-    let [loads, jitter, deadlines] = assessment.verdict();
-    writeln!(writer, "{loads}, {jitter}, {deadlines}")
+    let [loads, jitter, deadlines, queues] = assessment.verdict();
+    writeln!(writer, "{loads}, {jitter}, {deadlines}, {queues}")
 }
 
 /// Writes a table of the ports: period, deadline, the wait by the queue, the wait by traffic, which of the
@@ -225,7 +234,7 @@ fn missed(row: &Row<'_>, without: &'static str) -> &'static str {
 /// The header of the rows for a spreadsheet.
 const HEADER: &str =
     "port,name,link,sub_vl,fragments,period_us,deadline_us,wait_queue_us,wait_traffic_us,holds,\
-    slack_us,missed,capacity,ports,greatest,bytes";
+    slack_us,missed,capacity,ports,greatest,bytes,need,suffices";
 
 /// Writes the rows for a spreadsheet, with a header: those of the ports, those of the sub-VLs, and the memory of the
 /// whole end system. A field that a row lacks is empty.
@@ -239,16 +248,16 @@ pub fn write_rows<W: Write + Drop>(
     out.end_record()?;
     for row in assessment.rows.iter() {
         write_fields(out, row)?;
-        skip(out, 4)?;
+        skip(out, 6)?;
         out.end_record()?;
     }
-    let memory = &assessment.analysis.memory;
-    for row in memory.subs.iter() {
-        write_sub(out, row)?;
+    for queue in assessment.queues.iter() {
+        write_sub(out, queue)?;
         out.end_record()?;
     }
     skip(out, 15)?;
-    put(out, memory.bytes)?;
+    put(out, assessment.analysis.memory.bytes)?;
+    skip(out, 2)?;
     out.end_record()?;
     out.flush()
 }
@@ -269,7 +278,8 @@ fn write_fields<W: Write + Drop>(out: &mut Writer<W>, row: &Row<'_>) -> Result<(
 }
 
 /// Writes the fields of a sub-VL.
-fn write_sub<W: Write + Drop>(out: &mut Writer<W>, row: &SubRow) -> Result<(), Error> {
+fn write_sub<W: Write + Drop>(out: &mut Writer<W>, queue: &Queue<'_>) -> Result<(), Error> {
+    let row = queue.sub;
     skip(out, 2)?;
     put(out, row.vl.0)?;
     put(out, row.sub)?;
@@ -277,7 +287,9 @@ fn write_sub<W: Write + Drop>(out: &mut Writer<W>, row: &SubRow) -> Result<(), E
     put(out, row.capacity)?;
     put(out, row.ports)?;
     put(out, row.greatest)?;
-    put(out, row.bytes)
+    put(out, row.bytes)?;
+    put(out, queue.need(""))?;
+    put(out, queue.word(""))
 }
 
 /// Writes empty fields.

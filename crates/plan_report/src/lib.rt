@@ -10,6 +10,7 @@ mod numbers;
 mod page;
 mod page_loads;
 mod page_waits;
+mod queues;
 mod time_line;
 mod traffic;
 
@@ -18,4 +19,5 @@ pub use assessment::{Assessment, senders_of, write_rows, write_traffic, write_ve
 pub use check_report::write_report;
 pub use html::{Cell, Parts};
 pub use page::{Digested, VERSION, write_head, write_page};
+pub use queues::write_queues;
 pub use traffic::{Demand, PERIOD_LIMIT, Traffic, TrafficFault, Wrong, no_traffic, read_traffic};

@@ -4,6 +4,7 @@ use crate::flow::write_flow;
 use crate::html::{Escaped, Time};
 use crate::page_loads::{write_links, write_memory, write_networks};
 use crate::page_waits::write_waits;
+use crate::queues::write_queue_table;
 use crate::time_line::write_time_line;
 use afdx_plan::Config;
 use std::io::{self, Write};
@@ -38,6 +39,9 @@ pub fn write_page<W: Write>(
     )?;
     write_networks(writer, assessment.analysis)?;
     write_waits(writer, assessment)?;
+    if assessment.has_traffic() {
+        write_queue_table(writer, assessment)?;
+    }
     write_time_line(writer, config, assessment)?;
     write_links(writer, assessment.analysis.links.as_slice())?;
     write_memory(writer, &assessment.analysis.memory)?;
@@ -135,6 +139,7 @@ th,td{border:0;padding:.1rem;white-space:normal;overflow-wrap:anywhere}tr{displa
 #networks tr{grid-template-columns:2fr 3fr 2fr 3fr}#networks td:nth-child(4){order:1}#networks td:last-child{order:2}
 #gaps tr,#leads tr{grid-template-columns:repeat(3,1fr)}
 #memory tr{grid-template-columns:repeat(6,1fr)}
+#queues tr{grid-template-columns:repeat(5,1fr)}
 #links tr{grid-template-columns:9fr 11fr 9fr 7fr 7fr 18fr 9fr 16fr}
 .without tr{grid-template-columns:5fr 5fr 5fr 8fr 8fr 9fr}.with tr{grid-template-columns:repeat(4,minmax(0,1fr))}
 .with td:first-child,.with th:first-child,.with .name,.with td:nth-child(11),.with th:nth-child(11){grid-row:1}

@@ -12,10 +12,10 @@ const PRECISION: u32 = 16;
 /// The most labels of an axis.
 const LABELS: u64 = 4;
 
-/// The premise of the waits by traffic, and what isn't judged.
+/// The premise of the waits by traffic, and what has none.
 const PREMISE: &str =
-    " The wait by traffic holds if two messages of a port are at least its period apart. Queues \
-    aren't judged: a message that a full queue refuses has no wait.";
+    " The wait by traffic holds if two messages of a port are at least its period apart. A message \
+    that a full queue refuses has no wait.";
 
 /// Writes the table of the ports: the columns of a traffic text only if there is one.
 pub(crate) fn write_waits<W: Write>(writer: &mut W, assessment: &Assessment<'_>) -> io::Result<()> {

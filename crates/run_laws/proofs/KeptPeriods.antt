@@ -1,4 +1,4 @@
--- How many fragments the ports of a sub-VL can have accepted in a time if they keep their periods.
+-- How many fragments, and how many messages, the ports of a sub-VL can have accepted in a time if they keep their periods.
 use Rattle.run_laws.proofs.Names.{ℕ, ◌≡◌, ◌⊎◌, ◌+◌, ◌-◌, ◌*◌, ◌≤◌, List, [], ◌∷◌, Bool, true, false, cond, ◌&&◌, ◌||◌, nat_le, nat_lt, nat_tests, arith, refl, sym, ap, ◌∙◌, subst, get_or, Option, Some, None, inl, inr, map, length, length-map, mul-le, All, All-head, All-tail, All-weaker, eq-eqb, Contains, Plan, IsPlan, link_plan_at, LinkPlan, PortPlan, room_of, IsAllowed, pieces_of, port_pieces, ◌/◌, filter, not, unwrap_or, IfSome, is_some, sum_by, get_or_default, All-filter, All-map, filter_passes, sum_by-filter_both, sum_by-cons, sum_by-le, port_plan_at, PortId, is_on, Sender, senders_on, have_periods, has_period, all_of_map, Arrival, AreApart, times_in, is_from, is_before}
 use Rattle.run_laws.proofs.Pieces.{own_pieces}
 
@@ -17,7 +17,7 @@ filter_all p [] all = refl
 filter_all {X = X} p (x ∷ xs) all =
     grind (arith, all 0 x (omega arith), filter_all p xs (All-tail (λ (y : X). p y ≡ true) x xs all))
 
-filter_swap : {X : Type 0} (p q : X → Bool) (xs : List X) → filter p (filter q xs) ≡ filter q (filter p xs)
+pub filter_swap : {X : Type 0} (p q : X → Bool) (xs : List X) → filter p (filter q xs) ≡ filter q (filter p xs)
 filter_swap p q [] = refl
 filter_swap {X = X} p q (x ∷ xs) = by_tests (filter_swap p q xs) (p x) (q x) refl refl
   where
@@ -121,21 +121,22 @@ same_port plan p r valid (i, below_i, is_p) (j, below_j, is_r) same =
     let one : i ≡ j = valid.ports_apart i j below_i below_j (ap of_port at_p ∙ (ap id_of same ∙ sym (ap of_port at_r))) in
     sym at_p ∙ (ap (port_plan_at plan.ports) one ∙ at_r)
 
--- the most fragments that senders on a sub-VL have accepted, by the most messages of each period
-abbrev pub most_of : LinkPlan → ℕ → (ℕ → ℕ) → List Sender → ℕ
-most_of link s bound [] = 0
-most_of link s bound (sender ∷ senders) =
-    cond (is_on link s sender.port) (port_pieces link sender.port * bound (unwrap_or sender.period 1)) 0 + most_of link s bound senders
+-- The most that senders on a sub-VL have accepted, by the size of a message of each port and the most messages of each
+-- period.
+abbrev pub most_of : (size : PortPlan → ℕ) → LinkPlan → ℕ → (ℕ → ℕ) → List Sender → ℕ
+most_of size link s bound [] = 0
+most_of size link s bound (sender ∷ senders) =
+    cond (is_on link s sender.port) (size sender.port * bound (unwrap_or sender.period 1)) 0 + most_of size link s bound senders
 
-pub most_is : {F : Type 0} (link : LinkPlan) (s : ℕ) (bound : ℕ → ℕ) (flow : Sender → F) (count : F → ℕ)
-    → ((d : Sender) → count (flow d) ≡ port_pieces link d.port * bound (unwrap_or d.period 1))
-    → (senders : List Sender) → sum_by count (map flow (senders_on link s senders)) ≡ most_of link s bound senders
-most_is link s bound flow count each [] = refl
-most_is link s bound flow count each (sender ∷ senders) = by_place (is_on link s sender.port) (most_is link s bound flow count each senders)
+pub most_is : {F : Type 0} (size : PortPlan → ℕ) (link : LinkPlan) (s : ℕ) (bound : ℕ → ℕ) (flow : Sender → F) (count : F → ℕ)
+    → ((d : Sender) → count (flow d) ≡ size d.port * bound (unwrap_or d.period 1))
+    → (senders : List Sender) → sum_by count (map flow (senders_on link s senders)) ≡ most_of size link s bound senders
+most_is size link s bound flow count each [] = refl
+most_is size link s bound flow count each (sender ∷ senders) = by_place (is_on link s sender.port) (most_is size link s bound flow count each senders)
   where
-    by_place : (b : Bool) → sum_by count (map flow (senders_on link s senders)) ≡ most_of link s bound senders
+    by_place : (b : Bool) → sum_by count (map flow (senders_on link s senders)) ≡ most_of size link s bound senders
         → sum_by count (map flow (cond b (sender ∷ senders_on link s senders) (senders_on link s senders)))
-        ≡ cond b (port_pieces link sender.port * bound (unwrap_or sender.period 1)) 0 + most_of link s bound senders
+        ≡ cond b (size sender.port * bound (unwrap_or sender.period 1)) 0 + most_of size link s bound senders
     by_place true rest = grind (arith, sum_by-cons, each sender)
     by_place false rest = omega arith
 
@@ -143,13 +144,18 @@ both_true : (b c : Bool) → (b && c) ≡ true → (b ≡ true) × (c ≡ true)
 both_true true c is = (refl, is)
 both_true false c is = absurd (cc)
 
-module _ (plan : Plan) (k s : ℕ) (valid : IsPlan plan) (wide : 8 ≤ room_of (link_plan_at plan.links k).lmax) (q u : ℕ) (bound : ℕ → ℕ)
-    (most : (p : ℕ) → 1 ≤ p → 1 + u / p ≤ bound p) where
+-- an arrival that its sub-VL may accept is no greater than a message of its port
+abbrev pub AreSized : Plan → (k s : ℕ) → (size : PortPlan → ℕ) → (weight : Arrival → ℕ) → Type 0
+AreSized plan k s size weight = (a : Arrival) → IsAllowed plan k s a.sent → weight a ≤ size a.sent.port
+
+pub pieces_sized : (plan : Plan) (k s : ℕ) → 8 ≤ room_of (link_plan_at plan.links k).lmax
+    → AreSized plan k s (port_pieces (link_plan_at plan.links k)) (weight_of (room_of (link_plan_at plan.links k).lmax))
+pieces_sized plan k s wide a allowed = own_pieces plan k s a.sent wide allowed
+
+module _ (plan : Plan) (k s : ℕ) (valid : IsPlan plan) (size : PortPlan → ℕ) (weight : Arrival → ℕ) (sized : AreSized plan k s size weight)
+    (q u : ℕ) (bound : ℕ → ℕ) (most : (p : ℕ) → 1 ≤ p → 1 + u / p ≤ bound p) where
   abbrev link : LinkPlan
   link = link_plan_at plan.links k
-
-  abbrev weight : Arrival → ℕ
-  weight = weight_of (room_of link.lmax)
 
   -- a message that the sub-VL accepted in the time
   pub record IsTimed (a : Arrival) : Type 0 where
@@ -160,7 +166,7 @@ module _ (plan : Plan) (k s : ℕ) (valid : IsPlan plan) (wide : 8 ≤ room_of (
   -- the fragments of one sender
   own_most : (sender : Sender) (arrivals : List Arrival) (b : Bool) (o : Option ℕ) → is_on link s sender.port ≡ b → sender.period ≡ o
       → IsKept plan.ports arrivals sender → (not b || is_some o) ≡ true → All IsTimed arrivals
-      → sum_by weight (filter (is_from sender.port) arrivals) ≤ cond b (port_pieces link sender.port * bound (unwrap_or o 1)) 0
+      → sum_by weight (filter (is_from sender.port) arrivals) ≤ cond b (size sender.port * bound (unwrap_or o 1)) 0
   own_most sender arrivals b o on is kept has timed = by_cases b o on is has
     where
       mine : List Arrival
@@ -177,7 +183,7 @@ module _ (plan : Plan) (k s : ℕ) (valid : IsPlan plan) (wide : 8 ≤ room_of (
       on_it a timed is = subst (λ (p : PortPlan). is_on link s p ≡ true) is (grind (arith, nat_tests, timed.allowed.queued.over, timed.allowed.queued.its))
 
       by_cases : (b : Bool) (o : Option ℕ) → is_on link s sender.port ≡ b → sender.period ≡ o → (not b || is_some o) ≡ true
-          → sum_by weight mine ≤ cond b (port_pieces link sender.port * bound (unwrap_or o 1)) 0
+          → sum_by weight mine ≤ cond b (size sender.port * bound (unwrap_or o 1)) 0
       by_cases false o on is has =
           let none = has_none mine (λ i d lt. (let yes = on_it (get_or mine i d) (its i d lt) (same i d lt) in cc)) in
           rw none (omega arith)
@@ -187,17 +193,17 @@ module _ (plan : Plan) (k s : ℕ) (valid : IsPlan plan) (wide : 8 ≤ room_of (
           let apart : AreApart p (times_in mine) = rw is at kept.apart in
           let count = spaced p q u (times_in mine) period apart (All-map (λ (n : ℕ). q ≤ n) (λ (a : Arrival). a.at) mine (λ i d lt. (its i d lt).from))
           (All-map (λ (n : ℕ). n ≤ q + u) (λ (a : Arrival). a.at) mine (λ i d lt. (its i d lt).by)) in
-          let size = length-map mine (λ (a : Arrival). a.at) in
-          let all = sum_by-le weight (port_pieces link sender.port) mine (λ i d lt. subst (λ (r : PortPlan). weight (get_or mine i d) ≤ port_pieces link r)
-          (same i d lt) (own_pieces plan k s (get_or mine i d).sent wide (its i d lt).allowed)) in
+          let many = length-map mine (λ (a : Arrival). a.at) in
+          let all = sum_by-le weight (size sender.port) mine (λ i d lt. subst (λ (r : PortPlan). weight (get_or mine i d) ≤ size r)
+          (same i d lt) (sized (get_or mine i d) (its i d lt).allowed)) in
           let enough = most p period in
-          let le = mul-le (length mine) (port_pieces link sender.port) (bound p) (port_pieces link sender.port) (omega arith) (omega arith) in
+          let le = mul-le (length mine) (size sender.port) (bound p) (size sender.port) (omega arith) (omega arith) in
           omega arith
 
   -- the messages of the ports of these senders
   pub by_senders : (senders : List Sender) (arrivals : List Arrival) → All (IsKept plan.ports arrivals) senders
       → have_periods link s senders ≡ true → All IsTimed arrivals → All (λ (a : Arrival). IsAmong a.sent.port senders) arrivals
-      → sum_by weight arrivals ≤ most_of link s bound senders
+      → sum_by weight arrivals ≤ most_of size link s bound senders
   by_senders [] arrivals kept periods timed among = rw (has_none arrivals among) (omega arith)
   by_senders (sender ∷ senders) arrivals kept periods timed among =
       let Kept : Sender → Type 0 = IsKept plan.ports arrivals in

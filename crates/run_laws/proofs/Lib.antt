@@ -14,3 +14,5 @@ pub mod Quiet
 pub mod KeptPeriods
 pub mod TrafficRun
 pub mod TrafficRows
+pub mod Backlog
+pub mod FullRun

@@ -3,10 +3,10 @@ pub use Rattle.std.proofs.Common.{Bool, List, None, Option, Some, [], ap, arith,
 pub use Rattle.std.proofs.lemmas.Bool.{and_from, both_ways, cases_eq, cases_lt, eq-eqb, false≢true, le-ltb, lt-ltb}
 pub use Rattle.std.proofs.lemmas.Bool.Decides.{nat_tests}
 pub use Rattle.std.proofs.lemmas.List.{append-nil, append_assoc, length-append, length-drop, length-map, map-append, take-append-drop, get_or_default, append_cancel_left}
-pub use Rattle.std.proofs.lemmas.List.Elements.{All-cons, All-drop, All-head, All-nil, All-tail, All-weaker, filter-append, All-filter, All-map, filter_passes, All-contains_itself, All-push}
-pub use Rattle.std.proofs.lemmas.Nat.{mul-le}
+pub use Rattle.std.proofs.lemmas.List.Elements.{All-cons, All-drop, All-head, All-nil, All-tail, All-weaker, filter-append, All-filter, All-map, filter_passes, All-contains_itself, All-push, All-append}
+pub use Rattle.std.proofs.lemmas.Nat.{le-div, mul-le}
 pub use Rattle.std.proofs.lemmas.Result.{on_ok_weaker}
-pub use Rattle.std.specs.Prelude.{All, Contains, slice_index, replicate, ◌/◌, filter, not, unwrap_or, IfSome, is_some, sum_by}
+pub use Rattle.std.specs.Prelude.{All, Contains, slice_index, replicate, ◌/◌, filter, not, unwrap_or, IfSome, is_some, sum_by, max, min}
 pub use native.Mathlib.Nat.{suc-mul}
 pub use Rattle.afdx_plan.specs.Config.{IsPlan, Plan, link_plan_at, link_place, port_plan_at}
 pub use Rattle.afdx_plan.specs.Plan.{bag_micros, bag_ms, room_of, step_of}
@@ -53,7 +53,7 @@ pub use Rattle.std.proofs.lemmas.List.Filters.{sum_by-filter_both}
 pub use Rattle.std.proofs.lemmas.List.Sums.{sum_by-cons, sum_by-le, sum_by-take-drop, sum_by_push, sum_by-append}
 pub use Rattle.afdx_plan.specs.declared.port_plan.PortId.{PortId}
 pub use Rattle.plan_analysis.specs.declared.traffic.Sender.{Sender}
-pub use Rattle.plan_analysis.specs.Traffic.{senders_on, have_periods, has_period, IsWaitByTraffic, arrived, arrived_before, flows_of, AreSendersOf, IsWaitOf, IsSubWait, flow_of, round_of}
+pub use Rattle.plan_analysis.specs.Traffic.{senders_on, have_periods, has_period, IsWaitByTraffic, IsBusyTime, arrived, arrived_before, flows_of, AreSendersOf, IsWaitOf, IsSubWait, IsBacklog, IsNeed, IsSubNeed, messages, greatest_message, places_at, wait_at as traffic_wait_at, flow_of, round_of}
 pub use Rattle.plan_analysis.proofs.Busy.{all_of_map, waits_by_traffic}
 pub use Rattle.run_laws.specs.TrafficInRun.{Arrival, AreApart, times_in, is_from, is_before, KeepPeriods, TrafficInRun, accepted_by, messages_in}
 pub use Rattle.afdx_tx.proofs.OwnLengths.{own_link}
@@ -69,9 +69,10 @@ pub use Rattle.vl_link.proofs.Choosing.{stream_more}
 pub use Rattle.vl_link.proofs.LinkTurn.{other_turn, turn_at}
 pub use Rattle.vl_shaper.specs.declared.shaper.Stamp.{Stamp}
 pub use Rattle.vl_shaper.proofs.Polled.{counted, released_in_time}
-pub use Rattle.std.proofs.Math.Nat.{lt-mul-div-succ, mul-div-le, mul_right_comm}
+pub use Rattle.std.proofs.Math.Nat.{div-le_self, div-mul-le_self, div-zero, lt-mul-div-succ, mul-div-le, mul_right_comm}
 pub use Rattle.plan_analysis.specs.KeptPeriods.{IsBusyUntil}
 pub use Rattle.afdx_plan.specs.declared.link_plan.Bag.{Bag}
 pub use Rattle.run_laws.specs.TrafficRow.{NeedsTraffic, TakesItsWait, byte_arrivals, byte_sender, byte_senders, other_sent, other_senders}
 pub use Rattle.std.proofs.lemmas.List.Folds.{Any-from_list_any, list_any_at}
 pub use Rattle.afdx_laws.specs.WorkedDelivery.{back_frame}
+pub use Rattle.run_laws.specs.NeverFull.{AsksAfter, NeverFull, asked_at, queued_of}

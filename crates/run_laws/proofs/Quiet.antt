@@ -1,5 +1,5 @@
 -- What the polls of a sub-VL whose ports keep periods release, from the last time on at which it had sent all.
-use Rattle.run_laws.proofs.Names.{ℕ, suc, zero, ◌≡◌, ◌+◌, ◌-◌, ◌*◌, ◌<◌, ◌≤◌, List, [], ◌∷◌, Bool, true, cond, nat_tests, arith, Option, Some, None, inl, inr, map, mul-le, cases_lt, cases_eq, IsLater, LinkPlan, users_among, Poll, is_of, released_by, AreServed, ServeUsers, AreTimely, last_after, Stamp, counted, passed_lt, ◌/◌, lt-mul-div-succ, mul-div-le, mul_right_comm, Sender, IsWaitByTraffic, arrived, arrived_before, flows_of, IsBusyUntil, waits_by_traffic}
+use Rattle.run_laws.proofs.Names.{ℕ, suc, zero, ◌≡◌, ◌+◌, ◌-◌, ◌*◌, ◌<◌, ◌≤◌, List, [], ◌∷◌, Bool, true, cond, nat_tests, arith, Option, Some, None, inl, inr, map, mul-le, cases_lt, cases_eq, IsLater, LinkPlan, users_among, Poll, is_of, released_by, AreServed, ServeUsers, AreTimely, last_after, Stamp, counted, passed_lt, ◌/◌, lt-mul-div-succ, mul-div-le, div-le_self, mul_right_comm, Sender, IsWaitByTraffic, IsBusyTime, subst, ap, arrived, arrived_before, flows_of, IsBusyUntil, waits_by_traffic}
 use Rattle.run_laws.proofs.Ran.{HasOwed, Rise, at_of, has_at, past_none, timely_rise}
 use Rattle.run_laws.proofs.Timely.{timely_released}
 
@@ -41,38 +41,92 @@ pub record AreOwed (owed : ℕ → ℕ) (link : LinkPlan) (s : ℕ) (senders : L
   pub kept_before : (q t : ℕ) → 1 ≤ t → owed (q + t) - owed q ≤ arrived_before (flows_of link s senders) t
   pub kept : (q : ℕ) → q ≤ at → total - owed q ≤ arrived (flows_of link s senders) (at - q)
 
--- From its last quiet time on, a sub-VL that sends a fragment each round has sent all within the wait by traffic.
-in_time : (round wait at total q gone : ℕ) (owed sent : ℕ → ℕ) (link : LinkPlan) (s : ℕ) (senders : List Sender) → 1 ≤ round
-    → IsWaitByTraffic round (flows_of link s senders) wait
-    → AreOwed owed link s senders at total → q ≤ at → owed q ≤ gone → ((t : ℕ) → q < t → t ≤ at → gone + sent t < owed t)
-    → ((f end : ℕ) → f ≤ total - gone → end ≤ at + wait → q + round * f ≤ end → f ≤ sent end)
-    → total ≤ gone + sent (at + wait)
-in_time round wait at total q gone owed sent link s senders turns of o by quiet busy timed =
-    let bound = (waits_by_traffic round (flows_of link s senders) wait (at - q) (λ t. owed (q + t) - owed q) (λ t. total - owed q) (λ t. t / round) turns of until).1 in
-    let le = mul-le round (total - gone) round (total - owed q) (omega arith) (omega arith) in
-    let all = timed (total - gone) (at + wait) (omega arith) (omega arith) (omega arith) in
-    omega arith
-  where
-    still_has : (t : ℕ) → 1 ≤ t → t ≤ at - q → t / round < owed (q + t) - owed q
-    still_has t some le = elim (cases_lt (t / round) (owed (q + t) - owed q)) [
-      | inl more ↦ more
-      | inr few ↦
-          let f : ℕ = owed (q + t) - gone in
-          let has = busy (q + t) (omega arith) (omega arith) in
-          let rounds = mul-le round f round (t / round) (omega arith) (omega arith) in
-          let below = mul-div-le t round in
-          let most = o.most (q + t) in
-          let sent_all = timed f (q + t) (omega arith) (omega arith) (omega arith) in
-          absurd (omega arith)
-    ]
+-- A sub-VL that had sent what was owed before `q`, and owed more since, until `at`. `gone` has how many fragments it has
+-- sent by each time. It sends one each round while it has some, up to a time.
+pub record IsQuietAt (round at until total q : ℕ) (owed gone : ℕ → ℕ) : Type 0 where
+  pub by : q ≤ at
+  pub quiet : owed q ≤ gone q
+  pub busy : (t : ℕ) → q < t → t ≤ at → gone t < owed t
+  pub timed : (f end : ℕ) → f ≤ total - gone q → end ≤ until → q + round * f ≤ end → gone q + f ≤ gone end
 
-    until : IsBusyUntil round (flows_of link s senders) (at - q) (λ t. owed (q + t) - owed q) (λ t. total - owed q) (λ t. t / round)
-    until = record {
-      kept_before = λ t some le. o.kept_before q t some;
-      kept = o.kept q by;
-      has = λ t some le. (still_has t some le, (let most = o.most (q + t) in omega arith));
-      sends = λ t few. lt-mul-div-succ t turns;
-    }
+module _ (round at until total q : ℕ) (owed gone : ℕ → ℕ) (link : LinkPlan) (s : ℕ) (senders : List Sender) (turns : 1 ≤ round)
+    (o : AreOwed owed link s senders at total) (quiet : IsQuietAt round at until total q owed gone) (long : at ≤ until) where
+  still_has : (t : ℕ) → 1 ≤ t → t ≤ at - q → t / round < owed (q + t) - owed q
+  still_has t some le = elim (cases_lt (t / round) (owed (q + t) - owed q)) [
+    | inl more ↦ more
+    | inr few ↦
+        let begin = quiet.quiet in
+        let f : ℕ = owed (q + t) - gone q in
+        let has = quiet.busy (q + t) (omega arith) (omega arith) in
+        let rounds = mul-le round f round (t / round) (omega arith) (omega arith) in
+        let below = mul-div-le t round in
+        let most = o.most (q + t) in
+        let sent_all = quiet.timed f (q + t) (omega arith) (omega arith) (omega arith) in
+        absurd (omega arith)
+  ]
+
+  -- all is sent within the wait by traffic
+  pub in_time : (wait : ℕ) → IsWaitByTraffic round (flows_of link s senders) wait → at + wait ≤ until → total ≤ gone (at + wait)
+  in_time wait of far =
+      let begin = quiet.quiet in
+      let soon = quiet.by in
+      let bound = (waits_by_traffic round (flows_of link s senders) wait (at - q) (λ t. owed (q + t) - owed q) (λ t. total - owed q) (λ t. t / round) turns of until_then).1 in
+      let le = mul-le round (total - gone q) round (total - owed q) (omega arith) (omega arith) in
+      let all = quiet.timed (total - gone q) (at + wait) (omega arith) far (omega arith) in
+      omega arith
+    where
+      until_then : IsBusyUntil round (flows_of link s senders) (at - q) (λ t. owed (q + t) - owed q) (λ t. total - owed q) (λ t. t / round)
+      until_then = record {
+        kept_before = λ t some le. o.kept_before q t some;
+        kept = o.kept q quiet.by;
+        has = λ t some le. (still_has t some le, (let most = o.most (q + t) in omega arith));
+        sends = λ t few. lt-mul-div-succ t turns;
+      }
+
+  -- `at` lies before the end of a longest busy time that starts then
+  pub in_busy : (busy : ℕ) → IsBusyTime round (flows_of link s senders) busy → at - q < busy
+  in_busy busy is = elim (cases_lt (at - q) busy) [
+    | inl before ↦ before
+    | inr late ↦
+        let has = still_has busy is.some late in
+        let kept = o.kept_before q busy is.some in
+        let below = lt-mul-div-succ busy turns in
+        let le = mul-le round (busy / round + 1) round (arrived_before (flows_of link s senders) busy) (omega arith) (omega arith) in
+        absurd (omega (arith, is.is))
+  ]
+
+  -- and a fragment is sent for each round since
+  pub sends_rounds : (owed q + (at - q) / round ≤ gone at) × (owed q + (at - q) / round ≤ total)
+  sends_rounds = elim (cases_lt 0 (at - q)) [
+    | inl some ↦
+        let begin = quiet.quiet in
+        let has = still_has (at - q) some (omega arith) in
+        let same : q + (at - q) ≡ at = omega arith in
+        let most = o.most at in
+        let few : (at - q) / round < owed at - owed q = subst (λ (t : ℕ). (at - q) / round < owed t - owed q) same has in (
+          elim (cases_lt (total - gone q) ((at - q) / round)) [
+            | inl less ↦
+                let rounds = mul-le round (total - gone q) round ((at - q) / round) (omega arith) (omega arith) in
+                let below = mul-div-le (at - q) round in
+                let all = quiet.timed (total - gone q) at (omega arith) long (omega arith) in
+                omega arith
+            | inr more ↦
+                let below = mul-div-le (at - q) round in
+                let all = quiet.timed ((at - q) / round) at more long (omega arith) in
+                omega arith
+          ],
+          omega arith,
+        )
+    | inr none ↦
+        let by = quiet.by in
+        let begin = quiet.quiet in
+        let most = o.most q in
+        let here : at ≡ q = omega arith in
+        let same : gone at ≡ gone q = ap gone here in
+        let below = mul-div-le (at - q) round in
+        let part : (at - q) / round ≤ at - q = div-le_self (at - q) round in
+        (omega arith, omega arith)
+  ]
 
 -- Polls after one at `before`, and the last release then: what is known of them at a sub-VL that sent this much.
 pub record AreAfter (gap subs : ℕ) (uses : ℕ → Bool) (x : ℕ) (owed : ℕ → ℕ) (late end before sent : ℕ) (last : Option Stamp)
@@ -88,69 +142,100 @@ later_after last before now (Some chosen) le after = omega arith
 later_after None before now None le after = tt
 later_after (Some l) before now None le after = omega arith
 
-module _ (gap subs : ℕ) (uses : ℕ → Bool) (x : ℕ) (owed : ℕ → ℕ) (late at wait total : ℕ) (link : LinkPlan) (s : ℕ) (senders : List Sender)
-    (xl : x < subs) (user : uses x ≡ true) (some : 1 ≤ gap) (o : AreOwed owed link s senders at total)
-    (of : IsWaitByTraffic (users_among subs uses * (gap + late)) (flows_of link s senders) wait) where
+module _ (gap subs : ℕ) (uses : ℕ → Bool) (x : ℕ) (owed : ℕ → ℕ) (late at until total : ℕ) (link : LinkPlan) (s : ℕ) (senders : List Sender)
+    (xl : x < subs) (user : uses x ≡ true) (some : 1 ≤ gap) (o : AreOwed owed link s senders at total) (long : at ≤ until) where
   abbrev After : ℕ → ℕ → Option Stamp → List Poll → Type 0
-  After before sent last polls = AreAfter gap subs uses x owed late (at + wait) before sent last polls
+  After before sent last polls = AreAfter gap subs uses x owed late until before sent last polls
 
   -- after a time by which the sub-VL has sent all, and until the message is accepted, it owes something
   abbrev IsBusyFrom : ℕ → ℕ → List Poll → Type 0
   IsBusyFrom q sent polls = (t : ℕ) → q < t → t ≤ at → sent + released_by x t polls < owed t
 
+  abbrev round : ℕ
+  round = users_among subs uses * (gap + late)
+
+  -- a fragment is sent each round after that time while some are left
+  abbrev IsTimed : ℕ → ℕ → List Poll → Type 0
+  IsTimed q sent polls = (f end : ℕ) → f ≤ total - (sent + released_by x q polls) → end ≤ until → q + round * f ≤ end
+      → released_by x q polls + f ≤ released_by x end polls
+
   -- all polls are after that time
-  after_quiet : (q before sent : ℕ) (last : Option Stamp) (polls : List Poll) → After before sent last polls → before ≤ q → q ≤ at
-      → Rise (suc q) polls → owed q ≤ sent → IsBusyFrom q sent polls → total ≤ sent + released_by x (at + wait) polls
-  after_quiet q before sent last polls run soon by rise quiet busy =
+  after_quiet : (q before sent : ℕ) (last : Option Stamp) (polls : List Poll) → After before sent last polls → before ≤ q
+      → Rise (suc q) polls → IsBusyFrom q sent polls → IsTimed q sent polls
+  after_quiet q before sent last polls run soon rise busy f end few less enough =
       let owes = has_busy x total at sent (suc q) owed polls rise (λ t low le. busy t (omega arith) le) o.all run.has in
-      let fewer = passed_lt subs uses x x xl user in
-      in_time (users_among subs uses * (gap + late)) wait at total q sent owed (λ t. released_by x t polls) link s senders
-      (mul-le 1 1 (users_among subs uses) (gap + late) (omega arith) (omega arith)) of o by quiet busy
-      (λ f end few less enough. (
+      let none = past_none x q (suc q) polls (omega arith) rise in
       let turned = mul_right_comm (users_among subs uses) f (gap + late) in
-      timely_released polls subs uses x f gap late before end last xl user some run.later run.served run.users
-      (has_at x f total sent polls few owes) (timely_less gap late (at + wait) end before (map at_of polls) less run.timely)
-      (omega arith)
-      ))
+      let sent_all = timely_released polls subs uses x f gap late before end last xl user some run.later run.served run.users
+      (has_at x f total sent polls (omega arith) owes) (timely_less gap late until end before (map at_of polls) less run.timely)
+      (omega arith) in
+      omega arith
 
   -- some polls are before it
-  from_quiet : (polls : List Poll) (q before sent : ℕ) (last : Option Stamp) → After before sent last polls → before ≤ q → q ≤ at
-      → owed q ≤ sent + released_by x q polls → IsBusyFrom q sent polls → total ≤ sent + released_by x (at + wait) polls
-  from_quiet [] q before sent last run soon by quiet busy = after_quiet q before sent last [] run soon by tt (omega arith) busy
-  from_quiet (p ∷ polls) q before sent last run soon by quiet busy = elim (cases_lt q p.at) [
+  from_quiet : (polls : List Poll) (q before sent : ℕ) (last : Option Stamp) → After before sent last polls → before ≤ q
+      → IsBusyFrom q sent polls → IsTimed q sent polls
+  from_quiet [] q before sent last run soon busy f end few less enough = after_quiet q before sent last [] run soon tt busy f end few less enough
+  from_quiet (p ∷ polls) q before sent last run soon busy f end few less enough = elim (cases_lt q p.at) [
     | inl past ↦
-        let rise = timely_rise gap late (at + wait) before (p ∷ polls) run.timely in
-        let none = past_none x q p.at (p ∷ polls) past (omega arith, rise.1) in
-        after_quiet q before sent last (p ∷ polls) run soon by (past, rise.1) (omega arith) busy
+        let rise = timely_rise gap late until before (p ∷ polls) run.timely in
+        after_quiet q before sent last (p ∷ polls) run soon (past, rise.1) busy f end few less enough
     | inr come ↦
         let c : ℕ = cond (is_of x p.released) 1 0 in
         let here = counted_soon x q p polls come in
-        let there = counted_soon x (at + wait) p polls (omega arith) in
+        let there = counted_soon x end p polls (omega arith) in
         let rest = from_quiet polls q p.at (sent + c) (last_after last p.at p.released) (record {
           later = later_after last before p.at p.released run.timely.0 run.later;
           served = run.served.1;
           users = run.users.1;
           timely = run.timely.2;
           has = run.has.1;
-        }) come by (omega arith) (λ t low le. (
+        }) come (λ t low le. (
         let more = busy t low le in
         let one = counted_soon x t p polls (omega arith) in
         omega arith
-        )) in
+        )) f end (omega arith) less enough in
         omega arith
   ]
 
-  -- The polls of a run from `start` on release all that is owed within the wait by traffic of the last message: the last
-  -- quiet time is looked for from `q` down.
-  pub traffic_released : (start sent : ℕ) (last : Option Stamp) (polls : List Poll) → After start sent last polls → owed start ≤ sent
-      → (more q : ℕ) → start + more ≡ q → q ≤ at → IsBusyFrom q sent polls → total ≤ sent + released_by x (at + wait) polls
-  traffic_released start sent last polls run quiet zero q is by busy =
-      from_quiet polls q start sent last run (omega arith) by (let same : q ≡ start = omega arith in rw same (omega arith)) busy
-  traffic_released start sent last polls run quiet (suc more) q is by busy = elim (cases_lt (sent + released_by x q polls) (owed q)) [
+  -- The last quiet time of a run from `start` on: it is looked for from `q` down.
+  pub last_quiet : (start sent : ℕ) (last : Option Stamp) (polls : List Poll) → After start sent last polls → owed start ≤ sent
+      → (more q : ℕ) → start + more ≡ q → q ≤ at → IsBusyFrom q sent polls
+      → (quiet : ℕ) × (start ≤ quiet) × IsQuietAt round at until total quiet owed (λ t. sent + released_by x t polls)
+  last_quiet start sent last polls run quiet zero q is by busy = (
+    q,
+    omega arith,
+    record {
+      by = by;
+      quiet = (let same : q ≡ start = omega arith in rw same (omega arith));
+      busy = busy;
+      timed = λ f end few less enough. (
+          let all = from_quiet polls q start sent last run (omega arith) busy f end few less enough in
+          omega arith
+          );
+    },
+  )
+  last_quiet start sent last polls run quiet (suc more) q is by busy = elim (cases_lt (sent + released_by x q polls) (owed q)) [
     | inl some ↦
-        traffic_released start sent last polls run quiet more (q - 1) (omega arith) (omega arith) (λ t low le. elim (cases_eq t q) [
+        last_quiet start sent last polls run quiet more (q - 1) (omega arith) (omega arith) (λ t low le. elim (cases_eq t q) [
           | inl here ↦ rw here some
           | inr not ↦ busy t (omega arith) le
         ])
-    | inr all ↦ from_quiet polls q start sent last run (omega arith) by all busy
+    | inr all ↦ (
+      q,
+      omega arith,
+      record {
+        by = by;
+        quiet = all;
+        busy = busy;
+        timed = λ f end few less enough. (
+            let rest = from_quiet polls q start sent last run (omega arith) busy f end few less enough in
+            omega arith
+            );
+      },
+    )
   ]
+
+  pub some_round : 1 ≤ round
+  some_round =
+      let fewer = passed_lt subs uses x x xl user in
+      mul-le 1 1 (users_among subs uses) (gap + late) (omega arith) (omega arith)

@@ -1,5 +1,5 @@
 -- The worked runs of the law of a message whose sub-VL's ports keep periods, by computation.
-use Rattle.run_laws.proofs.Names.{ℕ, zero, suc, ◌≡◌, ◌≢◌, ◌∙◌, sym, Some, List, [], ◌∷◌, ◌++◌, length, refl, ap, arith, inl, inr, A, blanked, cutting, fragments_at, addresses, header_front, internet_header, link_header, udp_header, datagram, unnumbered, log, IsPrefixOf, PortPlan, Passes, Released, below_one, cons_parts, held_at, stream_at, FindsIt, fragments_of, seen_of, port_plan_at, AreSendersOf, IsWaitByTraffic, IsWaitOf, ReceiverView, after_take, GivesFrame, IsSameSub, gave_same, moves_of, same_sub_here, same_sub_on, AreReleasedBy, AreApart, KeepPeriods, NeedsTraffic, TakesItsWait, byte_arrivals, byte_sender, byte_senders, other_sent, other_senders, byte_line, byte_plan, bytes_accepted, no_line, other_frame, short_sent, tight_link, fresh, three_plan, line_after}
+use Rattle.run_laws.proofs.Names.{ℕ, zero, suc, ◌≡◌, ◌≢◌, ◌∙◌, sym, List, [], ◌∷◌, ◌++◌, length, refl, ap, arith, inl, inr, A, blanked, cutting, fragments_at, addresses, header_front, internet_header, link_header, udp_header, datagram, unnumbered, log, IsPrefixOf, PortPlan, Passes, Released, below_one, cons_parts, held_at, stream_at, FindsIt, fragments_of, seen_of, port_plan_at, AreSendersOf, IsWaitByTraffic, IsWaitOf, ReceiverView, after_take, GivesFrame, IsSameSub, gave_same, moves_of, same_sub_here, same_sub_on, AreReleasedBy, AreApart, KeepPeriods, NeedsTraffic, TakesItsWait, byte_arrivals, byte_sender, byte_senders, other_sent, other_senders, byte_line, byte_plan, bytes_accepted, no_line, other_frame, short_sent, tight_link, fresh, three_plan, line_after}
 use Rattle.afdx_frame.specs.Checksum.{checksum}
 use Rattle.run_laws.proofs.EmitterRuns.{finding, polls_by, waits_its_turn}
 use Rattle.run_laws.proofs.NeededRuns.{begins, held, in_time, misses_late, misses_second, needs_its_premises, one_is, other_bytes, sends}
@@ -30,7 +30,7 @@ takes_its_wait = record {
 }
 
 -- one fragment each 1,000 microseconds, with a round of 1,000
-byte_wait : IsWaitByTraffic 1000 (record { fragments = 1; period = 1000 } ∷ []) 1000
+pub byte_wait : IsWaitByTraffic 1000 (record { fragments = 1; period = 1000 } ∷ []) 1000
 byte_wait = record {
   busy = 1000;
   is_busy = record { some = omega arith; is = refl; least = λ t some is. grind arith };
@@ -38,7 +38,7 @@ byte_wait = record {
   most = λ t le. grind arith;
 }
 
-wait_is : IsWaitOf 0 byte_plan byte_senders byte_sender (Some 1000)
+wait_is : IsWaitOf 0 byte_plan byte_senders byte_sender 1000
 wait_is = (refl, byte_wait)
 
 longer : IsWaitByTraffic 1000 (record { fragments = 1; period = 1000 } ∷ []) 999 → ⊥
@@ -53,7 +53,7 @@ foreign_is of =
     let same : ◌≡◌ {A = ℕ} 11 10 = ap id_of of.ports in
     absurd (omega arith)
 
-foreign_wait : IsWaitOf 0 byte_plan other_senders byte_sender (Some 1000)
+foreign_wait : IsWaitOf 0 byte_plan other_senders byte_sender 1000
 foreign_wait = (refl, byte_wait)
 
 foreign_keep : KeepPeriods other_senders 0 (byte_arrivals (0 ∷ 0 ∷ []))

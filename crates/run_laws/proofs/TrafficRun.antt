@@ -1,9 +1,9 @@
 -- The law of a message in a run of polls if the ports of its sub-VL keep periods.
-use Rattle.run_laws.proofs.Names.{all_back, ℕ, suc, zero, ◌≡◌, ◌+◌, ◌-◌, ◌<◌, ◌≤◌, List, [], ◌∷◌, ◌++◌, true, Bool, nat_tests, append-nil, pieces_of, arith, sym, ap, subst, None, Some, Entry, inl, inr, map, length, append_assoc, map-append, lt-ltb, refl, All, All-cons, All-head, All-nil, All-tail, All-weaker, Contains, Plan, IsPlan, link_plan_at, link_place, LinkPlan, PortPlan, bag_micros, room_of, A, Sent, IsAllowed, has_port, latest, AreTimely, stream_at, fragments_of, seen_of, ◌/◌, filter, not, sum_by, div_ceil, All-contains_itself, All-filter, All-push, filter_passes, sum_by-filter_both, sum_by-append, sum_by-cons, own_link, Sender, AreSendersOf, IsSubWait, IsWaitOf, arrived, arrived_before, flow_of, flows_of, have_periods, round_of, all_of_map, Arrival, AreApart, KeepPeriods, TrafficInRun, accepted_by, is_before, messages_in, times_in}
-use Rattle.run_laws.proofs.KeptPeriods.{IsAmong, IsKept, IsTimed, by_senders, filter_all, has_none, is_within, most_is, most_of, still_kept, sum_between, weight_of}
+use Rattle.run_laws.proofs.Names.{all_back, ℕ, suc, zero, ◌≡◌, ◌+◌, ◌-◌, ◌*◌, ◌<◌, ◌≤◌, List, [], ◌∷◌, ◌++◌, true, Bool, nat_tests, append-nil, pieces_of, port_pieces, arith, sym, ap, subst, None, Entry, inl, inr, map, length, append_assoc, map-append, lt-ltb, refl, All, All-cons, All-head, All-nil, All-tail, All-weaker, Contains, Plan, IsPlan, link_plan_at, link_place, LinkPlan, PortPlan, bag_micros, room_of, A, Sent, IsAllowed, has_port, users_among, released_by, latest, AreTimely, stream_at, fragments_of, seen_of, ◌/◌, filter, not, sum_by, div_ceil, All-contains_itself, All-filter, All-push, filter_passes, sum_by-filter_both, sum_by-append, sum_by-cons, own_link, Sender, AreSendersOf, IsSubWait, IsWaitOf, arrived, arrived_before, flow_of, flows_of, have_periods, round_of, all_of_map, Arrival, AreApart, KeepPeriods, TrafficInRun, accepted_by, is_before, messages_in, times_in}
+use Rattle.run_laws.proofs.KeptPeriods.{IsAmong, IsKept, IsTimed, by_senders, filter_all, has_none, is_within, most_is, most_of, pieces_sized, still_kept, sum_between, weight_of}
 use Rattle.run_laws.proofs.MessageRun.{are_known, by_polls, finding_steps, wide_room}
 use Rattle.run_laws.proofs.Pieces.{fragments_count, pieces_in}
-use Rattle.run_laws.proofs.Quiet.{AreOwed, traffic_released}
+use Rattle.run_laws.proofs.Quiet.{AreOwed, in_time, last_quiet, some_round}
 use Rattle.run_laws.proofs.Ran.{at_of, have_run, some_gap, timely_rise}
 
 -- what holds of all times holds of the last one
@@ -19,7 +19,7 @@ by_last (a ∷ earlier) own apart =
     let after : a.at + 0 ≤ own.at = last_of (λ (n : ℕ). a.at + 0 ≤ n) earlier own apart.0 in
     All-cons (λ (b : Arrival). b.at ≤ own.at) a (earlier ++ own ∷ []) (omega arith) (by_last earlier own apart.1)
 
-among_of : (port : PortPlan) (senders : List Sender) → Contains (map (λ (s : Sender). s.port) senders) port → IsAmong port senders
+pub among_of : (port : PortPlan) (senders : List Sender) → Contains (map (λ (s : Sender). s.port) senders) port → IsAmong port senders
 among_of port [] (k, lt, is) = absurd (omega arith)
 among_of port (sender ∷ senders) (zero, lt, is) = inl (sym is)
 among_of port (sender ∷ senders) (suc k, lt, is) = inr (among_of port senders (k, omega arith, is))
@@ -50,7 +50,7 @@ module _ (plan : Plan) (k s : ℕ) (valid : IsPlan plan) (wide : 8 ≤ room_of (
   total = length (fragments_of plan k (before ++ messages_in arrivals))
 
   -- what was accepted with these arrivals, in fragments
-  count_is : (came : List Arrival) → length (fragments_of plan k (before ++ messages_in came))
+  pub count_is : (came : List Arrival) → length (fragments_of plan k (before ++ messages_in came))
       ≡ pieces_in (room_of link.lmax) before + sum_by weight came
   count_is came =
       let room : ℕ = room_of link.lmax in
@@ -79,8 +79,8 @@ module _ (plan : Plan) (k s : ℕ) (valid : IsPlan plan) (wide : 8 ≤ room_of (
     kept = λ q le. (
         let whole = all_owed at (q + suc (at - q)) by (omega arith) in
         let few = window q (at - q) (λ p. 1 + (at - q) / p) (λ p step. omega arith) in
-        let same : arrived (flows_of link s senders) (at - q) ≡ most_of link s (λ p. 1 + (at - q) / p) senders =
-        most_is link s (λ p. 1 + (at - q) / p) (flow_of link) _ (λ d. refl) senders in
+        let same : arrived (flows_of link s senders) (at - q) ≡ most_of (port_pieces link) link s (λ p. 1 + (at - q) / p) senders =
+        most_is (port_pieces link) link s (λ p. 1 + (at - q) / p) (flow_of link) _ (λ d. refl) senders in
         omega arith
         );
   }
@@ -92,17 +92,17 @@ module _ (plan : Plan) (k s : ℕ) (valid : IsPlan plan) (wide : 8 ≤ room_of (
           (subst (λ (ports : List PortPlan). Contains ports a.sent.port) (sym of.ports) is.queued.port)) arrivals allowed
 
       window : (q u : ℕ) (bound : ℕ → ℕ) → ((p : ℕ) → 1 ≤ p → 1 + u / p ≤ bound p)
-          → owed (q + suc u) - owed q ≤ most_of link s bound senders
+          → owed (q + suc u) - owed q ≤ most_of (port_pieces link) link s bound senders
       window q u bound most =
           let within : Arrival → Bool = is_within q (suc u) in
-          let timed : All (IsTimed plan k s valid wide q u bound most) (filter within arrivals) = λ i a lt.
+          let timed : All (IsTimed plan k s valid (port_pieces link) weight (pieces_sized plan k s wide) q u bound most) (filter within arrivals) = λ i a lt.
           let test = filter_passes within arrivals i a lt in
           record {
             allowed = All-filter within (λ (d : Arrival). IsAllowed plan k s d.sent) arrivals allowed i a lt;
             from = grind (arith, nat_tests);
             by = grind (arith, nat_tests);
           } in
-          let few = by_senders plan k s valid wide q u bound most senders (filter within arrivals)
+          let few = by_senders plan k s valid (port_pieces link) weight (pieces_sized plan k s wide) q u bound most senders (filter within arrivals)
           (All-weaker (IsKept plan.ports arrivals) (IsKept plan.ports (filter within arrivals)) (still_kept plan.ports within arrivals) senders kept)
           periods timed (All-filter within (λ (a : Arrival). IsAmong a.sent.port senders) arrivals among) in
           let more = sum_between weight q (suc u) arrivals in
@@ -114,8 +114,8 @@ module _ (plan : Plan) (k s : ℕ) (valid : IsPlan plan) (wide : 8 ≤ room_of (
       kept_before q zero some = absurd (omega arith)
       kept_before q (suc u) some =
           let few = window q u (λ p. div_ceil (suc u) p) (λ p step. ceil_most u p step) in
-          let same : arrived_before (flows_of link s senders) (suc u) ≡ most_of link s (λ p. div_ceil (suc u) p) senders =
-          most_is link s (λ p. div_ceil (suc u) p) (flow_of link) _ (λ d. refl) senders in
+          let same : arrived_before (flows_of link s senders) (suc u) ≡ most_of (port_pieces link) link s (λ p. div_ceil (suc u) p) senders =
+          most_is (port_pieces link) link s (λ p. div_ceil (suc u) p) (flow_of link) _ (λ d. refl) senders in
           omega arith
 
   -- nothing was accepted since, before the start
@@ -130,7 +130,7 @@ module _ (plan : Plan) (k s : ℕ) (valid : IsPlan plan) (wide : 8 ≤ room_of (
       rw none (rw append-nil refl)
 
 -- the senders of a plan keep their periods
-are_kept : (plan : Plan) (senders : List Sender) (start : ℕ) (arrivals : List Arrival) → AreSendersOf plan senders → KeepPeriods senders start arrivals
+pub are_kept : (plan : Plan) (senders : List Sender) (start : ℕ) (arrivals : List Arrival) → AreSendersOf plan senders → KeepPeriods senders start arrivals
     → All (IsKept plan.ports arrivals) senders
 are_kept plan senders start arrivals of keeps i d lt =
     let ports : All (Contains plan.ports) (map (λ (s : Sender). s.port) senders) =
@@ -151,10 +151,10 @@ all_allowed plan k s before earlier own all is =
 
 -- the wait of a port is one of its sub-VL
 own_wait : (plan : Plan) (senders : List Sender) (sender : Sender) (port : PortPlan) (k s late wait : ℕ) → sender.port ≡ port
-    → link_place plan port ≡ k → port.sub ≡ s → IsWaitOf late plan senders sender (Some wait)
-    → IsSubWait (round_of late plan (link_plan_at plan.links k)) (link_plan_at plan.links k) s senders (Some wait)
+    → link_place plan port ≡ k → port.sub ≡ s → IsWaitOf late plan senders sender wait
+    → IsSubWait (round_of late plan (link_plan_at plan.links k)) (link_plan_at plan.links k) s senders wait
 own_wait plan senders sender port k s late wait same place its is =
-    let ByLink : ℕ → ℕ → Type 0 = λ j t. IsSubWait (round_of late plan (link_plan_at plan.links j)) (link_plan_at plan.links j) t senders (Some wait) in
+    let ByLink : ℕ → ℕ → Type 0 = λ j t. IsSubWait (round_of late plan (link_plan_at plan.links j)) (link_plan_at plan.links j) t senders wait in
     subst (λ (t : ℕ). ByLink k t) its (subst (λ (j : ℕ). ByLink j port.sub) place
     (subst (λ (p : PortPlan). ByLink (link_place plan p) p.sub) same is))
 
@@ -180,9 +180,16 @@ traffic_in_run_holds plan senders accepted moments lines after k s late start wa
     (finding_steps plan accepted k s owed valid is.link (λ now. (let few = all.most now in let most = known.most in omega arith)) known.queued) finding stands in
     let when : AreTimely (bag_micros link.bag) late (own.at + wait) start (map at_of run.polls) = rw run.at timely in
     let from : start + 0 ≤ own.at = last_of (λ (n : ℕ). start + 0 ≤ n) earlier own keeps.ordered.0 in
-    let enough = traffic_released (bag_micros link.bag) link.sub_vls (has_port link plan.ports) s owed late own.at wait total link s senders
-    is.sub known.user (some_gap link.bag) all traffic.1 start (length (seen_of s S)) (latest None S) run.polls
+    let subs : ℕ = link.sub_vls in
+    let uses : ℕ → Bool = has_port link plan.ports in
+    let gap : ℕ = bag_micros link.bag in
+    let quiet_at = last_quiet gap subs uses s owed late own.at (own.at + wait) total link s senders is.sub known.user (some_gap link.bag) all
+    (omega arith) start (length (seen_of s S)) (latest None S) run.polls
     (record { later = last; served = run.served; users = run.users; timely = when; has = run.had })
     (omega arith) (own.at - start) own.at (omega arith) (omega arith) (λ t past le. absurd (omega arith)) in
+    let enough = in_time (users_among subs uses * (gap + late)) own.at (own.at + wait) total quiet_at.0 owed
+    (λ t. length (seen_of s S) + released_by s t run.polls) link s senders
+    (some_round gap subs uses s owed late own.at (own.at + wait) total link s senders is.sub known.user (some_gap link.bag) all (omega arith))
+    all quiet_at.2 (omega arith) wait traffic.1 (omega arith) in
     by_polls plan accepted k s (own.at + wait) start (before ++ messages_in earlier) own.sent later run.polls run.added lines after is
     (timely_rise (bag_micros link.bag) late (own.at + wait) start run.polls when) run.show run.grown begins enough

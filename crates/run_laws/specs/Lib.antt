@@ -3,3 +3,4 @@ pub mod WorkedRun
 pub mod MessageInRun
 pub mod TrafficInRun
 pub mod TrafficRow
+pub mod NeverFull

@@ -1,5 +1,5 @@
 -- How long an accepted message waits in a run of polls if each port of its sub-VL keeps a period.
-use Rattle.std.specs.Prelude.{ℕ, ◌≡◌, ◌⊎◌, ◌+◌, ◌≤◌, true, Bool, List, [], ◌∷◌, ◌++◌, length, map, filter, All, nat_eq, nat_lt, None, Some, IfSome}
+use Rattle.std.specs.Prelude.{ℕ, ◌≡◌, ◌⊎◌, ◌+◌, ◌≤◌, true, Bool, List, [], ◌∷◌, ◌++◌, length, map, filter, All, nat_eq, nat_lt, None, IfSome}
 use Rattle.afdx_plan.specs.Config.{Plan, IsPlan, link_plan_at}
 use Rattle.afdx_plan.specs.Plan.{bag_micros}
 use Rattle.afdx_plan.specs.declared.port_plan.PortPlan.{PortPlan}
@@ -64,7 +64,7 @@ abbrev pub TrafficInRun : Type 0
 TrafficInRun = (plan : Plan) (senders : List Sender) (accepted : Accepted) (moments : List ℕ) (lines after : Lines)
     (k s late start wait : ℕ) (before : List Sent) (earlier : List Arrival) (own : Arrival) (later : List Sent)
     (sender : Sender) → IsPlan plan → AreSendersOf plan senders → sender.port ≡ own.sent.port
-    → IsWaitOf late plan senders sender (Some wait)
+    → IsWaitOf late plan senders sender wait
     → IsAccepted plan accepted k s (before ++ messages_in earlier) own.sent later
     → IsLater (latest None (stream_at plan k lines)) start
     → seen_of s (stream_at plan k lines) ≡ fragments_of plan k before

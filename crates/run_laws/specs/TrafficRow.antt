@@ -34,7 +34,7 @@ third_arrival = accepted_at 3000 (short_sent 1) ∷ []
 -- traffic is 9,000, one round of three sub-VLs, and the message is released at exactly 12,000.
 pub record TakesItsWait : Type 0 where
   pub senders : AreSendersOf three_plan three_senders
-  pub wait : IsWaitOf 2000 three_plan three_senders (sender_of 9000) (Some 9000)
+  pub wait : IsWaitOf 2000 three_plan three_senders (sender_of 9000) 9000
   pub run : WaitsItsTurn
   pub quiet : seen_of 1 (stream_at three_plan 0 (line_after 2)) ≡ fragments_of three_plan 0 (short_sent 1 ∷ [])
   pub keep : KeepPeriods three_senders 3000 third_arrival
@@ -72,7 +72,7 @@ Unless failing premise P = Holds (not (nat_eq failing premise)) P
 pub record ArrivalCase (failing : ℕ) (senders : List Sender) (wait many before start : ℕ) (earlier : List ℕ)
     (at now : ℕ) (lines after : Lines) : Type 0 where
   pub senders_are : Unless failing 0 (AreSendersOf byte_plan senders)
-  pub wait_is : Unless failing 1 (IsWaitOf 0 byte_plan senders byte_sender (Some wait))
+  pub wait_is : Unless failing 1 (IsWaitOf 0 byte_plan senders byte_sender wait)
   pub accepted : Unless failing 2 (IsAccepted byte_plan (bytes_accepted many) 0 0
       (replicate before (short_sent 0) ++ messages_in (byte_arrivals earlier)) (short_sent 0) [])
   pub starts : Unless failing 3 (IsLater (latest None (stream_at byte_plan 0 lines)) start)

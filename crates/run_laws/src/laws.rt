@@ -61,7 +61,7 @@ pub fn message_in_run()
 {}
 
 /// An accepted message is wholly released within the wait by traffic of its port, if each port of its sub-VL keeps a
-/// period, whatever the other sub-VLs send. `plan_analysis::traffic_waits` computes that wait.
+/// period, whatever the other sub-VLs send. `plan_analysis::traffic_bounds` computes that wait.
 ///
 /// The run starts at a time at which the sub-VL has sent all that it accepted, for example when the end system opens.
 /// The wait starts when the message is accepted, at any time of the run. Premises:

@@ -1,6 +1,6 @@
 use Rattle.plan_analysis.proofs.Names.{◌+◌, ◌-◌, busy_limit}
 use Rattle.plan_analysis.proofs.Busy.{IsBefore}
-use Rattle.plan_analysis.proofs.traffic.busy_rounds.Given as goal
+use Rattle.plan_analysis.proofs.busy_time.busy_rounds.Given as goal
 
 abbrev pub invariant-loop-rounds : goal.invariant-loop-rounds
 invariant-loop-rounds l = IsBefore l.round l.flows l.rounds

@@ -1,0 +1,10 @@
+use Rattle.plan_analysis.proofs.Names.{◌≡◌, ◌*◌, ◌≤◌, take, arrived, messages}
+use Rattle.plan_analysis.proofs.busy_time.handed_by.Given as goal
+
+abbrev pub invariant-loop-flow : goal.invariant-loop-flow
+invariant-loop-flow l = record {
+  fragments : l.fragments ≡ arrived (take l.flow-index l.flows) l.time;
+  messages : l.messages ≡ messages (take l.flow-index l.flows) l.time;
+  bound : l.fragments ≤ 202257727488342 * l.flow-index;
+  few : l.messages ≤ 591396864001 * l.flow-index;
+}
