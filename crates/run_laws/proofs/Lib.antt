@@ -16,3 +16,4 @@ pub mod TrafficRun
 pub mod TrafficRows
 pub mod Backlog
 pub mod FullRun
+pub mod FullRows

@@ -76,3 +76,7 @@ pub use Rattle.run_laws.specs.TrafficRow.{NeedsTraffic, TakesItsWait, byte_arriv
 pub use Rattle.std.proofs.lemmas.List.Folds.{Any-from_list_any, list_any_at}
 pub use Rattle.afdx_laws.specs.WorkedDelivery.{back_frame}
 pub use Rattle.run_laws.specs.NeverFull.{AsksAfter, NeverFull, asked_at, queued_of}
+pub use Rattle.run_laws.specs.FullRow.{AskCase, FullCase, FillsItsQueue, NeedsPlaces, load_at, accepted_so, asking_port, full_port, each, other_each}
+pub use Rattle.subvl_queue.specs.Views.{QueueName}
+pub use Rattle.afdx_tx.specs.Ports.{Refuses}
+pub use Rattle.afdx_tx.specs.declared.fault.Refusal.TheVariants.{Full}

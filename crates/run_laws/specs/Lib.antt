@@ -4,3 +4,4 @@ pub mod MessageInRun
 pub mod TrafficInRun
 pub mod TrafficRow
 pub mod NeverFull
+pub mod FullRow

@@ -1,5 +1,7 @@
 //! Laws over runs of polls. The functions are empty: each contract is a law.
 ghost use Rattle.run_laws.specs.MessageInRun.{MessageInRun, ApartAreTimely};
+ghost use Rattle.run_laws.specs.NeverFull.{NeverFull};
+ghost use Rattle.run_laws.specs.FullRow.{FillsItsQueue, NeedsPlaces};
 ghost use Rattle.run_laws.specs.Runs.{NextInRun, KeptReady};
 ghost use Rattle.run_laws.specs.TrafficInRun.{TrafficInRun};
 ghost use Rattle.run_laws.specs.TrafficRow.{TakesItsWait, NeedsTraffic};
@@ -83,4 +85,27 @@ pub fn traffic_in_run()
     // release; a sub-VL that owes a fragment at the start; a period that isn't kept; a message before the start; a poll
     // that doesn't find the message; an emitter that sends another; networks that are down; a late poll
     ensures needed { NeedsTraffic }
+{}
+
+/// A port isn't refused as full if the queue of its sub-VL has the places that the traffic needs, whatever the other
+/// sub-VLs send. `plan_analysis::traffic_bounds` computes that need.
+///
+/// That is, what `Full` says in the contract of `TxPort::send_slice` (`refused`, `Refuses`: the request found at least
+/// as many messages held and requests under way as the capacity) can't hold of a request that finds no more than there
+/// are: the accepted messages of which no fragment is released, and the requests of other ports that are under way.
+/// Premises, beside those of `traffic_in_run`, whose run this is:
+///
+/// - Each request that is under way counts as a message of its port at that time (`KeepPeriods`), so that a port has
+///   one at most, and none sooner than its period after its last message.
+/// - Polls are timely until the microsecond before: one that is due at the time of the request may come after it.
+pub fn never_full()
+    ensures never { NeverFull }
+
+    // a request that takes the last place
+    ensures worked { FillsItsQueue }
+
+    // senders that aren't those of the plan; a need that is one too small; a queue that is; a message that isn't
+    // accepted; a start before the last release; a sub-VL that owes a fragment at the start; a period that isn't kept;
+    // two threads; a poll that doesn't find the message; networks that are down; no poll
+    ensures needed { NeedsPlaces }
 {}
