@@ -17,8 +17,8 @@ use std::fs::File;
 use std::io::{self, Write};
 use std::path::Path;
 
-/// Writes the verdict, the loads, the jitter, the longest waits and the queues of a plan; and before that the page and the
-/// rows to their files. If the traffic has faults, writes these alone.
+/// Writes the verdict, the loads, the jitter, the longest waits and the queues of a plan; and before that the
+/// page and the rows to their files. If the traffic has faults, writes these alone.
 pub fn report<'a, W: Write>(
     rt: &HostRuntime,
     asked: &'a Asked,

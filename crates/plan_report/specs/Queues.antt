@@ -10,7 +10,8 @@ suffices_by capacity (Found worst) = Some (nat_le worst.need capacity)
 suffices_by capacity Overloaded = Some false
 suffices_by capacity TooLong = Some false
 
--- whether a queue of this capacity has the places that its traffic needs; `None` if there is no port, or one has no period
+-- Whether a queue of this capacity has the places that its traffic needs. `None` if there is no port, or one has no
+-- period.
 abbrev pub suffices : (capacity : ℕ) → Option Bound → Option Bool
 suffices capacity None = None
 suffices capacity (Some bound) = suffices_by capacity bound
