@@ -9,11 +9,12 @@ use std::io::{self, Write};
 const LINE: usize = 12;
 
 // What is before the bytes in a file of C, and what is after them.
-const FRONT: &str = "/* The table of a plan, made by afdx_bench compile. */\n#include <stddef.h>\n#include <stdint.h>\n\n\
+const FRONT: &str =
+    "/* The table of a plan, made by afdx_bench compile. */\n#include <stddef.h>\n#include <stdint.h>\n\n\
     extern const uint8_t afdx_plan_table[];\nextern const size_t afdx_plan_table_length;\n\n\
     const uint8_t afdx_plan_table[] = {";
-const BACK: &str =
-    "\n};\nconst size_t afdx_plan_table_length = sizeof afdx_plan_table;\n";
+
+const BACK: &str = "\n};\nconst size_t afdx_plan_table_length = sizeof afdx_plan_table;\n";
 
 /// Writes the table of a plan; or, if a file is named, a file of C that has it.
 pub fn compile<'a, W: Write>(
