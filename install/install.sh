@@ -50,6 +50,12 @@ trap 'rm -r "$room"' EXIT
 # One archive, which includes the kit's part of the C library. That allocates by malloc.
 cp crates/afdx/out/libafdx.a "$room/libafdx.a"
 (cd "$room" && ${AR:-ar} x "$kit/c/liblibc_c.a" && ${AR:-ar} qs libafdx.a ./*.o)
+# An archive of the calls that read no text and no recording, without the calls for memory, which a partition has.
+(cd "$room" && ${AR:-ar} x "$OLDPWD/crates/afdx/out/libafdx.a" && mkdir core
+    ${NM:-nm} -g --defined-only ./afdx*.o | sed -n 's/.* T \(afdx_.*\)$/-u \1/p' |
+        grep -v -x -e '-u afdx_open' -e '-u afdx_explain' -e '-u afdx_script_line' -e '-u afdx_judge' -e '-u afdx_judge_pair' > core/calls
+    ${LD:-ld} -r --gc-sections $(cat core/calls) ./afdx*.o -o core/afdx_core.o
+    ${AR:-ar} rcs libafdx_core.a core/afdx_core.o)
 # The shared library exports exactly the calls of the headers.
 echo '{ global: afdx_*; local: *; };' > "$room/exports"
 ${CC:-cc} -shared -Wl,-soname,"$shared",-z,defs,--version-script="$room/exports" -Wl,--whole-archive "$room/libafdx.a" \
@@ -70,7 +76,7 @@ for it in afdx.pc afdxConfig.cmake afdxConfigVersion.cmake afdx_bench.1 afdx_pla
     sed "s/@VERSION@/$version/; s/@SHARED@/$shared/" "install/$it" > "$room/$it"
 done
 into include crates/afdx/{afdx,afdx_judge}.h bindings/afdx.hpp
-into lib "$room/libafdx.a" "$room/$shared"
+into lib "$room/libafdx.a" "$room/libafdx_core.a" "$room/$shared"
 ln -sf "$shared" "$prefix/lib/libafdx.so"
 into lib/pkgconfig "$room/afdx.pc"
 into lib/cmake/afdx "$room/afdxConfig.cmake" "$room/afdxConfigVersion.cmake"
@@ -90,6 +96,7 @@ into share/afdx bindings/afdx.lua
 into share/afdx/examples/c examples/c/example.c examples/c/demo.toml examples/c/wire.toml
 mode=755 into share/afdx/examples/c examples/c/build.sh examples/c/wire.sh examples/c/receive.py
 into share/afdx/examples/play examples/play/*.c examples/play/play.h
+into share/afdx/examples/bare examples/bare/main.c
 into share/afdx/examples/cpp examples/cpp/main.cpp
 into share/afdx/examples/cmake examples/cmake/CMakeLists.txt examples/cmake/main.c
 into share/afdx/examples/python examples/python/main.py examples/python/bench.py

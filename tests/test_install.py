@@ -26,7 +26,7 @@ SANITIZERS = ["-fsanitize=address,undefined", "-fno-sanitize-recover=all"]
 VERSION = re.search('AFDX_VERSION "(.*)"', text_of("crates/afdx/afdx.h"))[1]
 FILES = f"""\
 bin/afdx_bench bin/afdx_play include/afdx.h include/afdx_judge.h include/afdx.hpp
-lib/libafdx.a lib/libafdx.so lib/libafdx.so.1 lib/pkgconfig/afdx.pc lib/cmake/afdx/afdxConfig.cmake lib/cmake/afdx/afdxConfigVersion.cmake
+lib/libafdx.a lib/libafdx_core.a lib/libafdx.so lib/libafdx.so.1 lib/pkgconfig/afdx.pc lib/cmake/afdx/afdxConfig.cmake lib/cmake/afdx/afdxConfigVersion.cmake
 lib/python/afdx/__init__.py lib/python/afdx/_findings.py lib/python/afdx/_library.py lib/python/afdx/errors.py
 lib/python/afdx/py.typed share/afdx/afdx-{VERSION}-py3-none-linux_x86_64.whl share/afdx/afdx.lua
 share/bash-completion/completions/afdx_bench share/zsh/site-functions/_afdx_bench
@@ -35,7 +35,7 @@ share/doc/afdx/LICENSE-APACHE share/doc/afdx/CHANGELOG.md share/doc/afdx/bench.m
 share/doc/afdx/judge.md share/doc/afdx/laws.md share/doc/afdx/program.md share/doc/afdx/speed.md share/doc/afdx/table.md share/afdx/examples/c/build.sh share/afdx/examples/c/receive.py share/afdx/examples/c/wire.sh
 share/afdx/examples/c/wire.toml
 share/afdx/examples/c/demo.toml share/afdx/examples/c/example.c share/afdx/examples/cmake/CMakeLists.txt
-share/afdx/examples/cmake/main.c share/afdx/examples/cpp/main.cpp
+share/afdx/examples/cmake/main.c share/afdx/examples/cpp/main.cpp share/afdx/examples/bare/main.c
 share/afdx/examples/play/main.c share/afdx/examples/play/script.c share/afdx/examples/play/faults.c
 share/afdx/examples/play/stamps.c share/afdx/examples/play/tell.c share/afdx/examples/play/wire.c share/afdx/examples/play/words.c share/afdx/examples/play/play.h
 share/afdx/examples/python/bench.py share/afdx/examples/python/main.py""".split()
@@ -126,13 +126,13 @@ def try_names(tried):
     """The name of each answer, and the version."""
     header = re.sub(r"/\*.*?\*/", "", text_of("crates/afdx/afdx.h"), flags=re.DOTALL)
     listed = [enum for enum in re.findall(r"enum \{(.*?)\}", header, re.DOTALL) if not re.search("STANDS|AFDX_A|GREATEST|CALL|SAYS", enum)]
-    calls = {"AFDX_CONFIG_": "OPEN", "AFDX_EMPTY": "SEND", "AFDX_BOTH_DOWN": "POLL", "AFDX_LINE_": "LINE"}
+    calls = {"AFDX_CONFIG_": "OPEN", "AFDX_NO_TABLE": "OPEN", "AFDX_EMPTY": "SEND", "AFDX_BOTH_DOWN": "POLL", "AFDX_LINE_": "LINE"}
     rows = []
     for enum in listed:
         (call,) = [word for start, word in calls.items() if start in enum] or ["OTHER"]
         rows += [f'    {{AFDX_CALL_{call}, {name}, "{name}"}},' for name in re.findall(r"AFDX_\w+(?= =)", enum)]
     rows += [f'    {{AFDX_CALL_{call}, {number}, "unknown answer"}},' for call, number in
-             (("OPEN", 16), ("SEND", 6), ("POLL", 2), ("LINE", 6), ("OTHER", 1), ("OPEN", 31), ("SEND", 255))]
+             (("OPEN", 21), ("SEND", 6), ("POLL", 2), ("LINE", 6), ("OTHER", 1), ("OPEN", 31), ("SEND", 255))]
     with open(f"{tried.room}/empty/names.c", "w", encoding="utf-8") as file:
         file.write("#include <afdx.h>\n#include <stdio.h>\n#include <string.h>\n"
                    "static const struct { afdx_call call; uint8_t answer; const char *name; } rows[] = {\n" + "\n".join(rows) + "\n};\n"
@@ -187,6 +187,23 @@ def try_c(tried, more):
         how = " with sanitizers" if flags else ""
         try_program(tried, [tried.cc, "-std=c99", *flags], f"C{how}", f"{tried.examples}/cmake/main.c", more)
         try_program(tried, [tried.cc, "-std=gnu11", *flags], f"C, example.c{how}", f"{tried.examples}/c/example.c", more, says=example)
+
+
+def try_bare(tried):
+    """The example without a C library prints one frame, out of a table. What it links has none of the calls that read texts."""
+    made = tried.ran([f"{tried.prefix}/bin/afdx_bench", "compile", tried.config, "--c", "table.c"])
+    if not tried.show("afdx_bench compile --c", made, "") or tried.lacks("x86-64", os.uname().machine == "x86_64" or None):
+        return
+    words = ["-O2", "-ffreestanding", "-fno-tree-loop-distribute-patterns", "-nostdlib", "-static", "-Wl,--gc-sections", *WARNINGS]
+    words += [f"-I{tried.prefix}/include", f"{tried.examples}/bare/main.c", "table.c", f"-L{tried.prefix}/lib", "-lafdx_core", "-lgcc"]
+    made = tried.ran([shutil.which("gcc") or tried.cc, *words, "-o", "bare"])
+    if tried.show("without a C library", made, ""):
+        tried.show("without a C library: it runs", tried.ran(["./bare"]), ONE_FRAME)
+    listed = tried.ran(["nm", "-g", f"{tried.prefix}/lib/libafdx_core.a"]).stdout
+    text = {name for name in ("open", "explain", "script_line", "judge", "judge_pair") if re.search(rf" T afdx_{name}$", listed, re.MULTILINE)}
+    wanted = {"memcpy", "memmove", "memset", "rattle_alloc", "rattle_dealloc", "rattle_realloc"}
+    imports = set(re.findall(r" U (\w+)", listed)) - {"__udivti3"}
+    tried.tries.show("libafdx_core.a: what it has and imports", [] if not text and imports == wanted else [f"{text}, {imports}"])
 
 
 def try_cpp(tried, more):
@@ -358,6 +375,7 @@ def main():
             try_names(tried)
             more = linked(tried)
             try_c(tried, more)
+            try_bare(tried)
             try_play(tried, more)
             try_cpp(tried, more)
             try_cmake(tried)
