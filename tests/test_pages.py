@@ -84,7 +84,8 @@ def bench_day(program, folder):
     save("plan.toml", ran("import", "interface.csv"))
     yield "bench day, import", ran("import", "interface.csv"), plan
     report = ran("report", "plan.toml", "--traffic", "interface.csv", "--html", "report.html").splitlines()
-    yield "bench day, report", [line.split()[-1] for line in report[-3:]], ["speed", "trim", "left"]
+    names = [line.split()[-1] for line in report if line.startswith("  ") and line.split()[-1] in ("speed", "trim", "left")]
+    yield "bench day, report", (names, report[0].split(", ")[-1]), (["speed", "trim", "left"], "queues suffice")
     save("script.txt", ran("schedule", "plan.toml", "--traffic", "interface.csv", "--seconds", "10", "--seed", "1"))
     with open(f"{folder}/script.txt", encoding="utf-8") as file:
         yield "bench day, schedule", file.read()[: len(begins)], begins

@@ -38,6 +38,7 @@ Commands:
   check     Prints a plan and its jitter; `explain` locates its faults
   explain   Prints the faults of a plan, each with its place and what is allowed there
   import    Prints the plan of an interface document, a CSV file with a row for each port
+  compile   Prints the table of a plan, which an end system opens without its text
   report    Prints the loads, the jitter and the longest waits of a plan
   schedule  Prints a script in which the ports of a plan send at their periods
   judge     Prints what is wrong with a recording of an end system

@@ -118,8 +118,8 @@ HasLayout bytes = HasFront bytes × (get_or (cells_of bytes) 4 0 ≡ 1)
 abbrev pub HasLength : List ℕ → Type 0
 HasLength bytes = HasLayout bytes × (length bytes ≡ 20 + 12 * link_count bytes + 22 * port_count bytes)
 
--- The fault of bytes: of their own faults the one of the least number. Without one they are the table of a plan, and its
--- fault is the one that its text would have.
+-- The fault of bytes: of their own faults the one of the least number. Without one they are the table of a plan, and
+-- its fault is the one that its text would have.
 abbrev pub IsFaultOf : List ℕ → TableFault → Type 0
 IsFaultOf bytes NoTable = ¬ HasFront bytes
 IsFaultOf bytes OtherLayout = HasFront bytes × (get_or (cells_of bytes) 4 0 ≢ 1)

@@ -42,7 +42,8 @@ address_low (Some address) = 256 * get_or address 2 0 + get_or address 3 0
 -- the cells of a link: the identifier, the gap in milliseconds, the greatest frame, the number of sub-VLs, the capacity
 -- of each queue, the networks
 abbrev pub link_cells : LinkPlan → List ℕ
-link_cells link = link.id.0 ∷ bag_ms link.bag ∷ link.lmax ∷ link.sub_vls ∷ link.capacity ∷ networks_cell link.networks ∷ []
+link_cells link = link.id.0 ∷ bag_ms link.bag ∷ link.lmax ∷ link.sub_vls ∷ link.capacity
+    ∷ networks_cell link.networks ∷ []
 
 -- the cells of a port: the identifier, its link, the sub-VL, the partition, the kind, the UDP ports of source and
 -- destination, the greatest message, the unicast address, the checksum

@@ -80,7 +80,8 @@ fn has_sum(bytes: &[u8]) -> bool
 /// Reads the parts of a table that begins and ends as one.
 fn read_parts(alloc: Global, bytes: &[u8]) -> Result<(Vec<LinkPlan>, Vec<PortPlan>), AllocError>
     requires { HasLength bytes.now }
-    ensures value { IfOk result (λ parts. (parts.0.items ≡ links_from bytes.now) × (parts.1.items ≡ ports_from bytes.now)) }
+    ensures value { IfOk result (λ parts.
+        (parts.0.items ≡ links_from bytes.now) × (parts.1.items ≡ ports_from bytes.now)) }
     ensures links { IfOk result (λ parts. All IsLink parts.0.items × (length parts.0.items < 65536)) }
     ensures ports { IfOk result (λ parts. All IsPort parts.1.items × (length parts.1.items < 65536)) }
 {

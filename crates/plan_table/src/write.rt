@@ -55,9 +55,9 @@ pub fn write_parts(
     Ok(table)
 }
 
-/// Writes the table of a plan: "AFDXPLAN", the version of the layout, the end system, the numbers of links and of ports,
-/// the links, the ports, and the CRC-32 of all that (IEEE 802.3). Each number has 16 bits, the high byte first; the
-/// check has two.
+/// Writes the table of a plan: "AFDXPLAN", the version of the layout, the end system, the numbers of links and of
+/// ports, the links, the ports, and the CRC-32 of all that (IEEE 802.3). Each number has 16 bits, the high byte first;
+/// the check has 32.
 pub fn write_table(alloc: Global, config: &Config) -> Result<Vec<u8>, AllocError>
     ensures { IfOk result (λ table. IsTableOf table.items config.now) }
 {
