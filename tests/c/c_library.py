@@ -197,7 +197,7 @@ def try_findings(tries, room):
     """Each kind of findings and each rule has the judge's own name in C, C++ and Python, and no other number has one."""
     lists = dict(re.findall(r"(?ms)^pub enum (\w+) \{\n(.*?)^\}", text_of("crates/judge/src/finding.rt") + text_of("crates/afdx_frame/src/layout.rt")))
     names = {}
-    for k, (kind, of) in enumerate(re.findall(r"(?m)^    (\w+)(?:\((\w+)\))?,$", lists["Kind"]), 1):
+    for k, (kind, of) in enumerate(re.findall(r"(?m)^    (\w+)(?:\((\w+)\))?,$", lists["FindingKind"]), 1):
         rules = re.findall(r"(?m)^    (\w+),$", lists.get(of, ""))
         names |= {(k, 0): kind, **{(k, rule): f"{kind} {name}" for rule, name in enumerate(rules, 1)}}
     of_all = [names.get((k >> 8, k & 255), names.get((k >> 8, 0), "unknown finding")) for k in range(65_536)]
