@@ -60,13 +60,17 @@ def kit():
     return os.path.dirname(ran.stdout.strip())
 
 
+def libraries():
+    """The names of the libraries that the library uses, and the folder of each that is built in the tree."""
+    (named,) = re.findall(r"(?m)^afdx staticlib:(.*)$", text_of("crates.txt"))
+    return named.split(), {os.path.basename(it)[: -len(".rlib")]: os.path.dirname(it) for it in glob(f"{ROOT}/crates/*/out/rlib/*.rlib")}
+
+
 def build_words():
     """The command that proves and builds the library over the libraries below it, as `rattle build --help` states it."""
-    of_kit = kit()
-    (named,) = re.findall(r"(?m)^afdx staticlib:(.*)$", text_of("crates.txt"))
-    own = {os.path.basename(it)[: -len(".rlib")]: os.path.dirname(it) for it in glob(f"{ROOT}/crates/*/out/rlib/*.rlib")}
+    of_kit, (named, own) = kit(), libraries()
     words = [f"{of_kit}/bin/rattle", "build", "--crate-name", "afdx", "src/lib.rt", "--crate-type", "staticlib"]
-    words += [it for name in ["std", *named.split()] for it in ("--extern", f"{name}={own.get(name, f'{of_kit}/rlibs')}/{name}.rlib")]
+    words += [it for name in ["std", *named] for it in ("--extern", f"{name}={own.get(name, f'{of_kit}/rlibs')}/{name}.rlib")]
     words += [it for folder in sorted({f"{of_kit}/rlibs", *own.values()}) for it in ("-L", f"dependency={folder}")]
     words += ["--antt-project", f"{of_kit}/rattle/logic/antt-project.json", "--logic-built", f"{of_kit}/logic_built"]
     words += ["--toolchain", f"{of_kit}/toolchain", "--backend", "llvm", "--jobs", str(len(os.sched_getaffinity(0)))]
@@ -88,6 +92,10 @@ def is_built(tries):
     os.makedirs(os.path.dirname(LIBRARY), exist_ok=True)
     if os.path.exists(LIBRARY):
         os.remove(LIBRARY)
+    named, own = libraries()
+    if not own.keys() >= set(named):
+        # (where `rt ci` has kept all crates, their libraries aren't there)
+        ran(["rt", "lib"], timeout=None)
     build = ran(build_words(), timeout=None)
     is_there = build.returncode == 0 and os.path.isfile(LIBRARY)
     tries.show("building libafdx.a", [] if is_there else [said(build)])
