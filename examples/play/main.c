@@ -50,19 +50,17 @@ static bool sleep_until(const struct play *play, uint64_t nanos) {
 
 /* Notes that frames of the next poll, or early ones before it, have been sent, which were due at a script's time. */
 static void note_lateness(struct play *play, uint64_t at) {
-    uint64_t now = nanos_now(), due = play->begun + nanos_of(play, at), *late = &play->late[play->polls];
-    if (now > due && now - due > *late) *late = now - due;
+    uint64_t now = nanos_now(), due = play->begun + nanos_of(play, at);
+    if (now > due && now - due > play->pending) play->pending = now - due;
+    if (play->pending > play->late.greatest) play->late.greatest = play->pending;
 }
 
-/* Makes room for the lateness of one poll more. Returns whether there is memory. */
-static bool has_room(struct play *play) {
-    if (play->polls + 1 < play->room) return true;
-    uint64_t *more = realloc(play->late, 2 * play->room * sizeof *more);
-    if (more == NULL) return false;
-    memset(more + play->room, 0, play->room * sizeof *more);
-    play->late = more;
-    play->room *= 2;
-    return true;
+/* Counts a poll by how late its frames were sent. */
+static void count_poll(struct play *play) {
+    uint64_t micros = (play->pending + 999) / 1000;
+    play->late.polls[micros < MICROS ? micros : MICROS]++;
+    play->pending = 0;
+    play->polls++;
 }
 
 /* Sends the frames that are sent early, of those that come before a time. */
@@ -99,14 +97,14 @@ static size_t take_frames(struct play *play, struct network *network, uint64_t a
     return count;
 }
 
-/* Polls once that a time has come, and sends the frames. Returns the number of afdx_poll, or AFDX_MEMORY. */
+/* Polls once that a time has come, and sends the frames. Returns the number of afdx_poll. */
 static uint8_t poll_at(struct play *play, uint64_t due) {
     static struct frame frames[2][2 * AFDX_MOST_FRAMES];
     uint8_t standing = 0;
     send_early(play, due);
     if (!sleep_until(play, nanos_of(play, due))) return AFDX_OK;
     uint64_t at = play->words.as_written || due > micros_now(play) ? due : micros_now(play);
-    uint8_t answer = has_room(play) ? afdx_poll(&play->tx.end_system, at, &standing) : AFDX_MEMORY;
+    uint8_t answer = afdx_poll(&play->tx.end_system, at, &standing);
     if (answer != AFDX_OK) return answer;
     play->last = at;
     for (int n = 0; n < 2; n++) {
@@ -116,7 +114,7 @@ static uint8_t poll_at(struct play *play, uint64_t due) {
         if (network->failed) afdx_fail(&play->tx.end_system, network->which);
     }
     note_lateness(play, due);
-    play->polls++;
+    count_poll(play);
     return AFDX_OK;
 }
 
@@ -161,8 +159,7 @@ static int obey(struct play *play, size_t k) {
     uint8_t answer = AFDX_OK;
     if (says->kind == AFDX_SAYS_AT) answer = obey_at(play, time_of(play, command));
     else if (!play->words.as_written) answer = serve_until(play, next_at(play, k));
-    if (answer == AFDX_MEMORY) fprintf(stderr, "out of memory\n");
-    if (answer == AFDX_MEMORY || answer == AFDX_BOTH_DOWN) return ENDS_BROKEN;
+    if (answer == AFDX_BOTH_DOWN) return ENDS_BROKEN;
     if (stopped_by != 0) return 0;
     if (says->kind == AFDX_SAYS_SEND) answer = send_by(&play->tx, command);
     if (says->kind == AFDX_SAYS_CLOSE) answer = afdx_close(&play->tx.end_system, says->id, says->sub, &total);
@@ -232,12 +229,6 @@ static int read_all_texts(struct play *play) {
 static int prepare(struct play *play) {
     int failed = read_all_texts(play);
     if (failed) return failed;
-    play->room = play->script.polls + 2;
-    play->late = calloc(play->room, sizeof *play->late);
-    if (play->late == NULL) {
-        fprintf(stderr, "out of memory\n");
-        return ENDS_BROKEN;
-    }
     if (is_read(&play->words)) {
         fprintf(stderr, "write failed\n%s: the command reads this file, so name another\n", play->words.capture);
         return ENDS_BROKEN;
@@ -289,7 +280,6 @@ static int run(struct play *play) {
 static void let_go(struct play *play) {
     for (size_t k = 0; k < play->script.count; k++) free(play->script.commands[k].message);
     free(play->script.commands);
-    free(play->late);
     free_tx(&play->tx);
     for (int n = 0; n < 2; n++)
         if (play->networks[n].interface != NULL && play->networks[n].socket >= 0) close(play->networks[n].socket);

@@ -20,7 +20,7 @@ struct command {
 /* The lines of a script up to its end or to its first fault, and what ended it. */
 struct script {
     struct command *commands;
-    size_t count, polls;
+    size_t count;
     size_t faulty; /* the number of the faulty line, or 0 */
     uint8_t fault;
     bool is_too_long; /* it has more lines than a script may have */
@@ -186,13 +186,20 @@ void read_stamps(struct network *network);
 /* Reads what an interface has counted. Returns whether it could. */
 bool read_counters(const char *interface, struct counters *counters);
 
-/* Waits up to a tenth of a second for the last times and counts of an interface. Returns how many of the frames that it took
-   it didn't send, by its counters, and how far these went. A driver that counts nothing has sent nothing. */
+/* Waits up to a tenth of a second for the last times of an interface, and up to two seconds while it has counted too few
+   frames. Returns how many of the frames that it took it didn't send, by its counters, and how far these went. */
 uint64_t find_losses(struct network *network, struct counters *counted);
 
+/* How many polls' frames were sent how late, in microseconds rounded up. Those of a second and more count together, with the
+ * greatest of all in nanoseconds. A run may last for days, so single polls aren't kept. */
+enum { MICROS = 1000000 };
+struct lateness {
+    uint64_t polls[MICROS + 1], greatest;
+};
+
 /* A run: the time of its start, the times of the script's first `at`, of the last one obeyed and of the last poll, how much
- * later than written the present round is, and how late each poll's frames were sent, in nanoseconds. Frames that a fault sends
- * early count with the poll after them. */
+ * later than written the present round is, and how late frames were sent, `pending` those of the next poll in nanoseconds.
+ * Frames that a fault sends early count with the poll after them. */
 struct play {
     struct tx tx;
     struct script script;
@@ -200,8 +207,9 @@ struct play {
     struct capture capture;
     struct words words;
     uint64_t begun, offset, first, asked, last, shift;
-    uint64_t *late;
-    size_t polls, room, refused;
+    struct lateness late;
+    uint64_t pending, polls;
+    size_t refused;
 };
 
 /* Prints what was sent, and how late. Returns how the player ends for it, with lost frames or faults that weren't made, or 0. */

@@ -68,7 +68,6 @@ static uint8_t add_line(struct script *script, size_t number, const uint8_t *lin
         if (command.message == NULL) return AFDX_MEMORY;
         memcpy(command.message, message, command.says.length);
     }
-    script->polls += command.says.kind == AFDX_SAYS_AT;
     script->commands[script->count++] = command;
     return AFDX_OK;
 }

@@ -12,7 +12,8 @@
 #include <sys/socket.h>
 #include <time.h>
 
-enum { WAITS = 20, WAIT_NANOS = 5000000, NANOS = 1000000000 };
+/* How often counters and times are read again, 5 milliseconds apart: some drivers count once a second. */
+enum { COUNTER_WAITS = 400, STAMP_WAITS = 20, WAIT_NANOS = 5000000, NANOS = 1000000000 };
 
 bool ask_for_stamps(int socket) {
     int wanted = SOF_TIMESTAMPING_TX_SOFTWARE | SOF_TIMESTAMPING_SOFTWARE | SOF_TIMESTAMPING_OPT_ID | SOF_TIMESTAMPING_OPT_TSONLY;
@@ -71,13 +72,14 @@ uint64_t find_losses(struct network *network, struct counters *counted) {
     const struct timespec wait = {.tv_nsec = WAIT_NANOS};
     uint64_t lost = 0;
     *counted = (struct counters){0};
-    for (int k = 0; k < WAITS; k++) {
+    for (int k = 0; k < COUNTER_WAITS; k++) {
         struct counters now;
         if (!network->has_counters || !read_counters(network->interface, &now)) return 0;
         read_stamps(network);
         *counted = (struct counters){now.sent - network->before.sent, now.dropped - network->before.dropped, now.errors - network->before.errors};
         lost = network->taken > counted->sent ? network->taken - counted->sent : 0;
-        if (lost == 0 && (!network->stamps.are_asked || network->stamps.count >= network->taken)) break;
+        bool has_times = !network->stamps.are_asked || network->stamps.count >= network->taken || k >= STAMP_WAITS;
+        if (lost == 0 && has_times) break;
         nanosleep(&wait, NULL);
     }
     return lost;

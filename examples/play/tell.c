@@ -2,16 +2,15 @@
 #include "play.h"
 
 #include <inttypes.h>
-#include <stdlib.h>
 
-static int by_size(const void *one, const void *other) {
-    uint64_t a = *(const uint64_t *)one, b = *(const uint64_t *)other;
-    return (a > b) - (a < b);
-}
-
-/* The lateness of the poll of this rank, in microseconds, rounded up. */
-static uint64_t late_micros(const struct play *play, size_t rank) {
-    return play->polls == 0 ? 0 : (play->late[rank < play->polls ? rank : play->polls - 1] + 999) / 1000;
+/* The lateness of the poll of this rank, from 0, in microseconds, rounded up. */
+static uint64_t late_micros(const struct play *play, uint64_t rank) {
+    uint64_t before = 0;
+    for (uint64_t micros = 0; micros < MICROS; micros++) {
+        before += play->late.polls[micros];
+        if (before > rank) return micros;
+    }
+    return (play->late.greatest + 999) / 1000;
 }
 
 /* Prints the faults that came true, or those that didn't. Returns whether there were any. */
@@ -62,10 +61,11 @@ int tell(struct play *play) {
         printf("\n");
     }
     for (int n = 0; n < 2; n++) tell_network(&play->networks[n], lost[n], &counted[n]);
-    qsort(play->late, play->polls, sizeof *play->late, by_size);
     printf("lines refused %zu\n", play->refused);
-    printf("polls %zu, late in microseconds: half %" PRIu64 ", 99.99 %% %" PRIu64 ", greatest %" PRIu64 "\n", play->polls,
-           late_micros(play, play->polls / 2), late_micros(play, play->polls - play->polls / 10000 - 1), late_micros(play, play->polls));
+    uint64_t last = play->polls == 0 ? 0 : play->polls - 1;
+    printf("polls %" PRIu64 ", late in microseconds: half %" PRIu64 ", 99.99 %% %" PRIu64 ", greatest %" PRIu64 "\n", play->polls,
+           late_micros(play, play->polls / 2 < last ? play->polls / 2 : last), late_micros(play, last - play->polls / 10000),
+           (play->late.greatest + 999) / 1000);
     tell_faults(play, true, "faults on purpose, after the library:");
     bool has_all = !tell_faults(play, false, "faults that weren't made:");
     return lost[0] + lost[1] > 0 ? ENDS_BROKEN : has_all ? 0 : ENDS_REFUSED;

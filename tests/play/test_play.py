@@ -412,6 +412,29 @@ def try_repeat(rig) -> tuple[list[str], str]:
     return faults, f"{len(frames['A'])} frames at one time"
 
 
+def try_traffic(rig) -> tuple[list[str], str]:
+    """With `--traffic` the player plays the script that `schedule` makes of the same words; by the clock each link's frames are
+    those of the script, but for the last ones, which are due after the last poll."""
+    plan, words = plan_of(2), ["--traffic", "traffic.csv", "--seconds", "1", "--seed", "5"]
+    for name, text in (("plan.toml", plan), ("traffic.csv", "port;period_us\n11;20000\n12;50000\n")):
+        with open(name, "w", encoding="utf-8") as file:
+            file.write(text)
+    bench, faults = f"{os.path.dirname(rig.program)}/afdx_bench", []
+    script = subprocess.run([bench, "schedule", "plan.toml", *words], capture_output=True, check=True).stdout
+    status, out, error = model.run(plan, script)
+    for more in (["--as-written"], []):
+        ran = subprocess.run([rig.program, "plan.toml", "wireA", "wireB", *words, *more], capture_output=True, text=True, check=False)
+        time.sleep(0.3)
+        faults += [] if (ran.returncode, ran.stderr) == (status, error) == (0, "") else [f"{more}: {ran}"]
+        for name, receiver in rig.receivers.items():
+            wanted = [line.split()[2] for line in out.splitlines() if line.startswith(f"{name} ")]
+            came = [data for _, data in receiver.take()["frames"]]
+            links, least = of_links(came), len(wanted) if more else len(wanted) * 9 // 10
+            is_well = all(links.get(link, []) == frames[: len(links.get(link, []))] for link, frames in of_links(wanted).items())
+            faults += [] if is_well and least <= len(came) <= len(wanted) else [f"{more}, network {name}: {len(came)} frames for {len(wanted)}"]
+    return faults, f"{len(wanted)} frames"
+
+
 def try_speed(rig) -> tuple[list[str], str]:
     """Four times as fast, a script of 400 ms takes 100 ms, and the frames are the same."""
     faults = []
@@ -504,6 +527,7 @@ def inside(program: str, millis: int) -> int:
         tries.attempt("an interface that is down", lambda: try_down(rig))
         tries.attempt("a carrier that is lost", lambda: try_lost_carrier(rig))
         tries.attempt("--repeat 3", lambda: try_repeat(rig))
+        tries.attempt("--traffic", lambda: try_traffic(rig))
         tries.attempt("--speed 4", lambda: try_speed(rig))
         tries.attempt("ends", lambda: try_ends(rig))
     finally:
