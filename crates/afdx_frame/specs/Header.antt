@@ -1,4 +1,5 @@
--- What switches and receivers read in any frame, and the same frame for another network (ARINC 664 Part 7, redundancy).
+-- The fields that switches and receivers read in any frame, and the same frame for another network (ARINC 664 Part 7,
+-- redundancy).
 use Rattle.std.specs.Prelude.{◌≡◌, ℕ, ◌-◌, ◌%◌, ◌≤◌, List, length, slice_index, slice_set}
 use Rattle.afdx_frame.specs.declared.net.Net.{Net}
 use Rattle.afdx_frame.specs.Frame.{interface_byte, frame_of}

@@ -11,7 +11,7 @@ use Rattle.afdx_frame.specs.declared.layout.Layout.TheVariants.{Length, Destinat
 abbrev pub breach : Layout → ℕ → ℕ → Breach
 breach rule seen wanted = record { rule = rule; seen = seen; wanted = wanted }
 
--- a rule whose field begins at a byte, and those after it
+-- a rule whose field begins at a byte, and the rules after it
 abbrev pub kept_then : Bool → Layout → ℕ → Option Breach → Option Breach
 kept_then kept rule byte later = if kept then later else Some (breach rule byte 0)
 
@@ -78,11 +78,11 @@ end_broken arinc f =
     if arinc then None
     else option_map (λ place. breach Padding (14 + total_length f + place) 0) (first_nonzero (padding_of f))))
 
--- The rules in their order. By ARINC 664 alone (`arinc`), what only this project chose isn't one.
+-- The rules in their order. By ARINC 664 alone (`arinc`), the choices of this project aren't rules.
 unfoldable pub layout_broken : Bool → List ℕ → Option Breach
 layout_broken arinc f = option_or (link_broken f) (option_or (internet_broken arinc f) (end_broken arinc f))
 
--- what can be read of a frame: its headers, and its piece before its sequence number
+-- a frame whose headers, and whose piece before its sequence number, can be read
 pub record IsReadable (frame : List ℕ) : Type 0 where
   pub least : 60 ≤ length frame
   pub most : length frame ≤ 1514

@@ -4,7 +4,7 @@ use Rattle.std.specs.Prelude.{◌≡◌, ℕ, zero, suc, ◌+◌, ◌-◌, ◌*�
 use Rattle.afdx_frame.specs.declared.field.Piece.{Piece}
 use Rattle.afdx_frame.specs.Cutting.{cutting, pieces_from}
 
--- what a fragment carries: its offset in units of 8 bytes, the flag of more fragments, and its data
+-- the content of a fragment: its offset in units of 8 bytes, the flag of more fragments, and its data
 pub record Fragment : Type 0 where
   pub offset : ℕ
   pub more : Bool

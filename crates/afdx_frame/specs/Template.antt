@@ -11,7 +11,7 @@ use Rattle.afdx_frame.specs.Frame.{addresses, link_header}
 abbrev pub udp_ports : PortPlan → List ℕ
 udp_ports port = two_bytes port.source ++ two_bytes port.destination
 
--- where a frame comes from: a port of an end system
+-- the origin of a frame: a port of an end system
 pub record Origin : Type 0 where
   pub end_system : ℕ
   pub port : PortPlan

@@ -22,8 +22,8 @@ demo_header =
     (0x45 ∷ 0x00 ∷ 0x00 ∷ 0x1d ∷ 0x00 ∷ 0x00 ∷ 0x00 ∷ 0x00 ∷ 0x01 ∷
     0x11 ∷ 0x0a ∷ 0x00 ∷ 0x01 ∷ 0x01 ∷ 0xe0 ∷ 0xe0 ∷ 0x00 ∷ 0x01 ∷ [])
 
--- Its checksum is 0xcdee, and 0xcdef is none. The checksum of a multiple of 65,535 is 0 and not
--- 65,535, though both sums are multiples.
+-- The header's checksum is 0xcdee, and 0xcdef is none. The checksum of a multiple of 65,535 is 0 and not 65,535, though
+-- both sums are multiples.
 pub record ChecksOneHeader : Type 0 where
   pub is : IsChecksum (word_sum demo_header) 0xcdee
   pub computed : checksum (word_sum demo_header) ≡ 0xcdee
@@ -39,8 +39,8 @@ pub record CutsInTwo : Type 0 where
   pub loose : IsCutting 25 49 (24 ∷ 24 ∷ 1 ∷ []) → ⊥
   pub narrow : IsCutting 7 9 (cutting 7 9) → ⊥
 
--- Each of the two pieces meets what a frame needs. With room for 7 bytes some pieces don't, and
--- with room for 1,480 bytes one doesn't.
+-- Each of the two pieces fits into a frame. With room for 7 bytes some pieces don't, and with room for 1,480 bytes one
+-- doesn't.
 pub record KeepsTwoPieces : Type 0 where
   pub pieces : pieces_from 0 (cutting 25 (8 + 41)) ≡ piece_at 25 49 0 ∷ piece_at 25 49 24 ∷ []
   pub each : AllByRecursion (IsPiece 41) (pieces_from 0 (cutting 25 (8 + 41)))
@@ -80,7 +80,7 @@ pub record SaysItsFields : Type 0 where
   pub empty : IsPiece (length long_sent.bytes) no_bytes → ⊥
   pub unsaid : Says (long_frame no_bytes A) 1 0 0 no_bytes 1 → ⊥
 
--- The second message adds its one fragment as that of the message at place 1, not at place 0.
+-- The second message adds its one fragment, as the message at place 1, not at place 0.
 pub record GrowsByOne : Type 0 where
   pub grows : fragments 1 25 A (long_sent ∷ short_sent ∷ [])
       ≡ fragments 1 25 A (long_sent ∷ []) ++ fragments_at 1 25 A 1 short_sent
@@ -103,7 +103,7 @@ pub record CutsBoth : Type 0 where
   pub both : length (fragments_left 1 25 A (cut_from 0)) ≡ 2
   pub one : length (fragments_left 1 25 A (cut_from 24)) ≡ 1
 
--- The fragments of both messages for network A become those for B, and differ from them before.
+-- The fragments of both messages for network A become the fragments for B, and differ from them before.
 pub record TurnsThreeFragments : Type 0 where
   pub turned : map (twin_of B) (fragments 1 25 A (long_sent ∷ short_sent ∷ []))
       ≡ fragments 1 25 B (long_sent ∷ short_sent ∷ [])
@@ -138,12 +138,12 @@ twenty_bytes = first_bytes.bytes ++ middle_bytes.bytes ++ last_bytes.bytes
 abbrev pub four_came : List Fragment
 four_came = last_bytes ∷ first_bytes ∷ last_bytes ∷ middle_bytes ∷ []
 
--- the same without the second fragment
+-- three fragments, without the second of the datagram
 abbrev pub three_came : List Fragment
 three_came = last_bytes ∷ first_bytes ∷ last_bytes ∷ []
 
--- These are the fragments of the datagram. Out of order and repeated they give it back; without the
--- second one they don't.
+-- The four fragments are the datagram's. Out of order and repeated they give it back; without the second one they
+-- don't.
 pub record ThreePieces : Type 0 where
   pub cut : fragments_of 10 twenty_bytes ≡ first_bytes ∷ middle_bytes ∷ last_bytes ∷ []
   pub each : (fragment : Fragment)
@@ -175,7 +175,7 @@ summing_port = record demo_port { checksum = Generated }
 abbrev pub first_datagram : List ℕ
 first_datagram = 0x03 ∷ 0xe8 ∷ 0x07 ∷ 0xd0 ∷ 0x00 ∷ 0x09 ∷ 0x07 ∷ 0x42 ∷ 0x01 ∷ []
 
--- the same datagram with another last byte
+-- the datagram of 01 with another last byte
 abbrev pub damaged_datagram : List ℕ
 damaged_datagram = 0x03 ∷ 0xe8 ∷ 0x07 ∷ 0xd0 ∷ 0x00 ∷ 0x09 ∷ 0x07 ∷ 0x42 ∷ 0x02 ∷ []
 

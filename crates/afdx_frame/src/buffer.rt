@@ -11,8 +11,8 @@ use crate::write::interface;
 use arrayvec::ArrayVec;
 use std::marker::Model;
 
-/// A frame, over what longer ones left in its buffer: unlike a `Frame`, it is never blanked. Contracts see the
-/// bytes of the frame.
+/// A frame, over the bytes that longer ones left in its buffer: unlike a `Frame`, it is never blanked. Contracts see
+/// the bytes of the frame.
 #[derive(Drop)]
 pub struct FrameBuffer {
     // The length of the frame. First, so that a short frame and its length are in the same lines of the cache.
@@ -45,7 +45,7 @@ fn put_front(out: &mut [u8; GREATEST_FRAME], frame: &[u8])
 }
 
 impl FrameBuffer {
-    /// A buffer without a frame.
+    /// Creates a buffer without a frame.
     pub fn new() -> FrameBuffer
         ensures { result.items ≡ [] }
     {
@@ -55,7 +55,7 @@ impl FrameBuffer {
         }
     }
 
-    /// The frame.
+    /// Returns the frame.
     pub fn as_slice(&self) -> &[u8]
         ensures value { result.now ≡ self.now.items }
         ensures short { length result.now ≤ GREATEST_FRAME }
@@ -124,7 +124,7 @@ pub(crate) fn put(out: &mut [u8; GREATEST_FRAME], at: usize, bytes: &[u8])
     out[at..at + bytes.len()].copy_from_slice(bytes);
 }
 
-/// As `put`, by two copies of `step` bytes each, the first and the last, which may overlap.
+/// Overwrites bytes as `put` does, by two copies of `step` bytes each, the first and the last, which may overlap.
 fn put_ends(out: &mut [u8; GREATEST_FRAME], at: usize, bytes: &[u8], step: usize)
     requires room { at + length bytes.now ≤ GREATEST_FRAME }
     requires least { step ≤ length bytes.now }
@@ -136,7 +136,7 @@ fn put_ends(out: &mut [u8; GREATEST_FRAME], at: usize, bytes: &[u8], step: usize
     put(out, at + rest, &bytes[rest..]);
 }
 
-/// As `put`, but fewer than 16 bytes are copied without a call.
+/// Overwrites bytes as `put` does, but copies fewer than 16 bytes without a call.
 pub(crate) fn put_short(out: &mut [u8; GREATEST_FRAME], at: usize, bytes: &[u8])
     requires { at + length bytes.now ≤ GREATEST_FRAME }
     ensures { take (at + length bytes.now) out.new ≡ take at out.old ++ bytes.now }

@@ -1,5 +1,6 @@
 //! A message, cut into frames, one piece per call.
-ghost use Rattle.std.specs.Prelude.{◌≡◌, ℕ, ◌+◌, ◌≤◌, ◌<◌, ◌-◌, ◌↔◌, length, [], ◌∷◌, List, IsTrue, true, false, MatchOption, vec_len};
+ghost use Rattle.std.specs.Prelude.{◌≡◌, ℕ, ◌+◌, ◌≤◌, ◌<◌, ◌-◌, ◌%◌, ◌↔◌, length, [], ◌∷◌, List, IsTrue, true, false, IfSome, MatchOption, vec_len};
+ghost use Rattle.afdx_frame.specs.Checksum.{word_sum};
 ghost use Rattle.afdx_plan.specs.Plan.{IsPort, SendsOver, room_of};
 ghost use Rattle.afdx_frame.specs.Frame.{frame_of, greatest_message, greatest_datagram};
 ghost use Rattle.afdx_frame.specs.Header.{IsFrameOf};
@@ -15,9 +16,8 @@ use crate::write::write_frame;
 use afdx_plan::{LinkPlan, PortPlan};
 use std::marker::Model;
 
-/// What is left of a message at a place of its sub-VL, given frame by frame. Its bytes, and the
-/// template of its port, are lent at each call. The datagram's bytes before `start` were given. No
-/// call allocates.
+/// The rest of a message at a place of its sub-VL, given frame by frame. Its bytes, and the template of its port, are
+/// lent at each call. The datagram's bytes before `start` were given. No call allocates.
 #[derive(Drop)]
 pub struct Rest {
     place: u64,
@@ -54,8 +54,8 @@ impl Model for Cut {
     ghost invariant = { λ c. IsPort c.port × (c.rest.end ≡ 8 + length c.bytes.items) };
 }
 
-/// The next piece, if there is one. If the rest doesn't fit into the room, the piece is the
-/// greatest multiple of 8 bytes that does (RFC 791, the example procedure of fragmentation).
+/// Returns the next piece, if there is one. If the rest doesn't fit into the room, the piece is the greatest multiple
+/// of 8 bytes that does (RFC 791, the example procedure of fragmentation).
 fn next_piece(room: usize, len: usize, start: usize) -> Option<Piece>
     requires room { 25 ≤ room }
     requires len { len ≤ greatest_datagram }
@@ -81,8 +81,8 @@ fn next_piece(room: usize, len: usize, start: usize) -> Option<Piece>
 }
 
 impl Rest {
-    /// A message of this length, 1 to 8,192 bytes, of which nothing was given. `place` counts the
-    /// accepted messages of the sub-VL from 0.
+    /// Creates the rest of a message of `len` bytes, 1 to 8,192, before its first piece. `place` counts the accepted
+    /// messages of the sub-VL from 0.
     pub fn new(len: usize, place: u64) -> Rest
         requires some { 1 ≤ len }
         requires most { len ≤ greatest_message }
@@ -95,7 +95,7 @@ impl Rest {
         }
     }
 
-    /// No message: all pieces were given.
+    /// Returns the rest of no message: all pieces were given.
     #[tactic(auto, using(crate::proofs::CuttingLemmas::left_none))]
     pub fn none() -> Rest
         ensures empty { result.end ≡ 8 }
@@ -108,7 +108,7 @@ impl Rest {
         }
     }
 
-    /// Whether all pieces were given.
+    /// Returns true if all pieces were given.
     #[tactic(auto, using(crate::proofs::CuttingLemmas::left_none, crate::proofs::CuttingLemmas::left_only))]
     pub fn is_done(&self) -> bool
         ensures { (port : _) (bytes : List ℕ) (room : ℕ) → self.now.end ≡ 8 + length bytes →
@@ -119,10 +119,12 @@ impl Rest {
 
     /// Writes the frame of the next piece, with this sequence number, for this network, into the
     /// caller's buffer, which it overwrites. Returns whether a piece was left; if none was, the
-    /// buffer and the message are unchanged.
+    /// buffer and the message are unchanged. `sum` is the sum of the message's 16-bit words modulo
+    /// 65,535, if it is known: otherwise the first frame of a port with checksums makes it.
     pub fn write_next(
         &mut self,
         bytes: &[u8],
+        sum: Option<u16>,
         template: &Template,
         link: &LinkPlan,
         number: u8,
@@ -131,6 +133,7 @@ impl Rest {
     ) -> bool
         requires over { SendsOver template.now.port link.now }
         requires message { self.old.end ≡ 8 + length bytes.now }
+        requires sum { IfSome sum (λ sum. sum ≡ word_sum bytes.now % 65535) }
         ensures frame { TakesFirst (λ piece frame. frame.items ≡ frame_of
             template.now.end_system template.now.port bytes.now self.old.place piece net number)
             (pieces_left (room_of link.now.lmax) (cut_of template.now.port bytes.now self.old)) (written result out.new)
@@ -151,7 +154,7 @@ impl Rest {
         let Some(piece) = next_piece(room, self.end, self.start) else {
             return false;
         };
-        write_frame(out, template, bytes, self.place, piece, net, number);
+        write_frame(out, template, bytes, sum, self.place, piece, net, number);
         self.start += piece.len;
         true
     }
@@ -178,7 +181,7 @@ impl Cut {
         }
     }
 
-    /// Whether all pieces were given.
+    /// Returns true if all pieces were given.
     pub fn is_done(&self) -> bool
         ensures { (room : ℕ) → IsTrue result ↔ (pieces_left room self.now ≡ []) }
     {
@@ -205,10 +208,7 @@ impl Cut {
     {
         let template = Template::new(end_system, &self.port);
         let mut frame = FrameBuffer::new();
-        if !self
-            .rest
-            .write_next(&self.bytes, &template, link, number, net, &mut frame)
-        {
+        if !self.rest.write_next(&self.bytes, None, &template, link, number, net, &mut frame) {
             return None;
         }
         Some(frame.to_frame())

@@ -1,8 +1,7 @@
-//! Where each field of a frame begins, in bytes from the destination MAC address on, and the piece of a datagram in it;
-//! a word, and the sum of words.
-ghost use Rattle.std.specs.Prelude.{◌≡◌, ◌+◌, ◌*◌, ◌≤◌, length};
+//! The index of each field of a frame, in bytes from the destination MAC address on, and the piece of a datagram in it;
+//! a word.
+ghost use Rattle.std.specs.Prelude.{◌≡◌, ◌+◌, ◌≤◌, length};
 ghost use Rattle.afdx_frame.specs.Profile.{word_at};
-ghost use Rattle.afdx_frame.specs.Checksum.{word_sum};
 
 use byteorder::{BigEndian, ByteOrder};
 
@@ -57,30 +56,12 @@ pub const UDP_CHECKSUM: usize = 40;
 /// The message, in a first fragment.
 pub const MESSAGE: usize = 42;
 
-/// The 16-bit number at an index, high byte first.
+/// Returns the 16-bit number at an index, high byte first.
 pub fn word_at(bytes: &[u8], i: usize) -> u16
     requires { i + 2 ≤ length bytes.now }
     ensures { result ≡ word_at bytes.now i }
 {
     BigEndian::read_u16(&bytes[i..])
-}
-
-/// The sum of the 16-bit words; an odd last byte is the high half of its word.
-pub fn word_sum(bytes: &[u8]) -> u32
-    requires { length bytes.now ≤ 65536 }
-    ensures value { result ≡ word_sum bytes.now }
-    ensures bound { result ≤ 65535 * length bytes.now }
-{
-    let mut sum = 0u32;
-    let mut rest = bytes;
-    while let [high, low, after @ ..] = rest {
-        sum += 256 * *high as u32 + *low as u32;
-        rest = after;
-    }
-    if let [high] = rest {
-        sum += 256 * *high as u32;
-    }
-    sum
 }
 
 /// The greatest length of a datagram in bytes: a message of 8,192 bytes with its UDP header.

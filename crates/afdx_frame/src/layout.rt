@@ -3,11 +3,12 @@ ghost use Rattle.std.specs.Prelude.{◌≡◌, ◌+◌, ◌≤◌, ◌↔◌, fa
 ghost use Rattle.afdx_frame.specs.Layout.{breach, link_broken, framed, has_total, has_fragment, internet_broken, has_destination, first_nonzero, end_broken, layout_broken, IsReadable};
 ghost use Rattle.afdx_frame.specs.Profile.{total_length, IsFrame};
 
-use crate::field::{self, GREATEST_DATAGRAM, MORE_FRAGMENTS, OFFSET_MODULUS, word_at, word_sum};
+use crate::field::{self, GREATEST_DATAGRAM, MORE_FRAGMENTS, OFFSET_MODULUS, word_at};
 use crate::net::{GREATEST_FRAME, INTERFACE_A, INTERFACE_B, SHORTEST_FRAME};
+use internet_sum::word_sum;
 
 /// A rule of the layout of frames, in the order in which they are tested. `seen` is the byte at which the field begins,
-/// and `wanted` is 0, unless the rule says otherwise.
+/// and `wanted` is 0, if the rule says nothing else.
 #[derive(Clone, Copy, Debug, PartialEq, Eq)]
 pub enum Layout {
     /// The packet has no time. Both numbers are 0.
@@ -17,7 +18,7 @@ pub enum Layout {
     /// The check sequence is `seen`, and the bytes give `wanted`.
     CheckSequence,
     /// The frame has four bytes too many, as one that was recorded with its check sequence; only the first such frame
-    /// of a recording is a finding. `seen` is the length, `wanted` that without them.
+    /// of a recording is a finding. `seen` is the length, `wanted` the length without them.
     Recorded,
     /// The length is `seen`, which is below 60 (then `wanted`) or above 1,514 (then `wanted`).
     Length,
@@ -25,14 +26,14 @@ pub enum Layout {
     DestinationMac,
     /// The constant field of the source MAC address (byte 6).
     SourceMac,
-    /// The interface identifier is of neither network (byte 11).
+    /// The interface identifier is neither A's nor B's (byte 11).
     Interface,
-    /// The type isn't that of the internet protocol (byte 12).
+    /// The type isn't the internet protocol's (byte 12).
     EtherType,
     /// The version, the header's length or the type of service (byte 14).
     Version,
-    /// The total length: below 21, not that of the frame, or of a piece that more follow no multiple of 8 after the
-    /// header (byte 16).
+    /// The total length: below 21, not the frame's, or no multiple of 8 after the header although more pieces follow
+    /// (byte 16).
     TotalLength,
     /// The flags, or an offset at which the piece ends past 8,200 bytes (byte 20).
     Fragment,
@@ -40,10 +41,11 @@ pub enum Layout {
     Protocol,
     /// The checksum of the internet header (byte 24).
     HeaderSum,
-    /// The source address isn't that of the end system in the source MAC address, or the partition is above 31 (byte
-    /// 26).
+    /// The source address isn't the address of the end system in the source MAC address, or the partition is above 31
+    /// (byte 26).
     SourceAddress,
-    /// The destination address is neither that of the link in the destination MAC address nor in 10.0.0.0/8 (byte 30).
+    /// The destination address is neither the address of the link in the destination MAC address nor in 10.0.0.0/8
+    /// (byte 30).
     DestinationAddress,
     /// A padding byte isn't zero: the first such byte.
     Padding,
@@ -57,14 +59,15 @@ pub struct Breach {
     pub wanted: usize,
 }
 
-/// A rule that is broken, and its two numbers.
+/// Returns a broken rule with its two numbers.
 fn broken(rule: Layout, seen: usize, wanted: usize) -> Option<Breach>
     ensures { result ≡ Some (breach rule seen wanted) }
 {
     Some(Breach { rule, seen, wanted })
 }
 
-/// The rules of the length, of the constant fields of the MAC addresses, of the interface identifier and of the type.
+/// Returns the first broken rule of the length, the constant fields of the MAC addresses, the interface identifier and
+/// the type.
 #[tactic(auto, unfolding(crate::specs::Layout::link_broken))]
 fn link_broken(b: &[u8]) -> Option<Breach>
     ensures value { result ≡ link_broken b.now }
@@ -88,7 +91,7 @@ fn link_broken(b: &[u8]) -> Option<Breach>
     }
 }
 
-/// The length of a frame with this total length.
+/// Returns the length of a frame with this total length.
 pub fn framed(total: usize) -> usize
     requires { total ≤ 65535 }
     ensures { result ≡ framed total }
@@ -96,7 +99,8 @@ pub fn framed(total: usize) -> usize
     (15 + total).max(SHORTEST_FRAME)
 }
 
-/// Whether the total length is a piece's: that of the frame, and whole units of 8 bytes if more pieces follow.
+/// Returns true if the total length fits: the frame has that length, and a piece that more follow has whole units of 8
+/// bytes.
 fn has_total(b: &[u8]) -> bool
     requires { 60 ≤ length b.now }
     ensures { result ≡ has_total b.now }
@@ -107,7 +111,7 @@ fn has_total(b: &[u8]) -> bool
         && (word_at(b, field::FRAGMENT) % 0x4000 < MORE_FRAGMENTS || (total - 20) % 8 == 0)
 }
 
-/// Whether the flags are those of the profile, and the piece ends within a datagram.
+/// Returns true if the flags are allowed by the profile, and the piece ends within a datagram.
 fn has_fragment(b: &[u8]) -> bool
     requires { 60 ≤ length b.now }
     ensures { result ≡ has_fragment b.now }
@@ -117,7 +121,7 @@ fn has_fragment(b: &[u8]) -> bool
     fragment < 0x4000 && end <= 20 + GREATEST_DATAGRAM
 }
 
-/// The rules of the internet header without its addresses.
+/// Returns the first broken rule of the internet header without its addresses.
 #[tactic(auto, unfolding(crate::specs::Layout::internet_broken))]
 fn internet_broken(arinc: bool, b: &[u8]) -> Option<Breach>
     requires { 60 ≤ length b.now }
@@ -140,7 +144,7 @@ fn internet_broken(arinc: bool, b: &[u8]) -> Option<Breach>
     }
 }
 
-/// Whether the destination address is that of the link in the destination MAC address, or in 10.0.0.0/8.
+/// Returns true if the destination address is the address of the link in the destination MAC address, or in 10.0.0.0/8.
 fn has_destination(b: &[u8]) -> bool
     requires { 60 ≤ length b.now }
     ensures { result ≡ has_destination b.now }
@@ -153,15 +157,15 @@ fn has_destination(b: &[u8]) -> bool
         || b[start] == 10
 }
 
-/// The place of the first byte that isn't zero.
+/// Returns the place of the first byte that isn't zero.
 fn first_nonzero(bytes: &[u8]) -> Option<usize>
     ensures { result ≡ first_nonzero bytes.now }
 {
     bytes.iter().position(|byte| *byte != 0)
 }
 
-/// The rules of the internet addresses and of the padding. The source is 10, the end system of the source MAC address,
-/// and a partition.
+/// Returns the first broken rule of the internet addresses and of the padding. The source is 10, the end system of the
+/// source MAC address, and a partition.
 #[tactic(auto, unfolding(crate::specs::Layout::end_broken))]
 fn end_broken(arinc: bool, b: &[u8]) -> Option<Breach>
     requires { IsReadable b.now }
@@ -185,7 +189,7 @@ fn end_broken(arinc: bool, b: &[u8]) -> Option<Breach>
     }
 }
 
-/// The first rule of the layout that a frame breaks; by ARINC 664 alone, of those that it has.
+/// Returns the first rule of the layout that a frame breaks; if `arinc`, of the rules that ARINC 664 has.
 #[tactic(auto, using(crate::proofs::LayoutRules::layout_is_profile), unfolding(crate::specs::Layout::layout_broken))]
 pub fn layout_broken(arinc: bool, frame: &[u8]) -> Option<Breach>
     ensures value { result ≡ layout_broken arinc frame.now }

@@ -6,12 +6,12 @@ ghost use Rattle.afdx_frame.specs.Template.{unfilled, Origin, IsTemplate};
 ghost use Rattle.afdx_frame.specs.Checksum.{word_sum};
 ghost use Rattle.afdx_frame.specs.Frame.{addresses};
 
-use crate::field::word_sum;
 use crate::net::{GREATEST_FRAME, INTERFACE_A};
 use afdx_plan::PortPlan;
+use internet_sum::word_sum;
 use std::marker::Model;
 
-/// What the frames of a port of an end system have in common. Contracts see the two.
+/// The bytes that all frames of a port of an end system share. Contracts see the end system and the port.
 #[derive(Clone, Copy)]
 pub struct Template {
     pub(crate) port: PortPlan,
@@ -38,7 +38,7 @@ impl Model for Template {
     } };
 }
 
-/// The destination address of a port.
+/// Returns the destination address of a port.
 fn destination(port: &PortPlan) -> [u8; 4]
     requires { IsPort port.now }
     ensures { result ≡ destination_address port.now }
@@ -53,7 +53,7 @@ fn destination(port: &PortPlan) -> [u8; 4]
 }
 
 impl Template {
-    /// The template of a port of an end system.
+    /// Creates the template of a port of an end system.
     pub fn new(end_system: u16, port: &PortPlan) -> Template
         requires { IsPort port.now }
         ensures { result ≡ record { end_system = end_system; port = port.now } }

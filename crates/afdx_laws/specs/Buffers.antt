@@ -1,4 +1,4 @@
--- How many buffers a receiver needs to reassemble the messages of a link, and how large they are.
+-- The buffers that a receiver needs to reassemble the messages of a link: their number and their size.
 use Rattle.std.specs.Prelude.{◌≡◌, ℕ, ◌%◌, ◌≤◌, None, List, [], ◌∷◌, length, map, All, Bool, true, false, take, Some}
 use Rattle.std.specs.List.{range_with_len}
 use Rattle.afdx_plan.specs.Config.{Plan}
@@ -47,23 +47,23 @@ buffers_in frames = buffers_after (λ key. empty) (map fragment_in frames)
 abbrev pub IsOneEnough : ℕ → List (List ℕ) → Type 0
 IsOneEnough sub frames = HoldsOne sub 8200 (buffers_in frames)
 
--- It is enough for the frames that a receiver accepts if each network carries some beginning of what it was sent over a
--- link and the two are near. It is enough at any time, as what came so far is such a beginning too.
+-- One buffer for each sub-VL is enough for the frames that a receiver accepts if each network carries a prefix of what
+-- it was sent over a link and the two are near. One is enough at any time, as what came so far is also such a prefix.
 abbrev pub HandedNeedOne : Type 0
 HandedNeedOne = (end_system room sub lag : ℕ) (tolerance : Tolerance) (accepted : List Sent)
     (a b : List (List ℕ)) (arrivals : List (Net × List ℕ)) → AreHanded end_system room sub accepted a b
     → IsFitFor lag tolerance → AreCarriedOf lag a b arrivals
     → IsOneEnough sub (received number_in tolerance begin arrivals)
 
--- The same for each link and sub-VL of a valid plan, of what was transmitted legally.
+-- One buffer is enough for each sub-VL of each link of a valid plan, if the frames were transmitted legally.
 abbrev pub LegalNeedOne : Type 0
 LegalNeedOne = (plan : Plan) (accepted : Accepted) (a b : List Entry) (k sub lag : ℕ) (tolerance : Tolerance)
     (arrivals : List (Net × List ℕ)) → IsHandedOver plan accepted a b k sub → IsFitFor lag tolerance
     → AreCarriedOf lag (frames_of (id_at plan k) a) (frames_of (id_at plan k) b) arrivals
     → IsOneEnough sub (received number_in tolerance begin arrivals)
 
--- The same if one network loses, repeats and reorders frames, the other carries them all, and only the next number is
--- new to the receiver.
+-- One buffer is enough even if one network loses, repeats and reorders frames, if the other carries them all and only
+-- the next number is new to the receiver.
 abbrev pub LegalNeedOneDespite : Type 0
 LegalNeedOneDespite = (plan : Plan) (accepted : Accepted) (a b : List Entry) (k sub check : ℕ) (whole : Net)
     (came : List (Net × ℕ)) → IsHandedOver plan accepted a b k sub → 1 ≤ check
@@ -81,7 +81,7 @@ two_datagrams = range_with_len 1 20 ∷ range_with_len 21 12 ∷ []
 abbrev pub piece : (key offset : ℕ) → Bool → (first len : ℕ) → ℕ × Fragment
 piece key offset more first len = (key, record { offset = offset; more = more; bytes = range_with_len first len })
 
--- what arrives
+-- the five fragments that arrive, with their identifications
 abbrev pub five_fragments : List (ℕ × Fragment)
 five_fragments = piece 0 0 true 1 8
     ∷ piece 1 0 false 7 1
@@ -90,7 +90,8 @@ five_fragments = piece 0 0 true 1 8
     ∷ piece 4 0 true 21 8
     ∷ []
 
--- They meet the premises of the law of order. The first datagram is given; the second lacks a fragment and is not.
+-- The five fragments meet the premises of the law of order. The first datagram is given; the second lacks a fragment
+-- and is not.
 pub record FirstIsGiven : Type 0 where
   pub some : All HasByte two_datagrams
   pub first : IsPrefixOf (of_sub 0 five_fragments) (sent_from 8 0 0 two_datagrams)

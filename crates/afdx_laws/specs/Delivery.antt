@@ -50,7 +50,7 @@ sent_from room sub place (datagram ∷ later) =
 abbrev pub HasByte : List ℕ → Type 0
 HasByte datagram = 1 ≤ length datagram
 
--- The first datagrams of a sub-VL are given, in order and each once, and all those whose fragments all came.
+-- The first datagrams of a sub-VL are given, in order and each once, and all datagrams whose fragments all came.
 abbrev pub AreGiven : (room sub : ℕ) → List (List ℕ) → List (ℕ × Fragment) → Type 0
 AreGiven room sub datagrams came = (many : ℕ)
     × (map (λ (e : ℕ × List ℕ). e.1) (of_sub sub (delivered (λ key. empty) came))
@@ -58,13 +58,13 @@ AreGiven room sub datagrams came = (many : ℕ)
     × ((j : ℕ) → j ≤ length datagrams
     → length (sent_from room sub 0 (take j datagrams)) ≤ length (of_sub sub came) → j ≤ many)
 
--- They are if the fragments received of the sub-VL are the first of its datagrams' fragments, in order, among fragments
--- of other sub-VLs.
+-- A receiver gives a sub-VL's first datagrams if the fragments received of the sub-VL are the first of its datagrams'
+-- fragments, in order, among fragments of other sub-VLs.
 abbrev pub InOrder : Type 0
 InOrder = (room sub : ℕ) (datagrams : List (List ℕ)) (came : List (ℕ × Fragment)) → 8 ≤ room → All HasByte datagrams
     → IsPrefixOf (of_sub sub came) (sent_from room sub 0 datagrams) → AreGiven room sub datagrams came
 
--- what a frame carries: its identification and its fragment (RFC 791, 3.1)
+-- the identification and the fragment that a frame carries (RFC 791, 3.1)
 abbrev pub fragment_in : List ℕ → ℕ × Fragment
 fragment_in frame = (
   word_at frame 18,
@@ -116,8 +116,8 @@ MessagesArrive = (end_system room sub lag : ℕ) (tolerance : Tolerance) (accept
     → AreFirst end_system room sub accepted (take (most_carried arrivals) stream)
     (messages_in sub (received number_in tolerance begin arrivals))
 
--- The same if one network loses, repeats and reorders frames, the other carries them all, and only the next number is
--- new to the receiver.
+-- The first messages arrive even if one network loses, repeats and reorders frames, if the other carries them all and
+-- only the next number is new to the receiver.
 abbrev pub DespiteLoss : Type 0
 DespiteLoss = (end_system room sub check : ℕ) (whole : Net) (accepted : List Sent) (net : Net)
     (stream : List (List ℕ)) (came : List (Net × ℕ)) → IsSending end_system room sub accepted net stream
@@ -129,8 +129,8 @@ DespiteLoss = (end_system room sub check : ℕ) (whole : Net) (accepted : List S
 abbrev pub IsOfNet : Net → List ℕ → Type 0
 IsOfNet net frame = twin_of net frame ≡ frame
 
--- a link's frames as sent to a network: numbered, with its interface identifier, and those of a sub-VL the first
--- fragments of its accepted messages
+-- a link's frames as sent to a network: numbered, with the network's interface identifier; a sub-VL's frames are the
+-- first fragments of its accepted messages
 pub record IsHanded (end_system room sub : ℕ) (accepted : List Sent) (net : Net) (handed : List (List ℕ)) : Type 0 where
   pub frames : IsStream handed
   pub own : All (IsOfNet net) handed
@@ -148,7 +148,7 @@ pub record AreHanded (end_system room sub : ℕ) (accepted : List Sent) (a b : L
   pub on_b : IsHanded end_system room sub accepted B b
   pub twins : AreTwins twin_of a b
 
--- what two networks carried of `a` and `b`, in the order in which it came from both
+-- arrivals from two networks in their order: each network carried a prefix of its list, `a` or `b`
 pub record AreCarriedOf (lag : ℕ) (a b : List (List ℕ)) (arrivals : List (Net × List ℕ)) : Type 0 where
   pub on_a : IsPrefixOf (carried A arrivals) a
   pub on_b : IsPrefixOf (carried B arrivals) b
@@ -164,8 +164,9 @@ HandedArrive = (end_system room sub lag : ℕ) (tolerance : Tolerance) (accepted
     → AreFirst end_system room sub accepted (take (most_carried arrivals) (longer a b))
     (messages_in sub (received number_in tolerance begin arrivals))
 
--- The same if one network loses, repeats and reorders frames, the other carries them all, and only the next number is
--- new to the receiver. A network and a place in the longer list denote a frame: the network's twin of the one there.
+-- The first messages of what was sent to two networks arrive even if one network loses, repeats and reorders frames, if
+-- the other carries them all and only the next number is new to the receiver. A network and a place in the longer list
+-- denote a frame: the network's twin of the frame at that place.
 abbrev pub HandedDespiteLoss : Type 0
 HandedDespiteLoss = (end_system room sub check : ℕ) (whole : Net) (accepted : List Sent)
     (a b : List (List ℕ)) (came : List (Net × ℕ)) → AreHanded end_system room sub accepted a b

@@ -54,12 +54,12 @@ IsMasked whole check stream came = (many : ℕ)
     × (map (twin_of A) (received number_in (next_alone check) begin (frames_at stream came))
     ≡ take many (map (twin_of A) stream))
 
--- It does if the frames arrive near to each other, the stream's first before all others.
+-- A receiver masks the loss if the frames arrive near to each other, the stream's first before all others.
 abbrev pub LossMasked : Type 0
 LossMasked = (whole : Net) (check : ℕ) (stream : List (List ℕ)) (came : List (Net × ℕ)) → 1 ≤ check
     → IsStream stream → AreClose whole (length stream) 0 0 came → IsMasked whole check stream came
 
--- what a network carries, if anything, begins with the first frame of the stream
+-- the first frame that a network carries, if any, is the first of the stream
 abbrev pub BeginsFirst : Net → List (Net × ℕ) → Type 0
 BeginsFirst net came = (place : ℕ) (later : List ℕ) → carried net came ≡ place ∷ later → place ≡ 0
 
@@ -69,7 +69,7 @@ abbrev pub FirstComes : Type 0
 FirstComes = (whole : Net) (n : ℕ) (came : List (Net × ℕ)) → AreWithin whole n 0 0 came
     → BeginsFirst (other whole) came → AreClose whole n 0 0 came
 
--- So a receiver that starts with the stream masks a loss if both networks begin with the first frame.
+-- A receiver that starts with the stream masks a loss if both networks begin with the first frame.
 abbrev pub MaskedFromFirst : Type 0
 MaskedFromFirst = (whole : Net) (check : ℕ) (stream : List (List ℕ)) (came : List (Net × ℕ))
     → 1 ≤ check → IsStream stream → AreWithin whole (length stream) 0 0 came → BeginsFirst (other whole) came

@@ -1,4 +1,4 @@
--- How far two neighbouring fragments of a message lie apart if the sub-VLs of their link take turns.
+-- The distance between two neighbouring fragments of a message, if the sub-VLs of their link take turns.
 use Rattle.std.specs.Prelude.{◌≡◌, ◌≢◌, ℕ, ◌+◌, ◌*◌, ◌≤◌, ◌<◌, max, true, false, List, [], ◌∷◌, ◌++◌, length, All}
 use Rattle.afdx_plan.specs.Config.{Plan, IsPlan, link_plan_at}
 use Rattle.afdx_plan.specs.Plan.{bag_micros}
@@ -36,7 +36,8 @@ abbrev pub FollowWithin : ℕ → ℕ → List Entry → Type 0
 FollowWithin most before [] = Unit {0}
 FollowWithin most before (e ∷ es) = (e.at ≤ before + most) × FollowWithin most e.at es
 
--- So it is released within `subs` BAGs and latenesses, if the link releases a frame in each while it waits.
+-- The next fragment of a message is released within `subs` BAGs and latenesses, if the link releases a frame in each
+-- while it waits.
 abbrev pub NextInTime : Type 0
 NextInTime = (subs gap late : ℕ) (stream : List Entry) (first : Entry) (between : List Entry) (next : Entry)
     → TakesTurns stream → All (IsOfOneOf subs) stream → AreNeighbours stream first between next
@@ -50,7 +51,7 @@ abbrev pub longest_wait : ℕ → List LinkPlan → ℕ
 longest_wait late [] = 0
 longest_wait late (link ∷ links) = max (link_wait late link) (longest_wait late links)
 
--- The bound for a whole plan, in what was sent to a network.
+-- The bound for a whole plan, on the frames sent to a network.
 abbrev pub NextInPlan : Type 0
 NextInPlan = (plan : Plan) (accepted : Accepted) (net : Net) (handed : List Entry) (late k : ℕ)
     (first : Entry) (between : List Entry) (next : Entry)

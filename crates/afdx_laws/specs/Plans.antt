@@ -24,7 +24,7 @@ id_at plan k = (link_plan_at plan.links k).id.0
 abbrev pub piece_room : Plan → ℕ → ℕ
 piece_room plan k = room_of (link_plan_at plan.links k).lmax
 
--- a link's frames in what was sent to a network
+-- a link's frames among the frames sent to a network
 abbrev pub frames_of : ℕ → List Entry → List (List ℕ)
 frames_of vl handed = map (λ (e : Entry). e.frame) (link_stream vl handed)
 
@@ -52,8 +52,8 @@ LegalArrive = (plan : Plan) (accepted : Accepted) (a b : List Entry) (k sub lag 
     (take (most_carried arrivals) (longer_of (id_at plan k) a b))
     (messages_in sub (received number_in tolerance begin arrivals))
 
--- The same if one network loses, repeats and reorders frames, the other carries all frames of the link, and only the
--- next number is new to the receiver.
+-- The first messages of each sub-VL arrive even if one network loses, repeats and reorders frames, if the other carries
+-- all frames of the link and only the next number is new to the receiver.
 abbrev pub LegalDespiteLoss : Type 0
 LegalDespiteLoss = (plan : Plan) (accepted : Accepted) (a b : List Entry) (k sub check : ℕ) (whole : Net)
     (came : List (Net × ℕ)) → IsHandedOver plan accepted a b k sub → 1 ≤ check
@@ -78,7 +78,7 @@ LegalPasses = (plan : Plan) (accepted : Accepted) (net : Net) (handed : List Ent
     → AllZip (IsOnItsWay around jitter) (link_stream (id_at plan k) handed) passages
     → AllPass charge (rule_at plan k around jitter) passages
 
--- what was sent to a network
+-- the frames sent to a network
 abbrev pub handed_to : Net → (a b : List Entry) → List Entry
 handed_to A a b = a
 handed_to B a b = b
@@ -97,7 +97,7 @@ OneNetworkArrives = (plan : Plan) (accepted : Accepted) (a b : List Entry) (k su
     → AreFirst plan.end_system (piece_room plan k) sub (accepted k sub) came
     (messages_in sub (received number_in tolerance begin (all_from net came)))
 
--- the port at `place` is of sub-VL `sub` of link `k`
+-- the port at `place` belongs to sub-VL `sub` of link `k`
 pub record IsOn (plan : Plan) (k sub place : ℕ) : Type 0 where
   pub within : place < length plan.ports
   pub link : link_place plan (port_plan_at plan.ports place) ≡ k
@@ -131,7 +131,7 @@ pub record AreTwinsWhole (plan : Plan) (a b : List Entry) : Type 0 where
   pub own : (k : ℕ) → k < length plan.links
       → own_stream (id_at plan k) a b ≡ link_stream (id_at plan k) (map (side A) (longer_stream a b))
 
--- So are two lists that were transmitted legally for a plan whose links are all on both networks.
+-- Two lists that were transmitted legally for a plan whose links are all on both networks are twins as a whole.
 abbrev pub AllOnBoth : Type 0
 AllOnBoth = (plan : Plan) (accepted : Accepted) (a b : List Entry)
     → All IsOnBoth plan.links → IsLegal plan accepted a b → AreTwinsWhole plan a b

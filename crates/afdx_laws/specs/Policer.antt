@@ -27,11 +27,11 @@ pub record Account : Type 0 where
 abbrev pub limit : Rule → ℕ
 limit rule = rule.lmax * (rule.gap + rule.jitter)
 
--- it begins full
+-- an account at its limit, as a switch begins
 abbrev pub full : Rule → Account
 full rule = record { credit = limit rule; since = 0 }
 
--- it grows by lmax bytes a gap
+-- an account at `now`: credit grows by lmax bytes a gap, up to the limit
 abbrev pub filled : Rule → Account → ℕ → Account
 filled rule account now = record {
   credit = min (limit rule) (account.credit + rule.lmax * (now - account.since));
@@ -68,7 +68,7 @@ pub record Passage : Type 0 where
 abbrev pub arrival : Passage → Arrival
 arrival passage = record { at = passage.arrived; size = passage.size }
 
--- it arrives at most the jitter after its release, and is no greater than the rule allows
+-- a frame that arrives at most the jitter after its release, and is no greater than the rule allows
 pub record IsOnTime (rule : Rule) (passage : Passage) : Type 0 where
   pub after : passage.released ≤ passage.arrived
   pub soon : passage.arrived ≤ passage.released + rule.jitter
@@ -82,11 +82,11 @@ AreOnTime rule (first ∷ second ∷ later) = IsOnTime rule first
     × (first.released + rule.gap ≤ second.released)
     × AreOnTime rule (second ∷ later)
 
--- all of these pass, from a full account on
+-- all frames on their way pass, from a full account on
 abbrev pub AllPass : Charge → Rule → List Passage → Type 0
 AllPass charge rule passages = passed charge rule (full rule) (map arrival passages) ≡ map arrival passages
 
--- The switch drops none of them.
+-- A switch drops no frame that is on time.
 abbrev pub NoneDropped : Type 0
 NoneDropped = (charge : Charge) (rule : Rule) (passages : List Passage) → AreOnTime rule passages
     → AllPass charge rule passages
@@ -99,8 +99,8 @@ abbrev pub AreBetween : ℕ → ℕ → List Arrival → Type 0
 AreBetween start end [] = start ≤ end
 AreBetween start end (frame ∷ later) = (start ≤ frame.at) × AreBetween frame.at end later
 
--- It does not let everything pass: whatever arrives, and whatever the credit is, the frames that pass between two times
--- cost at most lmax bytes for each gap between them, and lmax (1 + jitter / gap) more.
+-- A switch doesn't let everything pass: whatever arrives, and whatever the credit is, the frames that pass between two
+-- times cost at most lmax bytes for each gap between them, and lmax (1 + jitter / gap) more.
 abbrev pub NoMorePasses : Type 0
 NoMorePasses = (charge : Charge) (rule : Rule) (credit start end : ℕ) (frames : List Arrival)
     → AreBetween start end frames
@@ -154,11 +154,11 @@ three_passages = passage 0 200 100 ∷ passage 1000 1000 100 ∷ passage 2000 20
 abbrev pub greatest_at : List ℕ → List Arrival
 greatest_at moments = map (λ (moment : ℕ). record { at = moment; size = 100 }) moments
 
--- those of them that pass, starting with a full account
+-- the greatest frames at these times that pass, starting with a full account
 abbrev pub pass_of : Rule → List ℕ → List Arrival
 pass_of rule moments = passed by_bytes rule (full rule) (greatest_at moments)
 
--- They are on time and pass, however the switch charges. Of greatest frames at 200, 1,000 and 1,700 the last is
+-- Three frames on time pass, however the switch charges. Of greatest frames at 200, 1,000 and 1,700 the last is
 -- dropped.
 pub record PolicesThree : Type 0 where
   pub on_time : AreOnTime worked_rule three_passages
@@ -204,7 +204,7 @@ pub record DropsTheEarly : Type 0 where
 abbrev pub two_released : ℕ → List Entry
 two_released moment = entry 0 (replicate 60 7) ∷ entry moment (replicate 60 7) ∷ []
 
--- both on their way, with 20 bytes around each: the first arrives at `first`, the second at its release
+-- the two frames on their way, with 20 bytes around each: the first arrives at `first`, the second at its release
 abbrev pub two_passages : (first second : ℕ) → List Passage
 two_passages first second = passage 0 first 84 ∷ passage second second 84 ∷ []
 
@@ -223,14 +223,14 @@ pub record NeedsTheGap : Type 0 where
   pub spaced : BothFail (IsSpaced 1000 None (two_released 500))
       (AllPass by_bytes (rule_around 1000 64 200 20) (two_passages 0 500))
 
--- It is also dropped if the frames are a byte greater than the switch allows.
+-- A frame is also dropped if it is a byte greater than the switch allows.
 pub record NeedsTheGreatest : Type 0 where
   pub spaced : IsSpaced 1000 None (two_released 1000)
   pub way : AllZip (IsOnItsWay 20 200) (two_released 1000) (two_passages 200 1000)
   pub small : BothFail (All (IsUpTo 63) (two_released 1000))
       (AllPass by_bytes (rule_around 1000 63 200 20) (two_passages 200 1000))
 
--- And if the first is delayed by a microsecond more than the jitter.
+-- A frame is also dropped if the one before it is delayed by a microsecond more than the jitter.
 pub record NeedsTheJitter : Type 0 where
   pub spaced : IsSpaced 1000 None (two_released 1000)
   pub small : All (IsUpTo 64) (two_released 1000)

@@ -20,9 +20,9 @@ abbrev pub ahead : ℕ → ℕ → ℕ → Bool
 ahead zero last n = false
 ahead (suc many) last n = nat_eq n (next_number last) || ahead many (next_number last) n
 
--- How many numbers after the last one of its network the check takes as valid, and how many after the last accepted one
--- are new. A frame that is not new is the copy of an old one. A receiver that expects only the next number has 1; the
--- standard's check of the next two has 2.
+-- A receiver's two tolerances: the check takes `check` numbers after the last one of its network as valid, and `window`
+-- numbers after the last accepted one are new. A frame that is not new is the copy of an old one. A receiver that
+-- expects only the next number has 1; the standard's check of the next two has 2.
 pub record Tolerance : Type 0 where
   pub check : ℕ
   pub window : ℕ
@@ -59,7 +59,7 @@ abbrev pub is_accepted : Tolerance → State → Net → ℕ → Bool
 is_accepted tolerance state net n =
     is_valid tolerance.check (seen_on net state) n && is_ahead tolerance.window state.accepted n
 
--- the frames that are accepted, of those that arrive from both networks in this order
+-- the accepted frames, of the frames that arrive from both networks in this order
 abbrev pub received : {F : Type 0} → (F → ℕ) → Tolerance → State → List (Net × F) → List F
 received number tolerance state [] = []
 received number tolerance state (e ∷ es) =
@@ -74,12 +74,12 @@ carried_by B B frame later = frame ∷ later
 carried_by A B frame later = later
 carried_by B A frame later = later
 
--- what one network carried, of what came from both, in order
+-- the frames that one network carried, in order
 abbrev pub carried : {F : Type 0} → Net → List (Net × F) → List F
 carried net [] = []
 carried net (e ∷ es) = carried_by net e.0 e.1 (carried net es)
 
--- Each frame that comes is at most `lag` frames behind what the other network carried before it.
+-- Each frame that comes is at most `lag` frames after the farthest one that the other network carried before it.
 abbrev pub IsNear : {F : Type 0} → ℕ → List (Net × F) → Type 0
 IsNear {F} lag arrivals = (before after : List (Net × F)) (net : Net) (frame : F)
     → arrivals ≡ before ++ (net, frame) ∷ after
@@ -100,8 +100,8 @@ pub record IsStream (stream : List (List ℕ)) : Type 0 where
   pub long : All IsLong stream
   pub numbered : IsNumbered number_in 0 stream
 
--- what two networks carried of a link's stream, in the order in which it came from both: each a beginning of the
--- stream, without a gap, and near to the other
+-- a link's stream as two networks carried it, in the order of arrival: each network carried a prefix of the stream,
+-- without a gap, and the two are near
 pub record AreCarried (lag : ℕ) (stream : List (List ℕ)) (arrivals : List (Net × List ℕ)) : Type 0 where
   pub on_a : IsPrefixOf (carried A arrivals) (map (twin_of A) stream)
   pub on_b : IsPrefixOf (carried B arrivals) (map (twin_of B) stream)
@@ -117,7 +117,7 @@ abbrev pub IsOnce : Tolerance → List (List ℕ) → List (Net × List ℕ) →
 IsOnce tolerance stream arrivals = map (twin_of A) (received number_in tolerance begin arrivals)
     ≡ take (most_carried arrivals) (map (twin_of A) stream)
 
--- It does, in any interleaving of the two networks.
+-- A receiver accepts each frame once, in any interleaving of the two networks.
 abbrev pub ExactlyOnce : Type 0
 ExactlyOnce = (lag : ℕ) (tolerance : Tolerance) (stream : List (List ℕ))
     (arrivals : List (Net × List ℕ)) → IsFitFor lag tolerance → IsStream stream → AreCarried lag stream arrivals

@@ -1,4 +1,4 @@
--- How near the two networks are in time.
+-- The skew of the two networks in time.
 use Rattle.std.specs.Prelude.{◌≡◌, ℕ, ◌+◌, ◌-◌, ◌*◌, ◌/◌, ◌≤◌, ◌<◌, ◌↔◌, List, ◌∷◌, ◌++◌, length, []}
 use Rattle.afdx_frame.specs.declared.net.Net.{Net}
 use Rattle.afdx_laws.specs.Receiver.{Tolerance, IsFitFor, carried, IsNear}
@@ -22,7 +22,7 @@ SkewIsNear = (gap delay : ℕ) (released at : ℕ → ℕ) (arrivals : List (Net
     → ((i : ℕ) → released i + gap ≤ released (i + 1)) → ((k : ℕ) → at k ≤ at (k + 1))
     → IsDelivered delay released at arrivals → IsNear (frames_behind gap delay) arrivals
 
--- So a receiver tolerates exactly the delays under 255 - window gaps: under 254 gaps if only the next number is new.
+-- A receiver tolerates exactly the delays under 255 - window gaps: under 254 gaps if only the next number is new.
 abbrev pub SkewIsFit : Type 0
 SkewIsFit = (gap delay : ℕ) (tolerance : Tolerance) → 1 ≤ gap → 1 ≤ tolerance.check → 1 ≤ tolerance.window
     → IsFitFor (frames_behind gap delay) tolerance ↔ (delay < (255 - tolerance.window) * gap)
@@ -37,7 +37,7 @@ arrival_of k = 300 + 100 * k
 abbrev pub both_copies : List (Net × List ℕ)
 both_copies = (A, 7 ∷ []) ∷ (B, 7 ∷ []) ∷ []
 
--- They meet the premises, and are near with a lag of one frame, not of none.
+-- Both copies meet the premises, and are near with a lag of one frame, not of none.
 pub record ComesInTime : Type 0 where
   pub apart : (i : ℕ) → released_at i + 1000 ≤ released_at (i + 1)
   pub forward : (k : ℕ) → arrival_of k ≤ arrival_of (k + 1)

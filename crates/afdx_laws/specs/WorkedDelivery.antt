@@ -17,7 +17,7 @@ use Rattle.afdx_laws.specs.Rows.{BothFail, NeedsEach}
 abbrev pub bytes_41 : List ℕ
 bytes_41 = replicate 41 0xaa
 
--- the accepted messages of sub-VL 0: this one
+-- the accepted messages of sub-VL 0: one message of 41 bytes
 abbrev pub one_accepted : List Sent
 one_accepted = record { port = demo_port; bytes = bytes_41 } ∷ []
 
@@ -25,19 +25,19 @@ one_accepted = record { port = demo_port; bytes = bytes_41 } ∷ []
 abbrev pub other_accepted : List Sent
 other_accepted = record { port = demo_port; bytes = replicate 41 0xbb } ∷ []
 
--- its first frame, for a network: bytes 0 to 23 of the datagram
+-- the first frame of the message, for a network: bytes 0 to 23 of the datagram
 abbrev pub front_frame : Net → List ℕ
 front_frame net = frame_of 1 demo_port bytes_41 0 (piece_at 25 49 0) net 0
 
--- its second frame: bytes 24 to 48
+-- the second frame of the message: bytes 24 to 48
 abbrev pub back_frame : Net → List ℕ
 back_frame net = frame_of 1 demo_port bytes_41 0 (piece_at 25 49 24) net 1
 
--- what was sent to a network
+-- the frames sent to a network
 abbrev pub both_frames : Net → List (List ℕ)
 both_frames net = front_frame net ∷ back_frame net ∷ []
 
--- what arrives, in order
+-- the four frames that arrive, in order
 abbrev pub four_arrivals : List (Net × List ℕ)
 four_arrivals = (A, front_frame A) ∷ (B, front_frame B) ∷ (B, back_frame B) ∷ (A, back_frame A) ∷ []
 
@@ -70,7 +70,7 @@ NeedsHanding = NeedsEach (λ (accepted : List Sent). AreHanded 1 25 0 accepted (
     (IsFitFor 3) (AreCarriedOf 3 (both_frames A) (both_frames B)) (Arrives (longer (both_frames A) (both_frames B)))
     one_accepted other_accepted plain_receiver closed_receiver four_arrivals three_arrivals
 
--- The same of the stream.
+-- Each premise of the law of one network's stream is needed.
 abbrev pub NeedsAStream : Type 0
 NeedsAStream = NeedsEach (λ (accepted : List Sent). IsSending 1 25 0 accepted A (both_frames A))
     (IsFitFor 3) (AreCarried 3 (both_frames A)) (Arrives (both_frames A))
@@ -159,16 +159,16 @@ second_lost = (A, 0) ∷ (A, 0) ∷ (B, 0) ∷ (B, 1) ∷ []
 abbrev pub first_lost : List (Net × ℕ)
 first_lost = (A, 1) ∷ (B, 0) ∷ (B, 1) ∷ []
 
--- the same, of three frames
+-- network A loses the first of three frames, and its second comes before all others
 abbrev pub first_of_three : List (Net × ℕ)
 first_of_three = (A, 1) ∷ (B, 0) ∷ (B, 1) ∷ (B, 2) ∷ []
 
--- what is accepted of the worked delivery's stream, as network A has it
+-- the accepted frames of the worked delivery's stream, as network A has it
 abbrev pub accepted_of : List (Net × ℕ) → List (List ℕ)
 accepted_of came = map (twin_of A) (received number_in (next_alone 1) begin (frames_at (both_frames A) came))
 
 -- The frames of the worked delivery meet the premises of the law of losses, and are accepted once. So are three numbers
--- of which network A loses the second.
+-- if network A loses the second.
 pub record MasksOneLoss : Type 0 where
   pub lost : AreClose B 3 0 0 one_lost
   pub numbers : received (λ (n : ℕ). n) (next_alone 2) begin one_lost ≡ 0 ∷ 1 ∷ 2 ∷ []
@@ -192,7 +192,7 @@ pub record BeginsOnBoth : Type 0 where
   pub later : BeginsFirst A first_lost → ⊥
   pub dropped : accepted_of first_lost ≡ back_frame A ∷ []
 
--- a receiver's messages of sub-VL 0, of what arrives of `frames`
+-- a receiver's messages of sub-VL 0, from the frames of `frames` that arrive
 abbrev pub messages_despite : ℕ → List (List ℕ) → List (Net × ℕ) → List (List ℕ)
 messages_despite check frames came = messages_in 0 (received number_in (next_alone check) begin (frames_at frames came))
 
@@ -205,8 +205,8 @@ ArrivesDespite frames accepted check came =
 abbrev pub ComesDespiteLoss : Type 0
 ComesDespiteLoss = messages_despite 1 (both_frames A) second_lost ≡ bytes_41 ∷ []
 
--- Its stream meets the premises, and each premise is needed. If another message was accepted, it does not arrive. If
--- the receiver's check takes no number but 0, or network A loses the first frame and leads, none does.
+-- The stream of the two frames meets the premises, and each premise is needed. If another message was accepted, it does
+-- not arrive. If the receiver's check takes no number but 0, or network A loses the first frame and leads, none does.
 abbrev pub NeedsAWholeNetwork : Type 0
 NeedsAWholeNetwork = NeedsEach (λ (accepted : List Sent). IsSending 1 25 0 accepted A (both_frames A))
     (λ (check : ℕ). 1 ≤ check) (AreClose B (length (both_frames A)) 0 0) (ArrivesDespite (both_frames A))
@@ -216,7 +216,7 @@ NeedsAWholeNetwork = NeedsEach (λ (accepted : List Sent). IsSending 1 25 0 acce
 abbrev pub longer_frames : List (List ℕ)
 longer_frames = longer (both_frames A) (both_frames B)
 
--- The same by what was sent to both networks.
+-- The message of the two lists sent arrives although network A lost its second frame.
 abbrev pub HandedDespiteOneLoss : Type 0
 HandedDespiteOneLoss = messages_despite 1 longer_frames second_lost ≡ bytes_41 ∷ []
 

@@ -26,11 +26,11 @@ use Rattle.afdx_laws.specs.Plans.{frames_of, longer_of, rule_at, all_from, IsHan
 use Rattle.afdx_laws.specs.Rows.{BothFail, NeedsEach}
 use Rattle.afdx_laws.specs.WorkedDelivery.{plain_receiver, closed_receiver, back_frame, first_lost, messages_despite}
 
--- what was sent to the network
+-- the frame sent to the network
 abbrev pub one_entry : Net → List Entry
 one_entry net = one_entry_at 0 net
 
--- what arrives from both
+-- the two frames that arrive, B's first
 abbrev pub two_arrivals : List (Net × List ℕ)
 two_arrivals = (B, one_frame B) ∷ (A, one_frame A) ∷ []
 
@@ -38,7 +38,7 @@ two_arrivals = (B, one_frame B) ∷ (A, one_frame A) ∷ []
 abbrev pub one_passage : List Passage
 one_passage = passage 0 40 84 ∷ []
 
--- It meets the premises of the laws of a plan: the message arrives, and a switch drops no frame.
+-- The worked plan meets the premises of the laws of a plan: the message arrives, and a switch drops no frame.
 pub record OneIsLegal : Type 0 where
   pub handed : IsHandedOver demo_plan one_byte_accepted (one_entry A) (one_entry B) 0 0
   pub carry : AreCarriedOf 1 (frames_of 1 (one_entry A)) (frames_of 1 (one_entry B)) two_arrivals
@@ -71,7 +71,7 @@ other_own place = (2 ∷ []) ∷ []
 abbrev pub OwnComes : (ℕ → List (List ℕ)) → List (Net × List ℕ) → Type 0
 OwnComes own arrivals = AreOwnLists demo_plan 0 0 own (messages_in 0 (received number_in plain_receiver begin arrivals))
 
--- It meets the premises of the law of the ports' own lists, and the list arrives.
+-- The worked plan meets the premises of the law of the ports' own lists, and the list arrives.
 pub record OneIsWhole : Type 0 where
   pub valid : IsPlan demo_plan
   pub handed : IsHandedWhole demo_plan one_own (one_entry A) (one_entry B)
@@ -106,7 +106,7 @@ pub record ComesFromOne : Type 0 where
   pub elsewhere : IsLegal (demo_on OnlyA) one_byte_accepted (one_entry A) (one_entry B) → ⊥
   pub lost : messages_in 0 (received number_in plain_receiver begin (all_from A (back_frame A ∷ []))) ≡ []
 
--- The link is on both networks: the two lists are twins, and its own stream is what was sent to network A. With the
+-- The link is on both networks: the two lists are twins, and its own stream is the list sent to network A. With the
 -- link on network A alone, the list has no entry of a link on both.
 pub record AreTwinsOfOne : Type 0 where
   pub both : All IsOnBoth (demo_on Both).links
@@ -130,7 +130,7 @@ swapped_accepted k sub = other_byte ∷ one_byte ∷ []
 abbrev pub second_frame : Net → List ℕ
 second_frame net = frame_of 1 demo_port (2 ∷ []) 1 (piece_at 1479 9 0) net 1
 
--- what was sent to the network, the second frame at `now`
+-- the two frames sent to the network, the second at `now`
 abbrev pub pair_at : ℕ → Net → List Entry
 pair_at now net = entry 0 (one_frame net) ∷ entry now (second_frame net) ∷ []
 
@@ -140,16 +140,16 @@ two_entries net = pair_at 1000 net
 abbrev pub longer_pair : List (List ℕ)
 longer_pair = longer_of 1 (two_entries A) (two_entries B)
 
--- these messages are transmitted legally
+-- messages that the pair of frames transmits legally
 abbrev pub PairHanded : Accepted → Type 0
 PairHanded accepted = IsHandedOver demo_plan accepted (two_entries A) (two_entries B) 0 0
 
--- Accepted in the other order, they may be sent, but are not transmitted legally.
+-- The two messages accepted in the other order may be sent, but are not transmitted legally.
 pub record AreSwapped : Type 0 where
   pub allowed : All (IsQueued demo_plan 0 0) (swapped_accepted 0 0)
   pub legal : IsLegal demo_plan swapped_accepted (two_entries A) (two_entries B) → ⊥
 
--- what arrives: both frames of network A, or only the second
+-- arrivals of both frames of network A, and of the second alone
 abbrev pub both_arrive : List (Net × List ℕ)
 both_arrive = (A, one_frame A) ∷ (A, second_frame A) ∷ []
 

@@ -105,8 +105,8 @@ pub fn in_order()
 /// A receiver's messages of a sub-VL are the first accepted ones, each once and in order, and all whose fragments one
 /// of the networks carried.
 ///
-/// Premises: those of `exactly_once`, and the link's frames of this sub-VL are the first fragments of its accepted
-/// messages.
+/// Premises: the premises of `exactly_once`, and the link's frames of this sub-VL are the first fragments of its
+/// accepted messages.
 pub fn messages_arrive()
     ensures arrive { MessagesArrive }
     ensures worked { OneMessageArrives }
@@ -124,7 +124,7 @@ pub fn despite_loss()
     ensures needed { NeedsAWholeNetwork }
 {}
 
-/// The same as `messages_arrive`, by what was sent to the two networks over a link: two numbered lists, twins as far as
+/// States `messages_arrive` by the frames sent to the two networks over a link: two numbered lists, twins as far as
 /// both go, which contain the first fragments of the accepted messages of the sub-VL. For a link on one network the
 /// other list is empty.
 ///
@@ -136,7 +136,7 @@ pub fn handed_arrive()
     ensures needed { NeedsHanding }
 {}
 
-/// The same as `despite_loss`, by what was sent to the two networks over a link on both networks.
+/// States `despite_loss` by the frames sent to the two networks over a link on both networks.
 #[tactic(auto, using(crate::proofs::HandedOver::handed_despite_loss_holds, crate::proofs::WorkedMessage::comes_despite_loss, crate::proofs::WorkedMessage::needs_one_whole))]
 pub fn handed_despite_loss()
     ensures arrive { HandedDespiteLoss }
@@ -157,8 +157,8 @@ pub fn legal_arrive()
     ensures needed { NeedsLegal }
 {}
 
-/// The same even if one network loses, repeats and reorders frames, if the other carries all frames of the link and
-/// only the next number is new to the receiver.
+/// For each link and sub-VL of a valid plan, the first accepted messages arrive even if one network loses, repeats and
+/// reorders frames, if the other carries all frames of the link and only the next number is new to the receiver.
 ///
 /// For a link on one network, that network carries all, and the law adds nothing to `one_network_arrives`: no other
 /// network replaces what it loses. The stream's first frame arrives before all others (`first` in `AreClose`, see
@@ -176,7 +176,7 @@ pub fn legal_despite_loss()
 /// The premise on the transmitter (`afdx_legal`, `IsHandedWhole`) follows from the contracts of `afdx_tx`:
 /// `Emitter::gather` (`gathered`: what was accepted of each port is its own list), `Draining::poll` (`accepted`: it
 /// stays so), `Draining::is_done`, and `Draining::into_networks` (`legal`, `allowed`). `storm::storm` combines them in
-/// its contract. The premises at the other end are those of `legal_arrive`. For a link on one network, that network
+/// its contract. At the other end, `legal_arrive` has the same premises. For a link on one network, that network
 /// carried all.
 pub fn own_lists_arrive()
     ensures arrive { OwnListsArrive }
@@ -235,9 +235,9 @@ pub fn next_fragment()
 /// A receiver that reassembles the messages of a link needs one buffer of 8,200 bytes for each of its sub-VLs: it never
 /// holds fragments of two datagrams of one sub-VL, nor a byte after the first 8,200 of one.
 ///
-/// For fragments (`one`) the premises are those of `in_order`, and the bound on the bytes is that on the datagrams. For
-/// what was sent to two networks (`handed`), for each link of a valid plan (`legal`), and if one network loses frames
-/// (`despite`), they are those of `handed_arrive`, `legal_arrive` and `legal_despite_loss`.
+/// For fragments (`one`) `in_order` has the same premises, and the bound on the bytes is the bound on the datagrams.
+/// For what was sent to two networks (`handed`), for each link of a valid plan (`legal`), and if one network loses
+/// frames (`despite`), the laws `handed_arrive`, `legal_arrive` and `legal_despite_loss` have the same premises.
 pub fn one_buffer()
     ensures one { OneBuffer }
     ensures handed { HandedNeedOne }

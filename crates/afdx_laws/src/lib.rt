@@ -1,4 +1,4 @@
-//! What receivers, switches and integrators can rely on, as laws. This crate builds no receiver and no switch: specs/
+//! Laws that receivers, switches and integrators can rely on. This crate builds no receiver and no switch: specs/
 //! defines them for the statements.
 #![tactic(auto)]
 

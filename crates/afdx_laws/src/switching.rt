@@ -45,7 +45,7 @@ pub fn stream_passes()
 
 /// For each link of a valid plan: a switch that polices the link by its gap and its greatest frame drops no frame that
 /// was sent legally to its network, if they arrive in the order in which they were sent, each delayed by at most the
-/// jitter that the switch allows. A jitter over the BAG may exchange two frames of a link, of which this says nothing.
+/// jitter that the switch allows. The law does not cover a jitter over the BAG that exchanges two frames of a link.
 pub fn legal_passes()
     ensures passes { LegalPasses }
     ensures worked { PassesAGapApart }

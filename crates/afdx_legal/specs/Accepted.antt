@@ -24,7 +24,7 @@ abbrev pub AreQueued : Plan → Accepted → Type 0
 AreQueued plan accepted = (k s : ℕ) → k < length plan.links → s < (link_plan_at plan.links k).sub_vls
     → All (IsQueued plan k s) (accepted k s)
 
--- the same, no longer than its port may send
+-- a queued message that is no longer than its port may send
 pub record IsAllowed (plan : Plan) (k sub : ℕ) (sent : Sent) : Type 0 where
   pub queued : IsQueued plan k sub sent
   pub most : length sent.bytes ≤ sent.port.max
@@ -45,7 +45,7 @@ abbrev pub port_messages : Plan → Accepted → ℕ → List (List ℕ)
 port_messages plan accepted place = messages_of (port_plan_at plan.ports place)
     (accepted (link_place plan (port_plan_at plan.ports place)) (port_plan_at plan.ports place).sub)
 
--- what was accepted of each port is its own list
+-- each port's accepted messages are its own list
 abbrev pub AreOwn : Plan → Accepted → (ℕ → List (List ℕ)) → Type 0
 AreOwn plan accepted own = (place : ℕ) → place < length plan.ports → port_messages plan accepted place ≡ own place
 

@@ -14,11 +14,11 @@ capped n = min n (2 ^ 64 - 1)
 abbrev pub bytes_in : List Entry → ℕ
 bytes_in stream = sum_by (λ (e : Entry). length e.frame) stream
 
--- whether a frame is the last of its message: no more fragments follow (RFC 791, 3.1)
+-- true if a frame is the last of its message: no more fragments follow (RFC 791, 3.1)
 abbrev pub ends_message : Entry → Bool
 ends_message e = nat_lt (fragment_field e.frame) more_fragments
 
--- the messages whose last frame is among them
+-- the number of messages whose last frame is in a stream
 abbrev pub messages_ended : List Entry → ℕ
 messages_ended stream = length (filter ends_message stream)
 

@@ -29,9 +29,8 @@ abbrev pub AreKnown : List LinkPlan → Net → List Entry → Type 0
 AreKnown links net [] = Unit {0}
 AreKnown links net (e ∷ es) = IsKnown links net e.frame × AreKnown links net es
 
--- What was sent to one network is legal. Every frame is known, and none is of a link that the network doesn't carry.
--- Each sub-VL's stream is a prefix of the fragments of its accepted messages. Each link's stream is numbered and
--- spaced.
+-- Legal transmission on one network. Every frame is known, and belongs to a link that the network carries. Each
+-- sub-VL's stream is a prefix of the fragments of its accepted messages. Each link's stream is numbered and spaced.
 pub record IsLegalOn (plan : Plan) (accepted : Accepted)
     (net : Net) (handed : List Entry) : Type 0 where
   pub known : AreKnown plan.links net handed
@@ -46,7 +45,7 @@ pub record IsLegalOn (plan : Plan) (accepted : Accepted)
       → IsSpaced (bag_micros (link_plan_at plan.links k).bag) None
       (link_stream (link_plan_at plan.links k).id.0 handed)
 
--- whether a link with this identifier is on both networks
+-- true if a link with this identifier is on both networks
 abbrev pub is_on_both : List LinkPlan → ℕ → Bool
 is_on_both links vl = list_any (λ (link : LinkPlan). nat_eq link.id.0 vl && is_both link.networks) links
 
@@ -58,7 +57,7 @@ pub record AreTwins {F : Type 0} (turn : Net → F → F) (a b : List F) : Type 
   pub b_shorter : length b ≤ length a → b ≡ map (turn B) (take (length b) a)
   pub a_shorter : length a ≤ length b → a ≡ map (turn A) (take (length a) b)
 
--- What was sent to the two networks is legal for the accepted lists. Of links on both, the two lists are twins.
+-- Legal transmission on the two networks for the accepted lists. Over the links on both, the two lists are twins.
 pub record IsLegal (plan : Plan) (accepted : Accepted) (a b : List Entry) : Type 0 where
   pub on_a : IsLegalOn plan accepted A a
   pub on_b : IsLegalOn plan accepted B b

@@ -94,7 +94,7 @@ abbrev pub TakeTurnsOn : Plan → List Entry → Type 0
 TakeTurnsOn plan handed = (k : ℕ) → k < length plan.links
     → TakesTurns (link_stream (link_plan_at plan.links k).id.0 handed)
 
--- and on both networks
+-- the sub-VLs of each link of a plan take turns on both networks
 pub record TakeTurns (plan : Plan) (a b : List Entry) : Type 0 where
   pub on_a : TakeTurnsOn plan a
   pub on_b : TakeTurnsOn plan b

@@ -19,7 +19,7 @@ one_byte_accepted k sub = one_byte ∷ []
 abbrev pub one_frame : Net → List ℕ
 one_frame net = frame_of 1 demo_port (1 ∷ []) 0 (piece_at 1479 9 0) net 0
 
--- what was sent to the network, at `now`
+-- the frame sent to the network, at `now`
 abbrev pub one_entry_at : ℕ → Net → List Entry
 one_entry_at now net = entry now (one_frame net) ∷ []
 
@@ -31,11 +31,11 @@ turn_entry at sub more = entry at (replicate 19 0 ++ sub ∷ (if more then 32 el
 abbrev pub in_turn : List Entry
 in_turn = turn_entry 0 0 true ∷ turn_entry 1000 1 false ∷ turn_entry 2000 0 false ∷ []
 
--- two of sub-VL 1 between them, as if whole messages took turns
+-- a message of two fragments of sub-VL 0, and between them two of sub-VL 1, as if whole messages took turns
 abbrev pub out_of_turn : List Entry
 out_of_turn = turn_entry 0 0 true ∷ turn_entry 1000 1 true ∷ turn_entry 2000 1 false ∷ turn_entry 3000 0 false ∷ []
 
--- between two messages, any number may lie
+-- two messages of sub-VL 0, and between them two fragments of sub-VL 1: any number may lie there
 abbrev pub between_messages : List Entry
 between_messages =
     turn_entry 0 0 false ∷ turn_entry 1000 1 true ∷ turn_entry 2000 1 false ∷ turn_entry 3000 0 false ∷ []

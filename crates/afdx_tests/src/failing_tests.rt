@@ -6,8 +6,8 @@ use afdx_plan::VlId;
 use afdx_tx::{PollFault, Report};
 use redundant_mux::{MemNetwork, Standing};
 
-/// A plan of links with a port each, how many messages of how many bytes each sends, in how many frames, and the links
-/// of which networks A and B get a frame in each poll, in their order.
+/// A plan of links with a port each; the number, the bytes and the fragments of each port's messages; and for networks
+/// A and B the links that get a frame in each poll, in their order.
 type Sending = (Plan, usize, &'static [u8], usize, [&'static [u16]; 2]);
 
 // A link on A, one on B, and one on both.
@@ -30,10 +30,10 @@ const SENDINGS: [Sending; 3] = [
     (THREE, 3, &[7], 1, [&[1, 3], &[2, 3]]),
 ];
 
-// How many polls there are, a gap apart.
+// The number of polls, a gap apart.
 const POLLS: usize = 6;
 
-// A network: the links of the frames that it gets in each poll, in how many polls, and the hand at which it fails.
+// A network: the links of the frames that it gets in each poll, the number of polls, and the hand at which it fails.
 #[derive(Clone, Copy)]
 struct Side {
     links: &'static [u16],
@@ -42,19 +42,19 @@ struct Side {
 }
 
 impl Side {
-    // How many frames it gets before it fails.
+    // Returns the number of frames that the network gets before it fails.
     fn takes(&self) -> usize {
         let all = self.polls.saturating_mul(self.links.len());
         all.min(self.fails.saturating_sub(1))
     }
 
-    // Whether it is up after this many polls.
+    // Returns true if the network is up after this many polls.
     fn is_up(&self, polls: usize) -> bool {
         let hands = self.polls.min(polls).saturating_mul(self.links.len());
         hands < self.fails
     }
 
-    // Whether it takes the frame of a link in a poll, counted from 0.
+    // Returns true if the network takes the frame of a link in a poll, counted from 0.
     fn has(&self, poll: usize, link: u16) -> bool {
         let before = poll.saturating_mul(self.links.len());
         let at = self.links.iter().position(|it| *it == link);
@@ -79,7 +79,7 @@ impl Side {
     }
 }
 
-// How many frames a poll releases: those of links of which some network takes one.
+// Returns the number of frames that a poll releases: of links with a frame that some network takes.
 fn count_released(a: &Side, b: &Side, poll: usize) -> usize {
     let mut count = 0usize;
     for link in 1..=3 {
@@ -88,7 +88,7 @@ fn count_released(a: &Side, b: &Side, poll: usize) -> usize {
     count
 }
 
-// Asserts what a poll answers, counted from 0.
+// Asserts the answer of a poll, counted from 0.
 fn assert_answer(
     rt: &impl Abort,
     answer: Result<Report, PollFault>,
@@ -109,7 +109,7 @@ fn assert_answer(
     assert_same(rt, told, (count_released(a, b, poll), standing));
 }
 
-// Whether some network takes each frame.
+// Returns true if some network takes each frame.
 fn are_all_taken(a: &Side, b: &Side, links: usize) -> bool {
     let mut count = 0usize;
     for poll in 0..a.polls {
@@ -118,7 +118,7 @@ fn are_all_taken(a: &Side, b: &Side, links: usize) -> bool {
     count == a.polls.saturating_mul(links)
 }
 
-// A run in which the networks fail at these hands, and the drain begins after `before` polls.
+// Runs an emitter whose networks fail at these hands, and whose drain begins after `before` polls.
 fn run(rt: &impl Host, sending: &Sending, fails: (usize, usize), before: usize) {
     let &(plan, messages, bytes, pieces, [on_a, on_b]) = sending;
     let polls = messages.saturating_mul(pieces);

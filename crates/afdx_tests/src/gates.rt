@@ -3,7 +3,7 @@ use std::sync::atomic::{AtomicU64, Ordering};
 use std::thread;
 use storm::Gate;
 
-// How often a thread loads a count at most.
+// The greatest number of loads of a count by a waiting thread.
 const LOOKS: u64 = 100_000_000;
 
 /// A count that threads share.
@@ -19,12 +19,12 @@ impl Count {
         self.0.load(Ordering::SeqCst)
     }
 
-    // Adds to it. Returns its value before.
+    // Adds to the count. Returns its value before.
     fn add(&self, more: u64) -> u64 {
         self.0.fetch_add(more, Ordering::SeqCst)
     }
 
-    // Waits until it is `least` or more, at most `LOOKS` loads long. Returns whether it is.
+    // Waits until the count is `least` or more, for at most `LOOKS` loads. Returns true if it is.
     fn reaches(&self, least: u64) -> bool {
         for _look in 0..LOOKS {
             if self.get() >= least {
@@ -65,12 +65,12 @@ pub struct Holding {
     frames: Count,
     pub accepted: Count,
     pub polls: Count,
-    /// How often the watcher read the first link, and the others.
+    /// The watcher's readings of the first link, and of the others.
     pub first: Count,
     pub others: Count,
-    /// How often a worker that is followed was before or after a call.
+    /// The times that a followed worker came before or after a call.
     pub followed: Count,
-    /// How often it was at the wrong time, or the watcher waited for a poll in vain.
+    /// The times that a followed worker came too early or too late, or the watcher waited for a poll in vain.
     pub wrong: Count,
 }
 
@@ -89,7 +89,7 @@ impl Holding {
         }
     }
 
-    // The worker's call after `before` others, when `accepted` messages were accepted.
+    // Follows the worker's call after `before` others, when `accepted` messages were accepted.
     fn follow(&self, before: u64, accepted: u64) {
         let calls = self.followed.add(1);
         // Of these polls the second at the latest began after the call.

@@ -1,5 +1,5 @@
-//! Tests of whole end systems, of what no contract says: that a poll finds what was sent, that calls succeed if memory
-//! suffices, that threads make progress, and what becomes of a run whose networks fail.
+//! Tests of whole end systems, for properties that no contract states: that a poll finds what was sent, that calls
+//! succeed if memory suffices, that threads make progress, and how a run goes on if its networks fail.
 #![tactic(auto)]
 
 #[cfg(test)]

@@ -10,8 +10,8 @@ use redundant_mux::{HandFault, Mux, Network, Trail};
 use std::sync::Arc;
 use std::sync::atomic::{AtomicU64, Ordering};
 
-/// A network that keeps the place of each frame among those of both networks, in a number that the two share, and its
-/// time in microseconds and link.
+/// A network that keeps each frame's place in the order of both networks, in a number that the two share, and its time
+/// in microseconds and link.
 #[derive(Drop)]
 struct Counting {
     places: Arc<AtomicU64, Global>,
@@ -65,7 +65,7 @@ const FOUR: Plan = (
     ],
 );
 
-// The places of the frames of one poll that A takes, and those that B takes, with their links.
+// The places of one poll's frames that A takes, and of the frames that B takes, with their links.
 const FOR_A: [(u64, u16); 3] = [(0, 1), (2, 2), (3, 3)];
 
 const FOR_B: [(u64, u16); 3] = [(1, 1), (4, 3), (5, 4)];

@@ -13,10 +13,10 @@ const TWO_SUB_VLS: Plan = (
     &[(20, 1, 0, 1, 8_192), (21, 1, 1, 1, 8_192)],
 );
 
-// How many bytes a port sends, the steps in its pause, and why the message is refused, if it is.
+// The bytes of a port's message, the steps in its pause, and the reason if it is refused.
 type Paused = (usize, &'static [Step<'static>], Option<Refusal>);
 
-// What the port of sub-VL 0 sends, and the steps after that. The steps have the port of sub-VL 1 alone.
+// The messages that the port of sub-VL 0 sends, and the steps after that. The steps have the port of sub-VL 1 alone.
 const PAUSES: &[(&[Paused], &[Step])] = &[
     // Another sub-VL releases in the pause of a port.
     (
@@ -41,7 +41,7 @@ const PAUSES: &[(&[Paused], &[Step])] = &[
             Closes(1, 1, 1),
         ],
     ),
-    // A pause runs where a port accepts alone.
+    // A pause runs if a port accepts alone.
     (
         &[
             (0, &[], Some(Refusal::Empty)),
@@ -52,14 +52,14 @@ const PAUSES: &[(&[Paused], &[Step])] = &[
         ],
         &[Closes(1, 0, 2)],
     ),
-    // A message goes out after the pause of its port.
+    // A message is transmitted after the pause of its port.
     (
         &[(1, &[Polls(0, Some((&[], BOTH)))], None)],
         &[Polls(0, Some((&[(1, 0, 0)], BOTH)))],
     ),
 ];
 
-// A port sends with a pause. Its steps are taken only if the message is accepted.
+// Sends a message with a pause. The steps of the pause are taken only if the message is accepted.
 fn send_paused(
     rt: &impl Host,
     rig: &mut Rig<MemNetwork>,
@@ -89,10 +89,10 @@ fn a_port_pauses_only_where_it_accepts_and_its_message_goes_out_after_that(rt: H
     }
 }
 
-// How often a thread loads the stage at most.
+// The greatest number of loads of the stage by a waiting thread.
 const LOOKS: u64 = 100_000_000;
 
-// Waits until the stage is `least` or more, at most `LOOKS` loads long. Returns whether it is.
+// Waits until the stage is `least` or more, for at most `LOOKS` loads. Returns true if it is.
 fn reaches(stage: &AtomicU64, least: u64) -> bool {
     for _look in 0..LOOKS {
         if stage.load(Ordering::SeqCst) >= least {
@@ -117,7 +117,7 @@ fn send_held(rt: &impl Host, port: &mut TxPort, stage: &AtomicU64) -> bool {
     sent.is_ok() && may_go
 }
 
-// What the rig does while the port is held.
+// The rig's steps while the port is held.
 const MEANWHILE: &[Step] = &[
     Sends(0, &[2]),
     Polls(0, Some((&[(1, 1, 0)], BOTH))),

@@ -32,13 +32,13 @@ impl<N: Network + Drop> Model for Rig<N> {
 /// A frame that a poll releases: its link, its sub-VL and its sequence number.
 pub type Frame = (u16, u8, u8);
 
-/// What a poll answers: the frames that it releases and the networks that are up after it, or none if both were down.
+/// The answer of a poll: the frames that it releases and the networks that are up after it, or none if both were down.
 pub type Polled<'a> = Option<(&'a [Frame], Standing)>;
 
 /// The counts of a link: frames, bytes, messages, and the time of the last frame in microseconds.
 pub type Counted = (u64, u64, u64, u64);
 
-/// What a test does before the drain, and what it expects.
+/// The steps of a test before the drain, with the expected answers.
 #[derive(Clone, Copy)]
 pub enum Step<'a> {
     /// The port at this place sends a message, which is accepted.
@@ -72,7 +72,7 @@ pub fn open_over<N: Network + Drop>(rt: &impl Host, text: String, a: N, b: N) ->
     }
 }
 
-/// Asserts what a poll answered.
+/// Asserts the answer of a poll.
 pub fn assert_polled(rt: &impl Abort, answer: Result<Report, PollFault>, wanted: Polled) {
     let Some((frames, standing)) = wanted else {
         return assert_same(rt, answer.err(), Some(PollFault::BothDown));
@@ -88,7 +88,7 @@ pub fn assert_polled(rt: &impl Abort, answer: Result<Report, PollFault>, wanted:
 }
 
 impl<N: Network + Drop> Rig<N> {
-    /// The port at a place sends a message, which is accepted.
+    /// Sends a message of the port at a place, and asserts that it is accepted.
     pub fn send(&mut self, rt: &impl Host, at: usize, bytes: &[u8]) {
         assert!(rt; at < self.ports.len());
         assert!(rt; self.ports[at].send_slice(bytes).is_ok());

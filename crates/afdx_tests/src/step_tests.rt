@@ -1,4 +1,4 @@
-//! Tests on one thread, each a list of steps, and the names of what calls refuse.
+//! Tests on one thread, each a list of steps, and the names of the reasons for which calls refuse.
 use crate::rig::Step::*;
 use crate::rig::*;
 use crate::testing::*;
@@ -70,7 +70,7 @@ const PLAYS: &[Play] = &[
         ],
         &[(7_000, None, 5_000, false)],
     ),
-    // What is left goes out after the port came back.
+    // The message that is left is released after the port came back.
     (
         DEMO,
         (NEVER, NEVER),
@@ -117,7 +117,7 @@ fn frames_are_counted_once_a_network_took_them_and_a_lost_one_is_never_done(rt: 
     }
 }
 
-// Why a port refuses a message, with the number and the name of that.
+// The reasons for which a port refuses a message, with their numbers and names.
 const REFUSALS: [(Refusal, u8, &str); 5] = [
     (Refusal::Empty, 1, "Empty"),
     (Refusal::TooLong, 2, "TooLong"),
@@ -126,7 +126,7 @@ const REFUSALS: [(Refusal, u8, &str); 5] = [
     (Refusal::Full, 5, "Full"),
 ];
 
-// Asserts how a value is printed.
+// Asserts the text that is printed for a value.
 fn assert_text(rt: &impl Abort, told: impl Display + Drop, wanted: &str) {
     assert_same(rt, InlineText::<16>::of(told).as_str(), wanted);
 }

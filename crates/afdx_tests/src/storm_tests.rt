@@ -1,5 +1,5 @@
-//! Storms whose threads are held by a gate, and storms over networks that fail. What a run of the program shows of an
-//! open gate isn't here.
+//! Storms whose threads are held by a gate, and storms over networks that fail. A run of the program tests the open
+//! gate.
 use crate::gates::{Holding, Until};
 use crate::testing::*;
 use redundant_mux::MemNetwork;
@@ -39,10 +39,10 @@ const WITH_LINK_ON_A: Plan = (
 /// The result of a storm.
 type Ended = Result<StormReport, StormFault>;
 
-/// How many frames A and B have, and whether they are equal.
+/// The numbers of A's and of B's frames, and whether the two are equal.
 type Networks = (usize, usize, bool);
 
-// Asserts how a storm ended in which each port sends `messages` messages of a frame. If it ended well, all were
+// Asserts the end of a storm in which each port sends `messages` messages of a frame. If it ended well, all were
 // accepted, and are counted by link.
 fn assert_ended(
     rt: &impl Abort,
@@ -70,9 +70,9 @@ fn assert_ended(
     }
 }
 
-/// A plan, what its workers wait for, how many messages each port sends, and how often each thread may try; whether
-/// that is enough; how many messages are accepted, and, if the workers wait for all polls of the main thread, how
-/// often it polls.
+/// A plan, the event that its workers wait for, the number of messages of each port, and the number of times that each
+/// thread may try; true if that is enough; the number of accepted messages, and, if the workers wait for all polls of
+/// the main thread, the number of its polls.
 type Held = (Plan, Until, (u16, u64), bool, u64, Option<u64>);
 
 const HELD: [Held; 9] = [
@@ -98,7 +98,7 @@ const HELD: [Held; 9] = [
         1,
         Some(150_001),
     ),
-    // What is left for the drain is no more than it may poll, so the turns are the worker's.
+    // The drain may poll for all that is left, so the turns that end are the worker's.
     (ONE_PORT, Until::Released(4), (4, 4), true, 4, None),
     (ONE_PORT, Until::Released(5), (5, 4), false, 4, None),
     // a gate is asked before each send, and called after it
@@ -114,7 +114,7 @@ const HELD: [Held; 9] = [
     ),
 ];
 
-// Asserts how often a gate was called in a storm: the watcher reads each link as often as a port sends.
+// Asserts the numbers of a gate's calls in a storm: the watcher reads each link as often as a port sends.
 fn assert_calls(rt: &impl Abort, gate: &Holding, held: &Held) {
     let &((links, _), until, (messages, _), _, accepted, polls) = held;
     let messages = u64::from(messages);
@@ -165,14 +165,14 @@ fn threads_that_a_gate_holds_try_as_often_as_they_may_and_polls_go_on(rt: HostRu
     }
 }
 
-/// A plan, how many messages each port sends, the hands at which A and B fail, and how the storm ends.
+/// A plan, the number of messages of each port, the hands at which A and B fail, and the end of the storm.
 type Failing = (Plan, u16, (u64, u64), Result<Networks, StormFault>);
 
 const FAILING: [Failing; 9] = [
-    // a network that fails in the middle is left behind
+    // a network that fails in the middle is abandoned
     (SMALL, 100, (200, NEVER), Ok((199, 400, false))),
     (SMALL, 100, (NEVER, 400), Ok((400, 399, false))),
-    // no storm ends well where both fail
+    // no storm ends well if both networks fail
     (SMALL, 100, (1, 1), Err(StormFault::Memory)),
     (SMALL, 100, (200, 200), Err(StormFault::Memory)),
     (SMALL, 100, (1, 400), Err(StormFault::Memory)),

@@ -1,4 +1,4 @@
-//! What the tests of this crate share.
+//! Plans, networks and assertions that the tests of this crate share.
 use afdx_config::read_config;
 use afdx_plan::Config;
 use redundant_mux::Standing;
@@ -39,7 +39,7 @@ pub type Plan = (&'static [LinkRow], &'static [PortRow]);
 /// The demonstration plan.
 pub const DEMO: Plan = (&[(1, "both", 1, 1_518, 1, 2)], &[(10, 1, 0, 1, 8_192)]);
 
-/// The same, with room for six messages.
+/// The demonstration plan, with room for six messages.
 pub const SIX: Plan = (&[(1, "both", 1, 1_518, 1, 6)], &[(10, 1, 0, 1, 8_192)]);
 
 /// Appends the table of a link to the text of a plan.
@@ -65,7 +65,7 @@ pub fn push_port(rt: &impl Host, text: &mut String, port: &PortRow) {
     table.expect(rt, "memory");
 }
 
-/// The text of a plan.
+/// Returns the text of a plan.
 pub fn text_of(rt: &impl Host, (links, ports): Plan) -> String {
     let front = "version = 2\n[end_system]\nid = 1\n";
     let mut text = front.to_string(rt.alloc()).expect(rt, "memory");
@@ -78,7 +78,7 @@ pub fn text_of(rt: &impl Host, (links, ports): Plan) -> String {
     text
 }
 
-/// The `Config` of a plan's text.
+/// Returns the `Config` of a plan's text.
 pub fn config_of(rt: &impl Host, text: String) -> Config {
     let config = read_config(rt.alloc(), text.as_bytes()).expect(rt, "a valid plan");
     drop(text);

@@ -13,10 +13,10 @@ use std::thread;
 // The place of the last link of the greatest plan.
 const LAST: usize = 63;
 
-// How many messages the ports of the first and the last link send each.
+// The number of messages that the ports of the first and the last link send each.
 const MESSAGES: u64 = 10_000;
 
-// The text of 64 links, of which the first and the last have a port each.
+// Returns the text of 64 links. The first and the last have a port each.
 fn greatest_text(rt: &impl Host) -> String {
     let mut text = text_of(rt, (&[], &[]));
     for vl in 0..64 {
@@ -28,7 +28,8 @@ fn greatest_text(rt: &impl Host) -> String {
     text
 }
 
-// Whether the counts are of one entry: each frame of 60 bytes has a message of its own, a gap after the one before.
+// Returns true if the counts belong to one entry: each frame of 60 bytes has a message of its own, a gap after the
+// frame before.
 fn is_whole(found: Counts) -> bool {
     let frames = found.frames;
     frames <= MESSAGES
@@ -58,7 +59,7 @@ fn watch<R: Wait>(rt: &R, mut monitor: Monitor) -> bool
     unreachable!()
 }
 
-// Each port sends a message, which a poll sends a gap after the last one. Its counts are published.
+// Sends a message of each port, which a poll releases a gap after the last one, and publishes the counts.
 fn send_and_publish(
     rt: &impl Host,
     tx: &mut Emitter<MemNetwork, MemNetwork>,

@@ -1,4 +1,4 @@
--- The calls of an emitter beside its polls: closing, publishing, and when a link becomes due.
+-- The calls of an emitter beside its polls: closing, publishing, and the time at which a link becomes due.
 use Rattle.std.specs.Prelude.{ℕ, ◌≡◌, ◌<◌, length, slice_set, ◌^◌, List, false, min, Option, Some, None, ◌↔◌, IsNone, IfSome}
 use Rattle.afdx_plan.specs.Config.{Plan, link_plan_at}
 use Rattle.vl_link.specs.Links.{link_at, LinkState}

@@ -86,7 +86,7 @@ pub record DrainsOne : Type 0 where
       → owed_at demo_plan one_byte_accepted k no_lines < length two_moments
   pub done : IsAllDone demo_plan one_byte_accepted (log one_line)
 
--- Two such messages were accepted, of which one was transmitted at `at`.
+-- Two messages of one byte were accepted; one was transmitted at `at`.
 abbrev pub two_accepted : Accepted
 two_accepted k sub = one_byte ∷ one_byte ∷ []
 
@@ -108,20 +108,20 @@ AreUp lines = (k : ℕ) → k < length demo_plan.links → any_up (link_plan_at 
 abbrev pub AreEnough : Lines → List ℕ → Type 0
 AreEnough lines moments = (k : ℕ) → k < length demo_plan.links → owed_at demo_plan two_accepted k lines < length moments
 
--- These polls transmit nothing more, and leave a message.
+-- polls that transmit nothing more, and leave a message
 pub record LeavesOne (lines : Lines) (moments : List ℕ) : Type 0 where
   pub drained : AreDrained demo_plan two_accepted moments lines lines
   pub left : IsAllDone demo_plan two_accepted (log lines) → ⊥
 
 -- Each of these premises is needed: one of them fails alone, and the message is left.
 pub record NeedsItsPolls : Type 0 where
-  -- no poll, where a frame is owed
+  -- no poll, although a frame is owed
   pub none : LeavesOne one_line [] × StartsAfter one_line 1000 × IsGap 1000 × AreApartBy 1000 1000 [] × AreUp one_line
       × (AreEnough one_line [] → ⊥)
   -- polls that follow too soon
   pub close : LeavesOne one_line (1500 ∷ 1600 ∷ []) × StartsAfter one_line 1000 × IsGap 1000
       × (AreApartBy 1000 1000 (1500 ∷ 1600 ∷ []) → ⊥) × AreUp one_line × AreEnough one_line (1500 ∷ 1600 ∷ [])
-  -- a gap that is less than that of the link
+  -- a gap that is less than the link's
   pub short : LeavesOne one_line (1500 ∷ 1600 ∷ []) × StartsAfter one_line 1000 × (IsGap 100 → ⊥)
       × AreApartBy 100 1000 (1500 ∷ 1600 ∷ []) × AreUp one_line × AreEnough one_line (1500 ∷ 1600 ∷ [])
   -- a release after the polls

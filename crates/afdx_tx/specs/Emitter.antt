@@ -16,8 +16,8 @@ use Rattle.afdx_legal.specs.Legal.{Accepted, AreKnown}
 use Rattle.vl_link.specs.Links.{Held, LinkState, held_at, link_at, taken_by, HasOwnItems, IsLinkOfPlan, IsSameLink}
 use Rattle.vl_link.specs.Kept.{IsLinkTied, IsKept}
 
--- An emitter: its plan, its links in the order of the plan, the frames that the networks accepted,
--- the time of the last poll, and what was published of each link.
+-- An emitter: its plan, its links in the order of the plan, the frames that the networks accepted, the time of the last
+-- poll, and the published counts of each link.
 pub record Tx : Type 0 where
   pub plan : Plan
   pub links : List LinkState
@@ -53,7 +53,7 @@ ports_of_sub ports vl sub =
 abbrev pub greatest_of : List PortPlan → ℕ
 greatest_of ports = fold (λ most (port : PortPlan). max most port.max) 0 ports
 
--- the links are those of the plan, in its order, and so are the ports of their sub-VLs
+-- the links are the plan's, in its order, and so are the ports of their sub-VLs
 pub record AreLinksOf (config : Plan) (links : List LinkState) : Type 0 where
   pub each_plan : plans links ≡ config.links
   pub end_system : (k : ℕ) → k < length links
@@ -117,7 +117,7 @@ AreServedBy now links = (k : ℕ) → k < length links → IsLater (link_at link
 abbrev pub AllWaitUntil : ℕ → List LinkState → (many : ℕ) → Type 0
 AllWaitUntil at links many = (k : ℕ) → k < many → at ≤ due_from (link_at links k).pace.gap (link_at links k).pace.last
 
--- the known messages of each queue are of its sub-VL's ports
+-- the known messages of each queue belong to its sub-VL's ports
 abbrev pub HaveOwnItems : List LinkState → Type 0
 HaveOwnItems links = (k s : ℕ) → k < length links → s < length (link_at links k).subs
     → HasOwnItems (held_at (link_at links k).subs s)

@@ -74,8 +74,8 @@ pub record IsGatheredLink (old new : LinkState) : Type 0 where
   pub count : length new.subs ≡ length old.subs
   pub each : (s : ℕ) → s < length old.subs → ChangesQueue BecomesWhole (held_at old.subs s) (held_at new.subs s)
 
--- An emitter whose accepted messages are known whole, and those of each port are its own list, in
--- order; all else is unchanged.
+-- An emitter whose accepted messages are known whole. Each port's accepted messages are its own list, in order; all
+-- else is unchanged.
 pub record IsGatheredTx (old : Tx) (ports : List PortView) (new : Tx) : Type 0 where
   pub plan : new.plan ≡ old.plan
   pub lines : new.lines ≡ old.lines

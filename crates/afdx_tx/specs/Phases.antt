@@ -1,4 +1,4 @@
--- An emitter before and after its ports are taken back, and what its parts promise one another of all its links.
+-- An emitter before and after its ports are taken back, and the properties of all its links on which its parts rely.
 use Rattle.std.specs.Prelude.{ℕ, ◌≡◌, ◌<◌, ◌≤◌, List, Bool, true, false, length, MatchBool}
 use Rattle.std.specs.List.{AllWithin, HoldsAt}
 use Rattle.afdx_frame.specs.declared.net.Net.TheVariants.{A}
@@ -22,10 +22,10 @@ pub record Conforms (tx : Tx) : Type 0 where
   pub legal_accepted : IsLegal tx.plan (accepted_in tx.links) tx.lines.a tx.lines.b
   -- the sub-VLs of a link take turns
   pub turns : TakeTurns tx.plan tx.lines.a tx.lines.b
-  -- the messages are of ports of their sub-VL
+  -- the messages belong to ports of their sub-VL
   pub taken : AreQueued tx.plan (taken_in tx.links)
   pub accepted : AreQueued tx.plan (accepted_in tx.links)
-  -- what was taken of a link that lost no frame is transmitted or left to send
+  -- the messages taken of a link that lost no frame are transmitted or left to send
   pub tied : AreTied tx.links (log tx.lines)
   -- each network's list is its part of a beginning of the log
   pub mirrored : IsMirrored tx.lines
@@ -54,7 +54,7 @@ pub record IsPolling (now i : ℕ) (old links : List LinkState)
   pub room : length released ≤ i
   pub stays_down : BothEndure before lines
 
--- whether all links are done, or one isn't
+-- true if all links are done, false if one isn't
 abbrev pub TellsAllDone : Bool → List LinkState → Type 0
 TellsAllDone done links = MatchBool done (AllWithin (TellsLinkDone true) links 0 (length links))
     ((k : ℕ) × (k < length links) × HoldsAt (TellsLinkDone false) links k)
@@ -64,7 +64,7 @@ abbrev pub IsInPhase : Bool → Plan → List LinkState → Type 0
 IsInPhase false plan links = AreReceiving links
 IsInPhase true plan links = AreGathered links × AreAllowed plan (accepted_in links)
 
--- the messages are of ports of their sub-VL, which may send them once the ports are gathered
+-- the messages belong to ports of their sub-VL, which may send them once the ports are gathered
 abbrev pub AreOfPorts : Bool → Tx → Type 0
 AreOfPorts false tx = AreQueued tx.plan (taken_in tx.links)
 AreOfPorts true tx = AreAllowed tx.plan (accepted_in tx.links)
@@ -74,7 +74,7 @@ pub record KeepsQueues (old new : Tx) : Type 0 where
   pub queues : queues_in new.links ≡ queues_in old.links
   pub totals : (k s : ℕ) → total_in new.links k s ≡ total_in old.links k s
 
--- the messages still to send: those in the same queues, or the same accepted ones once the ports are gathered
+-- the messages still to send: the messages in the same queues, or the same accepted ones once the ports are gathered
 abbrev pub KeepsMessages : Bool → (old new : Tx) → Type 0
 KeepsMessages false old new = KeepsQueues old new
 KeepsMessages true old new = accepted_in new.links ≡ accepted_in old.links
@@ -88,7 +88,7 @@ Runs true now old new = IsDrained now old.plan (accepted_in old.links) old.lines
 pub record StaysLawful (gathered : Bool) (old new : Tx) : Type 0 where
   -- the transmitted frames are legal and take turns
   pub conforms : Conforms new
-  -- the messages are of ports that may send them
+  -- the messages belong to ports that may send them
   pub allowed : AreOfPorts gathered new
   -- a network is down only if it was or failed
   pub stays_down : BothEndure old.lines new.lines

@@ -1,4 +1,4 @@
--- Ports, each of which sends into the queue of its sub-VL.
+-- Ports. Each sends into the queue of its sub-VL.
 use Rattle.std.specs.Prelude.{ℕ, ◌≡◌, ◌<◌, ◌≤◌, List, [], length, take, get_or, slice_index_or, All, Contains, Option, Some, None, nat_lt, nat_eq, if◌then◌else◌}
 use Rattle.afdx_plan.specs.Config.{Plan, link_plan_at, port_plan_at, link_place}
 use Rattle.afdx_plan.specs.declared.port_plan.PortPlan.{PortPlan}
@@ -43,7 +43,7 @@ Refuses old size Closed new = QueueRefuses old size QueueClosed new
 Refuses old size Exhausted new = QueueRefuses old size QueueExhausted new
 Refuses old size Full new = QueueRefuses old size QueueFull new
 
--- the index of a port among those of its sub-VL, by its place in the plan
+-- the index of a port among its sub-VL's ports, by its place in the plan
 abbrev pub index_of : List PortPlan → ℕ → ℕ
 index_of ports place =
     length (ports_of_sub (take place ports) (port_plan_at ports place).vl.0 (port_plan_at ports place).sub)
@@ -69,7 +69,7 @@ pub record BelongsTo (config : Plan) (queues : List (List (Option QueueName)))
 abbrev pub IsPortOfTx : Tx → PortView → Type 0
 IsPortOfTx tx port = BelongsTo tx.plan (queues_in tx.links) port
 
--- each port of the list is of this emitter
+-- each port of the list belongs to this emitter
 abbrev pub AreOpenedWith : Tx → List PortView → Type 0
 AreOpenedWith tx ports = All (IsPortOfTx tx) ports
 

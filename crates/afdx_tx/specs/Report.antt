@@ -39,7 +39,7 @@ pub record Polls (now : ℕ) (old : Tx) (report : Report) (new : Tx) : Type 0 wh
   pub a_stands : report.standing.a ≡ new.lines.a_stands
   pub b_stands : report.standing.b ≡ new.lines.b_stands
 
--- A poll without a report: the networks that are up, and what the report would have been.
+-- A poll without a report: the networks that are up, and the report that `poll` would make.
 pub record PollsUnreported (now : ℕ) (old : Tx) (standing : Standing) (new : Tx) : Type 0 where
   pub report : Report
   pub stands : report.standing ≡ standing

@@ -1,4 +1,4 @@
--- The turns of an emitter's links, in order: while its ports send, and of what is left once they are taken back.
+-- The turns of an emitter's links, in order: while its ports send, and for the messages left once they are taken back.
 use Rattle.std.specs.Prelude.{ℕ, ◌≡◌, List, length, true, ◌<◌}
 use Rattle.redundant_mux.specs.Lines.{Lines, any_up, log, Entry}
 use Rattle.vl_link.specs.declared.link.Served.{Served}

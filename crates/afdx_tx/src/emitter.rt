@@ -31,7 +31,7 @@ use vl_link::Link;
 
 /// A phase of an emitter.
 pub trait Phase {
-    /// Whether the ports were taken back.
+    /// True if the ports were taken back.
     ghost gathered: { Bool };
 }
 
@@ -49,8 +49,8 @@ impl Phase for Drain {
     ghost gathered = { true };
 }
 
-/// Transmits the messages of its ports on two networks. Contracts see its plan, its links, the
-/// frames that the networks accepted, the time of the last poll, and what was published.
+/// An emitter, which transmits the messages of its ports on two networks. Contracts see its plan, its links, the frames
+/// that the networks accepted, the time of the last poll, and the published counts.
 #[derive(Drop)]
 pub struct Emitter<A: Network + Drop, B: Network + Drop, P: Phase = Sending> {
     config: Config,
@@ -85,21 +85,21 @@ impl<A: Network + Drop, B: Network + Drop, P: Phase> Model for Emitter<A, B, P> 
 }
 
 impl<A: Network + Drop, B: Network + Drop, P: Phase> Emitter<A, B, P> {
-    /// The plan that it was opened with.
+    /// Returns the plan with which the emitter was opened.
     pub fn config(&self) -> &Config
         ensures { result.now ≡ self.now.plan }
     {
         &self.config
     }
 
-    /// The time of the last poll that didn't return `BothDown`, in microseconds, and 0 at first.
+    /// Returns the time of the last poll that didn't return `BothDown`, in microseconds, and 0 at first.
     pub fn now(&self) -> u64
         ensures { result ≡ self.now.moment }
     {
         self.moment
     }
 
-    /// Network A.
+    /// Returns network A.
     pub fn network_a(&self) -> &A
         ensures handed { A.handed result.now ≡ self.now.lines.a }
         ensures failures { A.failures result.now ≡ self.now.lines.a_failures }
@@ -107,7 +107,7 @@ impl<A: Network + Drop, B: Network + Drop, P: Phase> Emitter<A, B, P> {
         self.mux.network_a()
     }
 
-    /// Network B.
+    /// Returns network B.
     pub fn network_b(&self) -> &B
         ensures handed { B.handed result.now ≡ self.now.lines.b }
         ensures failures { B.failures result.now ≡ self.now.lines.b_failures }
@@ -115,11 +115,10 @@ impl<A: Network + Drop, B: Network + Drop, P: Phase> Emitter<A, B, P> {
         self.mux.network_b()
     }
 
-    /// The counts of a link, by its identifier, as `publish` would publish them now: the frames of
-    /// the longer of its two streams, the sum of their lengths in bytes, the messages whose last
-    /// frame is among them, and the time of the last frame in microseconds, or 0 if there is none.
-    /// Returns `None` exactly if the plan has no such link. Reads no board, never waits,
-    /// and allocates nothing.
+    /// Returns the counts of a link, by its identifier, as `publish` would publish them now: the frames of the longer
+    /// of the link's two streams, the sum of their lengths in bytes, the messages whose last frame is among them, and
+    /// the time of the last frame in microseconds, or 0 if there is none. Returns `None` exactly if the plan has no
+    /// such link. Reads no board, never waits, and allocates nothing.
     pub fn counts(&self, vl: VlId) -> Option<Counts>
         ensures { ShowsCounts self.now vl.0 result }
     {
@@ -127,11 +126,10 @@ impl<A: Network + Drop, B: Network + Drop, P: Phase> Emitter<A, B, P> {
         Some(self.links[place].counts())
     }
 
-    /// The first time after the last poll, in microseconds, at which a link becomes due that wasn't
-    /// due then, and that a network carries that is up; `None` if there is none, or it has more
-    /// than 64 bits. An earlier poll releases frames only of links that were due at the last poll
-    /// and had nothing to send then. So a poller may sleep until this time, or until a message is
-    /// sent.
+    /// Returns the first time after the last poll, in microseconds, at which a link that wasn't due then becomes due,
+    /// if a network that is up carries it; `None` if there is none, or it has more than 64 bits. An earlier poll
+    /// releases frames only of links that were due at the last poll and had nothing to send then. So a poller may sleep
+    /// until this time, or until a message is sent.
     pub fn next_due(&self) -> Option<u64>
         ensures { TellsNextDue self.now result }
     {
@@ -151,8 +149,8 @@ impl<A: Network + Drop, B: Network + Drop, P: Phase> Emitter<A, B, P> {
         mux.into_networks()
     }
 
-    // Gives each link its turn. Which networks are up is asked afterwards: returned from here, it would pass through
-    // memory.
+    // Gives each link its turn. The caller asks afterwards which networks are up: returned from here, the answer would
+    // pass through memory.
     fn turn<N: Notes>(&mut self, now: u64, notes: &mut N) -> Result<(), PollFault>
         requires later { self.old.moment ≤ now }
         requires none { N.noted notes.old [] }
@@ -177,11 +175,10 @@ impl<A: Network + Drop, B: Network + Drop, P: Phase> Emitter<A, B, P> {
         Ok(())
     }
 
-    /// Gives each link its turn at `now`, in microseconds, in the order of the plan. A due
-    /// link with something to send releases exactly one frame (ARINC 664 Part 7, bandwidth
-    /// allocation gap), unless the last network that carries it fails with that frame. A link whose
-    /// networks are all down is skipped. After `BothDown` nothing has changed. Apart from what the
-    /// networks do, it never waits and allocates nothing.
+    /// Gives each link its turn at `now`, in microseconds, in the order of the plan. A due link with something to send
+    /// releases exactly one frame (ARINC 664 Part 7, bandwidth allocation gap). That frame is lost if the last network
+    /// that carries the link fails with it. A link whose networks are all down is skipped. After `BothDown` nothing has
+    /// changed. Apart from the calls of the networks, it never waits and allocates nothing.
     #[inline(always)]
     pub fn poll(&mut self, now: u64) -> Result<Report, PollFault>
         requires { self.old.moment ≤ now }
@@ -199,7 +196,7 @@ impl<A: Network + Drop, B: Network + Drop, P: Phase> Emitter<A, B, P> {
         })
     }
 
-    /// As `poll`, without a report: for a caller that asks the networks for the frames.
+    /// Polls as `poll` does, without a report: for a caller that asks the networks for the frames.
     #[inline(always)]
     pub fn poll_unreported(&mut self, now: u64) -> Result<Standing, PollFault>
         requires { self.old.moment ≤ now }
@@ -213,9 +210,8 @@ impl<A: Network + Drop, B: Network + Drop, P: Phase> Emitter<A, B, P> {
         Ok(self.mux.standing())
     }
 
-    /// Publishes the counts of each link, once, in the order of the plan: those of the
-    /// longer of its two streams. May wait for a monitor that is in the middle of a reading.
-    /// Allocates nothing.
+    /// Publishes the counts of each link, once, in the order of the plan: the counts of the longer of its two streams.
+    /// May wait for a monitor that is in the middle of a reading. Allocates nothing.
     pub fn publish<R: Wait>(&mut self, rt: &R)
         ensures { Publishes self.old self.new }
     {
@@ -233,7 +229,7 @@ impl<A: Failable + Drop, B: Failable + Drop, P: Phase> Emitter<A, B, P> {
 }
 
 impl<A: Network + Drop, B: Network + Drop> Emitter<A, B> {
-    // Over new links of a plan, a buffer, networks that have accepted no frame, and an empty board.
+    // Makes an emitter of new links of a plan, a buffer, networks that have accepted no frame, and an empty board.
     pub(crate) fn over(
         config: Config,
         links: Vec<Link>,
@@ -330,13 +326,13 @@ impl<A: Network + Drop, B: Network + Drop> Emitter<A, B> {
     }
 }
 
-/// Transmits what is left in the queues after the ports were taken back. No more messages are accepted.
-/// A due link has something to send exactly if one of its accepted messages isn't wholly released.
+/// An emitter after its ports were taken back, which transmits the messages left in the queues. No more messages are
+/// accepted. A due link has something to send exactly if one of its accepted messages isn't wholly released.
 pub type Draining<A, B> = Emitter<A, B, Drain>;
 
 impl<A: Network + Drop, B: Network + Drop> Emitter<A, B, Drain> {
-    /// Whether at least one network accepted each fragment of each accepted message. After a frame
-    /// was lost with the last network that carries its link, this stays false.
+    /// Returns true if at least one network accepted each fragment of each accepted message. After a frame was lost
+    /// with the last network that carries its link, this stays false.
     pub fn is_done(&self) -> bool
         ensures done { IsTrue result ↔ IsAllDone self.now.plan (accepted_in self.now.links) (log self.now.lines) }
         ensures conforms { Conforms self.now }

@@ -1,9 +1,9 @@
-//! Reasons that a call is refused.
+//! The reasons for which calls are refused.
 use afdx_plan::Config;
 use redundant_mux::Network;
 use thiserror::Error;
 
-/// Why a port refused a message. The length is checked first, then the queue of the port's sub-VL.
+/// The reasons for which a port refuses a message. The length is checked first, then the queue of the port's sub-VL.
 #[derive(Clone, Copy, Debug, PartialEq, Eq, Error)]
 pub enum Refusal {
     /// The message has no bytes. The port is unchanged.
@@ -26,14 +26,14 @@ pub enum Refusal {
     Full = 5,
 }
 
-/// A refused message, and why. The accepted messages are unchanged.
+/// A refused message, and the reason. The accepted messages are unchanged.
 #[derive(Debug, Drop)]
 pub struct SendFault {
     pub why: Refusal,
     pub bytes: Vec<u8>,
 }
 
-/// Why a poll did nothing. The emitter is unchanged.
+/// The reason for which a poll did nothing. The emitter is unchanged.
 #[derive(Clone, Copy, Debug, PartialEq, Eq, Error)]
 pub enum PollFault {
     /// Both networks have failed before.

@@ -10,7 +10,7 @@ use crate::port::TxPort;
 use afdx_plan::Config;
 use vl_link::Link;
 
-// Whether the list has the port at a place.
+// Returns true if the list has the port at a place.
 fn has_place(ports: &[TxPort], place: usize) -> bool
     ensures { MatchBool result (HasPlace ports.now place) (HasPlace ports.now place → ⊥) }
 {
@@ -22,7 +22,7 @@ fn has_place(ports: &[TxPort], place: usize) -> bool
     false
 }
 
-/// Whether the list has the port at each place of a plan.
+/// Returns true if the list has the port at each place of a plan.
 pub fn has_every_place(ports: &[TxPort], many: usize) -> bool
     ensures { MatchBool result (HasEveryPlace many ports.now) (LacksPlace many ports.now) }
 {

@@ -13,7 +13,7 @@ pub fn drain_ends()
     // one message, which the first of two polls transmits
     ensures worked { DrainsOne }
 
-    // no poll where a frame is owed; polls too soon; a gap under the link's; a release after the start; networks
+    // no poll although a frame is owed; polls too soon; a gap under the link's; a release after the start; networks
     // that failed
     ensures needed { NeedsItsPolls }
 {}

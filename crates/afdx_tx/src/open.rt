@@ -22,14 +22,14 @@ use vl_link::{Link, Sub, SubVl};
 /// The number of slot requests of a port: 2^40.
 const CALLS: u64 = 1_099_511_627_776;
 
-/// Whether a port is one of a sub-VL.
+/// Returns true if a port belongs to a sub-VL.
 fn is_port_of(port: &PortPlan, of: &SubVl) -> bool
     ensures { result ≡ (nat_eq port.now.vl.0 of.now.link.id.0 && nat_eq port.now.sub of.now.sub) }
 {
     port.vl == of.link.id && port.sub == of.sub
 }
 
-/// What the frames of each port of a sub-VL have in common, in the order of the plan.
+/// Returns the templates of a sub-VL's ports: the bytes that all frames of a port share, in the order of the plan.
 fn templates_of(alloc: Global, ports: &[PortPlan], of: &SubVl) -> Result<Vec<Template>, AllocError>
     requires { All IsPort ports.now }
     ensures ports { IfOk result (λ own. plans_of own.items ≡ ports_of_sub ports.now of.now.link.id.0 of.now.sub) }
@@ -56,7 +56,7 @@ fn greatest_message(ports: &[PortPlan], of: &SubVl) -> usize
     own.map(|port| port.max).max().unwrap_or(0)
 }
 
-/// A sub-VL of a plan, without senders.
+/// Makes a sub-VL of a plan, without senders.
 #[tactic(auto, using(crate::proofs::PortLink::own_ports))]
 fn open_sub(alloc: Global, config: &Config, of: SubVl) -> Result<Sub, AllocError>
     requires link { IsLink of.link }
@@ -70,7 +70,7 @@ fn open_sub(alloc: Global, config: &Config, of: SubVl) -> Result<Sub, AllocError
     Ok(Sub::new(of, ports, receiver, room))
 }
 
-/// A link of a plan, without senders.
+/// Makes a link of a plan, without senders.
 fn open_link(alloc: Global, config: &Config, plan: &LinkPlan) -> Result<Link, AllocError>
     requires { IsLink plan.now }
     ensures { IfOk result (λ link. IsOpenedLink config.now.end_system config.now.ports [] plan.now link) }
@@ -87,7 +87,7 @@ fn open_link(alloc: Global, config: &Config, plan: &LinkPlan) -> Result<Link, Al
     Ok(Link::new(config.end_system(), *plan, subs))
 }
 
-/// The links of a plan, without senders.
+/// Makes the links of a plan, without senders.
 fn open_links(alloc: Global, config: &Config) -> Result<Vec<Link>, AllocError>
     ensures opened { IfOk result (λ links. AreOpenedLinks config.now [] links.items (length config.now.links)) }
     ensures valid { IsPlan config.now }
@@ -100,7 +100,7 @@ fn open_links(alloc: Global, config: &Config) -> Result<Vec<Link>, AllocError>
     Ok(links)
 }
 
-/// The ports of a plan, in its order, each with a sender of the queue of its sub-VL.
+/// Makes the ports of a plan, in its order, each with a sender of the queue of its sub-VL.
 fn open_ports(alloc: Global, config: &Config, links: &mut [Link]) -> Result<Vec<TxPort>, AllocError>
     requires opened { AreOpenedLinks config.now [] links.old (length config.now.links) }
     ensures links { IfOk result (λ _. AreFreshLinks config.now links.new) }
@@ -116,7 +116,7 @@ fn open_ports(alloc: Global, config: &Config, links: &mut [Link]) -> Result<Vec<
     Ok(ports)
 }
 
-/// The links of an emitter, its ports, and the two ends of its board.
+/// Makes the links of an emitter, its ports, and the two ends of its board.
 fn open_parts(
     alloc: Global,
     config: &Config,
@@ -169,7 +169,7 @@ pub fn open_tx<A: Network + Drop, B: Network + Drop>(
     }
 }
 
-/// The port at a place of the plan.
+/// Returns the port at a place of the plan.
 pub fn port_at(config: &Config, place: usize) -> PortPlan
     requires { place < length config.now.ports }
     ensures value { result ≡ port_plan_at config.now.ports place }
@@ -180,7 +180,7 @@ pub fn port_at(config: &Config, place: usize) -> PortPlan
     config.ports()[place]
 }
 
-/// The place of a port's link in the plan.
+/// Returns the place of a port's link in the plan.
 pub fn link_of(config: &Config, port: &PortPlan) -> usize
     requires valid { IsPlan config.now }
     requires linked { HasLink config.now.links port.now }
@@ -194,8 +194,7 @@ pub fn link_of(config: &Config, port: &PortPlan) -> usize
     }
 }
 
-/// The place in the plan of the link with this identifier and a sub-VL of this index, if
-/// there is one.
+/// Returns the place in the plan of the link with this identifier and a sub-VL of this index, if there is one.
 pub fn link_of_sub(config: &Config, vl: VlId, sub: u8) -> Option<usize>
     ensures none { IfNone result (LacksSub config.now vl.0 sub) }
     ensures some { IfSome result (IsSubAt config.now vl.0 sub) }

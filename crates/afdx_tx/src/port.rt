@@ -4,7 +4,7 @@ ghost use Rattle.afdx_tx.specs.Ports.{refusal_of, PortView, MaySend, HasOwnMessa
 ghost use Rattle.afdx_plan.specs.Plan.{IsPort};
 
 use crate::fault::{Refusal, SendFault};
-use afdx_plan::{PortId, PortPlan};
+use afdx_plan::{PortId, PortPlan, UdpSum};
 use std::marker::Model;
 use subvl_queue::{Sender, Why};
 
@@ -31,7 +31,8 @@ impl Model for TxPort {
 }
 
 impl TxPort {
-    // The port at a place of a plan, with a sender of its sub-VL's queue.
+    // Creates the port at a place of a plan, with a sender of its sub-VL's queue, which sums messages if the port has
+    // checksums.
     pub(crate) fn new(plan: PortPlan, place: usize, sender: Sender) -> TxPort
         requires port { IsPort plan }
         requires fresh { sender.own ≡ [] }
@@ -42,6 +43,10 @@ impl TxPort {
           sender = sender;
         } }
     {
+        let mut sender = sender;
+        if plan.checksum == UdpSum::Generated {
+            sender.keep_sums();
+        }
         TxPort {
             plan,
             place,
@@ -49,14 +54,14 @@ impl TxPort {
         }
     }
 
-    /// Its identifier.
+    /// Returns the port's identifier.
     pub fn id(&self) -> PortId
         ensures { result ≡ self.now.plan.id }
     {
         self.plan.id
     }
 
-    /// The number of its accepted messages. Each has from 1 byte to its greatest message.
+    /// Returns the number of the port's accepted messages. Each has from 1 byte to the port's greatest message.
     pub fn accepted(&self) -> u64
         ensures count { result ≡ length self.now.sender.own }
         ensures messages { HasOwnMessages self.now }
@@ -64,8 +69,8 @@ impl TxPort {
         self.sender.accepted()
     }
 
-    /// The reason that it refuses a message of this size in bytes, whatever its queue holds: `Empty`
-    /// or `TooLong`.
+    /// Returns the reason for which the port refuses a message of `size` bytes, whatever its queue holds: `Empty` or
+    /// `TooLong`.
     #[inline(always)]
     pub fn length_refusal(&self, size: usize) -> Option<Refusal>
         ensures { result ≡ length_refusal self.now.plan size }
@@ -79,14 +84,14 @@ impl TxPort {
         None
     }
 
-    // Its place in the plan.
+    // Returns the port's place in the plan.
     pub(crate) fn place(&self) -> usize
         ensures { result ≡ self.now.place }
     {
         self.place
     }
 
-    // Its sender.
+    // Returns the port's sender.
     pub(crate) fn into_sender(self) -> Sender
         ensures sender { result ≡ self.sender }
         ensures messages { HasOwnMessages self }
@@ -99,9 +104,9 @@ impl TxPort {
         sender
     }
 
-    /// Copies a message to the end of the queue of its sub-VL. Returns the reason if it is empty, is
-    /// over the port's greatest message, or its queue refuses it. A refusal by length changes
-    /// nothing; one by the queue only what the port has used and found. Never waits, and allocates
+    /// Copies a message to the end of the queue of its sub-VL. Returns the reason if it is empty, is over the port's
+    /// greatest message, or its queue refuses it. A refusal by length changes nothing; a refusal by the queue changes
+    /// only the port's count of slot requests and the state in which it found the queue. Never waits, and allocates
     /// nothing.
     #[inline(always)]
     pub fn send_slice(&mut self, bytes: &[u8]) -> Result<(), Refusal>
@@ -113,8 +118,8 @@ impl TxPort {
         self.send_slice_with(bytes, || {})
     }
 
-    /// As `send_slice`, and returns a message that is refused. One that is accepted is copied, and
-    /// its list freed.
+    /// Sends as `send_slice` does, and returns a message that is refused. An accepted message is copied, and its list
+    /// freed.
     #[inline(always)]
     pub fn send(&mut self, bytes: Vec<u8>) -> Result<(), SendFault>
         ensures accepted { IfOk result (λ _. Accepts self.old bytes.items self.new) }
@@ -126,8 +131,8 @@ impl TxPort {
         self.send_with(bytes, || {})
     }
 
-    /// As `send`. If the message is accepted, `pause` runs before the message can be taken; if it
-    /// is refused, `pause` doesn't run.
+    /// Sends as `send` does. If the message is accepted, `pause` runs before the message can be taken; if it is
+    /// refused, `pause` doesn't run.
     pub fn send_with<F: FnOnce()>(&mut self, bytes: Vec<u8>, pause: F) -> Result<(), SendFault>
     where
         F: Drop,
@@ -145,7 +150,7 @@ impl TxPort {
         }
     }
 
-    // As `send_slice`, with a pause as in `send_with`.
+    // Sends as `send_slice` does, with a pause as in `send_with`.
     #[tactic(auto, using(std::proofs::lemmas::Grind::common_steps))]
     #[inline(always)]
     fn send_slice_with<F: FnOnce()>(&mut self, bytes: &[u8], pause: F) -> Result<(), Refusal>
@@ -168,7 +173,7 @@ impl TxPort {
     }
 }
 
-// The port's reason for the queue's.
+// Returns the port's reason for a queue's reason.
 fn refusal(why: Why) -> Refusal
     ensures { result ≡ refusal_of why }
 {

@@ -1,4 +1,4 @@
-//! The turns of all links, and what they tell together.
+//! The turns of all links, and the results of a poll.
 ghost use Rattle.std.specs.Prelude.{◌≡◌, ◌<◌, ◌≤◌, ◌++◌, List, [], length};
 ghost use Rattle.afdx_tx.specs.declared.turns.Release.{Release};
 ghost use Rattle.redundant_mux.specs.Lines.{BothEndure};
@@ -36,16 +36,16 @@ impl Default for Release {
     }
 }
 
-/// The frames that a poll released, in order, and which networks are up afterwards.
+/// The frames that a poll released, in order, and the networks that are up afterwards.
 #[derive(Drop)]
 pub struct Report {
     pub released: ArrayVec<Release, 64>,
     pub standing: Standing,
 }
 
-/// Where a poll notes the frames that it releases.
+/// The notes that a poll makes of the frames that it releases.
 pub trait Notes {
-    /// What was noted, as far as it is kept.
+    /// The noted releases, as far as they are kept.
     ghost noted: { Self → List Release → Type 0 };
 
     /// Notes the frame that a turn released, if any.
@@ -64,7 +64,7 @@ impl Notes for ArrayVec<Release, 64> {
     }
 }
 
-/// Notes nothing.
+/// A report that notes nothing.
 #[derive(Drop)]
 pub struct Unreported;
 
@@ -108,14 +108,14 @@ pub fn serve_all<A: Network + Drop, B: Network + Drop, N: Notes>(
     first
 }
 
-/// Whether no link has anything left to send, and none has lost a frame.
+/// Returns true if no link has anything left to send, and none has lost a frame.
 pub fn all_done(links: &[Link]) -> bool
     ensures { TellsAllDone result links.now }
 {
     links.iter().all(|link| link.is_done())
 }
 
-/// The earlier of two times.
+/// Returns the earlier of two times.
 fn earlier(a: Option<u64>, b: Option<u64>) -> Option<u64>
     ensures { result ≡ earlier a b }
 {
@@ -126,7 +126,7 @@ fn earlier(a: Option<u64>, b: Option<u64>) -> Option<u64>
     }
 }
 
-/// The first time after `now` at which a link may release a frame and may not now.
+/// Returns the first time after `now` at which a link may release a frame and may not now.
 pub fn first_due<A: Network + Drop, B: Network + Drop>(
     links: &[Link],
     mux: &Mux<A, B>,

@@ -28,8 +28,8 @@ fn send_next(rt: &HostRuntime, letters: &mut Vec<Letter>, port: &mut TxPort)
     line(rt, format_args!("{answer:?}"));
 }
 
-/// Polls at a time, or at that of the last poll if that is later, and prints how many frames were released, and which
-/// networks are up after it.
+/// Polls at `at`, or at the time of the last poll if that is later, and prints the number of released frames and the
+/// networks that are up after it.
 fn poll_told<N: Network + Drop>(rt: &HostRuntime, tx: &mut Emitter<N, N>, at: u64)
     ensures { (port : PortView) → IsPortOfTx tx.old port → IsPortOfTx tx.new port }
 {
@@ -55,8 +55,8 @@ fn tell_report(rt: &HostRuntime, at: u64, answer: Result<Report, PollFault>) {
 /// An emitter over two networks in memory, its ports and its monitor.
 type InMemory = (Emitter<MemNetwork, MemNetwork>, Vec<TxPort>, Monitor);
 
-/// Opens an emitter of the demonstration over two networks in memory, of which A fails at its second frame. If an
-/// allocation of `open_tx` fails, prints the plan that is returned, and opens what is.
+/// Opens an emitter of the demonstration plan over two networks in memory. A fails at its second frame. If an
+/// allocation of `open_tx` fails, prints the plan that is returned, and opens it again.
 fn open_in_memory(rt: &HostRuntime) -> Result<InMemory, Trouble> {
     let alloc = rt.alloc();
     let (a, b) = (MemNetwork::failing_at(alloc, 2), MemNetwork::new(alloc));

@@ -24,7 +24,7 @@ pub fn tell_fields(rt: &HostRuntime, frame: &[u8]) {
     );
 }
 
-/// The first port of a plan and the first link, if the port sends over it.
+/// Returns the first port of a plan and the first link, if the port sends over it.
 fn first_flow(config: &Config) -> Result<(PortPlan, LinkPlan), Trouble>
     ensures port { IfOk result (λ flow. IsPort flow.0) }
     ensures over { IfOk result (λ flow. SendsOver flow.0 flow.1) }
@@ -74,7 +74,8 @@ fn use_plan(rt: &HostRuntime, config: &Config) {
     }
 }
 
-/// How many bits of a frame can be flipped so that it is still a frame: those of its piece and its number.
+/// Returns the number of a frame's bits that can be flipped without making it invalid: the bits of its piece and its
+/// number.
 fn flips_read(frame: &Frame) -> u64 {
     let mut count = 0u64;
     for place in 0..frame.len() {
@@ -131,7 +132,7 @@ fn use_frame(
     );
 }
 
-/// Cuts a message into two frames: one for network A, and one for both, of which B has failed.
+/// Cuts a message into two frames: one for network A, and one for both networks after B has failed.
 fn use_frames(
     rt: &HostRuntime,
     config: &Config,

@@ -1,4 +1,4 @@
-//! Why a run ends early, and what the cases and parts share.
+//! The reasons for which a run ends early, and helpers that the cases and parts share.
 ghost use Rattle.std.specs.Prelude.{◌≤◌, length};
 
 use afdx_plan::ConfigFault;
@@ -10,7 +10,7 @@ use std::fmt::Display;
 use std::io::{self, Write};
 use thiserror::Error;
 
-/// Why a run ends early.
+/// The reasons for which a run ends early.
 #[derive(Clone, Copy, Debug, Error)]
 pub enum Trouble {
     #[error("no memory before the call")]
@@ -26,7 +26,7 @@ pub enum Trouble {
     NoWord,
 }
 
-/// How a run ends.
+/// The end of a run.
 pub type Ended = Result<(), Trouble>;
 
 impl From<AllocError> for Trouble {
@@ -72,7 +72,7 @@ pub struct Letter {
     ghost most: { length bytes.items ≤ 8192 },
 }
 
-/// A message whose byte `i` is 7 i + 3 modulo 256.
+/// Returns a message whose byte `i` is 7 i + 3 modulo 256.
 pub fn make_letter(alloc: Global, size: usize) -> Result<Letter, Trouble> {
     let mut bytes = Vec::with_capacity(alloc, size)?;
     for i in 0..size {
@@ -84,7 +84,7 @@ pub fn make_letter(alloc: Global, size: usize) -> Result<Letter, Trouble> {
     Ok(Letter { bytes })
 }
 
-/// Messages of a size.
+/// Returns messages of a size.
 pub fn make_letters(alloc: Global, count: u32, size: usize) -> Result<Vec<Letter>, Trouble> {
     let mut letters = Vec::new(alloc);
     for _ in 0..count {

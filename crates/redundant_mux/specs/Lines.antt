@@ -7,7 +7,7 @@ use Rattle.afdx_frame.specs.declared.net.Net.{Net}
 use Rattle.afdx_frame.specs.declared.net.Net.TheVariants.{A, B}
 use Rattle.afdx_frame.specs.Header.{twin_of}
 
--- its time in microseconds, and its bytes
+-- a frame's time in microseconds, and its bytes
 pub record Entry : Type 0 where
   pub at : ℕ
   pub frame : List ℕ
@@ -33,12 +33,12 @@ logged_for networks e = record { networks = networks; entry = e }
 abbrev pub entries_of : List Logged → List Entry
 entries_of logged = map (λ (l : Logged). l.entry) logged
 
--- the network is among those named
+-- the network is among the named ones
 abbrev pub names : Net → Networks → Bool
 names A networks = carries_a networks
 names B networks = carries_b networks
 
--- this network alone
+-- one network alone
 abbrev pub only : Net → Networks
 only A = OnlyA
 only B = OnlyB
@@ -47,7 +47,7 @@ only B = OnlyB
 abbrev pub side : Net → Entry → Entry
 side net e = record { at = e.at; frame = twin_of net e.frame }
 
--- what a network gets of a log
+-- the frames of a log that a network gets
 abbrev pub sent_to : Net → List Logged → List Entry
 sent_to net logged = map (side net) (entries_of (filter (λ (l : Logged). names net l.networks) logged))
 
@@ -136,8 +136,8 @@ is_alive lines = lines.a_stands || lines.b_stands
 unfoldable pub log : Lines → List Entry
 log lines = entries_of lines.logged
 
--- One network's list is what it gets of a prefix of the log, and of the whole log if it is up.
--- Nothing of the rest is for this network alone.
+-- One network's list is its part of a prefix of the log, and of the whole log if it is up. Nothing of the rest is for
+-- this network alone.
 pub record Keeps (net : Net) (stands : Bool) (handed : List Entry) (logged : List Logged) : Type 0 where
   pub seen : List Logged
   pub missed : List Logged
@@ -153,8 +153,8 @@ pub record IsMirrored (lines : Lines) : Type 0 where
   pub one : (first.missed ≡ []) ⊎ (second.missed ≡ [])
   pub for_a : All (λ (l : Logged). side A l.entry ≡ l.entry) lines.logged
 
--- The invariant of two networks, each of which is abandoned at its first failure: one that is up
--- has not failed, and the lists mirror the log.
+-- The invariant of two networks that are abandoned at their first failure: a network that is up has not failed, and the
+-- lists mirror the log.
 pub record AreInStep (lines : Lines) : Type 0 where
   pub a_unfailed : lines.a_stands ≡ true → lines.a_failures ≡ 0
   pub b_unfailed : lines.b_stands ≡ true → lines.b_failures ≡ 0

@@ -1,4 +1,4 @@
--- Networks in memory: two that keep all frames, of which one has all bytes in one buffer, and one that keeps the last.
+-- Networks in memory: two that keep all frames, one of them with all bytes in one buffer, and one that keeps the last.
 use Rattle.std.specs.Prelude.{ℕ, List, [], Option, Some, None, All, take, drop, map, ◌≡◌, ◌≢◌, ◌⊎◌, ◌↔◌, ◌+◌, ◌-◌, ◌%◌, ◌^◌, ◌<◌, ◌≤◌, ◌∷◌, ◌++◌, Bool, true, false, length, get_or}
 use Rattle.std.specs.List.{sum_by}
 use Rattle.std.specs.Borrow.{Bor}
@@ -9,8 +9,8 @@ use Rattle.redundant_mux.specs.declared.memory.Handed.{Handed}
 use Rattle.redundant_mux.specs.declared.outbox.Kept.{Kept}
 use Rattle.redundant_mux.specs.declared.outbox.Latest.{Latest}
 
--- the frames that it accepted, its capacity in frames, the number of failures and of calls, and the
--- number of the call that fails, from 1
+-- a network in memory: the accepted frames, its capacity in frames, the number of failures and of calls, and the number
+-- of the call that fails, from 1
 pub record Memory : Type 0 where
   pub handed : List Entry
   pub capacity : ℕ
@@ -28,7 +28,7 @@ entry_of one = entry one.at one.frame.items
 abbrev pub entries : List Handed → List Entry
 entries handed = map entry_of handed
 
--- all frames that it accepted, its number of failures, and whether it was made to fail
+-- an outbox: all accepted frames, its number of failures, and whether it was made to fail
 pub record OutboxView : Type 0 where
   pub handed : List Entry
   pub failures : ℕ
@@ -49,16 +49,16 @@ kept_entry one = entry one.at one.frame.value.items
 abbrev pub entry_at : List Entry → ℕ → Entry
 entry_at handed number = get_or handed number (entry 0 [])
 
--- The entry with this number is one of the last 64 and, if those of earlier times aren't kept, each one after it
--- is of the same time.
+-- The entry with this number is one of the last 64. If the entries of earlier times aren't kept, each later entry has
+-- the same time.
 pub record IsKept (earlier : Bool) (handed : List Entry) (number : ℕ) : Type 0 where
   pub below : number < length handed
   pub late : length handed ≤ number + 64
   pub same : earlier ≡ false → (k : ℕ) → number ≤ k → k < length handed
       → (entry_at handed k).at ≡ (entry_at handed number).at
 
--- Of the frames that it accepted, the last 64 from number `first` on are kept, frame n in slot n - first modulo 64.
--- If those of earlier times are, `first` is 0. Otherwise all from `first` on are of the last time.
+-- Of the accepted frames, the last 64 from number `first` on are kept, frame n in slot n - first modulo 64. If the
+-- frames of earlier times are kept, `first` is 0. Otherwise all frames from `first` on have the last time.
 pub record KeepsLast (earlier : Bool) (slots : List Kept) (latest : Latest) (count : ℕ) (handed : List Entry)
     : Type 0 where
   pub room : length slots ≡ 64
@@ -70,14 +70,14 @@ pub record KeepsLast (earlier : Bool) (slots : List Kept) (latest : Latest) (cou
   pub each : (number : ℕ) (slot : Kept) → latest.first ≤ number → number < count → count ≤ number + 64
       → kept_entry (get_or slots ((number - latest.first) % 64) slot) ≡ entry_at handed number
 
--- the frames, for how many frames and for how many bytes there is memory, and how often a hand failed
+-- a log: its frames, the numbers of frames and of bytes that fit into its memory, and the number of failures
 pub record FrameLog : Type 0 where
   pub handed : List Entry
   pub frames_capacity : ℕ
   pub bytes_capacity : ℕ
   pub failures : ℕ
 
--- how many bytes frames have
+-- the number of bytes of frames
 abbrev pub bytes_in : List Entry → ℕ
 bytes_in handed = sum_by (λ (e : Entry). length e.frame) handed
 
@@ -91,7 +91,7 @@ abbrev pub spelled : List Mark → List ℕ → List Entry
 spelled [] bytes = []
 spelled (mark ∷ marks) bytes = entry mark.at (take mark.len bytes) ∷ spelled marks (drop mark.len bytes)
 
--- the bytes are those of these frames, of which each is at most the longest
+-- marks that cover exactly these bytes, each at most as long as the longest frame
 pub record AreInLog (marks : List Mark) (bytes : List ℕ) : Type 0 where
   pub all : sum_by (λ (mark : Mark). mark.len) marks ≡ length bytes
   pub short : All (λ (mark : Mark). mark.len ≤ GREATEST_FRAME) marks

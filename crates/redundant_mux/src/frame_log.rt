@@ -16,8 +16,8 @@ pub struct Mark {
     pub len: usize,
 }
 
-/// A network that keeps its frames, the bytes of all in one buffer. Contracts see the frames, for how many
-/// frames and bytes it has memory, and its failures.
+/// A network that keeps its frames, the bytes of all in one buffer. Contracts see the frames, the numbers of frames and
+/// of bytes that fit into its memory, and its failures.
 #[derive(Drop)]
 pub struct FrameLog {
     marks: Vec<Mark>,
@@ -39,7 +39,7 @@ impl Model for FrameLog {
 }
 
 impl FrameLog {
-    /// A network to which nothing was sent. A hand fails only if an allocation fails.
+    /// Creates a log without frames. A `hand` fails only if an allocation fails.
     pub fn new(alloc: Global) -> FrameLog
         ensures { result ≡ record {
           handed = [];
@@ -55,7 +55,7 @@ impl FrameLog {
         }
     }
 
-    /// The frames, in the order in which they were sent.
+    /// Returns the frames, in the order in which they were sent.
     pub fn frames(&self) -> LogFrames<'_>
         ensures { result ≡ self.now.handed }
     {
@@ -138,7 +138,7 @@ impl<'a> LogFrames<'a> {
         LogFrames { marks, bytes }
     }
 
-    /// The time of the next frame, in microseconds; `None` if none is left.
+    /// Returns the time of the next frame, in microseconds; `None` if none is left.
     pub fn next_moment(&self) -> Option<u64>
         ensures { result ≡ first_moment self.now }
     {

@@ -1,6 +1,6 @@
-//! Sends each frame to the networks that it is for, and abandons a network at its first failure.
-//! Has three networks in memory: two keep all frames, one of them all bytes in one buffer, and the third keeps the last
-//! 64, or those of its last time.
+//! Networks A and B of an end system. A `Mux` sends each frame to the networks that it names, and abandons a network at
+//! its first failure. Three networks in memory implement `Network`: `MemNetwork` keeps every frame, `FrameLog` too with
+//! all bytes in one buffer, and `Outbox` the last 64, or only those with the latest time.
 #![tactic(auto)]
 
 mod frame_log;

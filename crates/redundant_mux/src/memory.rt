@@ -16,7 +16,7 @@ pub struct Handed {
 }
 
 impl Handed {
-    /// An entry without a frame, to be filled.
+    /// Creates an entry without a frame, to be filled.
     pub(crate) fn empty() -> Handed {
         Handed {
             at: 0,
@@ -30,7 +30,7 @@ impl Handed {
         ensures { entry_of self.new ≡ entry at frame.now }
     {
         self.at = at;
-        // What is cut off is blanked, so no more is cut off than is left over.
+        // The bytes that are cut off are blanked, so no more is cut off than is left over.
         let kept = frame.len().min(self.frame.len());
         self.frame.truncate(kept);
         self.frame.copy_from_slice(&frame[..kept]);
@@ -65,7 +65,7 @@ impl Model for MemNetwork {
 }
 
 impl MemNetwork {
-    /// A network without frames. It fails only if an allocation fails.
+    /// Creates a network without frames. It fails only if an allocation fails.
     pub fn new(alloc: Global) -> MemNetwork
         ensures { result ≡ unused None }
     {
@@ -77,8 +77,8 @@ impl MemNetwork {
         }
     }
 
-    /// As `new`, but call `k` of `hand` and `hand_with`, counted from 1, fails. Later calls succeed
-    /// again: abandoning a network is its caller's task.
+    /// Creates a network as `new` does, but call `k` of `hand` and `hand_with`, counted from 1, fails. Later calls
+    /// succeed again: abandoning a network is its caller's task.
     pub fn failing_at(alloc: Global, k: u64) -> MemNetwork
         ensures { result ≡ unused (Some k) }
     {
@@ -87,14 +87,14 @@ impl MemNetwork {
         network
     }
 
-    /// The accepted frames, in order.
+    /// Returns the accepted frames, in order.
     pub fn handed(&self) -> &[Handed]
         ensures { entries result.now ≡ self.now.handed }
     {
         &self.handed
     }
 
-    /// The number of failed calls of `hand` and `hand_with`.
+    /// Returns the number of failed calls of `hand` and `hand_with`.
     pub fn failures(&self) -> u64
         ensures { result ≡ self.now.failures }
     {
@@ -129,7 +129,7 @@ impl Network for MemNetwork {
         Ok(())
     }
 
-    /// As `hand`, with the frame in its buffer, which is unchanged.
+    /// Accepts a frame as `hand` does, from a buffer, which is unchanged.
     fn hand_with(&mut self, at: u64, frame: &mut Box<FrameBuffer>) -> Result<(), HandFault>
         requires few { self.old.failures + 1 < 2 ^ 64 }
         ensures answer { IsAnswer result (entry at frame.old.value.items)

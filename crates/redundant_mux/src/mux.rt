@@ -15,7 +15,7 @@ use std::marker::Model;
 #[derive(Clone, Copy, Debug, PartialEq, Eq)]
 pub struct BothDown;
 
-/// Which networks are up.
+/// The networks that are up.
 #[derive(Clone, Copy, Debug, PartialEq, Eq)]
 pub struct Standing {
     pub a: bool,
@@ -23,7 +23,7 @@ pub struct Standing {
 }
 
 impl Standing {
-    /// Whether one of these networks is up.
+    /// Returns true if a network in `networks` is up.
     fn has_one_of(&self, networks: Networks) -> bool
         ensures { result ≡ some_of networks self.now.a self.now.b }
     {
@@ -31,8 +31,8 @@ impl Standing {
     }
 }
 
-/// Two networks, each of which is abandoned at its first failure. Contracts see the frames that each accepted, the
-/// failures, which networks are up, which were made to fail, and in order the frames that at least one accepted.
+/// Two networks. Each is abandoned at its first failure. Contracts see the frames that each accepted, the failures,
+/// which networks are up, which were made to fail, and in order the frames that at least one accepted.
 #[derive(Drop)]
 pub struct Mux<A: Network + Drop, B: Network + Drop> {
     a: A,
@@ -73,7 +73,7 @@ fn hand_to<N: Network + Drop>(
     }
 }
 
-/// As `hand_to`, with the frame in its buffer, whose bytes are open afterwards.
+/// Sends a frame as `hand_to` does, from a buffer, whose contents afterwards are unspecified.
 fn hand_with<N: Network + Drop>(
     network: &mut N,
     stands: &mut bool,
@@ -104,7 +104,7 @@ fn note(trail: &mut Trail, taken: bool, longer: Trail)
 }
 
 impl<A: Network + Drop, B: Network + Drop> Mux<A, B> {
-    /// Over two networks without frames or failures. Both are up.
+    /// Joins two networks without frames or failures. Both are up.
     pub fn new(a: A, b: B) -> Mux<A, B>
         requires a { A.failures a ≡ 0 }
         requires b { B.failures b ≡ 0 }
@@ -130,7 +130,7 @@ impl<A: Network + Drop, B: Network + Drop> Mux<A, B> {
         }
     }
 
-    /// Which networks are up.
+    /// Returns which networks are up.
     pub fn standing(&self) -> Standing
         ensures a { result.a ≡ self.now.a_stands }
         ensures b { result.b ≡ self.now.b_stands }
@@ -139,14 +139,14 @@ impl<A: Network + Drop, B: Network + Drop> Mux<A, B> {
         self.standing
     }
 
-    /// Whether one of the named networks is up.
+    /// Returns true if one of the named networks is up.
     pub fn any_up(&self, networks: Networks) -> bool
         ensures { result ≡ any_up networks self.now }
     {
         self.standing.has_one_of(networks)
     }
 
-    /// Network A.
+    /// Returns network A.
     pub fn network_a(&self) -> &A
         ensures handed { A.handed result.now ≡ self.now.a }
         ensures failures { A.failures result.now ≡ self.now.a_failures }
@@ -154,7 +154,7 @@ impl<A: Network + Drop, B: Network + Drop> Mux<A, B> {
         &self.a
     }
 
-    /// Network B.
+    /// Returns network B.
     pub fn network_b(&self) -> &B
         ensures handed { B.handed result.now ≡ self.now.b }
         ensures failures { B.failures result.now ≡ self.now.b_failures }
@@ -220,8 +220,8 @@ impl<A: Network + Drop, B: Network + Drop> Mux<A, B> {
         Ok(self.standing)
     }
 
-    /// As `hand`, with the frame in its buffer, which a network may exchange for another. What the
-    /// buffer has afterwards is open. B's twin is made in place.
+    /// Sends a frame as `hand` does, from a buffer, which a network may exchange for another. The contents of the
+    /// buffer afterwards are unspecified. B's twin is made in place.
     #[tactic(auto, using(std::proofs::Common::arith))]
     pub fn hand_with(
         &mut self,
@@ -286,7 +286,7 @@ impl Model for Trail {
 // SAFETY: it owns nothing (proofs/mux/Trail/TheSendSync).
 unsafe impl Send for Trail {}
 
-/// How a value gives the list of a trail.
+/// The list of a trail, as a ghost function of a value.
 trait Shows<X> {
     ghost logged: { X → List Logged };
 }
@@ -310,14 +310,14 @@ impl Trail {
         Trail {}
     }
 
-    /// The trail of no frame.
+    /// Creates the trail of no frame.
     pub fn new() -> Trail
         ensures { result.logged ≡ [] }
     {
         Trail::of::<(), Nothing>(&())
     }
 
-    /// The trail `before` with one frame appended.
+    /// Returns the trail `before` with one frame appended.
     pub fn with(before: &Trail, networks: &Networks, at: &u64, frame: &[u8]) -> Trail
         ensures { result.logged ≡ before.now.logged ++ logged_for networks.now (entry at.now frame.now) ∷ [] }
     {

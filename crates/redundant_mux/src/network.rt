@@ -27,8 +27,8 @@ pub trait Network {
         ensures failing { failing self.new ≡ failing self.old }
         ensures fails { failing self.old ≡ true → IsErr result };
 
-    /// As `hand`, with the frame in its buffer, which the network may keep if it leaves another there.
-    /// What the buffer has afterwards is open.
+    /// Accepts a frame as `hand` does, from a buffer, which the network may keep if it leaves another there. The
+    /// contents of the buffer afterwards are unspecified.
     fn hand_with(&mut self, at: u64, frame: &mut Box<FrameBuffer>) -> Result<(), HandFault>
         requires few { failures self.old + 1 < 2 ^ 64 }
         ensures answer { IsAnswer result (entry at frame.old.value.items)
@@ -40,7 +40,7 @@ pub trait Network {
     }
 }
 
-/// A network that can be made to fail, to try what comes after.
+/// A network that can be made to fail, for tests of a failure.
 pub trait Failable: Network {
     /// Makes each later call of `hand` and `hand_with` fail.
     fn fail(&mut self)

@@ -16,7 +16,7 @@ use std::mem::swap;
 /// The greatest number of frames that are kept: the most of one poll, one per virtual link.
 pub const ROOM: usize = 64;
 
-/// Which of the last 64 frames that it accepted an outbox keeps: those of earlier times too, or only those of the last
+/// The span of an outbox, which keeps at most the last 64 accepted frames: all of these, or only those with the latest
 /// time.
 pub trait Span {
     const EARLIER: bool;
@@ -60,7 +60,7 @@ struct Latest {
 }
 
 impl Latest {
-    /// The slot of the next frame, which is accepted at this time.
+    /// Returns the slot for the next frame, which is accepted at time `at`.
     fn slot(&mut self, earlier: bool, at: u64, count: u64) -> usize
         requires { self.old.first ≤ count }
         ensures at { earlier ≡ false → self.new.at ≡ at }
@@ -74,8 +74,8 @@ impl Latest {
     }
 }
 
-/// A network that keeps the last 64 frames that it accepted, by their numbers, or of these only those of the last time
-/// (`Outbox<LastTime>`), and fails each call of `hand` and `hand_with` after `fail`. Contracts see all frames that it
+/// A network that keeps the last 64 accepted frames by their numbers, or only the ones with the latest time
+/// (`Outbox<LastTime>`). After `fail` each call of `hand` and `hand_with` fails. Contracts see all frames that it
 /// accepted, the failures, and whether it was made to fail.
 #[derive(Drop)]
 pub struct Outbox<S: Span = LastFrames> {
@@ -102,7 +102,7 @@ impl<S: Span> Model for Outbox<S> {
         (entries_of o.trail.logged) };
 }
 
-/// 64 empty slots.
+/// Creates 64 empty slots.
 fn make_slots(alloc: Global) -> Result<Vec<Kept>, AllocError>
     ensures { IfOk result (λ slots. length slots.items ≡ 64) }
 {
@@ -117,7 +117,7 @@ fn make_slots(alloc: Global) -> Result<Vec<Kept>, AllocError>
 }
 
 impl Outbox<LastFrames> {
-    /// An outbox without frames, which will keep the last 64. No later call allocates.
+    /// Creates an outbox without frames, which will keep the last 64. No later call allocates.
     pub fn new(alloc: Global) -> Result<Outbox<LastFrames>, AllocError>
         ensures { IfOk result (λ outbox. outbox ≡ fresh_outbox) }
     {
@@ -126,7 +126,8 @@ impl Outbox<LastFrames> {
 }
 
 impl Outbox<LastTime> {
-    /// An outbox without frames, which will keep those of the last time, at most 64. No later call allocates.
+    /// Creates an outbox without frames. It will keep at most the last 64, and only the ones with the latest time. No
+    /// later call allocates.
     pub fn of_last_time(alloc: Global) -> Result<Outbox<LastTime>, AllocError>
         ensures { IfOk result (λ outbox. outbox ≡ fresh_outbox) }
     {
@@ -135,7 +136,7 @@ impl Outbox<LastTime> {
 }
 
 impl<S: Span> Outbox<S> {
-    /// An outbox without frames.
+    /// Creates an outbox without frames.
     fn empty(alloc: Global) -> Result<Outbox<S>, AllocError>
         ensures { IfOk result (λ outbox. outbox ≡ fresh_outbox) }
     {
@@ -150,15 +151,15 @@ impl<S: Span> Outbox<S> {
         })
     }
 
-    /// The number of frames accepted so far.
+    /// Returns the number of frames accepted so far.
     pub fn count(&self) -> u64
         ensures { result ≡ length self.now.handed }
     {
         self.count
     }
 
-    /// The frame with this number, from 0, or `None` exactly if it isn't kept: it isn't among the last 64, or, if only
-    /// those of the last time are kept, a later one has another time.
+    /// Returns the frame with this number, from 0, or `None` exactly if it isn't kept: it isn't among the last 64, or
+    /// the outbox keeps only the latest time and a later frame has another time.
     pub fn frame(&self, number: u64) -> Option<&Kept>
         ensures some { IsSome result ↔ IsKept S.EARLIER self.now.handed number }
         ensures frame { IfSome result (λ kept. kept_entry kept.now ≡ entry_at self.now.handed number) }
@@ -216,7 +217,7 @@ impl<S: Span> Network for Outbox<S> {
         Ok(())
     }
 
-    /// As `hand`, without a copy: exchanges the buffer for that of an older frame.
+    /// Accepts a frame as `hand` does, without a copy: exchanges its buffer for an older frame's.
     fn hand_with(&mut self, at: u64, frame: &mut Box<FrameBuffer>) -> Result<(), HandFault>
         requires few { self.old.failures + 1 < 2 ^ 64 }
         ensures answer { IsAnswer result (entry at frame.old.value.items)

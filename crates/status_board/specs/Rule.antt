@@ -1,4 +1,4 @@
--- The rule of a link's cell, over the value that it holds and over what each pass knows.
+-- The rule of a link's cell, over the value that it holds and the knowledge of each pass.
 use Rattle.std.specs.Prelude.{◌≡◌, ℕ, ◌+◌, List, [], ◌∷◌, ◌++◌, map, true, false}
 use mathlib.Core.Option.{some}
 use lib.ListN.{get_elem?}
@@ -18,8 +18,8 @@ abbrev pub AreAfter : ℕ → List Stamped → Type 0
 AreAfter loads [] = Unit {0}
 AreAfter loads (e ∷ es) = (e.loads ≡ loads) × AreAfter loads es
 
--- What a pass knows holds. One pass is the writer's and knows the whole history. One is the monitor's and knows the
--- number of its loads: each entry that it has not seen was published after exactly these, so a load shows all that was
+-- The knowledge of a pass is true. The writer's pass knows the whole history. The monitor's pass knows the number of
+-- its loads: each entry that it has not seen was published after that many loads, so a load shows all that was
 -- published before.
 pub record Fits (writer monitor loads : ℕ) (history : List Stamped) (pass : ℕ) (v : View) : Type 0 where
   pub knows : StartsWith history v.history
@@ -52,12 +52,12 @@ pub record FindsEntry (old : View) (before found : Counts) (new : View) : Type 0
   pub rising : IsRising (counts_of new.history)
   pub value : found ≡ value_of (counts_of new.history)
 
--- what the writer heard begins what it published
+-- the writer's heard history is a prefix of its published history
 pub record Agrees (old : View) (before after : Counts) (new : View) : Type 0 where
   pub same : new ≡ old
   pub begins : StartsWith old.history old.heard
 
--- what the first pass knows: it may write, and make the monitor
+-- the view of the first pass: it may write, and make the monitor
 abbrev pub opener : View
 opener = record { writes = true; reads = true; history = []; loads = 0; heard = [] }
 
@@ -69,14 +69,14 @@ without_reading v = record v { reads = false }
 abbrev pub as_monitor : View → View
 as_monitor v = record v { writes = false }
 
--- a pass that only carries what is known of the history
+-- a pass that only carries knowledge of the history
 abbrev pub as_told : View → View
 as_told v = record v { writes = false; reads = false }
 
--- the first hears what the second knows
+-- the first pass hears the history that the second knows
 abbrev pub hearing : View → View → View
 hearing v w = record v { heard = w.history }
 
--- what a pass knows that belongs to neither end
+-- the view of a pass that belongs to neither end
 abbrev pub nobody : View
 nobody = as_told opener

@@ -1,4 +1,4 @@
--- What contracts see of the ends of a board, and of all that was published of a link.
+-- The views that contracts have of the ends of a board, and of all that was published of a link.
 use Rattle.std.specs.Prelude.{◌≡◌, ◌≤◌, List, [], ◌∷◌, ◌++◌, ℕ, ◌+◌, length, slice_index_or}
 use Rattle.status_board.specs.declared.counts.Counts.{Counts}
 use Rattle.atomic_table.specs.Seated.{TableId}
@@ -37,7 +37,7 @@ pub record Published : Type 0 where
   pub cell : TableId
   pub history : List Counts
 
--- a link's cell, what was seen of its history, and by how many loads
+-- a link's cell, the part of its history that was seen, and the number of loads by which it was
 pub record Watched : Type 0 where
   pub cell : TableId
   pub history : List Counts
@@ -72,7 +72,7 @@ pub record IsReading (before : Watched) (found : Counts) (after : Watched) : Typ
   pub value : found ≡ value_of after.history
   pub above : NoFieldFalls (value_of before.history) found
 
--- both ends of a link are of one cell; nothing was published, and nothing seen
+-- both ends of a link have one cell; nothing was published, and nothing seen
 pub record IsNew (written : Published) (read : Watched) : Type 0 where
   pub cell : written.cell ≡ read.cell
   pub unpublished : written.history ≡ []

@@ -26,8 +26,8 @@ impl Model for Board {
 }
 
 impl Board {
-    /// Adds an entry to the history of a link. No field may be below that of the link's last entry.
-    /// May wait for a monitor that is reading this link. Does not allocate.
+    /// Adds an entry to the history of a link. No field may be below the same field of the link's last entry. May wait
+    /// for a monitor that is reading this link. Does not allocate.
     #[inline(always)]
     pub fn publish<R: Wait>(&mut self, rt: &R, link: usize, counts: Counts)
         requires link { link < length self.old }
@@ -56,7 +56,7 @@ impl Model for Writer {
         × ((cell_view w.pass).writes ≡ true) × ((cell_view w.pass).reads ≡ false) };
 }
 
-// One end of a cell hears what the other knows of the history.
+// Tells one end of a cell the history that the other knows.
 #[tactic(auto, using(crate::proofs::Steps::tells, crate::proofs::Steps::hears))]
 fn tell(cell: &Cell, teller: &mut Knowing, hearer: &mut Knowing)
     requires teller { teller.old.table_id ≡ cell.now.table.shared.table_id }
@@ -82,7 +82,7 @@ impl Writer {
             .swap_as::<Publishes, R>(rt, &mut self.pass, counts);
     }
 
-    /// Proves that what a reader of the cell has seen begins the history.
+    /// Proves that the entries that a reader of the cell has seen are a prefix of the history.
     pub fn compare<R: Wait>(&mut self, rt: &R, reader: &mut Reader)
         requires same { self.old.cell ≡ reader.old.cell }
         ensures writer { self.new ≡ self.old }

@@ -3,8 +3,8 @@ ghost use Rattle.std.specs.Prelude.{[], ◌∷◌};
 
 use crossbeam_utils::atomic::Words;
 
-/// What was sent over a virtual link: the frames that at least one network accepted, the sum of their lengths, the
-/// messages whose last frame is among them, and the time of the last frame in microseconds, 0 before the first.
+/// Counts of a virtual link's transmission: the frames that at least one network accepted, the sum of their lengths,
+/// the messages whose last frame is among them, and the time of the last frame in microseconds, 0 before the first.
 #[derive(Clone, Copy, Debug, PartialEq, Eq)]
 pub struct Counts {
     pub frames: u64,

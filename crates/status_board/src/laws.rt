@@ -7,7 +7,7 @@ use crate::counts::Counts;
 use crate::monitor::Monitor;
 use std::sync::Wait;
 
-/// What the monitor has seen of a link begins the link's history.
+/// The entries of a link that the monitor has seen are a prefix of the link's history.
 ///
 /// `Monitor::read` cannot state this, as the publishing thread owns the history. Here the caller has both ends.
 pub fn seen_begins<R: Wait>(rt: &R, board: &mut Board, monitor: &mut Monitor, link: usize)

@@ -12,7 +12,7 @@ use std::boxed::BoxedSlice;
 use std::marker::Model;
 use std::sync::{Arc, Wait};
 
-/// The reading end of the board, for any thread. Contracts see the cell of each link, what was seen of its history, and
+/// The reading end of the board, for any thread. Contracts see the cell of each link, the seen part of its history, and
 /// the number of loads.
 #[derive(Drop)]
 pub struct Monitor {
@@ -40,7 +40,7 @@ impl Monitor {
     }
 }
 
-/// The reading end of one link's cell. Contracts see the cell, what was seen of the history, and the number of loads.
+/// The reading end of one link's cell. Contracts see the cell, the seen part of the history, and the number of loads.
 #[derive(Drop)]
 pub struct Reader {
     pub(crate) cell: Arc<Cell>,

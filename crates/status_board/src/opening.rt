@@ -33,7 +33,7 @@ pub fn open_board(alloc: Global, links: usize) -> Result<(Board, Monitor), Alloc
     Ok((board, monitor))
 }
 
-// The two ends of one link's cell.
+// Returns the two ends of one link's cell.
 #[tactic(auto, using(crate::proofs::Steps::parts))]
 fn open_link(alloc: Global) -> Result<(Writer, Reader), AllocError>
     ensures { IfOk result (λ r. IsNew r.0 r.1) }

@@ -1,5 +1,5 @@
-//! The rule of a link's cell: it holds the value of one history. The writer knows the whole history, the monitor what
-//! was published before its last load.
+//! The rule of a link's cell: it holds the value of one history. The writer knows the whole history, the monitor the
+//! entries published before its last load.
 ghost use Rattle.status_board.specs.Rule.{KeepsHistory, opener, Adds, FindsEntry, Agrees, without_reading, as_monitor, as_told, hearing, nobody};
 
 use crate::counts::Counts;
@@ -11,7 +11,7 @@ use std::collections::LinkedList;
 /// The cell of a link.
 pub type Cell = RuledSeqCell<Counts, View, History, 4>;
 
-/// What an end of the cell knows.
+/// The knowledge of one end of the cell.
 pub type Knowing = Pass<Counts, View>;
 
 /// An entry of the history, with the number of loads that the monitor made before it. Exists only in contracts.
@@ -20,9 +20,9 @@ pub struct Stamped {
     pub loads: u64,
 }
 
-/// What a pass knows. Exists only in contracts.
-// `history` is what the pass knows of the history, `loads` the number of its loads, and `heard` what another pass knew
-// of the history when the two were joined.
+/// The knowledge of a pass. Exists only in contracts.
+// `history` is the part of the history that the pass knows, `loads` the number of its loads, and `heard` the part that
+// another pass knew when the two were joined.
 pub struct View {
     pub writes: bool,
     pub reads: bool,
@@ -54,7 +54,7 @@ impl Outcome<Counts, View> for Loads {
     ghost then = { FindsEntry };
 }
 
-/// The writer compares what it has heard with what it published.
+/// The writer compares the history that it has heard with the one that it published.
 pub struct Compares;
 
 impl Outcome<Counts, View> for Compares {
@@ -70,7 +70,7 @@ impl Split<View> for Makes {
     ghost right = { as_monitor };
 }
 
-/// One end reports what it knows of the history, and the other hears it.
+/// One end reports its known history, and the other hears it.
 pub struct Tells;
 
 impl Split<View> for Tells {

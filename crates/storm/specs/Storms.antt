@@ -1,4 +1,4 @@
--- The results of a storm over a plan, and what is written of it.
+-- The results of a storm over a plan, and the text that is written of it.
 use Rattle.std.specs.Prelude.{codes, ℕ, zero, suc, List, [], ◌∷◌, ◌++◌, length, slice_index_or, Bool, if◌then◌else◌, decimal, ◌≡◌, ◌≢◌, ◌<◌, ◌↔◌, ◌*◌, map, Option, Result, Ok, Err, false, IsTrue, ⊤}
 use Rattle.afdx_plan.specs.Config.{link_plan_at, Plan}
 use Rattle.afdx_plan.specs.declared.link_plan.LinkPlan.{LinkPlan}
@@ -26,13 +26,14 @@ link_line id counts = codes "link " ++ decimal id ++ codes ": frames " ++ decima
 abbrev pub counts_at : List Counts → ℕ → Counts
 counts_at counts k = slice_index_or counts k zeros
 
--- the counts of the first links, as many as the number
+-- the lines of the first links' counts
 abbrev pub link_lines_to : List LinkPlan → List Counts → ℕ → List ℕ
 link_lines_to links counts zero = []
 link_lines_to links counts (suc k) =
     link_lines_to links counts k ++ link_line (link_plan_at links k).id.0 (counts_at counts k)
 
--- all of it: also whether both networks have the same frames, and whether a count was seen to fall
+-- the text of the totals: the accepted messages, the counts of each link, whether both networks have the same frames,
+-- and whether a count was seen to fall
 unfoldable pub totals_text : List LinkPlan → ℕ → List Counts → Bool → Bool → List ℕ
 totals_text links accepted counts equal back = (codes "accepted " ++ decimal accepted ++ 10 ∷ [])
     ++ link_lines_to links counts (length links)
@@ -63,7 +64,7 @@ pub record IsReportOf (plan : Plan) (n : ℕ) (report : StormReport) : Type 0 wh
   pub equal : IsTrue report.equal ↔ (on_both plan.links report.b.handed
       ≡ map (side B) (on_both plan.links report.a.handed))
 
--- What was written of a storm over a plan, none of whose ports is short: the text of its report.
+-- The text of a storm's report was written, over a plan without a port that is too short.
 pub record ReportsPlan (plan : Plan) (n : ℕ) (old new : Option (List ℕ)) : Type 0 where
   pub long : HasShortPort plan → ⊥
   pub report : StormReport

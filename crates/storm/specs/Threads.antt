@@ -1,4 +1,5 @@
--- What the threads of a storm begin with, publish and read, and what they leave.
+-- The state in which the threads of a storm begin, the counts that they publish and read, and the state that they
+-- leave.
 use Rattle.std.specs.Prelude.{ℕ, ◌≡◌, ◌≢◌, ◌+◌, ◌≤◌, ◌<◌, List, length, map, ◌*◌, Bool, false}
 use Rattle.atomic_table.specs.Seated.{TableId}
 use Rattle.afdx_plan.specs.declared.link_plan.LinkPlan.{LinkPlan}
@@ -24,7 +25,7 @@ cells_of board = map (λ (link : Published). link.cell) board
 abbrev pub cells_read : List Watched → List TableId
 cells_read monitor = map (λ (link : Watched). link.cell) monitor
 
--- what was published last of each link of an emitter is the counts of the link's own stream
+-- the last published counts of each link of an emitter are the counts of the link's own stream
 pub record IsShown (tx : Tx) : Type 0 where
   pub count : length tx.board ≡ length tx.plan.links
   pub each : (k : ℕ) → k < length tx.plan.links → last_of tx.board k ≡ counts_at tx k
@@ -33,11 +34,11 @@ pub record IsShown (tx : Tx) : Type 0 where
 abbrev pub own_counts : (a b : List Entry) → LinkPlan → Counts
 own_counts a b link = counts_in (own_stream link.id.0 a b)
 
--- those of each link, in their order
+-- the counts of each link, in the links' order
 abbrev pub all_counts : List LinkPlan → (a b : List Entry) → List Counts
 all_counts links a b = map (own_counts a b) links
 
--- one link of a monitor was read `times` times, by one load each, and no other
+-- one link of a monitor was read `times` times, by one load each; no other link was read
 pub record ReadsOnly (old new : List Watched) (link times : ℕ) : Type 0 where
   pub cells : cells_read new ≡ cells_read old
   pub loads : (seen new link).loads ≡ (seen old link).loads + times
@@ -62,7 +63,8 @@ pub record IsReady (tx : Tx) (ports : List PortView) (monitor : List Watched) : 
   pub shown : IsShown tx
   pub cells : cells_of tx.board ≡ cells_read monitor
 
--- the same after that many polls, once each port sent its messages 1 to n and no count was seen to fall
+-- an emitter, its ports and its monitor after `polls` polls, once each port sent its messages 1 to n and no count was
+-- seen to fall
 pub record IsJoined (n turns : ℕ) (tx : Tx) (ports : List PortView) (monitor : List Watched) (polls : ℕ) (back : Bool)
     : Type 0 where
   pub spent : AreSpent tx n turns ports
@@ -72,7 +74,7 @@ pub record IsJoined (n turns : ℕ) (tx : Tx) (ports : List PortView) (monitor :
   pub cells : cells_of tx.board ≡ cells_read monitor
   pub never_back : back ≡ false
 
--- what the threads leave of an emitter, its ports and its monitor, once all are joined
+-- the state in which the threads leave an emitter, its ports and its monitor, once all are joined
 pub record IsRunOf (opened : Opened) (load : Load) (joined : Joined) : Type 0 where
   pub plan : joined.tx.plan ≡ opened.tx.plan
   pub ended : IsJoined load.messages load.turns joined.tx joined.ports.items joined.monitor joined.polls joined.back

@@ -1,4 +1,4 @@
--- What the ports send, and what a worker does to its port.
+-- The messages that the ports send, and the effect of a worker on its port.
 use Rattle.std.specs.Prelude.{ℕ, zero, suc, ◌+◌, List, [], ◌∷◌, ◌++◌, ◌≡◌, ◌<◌, ◌≤◌, length, slice_index, slice_index_or}
 use Rattle.std.specs.Int.{to_be_bytes, w16, w32}
 use Rattle.afdx_plan.specs.Config.{Plan, port_plan_at}
@@ -20,7 +20,7 @@ messages_to id (suc n) = messages_to id n ++ message id (n + 1) ∷ []
 abbrev pub own_messages : Plan → ℕ → ℕ → List (List ℕ)
 own_messages plan n place = messages_to (port_plan_at plan.ports place).id.0 n
 
--- a port without its count of slot requests and what these found
+-- a port without its count of slot requests and the states in which these found the queue
 pub record Named : Type 0 where
   pub place : ℕ
   pub plan : PortPlan
@@ -45,11 +45,11 @@ with_more port more = record (named port) { own = port.sender.own ++ more }
 abbrev pub sent_all : ℕ → PortView → Named
 sent_all n port = with_more port (messages_to port.plan.id.0 n)
 
--- how many slots a port requested
+-- the number of slots that a port requested
 abbrev pub asked_by : PortView → ℕ
 asked_by port = port.sender.asks
 
--- how many slots a port requested after `turns` turns, one request each
+-- the number of slots that a port requested after `turns` turns, one request each
 abbrev pub asked_after : ℕ → PortView → ℕ
 asked_after turns port = port.sender.asks + turns
 
@@ -65,7 +65,7 @@ pub record IsSpent (tx : Tx) (n turns place : ℕ) (port : PortView) : Type 0 wh
   pub own : port.sender.own ≡ own_messages tx.plan n place
   pub asks : port.sender.asks ≤ turns
 
--- All ports of an emitter, in the order of its plan, each of which sent exactly its messages 1 to n, within its turns.
+-- All ports of an emitter, in the order of its plan. Each sent exactly its messages 1 to n, within its turns.
 pub record AreSpent (tx : Tx) (n turns : ℕ) (ports : List PortView) : Type 0 where
   pub count : length ports ≡ length tx.plan.ports
   pub each : (k : ℕ) (d : PortView) → k < length ports → IsSpent tx n turns k (slice_index_or ports k d)

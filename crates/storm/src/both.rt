@@ -56,7 +56,7 @@ fn is_on_both(links: &[LinkPlan], vl: u16) -> bool
         && link.networks.carries_b())
 }
 
-// Where a frame has its link, at the end of the destination MAC address.
+// The index of a frame's link, at the end of the destination MAC address.
 const LINK: usize = 4;
 
 #[tactic(auto, using(crate::proofs::Whole::has_link))]
@@ -73,8 +73,8 @@ fn count_on_both(links: &[LinkPlan], handed: &[Handed]) -> usize
     count
 }
 
-/// Whether two networks have twins, entry by entry, over the links that both carry. One of them has the
-/// twins of a beginning of the other's, so counting them is enough.
+/// Returns true if two networks have twins, entry by entry, over the links that both carry. One network has the twins
+/// of a beginning of the other's, so counting them is enough.
 pub(crate) fn are_equal(links: &[LinkPlan], a: &MemNetwork, b: &MemNetwork) -> bool
     requires known_a { AreKnown links.now ForA a.now.handed }
     requires known_b { AreKnown links.now ForB b.now.handed }

@@ -1,4 +1,4 @@
-//! Why a storm gives no report.
+//! The reasons for which a storm gives no report.
 ghost use Rattle.std.specs.Prelude.{◌≡◌, ◌≢◌, ◌↔◌};
 ghost use Rattle.storm.specs.declared.fault.StormStop.TheVariants.{Memory as OutOfMemory};
 ghost use Rattle.storm.specs.declared.fault.StormFault.TheVariants.{Memory, Short};
@@ -6,8 +6,8 @@ ghost use Rattle.storm.specs.declared.fault.StormFault.TheVariants.{Memory, Shor
 use std::alloc::{AllocError, AllocFailed};
 use thiserror::Error;
 
-/// Why a storm gives no report. `Short` comes before `Memory`, and `Memory` before `Turns`. `Display` prints
-/// the variant's name.
+/// The reasons for which a storm gives no report. `Short` comes before `Memory`, and `Memory` before `Turns`. `Display`
+/// prints the variant's name.
 #[derive(Clone, Copy, Debug, PartialEq, Eq, Error)]
 pub enum StormFault {
     /// A port's greatest message is below 6 bytes. No thread was started.
@@ -21,14 +21,14 @@ pub enum StormFault {
     Memory = 3,
 }
 
-/// Why the totals of a storm aren't written: it gives no report, or the writer fails.
+/// The reasons for which the totals of a storm aren't written: it gives no report, or the writer fails.
 #[derive(Clone, Copy, Debug, PartialEq, Eq)]
 pub enum ThrowFault {
     Storm(StormFault),
     Write,
 }
 
-/// Why a running storm stops early.
+/// The reasons for which a running storm stops early.
 #[derive(Clone, Copy)]
 pub(crate) enum StormStop {
     Memory,

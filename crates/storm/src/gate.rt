@@ -3,16 +3,16 @@
 /// Hooks of the workers, of the main thread and of the watcher. Workers are counted from 0 in the order of
 /// the plan's ports, and the messages of each from 1.
 pub trait Gate {
-    /// Called by a worker before it first sends a message. It may block; false ends the worker.
+    /// Lets a worker send its first message. May block; false ends the worker.
     fn enter(&self, worker: usize, call: u32) -> bool;
 
-    /// Called by a worker after a message was accepted.
+    /// Follows an accepted message of a worker.
     fn answered(&self, worker: usize, call: u32);
 
-    /// Called by the main thread after a poll, with the number of frames that it released.
+    /// Follows a poll of the main thread, which released this number of frames.
     fn polled(&self, _frames: usize) {}
 
-    /// Called by the watcher after a reading, with the place of its link in the plan.
+    /// Follows a reading of the watcher, of the link at a place of the plan.
     fn watched(&self, _link: usize) {}
 }
 

@@ -1,4 +1,4 @@
-//! The main thread's part: it polls while workers run, then takes back the ports and sends what is left.
+//! The main thread's part: it polls while workers run, then takes back the ports and sends the messages that are left.
 ghost use Rattle.std.specs.Prelude.{◌≡◌, ◌*◌, ◌≤◌, length, IfOk, OnOk};
 ghost use Rattle.redundant_mux.specs.Lines.{log};
 ghost use Rattle.afdx_legal.specs.Accepted.{IsAllDone};

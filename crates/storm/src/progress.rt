@@ -4,8 +4,8 @@ use std::io::{self, Eprint};
 use std::sync::atomic::{AtomicU64, Ordering};
 use std::time::{Clock, Instant};
 
-/// A gate that is always open. At most ten times a second it prints to standard error how many messages
-/// were accepted, of those of all workers that have begun, and how many frames were released.
+/// A gate that is always open. At most ten times a second it prints to standard error the number of accepted messages,
+/// the number of messages of all workers that have begun, and the number of released frames.
 #[derive(Drop)]
 pub struct Progress<'a, R: Clock + Eprint> {
     rt: &'a R,
@@ -20,7 +20,7 @@ pub struct Progress<'a, R: Clock + Eprint> {
 }
 
 impl<'a, R: Clock + Eprint> Progress<'a, R> {
-    /// The progress of a storm that begins now, in which each port sends `messages` messages.
+    /// Returns the progress of a storm that begins now, in which each port sends `messages` messages.
     pub fn begin(rt: &'a R, messages: u32) -> io::Result<Progress<'a, R>> {
         Ok(Progress {
             rt,
@@ -40,7 +40,7 @@ impl<'a, R: Clock + Eprint> Progress<'a, R> {
         }
     }
 
-    /// Whether nothing was printed yet in this tenth of a second.
+    /// Returns true if nothing was printed yet in this tenth of a second.
     fn is_due(&self) -> bool {
         let Ok(passed) = self.begun.elapsed(self.rt) else {
             return false;

@@ -20,7 +20,7 @@ use std::thread::{Scope, Threads};
 /// The emitter of a storm, over two networks in memory.
 pub(crate) type StormTx = Emitter<MemNetwork, MemNetwork>;
 
-/// The same while it drains.
+/// The emitter of a storm while it drains.
 pub(crate) type StormDraining = Draining<MemNetwork, MemNetwork>;
 
 /// An emitter, its ports and its monitor.
@@ -31,7 +31,8 @@ pub(crate) struct Opened {
     pub monitor: Monitor,
 }
 
-/// The same once all threads are joined, with the number of polls and whether a count was seen to fall.
+/// An emitter, its ports and its monitor once all threads are joined, with the number of polls and whether a count
+/// fell.
 #[derive(Drop)]
 pub(crate) struct Joined {
     pub tx: StormTx,
@@ -63,7 +64,7 @@ fn run_in_scope<'s, E: 's, G: Gate + Sync, R: Threads + Wait + Sync>(
     let links = tx.config().links().len();
     let watching = start_watcher(scope, rt, gate, monitor, links, load.messages)?;
     let started = start_workers(scope, alloc, ports, load, gate, running);
-    // If not all were started, polling lets those that were come to their end.
+    // If not all workers were started, polling lets the started ones come to their end.
     let polls = poll_while(rt, &mut tx, gate, running, load.turns);
     let (monitor, back) = watching.join(rt);
     match join_workers(rt, alloc, started, polls) {

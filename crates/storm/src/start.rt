@@ -11,8 +11,8 @@ use std::snapshot::Snapshot;
 use std::sync::atomic::{AtomicU64, Ordering};
 use std::thread::{Promise, PromisedHandle, Scope, Threads};
 
-/// A worker returns its port, which requested at most one slot for each turn. If it succeeded, the port sent
-/// all its messages, and is otherwise unchanged.
+/// The promise of a worker: it returns its port, which requested at most one slot for each turn. If it succeeded, the
+/// port sent all its messages, and is otherwise unchanged.
 #[derive(Drop)]
 pub(crate) struct SendsAll {
     pub before: Snapshot<TxPort>,
@@ -114,7 +114,7 @@ pub(crate) fn join_workers<R: Threads>(
     }
 }
 
-/// The worse of two ends, that of the polls and a worker's: out of memory, then turns.
+/// Returns the worse of two ends, the end of the polls and a worker's: out of memory, then turns.
 fn worse(worst: Result<u64, StormStop>, ended: Result<(), StormStop>) -> Result<u64, StormStop>
     ensures ok { IfOk result (λ polls. (worst ≡ Ok polls) × (ended ≡ Ok tt)) }
     ensures memory { result ≡ Err StormStop.Memory ↔ ((worst ≡ Err StormStop.Memory) ⊎ (ended ≡ Err StormStop.Memory)) }

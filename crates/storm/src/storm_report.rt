@@ -21,22 +21,21 @@ use std::thread::Threads;
 /// The report of a storm.
 #[derive(Drop)]
 pub struct StormReport {
-    /// How many messages of all ports were accepted.
+    /// The number of accepted messages of all ports.
     pub accepted: u64,
-    /// The counts of each link, in the order of the plan, once all was sent: those of the longer of
-    /// the link's two streams.
+    /// The counts of each link, in the order of the plan, once all was sent: the counts of the longer of its two
+    /// streams.
     pub links: Vec<Counts>,
-    /// Whether over the links that both networks carry they have the same frames, each its twins, at the
-    /// same times.
+    /// True if over the links on both networks A and B have the same frames, each its twins, at the same times.
     pub equal: bool,
-    /// Whether a count of a link was seen to fall.
+    /// True if a count of a link was seen to fall.
     pub back: bool,
     /// The networks, with their frames.
     pub a: MemNetwork,
     pub b: MemNetwork,
 }
 
-/// Whether some port's maximum is below a storm's message.
+/// Returns true if some port's maximum is below a storm's message.
 fn has_short_port(config: &Config) -> bool
     ensures { IsTrue result ↔ HasShortPort config.now }
 {
@@ -54,7 +53,7 @@ fn count_accepted(ports: &[TxPort]) -> u64
     accepted
 }
 
-/// The last published counts of each link, in the order of the plan.
+/// Returns the last published counts of each link, in the order of the plan.
 fn read_links<R: Wait>(
     rt: &R,
     alloc: Global,
@@ -74,7 +73,7 @@ fn read_links<R: Wait>(
     Ok(counts)
 }
 
-/// Takes back the ports, sends what is left, and reports.
+/// Takes back the ports, sends the messages that are left, and reports.
 fn finish<G: Gate, R: Wait>(
     rt: &R,
     alloc: Global,
@@ -126,7 +125,7 @@ fn open(alloc: Global, config: Config, a: MemNetwork, b: MemNetwork) -> Result<O
     }
 }
 
-/// `storm` over two networks in memory that are new: no frame, no failure.
+/// Runs `storm` over two new networks in memory.
 pub fn storm_over<G: Gate + Sync, R: Threads + Wait + Sync>(
     rt: &R,
     alloc: Global,

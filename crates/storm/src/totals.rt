@@ -14,9 +14,8 @@ use std::io::{self, Write};
 use std::sync::Wait;
 use std::thread::Threads;
 
-/// Writes the totals of a storm over these links, in the order of their plan: how many messages were
-/// accepted, the counts of each link, whether both networks have the same frames, and whether a count was
-/// seen to fall.
+/// Writes the totals of a storm over these links, in the order of their plan: the number of accepted messages, the
+/// counts of each link, whether both networks have the same frames, and whether a count was seen to fall.
 #[tactic(auto, unfolding(crate::specs::Storms::totals_text))]
 pub fn write_totals<W: Write>(
     writer: &mut W,

@@ -10,7 +10,8 @@ use std::snapshot::Snapshot;
 use std::sync::Wait;
 use std::thread::{Promise, PromisedHandle, Scope};
 
-/// The watcher returns the monitor, each of whose links was read `times` times, and saw no count fall.
+/// The promise of the watcher: it returns the monitor, each of whose links was read `times` times, and saw no count
+/// fall.
 #[derive(Drop)]
 pub(crate) struct WatchesAll {
     pub before: Snapshot<Monitor>,
@@ -23,7 +24,7 @@ impl Promise<(Monitor, bool)> for WatchesAll {
 
 pub(crate) type Watching = PromisedHandle<(Monitor, bool), WatchesAll>;
 
-/// Whether a field of a later reading is below that of an earlier one.
+/// Returns true if a field of a later reading is below the same field of an earlier one.
 fn is_back(earlier: &Counts, later: &Counts) -> bool
     ensures { (result ≡ false) ↔ NoFieldFalls earlier.now later.now }
 {

@@ -8,8 +8,8 @@ use afdx_plan::PortId;
 use afdx_tx::TxPort;
 use std::thread;
 
-/// How many messages each port sends, and how often a worker may send and the main thread may poll, while
-/// the workers run and again after them.
+/// The load of a storm: the number of messages that each port sends, and the number of turns in which a worker may send
+/// and the main thread may poll, while the workers run and again after them.
 #[derive(Clone, Copy)]
 pub(crate) struct Load {
     pub messages: u32,
@@ -19,7 +19,7 @@ pub(crate) struct Load {
 /// The length of a message in bytes.
 pub(crate) const MESSAGE_BYTES: usize = 6;
 
-/// Message `call` of a port: the port's identifier in two bytes and `call` in four, high byte first.
+/// Returns message `call` of a port: the port's identifier in two bytes and `call` in four, high byte first.
 fn make_message(port: PortId, call: u32) -> [u8; MESSAGE_BYTES]
     ensures { result ≡ message port.0 call }
 {

@@ -39,7 +39,7 @@ fn assert_same<V: PartialEq + Debug + Copy>(rt: &impl Abort, told: V, wanted: V)
     assert_eq!(rt; told, wanted);
 }
 
-/// Returns at most `most` bytes a call, and `failure` once between two parts of its text.
+/// A reader that gives at most `most` bytes a call, and `failure` once between two parts of its text.
 #[derive(Drop)]
 struct Failing<'a> {
     before: &'a [u8],
@@ -48,7 +48,7 @@ struct Failing<'a> {
     most: usize,
 }
 
-// A reader of a text that fails once after `bytes` bytes of it, if there is a failure.
+// Returns a reader of a text that fails once after `bytes` bytes of it, if there is a failure.
 fn reader_of(text: &[u8], bytes: usize, failure: Option<ErrorKind>, most: usize) -> Failing<'_> {
     let (before, after) = text.split_at_checked(bytes).unwrap_or((text, &[]));
     Failing {
@@ -72,8 +72,8 @@ impl Read for Failing<'_> {
     }
 }
 
-/// Accepts each write but number `number`, counted from 1, which returns `failure`, or 0 if that is none. It
-/// counts writes and flushes.
+/// A writer that accepts each write but number `number`, counted from 1, which returns `failure`, or 0 if that is none.
+/// It counts writes and flushes.
 #[derive(Drop)]
 struct Lapsing {
     number: usize,
@@ -117,7 +117,7 @@ impl Write for Lapsing {
 /// The result of a run.
 type Ran = Result<Summary, RunFault>;
 
-/// A script over the demonstration plan, and its summary; after how many bytes of it each of its notes is to
+/// A script over the demonstration plan, and its summary; the number of its bytes after which each of its notes is to
 /// come, and the frame that it sends at the last time.
 type Script = (
     &'static str,
@@ -127,7 +127,7 @@ type Script = (
 );
 
 const SCRIPTS: [Script; 2] = [
-    // two messages, of which the first is sent, and an earlier time
+    // two messages, the first alone released, and an earlier time
     (
         "send 10 01\nsend 10 02\nat 18446744073709551615\nat 18446744073709551615\nat 5\n",
         Summary {
@@ -174,7 +174,7 @@ fn rest_after<'a>(rt: &impl Abort, text: &'a [u8], front: &str) -> &'a [u8] {
     rest
 }
 
-// Asserts the result of a script of which `bytes` bytes are read, and the notes and the frames of those.
+// Asserts the result of a script that is read up to `bytes` bytes, and the notes and the frames of its lines.
 fn assert_read(rt: &impl Host, script: &Script, reader: Failing<'_>, wanted: Ran, bytes: usize) {
     let &(_, _, notes, sent) = script;
     let mut text = Vec::new(rt.alloc());
@@ -254,14 +254,14 @@ const UNREAD: Checked = Err(Failure::Run(RunFault::Read));
 
 const UNWRITTEN: Checked = Err(Failure::Run(RunFault::Write));
 
-// What `check` writes of the demonstration plan.
+// The text that `check` writes for the demonstration plan.
 const REPORT: &str = "end system 1
 link 1: bag 1 ms, lmax 1518, sub-VLs 1, capacity 2
 port 10: link 1 sub 0, partition 1, queuing, 1000 to 2000, max 8192, multicast
 jitter 163040 ns, limit 500000
 ";
 
-// How a reader fails, and what `check` returns and writes then.
+// The errors of a reader, with the result and the text of `check` after each.
 const READS: [(ErrorKind, Checked, &str); 3] = [
     (ErrorKind::InvalidData, UNREAD, ""),
     (
@@ -272,7 +272,7 @@ const READS: [(ErrorKind, Checked, &str); 3] = [
     (ErrorKind::Interrupted, Ok(()), REPORT),
 ];
 
-// Asserts this result, and what `check` writes.
+// Asserts the result of `check`, and the text that it writes.
 fn assert_check(rt: &impl Host, text: impl Read + Drop, wanted: Checked, lines: &str) {
     let mut report = Vec::new(rt.alloc());
     let told = check(rt.alloc(), text, &mut report);
@@ -288,7 +288,7 @@ fn a_text_is_read_whole_or_not_at_all(rt: HostRuntime) {
     assert_check(&rt, io::repeat(b'\n'), UNREAD, "");
 }
 
-// Has `check` write its report through a buffer, as the program does, and flushes it.
+// Calls `check`, which writes its report through a buffer, as the program does, and flushes it.
 fn report(rt: &impl Host, lapsing: &mut Lapsing) -> Checked {
     let writer = BufWriter::with_capacity(rt.alloc(), 24, Halting::new(lapsing));
     let mut writer = writer.ok().expect(rt, "memory");

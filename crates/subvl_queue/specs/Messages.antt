@@ -5,7 +5,7 @@ use Rattle.std.specs.Prelude.{ℕ, ◌==◌, ◌^◌, ◌<◌, ◌≤◌, length
 abbrev pub most_bytes : ℕ
 most_bytes = 8192
 
--- these bytes may be a message
+-- bytes that may be a message
 pub record IsMessage (bytes : List ℕ) : Type 0 where
   pub some : 1 ≤ length bytes
   pub most : length bytes ≤ most_bytes
@@ -27,7 +27,7 @@ abbrev pub part_of : ℕ → List (ℕ × List ℕ) → List (List ℕ)
 part_of port [] = []
 part_of port (item ∷ items) = if item.0 == port then item.1 ∷ part_of port items else part_of port items
 
--- How many bytes there is room for, and the message with the index of its sender, if there is one.
+-- The number of bytes that a room may hold, and its message with the index of its sender, if there is one.
 pub record RoomView : Type 0 where
   pub most : ℕ
   pub item : Option (ℕ × List ℕ)

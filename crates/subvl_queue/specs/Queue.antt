@@ -114,7 +114,7 @@ module _ {T : Type 0} where
     Knows Holding = Has log c (reading j) at item × (at ≡ freed)
     Knows stage = Unit {0}
 
-  -- seat 0 is the receiver's, seat k + 1 that of port k
+  -- seat 0 is the receiver's, seat k + 1 port k's
   module _ (seats freed : ℕ) (log : List (ℕ × T)) (j : ℕ) (v : View T) where
     abbrev pub Fits : Role → Type 0
     Fits Sender = (j ≡ suc v.port) × (v.own ≡ owned v.port 0 log) × (v.asks ≤ 2 ^ 40)
@@ -141,7 +141,7 @@ module _ {T : Type 0} where
 abbrev pub AreGood : {T : Type 0} → (T → Type 0) → List (ℕ × T) → Type 0
 AreGood {T} Good l = (p : ℕ) (x : ℕ × T) → get_elem? l p ≡ some x → Good x.1
 
--- `boxed` is what a slot at home holds, with an item or without
+-- `boxed` is the content of a slot at home, with an item or without
 module _ {T S : Type 0} (boxed : Option (ℕ × T) → S) where
   module _ (freed : ℕ) (log : List (ℕ × T)) (homes : List (maybe.Option S)) (i p : ℕ) where
     abbrev pub InPhase : Phase → Type 0
@@ -205,6 +205,6 @@ IsAtTable z seat = seat.table_id ≡ z
 abbrev pub RestsAs : {T S : Type 0} → TableId → Role → Seat S (View T) → Type 0
 RestsAs z role seat = IsAtTable z seat × (seat.me.1 ≡ []) × (seat.me.0.role ≡ role) × (seat.me.0.stage ≡ Idle)
 
--- the slot of a place, of so many slots
+-- the slot of a place, for `slots` slots
 abbrev pub IsSlotOf : (slots place slot : ℕ) → Type 0
 IsSlotOf slots place slot = (slot ≡ place % slots) × (slot < slots)

@@ -86,7 +86,7 @@ module _ {T : Type 0} where
   abbrev pub freed_of : View T → ℕ × T → View T
   freed_of v x = record v { stage = Idle; taken = v.taken ++ x ∷ [] }
 
-  -- the message x is at place p, the next after those taken
+  -- the message x is at place p, the next after the taken ones
   pub record IsNext (v : View T) (p : ℕ) (x : ℕ × T) : Type 0 where
     pub few : p < 2 ^ 46
     pub port : x.0 < v.made
@@ -117,7 +117,7 @@ module _ {T : Type 0} where
   RefusedBy calls capacity v w Full = (v.asks < calls) × (capacity ≤ w.load)
       × (w ≡ idle (with_ask (with_glance v false) Refused w.load))
 
--- The outcome of each step. `boxed` is what a slot at home holds, with an item or without.
+-- The outcome of each step. `boxed` is the content of a slot at home, with an item or without.
 module _ {T S : Type 0} where
   -- A slot request reads 2 ^ 32 and the capacity, less the held messages and the slot requests under way; `load` is
   -- the number of these. It finds room exactly if the word read is over 2 ^ 32.

@@ -12,9 +12,9 @@ abbrev pub QueueName : Type 0
 QueueName = TableId
 
 -- A sender. `most` is the greatest length of a message. `asks` is the number of its slot requests, at most `calls`;
--- `load` is the number of held messages and slot requests under way that the last one found. `glances` is how often it
--- checked whether the queue is closed, and `shut` what it found last. `own` has its accepted messages in order, and
--- `places` their places among all accepted messages.
+-- `load` is the number of held messages and slot requests under way that the last one found. `glances` is the number of
+-- its checks whether the queue is closed, and `shut` the result of the last one. `own` has its accepted messages in
+-- order, and `places` their places among all accepted messages.
 pub record SenderView : Type 0 where
   pub queue : QueueName
   pub capacity : ℕ
@@ -28,16 +28,17 @@ pub record SenderView : Type 0 where
   pub own : List (List ℕ)
   pub places : List ℕ
 
--- what a sender brings back: its index, its own accepted messages, and their places among all accepted messages
+-- the messages that a sender brings back: its index, its own accepted messages, and their places among all accepted
+-- messages
 pub record Brought : Type 0 where
   pub port : ℕ
   pub own : List (List ℕ)
   pub places : List ℕ
 
--- A receiver. `most` is the greatest length of a message, and `ports` the number of its queue's senders. `looks` is how
--- often it polled the queue, and `found` whether the last poll found a message. `taken` has the messages taken, in
--- order, `total` the number of accepted messages once the queue is closed, and `back` what the senders brought that
--- were taken back.
+-- A receiver. `most` is the greatest length of a message, and `ports` the number of its queue's senders. `looks` is the
+-- number of its polls of the queue, and `found` is true if the last poll found a message. `taken` has the messages
+-- taken, in order, `total` the number of accepted messages once the queue is closed, and `back` the messages of the
+-- senders that were taken back.
 pub record ReceiverView : Type 0 where
   pub queue : QueueName
   pub capacity : ℕ
@@ -49,8 +50,8 @@ pub record ReceiverView : Type 0 where
   pub total : Option ℕ
   pub back : List Brought
 
--- all ends together: the greatest length of a message, the number of senders, the messages taken, and those accepted
--- and not taken yet
+-- all ends together: the greatest length of a message, the number of senders, the messages taken, and the messages
+-- accepted and not taken yet
 pub record GatheredView : Type 0 where
   pub most : ℕ
   pub ports : ℕ
@@ -87,15 +88,15 @@ new_receiver queue capacity most ports = record {
   back = [];
 }
 
--- after a check whether the queue is closed
+-- a sender after a check whether the queue is closed
 abbrev pub glanced : SenderView → Bool → SenderView
 glanced s shut = record s { glances = s.glances + 1; shut = shut }
 
--- after a slot request that found this load
+-- a sender after a slot request that found this load
 abbrev pub asked : SenderView → ℕ → SenderView
 asked s load = record s { asks = s.asks + 1; load = load }
 
--- after a message was accepted at this place, by a slot request that found this load
+-- a sender after a message was accepted at this place, by a slot request that found this load
 abbrev pub sent : SenderView → (load place : ℕ) → List ℕ → SenderView
 sent s load place bytes = record s {
   asks = s.asks + 1;
@@ -119,11 +120,11 @@ IsRefused s Closed t = (t ≡ glanced s true)
 IsRefused s Exhausted t = (s.asks ≡ s.calls) × (t ≡ glanced s false)
 IsRefused s Full t = (s.asks < s.calls) × (s.capacity ≤ t.load) × (t ≡ asked (glanced s false) t.load)
 
--- after a poll that took a message
+-- a receiver after a poll that took a message
 abbrev pub after_take : ReceiverView → ℕ × List ℕ → ReceiverView
 after_take r item = record r { looks = r.looks + 1; found = true; taken = r.taken ++ item ∷ [] }
 
--- after a poll that found nothing ready
+-- a receiver after a poll that found nothing ready
 abbrev pub looked : ReceiverView → ReceiverView
 looked r = record r { looks = r.looks + 1; found = false }
 
@@ -135,11 +136,11 @@ closed r total = record r { total = Some total }
 abbrev pub accepted_of : GatheredView → List (ℕ × List ℕ)
 accepted_of g = g.taken ++ g.left
 
--- what a sender brings back
+-- the messages that a sender brings back
 abbrev pub brought_by : SenderView → Brought
 brought_by s = record { port = s.port; own = s.own; places = s.places }
 
--- what each of these senders brings back
+-- the messages that each sender of a list brings back
 abbrev pub brought_by_all : List SenderView → List Brought
 brought_by_all = map brought_by
 
@@ -147,7 +148,7 @@ brought_by_all = map brought_by
 abbrev pub one_more : ReceiverView → ReceiverView
 one_more r = record r { ports = r.ports + 1 }
 
--- after a sender was taken back
+-- a receiver after a sender was taken back
 abbrev pub taken_back : ReceiverView → SenderView → ReceiverView
 taken_back r s = record r { back = r.back ++ brought_by s ∷ [] }
 
@@ -163,7 +164,7 @@ HasEvery ports senders = (p : ℕ) → p < ports → HasPort senders p
 abbrev pub LacksOne : ℕ → List SenderView → Type 0
 LacksOne ports senders = (p : ℕ) × (p < ports) × (HasPort senders p → ⊥)
 
--- all senders are of this queue
+-- all senders belong to this queue
 abbrev pub AreOf : QueueName → List SenderView → Type 0
 AreOf queue senders = (k : ℕ) (d : SenderView) → k < length senders → (slice_index_or senders k d).queue ≡ queue
 
@@ -182,15 +183,15 @@ IsBack back p = (b : Brought) × Contains back b × (b.port ≡ p)
 abbrev pub AreBack : ℕ → List Brought → Type 0
 AreBack ports back = (p : ℕ) → p < ports → IsBack back p
 
--- The accepted messages are exactly those of the senders that are back: each sender's part is its
--- own list, at its places.
+-- The accepted messages are exactly the messages of the returned senders: each sender's part is its own list, at its
+-- places.
 pub record IsWhole (ports : ℕ) (back : List Brought) (accepted : List (ℕ × List ℕ)) : Type 0 where
   pub every : AreBack ports back
   pub parts : (b : Brought) → Contains back b → part_of b.port accepted ≡ b.own
   pub places : (b : Brought) → Contains back b → StandAt accepted b.port b.own b.places
   pub no_more : (p : ℕ) → ports ≤ p → part_of p accepted ≡ []
 
--- whether no message is left; if one is, the list begins with a message
+-- true if no message is left; if one is, the list begins with a message
 abbrev pub TellsLeft : Bool → List (ℕ × List ℕ) → Type 0
 TellsLeft true left = left ≡ []
 TellsLeft false [] = ⊥
@@ -204,11 +205,11 @@ own_of = map (λ x. x.1)
 abbrev pub places_of : List (ℕ × List ℕ) → List ℕ
 places_of = map (λ x. x.0)
 
--- what a sender brought, by its joined list
+-- the messages that a sender brought, by its joined list
 abbrev pub brought_of : ℕ × List (ℕ × List ℕ) → Brought
 brought_of b = record { port = b.0; own = own_of b.1; places = places_of b.1 }
 
--- what the joined senders brought
+-- the messages that the joined senders brought
 abbrev pub brought_back : View (List ℕ) → List Brought
 brought_back v = map brought_of v.joined
 

@@ -1,5 +1,5 @@
-//! The queue of one sub-VL: senders, each of which may be on a thread of its own, and one receiver.
-//! It has no lock, and no call waits.
+//! The queue of one sub-VL: one receiver, and senders that may each be on a thread of its own. The queue has no lock,
+//! and no call waits.
 #![tactic(auto)]
 
 mod making;

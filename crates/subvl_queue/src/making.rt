@@ -16,9 +16,9 @@ use std::sync::Arc;
 /// The greatest length of a message, in bytes.
 const MOST_BYTES: usize = 8192;
 
-/// A queue for `capacity` messages, 1 to 256, of at most 8,192 bytes each: its receiver, and `ports`
-/// senders with the indexes 0, 1 and so on, in order. Each sender may request `calls` slots, 1 to
-/// 2^40. Allocates all memory that the queue ever needs; if an allocation fails, frees what it had.
+/// Makes a queue for `capacity` messages, 1 to 256, of at most 8,192 bytes each: its receiver, and `ports` senders with
+/// the indexes 0, 1 and so on, in order. Each sender may request `calls` slots, 1 to 2^40. Allocates all memory that
+/// the queue ever needs; if an allocation fails, frees what it had.
 pub fn make(
     alloc: Global,
     capacity: usize,
@@ -43,8 +43,8 @@ pub fn make(
     Ok((receiver, senders))
 }
 
-/// A queue for `capacity` messages, 1 to 256, of at most `most` bytes each, without a sender, and with
-/// room for what `ports` senders bring back. If an allocation fails, frees what it had.
+/// Makes a queue for `capacity` messages, 1 to 256, of at most `most` bytes each, without a sender, and with places for
+/// the rooms that `ports` senders bring back. If an allocation fails, frees what it had.
 pub fn open_queue(
     alloc: Global,
     capacity: usize,
@@ -69,7 +69,7 @@ pub fn open_queue(
     })
 }
 
-// The rooms of an empty queue.
+// Makes the rooms of an empty queue.
 fn empty_rooms(alloc: Global, capacity: usize, most: usize) -> Result<Vec<Room>, AllocError>
     ensures { IfOk result (λ rooms. rooms.items ≡ replicate capacity (room_with most None)) }
 {
@@ -80,7 +80,7 @@ fn empty_rooms(alloc: Global, capacity: usize, most: usize) -> Result<Vec<Room>,
     Ok(rooms)
 }
 
-// The table of an empty queue.
+// Makes the table of an empty queue.
 #[tactic(auto, using(crate::proofs::Seats::starts_ok))]
 fn empty_ring(
     alloc: Global,

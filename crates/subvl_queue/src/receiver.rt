@@ -13,7 +13,7 @@ use std::alloc::{AllocError, Global};
 use std::marker::{Brand, Model};
 use std::sync::Arc;
 
-// The steps of one take.
+// Takes the next message, if it is published, into the caller's room.
 #[tactic(auto, using(std::proofs::Common::arith))]
 fn fetch(
     ring: &Ring,
@@ -48,16 +48,16 @@ fn fetch(
     true
 }
 
-// Keeps a room, in a list with room for those of the senders that the queue was opened for.
+// Keeps a spare room, in a list with a place for the room of each sender that the queue was opened for.
 fn keep(spares: &mut Vec<Room>, spare: Room) {
     if spares.len() < spares.capacity() {
         spares.push_reserved(spare);
     }
 }
 
-/// The receiver of a queue. Contracts see its queue with its capacity, the number of senders, how
-/// often it polled the queue, what the last poll found, the messages taken, the total of its close,
-/// and what the senders brought that were taken back.
+/// The receiver of a queue. Contracts see its queue with its capacity, the number of senders, the number of its polls
+/// of the queue, the result of the last poll, the messages taken, the total of its close, and the messages of the
+/// senders that were taken back.
 #[derive(Drop)]
 pub struct Receiver {
     pub(crate) ring: Arc<Ring>,
@@ -67,7 +67,7 @@ pub struct Receiver {
     pub(crate) slot: usize,
     pub(crate) ports: usize,
     pub(crate) total: Option<u64>,
-    // Of the senders that are back, so that taking one back frees nothing.
+    // The rooms of the senders that are back, so that taking one back frees nothing.
     pub(crate) spares: Vec<Room>,
 }
 
@@ -115,6 +115,7 @@ impl Receiver {
             ring,
             seat,
             port,
+            sums: false,
             calls,
             asks: 0,
             accepted: 0,
@@ -233,8 +234,8 @@ impl Receiver {
     }
 }
 
-/// All ends of a queue together, so that its accepted messages are known whole. Contracts see the
-/// number of the queue's senders, the messages taken, and those accepted and not taken yet.
+/// All ends of a queue together, so that its accepted messages are known whole. Contracts see the number of the queue's
+/// senders, the messages taken, and the messages accepted and not taken yet.
 #[derive(Drop)]
 pub struct Gathered {
     ring: Arc<Ring>,
@@ -287,7 +288,7 @@ impl Gathered {
         )
     }
 
-    /// Whether all accepted messages were taken.
+    /// Returns true if all accepted messages were taken.
     #[tactic(auto, using(crate::proofs::Parts::tells))]
     pub fn is_drained(&self) -> bool
         ensures { TellsLeft result self.now.left }
@@ -296,7 +297,7 @@ impl Gathered {
     }
 }
 
-// Whether the list has a sender of the port.
+// Returns true if the list has a sender of the port.
 fn has_port(senders: &[Sender], port: usize) -> bool
     ensures { MatchBool result (HasPort senders.now port) (HasPort senders.now port → ⊥) }
 {
@@ -308,7 +309,7 @@ fn has_port(senders: &[Sender], port: usize) -> bool
     false
 }
 
-// Whether the list has a sender of each port.
+// Returns true if the list has a sender of each port.
 fn has_every(senders: &[Sender], ports: usize) -> bool
     ensures { MatchBool result (HasEvery ports senders.now) (LacksOne ports senders.now) }
 {

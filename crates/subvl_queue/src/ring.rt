@@ -26,13 +26,13 @@ pub const TAIL: usize = 1;
 /// The index of the first word that says which place is published in a slot.
 pub const READY: usize = 2;
 
-/// There is room if the room's word is over this.
+/// The bound over which the room's word says that there is room.
 pub const NO_ROOM: u64 = 1 << 32;
 
 /// The bit of TAIL that says that the queue is closed.
 pub const CLOSED: u64 = 1 << 63;
 
-/// A seat at the table, and what it knows.
+/// A seat at the table, and its knowledge.
 pub type Knowing = Seat<Room, Known>;
 
 /// The table of a queue.
@@ -40,7 +40,7 @@ pub type Knowing = Seat<Room, Known>;
 pub struct Ring {
     // First, so that it is in the same line of the cache as the table's pointers.
     pub capacity: usize,
-    // How many bytes each slot has room for.
+    // The number of bytes that each slot may hold.
     pub most: usize,
     pub table: Table<Room, Known, usize, Rule, Global>,
     ghost sized: { (table.shared.table_id.words ≡ capacity + 2) × (table.shared.table_id.slots ≡ capacity)
@@ -75,8 +75,8 @@ impl Ring {
         self.table.shared.fetch_add::<Unreserve>(seat, ROOM, 1);
     }
 
-    /// Claims a place for a port's message, which the room has and which is accepted there unless the
-    /// queue is closed. Its slot, which is empty, is then the seat's.
+    /// Claims a place for a port's message, which the room has. The message is accepted there if the queue isn't
+    /// closed. The place's slot, which is empty, is then the seat's.
     pub fn claim<W: Said>(
         &self,
         seat: &mut Knowing,
@@ -100,14 +100,14 @@ impl Ring {
         self.table.shared.fetch_add::<Claim<W>>(seat, TAIL, 1)
     }
 
-    /// The slot of a place.
+    /// Returns the slot of a place.
     pub fn slot_of(&self, place: u64) -> usize
         ensures { IsSlotOf self.now.capacity place result }
     {
         (place % self.capacity as u64) as usize
     }
 
-    /// The slot of a place, from an earlier place and its slot: no division, unless a whole round of other places
+    /// Returns the slot of a place, from an earlier place and its slot. Divides only if a whole round of other places
     /// lies between.
     pub fn slot_from(&self, place: u64, earlier: u64, slot: usize) -> usize
         requires { IsSlotOf self.now.capacity earlier slot }
@@ -125,7 +125,7 @@ impl Ring {
         }
     }
 
-    /// The slot after one, that of the next place.
+    /// Returns the slot of the next place after a slot's.
     pub fn slot_after(&self, slot: usize) -> usize
         requires { slot < self.now.capacity }
         ensures value { result ≡ (slot + 1) % self.now.capacity }
@@ -153,7 +153,7 @@ impl Ring {
             .store::<Publish>(seat, READY + slot, place + 1);
     }
 
-    /// Whether the place after those taken is published. If so, its slot is then the seat's.
+    /// Returns true if the next place after the taken ones is published. If so, its slot is then the seat's.
     #[tactic(auto, using(crate::proofs::Moves::finds_ready_ok))]
     pub fn is_ready<W: Said>(&self, seat: &mut Knowing, place: u64, slot: usize) -> bool
         requires most { W.most ≡ self.now.most }
@@ -185,7 +185,7 @@ impl Ring {
         self.table.shared.fetch_add::<Take>(seat, ROOM, 1);
     }
 
-    /// Whether the queue is closed.
+    /// Returns true if the queue is closed.
     pub fn is_closed(&self, seat: &mut Knowing) -> bool
         requires { RestsAs self.now.table.shared.table_id Sender seat.old }
         ensures seat { IsAtTable self.now.table.shared.table_id seat.new }
@@ -205,8 +205,7 @@ impl Ring {
         self.table.shared.fetch_or::<Close>(seat, TAIL, CLOSED)
     }
 
-    /// All accepted messages, once each sender has joined. If the queue is open, returns their
-    /// number.
+    /// Finds all accepted messages, once each sender has joined. If the queue is open, returns their number.
     #[tactic(auto, using(crate::proofs::Moves::gathers_ok))]
     pub fn gather(&self, seat: &mut Knowing) -> u64
         requires seat { RestsAs self.now.table.shared.table_id Receiver seat.old }
@@ -219,7 +218,7 @@ impl Ring {
         self.table.shared.load::<Gather>(seat, TAIL)
     }
 
-    /// The seat of the next sender.
+    /// Makes the seat of the next sender.
     pub fn make_sender(&self, seat: &mut Knowing) -> Knowing
         requires seat { RestsAs self.now.table.shared.table_id Receiver seat.old }
         requires made { seat.old.me.0.made < 64 }
@@ -232,7 +231,7 @@ impl Ring {
         self.table.shared.split_seat::<Make>(seat)
     }
 
-    /// Takes in a sender's seat, with what it knows.
+    /// Takes in a sender's seat, with its knowledge.
     pub fn take_in(&self, seat: &mut Knowing, other: Knowing)
         requires seat { RestsAs self.now.table.shared.table_id Receiver seat.old }
         requires all { seat.old.me.0.all ≡ None }

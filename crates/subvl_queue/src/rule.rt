@@ -1,5 +1,4 @@
-//! The rule, what a seat at the table knows, and the outcome of each step. No value of these types
-//! is made.
+//! The rule, the knowledge of a seat at the table, and the outcome of each step. No value of these types is made.
 ghost use Rattle.std.specs.Prelude.{ℕ, List, Option, None, length};
 ghost use Rattle.subvl_queue.specs.Messages.{IsMessage, room_with};
 ghost use Rattle.subvl_queue.specs.Queue.{Queue};
@@ -25,9 +24,8 @@ pub enum Stage {
     Holding,
 }
 
-// `own` has each accepted message with its place. `load` is the number of held messages and slot
-// requests under way at the seat's last slot request. `at` and `item` are of the slot that it
-// holds.
+// `own` has each accepted message with its place. `load` is the number of held messages and slot requests under way at
+// the seat's last slot request. `at` and `item` are the place and the message of the slot that it holds.
 pub struct View<T> {
     pub role: Role,
     pub port: u64,
@@ -51,10 +49,10 @@ pub struct View<T> {
 /// The bytes of a message.
 pub type Text = LinkedList<u8>;
 
-/// What a seat knows.
+/// The knowledge of a seat.
 pub type Known = View<Text>;
 
-// The table is told how many bytes each slot has room for.
+// The table's parameter is the number of bytes that each slot may hold.
 pub struct Rule;
 
 impl TableRule<Room, Known, usize> for Rule {
@@ -63,7 +61,7 @@ impl TableRule<Room, Known, usize> for Rule {
     ghost first = { λ _. first_view };
 }
 
-// How many bytes a slot has room for, and what a send will write, for the proof alone.
+// The number of bytes that a slot may hold, and the message that a send will write, for the proof alone.
 pub(crate) trait Said {
     ghost most: { ℕ };
 

@@ -13,7 +13,7 @@ use std::marker::{Brand, Model};
 use std::sync::Arc;
 use thiserror::Error;
 
-/// Why a queue refused a message: the first of Closed, Exhausted and Full that was found.
+/// The reasons for which a queue refuses a message: the first found of Closed, Exhausted and Full.
 #[derive(Clone, Copy, Debug, PartialEq, Eq, Error)]
 pub enum Why {
     /// The queue is closed. If it was closed after the sender's first check, a slot request was
@@ -28,8 +28,8 @@ pub enum Why {
     Full = 3,
 }
 
-// The steps of a send up to its place: check for a close, reserve a slot, copy the message into the
-// sender's room, claim a place.
+// Takes the steps of a send up to its place: checks for a close, reserves a slot, copies the message into the sender's
+// room, sums it there if that is wanted, claims a place.
 #[inline(always)]
 fn claim_place(
     ring: &Ring,
@@ -37,7 +37,8 @@ fn claim_place(
     asks: &mut u64,
     calls: u64,
     room: &mut Room,
-    port: usize,
+    port: u8,
+    sums: bool,
     bytes: &[u8],
 ) -> Result<u64, Why>
     requires seat { RestsAs ring.now.table.shared.table_id AsSender seat.old }
@@ -72,7 +73,10 @@ fn claim_place(
         return Err(Why::Full);
     }
     room.fill(port, bytes);
-    let place = ring.claim::<Brand>(seat, room, port, bytes);
+    if sums {
+        room.sum_up();
+    }
+    let place = ring.claim::<Brand>(seat, room, usize::from(port), bytes);
     if place >= CLOSED {
         ring.unreserve(seat);
         return Err(Why::Closed);
@@ -80,14 +84,15 @@ fn claim_place(
     Ok(place)
 }
 
-/// A sender of a queue, which may be moved to a thread of its own. Contracts see its queue with its
-/// capacity, its index, its slot requests and their limit, what it found last, and its own accepted
-/// messages with their places.
+/// A sender of a queue, which may be moved to a thread of its own. Contracts see its queue with its capacity, its
+/// index, its slot requests and their limit, the state in which it last found the queue, and its own accepted messages
+/// with their places.
 #[derive(Drop)]
 pub struct Sender {
     pub(crate) ring: Arc<Ring>,
     pub(crate) seat: Knowing,
     pub(crate) port: u8,
+    pub(crate) sums: bool,
     pub(crate) calls: u64,
     pub(crate) asks: u64,
     pub(crate) accepted: u64,
@@ -134,8 +139,8 @@ impl Sender {
         self.send_with(bytes, || {})
     }
 
-    /// As `send_slice`. If the message is accepted, `pause` runs before the message is ready to be taken;
-    /// if it is refused, `pause` doesn't run.
+    /// Sends as `send_slice` does. If the message is accepted, `pause` runs before the message is ready to be taken; if
+    /// it is refused, `pause` doesn't run.
     #[inline(always)]
     pub fn send_with<F: FnOnce()>(&mut self, bytes: &[u8], pause: F) -> Result<(), Why>
     where
@@ -149,14 +154,14 @@ impl Sender {
     {
         // Read before the steps on the ring, which no later read overtakes.
         let (ring, earlier, slot): (&Ring, u64, usize) = (&self.ring, self.place, self.slot);
-        let port = usize::from(self.port);
         let place = claim_place(
             ring,
             &mut self.seat,
             &mut self.asks,
             self.calls,
             &mut self.spare,
-            port,
+            self.port,
+            self.sums,
             bytes,
         )?;
         pause();
@@ -168,7 +173,14 @@ impl Sender {
         Ok(())
     }
 
-    /// Its index among the queue's senders.
+    /// Makes the sender sum each message from now on. The sum goes with the message to the receiver's room.
+    pub fn keep_sums(&mut self)
+        ensures { self.new ≡ self.old }
+    {
+        self.sums = true;
+    }
+
+    /// Returns the sender's index among the queue's senders.
     pub fn index(&self) -> usize
         ensures index { result ≡ self.now.port }
         ensures small { result < 256 }
@@ -176,7 +188,7 @@ impl Sender {
         usize::from(self.port)
     }
 
-    /// The number of its accepted messages.
+    /// Returns the number of the sender's accepted messages.
     pub fn accepted(&self) -> u64
         ensures { result ≡ length self.now.own }
     {

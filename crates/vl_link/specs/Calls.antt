@@ -1,4 +1,5 @@
--- The calls of a link beside its turn: its senders, when it becomes due, closing, gathering, and what is left to send.
+-- The calls of a link beside its turn: its senders, the time at which it becomes due, closing, gathering, and the
+-- messages left to send.
 use Rattle.std.specs.Prelude.{ℕ, ◌≡◌, ◌<◌, ◌≤◌, length, slice_set, IfSome, ◌⊎◌, ◌^◌, true, false, List, [], Bool}
 use Rattle.subvl_queue.specs.Views.{closed, SenderView, Brought, new_sender, one_more, taken_back, AreBack, IsWhole, accepted_of}
 use Rattle.vl_link.specs.Seen.{Seen, receiving, gathered, TellsDrained, ports_of, known_of, IsReceiving}
@@ -9,8 +10,8 @@ use Rattle.vl_shaper.specs.Pace.{Pace}
 use Rattle.vl_link.specs.Turn.{may_release}
 use Rattle.subvl_queue.specs.Messages.{AreItems}
 
--- The queue is closed with this total, the final number of accepted messages. It has given no more
--- than those, and if it was closed before, the total is the same.
+-- The queue is closed with this total, the final number of accepted messages. It has given at most this number, and if
+-- it was closed before, the total is the same.
 abbrev pub Closes : (total : ℕ) → (old new : Seen) → Type 0
 Closes total (receiving old) new =
     (new ≡ receiving (closed old total))
@@ -44,7 +45,7 @@ pub record BecomesDue (now at : ℕ) (plan : LinkPlan) (pace : Pace) (lines : Li
 abbrev pub StaysAsIs : ℕ → LinkPlan → Pace → Lines → Type 0
 StaysAsIs now plan pace lines = (may_release now plan pace lines ≡ true) ⊎ RestsUntil now (2 ^ 64) plan pace lines
 
--- whether no message is being sent, and it is known that none is left in the queue
+-- true if no message is being sent, and it is known that none is left in the queue
 abbrev pub TellsSubDone : Bool → Held → Type 0
 TellsSubDone true held = (held.left ≡ []) × TellsDrained true held.seen
 TellsSubDone false held = (held.left ≡ [] → ⊥) ⊎ TellsDrained false held.seen
@@ -55,12 +56,12 @@ pub record HasSubLeft (subs : List Held) : Type 0 where
   pub within : sub < length subs
   pub left : TellsSubDone false (held_at subs sub)
 
--- whether all sub-VLs are done
+-- true if all sub-VLs are done
 abbrev pub TellsSubsDone : Bool → List Held → Type 0
 TellsSubsDone true subs = (s : ℕ) → s < length subs → TellsSubDone true (held_at subs s)
 TellsSubsDone false subs = HasSubLeft subs
 
--- whether the link has lost no frame, and all its sub-VLs are done
+-- true if the link has lost no frame, and all its sub-VLs are done
 abbrev pub TellsLinkDone : Bool → LinkState → Type 0
 TellsLinkDone true link = (link.lost ≡ false) × TellsSubsDone true link.subs
 TellsLinkDone false link = (link.lost ≡ true) ⊎ HasSubLeft link.subs
@@ -81,7 +82,7 @@ abbrev pub TakesBack : SenderView → (old new : Seen) → Type 0
 TakesBack sender (receiving old) new = new ≡ receiving (taken_back old sender)
 TakesBack sender (gathered old) new = ⊥
 
--- what the senders that are back brought
+-- the messages that the returned senders brought
 abbrev pub back_of : Seen → List Brought
 back_of (receiving r) = r.back
 back_of (gathered g) = []
@@ -91,8 +92,8 @@ pub record LacksSender (held : Held) : Type 0 where
   pub below : ports_of held.seen < length held.ports
   pub more : MayHaveMore held.seen
 
--- The accepted messages of the queue are known whole from now on: those taken, and those left. Each
--- is of one of its ports, and if the queue was closed, their number is its total.
+-- The accepted messages of the queue are known whole from now on: the taken ones, and the ones left. Each belongs to
+-- one of its ports, and if the queue was closed, their number is its total.
 abbrev pub BecomesWhole : (old new : Seen) → Type 0
 BecomesWhole (receiving old) (gathered new) =
     (new.most ≡ old.most) × (new.taken ≡ old.taken) × (new.ports ≡ old.ports) × AreItems old.ports (accepted_of new)

@@ -24,11 +24,11 @@ use Rattle.subvl_queue.specs.Messages.{RoomView, bytes_of, port_of}
 abbrev pub none_begun : ℕ → Bool
 none_begun sub = false
 
--- the same after an entry
+-- the sub-VLs with a begun message, after an entry
 abbrev pub begun_after : (ℕ → Bool) → Entry → ℕ → Bool
 begun_after begun e sub = if nat_eq (sub_in e.frame) sub then more_in e.frame else begun sub
 
--- the same after these entries
+-- the sub-VLs with a begun message, after a list of entries
 abbrev pub begun_by : (ℕ → Bool) → List Entry → ℕ → Bool
 begun_by begun [] = begun
 begun_by begun (e ∷ es) = begun_by (begun_after begun e) es
@@ -37,7 +37,7 @@ begun_by begun (e ∷ es) = begun_by (begun_after begun e) es
 abbrev pub shown_choice : (ℕ → Bool) → ℕ → Choice
 shown_choice begun sub = record { has = λ s. if nat_eq s sub then true else begun s; sub = sub }
 
--- each entry of a stream is of the chosen sub-VL
+-- each entry of a stream belongs to the chosen sub-VL
 abbrev pub ShowsChoices : ℕ → Option Stamp → (ℕ → Bool) → List Entry → Type 0
 ShowsChoices subs last begun [] = Unit {0}
 ShowsChoices subs last begun (e ∷ es) =
@@ -67,9 +67,9 @@ abbrev pub IsLinkTied : LinkState → List Entry → Type 0
 IsLinkTied link log = (s : ℕ) → s < link.plan.sub_vls
     → IsTied (held_at link.subs s) (sub_stream s (link_stream link.plan.id.0 log))
 
--- A link's stream is numbered and spaced, and each sub-VL's stream is a prefix of the fragments of the messages that
--- it took. Each frame is of the chosen sub-VL. If no frame was lost, the regulation agrees with the stream, and each
--- sub-VL is tied to its own. If one was lost, some sub-VL lacks fragments. The counts are those of the stream.
+-- A link's stream is numbered and spaced, and each sub-VL's stream is a prefix of the fragments of the messages that it
+-- took. Each frame belongs to the chosen sub-VL. If no frame was lost, the regulation agrees with the stream, and each
+-- sub-VL is tied to its own. If one was lost, some sub-VL lacks fragments. The counts are the stream's.
 pub record IsKept (link : LinkState) (log : List Entry) : Type 0 where
   pub numbered : IsNumbered entry_number 0 (link_stream link.plan.id.0 log)
   pub spaced : IsSpaced link.pace.gap None (link_stream link.plan.id.0 log)
@@ -99,22 +99,22 @@ pub record IsPortOf (owner : SubVl) (sender : PortPlan) : Type 0 where
 abbrev pub plans_of : List Origin → List PortPlan
 plans_of origins = map (λ (of : Origin). of.port) origins
 
--- they are ports of this end system
+-- all origins have this end system
 abbrev pub AreOfEndSystem : ℕ → List Origin → Type 0
 AreOfEndSystem end_system origins = All (λ (of : Origin). of.end_system ≡ end_system) origins
 
--- what remains of a message of one of these ports
+-- the rest of a message of one of these ports
 abbrev pub cut_among : List PortPlan → Option (ℕ × List ℕ) → Remains → Cutting
 cut_among ports item rest = cut_of (port_plan_at ports (port_of item)) (bytes_of item) rest
 
--- What remains of the message being sent is of one of the ports. With the last fragment its room was emptied.
+-- The rest of the message being sent belongs to one of the ports. With the last fragment its room was emptied.
 pub record IsRestOf (owner : SubVl) (ports : List PortPlan) (item : Option (ℕ × List ℕ)) (rest : Remains) : Type 0 where
   pub size : rest.end ≡ 8 + length (bytes_of item)
   pub within : (left_of owner (cut_among ports item rest) ≡ [] → ⊥) → port_of item < length ports
   pub idle : left_of owner (cut_among ports item rest) ≡ [] → item ≡ None
 
--- The ports are of this sub-VL, and the queue has no more senders than ports. The place of the next
--- message is the number of messages taken modulo 16,384.
+-- The ports belong to this sub-VL, and the queue has no more senders than ports. The place of the next message is the
+-- number of messages taken modulo 16,384.
 pub record IsSub (owner : SubVl) (ports : List PortPlan) (room : RoomView) (rest : Remains)
     (seen : Seen) (next : ℕ) : Type 0 where
   pub link : IsLink owner.link

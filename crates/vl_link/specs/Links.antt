@@ -19,7 +19,7 @@ use Rattle.status_board.specs.Views.{zeros}
 use Rattle.afdx_legal.specs.Streams.{link_stream, latest}
 use Rattle.vl_link.specs.Seen.{Seen, taken_of, known_of, nothing_seen, FindsNothing, Finds, IsSameQueue}
 
--- the fragments for network A of a sub-VL's messages, the first of which has this place
+-- the fragments for network A of a sub-VL's messages, counted from `place`
 abbrev pub sub_fragments : SubVl → ℕ → List Sent → List (List ℕ)
 sub_fragments of place messages =
     fragments_from of.end_system (room_of of.link.lmax) A place messages
@@ -57,7 +57,7 @@ pub record GoesOn (old new : Held) : Type 0 where
   pub some : old.left ≡ [] → ⊥
   pub same : new ≡ old
 
--- the known messages of the sub-VL's queue are of its ports
+-- the known messages of the sub-VL's queue belong to its ports
 abbrev pub HasOwnItems : Held → Type 0
 HasOwnItems held = AreItems (length held.ports) (known_of held.seen)
 
@@ -144,17 +144,17 @@ no_link = record {
 abbrev pub link_at : List LinkState → ℕ → LinkState
 link_at links k = get_or links k no_link
 
--- the sub-VLs of a link are those of its plan
+-- the sub-VLs of a link are its plan's, at this end system
 abbrev pub AreNamed : ℕ → LinkPlan → List Held → Type 0
 AreNamed end_system plan subs = (s : ℕ) → s < length subs
     → (held_at subs s).of ≡ record { end_system = end_system; link = plan; sub = s }
 
--- the sub-VLs of a link are those of its plan, whatever the end system
+-- the sub-VLs of a link are its plan's, whatever the end system
 abbrev pub AreSubsOf : LinkPlan → List Held → Type 0
 AreSubsOf plan subs = (s : ℕ) → s < length subs
     → ((held_at subs s).of.link ≡ plan) × ((held_at subs s).of.sub ≡ s)
 
--- The sub-VL is the same, with the same ports and queue. If the known messages were of its ports, they still are.
+-- The sub-VL is the same, with the same ports and queue. If the known messages belonged to its ports, they still do.
 pub record IsSameSub (old new : Held) : Type 0 where
   pub of : new.of ≡ old.of
   pub ports : new.ports ≡ old.ports

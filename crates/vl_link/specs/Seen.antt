@@ -64,7 +64,7 @@ Finds (gathered old) message new =
       left = more;
     }))
 
--- whether it is known that no message is left
+-- true if it is known that no message is left
 abbrev pub TellsDrained : Bool → Seen → Type 0
 TellsDrained true (receiving r) = ⊥
 TellsDrained false (receiving r) = Unit {0}
@@ -82,7 +82,7 @@ IsSameQueue (gathered old) (gathered new) =
 IsSameQueue (receiving old) (gathered new) = ⊥
 IsSameQueue (gathered old) (receiving new) = ⊥
 
--- the known accepted messages: those taken, or all once the queue is gathered
+-- the known accepted messages: the taken ones, or all once the queue is gathered
 abbrev pub known_of : Seen → List (ℕ × List ℕ)
 known_of (receiving r) = r.taken
 known_of (gathered g) = accepted_of g

@@ -15,8 +15,8 @@ pub record TurnView : Type 1 where
   pub rests : ℕ → Type 0
   pub gives : ℕ → List ℕ → Type 0
 
--- The round-robin choice: the first sub-VL that has something, in cyclic order after the one served
--- last. Those before it have nothing, and the others aren't polled (ARINC 664 Part 7).
+-- The round-robin choice: the first sub-VL that has something, in cyclic order after the one served last. The sub-VLs
+-- before it have nothing, and the others aren't polled (ARINC 664 Part 7).
 pub record IsChoice (pace : Pace) (has lacks rests : ℕ → Type 0) (sub : ℕ) : Type 0 where
   pub turn : ℕ
   pub within : turn < pace.sub_vls
@@ -53,9 +53,9 @@ pub record Loses (plan : LinkPlan) (pace : Pace) (view : TurnView) (lines after 
   pub down : any_up plan.networks after ≡ false
   pub stays_down : BothEndure lines after
 
--- One turn of a link, by its outcome. A link that isn't due, or whose networks are all down, releases nothing and
--- polls no sub-VL. If no sub-VL has anything, it releases nothing either. Otherwise it releases one frame at `now`
--- with the next number, unless the last network that carries it fails.
+-- One turn of a link, by its outcome. A link that isn't due, or whose networks are all down, releases nothing and polls
+-- no sub-VL. If no sub-VL has anything, it releases nothing either. Otherwise it releases one frame at `now` with the
+-- next number, if the last network that carries it doesn't fail.
 abbrev pub Turn : ℕ → LinkPlan → Pace → TurnView → (lines after : Lines) → Served → Type 0
 Turn now plan pace view lines after Nothing =
     (((may_release now plan pace lines ≡ false) × ((s : ℕ) → view.rests s))
@@ -68,7 +68,7 @@ Turn now plan pace view lines after (Released sub number) =
 Turn now plan pace view lines after Lost =
     (may_release now plan pace lines ≡ true) × Loses plan pace view lines after
 
--- whether the turn lost a frame with the last network that carries the link
+-- true if the turn lost a frame with the last network that carries the link
 abbrev pub is_lost : Served → Bool
 is_lost Nothing = false
 is_lost (Released sub number) = false

@@ -43,7 +43,7 @@ fn choose(shaper: &Shaper, subs: &mut [Sub]) -> Option<u8>
     None
 }
 
-/// One turn of a link that may release a frame, on the parts of the link.
+/// Takes one turn of a link that may release a frame, on the parts of the link.
 fn serve_due<A: Network + Drop, B: Network + Drop>(
     plan: &LinkPlan,
     shaper: &mut Shaper,
@@ -84,7 +84,7 @@ fn serve_due<A: Network + Drop, B: Network + Drop>(
     }
 }
 
-/// Whether all sub-VLs are done.
+/// Returns true if all sub-VLs are done.
 fn subs_done(subs: &[Sub]) -> bool
     ensures { TellsSubsDone result subs.now }
 {
@@ -135,7 +135,7 @@ impl Model for Link {
 }
 
 impl Link {
-    /// A link of these sub-VLs, those of its plan, which has released nothing.
+    /// Creates a link of the sub-VLs of its plan, which has released nothing.
     pub fn new(end_system: u16, plan: LinkPlan, subs: Vec<Sub>) -> Link
         requires plan { IsLink plan }
         requires count { length subs.items ≡ plan.sub_vls }
@@ -164,29 +164,29 @@ impl Link {
         }
     }
 
-    /// Its identifier.
+    /// Returns the link's identifier.
     pub fn id(&self) -> VlId
         ensures { result ≡ self.now.plan.id }
     {
         self.plan.id
     }
 
-    /// The counts of its frames.
+    /// Returns the counts of the link's frames.
     pub fn counts(&self) -> Counts
         ensures { result ≡ self.now.counts }
     {
         self.counts
     }
 
-    /// Whether it has lost no frame, and all its sub-VLs are done.
+    /// Returns true if the link has lost no frame, and all its sub-VLs are done.
     pub fn is_done(&self) -> bool
         ensures { TellsLinkDone result self.now }
     {
         !self.lost && subs_done(&self.subs)
     }
 
-    /// Whether it may release a frame at `now`, in microseconds: it is due, and a network that carries
-    /// it is up.
+    /// Returns true if the link may release a frame at `now`, in microseconds: it is due, and a network that carries it
+    /// is up.
     pub fn may_release<A: Network + Drop, B: Network + Drop>(
         &self,
         mux: &Mux<A, B>,
@@ -199,9 +199,8 @@ impl Link {
         self.shaper.due(now) && mux.any_up(self.plan.networks)
     }
 
-    /// The first time after `now`, in microseconds, at which it may release a frame, if it may not
-    /// at `now`. `None` if it may, if no network that carries it is up, or if that time has more
-    /// than 64 bits.
+    /// Returns the first time after `now`, in microseconds, at which the link may release a frame. `None` if it may at
+    /// `now`, if no network that carries it is up, or if that time has more than 64 bits.
     pub fn next_due<A: Network + Drop, B: Network + Drop>(
         &self,
         mux: &Mux<A, B>,
@@ -217,15 +216,15 @@ impl Link {
         self.shaper.due_from()
     }
 
-    /// The time in microseconds from which it is due, or `u64::MAX` if that has more than 64 bits.
+    /// Returns the time in microseconds from which the link is due, or `u64::MAX` if that has more than 64 bits.
     pub fn waits_until(&self) -> u64
         ensures { result ≡ waits_until self.now.pace.gap self.now.pace.last }
     {
         self.shaper.waits_until()
     }
 
-    /// One turn of the link at `now`, in microseconds, when it may release a frame. Makes the frame
-    /// in the caller's buffer, which a network may exchange for another.
+    /// Takes one turn of the link at `now`, in microseconds, when it may release a frame. Makes the frame in the
+    /// caller's buffer, which a network may exchange for another.
     pub fn serve<A: Network + Drop, B: Network + Drop>(
         &mut self,
         frame: &mut Box<FrameBuffer>,
@@ -316,7 +315,7 @@ pub enum Served {
 }
 
 impl Served {
-    /// Whether a frame was lost.
+    /// Returns true if a frame was lost.
     pub fn is_lost(&self) -> bool
         ensures { result ≡ is_lost self.now }
     {
@@ -324,8 +323,8 @@ impl Served {
     }
 }
 
-// The number of messages that end with a frame: one, unless the flag of more fragments is set (RFC
-// 791, 3.1).
+// Returns the number of messages that end with a frame: 0 if the flag of more fragments is set, otherwise 1 (RFC 791,
+// 3.1).
 fn messages_ended(frame: &[u8]) -> u64
     requires { 22 ≤ length frame.now }
     ensures { result ≡ (if nat_lt (fragment_field frame.now) more_fragments then 1 else 0) }
@@ -333,7 +332,7 @@ fn messages_ended(frame: &[u8]) -> u64
     if frame[20] < 0x20 { 1 } else { 0 }
 }
 
-/// The counts of a link's stream after this frame. A count stops at its greatest value.
+/// Returns the counts of a link's stream after this frame. A full count stays full.
 pub fn counts_with(counts: &Counts, now: u64, frame: &[u8]) -> Counts
     requires { 22 ≤ length frame.now }
     ensures { (stream : List Entry) → counts.now ≡ counts_in stream →

@@ -47,7 +47,7 @@ impl Queue {
         }
     }
 
-    /// Whether it is known that no message is left.
+    /// Returns true if it is known that no message is left.
     pub fn is_drained(&self) -> bool
         ensures { TellsDrained result (seen_of self.now) }
     {
@@ -62,14 +62,14 @@ impl Queue {
 /// A sub-VL. Contracts see its ports, the fragments left of the message being sent, and its queue.
 #[derive(Drop)]
 pub struct Sub {
-    // What a turn reads is side by side.
+    // The fields that a turn reads are side by side.
     queue: Queue,
-    // What is left of the message being sent, and the room that it is in, which is empty if none is.
+    // The rest of the message being sent, and its room, which is empty if no message is being sent.
     rest: Rest,
     room: Room,
     // The place of the next message, modulo 16,384.
     place: u16,
-    // In the order of the plan. A message's port is an index into them.
+    // The ports, in the order of the plan. A message's port is an index into them.
     ports: BoxedSlice<Template>,
     of: SubVl,
 }
@@ -89,8 +89,8 @@ impl Model for Sub {
 }
 
 impl Sub {
-    /// A sub-VL of the ports of these templates, over a queue with no more senders than ports, which has taken
-    /// nothing, and an empty room of its size.
+    /// Creates a sub-VL of the ports of these templates, over a queue with no more senders than ports. It has taken
+    /// nothing, and has an empty room of the queue's size.
     pub fn new(of: SubVl, ports: Vec<Template>, receiver: Receiver, room: Room) -> Sub
         requires link { IsLink of.link }
         requires end_system { AreOfEndSystem of.end_system ports.items }
@@ -115,8 +115,8 @@ impl Sub {
         }
     }
 
-    /// Whether there is something to send, which is then being sent. The queue is polled only if no
-    /// message is being sent.
+    /// Returns true if there is a fragment to send. Polls the queue only if no message is being sent, and begins to
+    /// send the message that it takes.
     pub fn ready(&mut self) -> bool
         ensures { Asks result self.old self.new }
     {
@@ -131,7 +131,7 @@ impl Sub {
         true
     }
 
-    /// Whether no message is being sent, and it is known that none is left in the queue.
+    /// Returns true if no message is being sent, and it is known that none is left in the queue.
     pub fn is_done(&self) -> bool
         ensures { TellsSubDone result self.now }
     {
@@ -149,6 +149,7 @@ impl Sub {
         let template = &self.ports[self.room.port()];
         if !self.rest.write_next(
             self.room.bytes(),
+            self.room.sum(),
             template,
             &self.of.link,
             number,
@@ -163,8 +164,8 @@ impl Sub {
         }
     }
 
-    /// Closes its queue, and returns the final number of accepted messages. None is accepted from
-    /// then on, and each later close returns the same. Never waits.
+    /// Closes the sub-VL's queue, and returns the final number of accepted messages. None is accepted from then on, and
+    /// each later close returns the same. Never waits.
     pub fn close(&mut self) -> u64
         requires receiving { IsReceiving self.old.seen }
         ensures { ChangesQueue (Closes result) self.old self.new }
@@ -175,8 +176,7 @@ impl Sub {
         }
     }
 
-    /// Makes the sender of its next port, for at most `calls` calls. If an allocation fails,
-    /// nothing changes.
+    /// Makes the sender of the sub-VL's next port, for at most `calls` calls. If an allocation fails, nothing changes.
     pub fn new_sender(&mut self, alloc: Global, calls: u64) -> Result<Sender, AllocError>
         requires lacks { LacksSender self.old }
         requires calls { calls ≤ most_calls }
@@ -189,7 +189,7 @@ impl Sub {
         }
     }
 
-    /// Takes a sender of its queue back.
+    /// Takes a sender of the sub-VL's queue back.
     pub fn take_back(&mut self, sender: Sender)
         requires own { queue_of self.old.seen ≡ Some sender.queue }
         ensures { ChangesQueue (TakesBack sender) self.old self.new }
@@ -200,7 +200,7 @@ impl Sub {
         }
     }
 
-    /// Brings the ends of its queue together, once all its senders are back. Never waits.
+    /// Brings the ends of the sub-VL's queue together, once all its senders are back. Never waits.
     pub fn gather(&mut self)
         requires full { IsFullSub self.old }
         ensures { GathersSub self.old self.new }

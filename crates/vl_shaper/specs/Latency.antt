@@ -1,4 +1,4 @@
--- How long a message waits on its link, in choices among the link's sub-VLs.
+-- The wait of a message on its link, in choices among the link's sub-VLs.
 use Rattle.std.specs.Prelude.{ℕ, Bool, ◌≡◌, ◌+◌, ◌-◌, ◌*◌, ◌<◌, ◌≤◌, List, [], ◌∷◌, true, nat_eq, count_by, length}
 use Rattle.vl_shaper.specs.Pace.{Choice, AreChosen, AreOfUsers, users_among}
 

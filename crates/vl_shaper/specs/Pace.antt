@@ -34,7 +34,7 @@ abbrev pub turn_of : ℕ → Option Stamp → ℕ → ℕ
 turn_of sub_vls None k = k
 turn_of sub_vls (Some last) k = (last.sub + 1 + k) % sub_vls
 
--- the last release was of one of these sub-VLs
+-- the last release belongs to one of these sub-VLs
 abbrev pub IsBelow : ℕ → Option Stamp → Type 0
 IsBelow sub_vls None = Unit {0}
 IsBelow sub_vls (Some last) = last.sub < sub_vls
@@ -73,7 +73,7 @@ abbrev pub users_among : ℕ → (ℕ → Bool) → ℕ
 users_among zero uses = 0
 users_among (suc subs) uses = if uses subs then suc (users_among subs uses) else users_among subs uses
 
--- each chosen sub-VL is one of those that use the link
+-- each chosen sub-VL uses the link
 abbrev pub AreOfUsers : (ℕ → Bool) → List Choice → Type 0
 AreOfUsers uses [] = Unit {0}
 AreOfUsers uses (choice ∷ choices) = (uses choice.sub ≡ true) × AreOfUsers uses choices

@@ -1,4 +1,4 @@
--- How long a message waits on its link, by the polls of the link.
+-- The wait of a message on its link, by the polls of the link.
 use Rattle.std.specs.Prelude.{ℕ, ◌≡◌, ◌+◌, ◌-◌, ◌*◌, ◌<◌, ◌≤◌, Bool, true, false, nat_eq, nat_le, ◌&&◌, cond, count_by, Option, Some, None, List, [], ◌∷◌}
 use Rattle.vl_shaper.specs.Pace.{IsChosen, is_due, turn_of, IsBelow, IsLater, users_among}
 use Rattle.vl_shaper.specs.declared.shaper.Stamp.{Stamp}
@@ -9,8 +9,8 @@ pub record Poll : Type 0 where
   pub has : ℕ → Bool
   pub released : Option ℕ
 
--- A poll releases no frame if the link isn't due or no sub-VL has something. Otherwise it releases
--- one of the first sub-VL that has something, in the order of turns.
+-- A poll releases no frame if the link isn't due or no sub-VL has something. Otherwise it releases a frame of the first
+-- sub-VL that has something, in the order of turns.
 abbrev pub IsServed : ℕ → ℕ → Option Stamp → Poll → Option ℕ → Type 0
 IsServed gap subs last poll None =
     is_due gap last poll.at ≡ true → (sub : ℕ) → sub < subs → poll.has sub ≡ false
@@ -38,7 +38,7 @@ abbrev pub latest_poll : ℕ → List Poll → ℕ
 latest_poll before [] = before
 latest_poll before (poll ∷ polls) = latest_poll poll.at polls
 
--- the released frame is of this sub-VL
+-- true if the released frame belongs to this sub-VL
 abbrev pub is_of : ℕ → Option ℕ → Bool
 is_of x None = false
 is_of x (Some chosen) = nat_eq chosen x
@@ -49,7 +49,7 @@ HasAtPolls x many [] = Unit {0}
 HasAtPolls x many (poll ∷ polls) = (1 ≤ many → poll.has x ≡ true)
     × HasAtPolls x (many - cond (is_of x poll.released) 1 0) polls
 
--- the released frame is of a sub-VL that uses the link
+-- the released frame belongs to a sub-VL that uses the link
 abbrev pub IsOfUser : (ℕ → Bool) → Option ℕ → Type 0
 IsOfUser uses None = Unit {0}
 IsOfUser uses (Some chosen) = uses chosen ≡ true

@@ -15,7 +15,7 @@ lone_choice = record { has = λ sub. nat_eq sub 1; sub = 1 }
 abbrev pub both_others : List Choice
 both_others = busy_choice 1 ∷ busy_choice 2 ∷ []
 
--- the same number of choices while sub-VL 0 has nothing
+-- four choices while sub-VL 0 has nothing
 abbrev pub lone_choices : List Choice
 lone_choices = lone_choice ∷ lone_choice ∷ lone_choice ∷ lone_choice ∷ []
 
@@ -33,7 +33,7 @@ pub record ChoosesOneEach : Type 0 where
 abbrev pub three_choices : List Choice
 three_choices = busy_choice 1 ∷ busy_choice 0 ∷ busy_choice 1 ∷ []
 
--- the same and one more
+-- four choices after sub-VL 0 was served, on a link of two sub-VLs
 abbrev pub four_choices : List Choice
 four_choices = busy_choice 1 ∷ busy_choice 0 ∷ busy_choice 1 ∷ busy_choice 0 ∷ []
 
@@ -54,19 +54,19 @@ pub record WaitsBehindOne : Type 0 where
 abbrev pub first_two : ℕ → Bool
 first_two sub = nat_lt sub 2
 
--- a choice at which they had something
+-- a choice at which sub-VLs 0 and 1 had something
 abbrev pub pair_choice : ℕ → Choice
 pair_choice chosen = record { has = first_two; sub = chosen }
 
 abbrev pub pair_choices : List Choice
 pair_choices = pair_choice 1 ∷ pair_choice 0 ∷ pair_choice 1 ∷ pair_choice 0 ∷ []
 
--- the third sub-VL has something too
+-- four choices, among which the third sub-VL has something too
 abbrev pub third_choices : List Choice
 third_choices = busy_choice 1 ∷ busy_choice 2 ∷ busy_choice 0 ∷ busy_choice 1 ∷ []
 
--- The same on a link of three sub-VLs, of which two use it: four choices are enough. If the third is chosen too, then
--- they are too few.
+-- On a link of three sub-VLs, two of them in use, four choices are enough. If the third is chosen too, then four are
+-- too few.
 pub record WaitsForUsers : Type 0 where
   pub user : first_two 0 ≡ true
   pub chosen : AreChosen 3 0 pair_choices

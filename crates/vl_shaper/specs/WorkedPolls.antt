@@ -46,7 +46,7 @@ pub record ServesInTime : Type 0 where
 abbrev pub pair_poll : ℕ → Option ℕ → Poll
 pair_poll moment chosen = record { at = moment; has = first_two; released = chosen }
 
--- the same polls of a link of three sub-VLs, of which the third never has anything
+-- six polls of a link of three sub-VLs; the third never has anything
 abbrev pub pair_polls : List Poll
 pair_polls = pair_poll 500 None
     ∷ pair_poll 1100 (Some 1)
@@ -89,7 +89,7 @@ pub record ReleasesAtOnce : Type 0 where
   pub released : released_by 0 (5000 + 2 * 1 * (1000 + 600)) polls_from_5000 ≡ 1
   pub at_once : released_by 0 5400 polls_from_5000 ≡ 1
 
--- polls of which the third is too late
+-- three polls, the third too late
 abbrev pub late_polls : List Poll
 late_polls = busy_poll 500 None ∷ busy_poll 1100 (Some 1) ∷ busy_poll 3300 (Some 0) ∷ []
 

@@ -27,7 +27,7 @@ pub fn queued_message()
     // two fragments and two sub-VLs: four choices are enough, three are too few
     ensures worked { WaitsBehindOne }
 
-    // a link of three sub-VLs, of which two use it
+    // a link of three sub-VLs, two of them in use
     ensures users { WaitsForUsers }
 {}
 
@@ -51,10 +51,10 @@ pub fn bound_is_met()
 pub fn polled_in_time()
     ensures bound { PolledInTime }
 
-    // six polls, three of which find the link due
+    // six polls; three find the link due
     ensures worked { ServesInTime }
 
-    // the same polls of a link of three sub-VLs, of which two use it
+    // six polls of a link of three sub-VLs, two of them in use
     ensures users { ServesUsersInTime }
 
     // a message accepted on an idle link is released at the next poll

@@ -13,8 +13,8 @@ pub struct Stamp {
     pub sub: u8,
 }
 
-/// The regulation of a virtual link: when it is due, in which order its sub-VLs have their turns,
-/// and which sequence number is next (ARINC 664 Part 7, end system, virtual link scheduling).
+/// The regulation of a virtual link: the time from which it is due, the order in which its sub-VLs have their turns,
+/// and the next sequence number (ARINC 664 Part 7, end system, virtual link scheduling).
 #[derive(Drop)]
 pub struct Shaper {
     // The time from which it is due, at most `u64::MAX`.
@@ -39,8 +39,8 @@ impl Model for Shaper {
 }
 
 impl Shaper {
-    /// A link that has released nothing: it is due at any time, sub-VL 0 has the first turn, and
-    /// the next number is 0.
+    /// Creates a link that has released nothing: it is due at any time, sub-VL 0 has the first turn, and the next
+    /// number is 0.
     pub fn new(bag: Bag, sub_vls: u8) -> Shaper
         requires some { 1 ≤ sub_vls }
         requires few { sub_vls ≤ 4 }
@@ -60,7 +60,7 @@ impl Shaper {
         }
     }
 
-    /// The number of the link's sub-VLs.
+    /// Returns the number of the link's sub-VLs.
     pub fn sub_vls(&self) -> u8
         ensures value { result ≡ self.now.sub_vls }
         ensures some { 1 ≤ result }
@@ -69,8 +69,8 @@ impl Shaper {
         self.sub_vls
     }
 
-    /// Whether a frame may be released at `now`, in microseconds: none was released, or the last
-    /// one at least a gap ago. A link that is served late doesn't catch up.
+    /// Returns true if a frame may be released at `now`, in microseconds: none was released, or the last one at least a
+    /// gap ago. A link that is served late doesn't catch up.
     pub fn due(&self, now: u64) -> bool
         requires { IsLater self.now.last now }
         ensures { result ≡ is_due self.now.gap self.now.last now }
@@ -88,8 +88,8 @@ impl Shaper {
         }
     }
 
-    /// The time in microseconds from which the link is due: 0 if nothing was released, and `None`
-    /// if that time has more than 64 bits.
+    /// Returns the time in microseconds from which the link is due: 0 if nothing was released, and `None` if that time
+    /// has more than 64 bits.
     pub fn due_from(&self) -> Option<u64>
         ensures { MatchOption result (2 ^ 64 ≤ due_from self.now.gap self.now.last)
             (λ at. at ≡ due_from self.now.gap self.now.last) }
@@ -100,15 +100,14 @@ impl Shaper {
         }
     }
 
-    /// The time in microseconds from which the link is due, or `u64::MAX` if that has more than 64
-    /// bits.
+    /// Returns the time in microseconds from which the link is due, or `u64::MAX` if that has more than 64 bits.
     pub fn waits_until(&self) -> u64
         ensures { result ≡ waits_until self.now.gap self.now.last }
     {
         self.from
     }
 
-    /// The sub-VL of turn `k`, from 0: cyclic order after the last served sub-VL. Each sub-VL has
+    /// Returns the sub-VL of turn `k`, from 0: in cyclic order after the last served sub-VL, so that each sub-VL has
     /// one turn.
     pub fn turn(&self, k: u8) -> u8
         requires { k < self.now.sub_vls }

@@ -1,5 +1,6 @@
-use Rattle.afdx_frame.proofs.Names.{◌≡◌, ◌+◌, ◌*◌, ◌≤◌, length, word_sum}
-use Rattle.afdx_frame.proofs.field.word_sum.Given as goal
+use Rattle.std.proofs.Common.{◌≡◌, ◌+◌, ◌*◌, ◌≤◌, length}
+use Rattle.internet_sum.specs.Words.{word_sum}
+use Rattle.internet_sum.proofs.word_sum.Given as goal
 
 abbrev pub invariant-loop-rest : goal.invariant-loop-rest
 invariant-loop-rest l = record {
