@@ -50,8 +50,8 @@ abbrev pub interface_of : Net → ℕ
 interface_of A = 0
 interface_of B = 1
 
--- An enhanced packet block: the interface, the time in microseconds with its high word first, how
--- many bytes were captured and how many there were, and the frame.
+-- An enhanced packet block: the interface, the time in microseconds with its high word first, the captured and the
+-- original length, and the frame.
 abbrev pub packet_body : ℕ → Entry → List ℕ
 packet_body interface e =
     word interface ++ (word (e.at / 2 ^ 32) ++ (word (e.at % 2 ^ 32)
@@ -60,7 +60,7 @@ packet_body interface e =
 unfoldable pub packet_block : Captured → List ℕ
 packet_block c = block 6 (packet_body (interface_of c.net) c.entry)
 
--- the front of such a block, up to the frame: `len` bytes in a block of `whole`
+-- the front of an enhanced packet block, up to the frame: `len` bytes in a block of `whole`
 abbrev pub packet_front : ℕ → ℕ → ℕ → ℕ → List ℕ
 packet_front interface at len whole =
     word 6 ++ word whole ++ word interface ++ word (at / 2 ^ 32) ++ word (at % 2 ^ 32) ++ word len ++ word len

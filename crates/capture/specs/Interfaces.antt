@@ -1,4 +1,4 @@
--- What a section describes of an interface, and what the times of its packets are.
+-- Interfaces as a section describes them, and the times of their packets.
 use Rattle.std.specs.Prelude.{ℕ, zero, suc, ◌+◌, ◌-◌, ◌*◌, ◌/◌, ◌^◌, nat_eq, nat_lt, if◌then◌else◌, List, [], ◌∷◌, length, drop, slice_get, slice_range, ok_or, option_and_then, Option, Some, None, Result, Ok, Err}
 use Rattle.std.specs.List.{list_any}
 use Rattle.std.specs.Option.{is_some}
@@ -12,7 +12,7 @@ use Rattle.capture.specs.declared.order.Order.{Order}
 use Rattle.capture.specs.declared.stop.Fault.{Fault}
 use Rattle.capture.specs.declared.stop.Fault.TheVariants.{BadOption, NoInterface, Time}
 
--- a step that may fail, and what follows it
+-- a step that may fail, and the steps after it
 infixl 10 ◌>>=◌
 abbrev pub ◌>>=◌ : {X Y E : Type 0} → Result X E → (X → Result Y E) → Result Y E
 Ok x >>= f = f x
@@ -22,7 +22,7 @@ Err why >>= f = Err why
 abbrev pub plain : ℕ → Interface
 plain limit = record { name = None; limit = limit; resolution = 6; offset = 0 }
 
--- the network that a name is of
+-- the network with this name, A or B
 abbrev pub name_of : List ℕ → Option Net
 name_of (letter ∷ []) =
     if nat_eq letter 65 then Some A else (if nat_eq letter 66 then Some B else None)
@@ -33,7 +33,7 @@ abbrev pub with_resolution : List ℕ → Interface → Result Interface Fault
 with_resolution (byte ∷ []) i = Ok (record i { resolution = byte })
 with_resolution _ i = Err BadOption
 
--- the name is option 2, the resolution of times 9, and what is added to them 14; others are skipped
+-- the name is option 2, the resolution of times 9, and the offset that is added to them 14; others are skipped
 unfoldable pub with_option : Order → ℕ → List ℕ → Interface → Result Interface Fault
 with_option order code value i =
     if nat_eq code 2 then Ok (record i { name = name_of value })
@@ -87,7 +87,8 @@ abbrev pub network_numbered : ℕ → Option Net
 network_numbered number =
     if nat_eq number 0 then Some A else (if nat_eq number 1 then Some B else None)
 
--- the network of an interface: that of its name, if any interface of the section has the name of a network
+-- the network of an interface: the network that it is named after, if any interface of the section has the name of a
+-- network
 abbrev pub network_of : List Interface → ℕ → Option Net
 network_of interfaces number =
     if list_any (λ (i : Interface). is_some i.name) interfaces then network_named (slice_get interfaces number)

@@ -14,7 +14,7 @@ pub record Captured : Type 0 where
 abbrev pub on : Net → Entry → Captured
 on net entry = record { net = net; entry = entry }
 
--- an element of A, after those of B that are earlier, and before what comes of the others
+-- an element of A, after the earlier elements of B, and before the merged list of the others
 abbrev pub before_others : {X : Type 0} → (X → ℕ) → X → (List X → List X) → List X → List X
 before_others at a others [] = a ∷ others []
 before_others at a others (b ∷ bs) =
@@ -58,7 +58,7 @@ moments es = map (λ (e : Entry). e.at) es
 abbrev pub captured_moments : List Captured → List ℕ
 captured_moments cs = map (λ (c : Captured). c.entry.at) cs
 
--- if the times of both lists rise, so do those of the capture
+-- if the times of both lists rise, so do the capture's
 abbrev pub IsInTime : Type 0
 IsInTime = (a b : List Entry) → RiseFrom 0 (moments a) → RiseFrom 0 (moments b)
     → RiseFrom 0 (captured_moments (in_order a b))

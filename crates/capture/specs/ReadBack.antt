@@ -1,4 +1,4 @@
--- What was written is read back, and a worked capture of two frames.
+-- Reading back a capture that was written, and a worked capture of two frames.
 use Rattle.std.specs.Prelude.{◌≡◌, ◌≤◌, ◌<◌, ◌*◌, ◌^◌, ℕ, Bool, true, false, List, [], ◌∷◌, length, map, filter, Option, Some, None, All, ◌++◌}
 use Rattle.afdx_frame.specs.declared.net.Net.{Net}
 use Rattle.afdx_frame.specs.declared.net.Net.TheVariants.{A, B}
@@ -41,7 +41,7 @@ pub record Tells (a b : List Entry) (recording : Recording) : Type 0 where
   pub first : packets_on A recording.packets ≡ map (packet_for A) a
   pub second : packets_on B recording.packets ≡ map (packet_for B) b
 
--- what is written for a capture of the two lists is read
+-- a capture that is written for the two lists is read back as the two lists
 abbrev pub ReadsBack : Type 0
 ReadsBack = (a b : List Entry) → All Fits a → All Fits b → Tells a b (read_capture (capture_bytes a b))
 
@@ -52,7 +52,7 @@ on_a = entry 0x100000002 (0x11 ∷ 0x12 ∷ 0x13 ∷ 0x14 ∷ 0x15 ∷ [])
 abbrev pub on_b : Entry
 on_b = entry 3 (0x21 ∷ 0x22 ∷ 0x23 ∷ 0x24 ∷ [])
 
--- the frame of B, of 36 bytes in all, and then that of A, of 40 bytes with three of padding
+-- the frame of B, of 36 bytes in all, and then A's, of 40 bytes with three of padding
 abbrev pub two_packets : List ℕ
 two_packets =
     (6 ∷ 0 ∷ 0 ∷ 0 ∷ 36 ∷ 0 ∷ 0 ∷ 0 ∷ 1 ∷ 0 ∷ 0 ∷ 0 ∷ 0 ∷ 0 ∷ 0 ∷ 0 ∷ 3 ∷ 0 ∷ 0 ∷ 0
@@ -67,7 +67,7 @@ pub record ReadsTwoFrames : Type 0 where
   pub read : read_capture (capture_bytes (on_a ∷ []) (on_b ∷ []))
       ≡ record { packets = packet_for B on_b ∷ packet_for A on_a ∷ []; end = Whole }
 
--- the times of the capture rise, and those of the two lists one after the other don't
+-- the times of the capture rise, but the times of the two lists one after the other don't
 pub record RiseInTwoFrames : Type 0 where
   pub rise : RiseFrom 0 (captured_moments (in_order (on_a ∷ []) (on_b ∷ [])))
   pub fall : RiseFrom 0 (captured_moments (on A on_a ∷ on B on_b ∷ [])) → ⊥

@@ -1,4 +1,4 @@
--- Reading a capture: what each unit does to a reading, and which packets all units give.
+-- Reading a capture: the effect of each unit on a reading, and the packets of all units.
 use Rattle.std.specs.Prelude.{ℕ, Bool, false, zero, suc, ◌+◌, ◌-◌, ◌*◌, ◌%◌, ◌^◌, ◌≡◌, nat_eq, nat_lt, ◌||◌, if◌then◌else◌, List, [], ◌∷◌, ◌++◌, length, map, take, drop, slice_range, option_map, Option, Some, None, Result, Ok, Err}
 use Rattle.afdx_frame.specs.declared.net.Net.{Net}
 use Rattle.afdx_frame.specs.declared.net.Net.TheVariants.{A}
@@ -23,7 +23,7 @@ use Rattle.capture.specs.declared.unit.TheConstants.{UNIT_FRONT}
 use Rattle.capture.specs.declared.unit.Unit.{Unit as CaptureUnit}
 use Rattle.capture.specs.declared.unit.Unit.TheVariants.{Section, Block, Header, Record}
 
--- a packet: its interface and its network, its time in nanoseconds since 1970, its length, and what was captured of it
+-- a packet: its interface and its network, its time in nanoseconds since 1970, its length, and its captured bytes
 pub record Recorded : Type 0 where
   pub interface : ℕ
   pub network : Option Net
@@ -44,15 +44,15 @@ recorded p = record {
 abbrev pub recorded_if : Option Packet → Option Recorded
 recorded_if packet = option_map recorded packet
 
--- a packet was read, or why none was
+-- a packet that was read, or the fault
 abbrev pub Gives : Result Packet Fault → Result Recorded Fault → Type 0
 Gives (Ok packet) wanted = wanted ≡ Ok (recorded packet)
 Gives (Err fault) wanted = wanted ≡ Err fault
 
 -- ---- packets
 
--- An enhanced packet block: the interface, the time with its high word first, how many bytes were captured
--- and how many there were, and the bytes. Padding and options are left.
+-- An enhanced packet block: the interface, the time with its high word first, the captured and the original length, and
+-- the bytes. Padding and options are left.
 unfoldable pub enhanced : Order → List Interface → List ℕ → Result Recorded Fault
 enhanced order interfaces body =
     let interface = number_at order 4 0 body in
@@ -69,11 +69,11 @@ enhanced order interfaces body =
       bytes = slice_range body 20 (20 + captured);
     })))
 
--- how many bytes are captured of a packet: at most the limit, if there is one
+-- the number of bytes that are captured of a packet: at most the limit, if there is one
 abbrev pub captured_of : ℕ → ℕ → ℕ
 captured_of limit original = if nat_eq limit 0 || nat_lt original limit then original else limit
 
--- A simple packet block: how many bytes there were, and the bytes. It is of the first interface, and has no time.
+-- A simple packet block: the original length, and the bytes. It belongs to the first interface, and has no time.
 unfoldable pub simple : Order → List Interface → List ℕ → Result Recorded Fault
 simple order interfaces body =
     let original = number_at order 4 0 body in
@@ -93,8 +93,8 @@ abbrev pub nanos_in : Clock → ℕ
 nanos_in Micros = 1000
 nanos_in Nanos = 1
 
--- A record: its time in seconds and their parts, how many bytes were captured and how many there were.
--- Its interface is the only one, so it is of network A.
+-- A record: its time in seconds and their parts, the captured and the original length. Its interface is the only one,
+-- so it belongs to network A.
 unfoldable pub from_record : Order → Clock → List ℕ → Recorded
 from_record order clock whole = record {
   interface = 0;
@@ -106,7 +106,7 @@ from_record order clock whole = record {
 
 -- ---- steps
 
--- where a reading is: what the capture was found to be, and the interfaces of the section, in their order
+-- the progress of a reading: the format that was found, and the interfaces of the section, in their order
 pub record Progress : Type 0 where
   pub format : Format
   pub interfaces : List Interface
@@ -114,7 +114,7 @@ pub record Progress : Type 0 where
 abbrev pub at_start : Progress
 at_start = record { format = Unknown; interfaces = [] }
 
--- what a unit does: where the reading is after it, and its packet, if it has one
+-- the content of a unit: the progress of the reading after it, and its packet, if it has one
 pub record Content : Type 0 where
   pub after : Progress
   pub packet : Option Recorded
@@ -125,7 +125,7 @@ content after packet = record { after = after; packet = packet }
 abbrev pub no_packet : Format → List Interface → Content
 no_packet format interfaces = record { after = record { format = format; interfaces = interfaces }; packet = None }
 
--- what a reading takes of a unit does this; a fault leaves the reading as it was
+-- the result of reading a unit: its content; a fault leaves the reading unchanged
 abbrev pub Does : Progress → Progress → Result (Option Packet) Fault → Result Content Fault → Type 0
 Does old new (Ok packet) wanted = wanted ≡ Ok (content new (recorded_if packet))
 Does old new (Err fault) wanted = (wanted ≡ Err fault) × (new ≡ old)
@@ -143,7 +143,7 @@ section_content order body =
     if nat_lt (length body) 16 then Err Length
     else (if nat_eq (number_at order 2 4 body) 1 then Ok (no_packet (Blocks order) []) else Err Version)
 
--- an interface description block: Ethernet, the limit of what is captured, and options
+-- an interface description block: Ethernet, the limit of captured bytes, and options
 unfoldable pub interface_content : Format → List Interface → Order → List ℕ → Result Content Fault
 interface_content format interfaces order body =
     if nat_lt (length body) 8 then Err Length
@@ -164,8 +164,8 @@ block_content p order kind body =
     else (if nat_eq kind 6 then enhanced order p.interfaces body >>= (λ packet. Ok (content p (Some packet)))
     else Ok (content p None))))
 
--- the header of a pcap file: version 2 of the format, and Ethernet, in the low 16 bits of its last word.
--- All records are of one interface.
+-- the header of a pcap file: version 2 of the format, and Ethernet, in the low 16 bits of its last word. All records
+-- belong to one interface.
 unfoldable pub header_content : Order → Clock → List ℕ → Result Content Fault
 header_content order clock whole =
     if nat_eq (number_at order 2 4 whole) 2
@@ -174,7 +174,7 @@ header_content order clock whole =
     else Err LinkType)
     else Err Version
 
--- what a whole unit does
+-- the content of a whole unit
 unfoldable pub content_of : Progress → CaptureUnit → List ℕ → Result Content Fault
 content_of p (Section order) whole = body_of order whole >>= section_content order
 content_of p (Block order) whole = body_of order whole >>= block_content p order (number_at order 4 0 whole)
@@ -190,7 +190,7 @@ or_stop (Err fault) = Err (Malformed fault)
 abbrev pub with_bytes : {X : Type 0} → ℕ → List ℕ → Result X NoStep → Result X NoStep
 with_bytes len bytes inside = if nat_lt (length bytes) len then Err More else inside
 
--- what a step does: what its unit does, and how many bytes the unit has
+-- the result of a step: the content of its unit, and the number of the unit's bytes
 pub record Moved : Type 0 where
   pub content : Content
   pub used : ℕ
@@ -207,12 +207,12 @@ next p bytes =
 
 -- ---- recordings
 
--- what was read of a capture: its packets, in their order, and how it ends
+-- the packets that were read of a capture, in their order, and the end of the reading
 pub record Recording : Type 0 where
   pub packets : List Recorded
   pub end : CaptureEnd
 
--- one that was read, with the bytes that its packets borrow
+-- a recording that was read, with the bytes that its packets borrow
 abbrev pub recording_of : ReadRecording → Recording
 recording_of r = record { packets = map recorded r.packets.items; end = r.end }
 
@@ -222,17 +222,17 @@ is_end Unknown bytes = false
 is_end (Blocks order) bytes = nat_eq (length bytes) 0
 is_end (Records order clock) bytes = nat_eq (length bytes) 0
 
--- how a capture ends where a reading stops: `at` bytes of it were read, and these are left
+-- the end of a capture at which a reading stops: `at` bytes of it were read, and these are left
 abbrev pub ended : Format → ℕ → List ℕ → NoStep → CaptureEnd
 ended format at bytes More = if is_end format bytes then Whole else CutOff at
 ended format at bytes (Malformed fault) = Broken at fault
 
--- one more packet in front, if there is one
+-- a recording with one more packet in front, if there is one
 abbrev pub with_packet : Option Recorded → Recording → Recording
 with_packet None rest = rest
 with_packet (Some packet) rest = record rest { packets = packet ∷ rest.packets }
 
--- a step, and what is read after it; or the end
+-- a step, and the recording after it; or the end
 abbrev pub then_read : Format → ℕ → List ℕ → (Progress → ℕ → Recording) → Result Moved NoStep → Recording
 then_read format at bytes more (Ok step) = with_packet step.content.packet (more step.content.after step.used)
 then_read format at bytes more (Err stop) = record { packets = []; end = ended format at bytes stop }
@@ -247,6 +247,6 @@ read_within (suc most) at p bytes =
 abbrev pub read_from : ℕ → Progress → List ℕ → Recording
 read_from at p bytes = read_within (suc (length bytes)) at p bytes
 
--- the recording that bytes are, from their first one on
+-- the recording in these bytes, from their first one on
 abbrev pub read_capture : List ℕ → Recording
 read_capture bytes = read_from 0 at_start bytes

@@ -11,7 +11,7 @@ abbrev pub StepsAlike : Type 0
 StepsAlike = (p : Progress) (window more : List ℕ) → (next p window ≡ Err More → ⊥)
     → next p (window ++ more) ≡ next p window
 
--- what is read from a place on is the packet of a step over a window, and then what is read after its unit
+-- a reading from a place on gives the packet of a step over a window, and then the packets after the step's unit
 abbrev pub StepsOn : Type 0
 StepsOn = (at : ℕ) (p : Progress) (window more : List ℕ) (step : Moved) → next p window ≡ Ok step
     → read_from at p (window ++ more)

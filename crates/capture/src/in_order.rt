@@ -64,7 +64,8 @@ impl<'a> Iterator for InOrder<'a> {
     }
 }
 
-/// The network that comes next, by the times of what comes next on A and on B: the earlier, and A at one time.
+/// Returns the network of the next frame, by the times of the next frames on A and on B: the earlier, and A at one
+/// time.
 pub fn next_net(a: Option<u128>, b: Option<u128>) -> Option<Net>
     ensures { result ≡ net_of_next a b }
 {

@@ -28,7 +28,7 @@ pub const MOST_INTERFACES: usize = 256;
 /// An interface that a capture describes.
 #[derive(Clone, Copy, Debug, Default, PartialEq, Eq)]
 pub struct Interface {
-    /// The network that it is named after, if its name is A or B.
+    /// The network after which the interface is named, if its name is A or B.
     pub name: Option<Net>,
     /// The most bytes that are captured of a packet; 0 for no limit.
     pub limit: u32,
@@ -45,7 +45,7 @@ pub(crate) struct OptionFront {
     len: u16,
 }
 
-/// The network that a name is of.
+/// Returns the network with this name, `A` or `B`.
 fn name_of(name: &[u8]) -> Option<Net>
     ensures { result ≡ name_network name.now }
 {
@@ -57,7 +57,7 @@ fn name_of(name: &[u8]) -> Option<Net>
 }
 
 impl Interface {
-    /// An interface without options: its times are in microseconds.
+    /// Creates an interface without options: its times are in microseconds.
     pub(crate) fn new(limit: u32) -> Interface
         ensures { result ≡ plain limit }
     {
@@ -69,7 +69,7 @@ impl Interface {
         }
     }
 
-    /// The interface with one more option.
+    /// Returns the interface with one more option.
     #[tactic(auto, unfolding(crate::specs::Interfaces::with_option))]
     fn with_option(self, order: Order, code: u16, value: &[u8]) -> Result<Interface, Fault>
         ensures { result ≡ with_option order code value.now self }
@@ -85,7 +85,7 @@ impl Interface {
         Ok(changed)
     }
 
-    /// The interface with the options that these bytes are.
+    /// Returns the interface with the options in these bytes.
     pub(crate) fn with_options(self, order: Order, options: &[u8]) -> Result<Interface, Fault>
         ensures { result ≡ with_options order (length options.now) options.now self }
     {
@@ -103,7 +103,7 @@ impl Interface {
         Ok(interface)
     }
 
-    /// The time of a packet in nanoseconds since 1970.
+    /// Returns the time of a packet in nanoseconds since 1970.
     #[tactic(auto, unfolding(crate::specs::Interfaces::time_of))]
     pub(crate) fn time(self, ticks: u64) -> Result<u128, Fault>
         ensures { result ≡ time_of self ticks }
@@ -121,7 +121,7 @@ impl Interface {
     }
 }
 
-/// The option with which these bytes begin; it ends within them.
+/// Returns the option with which these bytes begin; it ends within them.
 #[tactic(auto, unfolding(crate::specs::Interfaces::first_option))]
 fn first_option(order: Order, bytes: &[u8]) -> Result<OptionFront, Fault>
     ensures value { result ≡ first_option order bytes.now }
@@ -137,7 +137,7 @@ fn first_option(order: Order, bytes: &[u8]) -> Result<OptionFront, Fault>
     Ok(OptionFront { code, len })
 }
 
-/// Units of a resolution, in nanoseconds, rounded down.
+/// Converts units of a resolution to nanoseconds, rounded down.
 fn nanos(resolution: u8, ticks: u64) -> u128
     ensures value { result ≡ ticks * 10 ^ 9 / per_second resolution }
     ensures most { result ≤ ticks * 10 ^ 9 }
@@ -153,7 +153,7 @@ fn nanos(resolution: u8, ticks: u64) -> u128
     }
 }
 
-/// The interface of a number.
+/// Returns the interface of a number.
 pub(crate) fn known(interfaces: &[Interface], number: u32) -> Result<Interface, Fault>
     ensures { result ≡ known interfaces.now number }
 {
@@ -163,21 +163,21 @@ pub(crate) fn known(interfaces: &[Interface], number: u32) -> Result<Interface, 
         .ok_or(Fault::NoInterface)
 }
 
-/// Whether some interface has the name of a network.
+/// Returns true if some interface has the name of a network.
 fn has_names(interfaces: &[Interface]) -> bool
     ensures { result ≡ list_any (λ i. is_some i.name) interfaces.now }
 {
     interfaces.iter().any(|i| i.name.is_some())
 }
 
-/// The network that an interface is named after.
+/// Returns the network that an interface is named after.
 fn named(interfaces: &[Interface], number: u32) -> Option<Net>
     ensures { result ≡ network_named (slice_get interfaces.now number) }
 {
     interfaces.get(number as usize)?.name
 }
 
-/// The network of an interface, by its number.
+/// Returns the network of an interface, by its number.
 pub(crate) fn network_of(interfaces: &[Interface], number: u32) -> Option<Net>
     ensures { result ≡ network_at interfaces.now number }
 {

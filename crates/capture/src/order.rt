@@ -12,7 +12,7 @@ pub enum Order {
 }
 
 impl Order {
-    /// The 16-bit number at an index.
+    /// Returns the 16-bit number at an index.
     pub(crate) fn half_at(self, bytes: &[u8], i: usize) -> u16
         requires { i + 2 ≤ length bytes.now }
         ensures { result ≡ number_at self 2 i bytes.now }
@@ -23,7 +23,7 @@ impl Order {
         }
     }
 
-    /// The 32-bit number at an index.
+    /// Returns the 32-bit number at an index.
     pub(crate) fn word_at(self, bytes: &[u8], i: usize) -> u32
         requires { i + 4 ≤ length bytes.now }
         ensures { result ≡ number_at self 4 i bytes.now }
@@ -34,7 +34,7 @@ impl Order {
         }
     }
 
-    /// The 64-bit number in the first 8 bytes.
+    /// Returns the 64-bit number in the first 8 bytes.
     pub(crate) fn long(self, bytes: &[u8]) -> u64
         requires { 8 ≤ length bytes.now }
         ensures { result ≡ number_at self 8 0 bytes.now }

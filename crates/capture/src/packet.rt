@@ -13,17 +13,17 @@ use afdx_frame::Net;
 pub struct Packet<'a> {
     /// The number of its interface in its section.
     pub interface: u32,
-    /// Its network, by the name of its interface; without such names the first is A, and the second B.
+    /// The packet's network, by the name of its interface; without such names the first is A, and the second B.
     pub network: Option<Net>,
-    /// Its time in nanoseconds since 1970; a simple packet block has none.
+    /// The packet's time in nanoseconds since 1970; a simple packet block has none.
     pub at: Option<u128>,
-    /// Its length on the network. If it is greater than that of `bytes`, the packet was cut off.
+    /// The packet's length on the network. If it is greater than the length of `bytes`, the packet was cut off.
     pub original: u32,
     /// The bytes that were captured.
     pub bytes: &'a [u8],
 }
 
-/// The packet of an enhanced packet block.
+/// Returns the packet of an enhanced packet block.
 #[tactic(auto, unfolding(crate::specs::Recording::enhanced))]
 pub(crate) fn enhanced<'a>(
     order: Order,
@@ -52,7 +52,7 @@ pub(crate) fn enhanced<'a>(
     })
 }
 
-/// How many bytes were captured of a packet of this length.
+/// Returns the number of bytes that were captured of a packet of this length.
 fn captured_of(limit: u32, original: u32) -> u32
     ensures { result ≡ captured_of limit original }
 {
@@ -63,7 +63,7 @@ fn captured_of(limit: u32, original: u32) -> u32
     }
 }
 
-/// The packet of a simple packet block, which is of the first interface.
+/// Returns the packet of a simple packet block, which belongs to the first interface.
 #[tactic(auto, unfolding(crate::specs::Recording::simple))]
 pub(crate) fn simple<'a>(
     order: Order,
@@ -90,7 +90,7 @@ pub(crate) fn simple<'a>(
     })
 }
 
-/// The packet of a record.
+/// Returns the packet of a record.
 #[tactic(auto, unfolding(crate::specs::Recording::from_record))]
 pub(crate) fn from_record<'a>(order: Order, clock: Clock, whole: &'a [u8]) -> Packet<'a>
     requires { 16 ≤ length whole.now }

@@ -21,14 +21,14 @@ const SIMPLE_TYPE: u32 = 3;
 
 const ENHANCED_TYPE: u32 = 6;
 
-/// What a step did: the packet of the unit that was read, if it has one, and how many bytes the unit has.
+/// The result of a step: the packet of the unit that was read, if it has one, and the number of the unit's bytes.
 #[derive(Clone, Copy, Debug, PartialEq, Eq)]
 pub struct Step<'a> {
     pub packet: Option<Packet<'a>>,
     pub used: usize,
 }
 
-/// A reading of a capture, pcapng or pcap: what is known from the units before the next one.
+/// A reading of a capture, pcapng or pcap: its state after the units before the next one.
 #[derive(Drop)]
 pub struct Reading {
     format: Format,
@@ -42,7 +42,7 @@ impl Model for Reading {
 }
 
 impl Reading {
-    /// A reading that has read nothing.
+    /// Creates a reading that has read nothing.
     pub fn new() -> Reading
         ensures { result ≡ at_start }
     {
@@ -52,7 +52,8 @@ impl Reading {
         }
     }
 
-    /// How the capture ends where the reading stopped: `at` bytes of it were read, and `rest` is all that is left.
+    /// Returns the end of the capture after a reading that stopped: `at` bytes of it were read, and `rest` is all that
+    /// is left.
     pub fn end(&self, at: u64, rest: &[u8], stop: NoStep) -> CaptureEnd
         ensures { result ≡ ended self.now.format at rest.now stop }
     {
@@ -86,7 +87,7 @@ impl Reading {
         Ok(Step { packet, used })
     }
 
-    /// Takes what a whole unit says.
+    /// Takes the content of a whole unit.
     #[tactic(auto, unfolding(crate::specs::Recording::content_of))]
     fn take<'a>(&mut self, unit: Unit, whole: &'a [u8]) -> Result<Option<Packet<'a>>, Fault>
         requires { least_size unit ≤ length whole.now }
@@ -190,7 +191,7 @@ impl Reading {
     }
 }
 
-/// The body of a block.
+/// Returns the body of a block.
 #[tactic(auto, unfolding(crate::specs::Recording::body_of))]
 fn body<'a>(order: Order, whole: &'a [u8]) -> Result<&'a [u8], Fault>
     requires { 12 ≤ length whole.now }
@@ -204,15 +205,14 @@ fn body<'a>(order: Order, whole: &'a [u8]) -> Result<&'a [u8], Fault>
     Ok(&whole[8..end])
 }
 
-/// What was read of a capture: its packets, in their order, and how it ends.
+/// The packets that were read of a capture, in their order, and the end of the reading.
 #[derive(Debug, Drop)]
 pub struct Recording<'a> {
     pub packets: Vec<Packet<'a>>,
     pub end: CaptureEnd,
 }
 
-/// Reads a capture that is in memory as a whole. It only fails if memory runs out; what is wrong with the
-/// capture is in `end`.
+/// Reads a capture that is in memory as a whole. Fails only if memory runs out; a fault of the capture is in `end`.
 pub fn read_capture<'a>(alloc: Global, bytes: &'a [u8]) -> Result<Recording<'a>, AllocError>
     ensures { IfOk result (λ r. recording_of r ≡ recording_in bytes.now) }
 {

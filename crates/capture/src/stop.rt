@@ -1,6 +1,6 @@
-//! Why a reading stops, and how a capture ends.
+//! The reasons for which a reading stops, and the end of a capture.
 
-/// How a capture ends, after the packets that were read.
+/// The end of a capture, after the packets that were read.
 #[derive(Clone, Copy, Debug, PartialEq, Eq)]
 pub enum CaptureEnd {
     /// With its last block or record.
@@ -11,10 +11,10 @@ pub enum CaptureEnd {
     Broken(u64, Fault),
 }
 
-/// What is wrong with a capture.
+/// The faults of a capture.
 #[derive(Clone, Copy, Debug, PartialEq, Eq)]
 pub enum Fault {
-    /// The first bytes are those of neither pcapng nor pcap.
+    /// The first bytes begin neither pcapng nor pcap.
     Format,
     /// The byte-order magic of a section is none.
     ByteOrder,
@@ -42,7 +42,7 @@ pub enum Fault {
     Time,
 }
 
-/// Why no step was taken.
+/// The reasons for which no step was taken.
 #[derive(Clone, Copy, Debug, PartialEq, Eq)]
 pub enum NoStep {
     /// The window ends before the next block or record does.

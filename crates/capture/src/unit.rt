@@ -28,7 +28,7 @@ pub enum Clock {
     Nanos,
 }
 
-/// What a capture was found to be.
+/// The format of a capture, as far as it is known.
 #[derive(Clone, Copy, Debug, PartialEq, Eq)]
 pub enum Format {
     /// Nothing was read.
@@ -53,7 +53,7 @@ pub(crate) enum Unit {
 }
 
 impl Unit {
-    /// The unit that begins with these bytes.
+    /// Returns the unit that begins with these bytes.
     #[tactic(auto, unfolding(crate::specs::Units::unit_of))]
     pub(crate) fn of(format: Format, front: &[u8]) -> Result<Unit, Fault>
         requires { UNIT_FRONT ≤ length front.now }
@@ -67,7 +67,7 @@ impl Unit {
         }
     }
 
-    /// The length of the unit.
+    /// Returns the length of the unit.
     #[tactic(auto, unfolding(crate::specs::Units::size_of))]
     pub(crate) fn size(self, front: &[u8]) -> Result<usize, Fault>
         requires { UNIT_FRONT ≤ length front.now }
@@ -84,7 +84,7 @@ impl Unit {
     }
 }
 
-/// A section header block, by its byte-order magic.
+/// Returns the section header block that begins with these bytes, by its byte-order magic.
 #[tactic(auto, unfolding(crate::specs::Units::section_unit))]
 fn section(front: &[u8]) -> Result<Unit, Fault>
     requires { UNIT_FRONT ≤ length front.now }
@@ -99,7 +99,7 @@ fn section(front: &[u8]) -> Result<Unit, Fault>
     }
 }
 
-/// The header of a pcap file, by its magic number.
+/// Returns the header of the pcap file that begins with these bytes, by its magic number.
 #[tactic(auto, unfolding(crate::specs::Units::header_unit))]
 fn header(front: &[u8]) -> Result<Unit, Fault>
     requires { UNIT_FRONT ≤ length front.now }
@@ -118,7 +118,7 @@ fn header(front: &[u8]) -> Result<Unit, Fault>
     }
 }
 
-/// The length of a block.
+/// Returns the length of a block.
 #[tactic(auto, unfolding(crate::specs::Units::block_size))]
 fn block_len(len: u32) -> Result<usize, Fault>
     ensures value { result ≡ block_size len }
@@ -134,7 +134,7 @@ fn block_len(len: u32) -> Result<usize, Fault>
     }
 }
 
-/// The length of a record, of so many captured bytes.
+/// Returns the length of a record with this number of captured bytes.
 #[tactic(auto, unfolding(crate::specs::Units::record_size))]
 fn record_len(captured: u32) -> Result<usize, Fault>
     ensures value { result ≡ record_size captured }

@@ -116,7 +116,7 @@ fn write_word<W: Write>(writer: &mut W, number: u32) -> io::Result<()>
     writer.write_u32::<LittleEndian>(number)
 }
 
-/// The padding of `len` bytes to a multiple of 4.
+/// Returns the padding of `len` bytes to a multiple of 4.
 pub(crate) fn fill_of(len: usize) -> usize
     ensures value { result ≡ fill len }
     ensures most { result ≤ 3 }

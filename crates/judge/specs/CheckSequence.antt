@@ -9,7 +9,7 @@ divided remainder = if nat_eq (remainder % 2) 1 then bit_xor (remainder / 2) 0xe
 abbrev pub divided_twice : ℕ → ℕ
 divided_twice remainder = divided (divided remainder)
 
--- one more byte
+-- the remainder after one more byte
 unfoldable pub with_byte : ℕ → ℕ → ℕ
 with_byte remainder byte =
     divided_twice (divided_twice (divided_twice (divided_twice (bit_xor remainder byte))))

@@ -1,4 +1,4 @@
--- What is wrong with a frame, and the findings of packets.
+-- Deviations of frames, and the findings of packets.
 use Rattle.std.specs.Prelude.{ℕ, List, [], ◌∷◌, ◌++◌, Option, Some, None}
 use Rattle.std.specs.Option.{option_or}
 use Rattle.judge.specs.Types.{Deviation, Finding, FindingKind, Tag, VlId}
@@ -39,7 +39,7 @@ finding_of tag link d = record {
   wanted = d.wanted;
 }
 
--- these findings, and a packet's, if there is one
+-- a list of findings, with a packet's appended, if there is one
 abbrev pub with_finding : Tag → Option VlId → Option Deviation → List Finding → List Finding
 with_finding tag link None found = found
 with_finding tag link (Some d) found = found ++ finding_of tag link d ∷ []

@@ -1,4 +1,4 @@
--- What a frame of the layout says.
+-- The fields of a frame of the layout.
 use Rattle.std.specs.Prelude.{ℕ, ◌+◌, ◌-◌, ◌*◌, ◌%◌, ◌≤◌, nat_le, List, slice_index, slice_range}
 use Rattle.afdx_frame.specs.Checksum.{word_sum}
 use Rattle.afdx_frame.specs.Frame.{more_fragments, offset_modulus}
@@ -6,8 +6,8 @@ use Rattle.afdx_frame.specs.Header.{number_in}
 use Rattle.afdx_frame.specs.Profile.{word_at, total_length, fragment_field}
 use Rattle.judge.specs.Types.{Fields}
 
--- Its piece: the identification, the place and the length in bytes, and whether more follow (RFC 791, 3.1). The flow:
--- the partition, the destination address as a number of 32 bits, and the UDP ports.
+-- The fields of a frame. The piece: the identification, the place and the length in bytes, and whether more follow (RFC
+-- 791, 3.1). The flow: the partition, the destination address as a number of 32 bits, and the UDP ports.
 unfoldable pub fields_of : List ℕ → Fields
 fields_of frame = record {
   number = number_in frame;

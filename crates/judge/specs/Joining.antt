@@ -1,9 +1,9 @@
--- The message of a sub-VL on a network, as its pieces come: which piece is next, and what is wrong with a whole
--- message.
+-- The message of a sub-VL on a network, as its pieces come: the next piece, and the faults of a whole message.
 use Rattle.std.specs.Prelude.{ℕ, ◌+◌, ◌-◌, ◌*◌, ◌%◌, nat_eq, nat_lt, nat_le, not, ◌&&◌, ◌||◌, Bool, true, false, if◌then◌else◌, List, find, option_map, option_and_then, Option, Some, None}
 use Rattle.std.specs.Option.{option_map_or}
 use Rattle.afdx_plan.specs.Address.{destination_address}
 use Rattle.afdx_plan.specs.Plan.{step_of}
+use Rattle.afdx_plan.specs.declared.port_plan.UdpSum.TheVariants.{Generated}
 use Rattle.afdx_frame.specs.Frame.{udp_field}
 use Rattle.afdx_frame.specs.Profile.{word_at}
 use Rattle.judge.specs.Deviations.{deviation, first_of}
@@ -24,8 +24,8 @@ abbrev pub is_towards : Flow → PortPlan → Bool
 is_towards flow port = nat_eq flow.partition port.partition
     && nat_eq flow.address (address_number (destination_address port))
 
--- a first piece of a link is of a port: the UDP ports are its too, and so is the sub-VL, if the identification says
--- which
+-- a first piece of a link belongs to a port: it has the port's UDP ports and, if the identification gives the sub-VL,
+-- its sub-VL
 abbrev pub is_of_port : Bool → ℕ → ℕ → Flow → PortPlan → Bool
 is_of_port arinc vl sub flow port = nat_eq port.vl.0 vl && (arinc || nat_eq port.sub sub)
     && nat_eq flow.source port.source && nat_eq flow.destination port.destination && is_towards flow port
@@ -35,8 +35,8 @@ port_of arinc ports vl sub flow = find (is_of_port arinc vl sub flow) ports
 
 -- ---- the message
 
--- What the first piece of a port's message says. The sum is of the words of the addresses and the piece, the checksum
--- taken as zero, modulo 65,535.
+-- The head of a port's message, from its first piece. The sum covers the words of the addresses and the piece, the
+-- checksum taken as zero, modulo 65,535.
 abbrev pub head_of : PortPlan → Fields → Head
 head_of port fields = record {
   port = port;
@@ -45,11 +45,11 @@ head_of port fields = record {
   sum = (fields.ends + fields.sum + (65535 - fields.udp_sum)) % 65535;
 }
 
--- one more piece
+-- the head after one more piece
 abbrev pub head_with : Head → Fields → Head
 head_with head fields = record head { sum = (head.sum + fields.sum) % 65535 }
 
--- where the next piece begins, and its identification, if anything is known
+-- the byte at which the next piece begins, and its identification, if they are known
 abbrev pub next_of : Joining → Option ℕ
 next_of Any = None
 next_of (Within message) = Some message.next
@@ -60,7 +60,7 @@ ident_of (Between ident) = Some ident
 ident_of (Within message) = Some message.ident
 ident_of _ = None
 
--- what is known of the message that was begun
+-- the head of the message that was begun, if it is known
 abbrev pub begun : Joining → Option Head
 begun (Within message) = message.head
 begun _ = None
@@ -77,13 +77,15 @@ has_addresses head flow = option_map_or (λ (h : Head). is_towards flow h.port) 
 abbrev pub misfit : FragmentMisfit → ℕ → ℕ → Option Deviation
 misfit how seen wanted = Some (deviation (Fragment how) seen wanted)
 
--- a number is the one that is wanted, if one is
+-- a misfit if a number isn't the wanted one, if one is wanted
 abbrev pub misfit_if : FragmentMisfit → Option ℕ → ℕ → Option Deviation
 misfit_if how wanted seen =
     option_and_then (λ wanted. if nat_eq seen wanted then None else misfit how seen wanted) wanted
 
-abbrev pub repeated_if : Option ℕ → ℕ → Option Deviation
-repeated_if before seen = option_and_then (λ before. if nat_eq seen before then misfit Repeated seen 0 else None) before
+-- a message of one frame is put together by no identification
+abbrev pub repeated_if : Option ℕ → PieceIn → Option Deviation
+repeated_if before piece = option_and_then
+    (λ before. if piece.more && nat_eq piece.ident before then misfit Repeated piece.ident 0 else None) before
 
 abbrev pub addresses_deviation : Option Head → Flow → Option Deviation
 addresses_deviation head flow = if has_addresses head flow then None else misfit Addresses 0 0
@@ -103,14 +105,15 @@ abbrev pub goes_on : Fields → Joining → Bool
 goes_on fields (Within message) = nat_eq fields.piece.ident message.ident && has_addresses message.head fields.flow
 goes_on fields _ = false
 
--- how a piece isn't the next one
-unfoldable pub fragment_deviation : ℕ → Fields → Joining → Option Deviation
-fragment_deviation room fields joining = first_of (misfit_if Offset (next_of joining) fields.piece.start)
+-- the deviation of a piece that isn't the next one; by ARINC 664 alone a message may be cut anywhere
+unfoldable pub fragment_deviation : Bool → ℕ → Fields → Joining → Option Deviation
+fragment_deviation arinc room fields joining = first_of (misfit_if Offset (next_of joining) fields.piece.start)
     (first_of (misfit_if Identification (ident_of joining) fields.piece.ident)
-    (first_of (repeated_if (ident_before joining) fields.piece.ident)
-    (first_of (addresses_deviation (begun joining) fields.flow) (length_deviation room fields.piece))))
+    (first_of (repeated_if (ident_before joining) fields.piece)
+    (first_of (addresses_deviation (begun joining) fields.flow)
+    (if arinc then None else length_deviation room fields.piece))))
 
--- what is known of the message with one more piece
+-- the head of the message after one more piece
 abbrev pub head_after : Option Head → Fields → Option Head
 head_after head fields = option_map (λ head. head_with head fields) head
 
@@ -124,26 +127,34 @@ head_now port fields joining =
 abbrev pub right_sum : Head → ℕ → ℕ
 right_sum head len = udp_field head.port.checksum (head.sum + 17 + len)
 
+-- a checksum that is right though the plan has none
+abbrev pub is_summed : Head → ℕ → Bool
+is_summed head len = nat_eq head.udp_sum (udp_field Generated (head.sum + 17 + len))
+
 abbrev pub ending : Ending → ℕ → ℕ → Option Deviation
 ending how seen wanted = Some (deviation (Message how) seen wanted)
 
--- what is wrong with a message whose datagram has this length
-unfoldable pub message_deviation : ℕ → Head → Option Deviation
-message_deviation len head =
+-- The deviation of a message whose datagram has this length. By ARINC 664 alone it may have no bytes, and a checksum
+-- though the plan has none.
+unfoldable pub message_deviation : Bool → ℕ → Head → Option Deviation
+message_deviation arinc len head =
     if not (nat_eq head.udp_len len) then ending UdpLength head.udp_len len
-    else (if nat_eq (len - 8) 0 || nat_lt head.port.max (len - 8) then ending TooLong (len - 8) head.port.max
-    else (if nat_eq head.udp_sum (right_sum head len) then None
+    else (if nat_lt len (if arinc then 8 else 9) || nat_lt head.port.max (len - 8)
+    then ending TooLong (len - 8) head.port.max
+    else (if nat_eq head.udp_sum (right_sum head len) || arinc && is_summed head len then None
     else ending UdpChecksum head.udp_sum (right_sum head len)))
 
--- the same of the message that a piece ends, if that is known
-abbrev pub if_known : ℕ → Option Head → Option Deviation
-if_known len head = option_and_then (message_deviation len) head
+-- the deviation of the message that a piece ends, if its head is known
+abbrev pub if_known : Bool → ℕ → Option Head → Option Deviation
+if_known arinc len head = option_and_then (message_deviation arinc len) head
 
-abbrev pub end_deviation : PieceIn → Option Head → Option Deviation
-end_deviation piece head = if piece.more then None else if_known (piece.start + piece.len) head
+abbrev pub end_deviation : Bool → PieceIn → Option Head → Option Deviation
+end_deviation arinc piece head = if piece.more then None else if_known arinc (piece.start + piece.len) head
 
--- what is known after a piece: the next message's identification follows, or by ARINC 664 alone is another one
+-- The state after a piece: the next message's identification follows. By ARINC 664 alone it is another one, if both
+-- messages are cut.
 abbrev pub joined : Bool → PieceIn → Option Head → Joining
 joined arinc piece head =
     if piece.more then Within (record { ident = piece.ident; next = piece.start + piece.len; head = head })
-    else (if arinc then After (Some piece.ident) else Between ((piece.ident + 4) % 65536))
+    else (if arinc then After (if nat_lt 0 piece.start then Some piece.ident else None)
+    else Between ((piece.ident + 4) % 65536))

@@ -1,5 +1,5 @@
--- The findings of a recording: what its packets do wrong, in their order, by a plan.
-use Rattle.std.specs.Prelude.{ℕ, ◌-◌, ◌*◌, nat_eq, nat_lt, ◌&&◌, Bool, true, false, if◌then◌else◌, List, [], ◌∷◌, length, slice_set, get_or, replicate, unwrap_or, option_map, option_and_then, Option, Some, None, Result, Ok, Err}
+-- The findings of a recording by a plan: the deviations of its packets, in their order.
+use Rattle.std.specs.Prelude.{ℕ, ◌*◌, nat_eq, nat_lt, ◌&&◌, Bool, true, false, if◌then◌else◌, List, [], ◌∷◌, length, slice_set, get_or, replicate, unwrap_or, option_map, option_and_then, Option, Some, None, Result, Ok, Err}
 use Rattle.afdx_plan.specs.Config.{link_plan_at}
 use Rattle.afdx_plan.specs.Plan.{bag_micros, is_both, room_of}
 use Rattle.afdx_frame.specs.declared.net.Net.TheVariants.{A, B}
@@ -33,7 +33,7 @@ abbrev pub with_line : Net → Line → Link → Link
 with_line A line link = record link { a = line }
 with_line B line link = record link { b = line }
 
--- what came of a link on a network, and the greatest time between its twins
+-- the figures of a link on a network, if the plan has the link
 abbrev pub figures_on : Net → Option Link → Option Figures
 figures_on net link = option_map (λ (link : Link). (line_on net link).figures) link
 
@@ -48,7 +48,7 @@ with_verdict tag vl v found = with_finding tag (Some vl) v.turn
     (with_finding tag (Some vl) v.port
     (with_finding tag (Some vl) v.early (with_finding tag (Some vl) v.number found)))))
 
--- before a frame: those that it shows to have no twin are given up, of a link on both networks
+-- a link on both networks before a frame: the frames that this one shows to have no twin are given up
 abbrev pub given_up : Setting → Tag → ℕ → Link → Link
 given_up setting tag number link =
     if is_both setting.plan.networks
@@ -59,7 +59,7 @@ found_given_up setting tag number link found =
     if is_both setting.plan.networks
     then found_missing setting.nearness setting.plan.id tag number link.twins.waiting found else found
 
--- after it: it is put to its twin
+-- a link on both networks after a frame, which is paired with its twin or waits
 abbrev pub paired : Setting → Tag → ℕ → List ℕ → Link → Link
 paired setting tag number frame link =
     if is_both setting.plan.networks
@@ -106,7 +106,7 @@ found_on_link setting tag port frame link found =
 
 -- ---- a judge
 
--- what a judge knows of the packets so far: by what it judges, the times, whether a frame was found to have its check
+-- the state of a judge after some packets: its plan and options, the times, true if a frame was found to have its check
 -- sequence, and the links by their places in the plan
 pub record Judging : Type 0 where
   pub plan : Plan
@@ -128,18 +128,19 @@ at_start plan options = record {
   links = replicate (length plan.links) (new_link options.late options.arinc);
 }
 
--- the first time, and the latest
+-- the times with one more packet's: the first time, and the latest
 abbrev pub times_with : ℕ → Times → Times
 times_with at times = record {
   first = Some (unwrap_or times.first at);
   latest = if nat_lt times.latest at then at else times.latest;
 }
 
--- the gap of a link in nanoseconds, and the room of its frames
+-- the gap of a link and the jitter in nanoseconds, and the room of its frames
 abbrev pub measure_of : Options → LinkPlan → Measure
 measure_of options link = record {
   room = room_of link.lmax;
-  gap = 1000 * (bag_micros link.bag - options.jitter);
+  gap = 1000 * bag_micros link.bag;
+  jitter = 1000 * options.jitter;
   late = options.late;
   arinc = options.arinc;
 }
@@ -175,7 +176,7 @@ unfoldable pub found_of_arrival : Tag → ℕ → List ℕ → Judging → List 
 found_of_arrival tag place frame j found =
     found_on_link (setting_of j place) tag (port_on j place frame) frame (link_at j.links place) found
 
--- why a packet is judged no further; that frames have their check sequences is found once
+-- true for the refusal of a frame with its check sequence, which is a finding only once
 abbrev pub is_with_check : FindingKind → Bool
 is_with_check (Frame WithCheck) = true
 is_with_check _ = false
@@ -188,7 +189,7 @@ found_refusal tag why j found =
     if is_with_check why.deviation.kind && j.told then found
     else with_finding tag why.link (Some why.deviation) found
 
--- what a packet is admitted as: a frame of the link at a place
+-- an admitted packet: a frame of the link at a place
 pub record Admitted : Type 0 where
   pub place : ℕ
   pub frame : List ℕ
@@ -249,7 +250,7 @@ found_with_end j found = found_left (nearness_of j.options j.times) j.times.late
 
 -- ---- a recording
 
--- a packet of a recording: its network, its number in its file, and what was recorded
+-- a packet of a recording: its network, its number in its file, and its record
 pub record OnNet : Type 0 where
   pub net : Net
   pub number : ℕ

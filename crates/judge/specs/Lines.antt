@@ -7,9 +7,9 @@ use Rattle.judge.specs.Types.{Arrived, Deviation, Fields, Figures, Joining, Last
 use Rattle.judge.specs.declared.finding.FindingKind.TheVariants.{Number, Early, Port, Turn}
 use Rattle.judge.specs.declared.joining.Joining.TheVariants.{Any, Between, After}
 
--- ---- a line of which nothing came
+-- ---- a line without frames
 
--- its first message has an identification of the sub-VL, or by ARINC 664 alone any one
+-- a sub-VL without frames: its first message has an identification of the sub-VL, or by ARINC 664 alone any one
 abbrev pub new_sub : Bool → Bool → ℕ → Sub
 new_sub late arinc sub = record {
   joining = if late then Any else (if arinc then After None else Between sub);
@@ -27,8 +27,8 @@ new_line late arinc = record {
 abbrev pub unknown_place : List Sub → Option ℕ
 unknown_place subs = position (λ (s : Sub). not (is_some (next_of s.joining))) subs
 
--- The sub-VL of a frame, if it is one of the four. Else the frame begins a message, unless it may be of a sub-VL of
--- whose message nothing is known.
+-- The state of a frame's sub-VL if it is none of the four: the frame begins a message, or may be any piece if some
+-- sub-VL's message is unknown.
 abbrev pub other_sub : List Sub → Sub
 other_sub subs = record {
   joining = if is_some (unknown_place subs) then Any else After None;
@@ -45,7 +45,7 @@ sub_at subs sub = get_or subs sub (other_sub subs)
 abbrev pub number_after : ℕ → ℕ
 number_after number = if nat_eq number 255 then 1 else number + 1
 
--- the number of the next frame; that of the first one is 0, or any one if the recording began late
+-- the number of the next frame; the first one has 0, or any number if the recording began late
 abbrev pub next_number : Bool → Option Last → Option ℕ
 next_number late (Some last) = Some (number_after last.number)
 next_number late None = if late then None else Some 0
@@ -61,11 +61,18 @@ number_deviation late number line = number_unless number (next_number late line.
 abbrev pub gap_since : ℕ → Option Last → Option ℕ
 gap_since at last = option_map (λ (l : Last). at - l.at) last
 
--- a frame is less than a gap after the last one, or before it
+-- A link releases its frames a gap apart or more, and each is recorded at its release or at most the jitter later. A
+-- frame's delay is the longest one that the frames so far leave it: it was released that much before its time, or
+-- later, and the next one a gap after that, or later. The next one is early if that is after its time, and then counts
+-- as released at its time.
 abbrev pub early_since : ℕ → ℕ → Option Last → Option Deviation
 early_since gap at None = None
-early_since gap at (Some last) =
-    if nat_le (last.at + gap) at then None else Some (deviation Early (at - last.at) gap)
+early_since gap at (Some last) = if nat_le (last.at + gap) (at + last.delay) then None
+    else Some (deviation Early (at - last.at) (gap - last.delay))
+
+abbrev pub delay_after : Measure → ℕ → Option Last → ℕ
+delay_after measure at None = measure.jitter
+delay_after measure at (Some last) = min (at + last.delay - (last.at + measure.gap)) measure.jitter
 
 abbrev pub early_deviation : ℕ → ℕ → Line → Option Deviation
 early_deviation gap at line = early_since gap at line.last
@@ -76,7 +83,7 @@ early_deviation gap at line = early_since gap at line.last
 abbrev pub each : (Sub → Sub) → List Sub → List Sub
 each f subs = f (sub_at subs 0) ∷ f (sub_at subs 1) ∷ f (sub_at subs 2) ∷ f (sub_at subs 3) ∷ []
 
--- What lost frames would have changed isn't known.
+-- a sub-VL after frames that may have been lost: nothing is known of its message
 abbrev pub unsettled_sub : Sub → Sub
 unsettled_sub sub = record sub { joining = Any; due = false }
 
@@ -89,7 +96,7 @@ excused_sub sub = record sub { due = false }
 abbrev pub excused : Line → Line
 excused line = record line { subs = each excused_sub line.subs }
 
--- the sub-VL with a piece due of which a frame of another one came already since its last frame
+-- the sub-VL with a piece due, if a frame of another sub-VL already came since its last frame
 abbrev pub due_before : ℕ → List Sub → Option ℕ
 due_before came subs = position (λ (s : Sub). s.due && nat_lt s.came came) subs
 
@@ -102,7 +109,7 @@ turn_if sub due = option_map (deviation Turn sub) due
 abbrev pub turn_deviation : ℕ → Line → Option Deviation
 turn_deviation sub line = turn_if sub (passed_by sub line.subs)
 
--- the line that a frame comes on, after what its number says, and after what its turn says
+-- the line on which a frame is judged: after a finding on its number, and after a finding on its turn
 abbrev pub after_number : Option Deviation → Line → Line
 after_number None line = line
 after_number (Some deviation) line = unsettled line
@@ -113,16 +120,17 @@ after_turn (Some deviation) line = excused line
 
 -- ---- a frame
 
--- a first piece is of a port
+-- the deviation of a first piece that belongs to no port
 abbrev pub port_deviation : Fields → Option PortPlan → Option Deviation
 port_deviation fields port =
     if nat_lt 0 fields.piece.start || is_some port then None else Some (deviation Port fields.flow.source 0)
 
--- the sub-VL of a frame: what this project's formula says of its identification
+-- the sub-VL of a frame, by this project's formula from its identification
 abbrev pub sub_in : Fields → ℕ
 sub_in fields = fields.piece.ident % 4
 
--- By ARINC 664 alone: that of a first piece's port, or that with whose message the piece goes on; 4 if none is known.
+-- By ARINC 664 alone: the sub-VL of a first piece's port, or the sub-VL with the message that the piece continues; 4 if
+-- none is known.
 abbrev pub going_on : Fields → List Sub → Option ℕ
 going_on fields subs = position (λ (s : Sub). goes_on fields s.joining) subs
 
@@ -156,21 +164,26 @@ abbrev pub joining_after : Bool → Option Deviation → Fields → Option PortP
 joining_after arinc (Some deviation) fields port joining = Any
 joining_after arinc None fields port joining = joined arinc fields.piece (head_now port fields joining)
 
-abbrev pub message_after : Option Deviation → Fields → Option PortPlan → Joining → Option Deviation
-message_after (Some deviation) fields port joining = None
-message_after None fields port joining = end_deviation fields.piece (head_now port fields joining)
+abbrev pub message_after : Bool → Option Deviation → Fields → Option PortPlan → Joining → Option Deviation
+message_after arinc (Some deviation) fields port joining = None
+message_after arinc None fields port joining = end_deviation arinc fields.piece (head_now port fields joining)
 
 -- the message of a frame's sub-VL, and how its piece isn't the next one
 abbrev pub joining_on : Arrived → Line → Joining
 joining_on arrived line = (sub_at line.subs arrived.sub).joining
 
 abbrev pub fragment_on : Measure → Arrived → Line → Option Deviation
-fragment_on measure arrived line = fragment_deviation measure.room arrived.fields (joining_on arrived line)
+fragment_on measure arrived line =
+    fragment_deviation measure.arinc measure.room arrived.fields (joining_on arrived line)
 
 -- the line after a frame, after which this is known of its message
-abbrev pub line_joined : Arrived → Joining → Line → Line
-line_joined arrived joining line = record {
-  last = Some (record { number = arrived.fields.number; at = arrived.at });
+abbrev pub line_joined : Measure → Arrived → Joining → Line → Line
+line_joined measure arrived joining line = record {
+  last = Some (record {
+    number = arrived.fields.number;
+    at = arrived.at;
+    delay = delay_after measure arrived.at line.last;
+  });
   figures = figures_with arrived line;
   subs = slice_set line.subs arrived.sub (record {
     joining = joining;
@@ -179,9 +192,9 @@ line_joined arrived joining line = record {
   });
 }
 
--- the same, from the settled line
+-- the line with a frame, from the settled line
 unfoldable pub line_with : Measure → Option PortPlan → Arrived → Line → Line
-line_with measure port arrived line = line_joined arrived
+line_with measure port arrived line = line_joined measure arrived
     (joining_after measure.arinc (fragment_on measure arrived line) arrived.fields port (joining_on arrived line)) line
 
 -- the line on which a frame is judged: after its number, and after its turn
@@ -192,8 +205,8 @@ abbrev pub settled : Measure → Arrived → Line → Line
 settled measure arrived line =
     after_turn (turn_deviation arrived.sub (numbered measure arrived line)) (numbered measure arrived line)
 
--- By ARINC 664 alone messages show the sub-VL of a piece: nothing is known of them after a piece that isn't the next
--- one of any, or is of no port.
+-- By ARINC 664 alone, messages show the sub-VL of a piece: nothing is known of them after a piece that is no message's
+-- next one, or belongs to no port.
 abbrev pub traced_with : Measure → Option PortPlan → Arrived → Line → Line
 traced_with measure port arrived line =
     if measure.arinc && is_some (first_of (port_deviation arrived.fields port) (fragment_on measure arrived line))
@@ -204,9 +217,9 @@ line_after measure port arrived line = traced_with measure port arrived (settled
 
 abbrev pub message_on : Measure → Option PortPlan → Arrived → Line → Option Deviation
 message_on measure port arrived line =
-    message_after (fragment_on measure arrived line) arrived.fields port (joining_on arrived line)
+    message_after measure.arinc (fragment_on measure arrived line) arrived.fields port (joining_on arrived line)
 
--- what is wrong with a frame, of a line
+-- the deviations of a frame on a line
 unfoldable pub verdict : Measure → Option PortPlan → Arrived → Line → Verdict
 verdict measure port arrived line = record {
   number = number_deviation measure.late arrived.fields.number line;

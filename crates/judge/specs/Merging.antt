@@ -6,14 +6,14 @@ use Rattle.capture.specs.ReadBack.{is_of as is_on}
 use Rattle.judge.specs.Judging.{OnNet}
 use Rattle.judge.specs.Types.{Net, Recorded}
 
--- a packet is of a network: any in a capture of that network alone, otherwise those of its interface
+-- a packet belongs to a network: any in a capture of that network alone, otherwise the packets of its interface
 abbrev pub is_of : Bool → Net → Recorded → Bool
 is_of alone net packet = alone || is_on net packet.network
 
 abbrev pub on_net : Net → ℕ → Recorded → OnNet
 on_net net number packet = record { net = net; number = number; packet = packet }
 
--- the packets of a network, with their numbers in the capture, the first of which has this number
+-- the packets of a network, with their numbers in the capture, which count from `number`
 abbrev pub of_net : Bool → Net → ℕ → List Recorded → List OnNet
 of_net alone net number [] = []
 of_net alone net number (p ∷ ps) =
@@ -35,7 +35,7 @@ from_places alone a on_a b on_b =
     merged (λ (p : OnNet). time_of p.packet) (of_net alone A (on_a + 1) (drop on_a a))
     (of_net alone B (on_b + 1) (drop on_b b))
 
--- there is no packet, or the first one is of the network
+-- there is no packet, or the first one belongs to the network
 abbrev pub BeginsOn : Bool → Net → List Recorded → Type 0
 BeginsOn alone net [] = ⊤
 BeginsOn alone net (p ∷ ps) = is_of alone net p ≡ true

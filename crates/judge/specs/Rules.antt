@@ -1,4 +1,4 @@
--- The rules by which a packet is admitted: those that need no state. A packet that breaks one is judged no further.
+-- The rules by which a packet is admitted, all without a state. A packet that breaks one is judged no further.
 use Rattle.std.specs.Prelude.{ℕ, ◌+◌, ◌-◌, ◌==◌, nat_eq, nat_lt, nat_le, ◌&&◌, Bool, if◌then◌else◌, List, length, drop, take, slice_index, position, Option, Some, None, Result, Ok, Err}
 use Rattle.byteorder.specs.Endian.{little_number}
 use Rattle.afdx_plan.specs.Config.{link_plan_at}
@@ -30,7 +30,7 @@ abbrev pub has_four_more : List ℕ → Bool
 has_four_more f = nat_le 64 (length f) && nat_le (length f) 1518
     && nat_eq (length f) (framed (total_length f) + 4)
 
--- bytes that don't seem to have one
+-- bytes that don't seem to have a check sequence
 unfoldable pub unchecked : List ℕ → Result (List ℕ) Refused
 unchecked bytes =
     if has_four_more bytes then Err (refused None (Frame WithCheck) (length bytes) (length bytes - 4)) else Ok bytes
@@ -67,7 +67,8 @@ abbrev pub place_from : Plan → VlId → Net → List ℕ → Result ℕ Refuse
 place_from plan vl net frame =
     on_link plan vl net frame (position (λ (link : LinkPlan). link.id.0 == vl.0) plan.links)
 
--- the place of a frame's link in the plan: it is of the end system, of a link, and on its network
+-- the place of a frame's link in the plan: the plan has the frame's end system and link, and the link is on this
+-- network
 unfoldable pub place_of : Plan → Net → List ℕ → Result ℕ Refused
 place_of plan net frame =
     if nat_eq (word_at frame 9) plan.end_system

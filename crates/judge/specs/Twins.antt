@@ -38,14 +38,15 @@ missing vl w = finding_of w.tag (Some vl) (deviation Missing w.number 0)
 abbrev pub missing_of : VlId → List Wait → List Finding
 missing_of vl ws = map (missing vl) ws
 
--- those that a frame shows to have no twin are findings, but near the edge
+-- true if another frame shows that a waiting one has no twin, and the waiting one isn't near the edge: then it is a
+-- finding
 abbrev pub is_lost : Nearness → Tag → ℕ → Wait → Bool
 is_lost nearness tag number w = is_passed nearness tag number w && not (is_excused nearness w.tag.at)
 
 unfoldable pub found_missing : Nearness → VlId → Tag → ℕ → List Wait → List Finding → List Finding
 found_missing nearness vl tag number ws found = found ++ missing_of vl (filter (is_lost nearness tag number) ws)
 
--- and wait no longer
+-- a waiting frame that another one doesn't show to have no twin, and so waits on
 abbrev pub stays : Nearness → Tag → ℕ → Wait → Bool
 stays nearness tag number w = not (is_passed nearness tag number w)
 
@@ -63,7 +64,7 @@ first_other i [] (y ∷ ys) = Some i
 first_other i (x ∷ xs) [] = Some i
 first_other i (x ∷ xs) (y ∷ ys) = if nat_eq x y then first_other (i + 1) xs ys else Some i
 
--- the same of frames of two networks, but for the interface identifier
+-- the first place at which frames of two networks differ, but for the interface identifier
 unfoldable pub twin_other : List ℕ → List ℕ → Option ℕ
 twin_other a b = option_or (first_other 0 (slice_range a 0 11) (slice_range b 0 11))
     (first_other 12 (slice_range a 12 (length a)) (slice_range b 12 (length b)))
@@ -90,11 +91,11 @@ met tag number frame p (Some w) = record {
   lead = greatest_of p.lead (apart w.tag.at tag.at);
 }
 
--- a frame is put to its twin, or waits
+-- the waiting frames after a frame, which is paired with its twin, or waits
 unfoldable pub pairing_with : Tag → ℕ → List ℕ → Pairing → Pairing
 pairing_with tag number frame p = met tag number frame p (find (is_twin tag number) p.waiting)
 
--- at the end of a recording, at this time
+-- true if a waiting frame has no twin at the end of a recording, at this time, and isn't near the edge
 abbrev pub is_left : Nearness → ℕ → Wait → Bool
 is_left nearness at w = not (is_near nearness w.tag.at at) && not (is_excused nearness w.tag.at)
 

@@ -1,4 +1,4 @@
--- A frame of a link that waits for its twin, and the frames that do.
+-- A frame of a link that waits for its twin, and the waiting frames of a link.
 use Rattle.std.specs.Prelude.{ℕ, List, Option}
 use Rattle.judge.specs.declared.finding.Tag.{Tag}
 
@@ -7,7 +7,7 @@ pub record Wait : Type 0 where
   pub number : ℕ
   pub bytes : List ℕ
 
--- those of both networks, in the order in which they came, and the greatest time between twins so far
+-- the waiting frames of both networks, in the order in which they came, and the greatest time between twins so far
 pub record Pairing : Type 0 where
   pub waiting : List Wait
   pub lead : Option ℕ

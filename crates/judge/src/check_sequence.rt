@@ -5,7 +5,7 @@ ghost use Rattle.judge.specs.CheckSequence.{divided, with_byte, check_sequence};
 // The polynomial, with its highest power in the lowest bit.
 const POLYNOMIAL: u32 = 0xedb8_8320;
 
-/// One division step.
+/// Divides once: one step of the check sequence.
 fn divided(remainder: u32) -> u32
     ensures { result ≡ divided remainder }
 {
@@ -16,7 +16,7 @@ fn divided(remainder: u32) -> u32
     }
 }
 
-/// The remainder with one more byte.
+/// Returns the remainder with one more byte.
 #[tactic(auto, unfolding(crate::specs::CheckSequence::with_byte))]
 fn with_byte(remainder: u32, byte: u8) -> u32
     ensures { result ≡ with_byte remainder byte }
@@ -25,7 +25,7 @@ fn with_byte(remainder: u32, byte: u8) -> u32
     divided(divided(divided(divided(half))))
 }
 
-/// The check sequence of these bytes.
+/// Returns the check sequence of these bytes.
 #[tactic(auto, unfolding(crate::specs::CheckSequence::check_sequence))]
 pub(crate) fn check_sequence(bytes: &[u8]) -> u32
     ensures { result ≡ check_sequence bytes.now }

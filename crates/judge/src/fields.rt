@@ -1,4 +1,4 @@
-//! What a frame of the layout says.
+//! The fields of a frame of the layout.
 ghost use Rattle.std.specs.Prelude.{◌≡◌, ◌≤◌};
 ghost use Rattle.afdx_frame.specs.Profile.{total_length};
 ghost use Rattle.judge.specs.Fields.{fields_of, AreSmall};
@@ -33,7 +33,7 @@ pub(crate) struct PieceIn {
     pub(crate) more: bool,
 }
 
-/// What tells ports apart: the partition and the destination address, and in a first piece the UDP ports.
+/// The fields that tell ports apart: the partition and the destination address, and in a first piece the UDP ports.
 #[derive(Clone, Copy)]
 pub(crate) struct Flow {
     pub(crate) partition: u8,
@@ -42,7 +42,7 @@ pub(crate) struct Flow {
     pub(crate) destination: u16,
 }
 
-/// The fields of a frame of the layout.
+/// Returns the fields of a frame of the layout.
 #[tactic(auto, unfolding(crate::specs::Fields::fields_of))]
 pub(crate) fn fields_of(frame: &[u8]) -> Fields
     requires { IsReadable frame.now }

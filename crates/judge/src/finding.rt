@@ -1,4 +1,4 @@
-//! What a judge finds.
+//! The findings of a judge.
 ghost use Rattle.std.specs.Prelude.{◌≡◌, OnOk};
 ghost use Rattle.judge.specs.Deviations.{kind_number, deviation, finding_of, with_finding};
 
@@ -6,23 +6,24 @@ use afdx_frame::{Layout, Net};
 use afdx_plan::VlId;
 use std::alloc::AllocError;
 
-/// How a frame isn't the next piece of its sub-VL's message.
+/// The ways in which a frame isn't the next piece of its sub-VL's message.
 #[derive(Clone, Copy, Debug, PartialEq, Eq)]
 pub enum FragmentMisfit {
     /// The piece begins at byte `seen` of the datagram; `wanted` is the byte after the piece before it, or 0.
     Offset,
     /// The identification is `seen`, and `wanted` is the message's, or the next message's.
     Identification,
-    /// The addresses aren't those of the message's first piece. Both numbers are 0.
+    /// The piece has other addresses than the message's first piece. Both numbers are 0.
     Addresses,
     /// The piece has `seen` bytes. With more to follow it is `wanted`, the greatest multiple of 8 that fits into a
     /// frame. A last piece has at least `wanted`, since fewer had fitted into the frame before it.
     Length,
-    /// The identification is `seen`, and so is that of the message before. `wanted` is 0. Only by ARINC 664 alone.
+    /// The identification is `seen`, as in the message before; both have more pieces. `wanted` is 0. Only by ARINC 664
+    /// alone.
     Repeated,
 }
 
-/// What is wrong with a message, as its last frame shows.
+/// The faults of a message, as its last frame shows them.
 #[derive(Clone, Copy, Debug, PartialEq, Eq)]
 pub enum Ending {
     /// The UDP length is `seen`, and the datagram has `wanted` bytes.
@@ -33,39 +34,41 @@ pub enum Ending {
     UdpChecksum,
 }
 
-/// What a frame does wrong.
+/// The kinds of findings. Each is about one frame.
 #[derive(Clone, Copy, Debug, PartialEq, Eq)]
 pub enum FindingKind {
-    /// It isn't of the layout.
+    /// The frame doesn't have the layout.
     Frame(Layout),
-    /// It is of end system `seen`, and the plan is of `wanted`.
+    /// The frame's end system is `seen`, and the plan's is `wanted`.
     Source,
-    /// It is of link `seen`, which the plan hasn't. `wanted` is 0.
+    /// The frame's link is `seen`, which isn't in the plan. `wanted` is 0.
     Link,
-    /// Its interface byte is `seen`, and that of the network is `wanted`; 0 if the network doesn't carry the link.
+    /// The interface byte is `seen`, and the network's is `wanted`; 0 if the network doesn't carry the link.
     Network,
-    /// It has `seen` bytes with its check sequence, more than Lmax, which is `wanted`.
+    /// The frame has `seen` bytes with its check sequence, more than Lmax, which is `wanted`.
     Size,
-    /// Its sequence number is `seen`, and the next is `wanted`.
+    /// The sequence number is `seen`, and the next is `wanted`.
     Number,
-    /// It comes `seen` nanoseconds after the frame before it (0 if before it), and should come `wanted` or more.
+    /// The frame comes `seen` nanoseconds after the frame before it (0 if before it), and should come `wanted` or more.
     Early,
-    /// No port has its sub-VL, partition, destination and UDP ports. `seen` is its source UDP port, `wanted` is 0.
+    /// No port has the frame's sub-VL, partition, destination and UDP ports. `seen` is its source UDP port, `wanted` is
+    /// 0.
     Port,
-    /// It isn't the next piece of its sub-VL's message.
+    /// The frame isn't the next piece of its sub-VL's message.
     Fragment(FragmentMisfit),
-    /// It ends a message that is wrong.
+    /// The frame ends a message with a fault.
     Message(Ending),
-    /// It is the second frame of sub-VL `seen` between two pieces of a message of sub-VL `wanted`.
+    /// The frame is the second one of sub-VL `seen` between two pieces of a message of sub-VL `wanted`.
     Turn,
-    /// It differs at byte `seen` from the frame with its number on the other network, packet `wanted` of its file.
+    /// The frame differs at byte `seen` from the frame with its number on the other network, packet `wanted` of its
+    /// file.
     Twin,
-    /// It has no twin on the other network within the skew. `seen` is its sequence number, `wanted` is 0.
+    /// The frame has no twin on the other network within the skew. `seen` is its sequence number, `wanted` is 0.
     Missing,
 }
 
 impl FindingKind {
-    /// The number of the kind, 1 to 13.
+    /// Returns the number of the kind, 1 to 13.
     pub fn number(self) -> u8
         ensures { result ≡ kind_number self }
     {
@@ -87,7 +90,7 @@ impl FindingKind {
     }
 }
 
-/// A finding: what a packet does wrong.
+/// A finding: a packet with its deviation.
 #[derive(Clone, Copy, Debug, PartialEq, Eq)]
 pub struct Finding {
     pub kind: FindingKind,
@@ -95,16 +98,16 @@ pub struct Finding {
     pub packet: u64,
     /// The network on which it was recorded.
     pub net: Net,
-    /// Its time in nanoseconds since 1970; 0 if it has none.
+    /// The packet's time in nanoseconds since 1970; 0 if it has none.
     pub at: u128,
-    /// Its link. None if the frame isn't of the layout, or is of another end system.
+    /// The frame's link. None if the frame doesn't have the layout, or belongs to another end system.
     pub link: Option<VlId>,
-    /// What was seen, and what was wanted: `FindingKind` says which number that is.
+    /// The number that was seen, and the number that was wanted: `FindingKind` says which ones.
     pub seen: u64,
     pub wanted: u64,
 }
 
-/// What is wrong with a frame: a finding without the frame's packet.
+/// The deviation of a frame: a finding without the frame's packet.
 #[derive(Clone, Copy)]
 pub(crate) struct Deviation {
     pub(crate) kind: FindingKind,
@@ -113,7 +116,7 @@ pub(crate) struct Deviation {
 }
 
 impl Deviation {
-    /// A deviation of this kind, and its two numbers.
+    /// Creates a deviation of this kind, with its two numbers.
     pub(crate) fn new(kind: FindingKind, seen: u64, wanted: u64) -> Deviation
         ensures { result ≡ deviation kind seen wanted }
     {
@@ -121,7 +124,7 @@ impl Deviation {
     }
 }
 
-/// Which packet a finding is of.
+/// The packet of a finding.
 #[derive(Clone, Copy)]
 pub(crate) struct Tag {
     pub(crate) packet: u64,
@@ -130,7 +133,7 @@ pub(crate) struct Tag {
 }
 
 impl Tag {
-    /// A finding of the packet.
+    /// Returns a finding of the packet.
     pub(crate) fn finding(&self, link: Option<VlId>, deviation: Deviation) -> Finding
         ensures { result ≡ finding_of self.now link deviation }
     {

@@ -1,14 +1,14 @@
 //! The message of a sub-VL on a network, as its pieces come.
 ghost use Rattle.std.specs.Prelude.{◌≡◌, ◌+◌, ◌%◌, ◌≤◌, length, option_copied};
 ghost use Rattle.judge.specs.Fields.{AreSmall};
-ghost use Rattle.judge.specs.Joining.{address_number, is_towards, is_of_port, port_of, misfit, misfit_if, addresses_deviation, length_deviation, fragment_deviation, goes_on, head_now, right_sum, ending, message_deviation, end_deviation, joined};
+ghost use Rattle.judge.specs.Joining.{address_number, is_towards, is_of_port, port_of, misfit, misfit_if, addresses_deviation, length_deviation, fragment_deviation, goes_on, head_now, right_sum, is_summed, ending, message_deviation, end_deviation, joined};
 ghost use Rattle.afdx_plan.specs.Address.{destination_address};
 
 use crate::fields::{Fields, Flow, PieceIn};
 use crate::finding::{Deviation, Ending, FindingKind, FragmentMisfit};
 use afdx_plan::{PortPlan, UdpSum, VlId};
 
-/// What is known of the message of a sub-VL.
+/// The knowledge of a sub-VL's message.
 #[derive(Clone, Copy)]
 pub(crate) enum Joining {
     /// Nothing: any piece may come.
@@ -21,17 +21,17 @@ pub(crate) enum Joining {
     Within(Open),
 }
 
-/// A message of which more pieces are to come.
+/// A message with more pieces to come.
 #[derive(Clone, Copy)]
 pub(crate) struct Open {
     pub(crate) ident: u16,
-    /// Where the next piece begins.
+    /// The byte at which the next piece begins.
     pub(crate) next: u32,
-    /// What its first piece says. None if that wasn't seen, or is of no port.
+    /// The head from the first piece. None if that wasn't seen, or belongs to no port.
     pub(crate) head: Option<Head>,
 }
 
-/// What the first piece of a message says, and the sum of the words so far.
+/// The head of a message, from its first piece, and the sum of the words so far.
 #[derive(Clone, Copy)]
 pub(crate) struct Head {
     pub(crate) port: PortPlan,
@@ -41,7 +41,7 @@ pub(crate) struct Head {
     pub(crate) sum: u16,
 }
 
-/// The destination address of a port: 224.224 and its link's identifier, if it has no unicast address.
+/// Returns the destination address of a port: 224.224 and its link's identifier, if it has no unicast address.
 fn address_of(port: &PortPlan) -> u32
     ensures { result ≡ address_number (destination_address port.now) }
 {
@@ -51,14 +51,14 @@ fn address_of(port: &PortPlan) -> u32
     }
 }
 
-/// Whether a piece has the partition and the destination of a port.
+/// Returns true if a piece has the partition and the destination of a port.
 fn is_towards(flow: &Flow, port: &PortPlan) -> bool
     ensures { result ≡ is_towards flow.now port.now }
 {
     flow.partition == port.partition && flow.address == address_of(port)
 }
 
-/// Whether a first piece of a link is of a port, of this sub-VL if the identification says so.
+/// Returns true if a first piece of a link belongs to a port, with this sub-VL if the identification gives the sub-VL.
 fn is_of_port(arinc: bool, vl: u16, sub: u8, flow: &Flow, port: &PortPlan) -> bool
     ensures { result ≡ is_of_port arinc vl sub flow.now port.now }
 {
@@ -69,7 +69,7 @@ fn is_of_port(arinc: bool, vl: u16, sub: u8, flow: &Flow, port: &PortPlan) -> bo
         && is_towards(flow, port)
 }
 
-/// The port of a first piece.
+/// Returns the port of a first piece.
 pub(crate) fn port_of<'a>(
     arinc: bool,
     ports: &'a [PortPlan],
@@ -84,14 +84,14 @@ pub(crate) fn port_of<'a>(
         .find(|port| is_of_port(arinc, vl.0, sub, flow, port))
 }
 
-/// A misfit of a piece, and its two numbers.
+/// Returns a misfit of a piece, with its two numbers.
 fn misfit(how: FragmentMisfit, seen: u64, wanted: u64) -> Option<Deviation>
     ensures { result ≡ misfit how seen wanted }
 {
     Some(Deviation::new(FindingKind::Fragment(how), seen, wanted))
 }
 
-/// A misfit, unless a number is the one that is wanted.
+/// Returns a misfit if two numbers differ.
 fn misfit_if(how: FragmentMisfit, wanted: u32, seen: u32) -> Option<Deviation>
     ensures { result ≡ misfit_if how (Some wanted) seen }
 {
@@ -101,7 +101,7 @@ fn misfit_if(how: FragmentMisfit, wanted: u32, seen: u32) -> Option<Deviation>
     misfit(how, seen as u64, wanted as u64)
 }
 
-/// A misfit, unless a piece has the addresses of its message, if they are known.
+/// Returns a misfit if the message's addresses are known and the piece has others.
 fn addresses_deviation(head: Option<Head>, flow: &Flow) -> Option<Deviation>
     ensures { result ≡ addresses_deviation head flow.now }
 {
@@ -111,8 +111,8 @@ fn addresses_deviation(head: Option<Head>, flow: &Flow) -> Option<Deviation>
     }
 }
 
-/// How a piece has another length than the cutting gives it (RFC 791, the example procedure of fragmentation). A frame
-/// that is too long is another finding.
+/// Returns a misfit if a piece has another length than the cutting gives it (RFC 791, the example procedure of
+/// fragmentation). A frame that is too long is another finding.
 #[tactic(auto, unfolding(crate::specs::Joining::length_deviation))]
 fn length_deviation(room: u16, piece: &PieceIn) -> Option<Deviation>
     ensures { result ≡ length_deviation room piece.now }
@@ -132,20 +132,29 @@ fn length_deviation(room: u16, piece: &PieceIn) -> Option<Deviation>
 }
 
 impl Joining {
-    /// How a piece isn't the next one.
+    /// Returns a misfit if a piece isn't the next one. By ARINC 664 alone a message may be cut anywhere.
     #[tactic(auto, unfolding(crate::specs::Joining::fragment_deviation))]
-    pub(crate) fn fragment_deviation(&self, room: u16, fields: &Fields) -> Option<Deviation>
-        ensures { result ≡ fragment_deviation room fields.now self.now }
+    pub(crate) fn fragment_deviation(
+        &self,
+        arinc: bool,
+        room: u16,
+        fields: &Fields,
+    ) -> Option<Deviation>
+        ensures { result ≡ fragment_deviation arinc room fields.now self.now }
     {
         let (start, ident) = (fields.piece.start, fields.piece.ident);
-        let len = length_deviation(room, &fields.piece);
+        let len = if arinc {
+            None
+        } else {
+            length_deviation(room, &fields.piece)
+        };
         match self {
             Joining::Any => len,
             Joining::Between(next) => {
                 let other = misfit_if(FragmentMisfit::Identification, *next as u32, ident as u32);
                 misfit_if(FragmentMisfit::Offset, 0, start).or(other.or(len))
             }
-            Joining::After(Some(before)) if *before == ident => {
+            Joining::After(Some(before)) if fields.piece.more && *before == ident => {
                 let repeated = misfit(FragmentMisfit::Repeated, ident as u64, 0);
                 misfit_if(FragmentMisfit::Offset, 0, start).or(repeated)
             }
@@ -163,7 +172,7 @@ impl Joining {
         }
     }
 
-    /// Whether a piece goes on with a message in progress.
+    /// Returns true if a piece goes on with a message in progress.
     pub(crate) fn goes_on(&self, fields: &Fields) -> bool
         ensures { result ≡ goes_on fields.now self.now }
     {
@@ -176,7 +185,7 @@ impl Joining {
         }
     }
 
-    /// What is known of the message with this piece, the next one, whose port this is if it is a first piece.
+    /// Returns the head of the message after its next piece. `port` is the port of a first piece.
     #[tactic(auto, unfolding(crate::specs::Joining::head_now))]
     pub(crate) fn head_now(&self, port: Option<PortPlan>, fields: &Fields) -> Option<Head>
         requires { AreSmall fields.now }
@@ -205,7 +214,7 @@ impl Joining {
     }
 }
 
-/// The right checksum of a datagram of this length.
+/// Returns the right checksum of a datagram of this length.
 #[tactic(auto, unfolding(afdx_frame::specs::Checksum::udp_checksum))]
 fn right_sum(head: &Head, len: u32) -> u16
     requires { len ≤ 200_000 }
@@ -217,46 +226,56 @@ fn right_sum(head: &Head, len: u32) -> u16
     }
 }
 
-/// What is wrong with a message, and its two numbers.
+/// Returns whether a datagram of this length has the right checksum, whether or not the plan has one.
+#[tactic(auto, unfolding(afdx_frame::specs::Checksum::udp_checksum))]
+fn is_summed(head: &Head, len: u32) -> bool
+    requires { len ≤ 200_000 }
+    ensures { result ≡ is_summed head.now len }
+{
+    head.udp_sum == 0xffff - ((head.sum as u32 + 17 + len) % 0xffff) as u16
+}
+
+/// Returns a fault of a message, with its two numbers.
 fn ending(how: Ending, seen: u64, wanted: u64) -> Option<Deviation>
     ensures { result ≡ ending how seen wanted }
 {
     Some(Deviation::new(FindingKind::Message(how), seen, wanted))
 }
 
-/// What is wrong with a whole message, of a datagram of this length.
+/// Returns the fault of a whole message, if it has one. Its datagram has this length.
 #[tactic(auto, unfolding(crate::specs::Joining::message_deviation))]
-fn message_deviation(head: &Head, len: u32) -> Option<Deviation>
+fn message_deviation(arinc: bool, head: &Head, len: u32) -> Option<Deviation>
     requires { len ≤ 200_000 }
-    ensures { result ≡ message_deviation len head.now }
+    ensures { result ≡ message_deviation arinc len head.now }
 {
     if head.udp_len as u32 != len {
         return ending(Ending::UdpLength, head.udp_len as u64, len as u64);
     }
     let size = len.saturating_sub(8);
-    if size == 0 || size as usize > head.port.max {
+    let least = if arinc { 8 } else { 9 };
+    if len < least || size as usize > head.port.max {
         return ending(Ending::Size, size as u64, head.port.max as u64);
     }
     let wanted = right_sum(head, len);
-    if head.udp_sum == wanted {
+    if head.udp_sum == wanted || arinc && is_summed(head, len) {
         return None;
     }
     ending(Ending::UdpChecksum, head.udp_sum as u64, wanted as u64)
 }
 
-/// What is wrong with the message that a piece ends, if that is known.
-pub(crate) fn end_deviation(piece: &PieceIn, head: Option<Head>) -> Option<Deviation>
+/// Returns the fault of the message that a piece ends, if its head is known.
+pub(crate) fn end_deviation(arinc: bool, piece: &PieceIn, head: Option<Head>) -> Option<Deviation>
     requires start { piece.now.start ≤ 65528 }
     requires len { piece.now.len ≤ 1500 }
-    ensures { result ≡ end_deviation piece.now head }
+    ensures { result ≡ end_deviation arinc piece.now head }
 {
     match head {
-        Some(head) if !piece.more => message_deviation(&head, piece.start + piece.len),
+        Some(head) if !piece.more => message_deviation(arinc, &head, piece.start + piece.len),
         _ => None,
     }
 }
 
-/// What is known after a piece, with what is known of its message.
+/// Returns the knowledge after a piece, with the head of its message.
 pub(crate) fn joined(arinc: bool, piece: &PieceIn, head: Option<Head>) -> Joining
     requires start { piece.now.start ≤ 65528 }
     requires len { piece.now.len ≤ 1500 }
@@ -269,7 +288,7 @@ pub(crate) fn joined(arinc: bool, piece: &PieceIn, head: Option<Head>) -> Joinin
             head,
         })
     } else if arinc {
-        Joining::After(Some(piece.ident))
+        Joining::After((piece.start > 0).then_some(piece.ident))
     } else {
         Joining::Between(piece.ident.wrapping_add(4))
     }

@@ -18,10 +18,10 @@ use capture::Packet;
 use std::alloc::{AllocError, Global};
 use std::marker::Model;
 
-/// What a recording may deviate by, and how it was made. All are zero and false by default.
+/// The tolerances of a judge, and the way the recording was made. All are zero and false by default.
 #[derive(Clone, Copy, Debug, Default, PartialEq, Eq)]
 pub struct Options {
-    /// The time in microseconds by which a gap may be less than the BAG.
+    /// The greatest time in microseconds from a frame's release to its recorded time.
     pub jitter: u64,
     /// The greatest time in microseconds between a frame and its twin.
     pub skew: u64,
@@ -30,13 +30,15 @@ pub struct Options {
     pub late: bool,
     /// Frames were recorded with their check sequence, which is tested.
     pub fcs: bool,
-    /// Frames are judged by ARINC 664 Part 7 alone, as those of other makers: their time to live, type of service and
-    /// padding may be any. Identifications only tell neighbouring messages of a sub-VL apart.
+    /// Frames are judged by ARINC 664 Part 7 alone, as frames of other makers: their time to live, type of service and
+    /// padding may be any, and messages may be cut anywhere, have no bytes, or a checksum that the plan has not.
+    /// Identifications only tell neighbouring messages of a sub-VL apart that are cut.
     pub arinc: bool,
 }
 
-/// A judge of the packets of a recording, by a plan. A packet takes time that doesn't grow with the recording. Memory
-/// is that of the frames that wait for their twins: of each link those of the skew, at most 512 of at most 1,514 bytes.
+/// A judge of the packets of a recording, by a plan. The time for a packet doesn't grow with the recording. Memory
+/// holds the frames that wait for their twins: of each link the frames within the skew, at most 512 of at most 1,514
+/// bytes.
 #[derive(Drop)]
 pub struct Judge {
     config: Config,
@@ -70,7 +72,7 @@ pub(crate) struct Times {
 }
 
 impl Times {
-    /// The times of no packet.
+    /// Creates the times of no packet.
     pub(crate) fn new() -> Times
         ensures { result ≡ no_times }
     {
@@ -80,7 +82,7 @@ impl Times {
         }
     }
 
-    /// The times with one more.
+    /// Returns the times with one more packet.
     pub(crate) fn with(self, at: u128) -> Times
         ensures { result ≡ times_with at self }
     {
@@ -91,7 +93,7 @@ impl Times {
     }
 }
 
-/// How near twins are.
+/// Returns the bounds on twins: the skew, and the time near which frames may have none.
 fn nearness_of(options: &Options, times: &Times) -> Nearness
     ensures { result ≡ nearness_of options.now times.now }
 {
@@ -101,7 +103,7 @@ fn nearness_of(options: &Options, times: &Times) -> Nearness
     }
 }
 
-/// The port of a first piece.
+/// Returns the port of a first piece, and `None` for another piece.
 fn first_port(arinc: bool, ports: &[PortPlan], vl: VlId, fields: &Fields) -> Option<PortPlan>
     ensures { result ≡ first_port arinc ports.now vl fields.now }
 {
@@ -112,7 +114,7 @@ fn first_port(arinc: bool, ports: &[PortPlan], vl: VlId, fields: &Fields) -> Opt
     }
 }
 
-/// The links of a plan, of which nothing came.
+/// Makes the links of a plan, without frames.
 fn make_links(alloc: Global, count: usize, late: bool, arinc: bool) -> Result<Vec<Link>, AllocError>
     ensures { IfOk result (λ links. links.items ≡ replicate count (new_link late arinc)) }
 {
@@ -124,7 +126,7 @@ fn make_links(alloc: Global, count: usize, late: bool, arinc: bool) -> Result<Ve
 }
 
 impl Judge {
-    /// A judge that has seen no packet. Fails only if memory runs out.
+    /// Creates a judge that has seen no packet. Fails only if memory runs out.
     pub fn new(alloc: Global, config: Config, options: Options) -> Result<Judge, AllocError>
         ensures { IfOk result (λ judge. judge ≡ at_start config options) }
     {
@@ -138,30 +140,31 @@ impl Judge {
         })
     }
 
-    /// The plan.
+    /// Returns the plan.
     pub fn config(&self) -> &Config
         ensures { result.now ≡ self.now.plan }
     {
         &self.config
     }
 
-    /// What came of a link on a network, by the link's place in the plan.
+    /// Returns the counts of a link's frames on a network, by the link's place in the plan.
     pub fn figures(&self, link: usize, net: Net) -> Option<Figures>
         ensures { result ≡ figures_on net (slice_get self.now.links link) }
     {
         Some(self.links.get(link)?.line_on(net).figures)
     }
 
-    /// The greatest time in nanoseconds between a frame of a link and its twin, by the link's place in the plan.
+    /// Returns the greatest time in nanoseconds between a frame of a link and its twin, by the link's place in the
+    /// plan.
     pub fn lead(&self, link: usize) -> Option<u128>
         ensures { result ≡ lead_of (slice_get self.now.links link) }
     {
         self.links.get(link)?.twins.lead
     }
 
-    /// Takes a packet that was recorded on a network, and appends what it does wrong, and before that which frames it
-    /// shows to be missing. The packets of each network come in their order. Fails if memory runs out: then nothing
-    /// more can be said of the recording.
+    /// Judges a packet that was recorded on a network: appends the missing frames that it shows, and then its own
+    /// findings. The packets of each network come in their order. Fails if memory runs out: then nothing more can be
+    /// said of the recording.
     #[tactic(auto, unfolding(crate::specs::Judging::after_packet, crate::specs::Judging::found_with_packet, crate::specs::Judging::admitted))]
     pub fn take(
         &mut self,
@@ -194,7 +197,8 @@ impl Judge {
         }
     }
 
-    /// Appends why a packet is judged no further. That frames have their check sequences is appended once.
+    /// Appends the reason for which a packet is judged no further. The finding that frames have their check sequences
+    /// is appended once.
     fn refuse(
         &mut self,
         tag: &Tag,
@@ -234,7 +238,8 @@ impl Judge {
             plan,
             measure: Measure {
                 room: plan.lmax.room(),
-                gap: 1_000 * plan.bag.micros().saturating_sub(self.options.jitter),
+                gap: 1_000 * plan.bag.micros(),
+                jitter: 1_000 * self.options.jitter as u128,
                 late: self.options.late,
                 arinc: self.options.arinc,
             },
@@ -246,8 +251,8 @@ impl Judge {
         link.arrive(&setting, tag, port, frame, &fields, found)
     }
 
-    /// Appends which frames are missing at the end of the recording: those within the skew of its latest packet may
-    /// have no twin.
+    /// Appends the frames missing at the end of the recording: frames within the skew of its latest packet may have no
+    /// twin.
     #[tactic(auto, unfolding(crate::specs::Judging::found_with_end))]
     pub fn end(&self, found: &mut Vec<Finding>) -> Result<(), AllocError>
         ensures { OnOk result (found.new.items ≡ found_with_end self.now found.old.items) }
@@ -258,7 +263,7 @@ impl Judge {
     }
 }
 
-/// Appends which frames of links are missing at the end of the recording, at this time.
+/// Appends the missing frames of links at the end of the recording, at this time.
 fn add_left(
     nearness: &Nearness,
     at: u128,

@@ -1,7 +1,7 @@
 //! A link on a network: its numbers, its gaps and its sub-VLs.
 ghost use Rattle.std.specs.Prelude.{◌≡◌, ◌+◌, ◌≤◌, ◌<◌, ◌%◌, if◌then◌else◌, slice_set, true, false};
 ghost use Rattle.judge.specs.Fields.{AreSmall};
-ghost use Rattle.judge.specs.Lines.{new_sub, new_line, next_number, number_unless, number_deviation, gap_since, early_since, early_deviation, unsettled_sub, unsettled, excused_sub, excused, turn_deviation, due_before, unknown_place, going_on, sub_at, other_sub, port_deviation, sub_in, sub_shown, sub_of, least_of, figures_with, joining_after, message_after, line_joined, line_with, line_after, verdict, after_number, after_turn};
+ghost use Rattle.judge.specs.Lines.{new_sub, new_line, next_number, number_unless, number_deviation, gap_since, early_since, early_deviation, delay_after, unsettled_sub, unsettled, excused_sub, excused, turn_deviation, due_before, unknown_place, going_on, sub_at, other_sub, port_deviation, sub_in, sub_shown, sub_of, least_of, figures_with, joining_after, message_after, line_joined, line_with, line_after, verdict, after_number, after_turn};
 
 use crate::fields::Fields;
 use crate::finding::{Deviation, FindingKind};
@@ -17,24 +17,26 @@ pub(crate) struct Line {
     pub(crate) subs: [Sub; 4],
 }
 
-/// The sequence number and the time in nanoseconds of the last frame of a link on a network.
+/// The sequence number, the time in nanoseconds and the delay of the last frame of a link on a network.
 #[derive(Clone, Copy)]
 pub(crate) struct Last {
     pub(crate) number: u8,
     pub(crate) at: u128,
+    /// The longest delay in nanoseconds that the frame may have had since its release.
+    pub(crate) delay: u128,
 }
 
 /// The state of a sub-VL on a network.
 #[derive(Clone, Copy)]
 pub(crate) struct Sub {
     pub(crate) joining: Joining,
-    /// How many frames of the link had come with its last one, 0 if it has none.
+    /// The number of the link's frames up to the sub-VL's last one, 0 if it has none.
     pub(crate) came: u64,
     /// The next piece of its message is due before a second frame of another sub-VL.
     pub(crate) due: bool,
 }
 
-/// What came of a link on a network: frames of the plan. Counts stop at their greatest value.
+/// Counts of a link's frames on a network, by the plan. A full count stays full.
 #[derive(Clone, Copy, Debug, Default, PartialEq, Eq)]
 pub struct Figures {
     pub frames: u64,
@@ -42,7 +44,7 @@ pub struct Figures {
     pub bytes: u64,
     /// The frames that end a message.
     pub messages: u64,
-    /// The least time in nanoseconds from a frame to the next one, 0 if that was recorded as before it.
+    /// The least time in nanoseconds from a frame to the next one, 0 if the next one has an earlier time.
     pub least_gap: Option<u128>,
 }
 
@@ -56,20 +58,22 @@ pub(crate) struct Arrived {
     pub(crate) sub: u8,
 }
 
-/// What a line judges its frames by.
+/// The measure by which a line judges its frames.
 #[derive(Clone, Copy)]
 pub(crate) struct Measure {
     /// The most bytes of a datagram in a frame.
     pub(crate) room: u16,
-    /// The least gap in nanoseconds.
+    /// The least time in nanoseconds between the releases of two frames.
     pub(crate) gap: u64,
+    /// The greatest time in nanoseconds from a frame's release to its time.
+    pub(crate) jitter: u128,
     /// The recording began after the end system.
     pub(crate) late: bool,
     /// Frames are judged by ARINC 664 Part 7 alone.
     pub(crate) arinc: bool,
 }
 
-/// What a line finds wrong with a frame, in the order of the kinds.
+/// The deviations of a frame on a line, in the order of the kinds.
 #[derive(Clone, Copy)]
 pub(crate) struct Verdict {
     pub(crate) number: Option<Deviation>,
@@ -80,7 +84,7 @@ pub(crate) struct Verdict {
     pub(crate) turn: Option<Deviation>,
 }
 
-/// The number of the next frame, if it is known.
+/// Returns the number of the next frame, if it is known.
 fn next_number(late: bool, last: Option<Last>) -> Option<u8>
     ensures { result ≡ next_number late last }
 {
@@ -92,14 +96,28 @@ fn next_number(late: bool, last: Option<Last>) -> Option<u8>
     }
 }
 
-/// The time since the last frame.
+/// Returns the time since the last frame.
 fn gap_since(at: u128, last: Option<Last>) -> Option<u128>
     ensures { result ≡ gap_since at last }
 {
     Some(at.saturating_sub(last?.at))
 }
 
-/// The lesser of two times, of which either may be missing.
+/// Returns the longest delay that a frame may have had, 0 for an early one.
+fn delay_after(measure: &Measure, at: u128, last: Option<Last>) -> u128
+    ensures { result ≡ delay_after measure.now at last }
+{
+    let Some(last) = last else {
+        return measure.jitter;
+    };
+    let (gap, since) = (measure.gap as u128, at.saturating_sub(last.at));
+    let left = last.delay.saturating_sub(last.at.saturating_sub(at));
+    let left = left.saturating_sub(gap.saturating_sub(since));
+    left.saturating_add(since.saturating_sub(gap))
+        .min(measure.jitter)
+}
+
+/// Returns the lesser of two times. Either may be missing.
 fn least_of(a: Option<u128>, b: Option<u128>) -> Option<u128>
     ensures { result ≡ least_of a b }
 {
@@ -110,7 +128,7 @@ fn least_of(a: Option<u128>, b: Option<u128>) -> Option<u128>
     }
 }
 
-/// A finding, unless a first piece is of a port.
+/// Returns a finding if a first piece belongs to no port of the plan.
 fn port_deviation(fields: &Fields, port: Option<PortPlan>) -> Option<Deviation>
     ensures { result ≡ port_deviation fields.now port }
 {
@@ -120,35 +138,35 @@ fn port_deviation(fields: &Fields, port: Option<PortPlan>) -> Option<Deviation>
     Some(Deviation::new(FindingKind::Port, fields.flow.source as u64, 0))
 }
 
-/// The first sub-VL with a piece due whose last frame came before this one.
+/// Returns the first sub-VL with a piece due whose last frame came before this one.
 fn passed_by(subs: &[Sub], came: u64) -> Option<usize>
     ensures { result ≡ due_before came subs.now }
 {
     subs.iter().position(|s| s.due && s.came < came)
 }
 
-/// The sub-VL that a frame's identification says.
+/// Returns the sub-VL that a frame's identification gives.
 pub(crate) fn sub_in(fields: &Fields) -> u8
     ensures { result ≡ sub_in fields.now }
 {
     (fields.piece.ident % 4) as u8
 }
 
-/// The first sub-VL of whose message nothing is known.
+/// Returns the first sub-VL without knowledge of its message.
 fn unknown_place(subs: &[Sub]) -> Option<usize>
     ensures { result ≡ unknown_place subs.now }
 {
     subs.iter().position(|s| matches!(s.joining, Joining::Any))
 }
 
-/// The first sub-VL with whose message a piece goes on.
+/// Returns the first sub-VL with a message that a piece continues.
 fn going_on(fields: &Fields, subs: &[Sub]) -> Option<usize>
     ensures { result ≡ going_on fields.now subs.now }
 {
     subs.iter().position(|s| s.joining.goes_on(fields))
 }
 
-/// The four sub-VLs with this one, if it is one of them.
+/// Returns the four sub-VLs with `after` in the place of `sub`, if that is below 4.
 fn with_sub(subs: [Sub; 4], sub: u8, after: Sub) -> [Sub; 4]
     ensures { result ≡ slice_set subs sub after }
 {
@@ -159,7 +177,8 @@ fn with_sub(subs: [Sub; 4], sub: u8, after: Sub) -> [Sub; 4]
     subs
 }
 
-/// What is known of a message after a frame that fits so, and what is wrong with the message that it ends.
+/// Returns the knowledge of a message after a frame with this misfit, if any, and the fault of the message that it
+/// ends.
 fn ended(
     arinc: bool,
     fragment: Option<Deviation>,
@@ -169,7 +188,7 @@ fn ended(
 ) -> (Joining, Option<Deviation>)
     requires { AreSmall fields.now }
     ensures after { result.0 ≡ joining_after arinc fragment fields.now port joining.now }
-    ensures message { result.1 ≡ message_after fragment fields.now port joining.now }
+    ensures message { result.1 ≡ message_after arinc fragment fields.now port joining.now }
 {
     if fragment.is_some() {
         return (Joining::Any, None);
@@ -177,12 +196,12 @@ fn ended(
     let head = joining.head_now(port, fields);
     (
         joined(arinc, &fields.piece, head),
-        end_deviation(&fields.piece, head),
+        end_deviation(arinc, &fields.piece, head),
     )
 }
 
 impl Sub {
-    /// A sub-VL of which nothing came.
+    /// Creates a sub-VL without frames.
     fn new(late: bool, arinc: bool, sub: u16) -> Sub
         ensures { result ≡ new_sub late arinc sub }
     {
@@ -200,7 +219,7 @@ impl Sub {
         }
     }
 
-    /// The sub-VL, with no piece due. After a loss nothing is known of its message.
+    /// Returns the sub-VL, with no piece due. After a loss nothing is known of its message.
     fn undue(&self, lost: bool) -> Sub
         ensures { result ≡ (if lost then unsettled_sub self.now else excused_sub self.now) }
     {
@@ -213,7 +232,7 @@ impl Sub {
 }
 
 impl Line {
-    /// A line of which nothing came.
+    /// Creates a line without frames.
     pub(crate) fn new(late: bool, arinc: bool) -> Line
         ensures { result ≡ new_line late arinc }
     {
@@ -225,7 +244,7 @@ impl Line {
         }
     }
 
-    /// A finding, if a frame has another sequence number than the next.
+    /// Returns a finding if a frame doesn't have the next sequence number.
     fn number_deviation(&self, late: bool, number: u8) -> Option<Deviation>
         ensures { result ≡ number_deviation late number self.now }
     {
@@ -236,19 +255,22 @@ impl Line {
         Some(Deviation::new(FindingKind::Number, number as u64, wanted as u64))
     }
 
-    /// A finding, if a frame comes less than a gap after the last one, or before it.
+    /// Returns a finding if a frame comes before each release time that the earlier frames leave it.
     fn early_deviation(&self, gap: u64, at: u128) -> Option<Deviation>
         ensures { result ≡ early_deviation gap at self.now }
     {
         let last = self.last?;
-        let since = at.saturating_sub(last.at);
-        if last.at <= at && gap as u128 <= since {
+        let (gap, since) = (gap as u128, at.saturating_sub(last.at));
+        let before = last.at.saturating_sub(at);
+        if before <= last.delay && gap.saturating_sub(since) <= last.delay - before {
             return None;
         }
-        Some(Deviation::new(FindingKind::Early, since as u64, gap))
+        let wanted = gap.saturating_sub(last.delay);
+        Some(Deviation::new(FindingKind::Early, since as u64, wanted as u64))
     }
 
-    /// The line after a finding, if there is one: no piece is due, and after a loss nothing is known of messages.
+    /// Returns the line after a finding, if there is one: no piece is due, and after a loss nothing is known of
+    /// messages.
     fn after(&self, finding: Option<Deviation>, lost: bool) -> Line
         ensures number { lost ≡ true → result ≡ after_number finding self.now }
         ensures turn { lost ≡ false → result ≡ after_turn finding self.now }
@@ -269,7 +291,7 @@ impl Line {
         }
     }
 
-    /// A finding, if a frame of a sub-VL is the second one before a piece of another that is due.
+    /// Returns a finding if a frame is the second one of its sub-VL before a due piece of another sub-VL.
     fn turn_deviation(&self, sub: u8) -> Option<Deviation>
         ensures { result ≡ turn_deviation sub self.now }
     {
@@ -277,7 +299,7 @@ impl Line {
         Some(Deviation::new(FindingKind::Turn, sub as u64, due as u64))
     }
 
-    /// The sub-VL of a frame; of a frame of none of the four, what is known of it.
+    /// Returns the state of a frame's sub-VL, or a state for a frame whose sub-VL isn't known.
     fn sub(&self, sub: u8) -> Sub
         ensures { result ≡ sub_at self.now.subs sub }
     {
@@ -294,7 +316,7 @@ impl Line {
         }
     }
 
-    /// The sub-VL of a frame, of this port if it is a first piece; 4 if it isn't known.
+    /// Returns the sub-VL of a frame; `port` is the port of a first piece. 4 if the sub-VL isn't known.
     pub(crate) fn sub_of(&self, measure: &Measure, port: Option<PortPlan>, fields: &Fields) -> u8
         ensures { result ≡ sub_of measure.now port fields.now self.now }
     {
@@ -308,7 +330,7 @@ impl Line {
         }
     }
 
-    /// The figures with one more frame.
+    /// Returns the figures with one more frame.
     fn figures_with(&self, arrived: &Arrived) -> Figures
         ensures { result ≡ figures_with arrived.now self.now }
     {
@@ -322,9 +344,9 @@ impl Line {
         }
     }
 
-    /// The line with a frame, after which this is known of its message.
-    fn with(&self, arrived: &Arrived, joining: Joining) -> Line
-        ensures { result ≡ line_joined arrived.now joining self.now }
+    /// Returns the line with one more frame, after which `joining` is known of its message.
+    fn with(&self, measure: &Measure, arrived: &Arrived, joining: Joining) -> Line
+        ensures { result ≡ line_joined measure.now arrived.now joining self.now }
     {
         let figures = self.figures_with(arrived);
         let after = Sub {
@@ -336,13 +358,14 @@ impl Line {
             last: Some(Last {
                 number: arrived.fields.number,
                 at: arrived.at,
+                delay: delay_after(measure, arrived.at, self.last),
             }),
             figures,
             subs: with_sub(self.subs, arrived.sub, after),
         }
     }
 
-    /// Takes a frame, of this port if it is a first piece, and returns what is wrong with it.
+    /// Takes a frame, and returns its deviations. `port` is the port of a first piece.
     #[tactic(auto, unfolding(crate::specs::Lines::line_after, crate::specs::Lines::line_with, crate::specs::Lines::verdict))]
     pub(crate) fn take(
         &mut self,
@@ -361,11 +384,11 @@ impl Line {
         let turn = numbered.turn_deviation(arrived.sub);
         let settled = numbered.after(turn, false);
         let joining = settled.sub(arrived.sub).joining;
-        let fragment = joining.fragment_deviation(measure.room, fields);
+        let fragment = joining.fragment_deviation(measure.arinc, measure.room, fields);
         let (after, message) = ended(measure.arinc, fragment, fields, port, &joining);
         let port = port_deviation(fields, port);
         let stray = port.or(fragment);
-        let line = settled.with(arrived, after);
+        let line = settled.with(measure, arrived, after);
         *self = if measure.arinc {
             line.after(stray, true)
         } else {

@@ -23,7 +23,7 @@ pub(crate) struct Link {
     pub(crate) twins: Twins,
 }
 
-/// What the frames of a link are judged by.
+/// The plan of a link, and the measures by which its frames are judged.
 #[derive(Clone, Copy)]
 pub(crate) struct Setting {
     pub(crate) plan: LinkPlan,
@@ -51,7 +51,7 @@ fn add_verdict(
     Ok(())
 }
 
-/// Whether both networks carry a link.
+/// Returns true if both networks carry a link.
 fn is_both(link: &LinkPlan) -> bool
     ensures { result ≡ is_both link.now.networks }
 {
@@ -59,7 +59,7 @@ fn is_both(link: &LinkPlan) -> bool
 }
 
 impl Link {
-    /// A link of which nothing came.
+    /// Creates a link without frames.
     pub(crate) fn new(alloc: Global, late: bool, arinc: bool) -> Link
         ensures { result ≡ new_link late arinc }
     {
@@ -70,7 +70,7 @@ impl Link {
         }
     }
 
-    /// Gives up the frames that a frame shows to have no twin, and appends them.
+    /// Removes the waiting frames that a frame shows to have no twin, and appends their findings.
     fn give_up(
         &mut self,
         setting: &Setting,
@@ -89,7 +89,7 @@ impl Link {
         Ok(())
     }
 
-    /// Puts a frame to its twin, and appends how it differs.
+    /// Pairs a frame with its twin, and appends their difference.
     fn pair(
         &mut self,
         setting: &Setting,
@@ -110,7 +110,7 @@ impl Link {
         Ok(())
     }
 
-    /// The line of a network.
+    /// Returns the line of a network.
     pub(crate) fn line_on(&self, net: Net) -> &Line
         ensures { result.now ≡ line_on net self.now }
     {
@@ -139,7 +139,7 @@ impl Link {
         }
     }
 
-    /// Takes a frame, and appends what it shows to be missing and what it does wrong.
+    /// Takes a frame, and appends the missing frames that it shows and its own findings.
     #[tactic(auto, unfolding(crate::specs::Judging::link_after, crate::specs::Judging::found_on_link))]
     pub(crate) fn arrive(
         &mut self,

@@ -11,7 +11,8 @@ use afdx_plan::Config;
 use capture::{Packet, next_net};
 use std::alloc::{AllocError, Global};
 
-/// Whether a packet is of a network: any in a capture of that network alone, otherwise those of its interface.
+/// Returns true if a packet belongs to a network: any in a capture of that network alone, otherwise the packets of its
+/// interface.
 fn is_of(alone: bool, net: Net, packet: &Packet<'_>) -> bool
     ensures { result ≡ is_of alone net (recorded packet.now) }
 {
@@ -21,7 +22,7 @@ fn is_of(alone: bool, net: Net, packet: &Packet<'_>) -> bool
     }
 }
 
-/// The time by which the first packet is merged: 0 if none was recorded.
+/// Returns the time by which the first packet is merged: 0 if none was recorded.
 fn first_time(packets: &[Packet<'_>]) -> Option<u128>
     ensures value { result ≡ first_time (map recorded packets.now) }
     ensures some { IsSome result → 0 < length packets.now }
@@ -30,7 +31,7 @@ fn first_time(packets: &[Packet<'_>]) -> Option<u128>
     Some(first.at.unwrap_or(0))
 }
 
-/// The place of the first packet of a network from a place on, or the number of all packets if there is none.
+/// Returns the place of the first packet of a network from a place on, or the number of all packets if there is none.
 #[tactic(auto, using(crate::proofs::Places::at_place))]
 fn place_from(packets: &[Packet<'_>], from: usize, alone: bool, net: Net) -> usize
     requires { from ≤ length packets.now }
@@ -47,10 +48,10 @@ fn place_from(packets: &[Packet<'_>], from: usize, alone: bool, net: Net) -> usi
     place
 }
 
-/// What is wrong with the packets of two networks, by the plan of their end system: with `alone` the packets `a` of a
-/// capture of network A alone and `b` of one of B, otherwise twice those of a capture of both. The packets of a network
-/// stay in their order; of two networks' the earlier one comes first, and A's at one time. Fails only if memory runs
-/// out.
+/// Judges the packets of two networks by the plan of their end system, and returns the findings. With `alone`, `a` is a
+/// capture of network A alone and `b` one of B; otherwise both are the same capture of both networks. The packets of a
+/// network stay in their order; of two networks' the earlier one comes first, and A's at one time. Fails only if memory
+/// runs out.
 #[tactic(auto, using(crate::proofs::Places::rest_is))]
 pub fn judge_packets<'a>(
     alloc: Global,

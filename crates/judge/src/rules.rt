@@ -1,4 +1,4 @@
-//! The rules by which a packet is admitted: those that need no state.
+//! The rules by which a packet is admitted, all without a state.
 ghost use Rattle.std.specs.Prelude.{◌≡◌, ◌<◌, ◌≤◌, length, IfOk, IfErr};
 ghost use Rattle.afdx_plan.specs.Config.{link_plan_at};
 ghost use Rattle.capture.specs.Recording.{recorded};
@@ -17,15 +17,15 @@ use afdx_plan::{Config, LinkPlan, VlId};
 use byteorder::{ByteOrder, LittleEndian};
 use capture::Packet;
 
-/// Why a packet is judged no further.
+/// The reason for which a packet is judged no further.
 #[derive(Clone, Copy)]
 pub(crate) struct Refused {
     pub(crate) deviation: Deviation,
-    /// Its link, if it is known.
+    /// The packet's link, if it is known.
     pub(crate) link: Option<VlId>,
 }
 
-/// A refusal, and its two numbers.
+/// Returns a refusal, with its two numbers.
 fn refusal(link: Option<VlId>, kind: FindingKind, seen: u64, wanted: u64) -> Refused
     ensures { result ≡ refused link kind seen wanted }
 {
@@ -35,7 +35,7 @@ fn refusal(link: Option<VlId>, kind: FindingKind, seen: u64, wanted: u64) -> Ref
     }
 }
 
-/// The bytes without their check sequence, the last four bytes, which is right.
+/// Returns the bytes without their last four, if these are the right check sequence.
 #[tactic(auto, unfolding(crate::specs::Rules::checked))]
 fn checked(bytes: &[u8]) -> Result<&[u8], Refused>
     ensures ok { IfOk result (λ frame. checked bytes.now ≡ Ok frame.now) }
@@ -60,7 +60,7 @@ fn checked(bytes: &[u8]) -> Result<&[u8], Refused>
     Err(refusal(None, kind, seen as u64, wanted as u64))
 }
 
-/// Whether a frame has four bytes more than its total length says, as one with its check sequence has.
+/// Returns true if a frame has four bytes more than its total length says, as one with its check sequence has.
 fn has_four_more(frame: &[u8]) -> bool
     ensures { result ≡ has_four_more frame.now }
 {
@@ -68,7 +68,7 @@ fn has_four_more(frame: &[u8]) -> bool
     len >= 64 && len <= 1518 && len == framed(word_at(frame, field::TOTAL_LENGTH) as usize) + 4
 }
 
-/// Bytes that don't seem to have a check sequence.
+/// Returns the bytes, if they don't seem to have a check sequence.
 #[tactic(auto, unfolding(crate::specs::Rules::unchecked))]
 fn unchecked(bytes: &[u8]) -> Result<&[u8], Refused>
     ensures ok { IfOk result (λ frame. unchecked bytes.now ≡ Ok frame.now) }
@@ -81,7 +81,8 @@ fn unchecked(bytes: &[u8]) -> Result<&[u8], Refused>
     Ok(bytes)
 }
 
-/// The frame of a packet, which is whole and of the layout. A check sequence is tested, and left out.
+/// Returns the frame of a packet, if the packet is whole and the frame has the layout. A check sequence is tested, and
+/// left out.
 #[tactic(auto, unfolding(crate::specs::Rules::frame_in))]
 pub(crate) fn frame_in<'a>(packet: &Packet<'a>, options: &Options) -> Result<&'a [u8], Refused>
     ensures ok { IfOk result (λ frame. frame_in options.now (recorded packet.now) ≡ Ok frame.now) }
@@ -109,7 +110,7 @@ pub(crate) fn frame_in<'a>(packet: &Packet<'a>, options: &Options) -> Result<&'a
     }
 }
 
-/// The interface identifier that a link's frame has on a network, 0 if the network doesn't carry it.
+/// Returns the interface identifier that a link's frame has on a network, 0 if the network doesn't carry it.
 fn interface_on(link: &LinkPlan, net: Net) -> u8
     ensures { result ≡ interface_on link.now net }
 {
@@ -120,7 +121,8 @@ fn interface_on(link: &LinkPlan, net: Net) -> u8
     }
 }
 
-/// The place of a frame's link in the plan: it is of the plan's end system, of a link of the plan, and on its network.
+/// Returns the place of a frame's link in the plan, if the plan has the frame's end system and link, and the link is on
+/// this network.
 #[tactic(auto, unfolding(crate::specs::Rules::place_of))]
 pub(crate) fn place_of(config: &Config, net: Net, frame: &[u8]) -> Result<usize, Refused>
     requires { 60 ≤ length frame.now }
@@ -145,7 +147,7 @@ pub(crate) fn place_of(config: &Config, net: Net, frame: &[u8]) -> Result<usize,
     Ok(place)
 }
 
-/// A finding, if a frame is longer than its link's Lmax, with its check sequence.
+/// Returns a finding if a frame is longer than its link's Lmax, with its check sequence.
 pub(crate) fn size_deviation(link: &LinkPlan, len: u64) -> Option<Deviation>
     requires { len ≤ 1514 }
     ensures { result ≡ size_deviation link.now len }

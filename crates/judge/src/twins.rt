@@ -1,4 +1,4 @@
-//! The frames of a link that one network has and the other hasn't yet.
+//! The frames of a link that one network has carried and the other hasn't yet.
 ghost use Rattle.std.specs.Prelude.{◌≡◌, ◌+◌, ◌^◌, ◌≤◌, ◌<◌, find, position, length, OnOk, IfOk, None, []};
 ghost use Rattle.judge.specs.Waiting.{Wait, Pairing};
 ghost use Rattle.judge.specs.Twins.{apart, is_near, is_excused, same_net, is_passed, kept, is_lost, is_left, is_twin, missing, found_missing, left_waiting, first_other, twin_other, other_at, twin_deviation, greatest_of, pairing_with, found_at_end};
@@ -29,7 +29,7 @@ impl Model for Waiting {
 }
 
 /// The frames of a link that wait for their twins, in the order in which they came. Each came within the skew of the
-/// link's last frame, and no network has two of one number: so they are at most 512, and at most those that the
+/// link's last frame, and no network has two of one number: so they are at most 512, and at most as many as the
 /// networks send within the skew.
 #[derive(Drop)]
 pub(crate) struct Twins {
@@ -46,7 +46,7 @@ impl Model for Twins {
     ghost view = { λ t. record { waiting = t.waiting.items; lead = t.lead } };
 }
 
-/// How near in time twins are, and near which time frames may have none.
+/// The greatest time between twins, and the time near which frames may have none.
 #[derive(Clone, Copy)]
 pub(crate) struct Nearness {
     /// The skew in nanoseconds.
@@ -55,14 +55,14 @@ pub(crate) struct Nearness {
     pub(crate) edge: Option<u128>,
 }
 
-/// The time between two times.
+/// Returns the time between two times.
 fn apart(a: u128, b: u128) -> u128
     ensures { result ≡ apart a b }
 {
     if a < b { b - a } else { a - b }
 }
 
-/// Whether two networks are one.
+/// Returns true if two networks are one.
 fn same_net(a: Net, b: Net) -> bool
     ensures { result ≡ same_net a b }
 {
@@ -70,14 +70,14 @@ fn same_net(a: Net, b: Net) -> bool
 }
 
 impl Nearness {
-    /// Whether two times are within the skew.
+    /// Returns true if two times are within the skew.
     fn is_near(&self, a: u128, b: u128) -> bool
         ensures { result ≡ is_near self.now a b }
     {
         apart(a, b) <= self.skew
     }
 
-    /// Whether a frame of this time may have no twin.
+    /// Returns true if a frame of this time may have no twin.
     fn is_excused(&self, at: u128) -> bool
         ensures { result ≡ is_excused self.now at }
     {
@@ -88,7 +88,7 @@ impl Nearness {
     }
 }
 
-/// The first place at which bytes differ, counted from this one.
+/// Returns the first place at which bytes differ, counted from `from`.
 fn first_other(from: usize, a: &[u8], b: &[u8]) -> Option<usize>
     requires { from ≤ 12 }
     ensures { result ≡ first_other from a.now b.now }
@@ -108,7 +108,7 @@ fn first_other(from: usize, a: &[u8], b: &[u8]) -> Option<usize>
     if rest_b.len() == 0 { None } else { Some(place) }
 }
 
-/// The first place at which frames of two networks differ, beside the interface identifier.
+/// Returns the first place at which frames of two networks differ, beside the interface identifier.
 #[tactic(auto, unfolding(crate::specs::Twins::twin_other))]
 fn twin_other(a: &[u8], b: &[u8]) -> Option<usize>
     requires a { 12 ≤ length a.now }
@@ -122,7 +122,7 @@ fn twin_other(a: &[u8], b: &[u8]) -> Option<usize>
 }
 
 impl Waiting {
-    /// Whether a frame of this network, time and number shows that this one has no twin.
+    /// Returns true if a frame with this tag and number shows that the waiting frame has no twin.
     fn is_passed(&self, nearness: &Nearness, tag: &Tag, number: u8) -> bool
         ensures { result ≡ is_passed nearness.now tag.now number self.now }
     {
@@ -130,28 +130,28 @@ impl Waiting {
             || (same_net(self.tag.net, tag.net) && self.number == number)
     }
 
-    /// Whether that it has no twin is a finding.
+    /// Returns true if a frame with this tag and number makes the missing twin a finding.
     fn is_lost(&self, nearness: &Nearness, tag: &Tag, number: u8) -> bool
         ensures { result ≡ is_lost nearness.now tag.now number self.now }
     {
         self.is_passed(nearness, tag, number) && !nearness.is_excused(self.tag.at)
     }
 
-    /// Whether the end of the recording, at this time, shows that this one has no twin, as a finding.
+    /// Returns true if the end of the recording, at this time, makes the missing twin a finding.
     fn is_left(&self, nearness: &Nearness, at: u128) -> bool
         ensures { result ≡ is_left nearness.now at self.now }
     {
         !nearness.is_near(self.tag.at, at) && !nearness.is_excused(self.tag.at)
     }
 
-    /// Whether it is the frame with this number of the other network.
+    /// Returns true if the waiting frame has this number and the other network than the tag.
     fn is_twin(&self, tag: &Tag, number: u8) -> bool
         ensures { result ≡ is_twin tag.now number self.now }
     {
         !same_net(self.tag.net, tag.net) && self.number == number
     }
 
-    /// That the frame has no twin.
+    /// Returns the finding that the frame has no twin.
     fn missing(&self, vl: VlId) -> Finding
         ensures { result ≡ missing vl self.now }
     {
@@ -159,7 +159,7 @@ impl Waiting {
         self.tag.finding(Some(vl), deviation)
     }
 
-    /// How its twin on the other network differs.
+    /// Returns a finding if the twin on the other network differs.
     fn deviation(&self, frame: &[u8]) -> Option<Deviation>
         requires { 12 ≤ length frame.now }
         ensures { result ≡ other_at self.now (twin_other self.now.bytes frame.now) }
@@ -169,14 +169,14 @@ impl Waiting {
     }
 }
 
-/// Keeps the frames that a frame doesn't show to have no twin.
+/// Keeps the waiting frames that may still have a twin after a frame.
 fn keep(waiting: &mut Vec<Waiting>, nearness: &Nearness, tag: &Tag, number: u8)
     ensures { waiting.new.items ≡ kept nearness.now tag.now number waiting.old.items }
 {
     waiting.retain(|w| !w.is_passed(nearness, tag, number));
 }
 
-/// The greater of two times, of which the first may be missing.
+/// Returns the greater of two times. The first may be missing.
 fn greatest_of(a: Option<u128>, b: u128) -> Option<u128>
     ensures { result ≡ greatest_of a b }
 {
@@ -187,7 +187,7 @@ fn greatest_of(a: Option<u128>, b: u128) -> Option<u128>
 }
 
 impl Twins {
-    /// No frame waits.
+    /// Creates the twins of a link without frames.
     pub(crate) fn new(alloc: Global) -> Twins
         ensures { result ≡ record { waiting = []; lead = None } }
     {
@@ -197,7 +197,7 @@ impl Twins {
         }
     }
 
-    /// Gives up the frames that a frame shows to have no twin, and appends them.
+    /// Removes the waiting frames that a frame shows to have no twin, and appends their findings.
     #[tactic(auto, unfolding(crate::specs::Twins::found_missing, crate::specs::Twins::left_waiting))]
     pub(crate) fn give_up(
         &mut self,
@@ -221,14 +221,14 @@ impl Twins {
         Ok(())
     }
 
-    /// The place of a frame's twin among those that wait.
+    /// Returns the place of a frame's twin among the waiting frames.
     fn place(&self, tag: &Tag, number: u8) -> Option<usize>
         ensures { result ≡ position (is_twin tag.now number) self.now.waiting }
     {
         self.waiting.iter().position(|w| w.is_twin(tag, number))
     }
 
-    /// Puts a frame to its twin, and returns how it differs. A frame without one waits.
+    /// Pairs a frame with its twin, and returns their difference. A frame without a twin waits.
     #[tactic(auto, using(crate::proofs::Pairs::first_is, crate::proofs::Pairs::place_is, crate::proofs::Pairs::none_is), unfolding(crate::specs::Twins::pairing_with, crate::specs::Twins::twin_deviation))]
     pub(crate) fn meet(
         &mut self,

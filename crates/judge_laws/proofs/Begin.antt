@@ -180,7 +180,7 @@ line_is_new plan options k net inside = rw (link_is_new plan options k inside) (
     by B = refl
 
 -- a judge of which each network's frames `rest` are to come
-module _ (plan : Plan) (accepted : Accepted) (a b : List Entry) (options : Options) (origin : ℕ) (before rest : Net → List Entry)
+module _ (plan : Plan) (accepted : Accepted) (a b : List Entry) (options : Options) (origin : Net → ℕ) (before rest : Net → List Entry)
     (sent : IsSent plan accepted a b) (whole : (net : Net) → handed_to a b net ≡ before net ++ rest net)
     (first : (net : Net) → options.late ≡ false → before net ≡ []) where
   legal : (net : Net) → IsLegalOn plan accepted net (before net ++ rest net)
@@ -190,7 +190,7 @@ module _ (plan : Plan) (accepted : Accepted) (a b : List Entry) (options : Optio
   going_begins = record {
     size = length-replicate (length plan.links) (new_link options.late false);
     known = λ net. known_on plan.links net (before net) (rest net) (legal net).known;
-    lines = λ k inside net. rw (line_is_new plan options k net inside) (line_begins plan accepted k origin options net (before net) (rest net)
+    lines = λ k inside net. rw (line_is_new plan options k net inside) (line_begins plan accepted k (origin net) options net (before net) (rest net)
         sent.valid inside (legal net) sent.allowed (subst (TakeTurnsOn plan) (whole net) (sent_on plan accepted a b sent net).1 k inside) (first net));
   }
 
@@ -221,8 +221,8 @@ all_given_up : (setting : Setting) (tag : Tag) (number : ℕ) (link : Link) (fou
 unfolding found_missing
 all_given_up setting tag number link found all = grind (arith, cases_Bool, all_missing)
 
-goes_on : (plan : Plan) (origin : ℕ) (options : Options) (times : Times) (told : Bool) (links : List Link) (recording : List OnNet)
-    (after rest : Net → List Entry) (found : List Finding) → IsPlan plan → AreFit plan options → IsGoing plan origin options links rest
+goes_on : (plan : Plan) (origin : Net → ℕ) (options : Options) (times : Times) (told : Bool) (links : List Link) (recording : List OnNet)
+    (after rest : Net → List Entry) (found : List Finding) → IsPlan plan → AreFit plan options origin → IsGoing plan origin options links rest
     → AreTwins plan (AreCopied plan origin options) links rest → AreRecorded origin options after rest recording → All IsMissing found
     → All IsMissing (found_from recording (judge_of plan options times told links) found)
 unfolding found_with_end
@@ -230,7 +230,7 @@ goes_on plan origin options times told links [] after rest found valid fit is tw
     left_missing _ _ plan.links links found all
 goes_on plan origin options times told links (p ∷ ps) after rest found valid fit is twins zip all =
     let next = recorded_next origin options after rest p ps zip in
-    let t = packet_taken plan origin options times told links p.net p.number p.packet next.first next.later rest valid fit is next.is
+    let t = packet_taken plan origin options times told links p.net p.number p.packet next.first next.later rest valid is next.is
     next.recorded in
     let met = copies_go_on plan origin options times told links p.net p.number p.packet next.first next.later rest fit next.is t twins in
     rw (t.after, t.found found met.0) (goes_on plan origin options (times_with t.at times) told t.new ps after (rest_after p.net next.later rest) _ valid fit
@@ -249,7 +249,7 @@ no_false_alarm_holds plan accepted a b options origin recording sent fit recorde
     (copies_begin plan accepted a b options origin (λ net. (run net).before) rest sent (λ net. (run net).whole) (λ net. (run net).first))
     (λ net. record { recorded = (run net).recorded; whole = refl; each = (run net).each }) (All-nil IsMissing))
   where
-    run : (net : Net) → IsRunOf origin options (handed_to a b net) (packets_of net recording)
+    run : (net : Net) → IsRunOf (origin net) options (handed_to a b net) (packets_of net recording)
     run A = recorded.of_a
     run B = recorded.of_b
 

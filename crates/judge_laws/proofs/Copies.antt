@@ -1,6 +1,6 @@
 -- A link's stream on two networks: frames with one number that are less than 255 gaps apart are copies of one frame, so
 -- no frame differs from one that waits for it.
-use Rattle.judge_laws.proofs.Names.{All, All-append, All-contains, All-filter, All-head, All-map, All-push, All-tail, Bool, Entry, Finding, IsNumbered, IsSpaced, Link, List, Nearness, Net, None, Option, Options, Pairing, Plan, Recorded, Some, Stamp, Tag, Times, VlId, Wait, arith, bag_micros, cases_lt, drop-set-lt, entry, entry_number, filter_passes, find, first_other, get_or, get_or-map, get_or-take, interface_byte, is_both, is_twin, kept, left_waiting, length, length-map, length-set, length-take, link_at, link_plan_at, link_stream, map, missing, missing_of, nat_tests, number_in, numbered_at, pairing_with, refl, sequence_number, side, slice_range, stamp_of, stays, suc, sym, tag_of, take, take-set-le, true, twin_deviation, twin_number, twin_of, twin_other, zero, ℕ, [], ◌*◌, ◌++◌, ◌+◌, ◌-◌, ◌<◌, ◌∙◌, ◌∷◌, ◌≡◌, ◌≤◌, AreFit, IsMissing}
+use Rattle.judge_laws.proofs.Names.{A, B, lag_of, All, All-append, All-contains, All-filter, All-head, All-map, All-push, All-tail, Bool, Entry, Finding, IsNumbered, IsSpaced, Link, List, Nearness, Net, None, Option, Options, Pairing, Plan, Recorded, Some, Stamp, Tag, Times, VlId, Wait, arith, bag_micros, cases_lt, drop-set-lt, entry, entry_number, filter_passes, find, first_other, get_or, get_or-map, get_or-take, interface_byte, is_both, is_twin, kept, left_waiting, length, length-map, length-set, length-take, link_at, link_plan_at, link_stream, map, missing, missing_of, nat_tests, number_in, numbered_at, pairing_with, refl, sequence_number, side, slice_range, stamp_of, stays, suc, sym, tag_of, take, take-set-le, true, twin_deviation, twin_number, twin_of, twin_other, zero, ℕ, [], ◌*◌, ◌++◌, ◌+◌, ◌-◌, ◌<◌, ◌∙◌, ◌∷◌, ◌≡◌, ◌≤◌, AreFit, IsMissing}
 use Rattle.judge_laws.proofs.Line.{IsDelayed}
 use Rattle.judge_laws.proofs.Reading.{all_removed, find_says}
 use Rattle.judge_laws.proofs.Recording.{AreTwins, IsPacketTaken, IsSame, id_of, left_at, nearness_at, rest_after, rest_holds, rest_of, stream_next, twins_go_on}
@@ -97,24 +97,35 @@ all_copies stream net n = λ k spare inside. record {
 
 -- ---- frames that wait
 
+-- no network lags behind the other by more
+pub lag_bound : (origin : Net → ℕ) (m n : Net) → origin m ≤ origin n + lag_of origin
+lag_bound origin A A = omega arith
+lag_bound origin A B = grind (arith, nat_tests)
+lag_bound origin B A = grind (arith, nat_tests)
+lag_bound origin B B = omega arith
+
 -- a frame that waits is the record of a copy
-pub record IsWait (origin jitter : ℕ) (stream : List Entry) (w : Wait) : Type 0 where
+pub record IsWait (origin : Net → ℕ) (jitter : ℕ) (stream : List Entry) (w : Wait) : Type 0 where
   pub e : Entry
   pub copy : IsCopy stream w.tag.net e
   pub number : w.number ≡ number_in e.frame
   pub bytes : w.bytes ≡ e.frame
-  pub delayed : IsDelayed origin jitter e.at w.tag.at
+  pub delayed : IsDelayed (origin w.tag.net) jitter e.at w.tag.at
 
-module _ (origin jitter skew : ℕ) (nearness : Nearness) (gap : ℕ) (stream : List Entry) (tag : Tag) (e : Entry) (is : IsStream gap stream)
-    (is_skew : nearness.skew ≡ 1000 * skew) (fit : skew + jitter < 255 * gap) (copy : IsCopy stream tag.net e)
-    (delayed : IsDelayed origin jitter e.at tag.at) where
+module _ (origin : Net → ℕ) (jitter skew : ℕ) (nearness : Nearness) (gap : ℕ) (stream : List Entry) (tag : Tag) (e : Entry) (is : IsStream gap stream)
+    (is_skew : nearness.skew ≡ 1000 * skew) (fit : 1000 * (skew + jitter) + lag_of origin < 255000 * gap) (copy : IsCopy stream tag.net e)
+    (delayed : IsDelayed (origin tag.net) jitter e.at tag.at) where
   abbrev number : ℕ
   number = number_in e.frame
 
   near_copies : (w : Wait) → IsWait origin jitter stream w → stays nearness tag number w ≡ true → is_twin tag number w ≡ true
       → twin_other w.bytes e.frame ≡ None
   near_copies w wait near twin = rw wait.bytes (copies_agree gap stream w.tag.net tag.net wait.e e is wait.copy copy
-      (grind (arith, nat_tests, wait.number)) (grind (arith, nat_tests, wait.delayed)) (grind (arith, nat_tests, wait.delayed)))
+      (grind (arith, nat_tests, wait.number)) close.0 close.1)
+    where
+      close : (wait.e.at < e.at + 255 * gap) × (e.at < wait.e.at + 255 * gap)
+      close = let lag = lag_bound origin w.tag.net tag.net in let back = lag_bound origin tag.net w.tag.net in
+          grind (arith, nat_tests, wait.delayed)
 
   met_by : (ws : List Wait) (p : Pairing) (found : Option Wait) → p.waiting ≡ kept nearness tag number ws → All (IsWait origin jitter stream) ws
       → find (is_twin tag number) p.waiting ≡ found → (twin_deviation tag number e.frame p ≡ None)
@@ -148,19 +159,19 @@ all_missing vl ws found all = All-append IsMissing found _ all (All-map IsMissin
 -- ---- of all links
 
 -- the twins of a link on both networks: the frames that are to come, and those that wait, are copies of one stream
-pub record AreCopies (gap origin jitter : ℕ) (rest : Net → List Entry) (p : Pairing) : Type 0 where
+pub record AreCopies (gap : ℕ) (origin : Net → ℕ) (jitter : ℕ) (rest : Net → List Entry) (p : Pairing) : Type 0 where
   pub stream : List Entry
   pub is_stream : IsStream gap stream
   pub copies : (net : Net) → All (IsCopy stream net) (rest net)
   pub waits : All (IsWait origin jitter stream) p.waiting
 
-abbrev pub AreCopied : Plan → ℕ → Options → ℕ → (Net → List Entry) → Pairing → Type 0
+abbrev pub AreCopied : Plan → (Net → ℕ) → Options → ℕ → (Net → List Entry) → Pairing → Type 0
 AreCopied plan origin options k rest p = is_both (link_plan_at plan.links k).networks ≡ true
     → AreCopies (bag_micros (link_plan_at plan.links k).bag) origin options.jitter rest p
 
 -- They are after a packet, and its frame differs from no twin.
-pub copies_go_on : (plan : Plan) (origin : ℕ) (options : Options) (times : Times) (told : Bool) (links : List Link) (net : Net)
-    (number : ℕ) (packet : Recorded) (e : Entry) (es : List Entry) (rest : Net → List Entry) → AreFit plan options → rest net ≡ e ∷ es
+pub copies_go_on : (plan : Plan) (origin : Net → ℕ) (options : Options) (times : Times) (told : Bool) (links : List Link) (net : Net)
+    (number : ℕ) (packet : Recorded) (e : Entry) (es : List Entry) (rest : Net → List Entry) → AreFit plan options origin → rest net ≡ e ∷ es
     → (t : IsPacketTaken plan origin options times told links net number packet e es rest) → AreTwins plan (AreCopied plan origin options) links rest
     → IsSame plan options times t.known.k (tag_of net number t.at) e.frame (link_at links t.known.k)
     × AreTwins plan (AreCopied plan origin options) t.new (rest_after net es rest)

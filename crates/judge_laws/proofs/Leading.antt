@@ -1,7 +1,7 @@
 -- The twins of a link on both networks, where both got all and the recording is in the order of time: the frames that wait
 -- are those by which one network leads, and each finds its twin.
-use Rattle.judge_laws.proofs.Names.{A, All, All-push, All-tail, All-weaker, AllZip, AllZip-long, all_zipped_more, B, Entry, List, Nearness, Net, None, Option, Pairing, Tag, Wait, ap, append_assoc, arith, cases_Bool, entry, eq-eqb, false, filter, find, get_or, get_or-append-add, get_or-append_seam, get_or-map, get_or_append_left, get_or_default, is_lost, is_passed, is_twin, kept, left_waiting, length, length-append, length-map, length-twin, map, nat_tests, number_in, pairing_with, refl, same_net, side, sym, true, twin_number, ℕ, [], ◌*◌, ◌++◌, ◌+◌, ◌<◌, ◌∙◌, ◌∷◌, ◌≡◌, ◌≤◌, ◌⊎◌}
-use Rattle.judge_laws.proofs.Copies.{IsStream, far, own_at}
+use Rattle.judge_laws.proofs.Names.{A, All, All-push, All-tail, All-weaker, AllZip, AllZip-long, all_zipped_more, B, Entry, List, Nearness, Net, None, Option, Pairing, Tag, Wait, ap, append_assoc, arith, cases_Bool, entry, eq-eqb, false, filter, find, get_or, get_or-append-add, get_or-append_seam, get_or-map, get_or_append_left, get_or_default, is_lost, is_passed, is_twin, kept, lag_of, left_waiting, length, length-append, length-map, length-twin, map, nat_tests, number_in, pairing_with, refl, same_net, side, sym, true, twin_number, ℕ, [], ◌*◌, ◌++◌, ◌+◌, ◌<◌, ◌∙◌, ◌∷◌, ◌≡◌, ◌≤◌, ◌⊎◌}
+use Rattle.judge_laws.proofs.Copies.{IsStream, far, lag_bound, own_at}
 use Rattle.judge_laws.proofs.Line.{IsDelayed}
 use Rattle.judge_laws.proofs.Reading.{zip_at}
 use Rattle.judge_laws.proofs.Recording.{rest_after, same_self}
@@ -24,13 +24,13 @@ which : (lead net : Net) → (lead ≡ net) ⊎ (lead ≡ other net)
 which lead net = grind (arith, nat_tests)
 
 -- a frame that waits is the leading network's copy of an entry
-pub record IsWaitFor (origin jitter : ℕ) (lead : Net) (own : Entry) (w : Wait) : Type 0 where
+pub record IsWaitFor (origin : Net → ℕ) (jitter : ℕ) (lead : Net) (own : Entry) (w : Wait) : Type 0 where
   pub net : w.tag.net ≡ lead
   pub number : w.number ≡ number_in own.frame
-  pub delayed : IsDelayed origin jitter own.at w.tag.at
+  pub delayed : IsDelayed (origin lead) jitter own.at w.tag.at
 
 -- A network leads by the entries `ahead` of a stream, which wait; `coming` are to come on both.
-pub record IsLedBy (stream : List Entry) (origin jitter : ℕ) (rest : Net → List Entry) (waiting : List Wait) (lead : Net) : Type 0 where
+pub record IsLedBy (stream : List Entry) (origin : Net → ℕ) (jitter : ℕ) (rest : Net → List Entry) (waiting : List Wait) (lead : Net) : Type 0 where
   pub done : List Entry
   pub ahead : List Entry
   pub coming : List Entry
@@ -83,15 +83,16 @@ later_apart gap stream done ahead coming c is whole = λ i spare inside same.
     rw (first, second) at apart
 
 -- what does not pass a frame that waits
-stays_one : (origin jitter skew latest : ℕ) (nearness : Nearness) (tag : Tag) (number : ℕ) (lead : Net) (own : Entry) (w : Wait)
-    → nearness.skew ≡ 1000 * skew → jitter ≤ skew → latest ≤ tag.at → IsWaitFor origin jitter lead own w → w.tag.at ≤ latest
-    → tag.at ≤ origin + 1000 * (own.at + jitter) → (same_net lead tag.net ≡ true → number_in own.frame ≡ number → ⊥)
+stays_one : (origin : Net → ℕ) (jitter skew latest : ℕ) (nearness : Nearness) (tag : Tag) (number : ℕ) (lead : Net) (own : Entry) (w : Wait)
+    → nearness.skew ≡ 1000 * skew → 1000 * jitter + lag_of origin ≤ 1000 * skew → latest ≤ tag.at → IsWaitFor origin jitter lead own w → w.tag.at ≤ latest
+    → tag.at ≤ origin (other lead) + 1000 * (own.at + jitter) → (same_net lead tag.net ≡ true → number_in own.frame ≡ number → ⊥)
     → is_passed nearness tag number w ≡ false
-stays_one origin jitter skew latest nearness tag number lead own w is_skew fit later wait past late unlike = grind (arith, nat_tests, cases_Bool)
+stays_one origin jitter skew latest nearness tag number lead own w is_skew fit later wait past late unlike =
+    let lag = lag_bound origin (other lead) lead in grind (arith, nat_tests, cases_Bool)
 
-all_stay : (origin jitter skew latest : ℕ) (nearness : Nearness) (tag : Tag) (number : ℕ) (lead : Net) (ahead : List Entry) (ws : List Wait)
-    → nearness.skew ≡ 1000 * skew → jitter ≤ skew → latest ≤ tag.at → AllZip (IsWaitFor origin jitter lead) ahead ws
-    → All (λ (w : Wait). w.tag.at ≤ latest) ws → AreOpen origin jitter tag.at ahead
+all_stay : (origin : Net → ℕ) (jitter skew latest : ℕ) (nearness : Nearness) (tag : Tag) (number : ℕ) (lead : Net) (ahead : List Entry) (ws : List Wait)
+    → nearness.skew ≡ 1000 * skew → 1000 * jitter + lag_of origin ≤ 1000 * skew → latest ≤ tag.at → AllZip (IsWaitFor origin jitter lead) ahead ws
+    → All (λ (w : Wait). w.tag.at ≤ latest) ws → AreOpen (origin (other lead)) jitter tag.at ahead
     → All (λ (o : Entry). same_net lead tag.net ≡ true → number_in o.frame ≡ number → ⊥) ahead
     → All (λ (w : Wait). is_passed nearness tag number w ≡ false) ws
 all_stay origin jitter skew latest nearness tag number lead ahead ws is_skew fit later zip past late unlike = λ i spare inside.
@@ -101,7 +102,7 @@ all_stay origin jitter skew latest nearness tag number lead ahead ws is_skew fit
     (zip_at (IsWaitFor origin jitter lead) ahead ws i (entry 0 []) spare zip inside) (past i spare inside)
     (late i (entry 0 []) (omega arith)) (unlike i (entry 0 []) (omega arith))
 
-no_twin : (origin jitter : ℕ) (tag : Tag) (number : ℕ) (ahead : List Entry) (ws : List Wait)
+no_twin : (origin : Net → ℕ) (jitter : ℕ) (tag : Tag) (number : ℕ) (ahead : List Entry) (ws : List Wait)
     → AllZip (IsWaitFor origin jitter tag.net) ahead ws → find (is_twin tag number) ws ≡ None
 no_twin origin jitter tag number [] [] zip = refl
 no_twin origin jitter tag number (o ∷ os) (w ∷ ws) zip =
@@ -114,7 +115,7 @@ unfolding pairing_with
 first_met tag number frame lead w ws is = grind arith
 
 -- none that waits is passed, and a network leads on
-pub record LeadsOn (stream : List Entry) (origin jitter : ℕ) (nearness : Nearness) (tag : Tag) (e : Entry) (next : Net → List Entry)
+pub record LeadsOn (stream : List Entry) (origin : Net → ℕ) (jitter : ℕ) (nearness : Nearness) (tag : Tag) (e : Entry) (next : Net → List Entry)
     (p : Pairing) : Type 0 where
   pub stay : AllStay nearness tag (number_in e.frame) p.waiting
   pub lead : Net
@@ -122,10 +123,11 @@ pub record LeadsOn (stream : List Entry) (origin jitter : ℕ) (nearness : Nearn
   pub past : ArePast tag.at (pairing_with tag (number_in e.frame) e.frame (left_waiting nearness tag (number_in e.frame) p)).waiting
 
 -- the next frame
-module _ (stream : List Entry) (gap origin jitter skew latest : ℕ) (nearness : Nearness) (tag : Tag) (p : Pairing) (e : Entry)
+module _ (stream : List Entry) (gap : ℕ) (origin : Net → ℕ) (jitter skew latest : ℕ) (nearness : Nearness) (tag : Tag) (p : Pairing) (e : Entry)
     (es : List Entry) (rest next : Net → List Entry) (is_stream : IsStream gap stream) (is_skew : nearness.skew ≡ 1000 * skew)
-    (fit : jitter ≤ skew) (sum : skew + jitter < 255 * gap) (later : latest ≤ tag.at) (delayed : IsDelayed origin jitter e.at tag.at)
-    (limits : (net : Net) → AreOpen origin jitter tag.at (rest net)) (long : 60 ≤ length e.frame) (first : rest tag.net ≡ e ∷ es)
+    (fit : 1000 * jitter + lag_of origin ≤ 1000 * skew) (sum : 1000 * (skew + jitter) + lag_of origin < 255000 * gap) (later : latest ≤ tag.at)
+    (delayed : IsDelayed (origin tag.net) jitter e.at tag.at)
+    (limits : (net : Net) → AreOpen (origin net) jitter tag.at (rest net)) (long : 60 ≤ length e.frame) (first : rest tag.net ≡ e ∷ es)
     (own : next tag.net ≡ es) (others : next (other tag.net) ≡ rest (other tag.net)) where
   abbrev number : ℕ
   number = number_in e.frame
@@ -165,11 +167,12 @@ module _ (stream : List Entry) (gap origin jitter skew latest : ℕ) (nearness :
       new : Wait
       new = record { tag = tag; number = number; bytes = e.frame }
 
-      still : AreOpen origin jitter tag.at ahead
-      still = open_ahead origin jitter tag.at (other tag.net) (rest (other tag.net)) ahead (c ∷ cs) lags (limits (other tag.net))
+      still : AreOpen (origin (other tag.net)) jitter tag.at ahead
+      still = open_ahead (origin (other tag.net)) jitter tag.at (other tag.net) (rest (other tag.net)) ahead (c ∷ cs) lags (limits (other tag.net))
 
       unlike : All (λ (o : Entry). same_net tag.net tag.net ≡ true → number_in o.frame ≡ number → ⊥) ahead
-      unlike = let number_is = same c is in let time : IsDelayed origin jitter c.at tag.at = rw is at delayed in grind (arith, later_apart, still)
+      unlike = let number_is = same c is in let time : IsDelayed (origin tag.net) jitter c.at tag.at = rw is at delayed in
+          let lag = lag_bound origin (other tag.net) tag.net in grind (arith, later_apart, still)
 
       stay : AllStay nearness tag number p.waiting
       stay = all_stay origin jitter skew latest nearness tag number tag.net ahead p.waiting is_skew fit later waits past still unlike
@@ -209,7 +212,7 @@ module _ (stream : List Entry) (gap origin jitter skew latest : ℕ) (nearness :
 
       stay : AllStay nearness tag number (w ∷ ws)
       stay = all_stay origin jitter skew latest nearness tag number (other tag.net) (o ∷ os) (w ∷ ws) is_skew fit later waits past
-          (open_ahead origin jitter tag.at tag.net (rest tag.net) (o ∷ os) coming (first ∙ lags) (limits tag.net))
+          (rw (other_other tag.net) (open_ahead (origin tag.net) jitter tag.at tag.net (rest tag.net) (o ∷ os) coming (first ∙ lags) (limits tag.net)))
           (λ i spare inside both. absurd (cc (both, same_other tag.net)))
 
       left : (pairing_with tag number e.frame (left_waiting nearness tag number p)).waiting ≡ ws

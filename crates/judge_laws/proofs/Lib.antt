@@ -8,6 +8,7 @@ pub mod Pieces
 pub mod Quiet
 pub mod Reading
 pub mod Recording
+pub mod Releases
 pub mod SentTo
 pub mod Silent
 pub mod Whole

@@ -1,6 +1,6 @@
 -- A line of a judge: what it knows of a link on a network while the frames `rest` of a legal stream are to come, and that
 -- nothing is wrong with the next one: its number, its gap, its turn and its piece.
-use Rattle.judge_laws.proofs.Names.{Arrived, Bool, Entry, IsApart, IsFollowedInTurn, IsNumbered, IsPlan, IsSpaced, Joining, Last, Line, List, Measure, Net, None, Option, Options, Plan, PortPlan, Some, Stamp, Sub, Tag, TakesTurns, Verdict, arith, arrived, bag_micros, before_next, cases_Bool, cases_eq, due_before, early_deviation, early_since, entry_number, false, fields_of, figures_with, get_or, get_or-set_other, get_or-set_same, get_or_default, head_now, inl, inr, joined, length, length-set, line_after, line_with, link_plan_at, measure_of, min, more_in, names, nat_lt, nat_tests, new_sub, next_number, number_after, number_deviation, number_unless, other_sub, passed_by, position-Some, refl, sequence_number, settled, slice_set, stamp_of, sub_at, sub_in, sub_stream, sym, told, true, turn_deviation, verdict, ℕ, [], ◌&&◌, ◌*◌, ◌++◌, ◌+◌, ◌-◌, ◌<◌, ◌^◌, ◌∷◌, ◌≡◌, ◌≢◌, ◌≤◌}
+use Rattle.judge_laws.proofs.Names.{Arrived, Bool, Entry, IsApart, IsFollowedInTurn, IsNumbered, IsPlan, IsSpaced, Joining, Last, Line, List, Measure, Net, None, Option, Options, Plan, PortPlan, Some, Stamp, Sub, Tag, TakesTurns, Verdict, arith, arrived, bag_micros, before_next, cases_Bool, cases_eq, delay_after, due_before, early_deviation, early_since, entry_number, false, fields_of, figures_with, get_or, get_or-set_other, get_or-set_same, get_or_default, head_now, inl, inr, joined, length, length-set, line_after, line_with, link_plan_at, measure_of, min, more_in, names, nat_lt, nat_tests, new_sub, next_number, number_after, number_deviation, number_unless, other_sub, passed_by, position-Some, refl, sequence_number, settled, slice_set, stamp_of, sub_at, sub_in, sub_stream, sym, told, true, turn_deviation, verdict, ℕ, [], ◌&&◌, ◌*◌, ◌++◌, ◌+◌, ◌-◌, ◌<◌, ◌^◌, ◌∷◌, ◌≡◌, ◌≢◌, ◌≤◌}
 use Rattle.judge_laws.proofs.Message.{IsGood, port_at}
 use Rattle.judge_laws.proofs.Pieces.{IsAwaiting, IsClean, one_frame}
 use Rattle.judge_laws.proofs.Reading.{with_other, with_own}
@@ -10,31 +10,41 @@ pub record IsDelayed (origin jitter at recorded : ℕ) : Type 0 where
   pub least : origin + 1000 * at ≤ recorded
   pub most : recorded ≤ origin + 1000 * (at + jitter)
 
--- the last frame of a line after `i` frames, the last of which has this stamp; without one `i` is 0, but in a recording
--- that began late
-pub record IsLastOf (origin jitter i : ℕ) (before : Option Stamp) (last : Last) : Type 0 where
+-- its delay takes the last frame of a line back to its release, or to before that
+pub record IsHeld (origin at : ℕ) (last : Last) : Type 0 where
+  pub most : last.at ≤ origin + 1000 * at + last.delay
+
+-- The last frame of a line after `i` frames, the last of which has this stamp, at a time of which P holds; without one
+-- `i` is 0, but in a recording that began late.
+pub record IsLastOf (P : ℕ → Last → Type 0) (i : ℕ) (before : Option Stamp) (last : Last) : Type 0 where
   pub n : ℕ
   pub count : i ≡ n + 1
   pub number : last.number ≡ sequence_number n
   pub stamp : Stamp
   pub known : before ≡ Some stamp
-  pub delayed : IsDelayed origin jitter stamp.at last.at
+  pub released : P stamp.at last
 
-abbrev pub IsLast : (origin jitter : ℕ) → Bool → ℕ → Option Stamp → Option Last → Type 0
-IsLast origin jitter late i before None = late ≡ false → (i ≡ 0) × (before ≡ None)
-IsLast origin jitter late i before (Some last) = IsLastOf origin jitter i before last
+abbrev pub IsLast : (ℕ → Last → Type 0) → Bool → ℕ → Option Stamp → Option Last → Type 0
+IsLast P late i before None = late ≡ false → (i ≡ 0) × (before ≡ None)
+IsLast P late i before (Some last) = IsLastOf P i before last
 
 pub number_goes_on : (n : ℕ) → number_after (sequence_number n) ≡ sequence_number (n + 1)
 number_goes_on n = grind (arith, nat_tests)
 
-pub number_fits : (origin jitter i number : ℕ) (before : Option Stamp) (late : Bool) (last : Option Last)
-    → IsLast origin jitter late i before last → number ≡ sequence_number i → number_unless number (next_number late last) ≡ None
-number_fits origin jitter i number before late last is next = grind (arith, nat_tests, number_goes_on)
+pub number_fits : (P : ℕ → Last → Type 0) (i number : ℕ) (before : Option Stamp) (late : Bool) (last : Option Last)
+    → IsLast P late i before last → number ≡ sequence_number i → number_unless number (next_number late last) ≡ None
+number_fits P i number before late last is next = grind (arith, nat_tests, number_goes_on)
 
-pub none_early : (origin jitter gap i at recorded : ℕ) (late : Bool) (before : Option Stamp) (last : Option Last) → jitter ≤ gap
-    → IsLast origin jitter late i before last → IsApart gap before at → IsDelayed origin jitter at recorded
-    → early_since (1000 * (gap - jitter)) recorded last ≡ None
-none_early origin jitter gap i at recorded late before last fit is apart delayed = grind (arith, nat_tests)
+pub none_early : (origin gap i at recorded : ℕ) (late : Bool) (before : Option Stamp) (last : Option Last)
+    → IsLast (IsHeld origin) late i before last → IsApart gap before at → origin + 1000 * at ≤ recorded
+    → early_since (1000 * gap) recorded last ≡ None
+none_early origin gap i at recorded late before last is apart least = grind (arith, nat_tests)
+
+-- so does the delay of the next frame
+held_on : (origin gap jitter i at recorded : ℕ) (measure : Measure) (late : Bool) (before : Option Stamp) (last : Option Last)
+    → measure.gap ≡ 1000 * gap → measure.jitter ≡ 1000 * jitter → IsLast (IsHeld origin) late i before last → IsApart gap before at
+    → IsDelayed origin jitter at recorded → recorded ≤ origin + 1000 * at + delay_after measure recorded last
+held_on origin gap jitter i at recorded measure late before last is_gap is_jitter is apart delayed = grind (arith, nat_tests)
 
 -- a sub-VL of the four
 abbrev pub own_sub : List Sub → ℕ → Sub
@@ -108,7 +118,7 @@ pub record IsAhead (plan : Plan) (k s : ℕ) (net : Net) (joining : Joining) (re
 pub record IsLine (plan : Plan) (k : ℕ) (net : Net) (origin : ℕ) (options : Options) (line : Line) (rest : List Entry) : Type 0 where
   pub place : ℕ
   pub before : Option Stamp
-  pub last : IsLast origin options.jitter options.late place before line.last
+  pub last : IsLast (IsHeld origin) options.late place before line.last
   pub numbered : IsNumbered entry_number place rest
   pub spaced : IsSpaced (bag_micros (link_plan_at plan.links k).bag) before rest
   pub turns : TakesTurns rest
@@ -136,9 +146,9 @@ sub_of port come line s = record {
   due = come.fields.piece.more;
 }
 
-abbrev pub line_of : Option PortPlan → Arrived → Line → ℕ → Line
-line_of port come line s = record {
-  last = Some (record { number = come.fields.number; at = come.at });
+abbrev pub line_of : Measure → Option PortPlan → Arrived → Line → ℕ → Line
+line_of measure port come line s = record {
+  last = Some (record { number = come.fields.number; at = come.at; delay = delay_after measure come.at line.last });
   figures = figures_with come line;
   subs = slice_set line.subs s (sub_of port come line s);
 }
@@ -157,7 +167,7 @@ settles measure port come line right = rw (right.number, right.turn) refl
 
 pub right_after : (measure : Measure) (port : Option PortPlan) (come : Arrived) (line : Line)
     → IsRight measure port come line come.sub
-    → line_after measure port come line ≡ line_of port come line come.sub
+    → line_after measure port come line ≡ line_of measure port come line come.sub
 unfolding line_after line_with
 right_after measure port come line right = rw (settles measure port come line right, right.profile, right.good.fits) refl
 
@@ -191,11 +201,11 @@ named plan k net origin options line e es is = grind (arith, nat_tests, cases_Bo
 
 pub line_taken : (plan : Plan) (k : ℕ) (net : Net) (origin : ℕ) (options : Options) (line : Line) (tag : Tag) (e : Entry)
     (es : List Entry) → IsPlan plan → k < length plan.links → 60 ≤ length e.frame
-    → sub_in e.frame < (link_plan_at plan.links k).sub_vls → options.jitter ≤ bag_micros (link_plan_at plan.links k).bag
+    → sub_in e.frame < (link_plan_at plan.links k).sub_vls
     → IsLine plan k net origin options line (e ∷ es) → IsDelayed origin options.jitter e.at tag.at
     → IsTaken plan k net origin options line tag e es
 unfolding fields_of
-line_taken plan k net origin options line tag e es valid inside long index fit is delayed = record {
+line_taken plan k net origin options line tag e es valid inside long index is delayed = record {
   left = left;
   clean = clean;
   wrong = right_verdict measure port come line right;
@@ -230,10 +240,10 @@ line_taken plan k net origin options line tag e es valid inside long index fit i
     right : IsRight measure port come line s
     right = record {
       profile = refl;
-      number = number_fits origin options.jitter is.place (fields_of e.frame).number is.before options.late line.last is.last
+      number = number_fits (IsHeld origin) is.place (fields_of e.frame).number is.before options.late line.last is.last
           is.numbered.0;
-      early = none_early origin options.jitter (bag_micros (link_plan_at plan.links k).bag) is.place e.at tag.at options.late is.before line.last
-          fit is.last is.spaced.0 delayed;
+      early = none_early origin (bag_micros (link_plan_at plan.links k).bag) is.place e.at tag.at options.late is.before line.last
+          is.last is.spaced.0 delayed.least;
       good = clean.good;
       turn = rw (none_passed line.subs line.figures.frames e es s is.due refl four) refl;
     }
@@ -252,11 +262,17 @@ line_taken plan k net origin options line tag e es valid inside long index fit i
           })
     ]
 
-    after : IsLine plan k net origin options (line_of port come line s) es
+    held : IsHeld origin e.at (record { number = come.fields.number; at = tag.at; delay = delay_after measure tag.at line.last })
+    held = record {
+      most = held_on origin (bag_micros (link_plan_at plan.links k).bag) options.jitter is.place e.at tag.at measure options.late
+          is.before line.last refl refl is.last is.spaced.0 delayed;
+    }
+
+    after : IsLine plan k net origin options (line_of measure port come line s) es
     after = record {
       place = is.place + 1;
       before = Some (stamp_of e);
-      last = grind (arith, nat_tests, is.numbered, delayed);
+      last = record { n = is.place; count = refl; number = is.numbered.0; stamp = stamp_of e; known = refl; released = held };
       numbered = is.numbered.1;
       spaced = is.spaced.1;
       turns = is.turns.1;

@@ -103,8 +103,8 @@ joining_after plan k frame joining = joined false (fields_of frame).piece (head_
 -- nothing is wrong with a piece
 pub record IsGood (room : ℕ) (port : Option PortPlan) (fields : Fields) (joining : Joining) : Type 0 where
   pub of_port : port_deviation fields port ≡ None
-  pub fits : fragment_deviation room fields joining ≡ None
-  pub ends : end_deviation fields.piece (head_now port fields joining) ≡ None
+  pub fits : fragment_deviation false room fields joining ≡ None
+  pub ends : end_deviation false fields.piece (head_now port fields joining) ≡ None
 
 -- a piece of a message is due
 pub record IsDue (plan : Plan) (k sub : ℕ) (sent : Sent) (start : ℕ) : Type 0 where
@@ -126,13 +126,13 @@ no_stranger : (known : Option Head) (head : Head) (flow : Flow) → IfSome known
     → addresses_deviation known flow ≡ None
 no_stranger known head flow is of_port = grind (arith, nat_tests)
 
-ends_well : (known : Option Head) (head : Head) (len : ℕ) → IfSome known (λ h. h ≡ head) → message_deviation len head ≡ None
-    → if_known len known ≡ None
+ends_well : (known : Option Head) (head : Head) (len : ℕ) → IfSome known (λ h. h ≡ head) → message_deviation false len head ≡ None
+    → if_known false len known ≡ None
 ends_well known head len is well = grind (arith, nat_tests)
 
 -- a whole message
 message_ok : (end_system : ℕ) (port : PortPlan) (message : List ℕ) → 1 ≤ length message → length message ≤ port.max
-    → message_deviation (8 + length message) (head_at end_system port message (8 + length message)) ≡ None
+    → message_deviation false (8 + length message) (head_at end_system port message (8 + length message)) ≡ None
 unfolding message_deviation
 message_ok end_system port message some most = rw (right_field end_system port message) (grind (arith, nat_tests))
 
@@ -146,8 +146,8 @@ pub head_later : (port : Option PortPlan) (fields : Fields) (joining : Joining) 
 unfolding head_now
 head_later port fields joining later = grind (arith, nat_tests)
 
-ends_if_last : (piece : PieceIn) (known : Option Head) → (piece.more ≡ false → if_known (piece.start + piece.len) known ≡ None)
-    → end_deviation piece known ≡ None
+ends_if_last : (piece : PieceIn) (known : Option Head) → (piece.more ≡ false → if_known false (piece.start + piece.len) known ≡ None)
+    → end_deviation false piece known ≡ None
 ends_if_last piece known last = grind (arith, cases_Bool)
 
 -- the port of a first piece
@@ -176,7 +176,7 @@ module _ {plan : Plan} {k sub : ℕ} {sent : Sent} {place start : ℕ} {joining 
   port_fits : port_deviation fields port ≡ None
   port_fits = grind (arith, nat_tests, cases_eq, its_start)
 
-  piece_fits : 25 ≤ room_at plan k → fragment_deviation (room_at plan k) fields joining ≡ None
+  piece_fits : 25 ≤ room_at plan k → fragment_deviation false (room_at plan k) fields joining ≡ None
   unfolding fragment_deviation
   piece_fits least = rw (
     no_misfit Offset (next_of joining) start fields.piece.start heard.known.next_is its_start,
@@ -190,7 +190,7 @@ module _ {plan : Plan} {k sub : ℕ} {sent : Sent} {place start : ℕ} {joining 
   head_true : IfSome (head_now port fields joining) (λ h. h ≡ head_at plan.end_system sent.port sent.bytes (start + piece.len))
   head_true = grind (arith, nat_tests, cases_eq, head_first, its_start, head_later, later_head)
 
-  message_fits : end_deviation fields.piece (head_now port fields joining) ≡ None
+  message_fits : end_deviation false fields.piece (head_now port fields joining) ≡ None
   message_fits = ends_if_last fields.piece (head_now port fields joining) (λ last.
       let all : start + piece.len ≡ 8 + length sent.bytes = grind (arith, heard.next, heard.due, heard.carried) in
       let whole : fields.piece.start + fields.piece.len ≡ 8 + length sent.bytes = omega (arith, its_start, heard.carried.len) in

@@ -60,7 +60,7 @@ pub use Rattle.judge.specs.Joining.{address_number, addresses_deviation, begun, 
 unfoldable pub use Rattle.judge.specs.Joining.{fragment_deviation, head_now, length_deviation, message_deviation}
 pub use Rattle.judge.specs.Judging.{Admitted, Judging, OnNet, after_timed, arrived, findings, first_port, found_from, found_given_up, found_left, found_timed, given_up, line_on, link_at, measure_of, nearness_of, new_link, no_times, placed, tag_of, times_with}
 unfoldable pub use Rattle.judge.specs.Judging.{admitted, after_packet, found_of_arrival, found_on_link, found_with_end, found_with_packet, link_after, with_arrival, with_verdict}
-pub use Rattle.judge.specs.Lines.{due_before, early_deviation, early_since, figures_with, new_line, new_sub, next_number, number_after, number_deviation, number_unless, other_sub, passed_by, port_deviation, settled, sub_at, sub_in as judge_sub, turn_deviation, turn_if}
+pub use Rattle.judge.specs.Lines.{delay_after, due_before, early_deviation, early_since, figures_with, new_line, new_sub, next_number, number_after, number_deviation, number_unless, other_sub, passed_by, port_deviation, settled, sub_at, sub_in as judge_sub, turn_deviation, turn_if}
 unfoldable pub use Rattle.judge.specs.Lines.{line_after, line_with, verdict}
 pub use Rattle.judge.specs.Rules.{has_four_more, interface_on, on_link, size_deviation}
 unfoldable pub use Rattle.judge.specs.Rules.{checked, frame_in, place_of, unchecked}
@@ -74,8 +74,10 @@ pub use Rattle.judge.specs.declared.finding.FragmentMisfit.{FragmentMisfit}
 pub use Rattle.judge.specs.declared.finding.FragmentMisfit.TheVariants.{Identification, Offset}
 pub use Rattle.judge.specs.declared.judge.Options.{Options}
 pub use Rattle.vl_shaper.specs.declared.shaper.Stamp.{Stamp}
-pub use Rattle.judge_laws.specs.NoFalseAlarm.{AreFit, IsMissing, IsRunOf, IsSent, NoFalseAlarm, packets_of, IsRecord, IsRecording}
+pub use Rattle.judge_laws.specs.NoFalseAlarm.{AreFit, IsMissing, IsRunOf, IsSent, NoFalseAlarm, lag_of, packets_of, IsRecord, IsRecording}
 pub use Rattle.judge_laws.specs.Frames.{IsRecordedAs}
 pub use Rattle.judge_laws.specs.NothingFound.{time_of, IsInOrder, NothingFound, IsWhole}
-pub use Rattle.judge_laws.specs.NothingMissed.{EndsWhole, IsOctets, IsSentTo, IsStrict, NothingMissed, entry_of, frames_of, sent_to}
-pub use Rattle.judge_laws.specs.Worked.{FindsNoneOfAll, FindsNothing, MissesNothing, NeedsItsPremises, both_at, late, loose, packet, seconds_at, strict, with_check}
+pub use Rattle.judge_laws.specs.NothingMissed.{EndsWhole, IsExplained, IsOctets, IsReleased, IsSentTo, IsStrict, NothingMissed, entry_of, frames_of, sent_to}
+pub use Rattle.judge_laws.specs.Releases.{AreApart, AreExplained, AreExplainedAfter, EarlyExactly, Heard, IsReleaseOf, NoneIsEarly, is_after, times_of}
+pub use Rattle.std.specs.Option.{IsSome}
+pub use Rattle.judge_laws.specs.Worked.{FindsNoneOfAll, FindsNothing, MissesNothing, NeedsItsPremises, apart_by_100, behind, both_at, from, half_gap, late, loose, packet, seconds_at, strict, with_check, with_skew}

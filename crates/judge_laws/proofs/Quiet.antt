@@ -38,7 +38,7 @@ pub record IsWhole (end_system : ℕ) (port : PortPlan) (given : List ℕ) : Typ
   pub some : 1 ≤ length (drop 8 given)
   pub most : length (drop 8 given) ≤ port.max
 
-pub none_says : (len : ℕ) (head : Head) → message_deviation len head ≡ None
+pub none_says : (len : ℕ) (head : Head) → message_deviation false len head ≡ None
     → (head.udp_len ≡ len) × (1 ≤ len - 8) × (len - 8 ≤ head.port.max) × (head.udp_sum ≡ right_sum head len)
 unfolding message_deviation
 none_says len head none = grind (arith, nat_tests)
@@ -52,7 +52,7 @@ parts : (given : List ℕ) → 8 ≤ length given → bytes_at given 0 8 ++ drop
 parts given long = ap (λ (xs : List ℕ). xs ++ drop 8 given) (sym (bytes_are 8 0 given (omega arith))) ∙ take-append-drop 8 given
 
 header_back : (end_system : ℕ) (port : PortPlan) (given : List ℕ) (head : Head) → IsPort port → Tells end_system port given head
-    → message_deviation (length given) head ≡ None → udp_header end_system port (drop 8 given) ≡ bytes_at given 0 8
+    → message_deviation false (length given) head ≡ None → udp_header end_system port (drop 8 given) ≡ bytes_at given 0 8
 unfolding udp_header udp_sum
 header_back end_system port given head is_port tells none =
     let said = none_says (length given) head none in
@@ -72,7 +72,7 @@ header_back end_system port given head is_port tells none =
     four_words given _ _ _ _ tells.octets tells.source tells.destination size field
 
 pub tells_whole : (end_system : ℕ) (port : PortPlan) (given : List ℕ) (head : Head) → IsPort port → Tells end_system port given head
-    → message_deviation (length given) head ≡ None → IsWhole end_system port given
+    → message_deviation false (length given) head ≡ None → IsWhole end_system port given
 unfolding datagram
 tells_whole end_system port given head is_port tells none =
     let said = none_says (length given) head none in
@@ -149,7 +149,7 @@ pub record Fits (room : ℕ) (fields : Fields) (joining : Joining) : Type 0 wher
   pub towards : (head : Head) → begun joining ≡ Some head → is_towards fields.flow head.port ≡ true
   pub len : length_deviation room fields.piece ≡ None
 
-pub fits_says : (room : ℕ) (fields : Fields) (joining : Joining) → fragment_deviation room fields joining ≡ None → Fits room fields joining
+pub fits_says : (room : ℕ) (fields : Fields) (joining : Joining) → fragment_deviation false room fields joining ≡ None → Fits room fields joining
 unfolding fragment_deviation
 fits_says room fields joining none = grind (arith, nat_tests, none_both, cases_Bool)
 
@@ -222,8 +222,8 @@ fits_in : (link : LinkPlan) (len : ℕ) → size_deviation link len ≡ None →
 fits_in link len none = grind (arith, nat_tests)
 
 -- a last piece ends a message without a finding
-pub ends_says : (piece : PieceIn) (known : Option Head) (head : Head) → end_deviation piece known ≡ None → piece.more ≡ false
-    → known ≡ Some head → message_deviation (piece.start + piece.len) head ≡ None
+pub ends_says : (piece : PieceIn) (known : Option Head) (head : Head) → end_deviation false piece known ≡ None → piece.more ≡ false
+    → known ≡ Some head → message_deviation false (piece.start + piece.len) head ≡ None
 ends_says piece known head none last is = grind (arith, nat_tests)
 
 module _ {plan : Plan} {k s : ℕ} {net : Net} {joining : Joining} {frame : List ℕ} (valid : IsPlan plan) (within : k < length plan.links)

@@ -1,5 +1,5 @@
 -- A judge over a recording of what was sent legally: each packet is taken by its link's line, and the links after it.
-use Rattle.judge_laws.proofs.Names.{A, AllZip, AreKnown, B, Bool, Entry, Finding, IsKnown, IsPlan, Judging, Link, List, Nearness, Net, None, Ok, OnNet, Option, Options, Pairing, Plan, PortPlan, Recorded, Setting, Some, Tag, Times, VlId, admitted, after_packet, after_timed, ap, arith, arrived, cases_Bool, cases_eq, false, fields_of, found_given_up, found_of_arrival, found_on_link, found_timed, found_with_packet, frame_in, fun_ext, get_or-set_other, get_or-set_same, given_up, if◌then◌else◌, inl, inr, is_both, left_waiting, length, length-set, line_on, link_after, link_at, link_in, link_plan_at, link_stream, nearness_of, new_link, number_in, pairing_with, place_of, refl, same_net, size_deviation, slice_set, subst, sym, tag_of, times_with, true, twin_deviation, verdict, with_arrival, with_verdict, ℕ, [], ◌++◌, ◌<◌, ◌∙◌, ◌∷◌, ◌≡◌, ◌≢◌, AreFit, IsRecord, packets_of}
+use Rattle.judge_laws.proofs.Names.{A, AllZip, AreKnown, B, Bool, Entry, Finding, IsKnown, IsPlan, Judging, Link, List, Nearness, Net, None, Ok, OnNet, Option, Options, Pairing, Plan, PortPlan, Recorded, Setting, Some, Tag, Times, VlId, admitted, after_packet, after_timed, ap, arith, arrived, cases_Bool, cases_eq, false, fields_of, found_given_up, found_of_arrival, found_on_link, found_timed, found_with_packet, frame_in, fun_ext, get_or-set_other, get_or-set_same, given_up, if◌then◌else◌, inl, inr, is_both, left_waiting, length, length-set, line_on, link_after, link_at, link_in, link_plan_at, link_stream, nearness_of, new_link, number_in, pairing_with, place_of, refl, same_net, size_deviation, slice_set, subst, sym, tag_of, times_with, true, twin_deviation, verdict, with_arrival, with_verdict, ℕ, [], ◌++◌, ◌<◌, ◌∙◌, ◌∷◌, ◌≡◌, ◌≢◌, IsRecord, packets_of}
 use Rattle.judge_laws.proofs.Line.{IsDelayed, IsLine, IsTaken, faultless, line_taken, line_then, measure_at, of_profile}
 use Rattle.judge_laws.proofs.Message.{port_at}
 use Rattle.judge_laws.proofs.Reading.{number_of, with_other, with_own}
@@ -134,20 +134,20 @@ abbrev pub rest_of : Plan → ℕ → (Net → List Entry) → Net → List Entr
 rest_of plan k rest net = link_stream (id_of plan k) (rest net)
 
 -- what a judge knows of the lines while the frames `rest` of each network are to come
-pub record IsGoing (plan : Plan) (origin : ℕ) (options : Options) (links : List Link) (rest : Net → List Entry) : Type 0 where
+pub record IsGoing (plan : Plan) (origin : Net → ℕ) (options : Options) (links : List Link) (rest : Net → List Entry) : Type 0 where
   pub size : length links ≡ length plan.links
   pub known : (net : Net) → AreKnown plan.links net (rest net)
-  pub lines : (k : ℕ) → k < length plan.links → (net : Net) → IsLine plan k net origin options (line_on net (link_at links k)) (rest_of plan k rest net)
+  pub lines : (k : ℕ) → k < length plan.links → (net : Net) → IsLine plan k net (origin net) options (line_on net (link_at links k)) (rest_of plan k rest net)
 
 abbrev pub vl_of : ℕ → VlId
 vl_of number = record { 0 = number }
 
 -- The packet is taken, as a frame of the link at a place: nothing is found but frames that it shows to have no twin.
-pub record IsPacketTaken (plan : Plan) (origin : ℕ) (options : Options) (times : Times) (told : Bool) (links : List Link)
+pub record IsPacketTaken (plan : Plan) (origin : Net → ℕ) (options : Options) (times : Times) (told : Bool) (links : List Link)
     (net : Net) (number : ℕ) (packet : Recorded) (e : Entry) (es : List Entry) (rest : Net → List Entry) : Type 0 where
   pub at : ℕ
   pub timed : packet.at ≡ Some at
-  pub delayed : IsDelayed origin options.jitter e.at at
+  pub delayed : IsDelayed (origin net) options.jitter e.at at
   pub known : IsKnown plan.links net e.frame
   pub unlike : (j : ℕ) → j < length plan.links → j ≢ known.k → link_in e.frame ≢ id_of plan j
   pub new : List Link
@@ -161,11 +161,11 @@ pub record IsPacketTaken (plan : Plan) (origin : ℕ) (options : Options) (times
       → found_with_packet net number packet (judge_of plan options times told links) found
       ≡ found_given_up (setting_at plan options at times known.k) (tag_of net number at) (number_in e.frame) (link_at links known.k) found
 
-pub packet_taken : (plan : Plan) (origin : ℕ) (options : Options) (times : Times) (told : Bool) (links : List Link) (net : Net)
-    (number : ℕ) (packet : Recorded) (e : Entry) (es : List Entry) (rest : Net → List Entry) → IsPlan plan → AreFit plan options
-    → IsGoing plan origin options links rest → rest net ≡ e ∷ es → IsRecord origin options e packet
+pub packet_taken : (plan : Plan) (origin : Net → ℕ) (options : Options) (times : Times) (told : Bool) (links : List Link) (net : Net)
+    (number : ℕ) (packet : Recorded) (e : Entry) (es : List Entry) (rest : Net → List Entry) → IsPlan plan
+    → IsGoing plan origin options links rest → rest net ≡ e ∷ es → IsRecord (origin net) options e packet
     → IsPacketTaken plan origin options times told links net number packet e es rest
-packet_taken plan origin options times told links net number packet e es rest valid fit is next record_of = record {
+packet_taken plan origin options times told links net number packet e es rest valid is next record_of = record {
   at = record_of.at;
   timed = record_of.told;
   delayed = delayed;
@@ -206,12 +206,12 @@ packet_taken plan origin options times told links net number packet e es rest va
     setting : Setting
     setting = setting_at plan options record_of.at times k
 
-    delayed : IsDelayed origin options.jitter e.at record_of.at
+    delayed : IsDelayed (origin net) options.jitter e.at record_of.at
     delayed = record { least = record_of.least; most = record_of.most }
 
-    taken : IsTaken plan k net origin options (line_on net (link_at links k)) tag e (link_stream (id_of plan k) es)
-    taken = line_taken plan k net origin options (line_on net (link_at links k)) tag e (link_stream (id_of plan k) es) valid know.within
-        know.size know.of_sub (fit.jitter k know.within)
+    taken : IsTaken plan k net (origin net) options (line_on net (link_at links k)) tag e (link_stream (id_of plan k) es)
+    taken = line_taken plan k net (origin net) options (line_on net (link_at links k)) tag e (link_stream (id_of plan k) es) valid know.within
+        know.size know.of_sub
         (rw (stream_next (id_of plan k) (rest net) e es next know.link) at (is.lines k know.within net)) delayed
 
     frame : frame_in (of_profile options) packet ≡ Ok e.frame
@@ -220,7 +220,7 @@ packet_taken plan origin options times told links net number packet e es rest va
     unlike : (j : ℕ) → j < length plan.links → j ≢ k → link_in e.frame ≢ id_of plan j
     unlike j inside other its = other (valid.links_apart j k inside know.within (ap vl_of (sym its ∙ know.link)))
 
-    own : (j : ℕ) → j < length plan.links → IsLine plan j net origin options
+    own : (j : ℕ) → j < length plan.links → IsLine plan j net (origin net) options
         (line_on net (link_at (new_links plan options times links k tag e.frame) j)) (link_stream (id_of plan j) es)
     own j inside = elim (cases_eq j k) [
       | inl same ↦ rw (same, own_line plan options times links k tag e.frame within) taken.after
@@ -228,9 +228,9 @@ packet_taken plan origin options times told links net number packet e es rest va
           (rw (stream_same (id_of plan j) (rest net) e es next (unlike j inside other)) at (is.lines j inside net))
     ]
 
-    lines : (j : ℕ) → j < length plan.links → (m : Net) → IsLine plan j m origin options
+    lines : (j : ℕ) → j < length plan.links → (m : Net) → IsLine plan j m (origin m) options
         (line_on m (link_at (new_links plan options times links k tag e.frame) j)) (rest_of plan j (rest_after net es rest) m)
-    lines j inside m = rest_holds (λ m xs. IsLine plan j m origin options
+    lines j inside m = rest_holds (λ m xs. IsLine plan j m (origin m) options
         (line_on m (link_at (new_links plan options times links k tag e.frame) j)) (link_stream (id_of plan j) xs)) rest es net m
         (λ apart. rw (same_line plan options times links k tag e.frame j m within (λ same. apart)) (is.lines j inside m)) (own j inside)
 
@@ -241,7 +241,7 @@ abbrev pub AreTwins : Plan → (ℕ → (Net → List Entry) → Pairing → Typ
 AreTwins plan T links rest = (k : ℕ) → k < length plan.links → T k (rest_of plan k rest) (link_at links k).twins
 
 -- what holds of them after a packet
-pub twins_go_on : (plan : Plan) (origin : ℕ) (options : Options) (times : Times) (told : Bool) (links : List Link) (net : Net)
+pub twins_go_on : (plan : Plan) (origin : Net → ℕ) (options : Options) (times : Times) (told : Bool) (links : List Link) (net : Net)
     (number : ℕ) (packet : Recorded) (e : Entry) (es : List Entry) (rest : Net → List Entry) (T T' : ℕ → (Net → List Entry) → Pairing → Type 0)
     → rest net ≡ e ∷ es → (t : IsPacketTaken plan origin options times told links net number packet e es rest) → AreTwins plan T links rest
     → T' t.known.k (rest_of plan t.known.k (rest_after net es rest)) (link_at t.new t.known.k).twins
@@ -289,16 +289,16 @@ pub packets_next : (net : Net) (p : OnNet) (ps : List OnNet)
     → packets_of net (p ∷ ps) ≡ (if same_net p.net net then p.packet ∷ packets_of net ps else packets_of net ps)
 packets_next net p ps = grind (arith, cases_Bool)
 
-abbrev pub AreRecorded : (origin : ℕ) (options : Options) (after rest : Net → List Entry) (recording : List OnNet) → Type 0
-AreRecorded origin options after rest recording = (net : Net) → IsRecorded origin options (after net) (rest net) (packets_of net recording)
+abbrev pub AreRecorded : (origin : Net → ℕ) (options : Options) (after rest : Net → List Entry) (recording : List OnNet) → Type 0
+AreRecorded origin options after rest recording = (net : Net) → IsRecorded (origin net) options (after net) (rest net) (packets_of net recording)
 
-pub recorded_next : (origin : ℕ) (options : Options) (after rest : Net → List Entry) (p : OnNet) (ps : List OnNet)
-    → AreRecorded origin options after rest (p ∷ ps) → IsFirst origin options p.packet (packets_of p.net ps) (after p.net) (rest p.net)
-recorded_next origin options after rest p ps are = first_of_list origin options p.packet (packets_of p.net ps) (after p.net) (rest p.net)
+pub recorded_next : (origin : Net → ℕ) (options : Options) (after rest : Net → List Entry) (p : OnNet) (ps : List OnNet)
+    → AreRecorded origin options after rest (p ∷ ps) → IsFirst (origin p.net) options p.packet (packets_of p.net ps) (after p.net) (rest p.net)
+recorded_next origin options after rest p ps are = first_of_list (origin p.net) options p.packet (packets_of p.net ps) (after p.net) (rest p.net)
     (are p.net).recorded (are p.net).whole (rw (packets_next p.net p ps, same_self p.net) at (are p.net).each)
 
-pub recorded_after : (origin : ℕ) (options : Options) (es : List Entry) (after rest : Net → List Entry) (p : OnNet) (ps : List OnNet)
-    → AreRecorded origin options after rest (p ∷ ps) → IsRecorded origin options (after p.net) es (packets_of p.net ps)
+pub recorded_after : (origin : Net → ℕ) (options : Options) (es : List Entry) (after rest : Net → List Entry) (p : OnNet) (ps : List OnNet)
+    → AreRecorded origin options after rest (p ∷ ps) → IsRecorded (origin p.net) options (after p.net) es (packets_of p.net ps)
     → AreRecorded origin options after (rest_after p.net es rest) ps
-recorded_after origin options es after rest p ps are later m = rest_holds (λ m xs. IsRecorded origin options (after m) xs (packets_of m ps))
+recorded_after origin options es after rest p ps are later m = rest_holds (λ m xs. IsRecorded (origin m) options (after m) xs (packets_of m ps))
     rest es p.net m (λ apart. rw (packets_next m p ps, apart) at (are m)) later

@@ -1,13 +1,13 @@
 -- Nothing missed: findings only grow, so where none is found in the end, no packet has one, each line is clear, and what was
 -- recorded of each network was sent legally.
-use Rattle.judge_laws.proofs.Names.{layout_broken, layout_is_profile, Admitted, All, All-cons, All-nil, All-tail, AreKnown, Bool, Entry, Finding, IsAllowed, IsKnown, IsPlan, Judging, Link, LinkPlan, List, Nearness, Net, None, Ok, OnNet, Option, Options, Plan, PortPlan, Recorded, Refused, Result, Sent, Setting, Some, Tag, Times, admitted, after_packet, ap, append-nil, arith, arrived, blanked, cases_Bool, cases_eq, cases_lt, eq-eqb, false, filter, findings, found_at_end, found_from, found_left, found_missing, found_of_arrival, found_on_link, found_timed, found_with_end, found_with_packet, fragments, frame_in, get_or, inl, inr, length, length-filter_both, length-map, length-replicate, length-set, line_on, link_at, link_in, link_plan_at, link_stream, map, map-map, names, nat_tests, ne_eqb, new_line, new_link, new_sub, nil_begins, no_times, not, place_of, placed, refl, room_of, same_net, size_deviation, sub_in, sub_stream, subst, suc, sym, tag_of, those_with, times_with, told, true, unchecked, verdict, with_map, with_verdict, zero, ℕ, [], ◌+◌, ◌-◌, ◌<◌, ◌^◌, ◌∙◌, ◌∷◌, ◌≡◌, ◌≤◌, packets_of, time_of, EndsWhole, IsOctets, IsSentTo, IsStrict, NothingMissed, entry_of, frames_of, sent_to}
+use Rattle.judge_laws.proofs.Names.{nat_eq, layout_broken, layout_is_profile, Admitted, All, AllZip, AllZip-long, IsExplained, IsReleased, delay_after, if◌then◌else◌, ◌*◌, All-cons, All-nil, All-tail, AreKnown, Bool, Entry, Finding, IsAllowed, IsKnown, IsPlan, Judging, Link, LinkPlan, List, Nearness, Net, None, Ok, OnNet, Option, Options, Plan, PortPlan, Recorded, Refused, Result, Sent, Setting, Some, Tag, Times, admitted, after_packet, ap, append-nil, arith, arrived, blanked, cases_Bool, cases_eq, cases_lt, eq-eqb, false, filter, findings, found_at_end, found_from, found_left, found_missing, found_of_arrival, found_on_link, found_timed, found_with_end, found_with_packet, fragments, frame_in, get_or, inl, inr, length, length-filter_both, length-map, length-replicate, length-set, line_on, link_at, link_in, link_plan_at, link_stream, map, map-map, names, nat_tests, ne_eqb, new_line, new_link, new_sub, nil_begins, no_times, not, place_of, placed, refl, room_of, same_net, size_deviation, sub_in, sub_stream, subst, suc, sym, tag_of, those_with, times_with, told, true, unchecked, verdict, with_map, with_verdict, zero, ℕ, [], ◌+◌, ◌-◌, ◌<◌, ◌^◌, ◌∙◌, ◌∷◌, ◌≡◌, ◌≤◌, packets_of, time_of, EndsWhole, IsOctets, IsSentTo, IsStrict, NothingMissed, entry_of, frames_of, sent_to}
 use Rattle.judge_laws.proofs.Begin.{line_is_new, links_at_start, new_is, own_options}
-use Rattle.judge_laws.proofs.Line.{IsFaultless, faultless, line_then, of_profile}
+use Rattle.judge_laws.proofs.Line.{IsFaultless, faultless, line_then, measure_at, of_profile}
 use Rattle.judge_laws.proofs.Message.{port_at}
 use Rattle.judge_laws.proofs.Quiet.{IsAdmitted, first_of_sub, placed_says}
 use Rattle.judge_laws.proofs.Reading.{back_none, with_other, with_own}
 use Rattle.judge_laws.proofs.Recording.{after_is, found_is, id_of, judge_of, line_given_up, new_links, own_line, packets_next, same_line, setting_at, vl_of}
-use Rattle.judge_laws.proofs.Silent.{AreClear, AreHeard, IsSubSilent, ends_silent, heard, silent_is_sent, sub_frames, sub_silent, tag_for}
+use Rattle.judge_laws.proofs.Silent.{AreClear, AreHeard, IsSubSilent, ends_silent, heard, silent_is_sent, delay_within, sub_frames, sub_silent}
 use Rattle.judge_laws.proofs.Whole.{time_is}
 
 -- ---- a link
@@ -99,6 +99,16 @@ packet_silent plan options times links net number packet plain none =
 same_is : (m n : Net) → same_net m n ≡ true → m ≡ n
 same_is m n is = grind (arith, nat_tests)
 
+-- the packets of a network with one more first, if it is of the network
+abbrev pub list_with : Net → Recorded → (Net → List Recorded) → Net → List Recorded
+list_with net r list m = if same_net net m then r ∷ list m else list m
+
+-- a packet with its release time, on a clock that is the jitter ahead, in place of its time
+pub record IsLetGo (jitter : ℕ) (r packet : Recorded) : Type 0 where
+  pub bytes : r.bytes ≡ packet.bytes
+  pub least : time_of packet ≤ time_of r
+  pub most : time_of r ≤ time_of packet + 1000 * jitter
+
 -- a link's packets
 abbrev pub own_packets : Plan → ℕ → List Recorded → List Recorded
 own_packets plan k rs = those_with (λ (r : Recorded). link_in r.bytes) (id_of plan k) rs
@@ -109,20 +119,36 @@ module _ (plan : Plan) (options : Options) (times : Times) (links : List Link) (
   abbrev pub links_now : List Link
   links_now = new_links plan options times links p.k (tag_of net number p.at) packet.bytes
 
-  time : time_of packet ≡ p.at
-  time = time_is packet p.at p.timed
+  -- its release time, on a clock that is the jitter ahead, in place of its time
+  abbrev pub let_go : Recorded
+  let_go = record packet {
+    at = Some (p.at + 1000 * options.jitter
+        - delay_after (measure_at plan p.k options) p.at (line_on net (link_at links p.k)).last);
+  }
+
+  pub let_go_is : IsLetGo options.jitter let_go packet
+  let_go_is =
+      let time : time_of packet ≡ p.at = time_is packet p.at p.timed in
+      let few = delay_within (measure_at plan p.k options) p.at (line_on net (link_at links p.k)).last in
+      record { bytes = refl; least = omega arith; most = omega arith }
 
   inside : p.k < length links
   inside = rw size p.admitted.placed.within
 
-  line_is : line_on net (link_at links_now p.k) ≡ line_then plan p.k options (tag_for net packet) packet.bytes (line_on net (link_at links p.k))
-  line_is = rw time (own_line plan options times links p.k (tag_of net number p.at) packet.bytes inside)
+  line_is : line_on net (link_at links_now p.k) ≡ line_then plan p.k options (tag_of net 0 p.at) packet.bytes (line_on net (link_at links p.k))
+  line_is = own_line plan options times links p.k (tag_of net number p.at) packet.bytes inside
 
   -- the packet is on its link's line
   clear_own : (rs : List Recorded) → AreClear plan p.k options net (line_on net (link_at links_now p.k)) rs
-      → AreClear plan p.k options net (line_on net (link_at links p.k)) (packet ∷ rs)
+      → AreClear plan p.k options net (line_on net (link_at links p.k)) (let_go ∷ rs)
   clear_own rs later = (
-    record { octets = octets; admitted = p.admitted; wrong = rw time p.wrong },
+    record {
+      octets = record { octets = octets.octets; sum = octets.sum };
+      admitted = p.admitted;
+      at = p.at;
+      wrong = p.wrong;
+      released = refl;
+    },
     subst (λ l. AreClear plan p.k options net l rs) line_is later,
   )
 
@@ -130,11 +156,29 @@ module _ (plan : Plan) (options : Options) (times : Times) (links : List Link) (
   line_same : (k : ℕ) (m : Net) → (k ≡ p.k → same_net net m ≡ false) → line_on m (link_at links_now k) ≡ line_on m (link_at links k)
   line_same k m apart = same_line plan options times links p.k (tag_of net number p.at) packet.bytes k m inside apart
 
-  pub clear_next : (ps : List OnNet) (k : ℕ) (m : Net) → k < length plan.links
-      → ((n : Net) → AreClear plan k options n (line_on n (link_at links_now k)) (own_packets plan k (packets_of n ps)))
-      → AreClear plan k options m (line_on m (link_at links k))
-      (own_packets plan k (packets_of m (record { net = net; number = number; packet = packet } ∷ ps)))
-  clear_next ps k m within later = grind (arith, packets_next, cases_Bool, same_is, cases_eq, p.admitted, clear_own, line_same, with_other, with_own)
+  clear_here : (list : Net → List Recorded) (k : ℕ) → k < length plan.links
+      → AreClear plan k options net (line_on net (link_at links_now k)) (own_packets plan k (list net))
+      → AreClear plan k options net (line_on net (link_at links k)) (own_packets plan k (let_go ∷ list net))
+  clear_here list k within later = elim (cases_eq k p.k) [
+    | inl same ↦ subst (λ j. AreClear plan j options net (line_on net (link_at links j)) (own_packets plan j (let_go ∷ list net))) (sym same)
+        (subst (λ rs. AreClear plan p.k options net (line_on net (link_at links p.k)) rs)
+        (sym (with_own (λ (r : Recorded). link_in r.bytes) (id_of plan p.k) let_go (list net) p.admitted.placed.link))
+        (clear_own (own_packets plan p.k (list net))
+        (subst (λ j. AreClear plan j options net (line_on net (link_at links_now j)) (own_packets plan j (list net))) same later)))
+    | inr other ↦ subst (λ rs. AreClear plan k options net (line_on net (link_at links k)) rs)
+        (sym (with_other (λ (r : Recorded). link_in r.bytes) (id_of plan k) let_go (list net) (λ its.
+        other (valid.links_apart k p.k within p.admitted.placed.within (ap vl_of (sym its ∙ p.admitted.placed.link))))))
+        (subst (λ l. AreClear plan k options net l (own_packets plan k (list net))) (line_same k net (λ same. absurd (other same))) later)
+  ]
+
+  pub clear_next : (list : Net → List Recorded) (k : ℕ) (m : Net) → k < length plan.links
+      → ((n : Net) → AreClear plan k options n (line_on n (link_at links_now k)) (own_packets plan k (list n)))
+      → AreClear plan k options m (line_on m (link_at links k)) (own_packets plan k (list_with net let_go list m))
+  clear_next list k m within later = elim (cases_Bool (same_net net m)) [
+    | inl own ↦ rw own (subst (λ n. AreClear plan k options n (line_on n (link_at links k)) (own_packets plan k (let_go ∷ list n)))
+        (same_is net m own) (clear_here list k within (later net)))
+    | inr apart ↦ rw apart (subst (λ l. AreClear plan k options m l (own_packets plan k (list m))) (line_same k m (λ same. apart)) (later m))
+  ]
 
 -- ---- a recording
 
@@ -148,32 +192,46 @@ pub record IsPlacedAt (plan : Plan) (net : Net) (r : Recorded) : Type 0 where
   pub is : IsAdmitted plan k net r.bytes
 
 pub record AreSilent (plan : Plan) (options : Options) (links : List Link) (ps : List OnNet) : Type 0 where
+  pub list : Net → List Recorded
+  pub released : (net : Net) → AllZip (IsLetGo options.jitter) (list net) (packets_of net ps)
   pub clear : (k : ℕ) (net : Net) → k < length plan.links
-      → AreClear plan k options net (line_on net (link_at links k)) (own_packets plan k (packets_of net ps))
-  pub placed : (net : Net) → All (IsPlacedAt plan net) (packets_of net ps)
+      → AreClear plan k options net (line_on net (link_at links k)) (own_packets plan k (list net))
+  pub placed : (net : Net) → All (IsPlacedAt plan net) (list net)
 
 pub are_silent : (plan : Plan) (options : Options) (times : Times) (links : List Link) (ps : List OnNet) → IsPlan plan → options.fcs ≡ false
     → length links ≡ length plan.links → All (λ (p : OnNet). IsOctets p.packet) ps
     → found_from ps (judge_of plan options times false links) [] ≡ [] → AreSilent plan options links ps
-are_silent plan options times links [] valid plain size octets none = record { clear = λ k net inside. tt; placed = λ net. All-nil (IsPlacedAt plan net) }
+are_silent plan options times links [] valid plain size octets none = record {
+  list = λ net. [];
+  released = λ net. tt;
+  clear = λ k net inside. tt;
+  placed = λ net. All-nil (IsPlacedAt plan net);
+}
 are_silent plan options times links (p ∷ ps) valid plain size octets none =
     let j : Judging = judge_of plan options times false links in
     let first = grows ps (after_packet p.net p.number p.packet j) (found_with_packet p.net p.number p.packet j []) none in
     let q = packet_silent plan options times links p.net p.number p.packet plain first in
     let its : IsOctets p.packet = octets 0 p (omega arith) in
     let now : List Link = links_now plan options times links p.net p.number p.packet valid size its q in
+    let r : Recorded = let_go plan options times links p.net p.number p.packet valid size its q in
     let after = after_is plan options times false links p.net p.number q.at p.packet p.packet.bytes q.k q.timed q.whole q.placed in
     let later = are_silent plan options (times_with q.at times) now ps valid plain (length-set links q.k _ ∙ size)
     (All-tail (λ (p : OnNet). IsOctets p.packet) p ps octets) (next_none ps _ _ _ after first none) in
     record {
-      clear = λ k net inside. clear_next plan options times links p.net p.number p.packet valid size its q ps k net inside (λ m. later.clear k m inside);
-      placed = λ net. rw (packets_next net p ps) (elim (cases_Bool (same_net p.net net)) [
-        | inl its ↦ rw its (All-cons (IsPlacedAt plan net) p.packet (packets_of net ps) (record {
+      list = list_with p.net r later.list;
+      released = λ net. rw (packets_next net p ps) (elim (cases_Bool (same_net p.net net)) [
+        | inl own ↦ rw own (let_go_is plan options times links p.net p.number p.packet valid size its q, later.released net)
+        | inr apart ↦ rw apart (later.released net)
+      ]);
+      clear = λ k net inside. clear_next plan options times links p.net p.number p.packet valid size its q later.list k net inside
+          (λ m. later.clear k m inside);
+      placed = λ net. elim (cases_Bool (same_net p.net net)) [
+        | inl own ↦ rw own (All-cons (IsPlacedAt plan net) r (later.list net) (record {
           k = q.k;
-          is = subst (λ m. IsAdmitted plan q.k m p.packet.bytes) (same_is p.net net its) q.admitted;
+          is = subst (λ m. IsAdmitted plan q.k m p.packet.bytes) (same_is p.net net own) q.admitted;
         }) (later.placed net))
         | inr apart ↦ rw apart (later.placed net)
-      ]);
+      ];
     }
 
 -- ---- streams of a recording
@@ -188,6 +246,29 @@ frames_are s rs = ap (map (λ (e : Entry). e.frame))
 
 told_are : (s : ℕ) (rs : List Recorded) → told (sub_stream s (map entry_of rs)) ≡ map blanked (sub_frames s rs)
 told_are s rs = grind (arith, map-map blanked (λ (e : Entry). e.frame) (sub_stream s (map entry_of rs)), frames_are)
+
+-- packets with other times have the same frames
+frames_same : (vl s jitter : ℕ) (rs ps : List Recorded) → AllZip (IsLetGo jitter) rs ps
+    → frames_of vl s (map entry_of ps) ≡ frames_of vl s (map entry_of rs)
+frames_same vl s jitter [] [] zip = refl
+frames_same vl s jitter [] (p ∷ ps) zip = absurd zip
+frames_same vl s jitter (r ∷ rs) [] zip = absurd zip
+frames_same vl s jitter (r ∷ rs) (p ∷ ps) zip =
+    let later = frames_same vl s jitter rs ps zip.1 in
+    rw zip.0.bytes (elim (cases_Bool (nat_eq (link_in p.bytes) vl)) [
+      | inl its ↦ rw its (elim (cases_Bool (nat_eq (sub_in p.bytes) s)) [
+        | inl own ↦ rw own (ap (λ (fs : List (List ℕ)). p.bytes ∷ fs) later)
+        | inr other ↦ rw other later
+      ])
+      | inr other ↦ rw other later
+    ])
+
+entries_released : (jitter : ℕ) (rs ps : List Recorded) → AllZip (IsLetGo jitter) rs ps → AllZip (IsReleased jitter) (map entry_of rs) ps
+entries_released jitter [] [] zip = tt
+entries_released jitter [] (p ∷ ps) zip = absurd zip
+entries_released jitter (r ∷ rs) [] zip = absurd zip
+entries_released jitter (r ∷ rs) (p ∷ ps) zip =
+    (record { frame = zip.0.bytes; least = omega arith; most = omega arith }, entries_released jitter rs ps zip.1)
 
 -- an element that passes both tests shows that some do
 later_none : {X : Type 0} (f g : X → ℕ) (m n : ℕ) (x : X) (xs : List X) → those_with f m (those_with g n (x ∷ xs)) ≡ []
@@ -216,26 +297,26 @@ map_none f (x ∷ xs) none = absurd (cc (none))
 
 module _ (plan : Plan) (options : Options) (recording : List OnNet) (net : Net) (strict : IsStrict plan options recording)
     (none : findings plan options recording ≡ []) where
-  abbrev pub rs : List Recorded
-  rs = packets_of net recording
-
-  abbrev pub own : ℕ → List Recorded
-  own k = own_packets plan k rs
-
-  silent : AreSilent plan options (links_at_start plan options) recording
+  pub silent : AreSilent plan options (links_at_start plan options) recording
   silent = are_silent plan options no_times (links_at_start plan options) recording strict.valid strict.fcs
       (length-replicate (length plan.links) (new_link options.late false)) strict.octets
       (subst (λ o. findings plan o recording ≡ []) (own_options options strict.profile) none)
+
+  abbrev pub rs : List Recorded
+  rs = silent.list net
+
+  abbrev pub own : ℕ → List Recorded
+  own k = own_packets plan k rs
 
   clear : (k : ℕ) → k < length plan.links → AreClear plan k options net (new_line false false) (own k)
   clear k inside = subst (λ l. AreClear plan k options net l (own k))
       (line_is_new plan options k net inside ∙ ap (λ (late : Bool). new_line late false) strict.early) (silent.clear k net inside)
 
   few : (k : ℕ) → 0 + length (own k) ≤ 2 ^ 64 - 1
-  few k = grind (arith, filter_short, length-map)
+  few k = grind (arith, filter_short, length-map, AllZip-long (IsLetGo options.jitter) rs (packets_of net recording) (silent.released net))
 
   line_heard : (k : ℕ) → k < length plan.links → AreHeard plan k 0 None (new_line false false).subs (map entry_of (own k))
-  line_heard k inside = heard plan k options net (new_line false false) (own k) 0 None strict.early strict.jitter
+  line_heard k inside = heard plan k options net (new_line false false) (own k) 0 None strict.early
       (record { last = λ early. (refl, refl); frames = refl; size = refl; came = λ p. omega (arith, (new_is false p).1) }) (few k) (clear k inside)
 
   sub_heard : (k s : ℕ) → k < length plan.links → s < 4 → IsSubSilent plan k s net (new_sub false false s).joining (sub_frames s (own k))
@@ -243,7 +324,8 @@ module _ (plan : Plan) (options : Options) (recording : List OnNet) (net : Net) 
       (sub_silent plan k s options net (new_line false false) (own k) four refl (clear k inside))
 
   sent_frames : (k s : ℕ) → frames_of (id_of plan k) s (sent_to net recording) ≡ sub_frames s (own k)
-  sent_frames k s = ap (λ (es : List Entry). map (λ (e : Entry). e.frame) (sub_stream s es)) (stream_is plan k rs) ∙ frames_are s (own k)
+  sent_frames k s = frames_same (id_of plan k) s options.jitter rs (packets_of net recording) (silent.released net)
+      ∙ ap (λ (es : List Entry). map (λ (e : Entry). e.frame) (sub_stream s es)) (stream_is plan k rs) ∙ frames_are s (own k)
 
   -- these accepted messages give what is recorded of a sub-VL
   abbrev IsOf : ℕ → ℕ → List Sent → Type 0
@@ -304,7 +386,7 @@ module _ (plan : Plan) (options : Options) (recording : List OnNet) (net : Net) 
     ]
   ]
 
-  pub is_sent_to : IsSentTo plan net (sent_to net recording)
+  is_sent_to : IsSentTo plan net (map entry_of rs)
   is_sent_to = record {
     accepted = λ k s. (every k s).0;
     allowed = λ k s inside index. ((every k s).1 inside index).0;
@@ -322,5 +404,12 @@ module _ (plan : Plan) (options : Options) (recording : List OnNet) (net : Net) 
     turns = λ k inside. rw (stream_is plan k rs) (line_heard k inside).turns;
   }
 
+  pub is_explained : IsExplained plan options net (packets_of net recording)
+  is_explained = record {
+    handed = map entry_of rs;
+    released = entries_released options.jitter rs (packets_of net recording) (silent.released net);
+    sent = is_sent_to;
+  }
+
 pub nothing_missed_holds : NothingMissed
-nothing_missed_holds plan options recording strict none net = grind (arith, is_sent_to)
+nothing_missed_holds plan options recording strict none net = is_explained plan options recording net strict none

@@ -1,26 +1,25 @@
 -- The lines and the frames of a sub-VL in which a judge finds nothing: the frames are numbered and spaced and take turns, and are
 -- the fragments of messages.
-use Rattle.judge_laws.proofs.Names.{All, All-cons, All-contains, All-nil, Arrived, Bool, Entry, IsAllowed, IsApart, IsLink, IsNumbered, IsPlan, IsPort, IsSpaced, Joining, Last, Line, List, Measure, Net, None, Option, Options, Piece, Plan, PortPlan, Recorded, Sent, Some, Stamp, Sub, Tag, TakesTurns, Verdict, ap, append-nil, append_assoc, arith, bag_micros, blanked, cases_Bool, cases_eq, cases_lt, cut_whole, datagram, drop, drop_at, due_before, early_since, entry_number, fails_before_first, false, fields_of, figures_with, fragments, fragments_from, get_or, get_or_past, inl, inr, le-ltb, left_none, length, length-append, length-drop, length-set, link_plan_at, lt-ltb, map, nat_tests, new_sub, next_number, next_of, number_deviation, number_in, number_unless, passed_by, piece_at, position, refl, sequence_number, slice_set, stamp_of, step_of, sub_at, sub_in, subst, suc, sym, tag_of, take_at, those_with, true, turn_deviation, turn_if, unnumbered, verdict, ℕ, [], ◌*◌, ◌++◌, ◌+◌, ◌-◌, ◌/◌, ◌<◌, ◌^◌, ◌∙◌, ◌∷◌, ◌≡◌, ◌≤◌, time_of, EndsWhole, IsOctets, entry_of}
+use Rattle.judge_laws.proofs.Names.{All, All-cons, All-contains, All-nil, Arrived, Bool, Entry, delay_after, IsAllowed, IsApart, IsLink, IsNumbered, IsPlan, IsPort, IsSpaced, Joining, Last, Line, List, Measure, Net, None, Option, Options, Piece, Plan, PortPlan, Recorded, Sent, Some, Stamp, Sub, TakesTurns, Verdict, ap, append-nil, append_assoc, arith, bag_micros, blanked, cases_Bool, cases_eq, cases_lt, cut_whole, datagram, drop, drop_at, due_before, early_since, entry_number, fails_before_first, false, fields_of, figures_with, fragments, fragments_from, get_or, get_or_past, inl, inr, le-ltb, left_none, length, length-append, length-drop, length-set, link_plan_at, lt-ltb, map, nat_tests, new_sub, next_number, next_of, number_deviation, number_in, number_unless, passed_by, piece_at, position, refl, sequence_number, slice_set, stamp_of, step_of, sub_at, sub_in, subst, suc, sym, tag_of, take_at, those_with, true, turn_deviation, turn_if, unnumbered, verdict, ℕ, [], ◌*◌, ◌++◌, ◌+◌, ◌-◌, ◌/◌, ◌<◌, ◌^◌, ◌∙◌, ◌∷◌, ◌≡◌, ◌≤◌, time_of, EndsWhole, IsOctets, entry_of}
 use Rattle.judge_laws.proofs.Line.{AreDue, IsFaultless, IsLast, IsRight, come_of, faultless, is_passed, line_of, line_then, measure_at, number_goes_on, own_is, own_sub, right_after, sub_new_at, sub_of, sub_other, sub_other_at, sub_same}
 use Rattle.judge_laws.proofs.Message.{IsDue, IsNext, joining_after, last_joined, more_joined, port_at, room_at}
 use Rattle.judge_laws.proofs.Pieces.{comes_first, cut_at, due_from}
 use Rattle.judge_laws.proofs.Quiet.{Brings, IsAdmitted, IsBetween, IsQuiet, IsWhole, IsWithin, body_in, brings_first, brings_later, ends_says, fits_says, length_says, piece_in, size, tells_whole}
 use Rattle.judge_laws.proofs.Reading.{more_of, number_of, rebuilt, sub_of_frame, with_other, with_own}
 
--- a packet as it comes to a line
-abbrev pub tag_for : Net → Recorded → Tag
-tag_for net r = tag_of net 0 (time_of r)
-
--- nothing is wrong with it
+-- Nothing is wrong with a frame that is recorded at this time. The packet has its release time, on a clock that is the
+-- jitter ahead.
 pub record IsClear (plan : Plan) (k : ℕ) (options : Options) (net : Net) (line : Line) (r : Recorded) : Type 0 where
   pub octets : IsOctets r
   pub admitted : IsAdmitted plan k net r.bytes
-  pub wrong : IsFaultless plan k options (tag_for net r) r.bytes line
+  pub at : ℕ
+  pub wrong : IsFaultless plan k options (tag_of net 0 at) r.bytes line
+  pub released : time_of r ≡ at + 1000 * options.jitter - delay_after (measure_at plan k options) at line.last
 
 abbrev pub AreClear : Plan → ℕ → Options → Net → Line → List Recorded → Type 0
 AreClear plan k options net line [] = Unit {0}
-AreClear plan k options net line (r ∷ rs) = IsClear plan k options net line r
-    × AreClear plan k options net (line_then plan k options (tag_for net r) r.bytes line) rs
+AreClear plan k options net line (r ∷ rs) = (clear : IsClear plan k options net line r)
+    × AreClear plan k options net (line_then plan k options (tag_of net 0 clear.at) r.bytes line) rs
 
 -- a line on which nothing is wrong with a frame
 pub wrong_right : (measure : Measure) (port : Option PortPlan) (come : Arrived) (line : Line) → measure.arinc ≡ false
@@ -29,23 +28,32 @@ unfolding verdict
 wrong_right measure port come line own wrong =
     let number : number_deviation measure.late come.fields.number line ≡ None = ap (λ (v : Verdict). v.number) wrong in
     let turn : turn_deviation come.sub line ≡ None = rw number at (ap (λ (v : Verdict). v.turn) wrong) in
-    let fits = rw (number, turn) at (ap (λ (v : Verdict). v.fragment) wrong) in
-    let ends = rw (number, turn, fits) at (ap (λ (v : Verdict). v.message) wrong) in
+    let fits = rw (number, turn, own) at (ap (λ (v : Verdict). v.fragment) wrong) in
+    let ends = rw (number, turn, own, fits) at (ap (λ (v : Verdict). v.message) wrong) in
     let early = ap (λ (v : Verdict). v.early) wrong in
     let of_port = ap (λ (v : Verdict). v.port) wrong in
     assumption
 
--- the last frame of a line after `i` frames, its time in microseconds
-abbrev pub IsLastAt : ℕ → Option Stamp → Option Last → Type 0
-IsLastAt i before last = IsLast 0 1 false i before last
+-- a frame's release time in microseconds, on that clock
+pub record IsLet (jitter at : ℕ) (last : Last) : Type 0 where
+  pub release : at ≡ (last.at + 1000 * jitter - last.delay) / 1000
+  pub within : last.delay ≤ 1000 * jitter
 
-number_from : (i number : ℕ) (before : Option Stamp) (last : Option Last) → IsLastAt i before last
+-- the last frame of a line after `i` frames
+abbrev pub IsLastAt : ℕ → ℕ → Option Stamp → Option Last → Type 0
+IsLastAt jitter i before last = IsLast (IsLet jitter) false i before last
+
+number_from : (jitter i number : ℕ) (before : Option Stamp) (last : Option Last) → IsLastAt jitter i before last
     → number_unless number (next_number false last) ≡ None → number ≡ sequence_number i
-number_from i number before last is none = grind (arith, nat_tests, number_goes_on)
+number_from jitter i number before last is none = grind (arith, nat_tests, number_goes_on)
 
-apart_from : (gap i at : ℕ) (before : Option Stamp) (last : Option Last) → IsLastAt i before last
-    → early_since (1000 * gap) at last ≡ None → IsApart gap before (at / 1000)
-apart_from gap i at before last is none = grind (arith, nat_tests)
+apart_from : (gap jitter i at : ℕ) (measure : Measure) (before : Option Stamp) (last : Option Last) → measure.gap ≡ 1000 * gap
+    → IsLastAt jitter i before last → early_since measure.gap at last ≡ None
+    → IsApart gap before ((at + 1000 * jitter - delay_after measure at last) / 1000)
+apart_from gap jitter i at measure before last is_gap is none = grind (arith, nat_tests)
+
+pub delay_within : (measure : Measure) (at : ℕ) (last : Option Last) → delay_after measure at last ≤ measure.jitter
+delay_within measure at last = grind (arith, nat_tests)
 
 -- ---- turns
 
@@ -72,8 +80,8 @@ due_back subs i e es s new later size came few its counts none = grind (arith, n
 -- ---- a line
 
 -- where a line is after `i` frames
-pub record IsAt (line : Line) (i : ℕ) (before : Option Stamp) : Type 0 where
-  pub last : IsLastAt i before line.last
+pub record IsAt (jitter : ℕ) (line : Line) (i : ℕ) (before : Option Stamp) : Type 0 where
+  pub last : IsLastAt jitter i before line.last
   pub frames : line.figures.frames ≡ i
   pub size : length line.subs ≡ 4
   pub came : (p : ℕ) → (own_sub line.subs p).came ≤ i
@@ -85,9 +93,17 @@ pub record AreHeard (plan : Plan) (k i : ℕ) (before : Option Stamp) (subs : Li
   pub due : AreDue subs i es
   pub turns : TakesTurns es
 
-pub after_clear : (plan : Plan) (k : ℕ) (options : Options) (net : Net) (line : Line) (r : Recorded) → IsClear plan k options net line r
-    → line_then plan k options (tag_for net r) r.bytes line
-    ≡ line_of (port_at plan k r.bytes) (come_of plan k options (tag_for net r) r.bytes line) line (sub_in r.bytes)
+-- a frame of this time
+abbrev pub come_at : Plan → ℕ → Options → Net → Line → Recorded → ℕ → Arrived
+come_at plan k options net line r at = come_of plan k options (tag_of net 0 at) r.bytes line
+
+abbrev pub line_with_it : Plan → ℕ → Options → Net → Line → Recorded → ℕ → Line
+line_with_it plan k options net line r at =
+    line_of (measure_at plan k options) (port_at plan k r.bytes) (come_at plan k options net line r at) line (sub_in r.bytes)
+
+pub after_clear : (plan : Plan) (k : ℕ) (options : Options) (net : Net) (line : Line) (r : Recorded)
+    → (clear : IsClear plan k options net line r)
+    → line_then plan k options (tag_of net 0 clear.at) r.bytes line ≡ line_with_it plan k options net line r clear.at
 after_clear plan k options net line r clear = grind (arith, nat_tests, right_after, wrong_right, sub_of_frame)
 
 turn_none : (sub : ℕ) (due : Option ℕ) → turn_if sub due ≡ None → due ≡ None
@@ -95,13 +111,13 @@ turn_none sub due none = grind (arith, nat_tests)
 
 -- a packet on its line
 module _ (plan : Plan) (k : ℕ) (options : Options) (net : Net) (line : Line) (r : Recorded) (i : ℕ) (before : Option Stamp)
-    (early : options.late ≡ false) (jitter : options.jitter ≡ 0) (is : IsAt line i before) (few : i + 1 ≤ 2 ^ 64 - 1)
+    (early : options.late ≡ false) (is : IsAt options.jitter line i before) (few : i + 1 ≤ 2 ^ 64 - 1)
     (clear : IsClear plan k options net line r) where
   abbrev s : ℕ
   s = sub_in r.bytes
 
   abbrev come : Arrived
-  come = come_of plan k options (tag_for net r) r.bytes line
+  come = come_at plan k options net line r clear.at
 
   abbrev new : Sub
   new = sub_of (port_at plan k r.bytes) come line s
@@ -113,30 +129,49 @@ module _ (plan : Plan) (k : ℕ) (options : Options) (net : Net) (line : Line) (
   counts = rw is.frames (omega arith)
 
   number : number_in r.bytes ≡ sequence_number i
-  number = sym (number_of r.bytes) ∙ number_from i (fields_of r.bytes).number before line.last is.last (rw early at right.number)
+  number = sym (number_of r.bytes) ∙ number_from options.jitter i (fields_of r.bytes).number before line.last is.last (rw early at right.number)
 
-  at_next : IsAt (line_of (port_at plan k r.bytes) come line s) (i + 1) (Some (stamp_of (entry_of r)))
-  at_next = grind (arith, nat_tests, number, number_of, counts, length-set, cases_eq, sub_same, sub_other)
+  let_go : IsLet options.jitter (time_of r / 1000)
+      (record { number = come.fields.number; at = clear.at; delay = delay_after (measure_at plan k options) clear.at line.last })
+  let_go = record {
+    release = ap (λ (t : ℕ). t / 1000) clear.released;
+    within = delay_within (measure_at plan k options) clear.at line.last;
+  }
+
+  at_next : IsAt options.jitter (line_with_it plan k options net line r clear.at) (i + 1) (Some (stamp_of (entry_of r)))
+  at_next = record {
+    last = record {
+      n = i;
+      count = refl;
+      number = number_of r.bytes ∙ number;
+      stamp = stamp_of (entry_of r);
+      known = refl;
+      released = let_go;
+    };
+    frames = counts;
+    size = length-set line.subs s new ∙ is.size;
+    came = λ p. grind (arith, nat_tests, counts, cases_eq p s, sub_same, sub_other, is.came p);
+  }
 
   heard_next : (rs : List Recorded) → AreHeard plan k (i + 1) (Some (stamp_of (entry_of r))) (slice_set line.subs s new) (map entry_of rs)
       → AreHeard plan k i before line.subs (entry_of r ∷ map entry_of rs)
   heard_next rs later =
       let four : s < 4 = omega arith in
-      let gap : 1000 * (bag_micros (link_plan_at plan.links k).bag - options.jitter) ≡ 1000 * bag_micros (link_plan_at plan.links k).bag =
-      rw jitter (omega arith) in
       let turn = subst (λ q. passed_by q line.subs ≡ None) (sub_of_frame r.bytes) (turn_none come.sub (passed_by come.sub line.subs) right.turn) in
-      let apart = apart_from (bag_micros (link_plan_at plan.links k).bag) i (time_of r) before line.last is.last (rw gap at right.early) in
+      let apart : IsApart (bag_micros (link_plan_at plan.links k).bag) before (time_of r / 1000) =
+      rw clear.released (apart_from (bag_micros (link_plan_at plan.links k).bag) options.jitter i clear.at (measure_at plan k options) before line.last
+      refl is.last right.early) in
       let due = due_back line.subs i (entry_of r) (map entry_of rs) s new later.due is.size is.came four refl counts turn in
       grind (arith, nat_tests, number, apart, due, sub_same, more_of)
 
 pub heard : (plan : Plan) (k : ℕ) (options : Options) (net : Net) (line : Line) (rs : List Recorded) (i : ℕ) (before : Option Stamp)
-    → options.late ≡ false → options.jitter ≡ 0 → IsAt line i before → i + length rs ≤ 2 ^ 64 - 1 → AreClear plan k options net line rs
+    → options.late ≡ false → IsAt options.jitter line i before → i + length rs ≤ 2 ^ 64 - 1 → AreClear plan k options net line rs
     → AreHeard plan k i before line.subs (map entry_of rs)
-heard plan k options net line [] i before early jitter is few clear = grind (arith, nat_tests)
-heard plan k options net line (r ∷ rs) i before early jitter is few clear =
-    heard_next plan k options net line r i before early jitter is (omega arith) clear.0 rs
-    (heard plan k options net (line_of (port_at plan k r.bytes) (come_of plan k options (tag_for net r) r.bytes line) line (sub_in r.bytes)) rs (i + 1)
-    (Some (stamp_of (entry_of r))) early jitter (at_next plan k options net line r i before early jitter is (omega arith) clear.0) (omega arith)
+heard plan k options net line [] i before early is few clear = grind (arith, nat_tests)
+heard plan k options net line (r ∷ rs) i before early is few clear =
+    heard_next plan k options net line r i before early is (omega arith) clear.0 rs
+    (heard plan k options net (line_with_it plan k options net line r clear.0.at) rs (i + 1) (Some (stamp_of (entry_of r))) early
+    (at_next plan k options net line r i before early is (omega arith) clear.0) (omega arith)
     (subst (λ l. AreClear plan k options net l rs) (after_clear plan k options net line r clear.0) clear.1))
 
 -- the judge finds nothing in these frames of a sub-VL, and then knows `last`
@@ -329,7 +364,7 @@ sub_frames s rs = map (λ (r : Recorded). r.bytes) (those_with (λ (r : Recorded
 quiet : (plan : Plan) (k s : ℕ) (options : Options) (net : Net) (line : Line) (r : Recorded) → IsClear plan k options net line r
     → sub_in r.bytes ≡ s → IsQuiet plan k s net (sub_at line.subs s).joining r.bytes
 quiet plan k s options net line r clear its =
-    let right = subst (λ q. IsRight (measure_at plan k options) (port_at plan k r.bytes) (come_of plan k options (tag_for net r) r.bytes line) line q)
+    let right = subst (λ q. IsRight (measure_at plan k options) (port_at plan k r.bytes) (come_at plan k options net line r clear.at) line q)
     (sub_of_frame r.bytes ∙ its) (wrong_right _ _ _ line refl clear.wrong) in
     let of_sub = sub_of_frame r.bytes ∙ its in
     assumption (right, of_sub)
@@ -343,8 +378,8 @@ pub sub_silent : (plan : Plan) (k s : ℕ) (options : Options) (net : Net) (line
 sub_silent plan k s options net line [] few size clear = record { last = (sub_at line.subs s).joining; silent = refl }
 sub_silent plan k s options net line (r ∷ rs) few size clear =
     let q : ℕ = sub_in r.bytes in
-    let new : Sub = sub_of (port_at plan k r.bytes) (come_of plan k options (tag_for net r) r.bytes line) line q in
-    let later = sub_silent plan k s options net (line_of (port_at plan k r.bytes) (come_of plan k options (tag_for net r) r.bytes line) line q) rs few
+    let new : Sub = sub_of (port_at plan k r.bytes) (come_at plan k options net line r clear.0.at) line q in
+    let later = sub_silent plan k s options net (line_with_it plan k options net line r clear.0.at) rs few
     (length-set line.subs q new ∙ size) (subst (λ l. AreClear plan k options net l rs) (after_clear plan k options net line r clear.0) clear.1) in
     elim (cases_eq q s) [
       | inl its ↦

@@ -1,5 +1,5 @@
 -- A judge over a whole recording, in the order of time: nothing is found.
-use Rattle.judge_laws.proofs.Names.{get_or, None, AllZip-long, A, Accepted, All, All-cons, All-filter, All-from_get_or, All-map, All-nil, All-tail, All-weaker, AllZip, B, Bool, Entry, Finding, IsPlan, Link, LinkPlan, List, Nearness, Net, OnNet, Option, Options, Pairing, Plan, Recorded, Setting, Some, Tag, Times, Wait, ap, append-nil, arith, bag_micros, cases_Bool, false, filter, findings, found_at_end, found_from, found_given_up, found_left, found_missing, found_with_end, inl, inr, is_both, le_refl, length, link_at, link_in, link_plan_at, link_stream, map, nat_eq, new_link, no_times, number_in, on_both, refl, same_net, side, stream_side, subst, sym, tag_of, take_all, times_with, true, unwrap_or, ℕ, [], ◌*◌, ◌++◌, ◌+◌, ◌<◌, ◌∙◌, ◌∷◌, ◌≡◌, ◌≤◌, AreFit, IsRecord, IsSent, packets_of, IsInOrder, NothingFound, time_of}
+use Rattle.judge_laws.proofs.Names.{get_or, None, AllZip-long, A, Accepted, All, All-cons, All-filter, All-from_get_or, All-map, All-nil, All-tail, All-weaker, AllZip, B, Bool, Entry, Finding, IsPlan, Link, LinkPlan, List, Nearness, Net, OnNet, Option, Options, Pairing, Plan, Recorded, Setting, Some, Tag, Times, Wait, ap, append-nil, arith, bag_micros, cases_Bool, false, filter, findings, found_at_end, found_from, found_given_up, found_left, found_missing, found_with_end, inl, inr, is_both, le_refl, length, link_at, link_in, link_plan_at, link_stream, map, nat_eq, new_link, no_times, number_in, on_both, refl, same_net, side, stream_side, subst, sym, tag_of, take_all, times_with, true, unwrap_or, ℕ, [], ◌*◌, ◌++◌, ◌+◌, ◌<◌, ◌∙◌, ◌∷◌, ◌≡◌, ◌≤◌, AreFit, IsRecord, IsSent, lag_of, packets_of, IsInOrder, NothingFound, time_of}
 use Rattle.judge_laws.proofs.Begin.{IsOwn, both_copies, copies_begin, going_begins, handed_to, link_is_new, links_at_start, own_options, owns, stream_on_both}
 use Rattle.judge_laws.proofs.Copies.{AreCopied, IsStream, copies_go_on}
 use Rattle.judge_laws.proofs.Leading.{AllStay, AreOpen, ArePast, IsLedBy, IsWaitFor, LeadsOn, leads_on, other, past_later, rest_both, stay_kept}
@@ -7,14 +7,14 @@ use Rattle.judge_laws.proofs.Reading.{zip_at}
 use Rattle.judge_laws.proofs.Recording.{AreRecorded, AreTwins, IsGoing, IsPacketTaken, IsRecorded, id_of, judge_of, nearness_at, packet_taken, recorded_after, recorded_next, rest_after, rest_of, setting_at, stream_next, twins_go_on}
 
 -- one network of a link on both leads, and no frame of a link on one network waits
-pub record IsLed (gap origin jitter latest : ℕ) (rest : Net → List Entry) (waiting : List Wait) : Type 0 where
+pub record IsLed (gap : ℕ) (origin : Net → ℕ) (jitter latest : ℕ) (rest : Net → List Entry) (waiting : List Wait) : Type 0 where
   pub stream : List Entry
   pub is_stream : IsStream gap stream
   pub lead : Net
   pub leading : IsLedBy stream origin jitter rest waiting lead
   pub past : ArePast latest waiting
 
-pub record IsPaired (plan : Plan) (origin : ℕ) (options : Options) (latest k : ℕ) (rest : Net → List Entry) (p : Pairing) : Type 0 where
+pub record IsPaired (plan : Plan) (origin : Net → ℕ) (options : Options) (latest k : ℕ) (rest : Net → List Entry) (p : Pairing) : Type 0 where
   pub both : is_both (link_plan_at plan.links k).networks ≡ true
       → IsLed (bag_micros (link_plan_at plan.links k).bag) origin options.jitter latest rest p.waiting
   pub alone : is_both (link_plan_at plan.links k).networks ≡ false → p.waiting ≡ []
@@ -54,11 +54,11 @@ unfolding found_missing
 none_given_up setting tag number link found stay = grind (arith, cases_Bool, stay_kept, append-nil)
 
 -- a packet, no frame before which is still to come
-module _ (plan : Plan) (origin : ℕ) (options : Options) (times : Times) (told : Bool) (links : List Link) (net : Net) (number : ℕ)
-    (packet : Recorded) (e : Entry) (es : List Entry) (rest : Net → List Entry) (latest : ℕ) (fit : AreFit plan options)
-    (wide : options.jitter ≤ options.skew) (next : rest net ≡ e ∷ es)
+module _ (plan : Plan) (origin : Net → ℕ) (options : Options) (times : Times) (told : Bool) (links : List Link) (net : Net) (number : ℕ)
+    (packet : Recorded) (e : Entry) (es : List Entry) (rest : Net → List Entry) (latest : ℕ) (fit : AreFit plan options origin)
+    (wide : 1000 * options.jitter + lag_of origin ≤ 1000 * options.skew) (next : rest net ≡ e ∷ es)
     (t : IsPacketTaken plan origin options times told links net number packet e es rest) (up : latest ≤ t.at)
-    (limits : (m : Net) → AreOpen origin options.jitter t.at (rest m)) (pairs : AreTwins plan (IsPaired plan origin options latest) links rest) where
+    (limits : (m : Net) → AreOpen (origin m) options.jitter t.at (rest m)) (pairs : AreTwins plan (IsPaired plan origin options latest) links rest) where
   abbrev k : ℕ
   k = t.known.k
 
@@ -74,7 +74,7 @@ module _ (plan : Plan) (origin : ℕ) (options : Options) (times : Times) (told 
       (nearness_at options t.at times) (tag_of net number t.at) (link_at links k).twins e (link_stream (id_of plan k) es) (rest_of plan k rest)
       (rest_of plan k (rest_after net es rest)) (pair both).is_stream refl wide (fit.skew k t.known.within both) up t.delayed
       (λ m. All-filter (λ (e : Entry). nat_eq (link_in e.frame) (id_of plan k))
-      (λ (e : Entry). t.at ≤ origin + 1000 * (e.at + options.jitter)) (rest m) (limits m)) t.known.size
+      (λ (e : Entry). t.at ≤ origin m + 1000 * (e.at + options.jitter)) (rest m) (limits m)) t.known.size
       (stream_next (id_of plan k) (rest net) e es next t.known.link)
       (ap (link_stream (id_of plan k)) (rest_both net es rest).0) (ap (link_stream (id_of plan k)) (rest_both net es rest).1)
       (pair both).lead (pair both).leading (pair both).past
@@ -127,7 +127,7 @@ none_left nearness at (plan ∷ plans) (link ∷ links) found all =
     rw (all 0 link (omega arith)) (rw (append-nil found) (none_left nearness at plans links found
     (All-tail (λ (link : Link). link.twins.waiting ≡ []) link links all)))
 
-nothing_waits : (origin jitter : ℕ) (lead net : Net) (ahead coming : List Entry) (ws : List Wait) → [] ≡ map (side net) (ahead ++ coming)
+nothing_waits : (origin : Net → ℕ) (jitter : ℕ) (lead net : Net) (ahead coming : List Entry) (ws : List Wait) → [] ≡ map (side net) (ahead ++ coming)
     → AllZip (IsWaitFor origin jitter lead) ahead ws → ws ≡ []
 nothing_waits origin jitter lead net [] coming [] none zip = refl
 nothing_waits origin jitter lead net (o ∷ os) coming ws none zip = absurd (cc (none))
@@ -136,7 +136,7 @@ nothing_waits origin jitter lead net [] coming (w ∷ ws) none zip = absurd zip
 -- ---- a recording
 
 -- nothing comes after the recording
-abbrev AreAllRecorded : (origin : ℕ) (options : Options) (rest : Net → List Entry) (recording : List OnNet) → Type 0
+abbrev AreAllRecorded : (origin : Net → ℕ) (options : Options) (rest : Net → List Entry) (recording : List OnNet) → Type 0
 AreAllRecorded origin options rest recording = AreRecorded origin options (λ net. []) rest recording
 
 zip_of : (origin : ℕ) (options : Options) (es : List Entry) (packets : List Recorded) → IsRecorded origin options [] es packets
@@ -147,7 +147,7 @@ all_came : (origin : ℕ) (options : Options) (es : List Entry) → AllZip (IsRe
 all_came origin options [] zip = refl
 all_came origin options (e ∷ es) zip = absurd zip
 
-none_waits : (plan : Plan) (origin : ℕ) (options : Options) (latest : ℕ) (links : List Link) (rest : Net → List Entry)
+none_waits : (plan : Plan) (origin : Net → ℕ) (options : Options) (latest : ℕ) (links : List Link) (rest : Net → List Entry)
     → length links ≡ length plan.links → AreTwins plan (IsPaired plan origin options latest) links rest → ((net : Net) → rest net ≡ [])
     → All (λ (link : Link). link.twins.waiting ≡ []) links
 none_waits plan origin options latest links rest size pairs none =
@@ -162,8 +162,8 @@ none_waits plan origin options latest links rest size pairs none =
       | inr one ↦ (pairs k inside).alone one
     ]
 
-goes_silent : (plan : Plan) (origin : ℕ) (options : Options) (times : Times) (told : Bool) (links : List Link) (recording : List OnNet)
-    (rest : Net → List Entry) (latest : ℕ) (found : List Finding) → IsPlan plan → AreFit plan options → options.jitter ≤ options.skew
+goes_silent : (plan : Plan) (origin : Net → ℕ) (options : Options) (times : Times) (told : Bool) (links : List Link) (recording : List OnNet)
+    (rest : Net → List Entry) (latest : ℕ) (found : List Finding) → IsPlan plan → AreFit plan options origin → 1000 * options.jitter + lag_of origin ≤ 1000 * options.skew
     → IsGoing plan origin options links rest → AreTwins plan (AreCopied plan origin options) links rest
     → AreTwins plan (IsPaired plan origin options latest) links rest → IsInOrder latest recording
     → AreAllRecorded origin options rest recording → found_from recording (judge_of plan options times told links) found ≡ found
@@ -171,16 +171,16 @@ unfolding found_with_end
 goes_silent plan origin options times told links [] rest latest found valid fit wide is twins pairs order zip =
     none_left _ _ plan.links links found
     (none_waits plan origin options latest links rest is.size pairs
-    (λ net. all_came origin options (rest net) (zip_of origin options (rest net) [] (zip net))))
+    (λ net. all_came (origin net) options (rest net) (zip_of (origin net) options (rest net) [] (zip net))))
 goes_silent plan origin options times told links (p ∷ ps) rest latest found valid fit wide is twins pairs order zip =
     let next = recorded_next origin options (λ net. []) rest p ps zip in
-    let t = packet_taken plan origin options times told links p.net p.number p.packet next.first next.later rest valid fit is next.is
+    let t = packet_taken plan origin options times told links p.net p.number p.packet next.first next.later rest valid is next.is
     next.recorded in
     let met = copies_go_on plan origin options times told links p.net p.number p.packet next.first next.later rest fit next.is t twins in
     let time : time_of p.packet ≡ t.at = time_is p.packet t.at t.timed in
     let up : latest ≤ t.at = rw time at order.0 in
-    let limits = λ (m : Net). open_records origin t.at options m (p ∷ ps) (rest m) (rw time (le_refl t.at), order.1)
-    (zip_of origin options (rest m) (packets_of m (p ∷ ps)) (zip m)) in
+    let limits = λ (m : Net). open_records (origin m) t.at options m (p ∷ ps) (rest m) (rw time (le_refl t.at), order.1)
+    (zip_of (origin m) options (rest m) (packets_of m (p ∷ ps)) (zip m)) in
     let given = given_up_none plan origin options times told links p.net p.number p.packet next.first next.later rest latest fit wide next.is t up
     limits pairs found in
     rw (t.after, t.found found met.0, given) (goes_silent plan origin options (times_with t.at times) told t.new ps (rest_after p.net next.later rest)
@@ -192,7 +192,7 @@ map_own : (net : Net) (es : List Entry) → All (IsOwn net) es → map (side net
 map_own net [] own = refl
 map_own net (e ∷ es) own = rw ((own 0 e (omega arith)).1, map_own net es (All-tail (IsOwn net) e es own)) refl
 
-pairs_begin : (plan : Plan) (accepted : Accepted) (a b : List Entry) (origin : ℕ) (options : Options) → IsSent plan accepted a b
+pairs_begin : (plan : Plan) (accepted : Accepted) (a b : List Entry) (origin : Net → ℕ) (options : Options) → IsSent plan accepted a b
     → length (on_both plan.links a) ≡ length (on_both plan.links b)
     → AreTwins plan (IsPaired plan origin options 0) (links_at_start plan options) (handed_to a b)
 pairs_begin plan accepted a b origin options sent same k inside = rw (link_is_new plan options k inside) (record {

@@ -1,5 +1,5 @@
 -- The worked recordings, by computation.
-use Rattle.judge_laws.proofs.Names.{A, All, All-filter, All-from_recursion, All-tail, AllZip, B, Bool, Entry, Finding, List, Missing, Net, None, OnNet, Options, end_broken, addresses, admitted, after_packet, arith, check_sequence, checked, checksum, datagram, demo_plan, demo_valid, entry, fails_by, false, fields_of, found_at_end, found_missing, found_of_arrival, found_on_link, found_with_end, found_with_packet, fragment_deviation, frame_in, head_now, header_front, internet_broken, internet_header, layout_broken, left_waiting, length_deviation, line_after, line_with, link_after, link_broken, link_header, link_in, link_stream, list_all, map, message_deviation, more_in, nat_eq, nat_lt, nat_tests, needs_legal, one_frame, pair_at, pairing_with, place_of, refl, second_frame, slice_index, sub_in, sub_stream, suc, true, twin_deviation, twin_other, two_accepted, two_entries, udp_header, unchecked, unnumbered, verdict, with_arrival, with_byte, with_verdict, word_at, zero, ℕ, [], ◌*◌, ◌+◌, ◌<◌, ◌∷◌, ◌≡◌, ◌≤◌, AreFit, IsRecord, IsRecording, IsRunOf, IsSent, IsWhole, EndsWhole, IsOctets, IsStrict, sent_to, FindsNoneOfAll, FindsNothing, MissesNothing, NeedsItsPremises, both_at, late, loose, packet, seconds_at, strict, with_check}
+use Rattle.judge_laws.proofs.Names.{A, All, All-filter, All-from_recursion, All-tail, AllZip, B, Bool, Entry, Finding, List, Missing, Net, None, OnNet, Options, end_broken, addresses, admitted, after_packet, arith, check_sequence, checked, checksum, datagram, demo_plan, demo_valid, entry, fails_by, false, fields_of, found_at_end, found_missing, found_of_arrival, found_on_link, found_with_end, found_with_packet, fragment_deviation, frame_in, head_now, header_front, internet_broken, internet_header, layout_broken, left_waiting, length_deviation, line_after, line_with, link_after, link_broken, link_header, link_in, link_stream, list_all, map, message_deviation, more_in, nat_eq, nat_lt, nat_tests, needs_legal, one_frame, pair_at, pairing_with, place_of, refl, second_frame, slice_index, sub_in, sub_stream, suc, true, twin_deviation, twin_other, two_accepted, two_entries, udp_header, unchecked, unnumbered, verdict, with_arrival, with_byte, with_verdict, word_at, zero, ℕ, [], ◌*◌, ◌+◌, ◌<◌, ◌∷◌, ◌≡◌, ◌≤◌, AreFit, IsRecord, IsRecording, IsRunOf, IsSent, IsWhole, EndsWhole, IsOctets, IsReleased, IsSentTo, IsStrict, half_gap, packets_of, sent_to, FindsNoneOfAll, FindsNothing, MissesNothing, NeedsItsPremises, both_at, apart_by_100, behind, from, late, loose, packet, seconds_at, strict, with_check, with_skew}
 use Rattle.judge_laws.proofs.Begin.{no_false_alarm_holds}
 
 pair_sent : IsSent demo_plan two_accepted (two_entries A) (two_entries B)
@@ -11,8 +11,11 @@ pair_sent = record {
   turns = grind arith;
 }
 
-fit : (late fcs : Bool) → AreFit demo_plan (record strict { late = late; fcs = fcs })
-fit late fcs = grind arith
+fit : (late fcs : Bool) (origin : ℕ) → AreFit demo_plan (record strict { late = late; fcs = fcs }) (from origin)
+fit late fcs origin = grind (arith, nat_tests)
+
+near_fit : AreFit demo_plan half_gap (from 0)
+near_fit = grind (arith, nat_tests)
 
 -- a packet is a record
 recorded : (origin t at : ℕ) (options : Options) (net : Net) (frame : List ℕ) → options.fcs ≡ false → origin + 1000 * t ≤ at
@@ -51,11 +54,15 @@ second_run net = record {
   each = (recorded 7 1000 1000007 late net (second_frame net) refl (omega arith) (omega arith), tt);
 }
 
-whole : IsWhole demo_plan 7 strict (two_entries A) (two_entries B) (both_at 7 1000007)
+whole : IsWhole demo_plan (from 7) strict (two_entries A) (two_entries B) (both_at 7 1000007)
 unfolding checksum addresses datagram header_front internet_header link_header udp_header unnumbered
 whole = grind (arith, nat_tests, pair_zip)
 
-loosely : IsRecording 0 loose (two_entries A) (two_entries B) (both_at 2000000 1000000)
+lag_whole : IsWhole demo_plan behind (with_skew 100) (two_entries A) (two_entries B) apart_by_100
+unfolding checksum addresses datagram header_front internet_header link_header udp_header unnumbered
+lag_whole = grind (arith, nat_tests, pair_zip)
+
+loosely : IsRecording (from 0) loose (two_entries A) (two_entries B) (both_at 2000000 1000000)
 loosely = grind (arith, nat_tests, pair_run)
 
 all_bytes : (bytes : List ℕ) → list_all (λ byte. nat_lt byte 256) bytes ≡ true → (i : ℕ) → slice_index bytes i < 256
@@ -87,7 +94,6 @@ unfolding checksum addresses datagram header_front internet_header link_header u
 strict_is = record {
   valid = demo_valid;
   profile = refl;
-  jitter = refl;
   early = refl;
   fcs = refl;
   few = omega arith;
@@ -102,6 +108,13 @@ strict_is = record {
       (All-filter (λ (e : Entry). nat_eq (sub_in e.frame) sub) IsShort _ (All-filter (λ (e : Entry). nat_eq (link_in e.frame) vl) IsShort _ (ends net)));
 }
 
+-- the second frame isn't sent first
+not_first : (handed : List Entry) → AllZip (IsReleased 0) handed (packets_of A (seconds_at 1000000)) → IsSentTo demo_plan A handed → ⊥
+unfolding checksum addresses datagram header_front internet_header link_header udp_header unnumbered
+not_first [] zip sent = absurd zip
+not_first (e ∷ (d ∷ es)) zip sent = absurd zip.1
+not_first (e ∷ []) zip sent = let first = rw zip.0.frame at (sent.legal.numbered 0 (omega arith)) in absurd (omega (arith, first.0))
+
 some : Finding
 some = record { kind = Missing; packet = 0; net = A; at = 0; link = None; seen = 0; wanted = 0 }
 
@@ -115,30 +128,35 @@ unfolding admitted after_packet found_of_arrival found_on_link found_with_end fo
 worked = (
   record {
     sent = pair_sent;
-    fit = fit false false;
+    fit = fit false false 7;
     recorded = record { of_a = pair_run 7 1000 7 1000007 strict A refl (grind arith); of_b = pair_run 7 1000 7 1000007 strict B refl (grind arith) };
     nothing = refl;
-    late_fit = fit true false;
+    late_fit = fit true false 7;
     late_recorded = record { of_a = second_run A; of_b = second_run B };
     late_nothing = refl;
   },
   record {
-    sent = fails_by (λ sent. no_false_alarm_holds demo_plan two_accepted _ _ strict 0 (both_at 0 999000) sent (fit false false) (record {
+    sent = fails_by (λ sent. no_false_alarm_holds demo_plan two_accepted _ _ strict (from 0) (both_at 0 999000) sent (fit false false 0) (record {
       of_a = pair_run 0 999 0 999000 strict A refl (grind arith);
       of_b = pair_run 0 999 0 999000 strict B refl (grind arith);
     })) (λ all. absurd (cc (all 0 some (omega arith))));
-    early = fails_by (λ is. no_false_alarm_holds demo_plan two_accepted _ _ strict 0 (both_at 0 999999) pair_sent (fit false false) is)
+    early = fails_by (λ is. no_false_alarm_holds demo_plan two_accepted _ _ strict (from 0) (both_at 0 999999) pair_sent (fit false false 0) is)
         (λ all. absurd (cc (all 0 some (omega arith))));
-    loose_recorded = loosely;
-    jitter = fails_by (λ is. no_false_alarm_holds demo_plan two_accepted _ _ loose 0 (both_at 2000000 1000000) pair_sent is loosely)
+    exchanged = loosely;
+    exchanged_nothing = refl;
+    jitter = fails_by (λ is. no_false_alarm_holds demo_plan two_accepted _ _ half_gap (from 0) (both_at 600000 1000000) pair_sent near_fit is)
         (λ all. absurd (cc (all 0 some (omega arith))));
-    fcs = fails_by (λ is. no_false_alarm_holds demo_plan two_accepted _ _ with_check 0 (both_at 0 1000000) pair_sent (fit false true) is)
+    fcs = fails_by (λ is. no_false_alarm_holds demo_plan two_accepted _ _ with_check (from 0) (both_at 0 1000000) pair_sent (fit false true 0) is)
         (λ all. absurd (cc (all 0 some (omega arith))));
-    first = fails_by (λ is. no_false_alarm_holds demo_plan two_accepted _ _ strict 0 (seconds_at 1000000) pair_sent (fit false false) is)
+    first = fails_by (λ is. no_false_alarm_holds demo_plan two_accepted _ _ strict (from 0) (seconds_at 1000000) pair_sent (fit false false 0) is)
         (λ all. absurd (cc (all 0 some (omega arith))));
   },
   record {
     whole = whole;
+    lag_whole = lag_whole;
+    lag_near = omega arith;
+    lag_nothing = refl;
+    lag = record { premise = λ up. absurd (omega arith); conclusion = λ none. absurd (cc (none)) };
     order = record {
       premise = λ is. absurd (let down = is.in_order.1.1.0 in omega arith);
       conclusion = λ none. absurd (cc (none));
@@ -148,14 +166,11 @@ worked = (
   record {
     strict_is = strict_is;
     near_nothing = refl;
-    near = record {
-      premise = λ is. absurd (let jitter = is.jitter in omega arith);
-      conclusion = λ is. absurd (let apart = (is.legal.spaced 0 (omega arith)).1.0 in omega arith);
-    };
+    near = λ is. absurd (let apart = (is.legal.spaced 0 (omega arith)).1.0 in omega arith);
     late_nothing = refl;
     late_missed = record {
       premise = λ is. absurd (cc (is.early));
-      conclusion = λ is. absurd (let first = (is.legal.numbered 0 (omega arith)).0 in omega arith);
+      conclusion = λ is. not_first is.handed is.released is.sent;
     };
   },
 )

@@ -2,4 +2,5 @@ pub mod Frames
 pub mod NoFalseAlarm
 pub mod NothingFound
 pub mod NothingMissed
+pub mod Releases
 pub mod Worked

@@ -1,5 +1,6 @@
--- Nothing missed: what a recording is in which a judge finds nothing.
-use Rattle.std.specs.Prelude.{ℕ, ◌≡◌, ◌/◌, ◌^◌, ◌-◌, ◌<◌, false, List, [], ◌∷◌, length, map, slice_index, All}
+-- Nothing missed: the properties of a recording in which a judge finds nothing.
+use Rattle.std.specs.Prelude.{ℕ, ◌≡◌, ◌+◌, ◌/◌, ◌^◌, ◌-◌, ◌<◌, ◌≤◌, false, List, [], ◌∷◌, length, map, slice_index, All}
+use Rattle.std.specs.List.{AllZip}
 use Rattle.afdx_plan.specs.Config.{Plan, IsPlan}
 use Rattle.afdx_frame.specs.Profile.{word_at}
 use Rattle.afdx_frame.specs.declared.net.Net.{Net}
@@ -17,7 +18,7 @@ use Rattle.judge_laws.specs.NothingFound.{time_of}
 abbrev pub entry_of : Recorded → Entry
 entry_of packet = entry (time_of packet / 1000) packet.bytes
 
--- what a recording has of a network
+-- the frames that a recording has of a network
 abbrev pub sent_to : Net → List OnNet → List Entry
 sent_to net recording = map entry_of (packets_of net recording)
 
@@ -36,11 +37,10 @@ EndsWhole [] = Unit {0}
 EndsWhole (f ∷ []) = more_in f ≡ false
 EndsWhole (f ∷ (g ∷ fs)) = EndsWhole (g ∷ fs)
 
--- A judge that allows no jitter, of a recording from the first frame on, to the end of each message.
+-- A judge of a recording from the first frame on, to the end of each message.
 pub record IsStrict (plan : Plan) (options : Options) (recording : List OnNet) : Type 0 where
   pub valid : IsPlan plan
   pub profile : options.arinc ≡ false
-  pub jitter : options.jitter ≡ 0
   pub early : options.late ≡ false
   pub fcs : options.fcs ≡ false
   pub few : length recording < 2 ^ 64 - 1
@@ -54,7 +54,20 @@ pub record IsSentTo (plan : Plan) (net : Net) (handed : List Entry) : Type 0 whe
   pub legal : IsLegalOn plan accepted net handed
   pub turns : TakeTurnsOn plan handed
 
--- If nothing is found, what was recorded of each network was sent legally.
+-- A frame was released at most the jitter before it was recorded, and not after it, in whole microseconds. The clock of
+-- releases is the jitter ahead, so that none is before its time 0.
+pub record IsReleased (jitter : ℕ) (e : Entry) (packet : Recorded) : Type 0 where
+  pub frame : e.frame ≡ packet.bytes
+  pub least : time_of packet / 1000 ≤ e.at
+  pub most : e.at ≤ time_of packet / 1000 + jitter
+
+-- there are release times at which packets were sent legally to a network
+pub record IsExplained (plan : Plan) (options : Options) (net : Net) (packets : List Recorded) : Type 0 where
+  pub handed : List Entry
+  pub released : AllZip (IsReleased options.jitter) handed packets
+  pub sent : IsSentTo plan net handed
+
+-- If nothing is found, the recorded frames of each network were sent legally, at times that the jitter explains.
 abbrev pub NothingMissed : Type 0
 NothingMissed = (plan : Plan) (options : Options) (recording : List OnNet) → IsStrict plan options recording
-    → findings plan options recording ≡ [] → (net : Net) → IsSentTo plan net (sent_to net recording)
+    → findings plan options recording ≡ [] → (net : Net) → IsExplained plan options net (packets_of net recording)

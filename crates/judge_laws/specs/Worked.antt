@@ -1,5 +1,5 @@
 -- Worked recordings of the demonstration plan: two messages of one byte, a frame each, sent to both networks.
-use Rattle.std.specs.Prelude.{◌≡◌, ◌≤◌, ℕ, true, false, List, [], ◌∷◌, All, None, Some, length}
+use Rattle.std.specs.Prelude.{◌≡◌, ◌+◌, ◌*◌, ◌≤◌, ℕ, true, false, List, [], ◌∷◌, All, None, Some, length}
 use Rattle.afdx_plan.specs.Demo.{demo_plan}
 use Rattle.afdx_frame.specs.declared.net.Net.{Net}
 use Rattle.afdx_frame.specs.declared.net.Net.TheVariants.{A, B}
@@ -8,9 +8,9 @@ use Rattle.afdx_laws.specs.Rows.{BothFail}
 use Rattle.afdx_laws.specs.WorkedPlan.{pair_at, second_frame, two_accepted, two_entries}
 use Rattle.judge.specs.Judging.{OnNet, findings}
 use Rattle.judge.specs.declared.judge.Options.{Options}
-use Rattle.judge_laws.specs.NoFalseAlarm.{AreFit, IsMissing, IsRecording, IsSent}
+use Rattle.judge_laws.specs.NoFalseAlarm.{AreFit, IsMissing, IsRecording, IsSent, lag_of, packets_of}
 use Rattle.judge_laws.specs.NothingFound.{IsWhole}
-use Rattle.judge_laws.specs.NothingMissed.{IsSentTo, IsStrict, sent_to}
+use Rattle.judge_laws.specs.NothingMissed.{IsExplained, IsSentTo, IsStrict, sent_to}
 
 -- nothing is allowed for
 abbrev pub strict : Options
@@ -34,14 +34,18 @@ seconds_at at = packet A at (second_frame A) ∷ packet B at (second_frame B) �
 abbrev pub late : Options
 late = record strict { late = true }
 
+-- both networks begin at this time
+abbrev pub from : ℕ → Net → ℕ
+from origin net = origin
+
 -- The recording meets the premises, and nothing is found. Nor is anything in one that began after the first frame.
 pub record FindsNothing : Type 0 where
   pub sent : IsSent demo_plan two_accepted (two_entries A) (two_entries B)
-  pub fit : AreFit demo_plan strict
-  pub recorded : IsRecording 7 strict (two_entries A) (two_entries B) (both_at 7 1000007)
+  pub fit : AreFit demo_plan strict (from 7)
+  pub recorded : IsRecording (from 7) strict (two_entries A) (two_entries B) (both_at 7 1000007)
   pub nothing : findings demo_plan strict (both_at 7 1000007) ≡ []
-  pub late_fit : AreFit demo_plan late
-  pub late_recorded : IsRecording 7 late (two_entries A) (two_entries B) (seconds_at 1000007)
+  pub late_fit : AreFit demo_plan late (from 7)
+  pub late_recorded : IsRecording (from 7) late (two_entries A) (two_entries B) (seconds_at 1000007)
   pub late_nothing : findings demo_plan late (seconds_at 1000007) ≡ []
 
 abbrev pub OnlyMissing : Options → List OnNet → Type 0
@@ -51,31 +55,35 @@ OnlyMissing options recording = All IsMissing (findings demo_plan options record
 abbrev pub loose : Options
 loose = record strict { jitter = 2000 }
 
+abbrev pub half_gap : Options
+half_gap = record strict { jitter = 500 }
+
 abbrev pub with_check : Options
 with_check = record strict { fcs = true }
 
--- what was sent, the second frames at this time in microseconds
+-- the two frames were sent, the second at this time in microseconds
 abbrev pub PairSent : ℕ → Type 0
 PairSent now = IsSent demo_plan two_accepted (pair_at now A) (pair_at now B)
 
 abbrev pub PairRecorded : Options → List OnNet → Type 0
-PairRecorded options recording = IsRecording 0 options (two_entries A) (two_entries B) recording
+PairRecorded options recording = IsRecording (from 0) options (two_entries A) (two_entries B) recording
 
 -- Each premise is needed. Frames a microsecond less than a gap apart are not sent legally, and one is early. So is one
--- that is recorded a nanosecond before its time. A frame that is delayed by more than a gap may come after the next
--- one, and a frame without its check sequence isn't one with it. A recording that began late, unless the judge is told,
--- lacks a number.
+-- that is recorded a nanosecond before its time, and one after a frame that is delayed by more than the jitter. A frame
+-- without its check sequence isn't one with it. A recording that began late lacks a number, if the judge
+-- doesn't know that it did. A jitter over the gap may exchange two frames: nothing is found.
 pub record NeedsItsPremises : Type 0 where
   pub sent : BothFail (PairSent 999) (OnlyMissing strict (both_at 0 999000))
   pub early : BothFail (PairRecorded strict (both_at 0 999999)) (OnlyMissing strict (both_at 0 999999))
-  pub loose_recorded : PairRecorded loose (both_at 2000000 1000000)
-  pub jitter : BothFail (AreFit demo_plan loose) (OnlyMissing loose (both_at 2000000 1000000))
+  pub exchanged : PairRecorded loose (both_at 2000000 1000000)
+  pub exchanged_nothing : findings demo_plan loose (both_at 2000000 1000000) ≡ []
+  pub jitter : BothFail (PairRecorded half_gap (both_at 600000 1000000)) (OnlyMissing half_gap (both_at 600000 1000000))
   pub fcs : BothFail (PairRecorded with_check (both_at 0 1000000)) (OnlyMissing with_check (both_at 0 1000000))
   pub first : BothFail (PairRecorded strict (seconds_at 1000000)) (OnlyMissing strict (seconds_at 1000000))
 
 -- ---- nothing found
 
--- both frames of network A, and then those of B
+-- both frames of network A, and then both of B
 abbrev pub one_by_one : List OnNet
 one_by_one = packet A 0 (one_frame A) ∷ packet A 1000000 (second_frame A)
     ∷ packet B 0 (one_frame B) ∷ packet B 1000000 (second_frame B) ∷ []
@@ -87,25 +95,43 @@ lagging = packet A 0 (one_frame A) ∷ packet B 100000 (one_frame B) ∷ []
 abbrev pub delayed : Options
 delayed = record strict { jitter = 100 }
 
--- The recording of both messages is whole. Out of the order of time, frames are given up before their twins come; so
--- are they if these may be delayed for longer than the skew.
+-- both messages, network B's frames 100 microseconds later
+abbrev pub apart_by_100 : List OnNet
+apart_by_100 = packet A 7 (one_frame A) ∷ packet B 100007 (one_frame B)
+    ∷ packet A 1000007 (second_frame A) ∷ packet B 1100007 (second_frame B) ∷ []
+
+abbrev pub behind : Net → ℕ
+behind A = 7
+behind B = 100007
+
+abbrev pub with_skew : ℕ → Options
+with_skew skew = record strict { skew = skew }
+
+-- one network lags by no more than twins may be apart
+abbrev pub AreNear : Options → (Net → ℕ) → Type 0
+AreNear options origin = 1000 * options.jitter + lag_of origin ≤ 1000 * options.skew
+
+-- The recording of both messages is whole, also if network B lags. Out of the order of time, frames are given up before
+-- their twins come. The same happens if twins may be delayed, or one network lag, for longer than the skew.
 pub record FindsNoneOfAll : Type 0 where
-  pub whole : IsWhole demo_plan 7 strict (two_entries A) (two_entries B) (both_at 7 1000007)
-  pub order : BothFail (IsWhole demo_plan 0 strict (two_entries A) (two_entries B) one_by_one)
+  pub whole : IsWhole demo_plan (from 7) strict (two_entries A) (two_entries B) (both_at 7 1000007)
+  pub lag_whole : IsWhole demo_plan behind (with_skew 100) (two_entries A) (two_entries B) apart_by_100
+  pub lag_near : AreNear (with_skew 100) behind
+  pub lag_nothing : findings demo_plan (with_skew 100) apart_by_100 ≡ []
+  pub lag : BothFail (AreNear (with_skew 99) behind) (findings demo_plan (with_skew 99) apart_by_100 ≡ [])
+  pub order : BothFail (IsWhole demo_plan (from 0) strict (two_entries A) (two_entries B) one_by_one)
       (findings demo_plan strict one_by_one ≡ [])
-  pub skew : BothFail (delayed.jitter ≤ delayed.skew) (findings demo_plan delayed lagging ≡ [])
+  pub skew : BothFail (AreNear delayed (from 0)) (findings demo_plan delayed lagging ≡ [])
 
 -- ---- nothing missed
 
--- what a recording has of network A was sent legally
-abbrev pub SentToA : List OnNet → Type 0
-SentToA recording = IsSentTo demo_plan A (sent_to A recording)
-
--- A recording meets the premises. A judge that allows a jitter finds nothing in frames that are too near to each other,
--- and one of a recording that began late nothing in a first number that isn't 0.
+-- A recording meets the premises. A judge that allows a jitter finds nothing in frames that were recorded too near to
+-- each other: they weren't sent when they were recorded. One of a recording that began late finds nothing in a first
+-- number that isn't 0.
 pub record MissesNothing : Type 0 where
   pub strict_is : IsStrict demo_plan strict (both_at 7 1000007)
   pub near_nothing : findings demo_plan loose (both_at 0 999000) ≡ []
-  pub near : BothFail (IsStrict demo_plan loose (both_at 0 999000)) (SentToA (both_at 0 999000))
+  pub near : IsSentTo demo_plan A (sent_to A (both_at 0 999000)) → ⊥
   pub late_nothing : findings demo_plan late (seconds_at 1000000) ≡ []
-  pub late_missed : BothFail (IsStrict demo_plan late (seconds_at 1000000)) (SentToA (seconds_at 1000000))
+  pub late_missed : BothFail (IsStrict demo_plan late (seconds_at 1000000))
+      (IsExplained demo_plan late A (packets_of A (seconds_at 1000000)))

@@ -1,4 +1,4 @@
-//! What the findings of a judge mean, as laws.
+//! Laws on the meaning of a judge's findings.
 #![tactic(auto)]
 
 pub mod laws;

@@ -1,0 +1,11 @@
+//! Recordings of several end systems on one tap: each packet is judged by the plan of its source.
+#![tactic(auto)]
+
+pub mod laws;
+mod network;
+mod source;
+mod tap;
+
+pub use network::{Clash, Shared, clashes};
+pub use source::source_of;
+pub use tap::Tap;
