@@ -5,10 +5,10 @@ use bench_words::End;
 use plan_table::write_table;
 use std::io::{self, Write};
 
-// How many bytes of a table are in a line of C.
+// The number of bytes of a table in a line of C.
 const LINE: usize = 12;
 
-// What is before the bytes in a file of C, and what is after them.
+// The text before the bytes in a file of C, and the text after them.
 const FRONT: &str =
     "/* The table of a plan, made by afdx_bench compile. */\n#include <stddef.h>\n#include <stdint.h>\n\n\
     extern const uint8_t afdx_plan_table[];\nextern const size_t afdx_plan_table_length;\n\n\

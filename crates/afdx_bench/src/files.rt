@@ -39,7 +39,7 @@ pub fn open_given<'a>(
     }
 }
 
-/// Opens the file of a plan and reads it. The file is kept, since none that is written may be the same.
+/// Opens the file of a plan and reads it. Returns the file too, since no written file may be the same.
 pub fn open_plan<'a>(rt: &HostRuntime, path: &'a str) -> Result<(File, Config), Stop<'a>> {
     let text = open(rt, path)?;
     let plan = of_file(read_plan(rt.alloc(), &text), path, Cause::UnreadPlan)?;
@@ -69,7 +69,7 @@ pub fn create<'a>(
 }
 
 /// Returns Write, blamed on the second path, if both paths lead to one file, under any names: the second would replace
-/// what the first was written with.
+/// the content of the first.
 pub fn differ<'a>(
     rt: &HostRuntime,
     first: &Option<String>,
@@ -94,13 +94,13 @@ pub fn written<'a>(done: io::Result<()>, path: &'a str) -> Result<(), Stop<'a>> 
     done.map_err(|error| failed(error, RunFault::Write, path))
 }
 
-/// A buffer of a file that is written.
+/// Returns a buffered writer to a file.
 pub fn buffered(alloc: Global, file: File) -> Result<BufWriter<Halting<File>>, AllocError> {
     let buffer = BufWriter::with_capacity(alloc, BUFFER, Halting::new(file));
     buffer.map_err(|_| AllocError)
 }
 
-/// What an error of a file ends a command with.
+/// Converts an error of a file to the end of a command.
 fn failed(error: io::Error, fault: RunFault, path: &str) -> Stop<'_> {
     match error.kind() {
         io::ErrorKind::OutOfMemory => Stop::from(AllocError),

@@ -1,14 +1,14 @@
-//! The line of a finding, and how many findings there are.
+//! The line of a finding, and the counts of findings.
 use afdx_frame::Net;
 use judge::{Finding, FindingKind, FragmentMisfit, Layout};
 use plan_report::Cell;
-use std::fmt;
+use std::{fmt, io};
 
 // The nanoseconds of a second.
 const SECOND: u128 = 1_000_000_000;
 
 /// A finding, printed as a line without its end: the packet's number, network and time in seconds, its link, the kind
-/// with its rule, and what was seen and wanted.
+/// with its rule, and the numbers seen and wanted.
 #[derive(Drop)]
 pub struct FindingLine<'a>(pub &'a Finding);
 
@@ -22,7 +22,7 @@ impl fmt::Display for FindingLine<'_> {
     }
 }
 
-/// The name of a network.
+/// Returns the name of a network.
 pub(crate) fn network_name(net: Net) -> &'static str {
     match net {
         Net::A => "A",
@@ -56,25 +56,65 @@ fn write_kind<W: fmt::Write>(f: &mut fmt::Formatter<W>, finding: &Finding) -> fm
     }
 }
 
-// The names of the kinds by their numbers, from 1.
-const KINDS: usize = 14;
+// The names of the kinds by their numbers, from 1; the last one is that of a link without a frame.
+const KINDS: usize = 15;
+
+const SILENT: usize = 14;
 
 const NAMES: [&str; KINDS] = [
     "", "Frame", "Source", "Link", "Network", "Size", "Number", "Early", "Port", "Fragment",
-    "Message", "Turn", "Twin", "Missing",
+    "Message", "Turn", "Twin", "Missing", "Silent",
 ];
 
-/// How many findings of each kind there are. Counts stop at their greatest value. `Display` prints the line of them, or
-/// that nothing was judged.
+// The most findings of a kind that are printed.
+const PRINTED: u64 = 100;
+
+/// Returns the name of a kind.
+pub fn kind_name(kind: FindingKind) -> &'static str {
+    NAMES.get(kind.number() as usize).copied().unwrap_or("")
+}
+
+/// A file that is no capture of Ethernet frames, so that nothing was judged: its number, and the reason.
+#[derive(Clone, Copy)]
+pub struct NoCapture(pub u8, pub NoFrames);
+
+/// The reason that a file is no capture of Ethernet frames.
+#[derive(Clone, Copy, PartialEq, Eq)]
+pub enum NoFrames {
+    /// A file that begins as neither pcapng nor pcap.
+    OtherFormat,
+    /// A capture whose frames have this link type.
+    OtherLink(u16),
+    /// A capture that is cut off or malformed before its first packet.
+    NoPacket,
+}
+
+impl fmt::Display for NoCapture {
+    fn fmt<W: fmt::Write>(&self, f: &mut fmt::Formatter<W>) -> fmt::Result {
+        let NoCapture(file, why) = self;
+        write!(f, "nothing judged: capture {file} ")?;
+        match why {
+            NoFrames::OtherFormat => f.write_str("is neither pcapng nor pcap")?,
+            NoFrames::OtherLink(number) => {
+                write!(f, "has link type {number}, not Ethernet's, which is 1")?
+            }
+            NoFrames::NoPacket => f.write_str("ends before its first packet")?,
+        }
+        f.write_str("; record one interface, as tcpdump -i eth1 -w FILE does")
+    }
+}
+
+/// The number of findings of each kind. Counts stop at their greatest value. `Display` prints the line of them, or that
+/// nothing was judged.
 #[derive(Drop)]
 pub struct Tally {
     counts: [u64; KINDS],
-    /// The number of a file that is no capture, so that nothing was judged.
-    pub no_capture: Option<u8>,
+    /// The reason that nothing was judged.
+    pub no_capture: Option<NoCapture>,
 }
 
 impl Tally {
-    /// The tally of no finding.
+    /// Creates a tally without findings.
     pub fn new() -> Tally {
         Tally {
             counts: [0; KINDS],
@@ -82,15 +122,53 @@ impl Tally {
         }
     }
 
-    /// Counts a finding.
-    pub fn add(&mut self, kind: FindingKind) {
-        let place = kind.number() as usize;
-        if place < KINDS {
-            self.counts[place] = self.counts[place].saturating_add(1);
+    /// Counts a finding. Returns whether it is one of the first of its kind, which are printed.
+    pub fn add(&mut self, kind: FindingKind) -> bool {
+        self.count(kind.number() as usize)
+    }
+
+    /// Counts a link without a frame on a network. Returns whether it is one of the first.
+    pub fn add_silent(&mut self) -> bool {
+        self.count(SILENT)
+    }
+
+    fn count(&mut self, place: usize) -> bool {
+        match self.counts.get_mut(place) {
+            Some(count) => {
+                *count = count.saturating_add(1);
+                *count <= PRINTED
+            }
+            None => false,
         }
     }
 
-    /// How many findings there are.
+    /// Returns the names of the kinds, each with its number of findings.
+    pub fn counts(&self) -> [(&'static str, u64); KINDS] {
+        let mut counts = [("", 0); KINDS];
+        for ((place, name), count) in counts.iter_mut().zip(NAMES.iter()).zip(self.counts.iter()) {
+            *place = (*name, *count);
+        }
+        counts
+    }
+
+    /// Writes how many findings aren't printed, if any aren't.
+    pub fn write_rest<W: io::Write>(&self, writer: &mut W) -> io::Result<()> {
+        let mut is_first = true;
+        for place in 0..KINDS {
+            let more = self.counts[place].saturating_sub(PRINTED);
+            if more > 0 {
+                let (mark, name) = (mark_of(is_first, "and more: "), NAMES[place]);
+                write!(writer, "{mark}{name} {more}")?;
+                is_first = false;
+            }
+        }
+        if !is_first {
+            writer.write_all(b"\n")?;
+        }
+        Ok(())
+    }
+
+    /// Returns the number of findings.
     pub fn total(&self) -> u64 {
         let mut total: u64 = 0;
         for count in self.counts.iter() {
@@ -100,13 +178,15 @@ impl Tally {
     }
 }
 
+/// Returns the mark before an entry of a list: `first` before the first one, and a comma before the others.
+pub(crate) fn mark_of(is_first: bool, first: &'static str) -> &'static str {
+    if is_first { first } else { ", " }
+}
+
 impl fmt::Display for Tally {
     fn fmt<W: fmt::Write>(&self, f: &mut fmt::Formatter<W>) -> fmt::Result {
-        if let Some(file) = self.no_capture {
-            return write!(
-                f,
-                "nothing judged: capture {file} isn't a capture of Ethernet frames"
-            );
+        if let Some(why) = &self.no_capture {
+            return write!(f, "{why}");
         }
         let total = self.total();
         match total {
@@ -114,13 +194,13 @@ impl fmt::Display for Tally {
             1 => f.write_str("1 finding")?,
             _ => write!(f, "{total} findings")?,
         }
-        let mut mark = ": ";
-        for number in 1..KINDS {
-            let count = self.counts[number];
+        let mut is_first = true;
+        for place in 0..KINDS {
+            let count = self.counts[place];
             if count > 0 {
-                let name = NAMES[number];
+                let (mark, name) = (mark_of(is_first, ": "), NAMES[place]);
                 write!(f, "{mark}{name} {count}")?;
-                mark = ", ";
+                is_first = false;
             }
         }
         Ok(())

@@ -1,173 +1,383 @@
-//! A judge, and what came of the packets that it heard: findings, how many there are, the rows of links, and a page.
-use crate::findings::{FindingLine, Tally, network_name};
+//! The judges of a recording, and what came of the packets that they heard: findings, how many there are, foreign
+//! frames, silent links, and the rows of links.
+use crate::findings::{FindingLine, Tally, mark_of, network_name};
+use crate::foreign::Foreign;
 use crate::stop::Stop;
 use afdx_frame::Net;
+use afdx_frame::net::{INTERFACE_A, INTERFACE_B};
 use afdx_plan::{Config, LinkPlan};
 use capture::Packet;
-use judge::{Figures, Finding, Judge, Options};
+use judge::{Figures, Finding, FindingKind, Judge, Options};
 use plan_analysis::carries;
-use plan_report::{Cell, Parts, write_head};
+use plan_report::Cell;
 use std::alloc::{AllocError, Global};
 use std::io::{self, Write};
+use tap::Tap;
 
-// The most findings that are printed.
-const PRINTED: u64 = 1_000;
+// The nanoseconds of a second.
+const SECOND: u128 = 1_000_000_000;
 
-/// A judge, and what it found.
+// The most interfaces that are told.
+const INTERFACES: usize = 64;
+
+/// The ways in which packets are heard.
+#[derive(Clone, Copy)]
+pub struct Ways {
+    /// Frames of other sources are counted, and not judged.
+    pub foreign: bool,
+    /// The network of a frame is what its byte 11 says.
+    pub by_byte: bool,
+    /// The nanoseconds of the recording after which the rows are written each time.
+    pub every: Option<u128>,
+    /// Findings are kept and not written.
+    pub is_quiet: bool,
+}
+
+/// An interface of a capture, and the network that it was taken for.
+#[derive(Clone, Copy, PartialEq, Eq)]
+pub struct Taken {
+    pub net: Net,
+    pub capture: u8,
+    pub interface: u32,
+}
+
+/// The judges, and what they found.
 #[derive(Drop)]
 pub struct Hearing {
-    pub judge: Judge,
+    pub tap: Tap,
     pub tally: Tally,
+    pub foreign: Foreign,
+    /// The first findings of each kind.
+    pub kept: Vec<Finding>,
+    pub taken: Vec<Taken>,
+    /// The times of the first packet and of the latest.
+    pub times: Option<(u128, u128)>,
+    ways: Ways,
     // the findings of one packet
     found: Vec<Finding>,
+    // when the rows are written next
+    due: Option<u128>,
 }
 
 impl Hearing {
-    pub fn new(alloc: Global, plan: Config, options: Options) -> Result<Hearing, AllocError> {
+    /// Judges by these plans that have heard nothing.
+    pub fn new(
+        alloc: Global,
+        plans: Vec<Config>,
+        options: Options,
+        ways: Ways,
+    ) -> Result<Hearing, AllocError> {
         Ok(Hearing {
-            judge: Judge::new(alloc, plan, options)?,
+            tap: Tap::new(alloc, plans, options)?,
             tally: Tally::new(),
+            foreign: Foreign::new(alloc),
+            kept: Vec::new(alloc),
+            taken: Vec::new(alloc),
+            times: None,
+            ways,
             found: Vec::new(alloc),
+            due: None,
         })
     }
 
-    /// Judges a packet, by its number in its file, and writes the findings.
+    /// Judges a packet that an interface of a network recorded, by its number in its capture, and writes the findings.
+    /// A foreign frame is counted, if it isn't judged.
     pub fn hear<'a, W: Write>(
         &mut self,
         writer: &mut W,
+        capture: u8,
         net: Net,
         number: u64,
         packet: &Packet<'_>,
     ) -> Result<(), Stop<'a>> {
-        self.judge.take(net, number, packet, &mut self.found)?;
-        Ok(self.tell(writer)?)
+        if let Some(at) = packet.at {
+            self.times = match self.times {
+                Some((first, latest)) => Some((first, latest.max(at))),
+                None => Some((at, at)),
+            };
+        }
+        if self.ways.foreign && self.tap.is_foreign(packet) {
+            self.foreign.count(packet)?;
+        } else {
+            self.judge(capture, net, number, packet)?;
+            self.tell(writer)?;
+        }
+        Ok(self.write_due(writer)?)
     }
 
-    /// Ends the recording, and writes the last findings and how many there are.
-    pub fn write_findings<'a, W: Write>(&mut self, writer: &mut W) -> Result<(), Stop<'a>> {
-        self.judge.end(&mut self.found)?;
-        self.tell(writer)?;
-        let total = self.tally.total();
-        if total > PRINTED {
-            let more = total - PRINTED;
-            writeln!(writer, "and {more} more")?;
+    /// Judges a packet, and appends the findings.
+    fn judge(
+        &mut self,
+        capture: u8,
+        net: Net,
+        number: u64,
+        packet: &Packet<'_>,
+    ) -> Result<(), AllocError> {
+        let net = match packet.bytes.get(11) {
+            Some(byte) if self.ways.by_byte => match *byte {
+                INTERFACE_A => Net::A,
+                INTERFACE_B => Net::B,
+                other => return Ok(self.found.push(of_no_network(net, number, packet, other))?),
+            },
+            _ => net,
+        };
+        self.take(Taken {
+            net,
+            capture,
+            interface: packet.interface,
+        })?;
+        self.tap.take(net, number, packet, &mut self.found)
+    }
+
+    /// Keeps that an interface was taken for a network.
+    fn take(&mut self, taken: Taken) -> Result<(), AllocError> {
+        if self.taken.len() >= INTERFACES || self.taken.iter().any(|it| *it == taken) {
+            return Ok(());
         }
+        Ok(self.taken.push(taken)?)
+    }
+
+    /// Ends the recording, and writes the last findings, with silent links if they are wanted, and how many findings
+    /// there are.
+    pub fn write_findings<'a, W: Write>(
+        &mut self,
+        all_links: bool,
+        writer: &mut W,
+    ) -> Result<(), Stop<'a>> {
+        self.tap.end(&mut self.found)?;
+        self.tell(writer)?;
+        if all_links {
+            self.tell_silent(writer)?;
+        }
+        if self.ways.is_quiet {
+            return Ok(());
+        }
+        self.tally.write_rest(writer)?;
         let tally = &self.tally;
         Ok(writeln!(writer, "{tally}")?)
     }
 
     /// Counts the findings of a packet, and writes those that are printed.
-    fn tell<W: Write>(&mut self, writer: &mut W) -> io::Result<()> {
+    fn tell<'a, W: Write>(&mut self, writer: &mut W) -> Result<(), Stop<'a>> {
+        if self.found.is_empty() {
+            return Ok(());
+        }
+        let mut is_told = false;
         for finding in self.found.iter() {
-            self.tally.add(finding.kind);
-            if self.tally.total() <= PRINTED {
+            if !self.tally.add(finding.kind) {
+                continue;
+            }
+            keep(&mut self.kept, finding)?;
+            if !self.ways.is_quiet {
                 let line = FindingLine(finding);
                 writeln!(writer, "{line}")?;
+                is_told = true;
             }
         }
         self.found.clear();
+        if is_told {
+            writer.flush()?;
+        }
         Ok(())
     }
 
-    /// Writes a row for each link and each network that carries it.
-    pub fn write_summary<W: Write>(&self, writer: &mut W) -> io::Result<()> {
-        writer.write_all(
-            b" link net      frames         bytes    messages      bag-ns   least-gap-ns     lead-ns\n",
-        )?;
-        for (place, link) in self.judge.config().links().iter().enumerate() {
-            for net in [Net::A, Net::B] {
-                if let Some(figures) = figures_of(&self.judge, place, link, net) {
-                    let (id, network) = (link.id.0, network_name(net));
-                    let (frames, bytes, messages) = (
-                        figures.frames,
-                        figures.bytes,
-                        figures.messages,
-                    );
-                    let bag = link.bag.ms().saturating_mul(1_000_000);
-                    let least = Cell(figures.least_gap, "-");
-                    let lead = Cell(self.judge.lead(place), "-");
-                    writeln!(
-                        writer,
-                        "{id:>5}{network:>4}{frames:>12}{bytes:>14}{messages:>12}{bag:>12}{least:>15}{lead:>12}"
-                    )?;
+    /// Counts each link without a frame on a network that carries it, and writes those that are printed.
+    fn tell_silent<W: Write>(&mut self, writer: &mut W) -> io::Result<()> {
+        for id in self.tap.end_systems() {
+            let Some(judge) = self.tap.judge_of(*id) else {
+                continue;
+            };
+            for (place, link) in judge.config().links().iter().enumerate() {
+                for net in [Net::A, Net::B] {
+                    if is_silent(judge, place, link, net)
+                        && self.tally.add_silent()
+                        && !self.ways.is_quiet
+                    {
+                        let (id, network) = (link.id.0, network_name(net));
+                        writeln!(writer, "- {network} - vl {id} Silent")?;
+                    }
                 }
             }
         }
         Ok(())
     }
-}
 
-/// The figures of the link at a place on a network, if that carries it.
-fn figures_of(judge: &Judge, place: usize, link: &LinkPlan, net: Net) -> Option<Figures> {
-    if carries(net, link.networks) {
-        judge.figures(place, net)
-    } else {
-        None
+    /// Writes the rows so far, if so much was recorded since they were written.
+    fn write_due<W: Write>(&mut self, writer: &mut W) -> io::Result<()> {
+        let (Some(every), Some((first, latest))) = (self.ways.every, self.times) else {
+            return Ok(());
+        };
+        let due = self.due.unwrap_or(first.saturating_add(every));
+        if latest < due {
+            self.due = Some(due);
+            return Ok(());
+        }
+        self.due = Some(latest.saturating_add(every));
+        if self.ways.is_quiet {
+            return Ok(());
+        }
+        let (seconds, nanos, tally) = (latest / SECOND, latest % SECOND, &self.tally);
+        writeln!(writer, "at {seconds}.{nanos:09}: {tally}")?;
+        self.write_rows(writer)?;
+        writer.flush()
+    }
+
+    /// Writes which interface was taken for which network, the links without a frame, the foreign frames, and the rows.
+    pub fn write_summary<W: Write>(&self, writer: &mut W) -> io::Result<()> {
+        self.write_taken(writer)?;
+        for id in self.tap.end_systems() {
+            let Some(judge) = self.tap.judge_of(*id) else {
+                continue;
+            };
+            self.write_silence(writer, judge)?;
+        }
+        self.foreign.write(writer)?;
+        self.write_rows(writer)
+    }
+
+    /// Writes which interface was taken for which network, if any was.
+    fn write_taken<W: Write>(&self, writer: &mut W) -> io::Result<()> {
+        let mut is_first = true;
+        for net in [Net::A, Net::B] {
+            for taken in self.taken.iter() {
+                if taken.net == net {
+                    let (mark, network) = (mark_of(is_first, "networks: "), network_name(net));
+                    let (capture, interface) = (taken.capture, taken.interface);
+                    write!(
+                        writer,
+                        "{mark}{network} is interface {interface} of capture {capture}"
+                    )?;
+                    is_first = false;
+                }
+            }
+        }
+        if !is_first {
+            writer.write_all(b"\n")?;
+        }
+        Ok(())
+    }
+
+    /// Returns whether several plans are judged by.
+    fn has_several(&self) -> bool {
+        self.tap.end_systems().len() > 1
+    }
+
+    /// Writes a line of the networks of a plan without a frame, and of the links without one on another network.
+    fn write_silence<W: Write>(&self, writer: &mut W, judge: &Judge) -> io::Result<()> {
+        let mut is_first = true;
+        for net in [Net::A, Net::B] {
+            let (is_whole, mut is_told) = (is_quiet_on(judge, net), false);
+            for (place, link) in judge.config().links().iter().enumerate() {
+                if !is_silent(judge, place, link, net) || is_whole && is_told {
+                    continue;
+                }
+                if is_first {
+                    self.write_whose(writer, judge)?;
+                }
+                let (id, network, mark) = (link.id.0, network_name(net), mark_of(is_first, ": "));
+                if is_whole {
+                    write!(writer, "{mark}network {network}")?;
+                } else {
+                    write!(writer, "{mark}link {id} on {network}")?;
+                }
+                (is_first, is_told) = (false, true);
+            }
+        }
+        if !is_first {
+            writer.write_all(b"\n")?;
+        }
+        Ok(())
+    }
+
+    /// Writes what begins the line of silence.
+    fn write_whose<W: Write>(&self, writer: &mut W, judge: &Judge) -> io::Result<()> {
+        if self.has_several() {
+            let id = judge.config().end_system();
+            write!(writer, "end system {id}, ")?;
+        }
+        writer.write_all(b"without a frame")
+    }
+
+    /// Writes a row for each link and each network that carries it; of several plans, each after the line of its end
+    /// system.
+    fn write_rows<W: Write>(&self, writer: &mut W) -> io::Result<()> {
+        for id in self.tap.end_systems() {
+            let Some(judge) = self.tap.judge_of(*id) else {
+                continue;
+            };
+            if self.has_several() {
+                let id = judge.config().end_system();
+                writeln!(writer, "end system {id}")?;
+            }
+            write_table(writer, judge)?;
+        }
+        Ok(())
     }
 }
 
-/// Writes what came of a recording as a page: the number of findings, the least gap of each link beside its BAG, and
-/// the lead of one network over the other, whose bars end at the skew in microseconds. All text on it is numeric or
-/// fixed, so nothing needs escaping.
-pub fn write_page<W: Write>(writer: &mut W, hearing: &Hearing, skew: u64) -> io::Result<()> {
-    let (judge, tally) = (&hearing.judge, &hearing.tally);
-    let id = judge.config().end_system();
-    write_head(writer, "Recording of end system", id, "", "")?;
-    writeln!(writer, "<p id=\"verdict\">{tally}</p>")?;
-    write_gaps(writer, judge)?;
-    write_leads(writer, judge, skew)?;
-    writer.write_all(b"</body>\n</html>\n")
+/// Appends a finding.
+fn keep(kept: &mut Vec<Finding>, finding: &Finding) -> Result<(), AllocError> {
+    Ok(kept.push(*finding)?)
 }
 
-/// Writes a row for the least gap of each link on each network.
-fn write_gaps<W: Write>(writer: &mut W, judge: &Judge) -> io::Result<()> {
+/// Returns the finding of a packet whose byte 11 names no network.
+fn of_no_network(net: Net, number: u64, packet: &Packet<'_>, byte: u8) -> Finding {
+    Finding {
+        kind: FindingKind::Network,
+        packet: number,
+        net,
+        at: packet.at.unwrap_or(0),
+        link: None,
+        seen: byte as u64,
+        wanted: 0,
+    }
+}
+
+/// Writes the rows of a plan, with a header.
+fn write_table<W: Write>(writer: &mut W, judge: &Judge) -> io::Result<()> {
     writer.write_all(
-        b"<h2>Gaps</h2>\n<p>The least gap of each link on each network. The mark is its BAG, and \
-        a whole bar two.</p>\n<table id=\"gaps\">\n<thead><tr><th>link</th><th>network</th>\
-        <th>least gap</th><th class=\"bar\"></th></tr></thead>\n<tbody>\n",
+        b" link net      frames         bytes    messages      bag-ns   least-gap-ns     lead-ns\n",
     )?;
     for (place, link) in judge.config().links().iter().enumerate() {
         for net in [Net::A, Net::B] {
             if let Some(figures) = figures_of(judge, place, link, net) {
                 let (id, network) = (link.id.0, network_name(net));
+                let (frames, bytes, messages) = (figures.frames, figures.bytes, figures.messages);
                 let bag = link.bag.ms().saturating_mul(1_000_000);
-                write!(writer, "<tr><td>{id}</td><td>{network}</td>")?;
-                write_time(writer, bag.saturating_mul(2), bag, figures.least_gap)?;
+                let least = Cell(figures.least_gap, "-");
+                let lead = Cell(judge.lead(place), "-");
+                writeln!(
+                    writer,
+                    "{id:>5}{network:>4}{frames:>12}{bytes:>14}{messages:>12}{bag:>12}{least:>15}{lead:>12}"
+                )?;
             }
         }
     }
-    writer.write_all(b"</tbody>\n</table>\n")
+    Ok(())
 }
 
-/// Writes a row for the lead of each link on both networks.
-fn write_leads<W: Write>(writer: &mut W, judge: &Judge, skew: u64) -> io::Result<()> {
-    writer.write_all(
-        b"<h2>Leads</h2>\n<p>The greatest time between a frame and its twin. The mark is the \
-        skew, at the end of the bar.</p>\n<table id=\"leads\">\n<thead><tr><th>link</th>\
-        <th>lead</th><th class=\"bar\"></th></tr></thead>\n<tbody>\n",
-    )?;
-    let scale = skew.saturating_mul(1_000);
-    for (place, link) in judge.config().links().iter().enumerate() {
-        if link.networks.carries_a() && link.networks.carries_b() {
-            let id = link.id.0;
-            write!(writer, "<tr><td>{id}</td>")?;
-            write_time(writer, scale, scale, judge.lead(place))?;
-        }
+/// Returns whether a network carries links of a plan, and none of them has a frame on it.
+fn is_quiet_on(judge: &Judge, net: Net) -> bool {
+    let mut links = judge.config().links().iter().enumerate();
+    !links.any(|(place, link)| match figures_of(judge, place, link, net) {
+        Some(figures) => figures.frames > 0,
+        None => false,
+    })
+}
+
+/// Returns whether a network carries a link, which has no frame on it.
+pub fn is_silent(judge: &Judge, place: usize, link: &LinkPlan, net: Net) -> bool {
+    match figures_of(judge, place, link, net) {
+        Some(figures) => figures.frames == 0,
+        None => false,
     }
-    writer.write_all(b"</tbody>\n</table>\n")
 }
 
-/// Writes a time and its bar, which end a row. The bar is at most the whole scale, and empty if there is no time.
-fn write_time<W: Write>(
-    writer: &mut W,
-    scale: u64,
-    limit: u64,
-    nanos: Option<u128>,
-) -> io::Result<()> {
-    let cell = Cell(nanos, "-");
-    write!(writer, "<td>{cell} ns</td><td class=\"bar\">")?;
-    let mut bar = Parts::begin(writer, scale, limit)?;
-    bar.fill(writer, nanos.unwrap_or(0).min(scale as u128) as u64)?;
-    bar.end(writer)?;
-    writer.write_all(b"</td></tr>\n")
+/// Returns the figures of the link at a place on a network, if that carries it.
+pub fn figures_of(judge: &Judge, place: usize, link: &LinkPlan, net: Net) -> Option<Figures> {
+    if carries(net, link.networks) {
+        judge.figures(place, net)
+    } else {
+        None
+    }
 }

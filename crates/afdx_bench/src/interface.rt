@@ -29,11 +29,11 @@ pub fn import_file<'a, W: Write>(
         let _told = eprintln!(rt; "{path}: {fault}");
     }
     tell_rest(rt, made.count, made.faults.len());
-    Ok(End::FaultsTold)
+    Ok(End::FileWrong)
 }
 
-/// Writes a script in which the ports of a plan send at their periods for so many seconds. If the traffic has faults,
-/// or the script would be too long, writes that to standard error, and no script.
+/// Writes a script in which the ports of a plan send at their periods for a number of seconds. If the traffic has
+/// faults, or the script would be too long, writes this to standard error, and no script.
 pub fn schedule<'a, W: Write>(
     rt: &HostRuntime,
     path: &'a str,
@@ -55,7 +55,7 @@ pub fn schedule<'a, W: Write>(
     tell_others(rt, traffic, &read.others);
     if !read.faults.is_empty() {
         tell_traffic(rt, traffic, &read);
-        return Ok(End::FaultsTold);
+        return Ok(End::FileWrong);
     }
     let ports = ports_of(alloc, &read)?;
     let flows = flows_of(alloc, &plan, ports.as_slice(), seed)?;
@@ -78,7 +78,7 @@ pub fn schedule<'a, W: Write>(
     let _told = eprintln!(rt;
         "the script would have more than 1000000 lines: give fewer --seconds"
     );
-    Ok(End::FaultsTold)
+    Ok(End::FileWrong)
 }
 
 /// Returns the names and periods of ports.
@@ -101,7 +101,7 @@ pub fn tell_others(rt: &HostRuntime, path: &str, others: &Others) {
 }
 
 /// Writes the faults of a traffic file to standard error.
-fn tell_traffic(rt: &HostRuntime, path: &str, traffic: &Traffic) {
+pub fn tell_traffic(rt: &HostRuntime, path: &str, traffic: &Traffic) {
     tell_count(rt, traffic.count, "the traffic");
     for fault in traffic.faults.iter() {
         let _told = eprintln!(rt; "{path}: {fault}");
@@ -115,7 +115,7 @@ fn tell_count(rt: &HostRuntime, count: usize, whole: &str) {
     let _told = eprintln!(rt; "{count} {faults} of {whole}");
 }
 
-/// Writes how many faults there are beside those that were told to standard error.
+/// Writes the number of faults beside the printed ones to standard error.
 fn tell_rest(rt: &HostRuntime, count: usize, told: usize) {
     let more = count.saturating_sub(told);
     if more > 0 {

@@ -5,21 +5,25 @@
 ghost use Rattle.std.specs.Prelude.{◌≤◌};
 ghost use Rattle.bench_words.specs.Status.{IsInRange};
 
+mod checking;
 mod compiling;
 mod files;
 mod findings;
+mod foreign;
 mod hearing;
 mod interface;
 mod judging;
+mod network;
+mod page;
+mod recorded;
 mod report;
 mod source;
 mod stop;
 
 use afdx_plan::{Config, demo_config};
-use bench_words::{
-    End, Failure, Halting, Words, check, read_words, status_of, tell_faults, tell_words,
-};
+use bench_words::{End, Failure, Halting, Words, read_words, status_of, tell_words};
 use capture::write_capture;
+use checking::{check_plans, explain_plan};
 use compiling::compile;
 use files::{buffered, create, open, open_plan, stand_in, written};
 use interface::{import_file, schedule};
@@ -35,7 +39,7 @@ use stop::{Cause, Stop, of_file};
 use storm::{OpenGate, Progress, StormFault, ThrowFault, throw_storm};
 use tx_script::{Played, RunFault, Summary, play_script, run_script};
 
-/// How the command ends after a script, by its path.
+/// Returns the end of the command after a script, by its path.
 fn end_of<'a>(ran: Result<Summary, RunFault>, path: &'a str) -> Result<End, Stop<'a>> {
     of_file(ran.map(End::Ran).map_err(Failure::Run), path, Cause::Unread)
 }
@@ -131,15 +135,8 @@ fn obey<'a, W: Write, T: Threads + Wait + Sync>(
             script,
             capture,
         } => run_files(rt, config.as_str(), script.as_str(), capture, writer),
-        Words::Check(path) => {
-            let checked = check(alloc, open(rt, path.as_str())?, writer);
-            of_file(checked, path.as_str(), Cause::UnreadPlan)?;
-            Ok(End::Told)
-        }
-        Words::Explain(path) => {
-            let told = tell_faults(alloc, open(rt, path.as_str())?, path.as_str(), writer);
-            of_file(told, path.as_str(), Cause::UnreadPlan)
-        }
+        Words::Check { configs, json } => check_plans(rt, configs.as_slice(), *json, writer),
+        Words::Explain { config, json } => explain_plan(rt, config.as_str(), *json, writer),
         Words::Compile { config, source } => compile(rt, config.as_str(), source, writer),
         Words::Import(path) => import_file(rt, path.as_str(), writer),
         Words::Report(asked) => report(rt, asked, writer),

@@ -1,10 +1,11 @@
 //! A capture that is read in pieces.
 ghost use Rattle.std.specs.Prelude.{◌≤◌, length, vec_len, IfSome};
 
+use crate::findings::NoFrames;
 use crate::hearing::Hearing;
 use crate::stop::{Cause, Stop};
 use afdx_frame::Net;
-use capture::{CaptureEnd, GREATEST_UNIT, NoStep, Reading};
+use capture::{CaptureEnd, Fault, GREATEST_UNIT, NoStep, Reading};
 use std::alloc::{AllocError, Global};
 use std::fmt;
 use std::fs::File;
@@ -14,19 +15,19 @@ use tx_script::RunFault;
 // The bytes of the window: any unit fits in one half.
 const WINDOW: usize = 2 * GREATEST_UNIT;
 
-/// Which packets of a capture are heard, and of which network they are.
+/// The packets of a capture that are judged, and their networks.
 #[derive(Clone, Copy)]
 pub enum Part {
-    /// Those of both networks, by their interfaces.
+    /// The packets of both networks, by their interfaces.
     Both,
-    /// Those of one network, by their interfaces.
+    /// The packets of one network, by their interfaces.
     Interface(Net),
-    /// All, of this network.
+    /// All packets, as packets of this network.
     File(Net),
 }
 
 impl Part {
-    /// The network of a packet that is heard, by that of its interface.
+    /// Returns the network of a packet, given its interface's, if the packet is judged.
     fn heard(self, network: Option<Net>) -> Option<Net> {
         match self {
             Part::Both => network,
@@ -36,12 +37,14 @@ impl Part {
     }
 }
 
-/// A capture, and a window on it. `Display` prints what was read: the packets, those of other interfaces among them,
-/// and the end.
+/// A capture, and a window on it. `Display` prints the number of packets that were read, the number of packets from
+/// other interfaces, and the end.
 #[derive(Drop)]
 pub struct Source<'a> {
     file: File,
     path: &'a str,
+    // The number of the capture.
+    number: u8,
     part: Part,
     reading: Reading,
     window: Vec<u8>,
@@ -55,21 +58,25 @@ pub struct Source<'a> {
     // The time of the next packet, at first the least, and the end of the capture once it is read.
     next: u128,
     ended: Option<CaptureEnd>,
+    // The link type that ended it.
+    link_type: Option<u16>,
     ghost ordered: { start ≤ end },
     ghost within: { end ≤ vec_len window },
 }
 
 impl<'a> Source<'a> {
-    /// A source of a file, of which nothing is read.
+    /// Creates the source of a capture with this number, before anything is read of its file.
     pub fn new(
         alloc: Global,
         file: File,
         path: &'a str,
+        number: u8,
         part: Part,
     ) -> Result<Source<'a>, AllocError> {
         Ok(Source {
             file,
             path,
+            number,
             part,
             reading: Reading::new(),
             window: vec![in alloc; 0u8; WINDOW]?,
@@ -80,10 +87,11 @@ impl<'a> Source<'a> {
             others: 0,
             next: 0,
             ended: None,
+            link_type: None,
         })
     }
 
-    /// The time of the next packet, or `None` at the end. Before anything is read, any packet may be next.
+    /// Returns the time of the next packet, or `None` at the end. Before anything is read, any packet may be next.
     pub fn next(&self) -> Option<u128> {
         match self.ended {
             Some(_) => None,
@@ -91,8 +99,8 @@ impl<'a> Source<'a> {
         }
     }
 
-    /// Has its packets heard up to the first one of a time after `until`, which comes next; without a time, up to the
-    /// first one.
+    /// Judges the packets up to time `until`; the first later one stays for the next call. Without a time, stops before
+    /// the first packet.
     pub fn read_until<W: Write>(
         &mut self,
         until: Option<u128>,
@@ -113,7 +121,13 @@ impl<'a> Source<'a> {
                         }
                         self.packets = self.packets.saturating_add(1);
                         match net {
-                            Some(net) => hearing.hear(writer, net, self.packets, &packet)?,
+                            Some(net) => hearing.hear(
+                                writer,
+                                self.number,
+                                net,
+                                self.packets,
+                                &packet,
+                            )?,
                             None if packet.network.is_some() => {}
                             None => self.others = self.others.saturating_add(1),
                         }
@@ -125,6 +139,9 @@ impl<'a> Source<'a> {
                     if stop != NoStep::More || !self.fill()? {
                         let rest = &self.window.as_slice()[self.start..self.end];
                         self.ended = Some(self.reading.end(self.used, rest, stop));
+                        if stop == NoStep::Malformed(Fault::LinkType) {
+                            self.link_type = link_type_in(rest);
+                        }
                         return Ok(());
                     }
                 }
@@ -133,7 +150,7 @@ impl<'a> Source<'a> {
         Ok(())
     }
 
-    /// Moves what isn't used to the front of the window, and reads more. Returns whether there was more.
+    /// Moves the unused bytes to the front of the window, and reads more. Returns false if there was no more.
     fn fill(&mut self) -> Result<bool, Stop<'a>> {
         self.window
             .as_mut_slice()
@@ -149,20 +166,58 @@ impl<'a> Source<'a> {
         }
     }
 
-    /// How the capture ended.
+    /// Returns the end of the capture.
     fn ending(&self) -> CaptureEnd {
         self.ended.unwrap_or(CaptureEnd::CutOff(self.used))
     }
 
-    /// Whether it was read to its end.
+    /// Returns true if the capture was read to its end.
     pub fn is_whole(&self) -> bool {
         self.ending() == CaptureEnd::Whole
     }
 
-    /// Whether it is a capture: it has a packet, or was read to its end.
-    pub fn is_capture(&self) -> bool {
-        self.ended.is_none() || self.packets > 0 || self.is_whole()
+    /// Returns the reason that the file is no capture of Ethernet frames. `None` if it has a packet, is whole, or
+    /// hasn't ended.
+    pub fn no_frames(&self) -> Option<NoFrames> {
+        if self.ended.is_none() || self.packets > 0 || self.is_whole() {
+            return None;
+        }
+        Some(match (self.ending(), self.link_type) {
+            (_, Some(number)) => NoFrames::OtherLink(number),
+            (CaptureEnd::Broken(_, Fault::Format), _) => NoFrames::OtherFormat,
+            _ => NoFrames::NoPacket,
+        })
     }
+
+    /// Returns the number of packets that were read.
+    pub fn packets(&self) -> u64 {
+        self.packets
+    }
+
+    /// Returns how many of the packets that were read came from other interfaces.
+    pub fn others(&self) -> u64 {
+        self.others
+    }
+}
+
+/// Returns the link type in a unit: the header of pcap or the block of an interface.
+fn link_type_in(unit: &[u8]) -> Option<u16> {
+    match unit.get(..4)? {
+        [0xd4, 0xc3, 0xb2, 0xa1] | [0x4d, 0x3c, 0xb2, 0xa1] => half_in(unit, 20, false),
+        [0xa1, 0xb2, 0xc3, 0xd4] | [0xa1, 0xb2, 0x3c, 0x4d] => half_in(unit, 22, true),
+        [1, 0, 0, 0] => half_in(unit, 8, false),
+        _ => half_in(unit, 8, true),
+    }
+}
+
+/// Returns the number that two bytes of a unit make, the high one first or last.
+fn half_in(unit: &[u8], at: usize, is_high_first: bool) -> Option<u16> {
+    let (one, other) = (*unit.get(at)?, *unit.get(at.saturating_add(1))?);
+    Some(if is_high_first {
+        u16::from_be_bytes([one, other])
+    } else {
+        u16::from_le_bytes([one, other])
+    })
 }
 
 impl fmt::Display for Source<'_> {
@@ -175,13 +230,17 @@ impl fmt::Display for Source<'_> {
         match self.ending() {
             CaptureEnd::Whole => Ok(()),
             CaptureEnd::CutOff(at) => write!(f, ", cut off at byte {at}"),
-            CaptureEnd::Broken(at, fault) => write!(f, ", malformed at byte {at}: {fault:?}"),
+            CaptureEnd::Broken(_, Fault::Format) => f.write_str(", neither pcapng nor pcap"),
+            CaptureEnd::Broken(at, fault) => match self.link_type {
+                Some(number) => write!(f, ", link type {number} at byte {at}"),
+                None => write!(f, ", malformed at byte {at}: {fault:?}"),
+            },
         }
     }
 }
 
-/// Reads once, and again after an interruption. Returns how many bytes were read: 0 at the end of the file, or if there
-/// is no room. `None` if the file can't be read.
+/// Reads once, and again after an interruption. Returns the number of bytes that were read: 0 at the end of the file,
+/// or if there is no room. `None` if the file can't be read.
 fn read_some(file: &mut File, room: &mut [u8]) -> Option<usize>
     ensures { IfSome result (λ count. count ≤ length room.old) }
 {

@@ -1,4 +1,4 @@
-//! Why a command stopped, and the second line on standard error, after the message of the failure.
+//! The end of a command that stopped, and the second line on standard error, after the message of the failure.
 use afdx_config::{ConfigFault, explain_file};
 use bench_words::{Failure, TEXT_LIMIT, Words, read_text};
 use std::alloc::AllocError;
@@ -6,18 +6,18 @@ use std::fs::{self, File};
 use std::io::{self, IsTerminal};
 use tx_script::{LineFault, RunFault};
 
-/// What is wrong with a file.
+/// The reasons for which a file stops a command.
 #[derive(Drop)]
 pub enum Cause {
     /// The system doesn't open or make it.
     System(io::Error),
-    /// It is to be written, and is one of the files that are read.
+    /// The file is to be written, and is one of the files that are read.
     Same,
-    /// It is to be written, and another word names it for that too.
+    /// The file is to be written, and another word names it for that too.
     Twice,
-    /// It is open, and can't be read.
+    /// The file is open, and can't be read.
     Unread,
-    /// It is open, and can't be read, or is too long for a plan.
+    /// The file is open, and can't be read, or is too long for a plan.
     UnreadPlan,
 }
 
@@ -26,6 +26,8 @@ pub enum Cause {
 pub struct Stop<'a> {
     pub failure: Failure,
     file: Option<(&'a str, Cause)>,
+    // the plan that was refused
+    plan: Option<&'a str>,
 }
 
 impl From<Failure> for Stop<'_> {
@@ -33,6 +35,7 @@ impl From<Failure> for Stop<'_> {
         Stop {
             failure,
             file: None,
+            plan: None,
         }
     }
 }
@@ -51,11 +54,12 @@ impl From<io::Error> for Stop<'_> {
 }
 
 impl<'a> Stop<'a> {
-    /// A failure that a file made.
+    /// Returns the end of a command that a file made fail.
     pub fn by_file(fault: RunFault, path: &'a str, cause: Cause) -> Stop<'a> {
         Stop {
             failure: Failure::Run(fault),
             file: Some((path, cause)),
+            plan: None,
         }
     }
 
@@ -72,7 +76,7 @@ impl<'a> Stop<'a> {
     pub fn tell_more(&self, rt: &HostRuntime, words: &Words) {
         let is_quiet = matches!(
             words,
-            Words::Script | Words::Run { .. } | Words::Check(_) | Words::Storm { .. }
+            Words::Script | Words::Run { .. } | Words::Check { .. } | Words::Storm { .. }
         );
         if !is_quiet || self.is_told_always() || rt.stderr().is_terminal() {
             let _told = match &self.file {
@@ -89,7 +93,7 @@ impl<'a> Stop<'a> {
                     Some(false) => eprintln!(rt; "{path}: it can't be read"),
                     None => eprintln!(rt; "{path}: it can't be read, or has more than 16 MiB"),
                 },
-                None => tell_next(rt, words, &self.failure),
+                None => tell_next(rt, words, self.plan, &self.failure),
             };
         }
     }
@@ -103,7 +107,7 @@ fn is_too_long(rt: &HostRuntime, path: &str) -> Option<bool> {
     }
 }
 
-/// What came of reading a file: `Read` is blamed on the file.
+/// Returns the result of reading a file. A fault `Read` is blamed on the file.
 pub fn of_file<'a, T>(
     read: Result<T, Failure>,
     path: &'a str,
@@ -112,24 +116,16 @@ pub fn of_file<'a, T>(
     match read {
         Ok(value) => Ok(value),
         Err(Failure::Run(RunFault::Read)) => Err(Stop::by_file(RunFault::Read, path, cause)),
-        Err(failure) => Err(Stop::from(failure)),
+        Err(failure) => Err(Stop {
+            failure,
+            file: None,
+            plan: Some(path),
+        }),
     }
 }
 
-/// The path of the plan.
-fn plan_of(words: &Words) -> &str {
-    match words {
-        Words::Run { config, .. } | Words::Storm { config, .. } => config.as_str(),
-        Words::Check(config) | Words::Explain(config) => config.as_str(),
-        Words::Import(document) => document.as_str(),
-        Words::Compile { config, .. } | Words::Schedule { config, .. } => config.as_str(),
-        Words::Report(asked) => asked.config.as_str(),
-        Words::Judge(case) => case.config.as_str(),
-        Words::Script => "standard input",
-    }
-}
-
-/// Writes the line that `explain` has first of a plan with this fault, and where to find the other faults.
+/// Writes the first line that `explain` prints for a plan with this fault, and the command that prints the other
+/// faults.
 fn tell_fault(rt: &HostRuntime, plan: &str, fault: ConfigFault) -> io::Result<()> {
     if let Some((line, count)) = first_of(rt, plan, fault) {
         eprintln!(rt; "{line}")?;
@@ -155,9 +151,17 @@ fn first_of(rt: &HostRuntime, plan: &str, fault: ConfigFault) -> Option<(String,
     Some((String::from_str(alloc, line).ok()?, told.count))
 }
 
-/// What to do next after a failure that no file made.
-fn tell_next(rt: &HostRuntime, words: &Words, failure: &Failure) -> io::Result<()> {
-    let plan = plan_of(words);
+/// Writes what to do next after a failure that no file made.
+fn tell_next<'x>(
+    rt: &HostRuntime,
+    words: &'x Words,
+    plan: Option<&'x str>,
+    failure: &Failure,
+) -> io::Result<()> {
+    let plan = match words {
+        Words::Storm { config, .. } => config.as_str(),
+        _ => plan.unwrap_or("standard input"),
+    };
     let script = match words {
         Words::Run { script, .. } => script.as_str(),
         _ => plan,
@@ -176,7 +180,7 @@ fn tell_next(rt: &HostRuntime, words: &Words, failure: &Failure) -> io::Result<(
     }
 }
 
-/// What a line has to be.
+/// Returns the form that a line must have.
 fn wanted(fault: LineFault) -> &'static str {
     match fault {
         LineFault::Word => "a line is `send PORT HEX`, `at MICROS` or `close VL SUB`",

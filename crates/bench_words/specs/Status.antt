@@ -3,7 +3,7 @@ use Rattle.std.specs.Prelude.{ℕ, nat_eq, if◌then◌else◌, ◌≤◌, ⊤, 
 use Rattle.bench_words.specs.declared.status.Failure.{Failure}
 use Rattle.bench_words.specs.declared.status.Failure.TheVariants.{Config, Run, Short, Turns}
 use Rattle.bench_words.specs.declared.status.End.{End}
-use Rattle.bench_words.specs.declared.status.End.TheVariants.{Told, Ran, FaultsTold, Missed, WordsRefused, Failed}
+use Rattle.bench_words.specs.declared.status.End.TheVariants.{Told, Ran, FaultsTold, Missed, FileWrong, WordsRefused, Failed}
 use Rattle.script_text.specs.declared.faults.RunFault.TheVariants.{Line, Lines, Write, Memory}
 use Rattle.bench_words.specs.declared.words.Words.{Words}
 use Rattle.bench_words.specs.declared.words.Words.TheVariants.{Report, Schedule, Judge, Storm}
@@ -22,13 +22,14 @@ failure_status (Run _) = 4
 failure_status Short = 2
 failure_status Turns = 5
 
--- 0 on success, 3 if lines of the script were refused, 2 if the command line was refused, faults of a plan
--- were written, or a strict report has a missed limit or deadline
+-- 0 on success; 1 if faults of a plan or findings were written, or a strict report has a missed limit or deadline;
+-- 2 if the command line or a file was refused; 3 if lines of the script were refused
 abbrev pub exit_status : End → ℕ
 exit_status Told = 0
 exit_status (Ran summary) = if nat_eq summary.refused 0 then 0 else 3
-exit_status FaultsTold = 2
-exit_status Missed = 2
+exit_status FaultsTold = 1
+exit_status Missed = 1
+exit_status FileWrong = 2
 exit_status WordsRefused = 2
 exit_status (Failed failure) = failure_status failure
 
@@ -41,7 +42,7 @@ IsInRange (Schedule config traffic seconds seed) = (1 ≤ seconds) × (seconds �
 IsInRange (Judge case) = (case.jitter ≤ 1000000) × (case.skew ≤ 1000000)
 IsInRange _ = ⊤
 
--- how the program ends if the words name no command: a message was written or standard output failed for help and the
+-- the end of the program if the words name no command: a message was written or standard output failed for help and the
 -- version; no memory; or wrong words
 abbrev pub EndsWords : ErrorKind → End → Type 0
 EndsWords DisplayHelp end = (end ≡ Told) ⊎ (end ≡ Failed (Run Write))

@@ -8,7 +8,7 @@ use std::alloc::{AllocError, Global};
 const ABOUT: &str =
     "A transmitting AFDX end system. Without words it runs a script from standard input.";
 
-/// The names of the commands, and what each does.
+/// The names of the commands, and a sentence on each.
 const COMMANDS: [(&str, &str); 9] = [
     (
         "run",
@@ -44,14 +44,19 @@ const COMMANDS: [(&str, &str); 9] = [
     ),
     (
         "storm",
-        "Has all ports of a plan send at once, and prints what came of it",
+        "Sends through all ports of a plan at once, and prints the counts",
     ),
 ];
 
-/// What frames are judged by.
+/// The flag that asks for a document, and its meaning.
+const JSON: &str = "json";
+
+const JSON_HELP: &str = "Prints a JSON document instead of text";
+
+/// The profiles that frames may be judged by.
 const PROFILES: [&str; 2] = ["own", "arinc"];
 
-/// What a word is, and what follows it.
+/// The kind of a word, with the name of its value.
 enum WordKind {
     /// A path, which may be left out.
     Path,
@@ -60,20 +65,24 @@ enum WordKind {
     Flag,
     /// A flag, and a text with this name.
     Text(&'static str),
+    /// A flag that may be given several times, each with a text with this name.
+    Texts(&'static str),
     /// A flag that must be given, and a text with this name.
     Given(&'static str),
     Profile,
     /// A flag, and a number with this name, at most this one.
     Upto(&'static str, u64),
+    /// A flag, and a number with this name, from 1 to this one.
+    Within(&'static str, u64),
     /// A flag that must be given, and a number from 1 to this one.
     Count(u64),
 }
 
-/// A word: the name of its command, its own, what follows it, and what it means.
+/// A word: the name of its command, its own name, its kind, and its meaning.
 struct Word(&'static str, &'static str, WordKind, &'static str);
 
 /// The words after that of the plan, in the order of the help.
-const WORDS: [Word; 22] = [
+const WORDS: [Word; 31] = [
     Word("run", "script", WordKind::Needed, "The file of the script"),
     Word(
         "run",
@@ -81,6 +90,8 @@ const WORDS: [Word; 22] = [
         WordKind::Text("file"),
         "Also writes the frames of both networks to a file in the pcapng format",
     ),
+    Word("check", JSON, WordKind::Flag, JSON_HELP),
+    Word("explain", JSON, WordKind::Flag, JSON_HELP),
     Word(
         "compile",
         "c",
@@ -91,7 +102,7 @@ const WORDS: [Word; 22] = [
         "report",
         "lateness",
         WordKind::Upto("micros", MICROS_LIMIT),
-        "How late polls come at most, in microseconds: 0 if left out",
+        "The longest time from the end of a BAG to the next poll, in microseconds: 0 if left out",
     ),
     Word(
         "report",
@@ -103,7 +114,7 @@ const WORDS: [Word; 22] = [
         "report",
         "traffic",
         WordKind::Text("file"),
-        "The periods and deadlines of the ports, from a CSV file: two messages of a port are at least its period apart",
+        "Reads the periods and deadlines of the ports from a CSV file: two messages of a port are at least its period apart",
     ),
     Word(
         "report",
@@ -115,37 +126,38 @@ const WORDS: [Word; 22] = [
         "report",
         "date",
         WordKind::Text("text"),
-        "The date that the page names",
+        "Names this date on the page",
     ),
     Word(
         "report",
         "strict",
         WordKind::Flag,
-        "Ends with status 2 if a limit or a deadline is missed",
+        "Ends with status 1 if the verdict has a warning",
     ),
+    Word("report", JSON, WordKind::Flag, JSON_HELP),
     Word(
         "schedule",
         "traffic",
         WordKind::Given("file"),
-        "The periods of the ports, from a CSV file; a port without one sends nothing",
+        "Reads the periods of the ports from a CSV file; a port without one sends nothing",
     ),
     Word(
         "schedule",
         "seconds",
         WordKind::Count(SECONDS_LIMIT),
-        "How many seconds the script takes, with a poll each millisecond",
+        "The length of the script in seconds, with a poll each millisecond",
     ),
     Word(
         "schedule",
         "seed",
         WordKind::Upto("seed", u64::MAX),
-        "Which times the ports begin to send at: 0, all at once, if left out",
+        "Chooses the times at which the ports begin to send: 0, all at once, if left out",
     ),
     Word(
         "judge",
         "capture",
         WordKind::Needed,
-        "The recording, of both networks or of network A",
+        "The recording of both networks, or of network A",
     ),
     Word(
         "judge",
@@ -155,15 +167,21 @@ const WORDS: [Word; 22] = [
     ),
     Word(
         "judge",
+        "with",
+        WordKind::Texts("plan"),
+        "The plan of one more recorded end system; may be given several times",
+    ),
+    Word(
+        "judge",
         "jitter",
         WordKind::Upto("micros", MICROS_LIMIT),
-        "How much closer than a BAG frames may come, in microseconds: 0 if left out",
+        "The longest time from a frame's release to its recorded time, in microseconds: 0 if left out",
     ),
     Word(
         "judge",
         "skew",
         WordKind::Upto("micros", MICROS_LIMIT),
-        "How far the networks may be apart, in microseconds: 10000 if left out",
+        "The longest time between a frame and its twin, in microseconds: 10000 if left out",
     ),
     Word(
         "judge",
@@ -181,7 +199,7 @@ const WORDS: [Word; 22] = [
         "judge",
         "profile",
         WordKind::Profile,
-        "By what frames are judged: by ARINC 664 Part 7 alone, or as this project's own, if left out",
+        "Chooses the rules for frames: arinc for equipment of any maker; own, if left out, for frames of this library",
     ),
     Word(
         "judge",
@@ -189,21 +207,46 @@ const WORDS: [Word; 22] = [
         WordKind::Text("file"),
         "Also writes the summary as a page to a file",
     ),
+    Word("judge", JSON, WordKind::Flag, JSON_HELP),
+    Word(
+        "judge",
+        "all-links",
+        WordKind::Flag,
+        "Reports a link without a frame on a network that carries it as a finding",
+    ),
+    Word(
+        "judge",
+        "foreign",
+        WordKind::Flag,
+        "Counts frames whose source is the end system of no plan, and doesn't judge them",
+    ),
+    Word(
+        "judge",
+        "by-byte",
+        WordKind::Flag,
+        "Takes the network of a frame from its byte 11, not from its interface",
+    ),
+    Word(
+        "judge",
+        "every",
+        WordKind::Within("seconds", SECONDS_LIMIT),
+        "Prints the rows so far after each such number of recorded seconds",
+    ),
     Word(
         "storm",
         "messages",
         WordKind::Count(MESSAGES_LIMIT),
-        "How many messages each port sends, each about 3 KB of memory",
+        "The number of messages that each port sends, each about 3 KB of memory",
     ),
     Word(
         "storm",
         "turns",
         WordKind::Count(TURNS_LIMIT),
-        "How often each thread may try",
+        "The number of times that each thread may try",
     ),
 ];
 
-/// All command lines of the program.
+/// Returns all command lines of the program.
 pub(crate) fn command<'a>(alloc: Global) -> Result<Command<'a>, AllocError> {
     let mut program = Command::new(alloc, "afdx_bench")
         .version(VERSION)
@@ -215,13 +258,21 @@ pub(crate) fn command<'a>(alloc: Global) -> Result<Command<'a>, AllocError> {
     Ok(program)
 }
 
-/// A command over the file of a plan, or of an interface document.
+/// Returns the command line of a command over the file of a plan, or of an interface document.
 fn over_file<'a>(alloc: Global, name: &'a str, about: &'a str) -> Result<Command<'a>, AllocError> {
     let (id, help) = match name {
         "import" => ("document", "The file of the interface document"),
+        "check" | "report" => (
+            "config",
+            "The file of the plan, or of each plan of a network",
+        ),
         _ => ("config", "The file of the plan"),
     };
     let file = Arg::new(alloc, id).help(help).required(true);
+    let file = match name {
+        "check" | "report" => file.num_args(1..),
+        _ => file,
+    };
     let mut command = Command::new(alloc, name).about(about).arg(file)?;
     for word in WORDS.iter() {
         if word.0 == name {
@@ -239,10 +290,15 @@ fn arg_of<'a>(alloc: Global, word: &Word) -> Arg<'a> {
         WordKind::Needed => arg.required(true),
         WordKind::Flag => arg.long(id).action(ArgAction::SetTrue),
         WordKind::Text(name) => arg.long(id).value_name(name),
+        WordKind::Texts(name) => arg.long(id).value_name(name).action(ArgAction::Append),
         WordKind::Given(name) => arg.long(id).value_name(name).required(true),
         WordKind::Profile => arg.long(id).value_parser(PROFILES.as_slice()),
         WordKind::Upto(name, most) => {
             let number = ValueParser::unsigned(0, *most);
+            arg.long(id).value_name(name).value_parser(number)
+        }
+        WordKind::Within(name, most) => {
+            let number = ValueParser::unsigned(1, *most);
             arg.long(id).value_name(name).value_parser(number)
         }
         WordKind::Count(most) => {

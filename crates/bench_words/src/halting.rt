@@ -7,9 +7,9 @@ ghost use Rattle.std.specs.Io.KnownBytes.{Keeps, WriteAppends};
 use std::io::{self, ErrorKind, Write};
 use std::marker::Model;
 
-/// Wraps a writer. After a write or a flush of the inner writer fails, every call fails and does not
-/// call the inner writer. An interruption is not a failure; a write that accepts none of its bytes is.
-/// Contracts see the inner writer and whether it has failed.
+/// A writer around another one. After a write or a flush of the inner writer fails, every call fails and does not call
+/// the inner writer. An interruption is not a failure; a write that accepts none of its bytes is. Contracts see the
+/// inner writer and whether it has failed.
 #[derive(Drop)]
 pub struct Halting<W: Write + Drop> {
     writer: W,
@@ -37,7 +37,7 @@ impl<W: Write + Drop> Halting<W> {
 impl<W: Write + Drop> Write for Halting<W> {
     ghost contents = { λ h. W.contents h.writer };
 
-    /// Writes to the inner writer, unless that has failed.
+    /// Writes to the inner writer, if that hasn't failed.
     fn write(&mut self, buf: &[u8]) -> io::Result<usize>
         ensures bound { WritesAtMost result buf.now }
         ensures bytes { WriteAppends (W.contents self.old.writer) (W.contents self.new.writer) result buf.now }
@@ -52,7 +52,7 @@ impl<W: Write + Drop> Write for Halting<W> {
         written
     }
 
-    /// Flushes the inner writer, unless that has failed.
+    /// Flushes the inner writer, if that hasn't failed.
     fn flush(&mut self) -> io::Result<()>
         ensures bytes { Keeps (W.contents self.old.writer) (W.contents self.new.writer) }
         ensures halted { self.old.failed ≡ true → IsErr result × (self.new ≡ self.old) }
@@ -67,12 +67,12 @@ impl<W: Write + Drop> Write for Halting<W> {
     }
 }
 
-/// The error of a call after the inner writer has failed.
+/// Returns the error of a call after the inner writer has failed.
 fn failed_before() -> io::Error {
     io::Error::new(ErrorKind::Other, "a write failed before")
 }
 
-/// Whether a flush failed.
+/// Returns true if a flush failed.
 fn flush_failed(flushed: &io::Result<()>) -> bool
     ensures { result ≡ flush_fails flushed.now }
 {
@@ -82,7 +82,7 @@ fn flush_failed(flushed: &io::Result<()>) -> bool
     }
 }
 
-/// Whether a write of `size` bytes failed.
+/// Returns true if a write of `size` bytes failed.
 fn write_failed(size: usize, written: &io::Result<usize>) -> bool
     ensures { result ≡ write_fails size written.now }
 {

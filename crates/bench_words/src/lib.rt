@@ -1,4 +1,4 @@
-//! The words of the program's command line, reading its files, what it prints of a plan, and the ends of its commands.
+//! The words of the program's command line, reading its files, its texts on a plan, and the ends of its commands.
 #![tactic(auto)]
 
 mod commands;

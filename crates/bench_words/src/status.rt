@@ -1,4 +1,4 @@
-//! How a command ends: failures and exit statuses.
+//! The ends of commands: failures and exit statuses.
 ghost use Rattle.std.specs.Prelude.{◌≡◌};
 ghost use Rattle.bench_words.specs.Status.{exit_status, failure_status as status_of_failure};
 
@@ -14,17 +14,20 @@ pub enum End {
     Told,
     /// The script was run to its end.
     Ran(Summary),
-    /// The faults of a plan or of its traffic were written.
+    /// The faults of a plan or the findings of a recording were written.
     FaultsTold,
-    /// A strict report was written, in which a limit or a deadline is missed.
+    /// A strict report was written, whose verdict has a warning.
     Missed,
+    /// The faults of a file were written: a traffic text, an interface document, or a capture that wasn't read to its
+    /// end.
+    FileWrong,
     /// The command line was refused, and its message is already written.
     WordsRefused,
     /// The command ended early.
     Failed(Failure),
 }
 
-/// The exit status of an end.
+/// Returns the exit status of an end.
 pub fn status_of(end: &End) -> u8
     ensures { result ≡ exit_status end.now }
 {
@@ -32,7 +35,8 @@ pub fn status_of(end: &End) -> u8
         End::Told => 0,
         End::Ran(summary) if summary.refused == 0 => 0,
         End::Ran(_) => 3,
-        End::FaultsTold | End::Missed | End::WordsRefused => 2,
+        End::FaultsTold | End::Missed => 1,
+        End::FileWrong | End::WordsRefused => 2,
         End::Failed(failure) => failure_status(failure),
     }
 }

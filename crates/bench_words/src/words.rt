@@ -35,10 +35,16 @@ pub enum Words {
         script: String,
         capture: Option<String>,
     },
-    /// `check <config>`
-    Check(String),
-    /// `explain <config>`
-    Explain(String),
+    /// `check <config>..`, and `--json`
+    Check {
+        configs: Vec<String>,
+        json: bool,
+    },
+    /// `explain <config>`, and `--json`
+    Explain {
+        config: String,
+        json: bool,
+    },
     /// `import <document>`
     Import(String),
     /// `compile <config>`
@@ -46,7 +52,7 @@ pub enum Words {
         config: String,
         source: Option<String>,
     },
-    /// `report <config>`
+    /// `report <config>..`
     Report(Asked),
     /// `schedule <config> --traffic <file> --seconds <n>`, and `--seed <s>`
     Schedule {
@@ -65,10 +71,11 @@ pub enum Words {
     },
 }
 
-/// What is asked of a report, with the paths of its files.
+/// The choices for a report, with the paths of its files.
 #[derive(Drop)]
 pub struct Asked {
-    pub config: String,
+    /// One plan, or the plans of a network.
+    pub configs: Vec<String>,
     /// The greatest lateness of a poll, in microseconds.
     pub lateness: u64,
     /// A page, and the date on it.
@@ -80,19 +87,23 @@ pub struct Asked {
     pub csv: Option<String>,
     /// A missed limit or deadline is a failure.
     pub strict: bool,
+    /// A document is wanted.
+    pub json: bool,
 }
 
 /// A recording that is to be judged, by the paths of its files.
 #[derive(Drop)]
 pub struct Case {
     pub config: String,
+    /// The plans of other end systems that were recorded too.
+    pub with: Vec<String>,
     /// The recording of both networks, or that of network A.
     pub capture: String,
     /// The recording of network B.
     pub other: Option<String>,
-    /// How much less than a BAG a gap may be, in microseconds.
+    /// The time in microseconds by which a gap may be less than the BAG.
     pub jitter: u64,
-    /// How far the networks may be apart, in microseconds.
+    /// The greatest time in microseconds between a frame and its twin.
     pub skew: u64,
     /// The recording began after the end system.
     pub late: bool,
@@ -102,6 +113,16 @@ pub struct Case {
     pub arinc: bool,
     /// The file of a page.
     pub html: Option<String>,
+    /// A document is wanted.
+    pub json: bool,
+    /// A link without a frame is a finding.
+    pub all_links: bool,
+    /// Frames of other sources are counted, and not judged.
+    pub foreign: bool,
+    /// The network of a frame is what its byte 11 says.
+    pub by_byte: bool,
+    /// The seconds of the recording after which the rows are printed each time, if they are.
+    pub every: Option<u64>,
 }
 
 /// Parses the words that the program was started with. The error is a request for help or the version,
@@ -120,7 +141,7 @@ pub fn read_words<R: Env + AllocGlobal>(rt: &R) -> Result<Words, Error>
     }
 }
 
-/// The error of a word that clap doesn't read.
+/// Returns the error of a word that clap doesn't read.
 fn refusal(alloc: Global, text: &str) -> Result<Error, AllocError> {
     let mut program = command(alloc)?;
     program.error(ErrorKind::InvalidValue, text)
@@ -137,7 +158,7 @@ pub fn parse<'a>(alloc: Global, words: &'a [String]) -> Result<Words, Error>
     }
 }
 
-/// The words of a command, by its name.
+/// Returns the words of a command, by its name.
 fn words_of(alloc: Global, name: &str, matches: &ArgMatches<'_>) -> Result<Words, Error>
     ensures { IfOk result IsInRange }
 {
@@ -151,13 +172,19 @@ fn words_of(alloc: Global, name: &str, matches: &ArgMatches<'_>) -> Result<Words
             script: path(alloc, matches, "script")?,
             capture: given(alloc, matches, "capture")?,
         }),
-        "check" => Ok(Words::Check(config)),
-        "explain" => Ok(Words::Explain(config)),
+        "check" => Ok(Words::Check {
+            configs: paths(alloc, matches, "config")?,
+            json: matches.get_flag("json"),
+        }),
+        "explain" => Ok(Words::Explain {
+            config,
+            json: matches.get_flag("json"),
+        }),
         "compile" => Ok(Words::Compile {
             config,
             source: given(alloc, matches, "c")?,
         }),
-        "report" => report_words(alloc, matches, config),
+        "report" => report_words(alloc, matches),
         "schedule" => Ok(Words::Schedule {
             config,
             traffic: path(alloc, matches, "traffic")?,
@@ -173,29 +200,40 @@ fn words_of(alloc: Global, name: &str, matches: &ArgMatches<'_>) -> Result<Words
     }
 }
 
-fn report_words(alloc: Global, matches: &ArgMatches<'_>, config: String) -> Result<Words, Error>
+fn report_words(alloc: Global, matches: &ArgMatches<'_>) -> Result<Words, Error>
     ensures { IfOk result IsInRange }
 {
     let html = given(alloc, matches, "html")?;
     if html.is_some() && matches.get_str("html") == matches.get_str("csv") {
         return Err(refusal(alloc, "--html and --csv name one file")?);
     }
+    let configs = paths(alloc, matches, "config")?;
+    let is_of_one = html.is_some() || matches.get_str("traffic").is_some();
+    if configs.len() > 1 && (is_of_one || matches.get_str("csv").is_some()) {
+        return Err(refusal(alloc, "--html, --traffic and --csv take one plan")?);
+    }
     Ok(Words::Report(Asked {
-        config,
+        configs,
         lateness: count(alloc, matches, "lateness", "0", 0, MICROS_LIMIT)?,
         html,
         date: given(alloc, matches, "date")?,
         traffic: given(alloc, matches, "traffic")?,
         csv: given(alloc, matches, "csv")?,
         strict: matches.get_flag("strict"),
+        json: matches.get_flag("json"),
     }))
 }
 
 fn judge_words(alloc: Global, matches: &ArgMatches<'_>, config: String) -> Result<Words, Error>
     ensures { IfOk result IsInRange }
 {
+    let every = match matches.get_str("every") {
+        Some(_) => Some(count(alloc, matches, "every", "", 1, SECONDS_LIMIT)?),
+        None => None,
+    };
     Ok(Words::Judge(Case {
         config,
+        with: paths(alloc, matches, "with")?,
         capture: path(alloc, matches, "capture")?,
         other: given(alloc, matches, "capture_b")?,
         jitter: count(alloc, matches, "jitter", "0", 0, MICROS_LIMIT)?,
@@ -204,10 +242,15 @@ fn judge_words(alloc: Global, matches: &ArgMatches<'_>, config: String) -> Resul
         fcs: matches.get_flag("fcs"),
         arinc: matches.get_str("profile") == Some("arinc"),
         html: given(alloc, matches, "html")?,
+        json: matches.get_flag("json"),
+        all_links: matches.get_flag("all-links"),
+        foreign: matches.get_flag("foreign"),
+        by_byte: matches.get_flag("by-byte"),
+        every,
     }))
 }
 
-/// The number of a flag, or `otherwise` without the flag: decimal digits alone, from `least` to `most`.
+/// Returns the number of a flag, or `otherwise` without the flag: decimal digits alone, from `least` to `most`.
 fn count(
     alloc: Global,
     matches: &ArgMatches<'_>,
@@ -225,12 +268,22 @@ fn count(
     }
 }
 
-/// The path that a word gives.
+/// Returns the path that a word gives.
 fn path(alloc: Global, matches: &ArgMatches<'_>, id: &str) -> Result<String, AllocError> {
     String::from_str(alloc, matches.get_str(id).unwrap_or(""))
 }
 
-/// The text that a word gives, if there is one.
+/// Returns the paths that a word gives, in their order.
+fn paths(alloc: Global, matches: &ArgMatches<'_>, id: &str) -> Result<Vec<String>, AllocError> {
+    let words = matches.get_strs(id).unwrap_or(&[]);
+    let mut paths = Vec::with_capacity(alloc, words.len())?;
+    for word in words {
+        paths.push(String::from_str(alloc, word)?)?;
+    }
+    Ok(paths)
+}
+
+/// Returns the text that a word gives, if there is one.
 fn given(alloc: Global, matches: &ArgMatches<'_>, id: &str) -> Result<Option<String>, AllocError> {
     match matches.get_str(id) {
         Some(word) => Ok(Some(String::from_str(alloc, word)?)),
@@ -238,8 +291,7 @@ fn given(alloc: Global, matches: &ArgMatches<'_>, id: &str) -> Result<Option<Str
     }
 }
 
-/// Prints the message of an error: help and the version to standard output, and what is wrong with the
-/// words to standard error.
+/// Prints the message of an error: help and the version to standard output, and faults of the words to standard error.
 pub fn tell_words<R: Print + Eprint>(rt: &R, error: &Error) -> End
     ensures { EndsWords (kind_of error.now) result }
 {

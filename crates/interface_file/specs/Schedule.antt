@@ -23,7 +23,7 @@ AreApart periods a b = a.flow ≡ b.flow → a.at + slice_index periods a.flow �
 abbrev pub IsWithin : ℕ → ℕ → Sending → Type 0
 IsWithin count end sending = (sending.flow < count) × (sending.at ≤ end)
 
--- how many messages of a flow there are
+-- the number of messages of a flow
 abbrev pub count_of : ℕ → List Sending → ℕ
 count_of flow sent = sum_by (λ (sending : Sending). if sending.flow == flow then 1 else 0) sent
 

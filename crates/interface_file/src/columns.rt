@@ -1,19 +1,19 @@
-//! What the columns of an interface document say, and what their cells may be.
+//! The columns of an interface document, and the values that their cells may have.
 ghost use Rattle.std.specs.Prelude.{◌<◌};
 
 use interface_sheet::COLUMNS;
 
-/// What a column is about.
+/// The subject of a column.
 #[derive(Clone, Copy, PartialEq, Eq)]
 pub(crate) enum Subject {
     EndSystem,
     Link,
     Port,
-    /// Its cells aren't looked at: they are of the port's traffic.
+    /// The port's traffic. The plan leaves these cells out.
     Traffic,
 }
 
-/// What the cells of a column are.
+/// The kinds of cells of a column.
 #[derive(Clone, Copy, PartialEq, Eq)]
 pub(crate) enum Content {
     Number,
@@ -23,8 +23,8 @@ pub(crate) enum Content {
     Name,
 }
 
-/// A column: what it is about, the key of a plan that has its value, what its cells are, whether a document needs it,
-/// and what is wanted in its cells.
+/// A column: its subject, the key of a plan that has its value, the kind of its cells, whether a document needs it, and
+/// the text of what is wanted in its cells.
 pub(crate) struct Column(
     pub Subject,
     pub &'static str,

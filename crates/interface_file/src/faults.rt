@@ -10,8 +10,8 @@ use thiserror::Error;
 /// The most faults that are kept.
 const FAULTS_LIMIT: usize = 1_000;
 
-/// A fault of an interface document: its row, from 1, the place of its column in `COLUMNS`, if it is of one, and what
-/// is wrong. `Display` prints its line.
+/// A fault of an interface document: its row, from 1, the place of its column in `COLUMNS`, if there is one, and the
+/// kind of fault. `Display` prints its line.
 #[derive(Debug, Drop)]
 pub struct DocumentFault {
     pub row: u64,
@@ -32,7 +32,7 @@ impl fmt::Display for DocumentFault {
     }
 }
 
-/// What is wrong in an interface document. Texts of cells are cut, and have no control characters.
+/// The kinds of faults of an interface document. Texts of cells are cut, and have no control characters.
 #[derive(Debug, Drop, Error)]
 pub enum Wrong {
     #[error("a header is missing")]

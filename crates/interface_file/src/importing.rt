@@ -11,16 +11,16 @@ use afdx_plan::{ConfigFault, LINKS_LIMIT};
 use interface_sheet::{Others, quoted};
 use std::alloc::{AllocError, Global};
 
-/// What came of an interface document.
+/// The result of importing an interface document.
 #[derive(Drop)]
 pub struct Imported {
-    /// The text of its plan, with the names as comments, if the document has no fault.
+    /// The text of the document's plan, with the names as comments, if the document has no fault.
     pub plan: Option<String>,
     /// The first 1,000 faults, ordered by row and column.
     pub faults: Vec<DocumentFault>,
     /// The number of all faults.
     pub count: usize,
-    /// The columns that are none of an interface document: they are left alone.
+    /// The columns that an interface document doesn't have: they are left alone.
     pub others: Others,
 }
 
@@ -94,7 +94,7 @@ fn accepted(alloc: Global, faults: &mut Faults, text: String) -> Result<Option<S
     }
 }
 
-/// Adds the cells that differ from those of the first row of the same link, or of the document.
+/// Adds a fault for each cell that differs from the first row of the same link, or of the document.
 fn add_differences(
     alloc: Global,
     faults: &mut Faults,
@@ -117,7 +117,7 @@ fn add_differences(
     Ok(())
 }
 
-/// Adds a cell, if that of an earlier row is another one.
+/// Adds a fault if a cell differs from an earlier row's.
 fn add_difference(
     alloc: Global,
     faults: &mut Faults,
@@ -138,8 +138,8 @@ fn add_difference(
     faults.add(row.row, Some(place), wrong)
 }
 
-/// Adds the faults of the plan, and counts those that it doesn't keep. The identifier of a link is in the rows of its
-/// ports, which are told if it has a fault.
+/// Adds the faults of the plan, and counts the faults that it doesn't keep. The faults of links' identifiers aren't
+/// counted: they are faults of the rows of their ports.
 fn add_findings(
     alloc: Global,
     faults: &mut Faults,
@@ -188,7 +188,7 @@ fn cell_of<'a>(
     }
 }
 
-/// Returns what is wrong in a cell by a finding of the plan.
+/// Returns the fault of a cell, from a finding of the plan.
 fn wrong_of(
     alloc: Global,
     rows: &[PortCells],

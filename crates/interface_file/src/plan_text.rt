@@ -8,7 +8,7 @@ use std::fmt;
 use std::fmt::Write;
 use toml_writer::write_string;
 
-/// The first row of each link, by its place among the rows.
+/// Returns the first row of each link, by its place among the rows.
 pub(crate) fn links_of(alloc: Global, rows: &[PortCells]) -> Result<Vec<usize>, AllocError> {
     let mut links = Vec::new(alloc);
     for (place, row) in rows.iter().enumerate() {
@@ -68,7 +68,7 @@ fn write_keys(text: &mut String, row: &PortCells, subject: Subject) -> Result<()
     Ok(())
 }
 
-/// Writes the header of a table, after the name of what it is of, as a comment.
+/// Writes the header of a table, after its name, as a comment, if it has one.
 fn write_head(text: &mut String, name: &str, table: &str) -> Result<(), AllocError> {
     text.push_str("\n")?;
     if !name.is_empty() {

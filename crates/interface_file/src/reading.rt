@@ -29,16 +29,16 @@ impl PortCells {
     }
 }
 
-/// An interface document: the rows of its ports, the columns that are none of an interface document, and its faults.
+/// An interface document: the rows of its ports, the other columns, and its faults.
 #[derive(Drop)]
 pub(crate) struct Document {
     pub rows: Vec<PortCells>,
     pub others: Others,
     pub faults: Faults,
-    // how many cells a row has, once a header without a fault is read, and the places of the columns
+    // the number of cells in a row, once a header without a fault is read, and the places of the columns
     pub width: Option<usize>,
     places: [Option<usize>; 20],
-    // the number of the row that is read, and how many line feeds are in the cells before it
+    // the number of the row that is read, and the number of line feeds in the cells before it
     row: u64,
     breaks: u64,
     // a row of a port was left out, since there are too many

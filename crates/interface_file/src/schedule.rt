@@ -26,7 +26,7 @@ pub struct Flow {
     pub period: u64,
 }
 
-/// A message of a script: the place of its flow, and when it is sent, in microseconds.
+/// A message of a script: the place of its flow, and its time, in microseconds.
 #[derive(Clone, Copy, Debug)]
 pub struct Sending {
     pub flow: usize,
@@ -67,8 +67,8 @@ pub fn flows_of(
     Ok(flows)
 }
 
-/// Returns the messages of flows up to a time, in the order of their times, and those of one time in that of the flows.
-/// `None` if they are more than a script has lines.
+/// Returns the messages of flows up to a time, in the order of their times; messages of one time are in the order of
+/// the flows. `None` if they are more than a script has lines.
 pub fn sendings_until(
     alloc: Global,
     flows: &[Flow],

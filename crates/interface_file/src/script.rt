@@ -3,14 +3,15 @@ use crate::schedule::{Flow, LINES_LIMIT, PortTraffic, Sending};
 use afdx_plan::Config;
 use std::io::{Result, Write};
 
-/// How many bytes at the beginning of a message are its number.
+/// The number of bytes at the beginning of a message that give its number.
 const NUMBER_BYTES: usize = 4;
 
-/// 128 zeros in hexadecimal, of which messages have most of their bytes.
+/// 128 zero bytes in hexadecimal, to fill messages.
 const ZEROS: [u8; 256] = [b'0'; 256];
 
-/// Writes a script of so many seconds: what each port does, as comments, and a poll for each millisecond, after the
-/// messages that are sent up to it. Writes nothing, and returns false, if it would be longer than a script may be.
+/// Writes a script for a number of seconds: the traffic of each port, as comments, and a poll for each millisecond,
+/// after the messages that are sent up to it. Writes nothing, and returns false, if it would be longer than a script
+/// may be.
 pub fn write_script<W: Write>(
     writer: &mut W,
     config: &Config,
@@ -40,7 +41,7 @@ pub fn write_script<W: Write>(
     Ok(true)
 }
 
-/// Writes what each port does.
+/// Writes the traffic of each port, as comments.
 fn write_comments<W: Write>(
     writer: &mut W,
     config: &Config,

@@ -1,4 +1,4 @@
-//! Cells without what a spreadsheet puts around a value.
+//! Cells without the characters that a spreadsheet puts around a value.
 use std::alloc::{AllocError, Global};
 use std::fmt::Write;
 
@@ -33,8 +33,8 @@ fn without_zeros(text: &[u8]) -> &[u8] {
     }
 }
 
-/// Returns a cell in quotes: its first 40 bytes, of which those that aren't printable ASCII, quotes and backslashes are
-/// `\x` and two digits.
+/// Returns a cell in quotes: its first 40 bytes. Quotes, backslashes and bytes that aren't printable ASCII become `\x`
+/// and two digits.
 pub fn quoted(alloc: Global, cell: &[u8]) -> Result<String, AllocError> {
     let mut text = String::from_str(alloc, "\"")?;
     for byte in cell.iter().take(SHOWN_LIMIT) {

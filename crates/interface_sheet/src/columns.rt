@@ -3,8 +3,8 @@ ghost use Rattle.std.specs.Prelude.{◌<◌, IfSome, length};
 
 use crate::cells::bare;
 
-/// The columns of an interface document, by their names in its header. A row is one of a port; what it says of its
-/// link stands in each row of the link.
+/// The columns of an interface document, by their names in its header. Each row belongs to a port; the cells on its
+/// link are in each row of the link.
 pub const COLUMNS: [&str; 20] = [
     "vl",
     "vl_name",

@@ -1,4 +1,5 @@
-//! Tables of a spreadsheet as CSV texts: columns by name, rows without empty ones, cells without what surrounds them.
+//! Tables of a spreadsheet as CSV texts: columns by name, rows without empty ones, cells without the characters around
+//! them.
 #![tactic(auto)]
 
 mod cells;

@@ -15,7 +15,7 @@ pub struct Others {
 }
 
 impl Others {
-    /// No column.
+    /// Creates an empty list of columns.
     pub fn new(alloc: Global) -> Others {
         Others {
             names: Vec::new(alloc),

@@ -1,4 +1,4 @@
-//! Rows of a CSV text, and what separates its cells.
+//! Rows of a CSV text, and the separator of its cells.
 use crate::cells::bare;
 use crate::columns::column_of;
 use csv::{ByteRecord, Position, ReaderBuilder};

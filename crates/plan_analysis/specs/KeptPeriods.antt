@@ -1,4 +1,4 @@
--- How long a message waits if each port of its sub-VL keeps its period.
+-- The wait of a message if each port of its sub-VL keeps its period.
 use Rattle.std.specs.Prelude.{ℕ, ◌+◌, ◌*◌, ◌/◌, ◌≤◌, ◌<◌, List, [], ◌∷◌}
 use Rattle.plan_analysis.specs.declared.busy_time.Flow.{Flow}
 use Rattle.plan_analysis.specs.Traffic.{arrived, arrived_before, IsWaitByTraffic}

@@ -15,7 +15,7 @@ wire_bits link = 8 * (link.lmax + 20)
 abbrev pub window_bits : LinkPlan → ℕ
 window_bits link = wire_bits link * (128 / bag_ms link.bag)
 
--- a network is one of those that carry a link
+-- true if a network carries a link with these networks
 abbrev pub carries : Net → Networks → Bool
 carries A networks = carries_a networks
 carries B networks = carries_b networks

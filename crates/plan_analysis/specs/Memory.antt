@@ -1,6 +1,6 @@
 -- The memory of an end system: what opening it takes and holds.
-use Rattle.std.specs.Prelude.{ℕ, ◌≡◌, ◌+◌, ◌*◌, ◌<◌, ◌≤◌, ◌↔◌, List, [], ◌∷◌, length, map, max, count_by, flat_map, sum_by, Option, None, IsNone, IfSome, All, Contains, if◌then◌else◌}
-use Rattle.std.specs.List.{range_with_len}
+use Rattle.std.specs.Prelude.{ℕ, Bool, ◌≡◌, ◌+◌, ◌*◌, ◌<◌, ◌≤◌, ◌↔◌, ◌&&◌, nat_eq, List, [], ◌∷◌, length, map, max, count_by, flat_map, sum_by, Option, None, IsNone, IfSome, All, Contains, if◌then◌else◌}
+use Rattle.std.specs.List.{list_any, range_with_len}
 use Rattle.afdx_plan.specs.Config.{Plan}
 use Rattle.afdx_plan.specs.declared.link_plan.LinkPlan.{LinkPlan}
 use Rattle.afdx_plan.specs.declared.port_plan.PortPlan.{PortPlan}
@@ -17,14 +17,24 @@ abbrev pub greatest_on : LinkPlan → ℕ → List PortPlan → ℕ
 greatest_on link sub [] = 0
 greatest_on link sub (port ∷ ports) = max (max_on link sub port) (greatest_on link sub ports)
 
+-- a partition has a port on a sub-VL of a link
+abbrev pub has_partition : LinkPlan → ℕ → List PortPlan → ℕ → Bool
+has_partition link sub ports partition =
+    list_any (λ (port : PortPlan). is_on link sub port && nat_eq port.partition partition) ports
+
+-- the number of partitions, of 0 to 31, that have a port on a sub-VL of a link
+unfoldable pub partitions_on : LinkPlan → ℕ → List PortPlan → ℕ
+partitions_on link sub ports = count_by (has_partition link sub ports) (range_with_len 0 32)
+
 -- The bytes of a sub-VL with a queue for `capacity` messages of at most `greatest` bytes: each place of the queue has
 -- room for a message, the message in transmission has one, and each port one of its own.
 abbrev pub sub_bytes : (capacity ports greatest : ℕ) → ℕ
-sub_bytes capacity ports greatest = 320 + 48 * capacity + (capacity + 1 + ports) * greatest
+sub_bytes capacity ports greatest = 312 + 40 * capacity + (capacity + 1 + ports) * greatest
 
--- The bytes of an end system beside those of its sub-VLs. Its tables have room for at least four links and four ports.
-abbrev pub base_bytes : (links ports : ℕ) → ℕ
-base_bytes links ports = 199705 + 280 * links + 24 * max 4 links + 416 * ports + 32 * max 4 ports
+-- the bytes of an end system outside its sub-VLs, whose lists have room for so many links and ports
+abbrev pub base_bytes : (links ports link_room port_room : ℕ) → ℕ
+base_bytes links ports link_room port_room =
+    199697 + 280 * links + 24 * link_room + 392 * ports + 32 * port_room
 
 -- the row of a sub-VL of a link
 abbrev pub sub_row : List PortPlan → LinkPlan → ℕ → SubRow
@@ -33,6 +43,7 @@ sub_row ports link sub = record {
   sub = sub;
   capacity = link.capacity;
   ports = count_by (is_on link sub) ports;
+  partitions = partitions_on link sub ports;
   greatest = greatest_on link sub ports;
   bytes = sub_bytes link.capacity (count_by (is_on link sub) ports) (greatest_on link sub ports);
 }
@@ -45,16 +56,24 @@ rows_of_link ports link = map (sub_row ports link) (range_with_len 0 link.sub_vl
 abbrev pub sub_rows : Plan → List SubRow
 sub_rows plan = flat_map (rows_of_link plan.ports) plan.links
 
--- a row of which no other has more bytes; there is none only if there are no rows
+-- a row with the most bytes; there is none only if there are no rows
 pub record IsHeaviest (rows : List SubRow) (heaviest : Option SubRow) : Type 0 where
   pub empty : IsNone heaviest ↔ (rows ≡ [])
   pub listed : IfSome heaviest (Contains rows)
   pub most : IfSome heaviest (λ row. All (λ (other : SubRow). other.bytes ≤ row.bytes) rows)
 
--- the bytes of the end system of a plan
-abbrev pub bytes_of : Plan → ℕ
-bytes_of plan = base_bytes (length plan.links) (length plan.ports)
+-- the bytes of the end system of a plan whose lists have room for so many links and ports
+abbrev pub bytes_with : (link_room port_room : ℕ) → Plan → ℕ
+bytes_with link_room port_room plan = base_bytes (length plan.links) (length plan.ports) link_room port_room
     + sum_by (λ (row : SubRow). row.bytes) (sub_rows plan)
+
+-- the bytes of the end system of a plan: opened from a text, its lists have room for at least four links and ports
+abbrev pub bytes_of : Plan → ℕ
+bytes_of plan = bytes_with (max 4 (length plan.links)) (max 4 (length plan.ports)) plan
+
+-- the bytes of the end system of a plan that is opened from its table, whose lists have room for just its own
+abbrev pub table_bytes : Plan → ℕ
+table_bytes plan = bytes_with (length plan.links) (length plan.ports) plan
 
 -- the memory of the end system of a plan; a sub-VL that holds the most is named if all is 64 MiB or more
 pub record IsMemoryOf (plan : Plan) (memory : Memory) : Type 0 where

@@ -16,7 +16,7 @@ use Rattle.plan_analysis.specs.Wait.{is_on, link_of, port_pieces, used_sub_vls}
 abbrev pub arrived : List Flow → ℕ → ℕ
 arrived flows t = sum_by (λ (f : Flow). f.fragments * (1 + t / f.period)) flows
 
--- the same without the end
+-- the most fragments that ports hand over in the first `t` microseconds without their end
 abbrev pub arrived_before : List Flow → ℕ → ℕ
 arrived_before flows t = sum_by (λ (f : Flow). f.fragments * div_ceil t f.period) flows
 
@@ -27,8 +27,8 @@ pub record IsBusyTime (round : ℕ) (flows : List Flow) (busy : ℕ) : Type 0 wh
   pub is : busy ≡ round * arrived_before flows busy
   pub least : (t : ℕ) → 1 ≤ t → t ≡ round * arrived_before flows t → busy ≤ t
 
--- The wait of a message that is accepted `t` after the start of a busy time: its own fragments and those before it take
--- a round each, from the start on.
+-- The wait of a message that is accepted `t` after the start of a busy time: its own fragments and the earlier ones
+-- take a round each, from the start on.
 abbrev pub wait_at : ℕ → List Flow → ℕ → ℕ
 wait_at round flows t = round * arrived flows t - t
 
@@ -36,7 +36,7 @@ wait_at round flows t = round * arrived flows t - t
 abbrev pub IsWithin : (value_at : ℕ → ℕ) → (end value : ℕ) → Type 0
 IsWithin value_at end value = (t : ℕ) × (t ≤ end) × (value ≡ value_at t)
 
--- the greatest of these waits, over all times up to the longest busy time
+-- the greatest wait (`wait_at`), over all times up to the longest busy time
 pub record IsWaitByTraffic (round : ℕ) (flows : List Flow) (wait : ℕ) : Type 0 where
   pub busy : ℕ
   pub is_busy : IsBusyTime round flows busy
@@ -53,11 +53,11 @@ greatest_message [] = 0
 greatest_message (f ∷ flows) = max f.fragments (greatest_message flows)
 
 -- The most messages that are handed over and not begun when one is, `t` after the start of a busy time, itself among
--- them. The rounds that ended before then released a fragment each, which are those of this many messages at least.
+-- them. Each round that ended before then released a fragment, so at least this many messages are begun.
 abbrev pub places_at : ℕ → List Flow → ℕ → ℕ
 places_at round flows t = messages flows t - div_ceil ((t - 1) / round) (greatest_message flows)
 
--- the greatest number of these, over all times up to the longest busy time
+-- the greatest number of messages not begun (`places_at`), over all times up to the longest busy time
 pub record IsBacklog (round : ℕ) (flows : List Flow) (backlog : ℕ) : Type 0 where
   pub busy : ℕ
   pub is_busy : IsBusyTime round flows busy
@@ -77,8 +77,8 @@ pub record IsNeed (round : ℕ) (flows : List Flow) (need : ℕ) : Type 0 where
 abbrev pub IsOverloaded : (round : ℕ) → List Flow → Type 0
 IsOverloaded round flows = (t : ℕ) → 1 ≤ t → t < round * arrived_before flows t
 
--- The share of its turns that the traffic of a sub-VL takes for ever, in parts of `whole_share`: what each port hands
--- over in a round, rounded down.
+-- The share of its turns that the traffic of a sub-VL takes for ever, in parts of `whole_share`: the fragments that
+-- each port hands over in a round, rounded down.
 abbrev pub link_share : ℕ → List Flow → ℕ
 link_share round flows = sum_by (λ (f : Flow). f.fragments * round * 2 ^ 64 / f.period) flows
 
@@ -96,7 +96,7 @@ senders_on link sub senders = filter (λ (s : Sender). is_on link sub s.port) se
 abbrev pub has_period : Sender → Bool
 has_period sender = is_some sender.period
 
--- what a sender with a period hands over
+-- the flow of a sender with a period
 abbrev pub flow_of : LinkPlan → Sender → Flow
 flow_of link sender = record { fragments = port_pieces link sender.port; period = unwrap_or sender.period 1 }
 
@@ -104,7 +104,7 @@ flow_of link sender = record { fragments = port_pieces link sender.port; period 
 abbrev pub have_periods : LinkPlan → ℕ → List Sender → Bool
 have_periods link sub senders = list_all (λ (s : Sender). not (is_on link sub s.port) || has_period s) senders
 
--- what the senders on a sub-VL of a link hand over
+-- the flows of the senders on a sub-VL of a link
 abbrev pub flows_of : LinkPlan → ℕ → List Sender → List Flow
 flows_of link sub senders = map (flow_of link) (senders_on link sub senders)
 
@@ -129,7 +129,7 @@ abbrev pub IsSubWait : (round : ℕ) → LinkPlan → ℕ → List Sender → �
 IsSubWait round link sub senders wait = (have_periods link sub senders ≡ true)
     × IsWaitByTraffic round (flows_of link sub senders) wait
 
--- and of a message of a sender
+-- the wait by traffic of a message of a sender
 abbrev pub IsWaitOf : ℕ → Plan → List Sender → Sender → ℕ → Type 0
 IsWaitOf late plan senders sender wait = IsSubWait (round_of late plan (link_of plan sender.port))
     (link_of plan sender.port) sender.port.sub senders wait
@@ -139,8 +139,8 @@ abbrev pub IsSubNeed : (round : ℕ) → LinkPlan → ℕ → List Sender → �
 IsSubNeed round link sub senders need = (have_periods link sub senders ≡ true)
     × IsNeed round (flows_of link sub senders) need
 
--- What is known of a sub-VL by what its senders hand over. It is told as overloaded exactly if its share of the link
--- is more than the whole. No number is known if its longest busy time takes more than `busy_limit` rounds.
+-- The bound of a sub-VL by its senders' flows. It is overloaded exactly if its share of the link is more than the
+-- whole. The bound has no number if the longest busy time takes more than `busy_limit` rounds.
 abbrev pub IsBoundBy : (round : ℕ) → List Flow → Bound → Type 0
 IsBoundBy round flows NoPeriod = ⊥
 IsBoundBy round flows (Found worst) = IsWaitByTraffic round flows worst.wait × IsNeed round flows worst.need
@@ -148,7 +148,7 @@ IsBoundBy round flows Overloaded = (whole_share < link_share round flows) × IsO
 IsBoundBy round flows TooLong = (link_share round flows ≤ whole_share)
     × ((busy : ℕ) → IsBusyTime round flows busy → round * busy_limit < busy)
 
--- What is known of a sub-VL of a link: nothing if one of its senders has no period.
+-- The bound of a sub-VL of a link: none if one of its senders has no period.
 abbrev pub IsSubBound : (round : ℕ) → LinkPlan → ℕ → List Sender → Bound → Type 0
 IsSubBound round link sub senders NoPeriod = have_periods link sub senders ≡ false
 IsSubBound round link sub senders bound = (have_periods link sub senders ≡ true)
@@ -161,7 +161,7 @@ wait_of (Found worst) = Some worst.wait
 wait_of Overloaded = None
 wait_of TooLong = None
 
--- what is known of the sub-VL of a sender
+-- the bound of a sender's sub-VL
 abbrev pub IsBoundOf : ℕ → Plan → List Sender → Sender → Bound → Type 0
 IsBoundOf late plan senders sender bound = IsSubBound (round_of late plan (link_of plan sender.port))
     (link_of plan sender.port) sender.port.sub senders bound
@@ -180,7 +180,7 @@ pub record AreSendersOf (plan : Plan) (senders : List Sender) : Type 0 where
 abbrev pub sender_at : List Sender → ℕ → Sender
 sender_at senders i = get_or senders i (record { port = port_plan_at [] 0; period = None })
 
--- what is known of the sub-VL of each sender, in order
+-- the bounds of each sender's sub-VL, in order
 pub record AreBoundsOf (late : ℕ) (plan : Plan) (senders : List Sender) (bounds : List Bound) : Type 0 where
   pub count : length bounds ≡ length senders
   pub each : (i : ℕ) → i < length senders

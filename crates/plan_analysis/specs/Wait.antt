@@ -38,8 +38,8 @@ abbrev pub most_pieces : LinkPlan → ℕ → List PortPlan → ℕ
 most_pieces link sub [] = 0
 most_pieces link sub (port ∷ ports) = max (pieces_on link sub port) (most_pieces link sub ports)
 
--- The most fragments that a sub-VL sends before a message that it accepts: those of the other messages that its queue
--- can hold, and all but the first of the message in transmission.
+-- The most fragments that a sub-VL sends before a message that it accepts: all fragments of the other messages that its
+-- queue can hold, and all but the first of the message in transmission.
 abbrev pub queued_before : LinkPlan → ℕ → ℕ
 queued_before link most = (link.capacity - 1) * most + (most - 1)
 

@@ -48,14 +48,14 @@ pub fn analyze(alloc: Global, config: &Config, lateness: u64) -> Result<Analysis
     })
 }
 
-/// The rows of the links.
+/// Returns the rows of the links.
 fn link_rows(alloc: Global, links: &[LinkPlan]) -> Result<Vec<LinkAnalysis>, AllocError>
     ensures { IfOk result (λ rows. rows.items ≡ map row_of_link links.now) }
 {
     links.iter().map(link_row).collect(alloc)
 }
 
-/// The rows of the ports.
+/// Returns the rows of the ports.
 fn port_rows(alloc: Global, config: &Config, late: u64) -> Result<Vec<PortAnalysis>, AllocError>
     requires { late ≤ LATENESS_LIMIT }
     ensures { IfOk result (λ rows. rows.items ≡ map (row_of_port late config.now) config.now.ports) }
@@ -73,9 +73,9 @@ pub struct LinkAnalysis {
     pub plan: LinkPlan,
     // the greatest load in bits per second on the wire, rounded up
     pub load: u64,
-    // the same in hundredths of a percent of 100 Mbit/s, rounded up
+    // the greatest load in hundredths of a percent of 100 Mbit/s, rounded up
     pub share: u64,
-    // its part of the jitter, in nanoseconds
+    // the link's part of the jitter, in nanoseconds
     pub jitter: u64,
 }
 
@@ -98,15 +98,15 @@ pub struct NetworkRow {
     pub net: Net,
     // the greatest load of its links, in bits per second on the wire, rounded up
     pub load: u64,
-    // the same in hundredths of a percent of 100 Mbit/s, rounded up
+    // the greatest load in hundredths of a percent of 100 Mbit/s, rounded up
     pub share: u64,
-    // whether the load is more than 100 Mbit/s
+    // true if the load is more than 100 Mbit/s
     pub exceeded: bool,
     // the jitter of its links, in nanoseconds
     pub jitter: u64,
 }
 
-/// Analyzes network `net`, which carries those of `links` that the plan routes over it.
+/// Analyzes network `net` with the links among `links` that it carries.
 pub(crate) fn network_row(net: Net, links: &[LinkPlan]) -> NetworkRow
     requires { length links.now ≤ 64 }
     ensures { result ≡ row_of_network net links.now }
@@ -156,7 +156,7 @@ pub(crate) fn port_row(late: u64, config: &Config, port: &PortPlan) -> PortAnaly
     }
 }
 
-/// The link of a port.
+/// Returns the link of a port.
 pub(crate) fn link_of<'a>(config: &'a Config, port: &PortPlan) -> &'a LinkPlan
     ensures link { result.now ≡ link_of_port config.now port.now }
     ensures valid { IsLink result.now }

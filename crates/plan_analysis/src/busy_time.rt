@@ -2,7 +2,7 @@
 ghost use Rattle.std.specs.Prelude.{◌≡◌, ◌+◌, ◌*◌, ◌^◌, ◌≤◌, ◌<◌, ℕ, All, IfSome, IfNone, IsTrue, length, nat_lt, max};
 ghost use Rattle.plan_analysis.specs.Traffic.{arrived as arrived_by, messages as messages_by, wait_at as wait_at_time, places_at as places_at_time, greatest_message as greatest_message_of, IsBusyTime, IsWaitByTraffic, IsNeed, IsOverloaded, link_share, whole_share, busy_limit, IsFlow, IsWithin};
 
-/// What a port hands over: messages of at most this many fragments, two of them at least the period apart, in
+/// The messages that a port hands over: each of at most this many fragments, two of them at least the period apart, in
 /// microseconds.
 #[derive(Clone, Copy, Debug, PartialEq, Eq)]
 pub(crate) struct Flow {
@@ -73,8 +73,8 @@ pub(crate) fn busy_rounds(round: u64, flows: &[Flow]) -> Option<u64>
     None
 }
 
-/// Returns the worst of the longest busy time, which takes these rounds. What is handed over changes only at multiples
-/// of the periods.
+/// Returns the worst of the longest busy time, which takes these rounds. The fragments handed over change only at
+/// multiples of the periods.
 pub(crate) fn worst_of(round: u64, flows: &[Flow], rounds: u64) -> Worst
     requires some { (1 ≤ round) × (1 ≤ length flows.now) }
     requires round { round ≤ 4512000 }
@@ -135,7 +135,7 @@ fn worst_at(round: u64, flows: &[Flow], most: u64, period: u64, busy: u64) -> Wo
     worst
 }
 
-/// Returns what is true of a message that is handed over at this time of a busy time: its wait, and how many are then
+/// Returns the wait of a message that is handed over at this time of a busy time, and the number of messages then
 /// queued. The greatest message has `most` fragments.
 fn at_time(round: u64, flows: &[Flow], most: u64, time: u64) -> Worst
     requires some { (1 ≤ round) × (1 ≤ most) }

@@ -8,7 +8,7 @@ use afdx_plan::{LinkPlan, PortPlan};
 /// The bytes of a UDP header.
 const UDP_HEADER: u64 = 8;
 
-/// The number of fragments of the greatest message of a port on a link.
+/// Returns the number of fragments of the greatest message of a port on a link.
 pub(crate) fn port_pieces(link: &LinkPlan, port: &PortPlan) -> u64
     requires { IsPort port.now }
     ensures value { result ≡ pieces_of_port link.now port.now }
@@ -21,21 +21,21 @@ pub(crate) fn port_pieces(link: &LinkPlan, port: &PortPlan) -> u64
     1 + datagram.saturating_sub(room).div_ceil(step)
 }
 
-/// Whether this port sends on sub-VL `sub` of a link.
+/// Returns true if this port sends on sub-VL `sub` of a link.
 pub(crate) fn is_on(link: &LinkPlan, sub: u8, port: &PortPlan) -> bool
     ensures { result ≡ is_on_sub link.now sub port.now }
 {
     port.vl.0 == link.id.0 && port.sub == sub
 }
 
-/// Whether some port sends on sub-VL `sub` of a link.
+/// Returns true if some port sends on sub-VL `sub` of a link.
 fn has_port(link: &LinkPlan, sub: u8, ports: &[PortPlan]) -> bool
     ensures { result ≡ has_port_on link.now ports.now sub }
 {
     ports.iter().any(|port| is_on(link, sub, port))
 }
 
-/// The number of sub-VLs of a link that have a port.
+/// Returns the number of sub-VLs of a link that have a port.
 pub fn used_sub_vls(link: &LinkPlan, ports: &[PortPlan]) -> u64
     ensures value { result ≡ used_by_ports link.now ports.now }
     ensures most { result ≤ link.now.sub_vls }
@@ -49,8 +49,7 @@ pub fn used_sub_vls(link: &LinkPlan, ports: &[PortPlan]) -> u64
     used
 }
 
-/// The number of fragments of the greatest message of a port if it sends on sub-VL `sub` of the link,
-/// else 0.
+/// Returns the number of fragments of the greatest message of a port if it sends on sub-VL `sub` of the link, else 0.
 fn pieces_on(link: &LinkPlan, sub: u8, port: &PortPlan) -> u64
     requires { IsPort port.now }
     ensures value { result ≡ pieces_of_sub link.now sub port.now }
@@ -63,7 +62,7 @@ fn pieces_on(link: &LinkPlan, sub: u8, port: &PortPlan) -> u64
     }
 }
 
-/// The greatest number of fragments of a message on a sub-VL of a link.
+/// Returns the greatest number of fragments of a message on a sub-VL of a link.
 pub(crate) fn most_pieces(link: &LinkPlan, sub: u8, ports: &[PortPlan]) -> u64
     requires { All IsPort ports.now }
     ensures value { result ≡ most_pieces_of link.now sub ports.now }
@@ -76,8 +75,8 @@ pub(crate) fn most_pieces(link: &LinkPlan, sub: u8, ports: &[PortPlan]) -> u64
     most
 }
 
-/// The longest wait, in microseconds, of a message of `own` fragments on a sub-VL whose messages have
-/// at most `most`, if `used` sub-VLs of the link have turns.
+/// Returns the longest wait, in microseconds, of a message of `own` fragments on a sub-VL whose messages have at most
+/// `most`, if `used` sub-VLs of the link have turns.
 pub(crate) fn message_wait(late: u64, link: &LinkPlan, used: u64, most: u64, own: u64) -> u64
     requires late { late ≤ 1000000 }
     requires link { IsLink link.now }
@@ -90,7 +89,7 @@ pub(crate) fn message_wait(late: u64, link: &LinkPlan, used: u64, most: u64, own
     used * (queued + own) * (link.bag.micros() + late)
 }
 
-/// The number of greatest messages of a port that the BAG of a link allows in 1,000 seconds.
+/// Returns the number of greatest messages of a port that the BAG of a link allows in 1,000 seconds.
 pub(crate) fn sustained(link: &LinkPlan, port: &PortPlan) -> u64
     requires { IsPort port.now }
     ensures { result ≡ sustained_by link.now port.now }

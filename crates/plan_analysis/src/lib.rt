@@ -17,5 +17,5 @@ pub use analysis::{
 pub use busy_time::Worst;
 pub use fragments::used_sub_vls;
 pub use load::{OWN_JITTER, carries};
-pub use memory::{LARGE_MEMORY, Memory, SubRow};
+pub use memory::{LARGE_MEMORY, Memory, SubRow, table_memory};
 pub use traffic::{Bound, Sender, traffic_bounds};

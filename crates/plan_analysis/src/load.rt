@@ -22,7 +22,7 @@ const WINDOW_MS: u64 = 128;
 /// The bits that a line of 100 Mbit/s carries in 128 milliseconds.
 const WINDOW_BITS: u64 = 12_800_000;
 
-/// The most bits that a link puts on the wire in 128 milliseconds.
+/// Returns the most bits that a link puts on the wire in 128 milliseconds.
 pub(crate) fn window_bits(link: &LinkPlan) -> u64
     ensures bits { result ≡ bits_of_window link.now }
     ensures most { result ≤ 1574912 }
@@ -30,7 +30,7 @@ pub(crate) fn window_bits(link: &LinkPlan) -> u64
     8 * (link.lmax.bytes() as u64 + AROUND) * (WINDOW_MS / link.bag.ms())
 }
 
-/// Whether a network carries a link.
+/// Returns true if a network carries a link.
 pub fn carries(net: Net, networks: Networks) -> bool
     ensures { result ≡ is_on net networks }
 {
@@ -40,7 +40,7 @@ pub fn carries(net: Net, networks: Networks) -> bool
     }
 }
 
-/// The most bits that the links put on a network in 128 milliseconds.
+/// Returns the most bits that the links put on a network in 128 milliseconds.
 pub(crate) fn network_bits(net: Net, links: &[LinkPlan]) -> u64
     requires { length links.now ≤ 64 }
     ensures bits { result ≡ line_bits net links.now }
@@ -71,7 +71,7 @@ pub(crate) fn share(bits: u64) -> u64
     (bits * 10_000).div_ceil(WINDOW_BITS)
 }
 
-/// The part of the jitter that a link adds, in nanoseconds.
+/// Returns the part of the jitter that a link adds, in nanoseconds.
 pub(crate) fn link_jitter(link: &LinkPlan) -> u64
     ensures value { result ≡ 80 * (20 + link.now.lmax) }
     ensures most { result ≤ 123040 }
@@ -79,7 +79,7 @@ pub(crate) fn link_jitter(link: &LinkPlan) -> u64
     BYTE_NS * (AROUND + link.lmax.bytes() as u64)
 }
 
-/// The jitter of the links that a network carries, in nanoseconds.
+/// Returns the jitter of the links that a network carries, in nanoseconds.
 pub(crate) fn network_jitter(net: Net, links: &[LinkPlan]) -> u64
     requires { length links.now ≤ 64 }
     ensures { result ≡ jitter_on net links.now }
@@ -93,7 +93,7 @@ pub(crate) fn network_jitter(net: Net, links: &[LinkPlan]) -> u64
     jitter
 }
 
-/// Whether bits in 128 milliseconds exceed 100 Mbit/s.
+/// Returns true if bits in 128 milliseconds exceed 100 Mbit/s.
 pub(crate) fn is_over(bits: u64) -> bool
     ensures { result ≡ is_over_line bits }
 {

@@ -1,7 +1,7 @@
 //! The memory of an end system, which opening it takes.
 ghost use Rattle.std.specs.Prelude.{◌≡◌, ◌<◌, ◌≤◌, None, All, IfOk, length, sum_by};
 ghost use Rattle.afdx_plan.specs.Plan.{IsLink, IsPort};
-ghost use Rattle.plan_analysis.specs.Memory.{IsHeaviest, IsMemoryOf, base_bytes as base_of, greatest_on as greatest_of_sub, max_on as max_of_port, sub_bytes as bytes_of_sub, sub_row as row_of_sub, sub_rows as rows_of_subs};
+ghost use Rattle.plan_analysis.specs.Memory.{IsHeaviest, IsMemoryOf, base_bytes as base_of, greatest_on as greatest_of_sub, has_partition as has_partition_on, max_on as max_of_port, partitions_on as partitions_of_sub, sub_bytes as bytes_of_sub, sub_row as row_of_sub, sub_rows as rows_of_subs, table_bytes};
 
 use crate::fragments::is_on;
 use afdx_plan::{Config, LinkPlan, PortPlan, VlId};
@@ -27,6 +27,8 @@ pub struct SubRow {
     // the messages that its queue can hold
     pub capacity: u64,
     pub ports: u64,
+    // the partitions that have a port on it
+    pub partitions: u64,
     // the greatest message of its ports, in bytes; 0 if it has none
     pub greatest: u64,
     pub bytes: u64,
@@ -41,9 +43,22 @@ pub(crate) fn memory_of(alloc: Global, config: &Config) -> Result<Memory, AllocE
 {
     let subs = sub_rows(alloc, config)?;
     let rows = subs.as_slice();
-    let bytes = base_bytes(config) + total(rows);
+    let links = config.links().len() as u64;
+    let ports = config.ports().len() as u64;
+    let bytes = base_bytes(config, links.max(4), ports.max(4)) + total(rows);
     let large = large(bytes, rows);
     Ok(Memory { subs, bytes, large })
+}
+
+/// Computes the bytes that an end system of a plan takes when it is opened from the plan's table. Fails only if an
+/// allocation fails.
+pub fn table_memory(alloc: Global, config: &Config) -> Result<u64, AllocError>
+    ensures { IfOk result (λ bytes. bytes ≡ table_bytes config.now) }
+{
+    let subs = sub_rows(alloc, config)?;
+    let links = config.links().len() as u64;
+    let ports = config.ports().len() as u64;
+    Ok(base_bytes(config, links, ports) + total(subs.as_slice()))
 }
 
 /// Sums the bytes of all rows.
@@ -79,14 +94,17 @@ fn heaviest(rows: &[SubRow]) -> Option<SubRow>
     rows.iter().copied().max_by_key(|row| row.bytes)
 }
 
-/// Returns the bytes that an end system holds beside those of its sub-VLs.
-fn base_bytes(config: &Config) -> u64
-    ensures bytes { result ≡ base_of (length config.now.links) (length config.now.ports) }
+/// Returns the bytes that an end system holds outside its sub-VLs. Its lists have room for `link_room` links
+/// and `port_room` ports.
+fn base_bytes(config: &Config, link_room: u64, port_room: u64) -> u64
+    requires links { link_room ≤ 64 }
+    requires ports { port_room ≤ 256 }
+    ensures bytes { result ≡ base_of (length config.now.links) (length config.now.ports) link_room port_room }
     ensures few { result ≤ 400000 }
 {
     let links = config.links().len() as u64;
     let ports = config.ports().len() as u64;
-    199_705 + 280 * links + 24 * links.max(4) + 416 * ports + 32 * ports.max(4)
+    199_697 + 280 * links + 24 * link_room + 392 * ports + 32 * port_room
 }
 
 /// Lists the rows of the sub-VLs of all links.
@@ -121,9 +139,27 @@ fn sub_row(ports: &[PortPlan], link: &LinkPlan, sub: u8) -> SubRow
         sub,
         capacity,
         ports: own,
+        partitions: partitions_on(ports, link, sub),
         greatest,
         bytes: sub_bytes(capacity, own, greatest),
     }
+}
+
+/// Returns whether a partition has a port on a sub-VL of a link.
+fn has_partition(ports: &[PortPlan], link: &LinkPlan, sub: u8, partition: u8) -> bool
+    ensures { result ≡ has_partition_on link.now sub ports.now partition }
+{
+    let mut ports = ports.iter();
+    ports.any(|port| is_on(link, sub, port) && port.partition == partition)
+}
+
+/// Counts the partitions that have a port on a sub-VL of a link.
+#[tactic(auto, unfolding(crate::specs::Memory::partitions_on))]
+fn partitions_on(ports: &[PortPlan], link: &LinkPlan, sub: u8) -> u64
+    ensures { result ≡ partitions_of_sub link.now sub ports.now }
+{
+    let partitions = (0..32u8).filter(|partition| has_partition(ports, link, sub, *partition));
+    partitions.count() as u64
 }
 
 /// Returns the bytes of a sub-VL with this capacity and number of ports, whose greatest message has `greatest` bytes.
@@ -135,7 +171,7 @@ fn sub_bytes(capacity: u64, ports: u64, greatest: u64) -> u64
     ensures bytes { result ≡ bytes_of_sub capacity ports greatest }
     ensures small { result ≤ 4300000 }
 {
-    320 + 48 * capacity + (capacity + 1 + ports) * greatest
+    312 + 40 * capacity + (capacity + 1 + ports) * greatest
 }
 
 /// Returns the greatest message of a port if it sends on sub-VL `sub` of the link, else 0.

@@ -17,15 +17,15 @@ pub struct Sender {
     pub period: Option<u64>,
 }
 
-/// What is known of a sub-VL by its traffic.
+/// The bound of a sub-VL by its traffic.
 #[derive(Clone, Copy, Debug, PartialEq, Eq)]
 pub enum Bound {
-    // a port of it has no period
+    // a port of the sub-VL has no period
     NoPeriod,
     Found(Worst),
-    // its ports hand over more than its link carries, so that it falls behind for ever
+    // the sub-VL's ports hand over more than its link carries, so that it never catches up
     Overloaded,
-    // its longest busy time takes more than 65,536 rounds
+    // the sub-VL's longest busy time takes more than 65,536 rounds
     TooLong,
 }
 
@@ -41,8 +41,8 @@ impl Bound {
     }
 }
 
-/// Returns what is known of the sub-VL of each sender, in order, for polls that come at most `lateness` microseconds
-/// late. Fails only if an allocation fails.
+/// Returns the bound of each sender's sub-VL, in order, for polls that come at most `lateness` microseconds late. Fails
+/// only if an allocation fails.
 pub fn traffic_bounds(
     alloc: Global,
     config: &Config,
@@ -62,7 +62,7 @@ pub fn traffic_bounds(
     Ok(bounds)
 }
 
-/// Returns what is known of the sub-VL of a sender, from an earlier sender of it if there is one.
+/// Returns the bound of a sender's sub-VL, from an earlier sender of it if there is one.
 fn bound_of(
     alloc: Global,
     config: &Config,
@@ -100,7 +100,7 @@ fn known_bound(senders: &[Sender], bounds: &[Bound], port: &PortPlan) -> Option<
     None
 }
 
-/// Computes what is known of the sub-VL of a sender.
+/// Computes the bound of a sender's sub-VL.
 fn new_bound(
     alloc: Global,
     config: &Config,
@@ -121,7 +121,7 @@ fn new_bound(
     }
 }
 
-/// A round of a link, in microseconds.
+/// Returns the round of a link, in microseconds: a BAG and the lateness for each sub-VL with a port.
 fn round_of(late: u64, config: &Config, link: &LinkPlan) -> u64
     requires late { late ≤ LATENESS_LIMIT }
     requires link { IsLink link.now }
@@ -131,7 +131,7 @@ fn round_of(late: u64, config: &Config, link: &LinkPlan) -> u64
     used_sub_vls(link, config.ports()) * (link.bag.micros() + late)
 }
 
-/// What the senders on sub-VL `sub` of a link hand over, if each has a period.
+/// Returns the flows of the senders on sub-VL `sub` of a link, if each has a period.
 fn flows_on(
     alloc: Global,
     link: &LinkPlan,
@@ -158,7 +158,7 @@ fn flows_on(
     Ok(Some(flows))
 }
 
-/// Returns what is known of a sub-VL with these flows.
+/// Returns the bound of a sub-VL with these flows.
 fn bound_by(round: u64, flows: &[Flow]) -> Bound
     requires round { round ≤ 4512000 }
     requires flows { All IsFlow flows.now }

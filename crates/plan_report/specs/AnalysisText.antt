@@ -21,7 +21,7 @@ right width n = styled_decimal (format_spec 32 3 0 width 18446744073709551615) n
 abbrev pub in_digits : ℕ → ℕ → List ℕ
 in_digits width n = styled_decimal (format_spec 32 0 4 width 18446744073709551615) n
 
--- A number with its decimal point, of which the pair says how many parts make a whole and how many digits they take;
+-- A number with its decimal point. The pair `unit` has the number of parts in a whole, and the number of their digits;
 -- `width` characters come before the point.
 unfoldable pub with_point : ℕ × ℕ → ℕ → ℕ → List ℕ
 with_point unit width n = right width (n / max unit.0 1) ++ codes "." ++ in_digits unit.1 (n % max unit.0 1)
@@ -63,7 +63,7 @@ abbrev pub network_name : Net → List ℕ
 network_name A = codes "      A"
 network_name B = codes "      B"
 
--- whether the load of a network is more than 100 Mbit/s
+-- the cell of a network's load: `yes` if it is more than 100 Mbit/s
 abbrev pub exceeded_cell : Bool → List ℕ
 exceeded_cell exceeded = if exceeded then codes "       yes" else codes "        no"
 
@@ -95,12 +95,12 @@ ports_table rows = ports_head ++ flat_map port_line rows
 
 -- the column heads of the sub-VLs
 unfoldable pub memory_head : List ℕ
-memory_head = codes " link sub capacity ports greatest         bytes" ++ 10 ∷ []
+memory_head = codes " link sub capacity ports partitions greatest         bytes" ++ 10 ∷ []
 
 -- the row of a sub-VL
 unfoldable pub sub_line : SubRow → List ℕ
-sub_line row = right 5 row.vl.0 ++ right 4 row.sub ++ right 9 row.capacity ++ right 6 row.ports ++ right 9 row.greatest
-    ++ right 14 row.bytes ++ 10 ∷ []
+sub_line row = right 5 row.vl.0 ++ right 4 row.sub ++ right 9 row.capacity ++ right 6 row.ports
+    ++ right 11 row.partitions ++ right 9 row.greatest ++ right 14 row.bytes ++ 10 ∷ []
 
 -- the memory of the whole end system, and a sub-VL that holds the most if that is large
 unfoldable pub total_line : ℕ → Option SubRow → List ℕ

@@ -186,7 +186,7 @@ fn write_port<W: Write>(writer: &mut W, row: &PortAnalysis) -> io::Result<()>
 fn write_memory_head<W: Write>(writer: &mut W) -> io::Result<()>
     ensures { OnOk result (Appends (W.contents writer.old) (W.contents writer.new) memory_head) }
 {
-    writer.write_all(b" link sub capacity ports greatest         bytes\n")
+    writer.write_all(b" link sub capacity ports partitions greatest         bytes\n")
 }
 
 fn write_subs<W: Write>(writer: &mut W, subs: &[SubRow]) -> io::Result<()>
@@ -206,11 +206,12 @@ fn write_sub<W: Write>(writer: &mut W, row: &SubRow) -> io::Result<()>
     let sub = row.sub;
     let capacity = row.capacity;
     let ports = row.ports;
+    let partitions = row.partitions;
     let greatest = row.greatest;
     let bytes = row.bytes;
     writeln!(
         writer,
-        "{link:>5}{sub:>4}{capacity:>9}{ports:>6}{greatest:>9}{bytes:>14}"
+        "{link:>5}{sub:>4}{capacity:>9}{ports:>6}{partitions:>11}{greatest:>9}{bytes:>14}"
     )
 }
 

@@ -1,4 +1,4 @@
-//! An analysis beside the traffic of its ports: which bound of a wait holds, which deadlines are kept, which queues
+//! An analysis beside the traffic of its ports: the bounds that hold, the deadlines that are kept, the queues that
 //! suffice, and a verdict; as text and as CSV.
 ghost use Rattle.std.specs.Prelude.{◌≡◌, ◌≤◌, Option, Some, None, nat_lt, IfOk, IfSome, false};
 ghost use Rattle.plan_report.specs.AnalysisText.{longest_wait, is_missed as is_missed_by};
@@ -14,7 +14,7 @@ use std::alloc::{AllocError, Global};
 use std::fmt::{self, InlineText};
 use std::io::{self, Write};
 
-/// An analysis, and what its ports do, in the order of the plan.
+/// An analysis, and the traffic of its ports, in the order of the plan.
 #[derive(Drop)]
 pub struct Assessment<'a> {
     pub analysis: &'a Analysis,
@@ -24,7 +24,7 @@ pub struct Assessment<'a> {
 }
 
 impl<'a> Assessment<'a> {
-    /// The assessment of the traffic of the ports, and of what is known of their sub-VLs by it.
+    /// Assesses the traffic of the ports, by the bounds of their sub-VLs.
     pub fn new(
         alloc: Global,
         analysis: &'a Analysis,
@@ -47,20 +47,36 @@ impl<'a> Assessment<'a> {
         })
     }
 
-    /// Whether a traffic text has a row.
+    /// Returns the rows of the ports, in the order of the plan.
+    pub fn rows(&self) -> &[Row<'a>] {
+        self.rows.as_slice()
+    }
+
+    /// Returns the queues of the sub-VLs, in the order of the plan.
+    pub fn queues(&self) -> &[Queue<'a>] {
+        self.queues.as_slice()
+    }
+
+    /// Returns whether a traffic text has a row.
     pub(crate) fn has_traffic(&self) -> bool {
         self.rows.iter().any(|row| row.demand.line.is_some())
     }
 
-    /// How many ports have a deadline, and how many of them miss it.
+    /// Returns the number of ports with a deadline, and the number of them that miss it.
     pub(crate) fn deadlines(&self) -> (usize, usize) {
         let given = self.rows.iter().filter(|row| row.demand.deadline.is_some());
         let missed = self.rows.iter().filter(|row| row.is_missed());
         (given.count(), missed.count())
     }
 
-    /// The verdict on loads, jitter, deadlines and queues.
-    pub(crate) fn verdict(&self) -> [Sentence; 4] {
+    /// Returns how many sub-VLs have ports of several partitions.
+    fn shared(&self) -> usize {
+        let subs = self.analysis.memory.subs.iter();
+        subs.filter(|sub| sub.partitions > 1).count()
+    }
+
+    /// Returns the verdict on loads, jitter, deadlines, queues and partitions.
+    pub fn verdict(&self) -> [Sentence; 5] {
         let is_over = self.analysis.network_a.exceeded || self.analysis.network_b.exceeded;
         let (given, missed) = self.deadlines();
         [
@@ -68,10 +84,12 @@ impl<'a> Assessment<'a> {
             Sentence::Limit("jitter", self.analysis.jitter > JITTER_LIMIT),
             Sentence::Deadlines(given, missed),
             Sentence::Queues(Judged::of(self.queues.as_slice())),
+            Sentence::Partitions(self.shared()),
         ]
     }
 
-    /// Whether loads, jitter and all deadlines are kept, and all queues that are judged suffice.
+    /// Returns whether loads, jitter and all deadlines are kept, all queues that are judged suffice, and no sub-VL has
+    /// ports of several partitions.
     pub fn all_kept(&self) -> bool {
         let verdict = self.verdict();
         !verdict
@@ -81,22 +99,24 @@ impl<'a> Assessment<'a> {
 }
 
 /// A sentence of a verdict: whether the limit of something is exceeded, how many ports have a deadline and how many of
-/// them miss it, or which queues suffice.
+/// them miss it, which queues suffice, or how many sub-VLs have ports of several partitions.
 #[derive(Clone, Copy)]
-pub(crate) enum Sentence {
+pub enum Sentence {
     Limit(&'static str, bool),
     Deadlines(usize, usize),
     Queues(Judged),
+    Partitions(usize),
 }
 
 impl Sentence {
-    /// Whether it is kept. `None` if there is nothing to keep.
+    /// Returns true if the sentence's limit is kept, or `None` if there is nothing to keep.
     pub(crate) fn is_kept(&self) -> Option<bool> {
         match *self {
             Sentence::Limit(_, exceeded) => Some(!exceeded),
             Sentence::Deadlines(0, _) => None,
             Sentence::Deadlines(_, missed) => Some(missed == 0),
             Sentence::Queues(judged) => judged.suffice(),
+            Sentence::Partitions(shared) => Some(shared == 0),
         }
     }
 }
@@ -110,20 +130,22 @@ impl fmt::Display for Sentence {
             Sentence::Deadlines(_, 0) => f.write_str("deadlines kept of accepted messages"),
             Sentence::Deadlines(of, missed) => write!(f, "deadlines missed: {missed} of {of}"),
             Sentence::Queues(judged) => write!(f, "{judged}"),
+            Sentence::Partitions(0) => f.write_str("partitions apart"),
+            Sentence::Partitions(shared) => write!(f, "sub-VLs of several partitions: {shared}"),
         }
     }
 }
 
-/// A port's waits by both bounds beside what its traffic text says.
+/// A port's waits by both bounds beside its row of the traffic text.
 #[derive(Clone, Copy)]
-pub(crate) struct Row<'a> {
-    pub(crate) port: &'a PortAnalysis,
-    pub(crate) demand: &'a Demand,
-    pub(crate) by_traffic: Option<u64>,
+pub struct Row<'a> {
+    pub port: &'a PortAnalysis,
+    pub demand: &'a Demand,
+    pub by_traffic: Option<u64>,
 }
 
 impl Row<'_> {
-    /// The longest wait: the less of the two bounds.
+    /// Returns the longest wait: the lesser of the two bounds.
     pub(crate) fn wait(&self) -> u64
         ensures { result ≡ longest_wait self.now.port.now.wait self.now.by_traffic }
     {
@@ -133,16 +155,16 @@ impl Row<'_> {
         }
     }
 
-    /// The name of the bound that holds.
-    pub(crate) fn bound(&self) -> &'static str {
+    /// Returns the name of the bound that gives the longest wait.
+    pub fn bound(&self) -> &'static str {
         match self.by_traffic {
             Some(wait) if wait < self.port.wait => "traffic",
             _ => "queue",
         }
     }
 
-    /// Whether the longest wait is over the deadline.
-    pub(crate) fn is_missed(&self) -> bool
+    /// Returns whether the longest wait is over the deadline.
+    pub fn is_missed(&self) -> bool
         ensures { result ≡ is_missed_by self.now.port.now.wait self.now.by_traffic self.now.demand.now.deadline }
     {
         match self.demand.deadline {
@@ -151,13 +173,13 @@ impl Row<'_> {
         }
     }
 
-    /// The time from the end of the longest wait to the deadline: negative if it is missed.
-    pub(crate) fn slack(&self) -> Option<i128> {
+    /// Returns the time from the end of the longest wait to the deadline: negative if it is missed.
+    pub fn slack(&self) -> Option<i128> {
         Some(self.demand.deadline? as i128 - self.wait() as i128)
     }
 }
 
-/// The ports of a plan with the periods of their traffic.
+/// Returns the ports of a plan with the periods of their traffic.
 pub fn senders_of(
     alloc: Global,
     config: &Config,
@@ -177,7 +199,7 @@ pub fn senders_of(
     Ok(senders)
 }
 
-/// The period of the port at a place.
+/// Returns the period of the port at a place.
 fn period_at(traffic: &Traffic, place: usize) -> Option<u64>
     ensures { IfSome result (λ period. 1 ≤ period) }
 {
@@ -188,10 +210,13 @@ fn period_at(traffic: &Traffic, place: usize) -> Option<u64>
 }
 
 /// Writes the verdict on a plan, one line: whether its loads and its jitter are within their limits, whether its ports
-/// keep their deadlines, and whether its queues suffice.
+/// keep their deadlines, whether its queues suffice, and whether its sub-VLs have ports of one partition each.
 pub fn write_verdict<W: Write>(writer: &mut W, assessment: &Assessment<'_>) -> io::Result<()> {
-    let [loads, jitter, deadlines, queues] = assessment.verdict();
-    writeln!(writer, "{loads}, {jitter}, {deadlines}, {queues}")
+    let [loads, jitter, deadlines, queues, partitions] = assessment.verdict();
+    writeln!(
+        writer,
+        "{loads}, {jitter}, {deadlines}, {queues}, {partitions}"
+    )
 }
 
 /// Writes a table of the ports: period, deadline, the wait by the queue, the wait by traffic, which of the
@@ -223,7 +248,7 @@ fn write_row<W: Write>(writer: &mut W, row: &Row<'_>) -> io::Result<()> {
     )
 }
 
-/// Whether the deadline of a port is missed, in a word.
+/// Returns the word `yes` if the deadline of a port is missed, otherwise `no`, or `without` if it has no deadline.
 fn missed(row: &Row<'_>, without: &'static str) -> &'static str {
     match row.demand.deadline {
         Some(_) => if row.is_missed() { "yes" } else { "no" },
@@ -234,9 +259,9 @@ fn missed(row: &Row<'_>, without: &'static str) -> &'static str {
 /// The header of the rows for a spreadsheet.
 const HEADER: &str =
     "port,name,link,sub_vl,fragments,period_us,deadline_us,wait_queue_us,wait_traffic_us,holds,\
-    slack_us,missed,capacity,ports,greatest,bytes,need,suffices";
+    slack_us,missed,capacity,ports,greatest,bytes,need,suffices,partitions";
 
-/// Writes the rows for a spreadsheet, with a header: those of the ports, those of the sub-VLs, and the memory of the
+/// Writes the rows for a spreadsheet, with a header: a row for each port, a row for each sub-VL, and the memory of the
 /// whole end system. A field that a row lacks is empty.
 pub fn write_rows<W: Write + Drop>(
     out: &mut Writer<W>,
@@ -248,7 +273,7 @@ pub fn write_rows<W: Write + Drop>(
     out.end_record()?;
     for row in assessment.rows.iter() {
         write_fields(out, row)?;
-        skip(out, 6)?;
+        skip(out, 7)?;
         out.end_record()?;
     }
     for queue in assessment.queues.iter() {
@@ -257,7 +282,7 @@ pub fn write_rows<W: Write + Drop>(
     }
     skip(out, 15)?;
     put(out, assessment.analysis.memory.bytes)?;
-    skip(out, 2)?;
+    skip(out, 3)?;
     out.end_record()?;
     out.flush()
 }
@@ -289,7 +314,8 @@ fn write_sub<W: Write + Drop>(out: &mut Writer<W>, queue: &Queue<'_>) -> Result<
     put(out, row.greatest)?;
     put(out, row.bytes)?;
     put(out, queue.need(""))?;
-    put(out, queue.word(""))
+    put(out, queue.word(""))?;
+    put(out, row.partitions)
 }
 
 /// Writes empty fields.

@@ -59,7 +59,7 @@ fn write_edge<W: Write>(writer: &mut W, class: &str, from: Node, to: Node) -> io
     )
 }
 
-/// The middle of `count` rows, from row `first` on.
+/// Returns the middle of `count` rows, from row `first` on.
 fn middle(column: u64, first: u64, count: u64) -> Node {
     let halves = first
         .saturating_mul(2)
@@ -102,13 +102,13 @@ pub(crate) fn write_flow<W: Write>(writer: &mut W, config: &Config) -> io::Resul
 }
 
 impl Flow<'_> {
-    /// The number of ports of a link, or of one of its sub-VLs.
+    /// Returns the number of ports of a link, or of one of its sub-VLs.
     fn count(&self, link: &LinkPlan, sub: Option<u8>) -> u64 {
         let ports = self.config.ports().iter();
         ports.filter(|port| is_on(port, link, sub)).count() as u64
     }
 
-    /// The place at a part of the height.
+    /// Returns the place at a part of the height.
     fn part(&self, column: u64, part: u64, whole: u64) -> Node {
         let rows = self.rows.saturating_mul(ROW).saturating_mul(part) / whole.max(1);
         Node(column, rows.saturating_add(HEADS - ROW / 2))
@@ -119,7 +119,7 @@ impl Flow<'_> {
         ports.iter().any(|port| port.partition == partition)
     }
 
-    /// The place of a partition: those with ports are at like distances, in order.
+    /// Returns the place of a partition: partitions with ports are at like distances, in order.
     fn partition(&self, partition: u8) -> Node {
         let mut before = 1u64;
         let mut whole = 0u64;
@@ -186,7 +186,7 @@ impl Flow<'_> {
     }
 }
 
-/// Whether a port sends on a link, and on this sub-VL of it if one is given.
+/// Returns true if a port sends on a link, and on sub-VL `sub` of the link if one is given.
 fn is_on(port: &PortPlan, link: &LinkPlan, sub: Option<u8>) -> bool {
     port.vl.0 == link.id.0 && port.sub == sub.unwrap_or(port.sub)
 }

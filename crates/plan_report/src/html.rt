@@ -13,9 +13,9 @@ const MARK: u64 = 50;
 pub(crate) const DRAWING: &str =
     "<svg viewBox=\"0 0 10000 100\" preserveAspectRatio=\"none\" aria-hidden=\"true\">";
 
-/// A text from outside, with what HTML gives a meaning escaped.
+/// A text from outside, with the characters of HTML escaped.
 #[derive(Drop)]
-pub(crate) struct Escaped<'a>(pub(crate) &'a str);
+pub struct Escaped<'a>(pub &'a str);
 
 impl fmt::Display for Escaped<'_> {
     fn fmt<W: fmt::Write>(&self, f: &mut fmt::Formatter<W>) -> fmt::Result {
@@ -33,12 +33,12 @@ impl fmt::Display for Escaped<'_> {
     }
 }
 
-/// A time in nanoseconds, printed in the greatest unit of which it has one.
+/// A time in nanoseconds, printed in the greatest unit that it fills.
 #[derive(Clone, Copy)]
 pub(crate) struct Time(pub(crate) u64);
 
 impl Time {
-    /// A time in microseconds.
+    /// Converts a time in microseconds.
     pub(crate) fn of_micros(micros: u64) -> Time {
         Time(micros.saturating_mul(1_000))
     }
@@ -71,12 +71,12 @@ impl<T: fmt::Display> fmt::Display for Cell<T> {
     }
 }
 
-/// A time in microseconds, or a dash if there is none.
+/// Returns the cell of a time in microseconds, with a dash if there is none.
 pub(crate) fn micros(micros: Option<u64>) -> Cell<Time> {
     Cell(micros.map(Time::of_micros), "–")
 }
 
-/// The position of a value in the drawing of a bar that `scale` fills.
+/// Returns the position of a value in the drawing of a bar that `scale` fills.
 pub(crate) fn place(scale: u64, value: u64) -> u64 {
     value.min(scale).saturating_mul(WIDTH) / scale.max(1)
 }
@@ -85,7 +85,7 @@ pub(crate) fn place(scale: u64, value: u64) -> u64 {
 #[derive(Drop)]
 pub(crate) struct Rect(pub(crate) &'static str, pub(crate) u64, pub(crate) u64);
 
-/// The mark of a limit at a position.
+/// Returns the mark of a limit at a position.
 pub(crate) fn mark(place: u64) -> Rect {
     Rect("mark", place.saturating_sub(MARK), MARK)
 }
@@ -107,7 +107,7 @@ pub struct Parts {
     scale: u64,
     limit: u64,
     filled: u64,
-    // whether the next part has the second color
+    // true if the next part has the second color
     second: bool,
 }
 

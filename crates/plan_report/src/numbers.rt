@@ -23,7 +23,7 @@ impl fmt::Display for Grouped {
     }
 }
 
-/// How many parts make a whole, and how many digits they take.
+/// The number of parts in a whole, and the number of their digits.
 pub(crate) const HUNDREDTHS: (u64, usize) = (100, 2);
 
 pub(crate) const THOUSANDTHS: (u64, usize) = (1_000, 3);

@@ -10,7 +10,7 @@ use afdx_plan::Config;
 use std::io::{self, Write};
 
 /// The program's version, which is the library's: `AFDX_VERSION` in `afdx.h`.
-pub const VERSION: &str = "1.0.0";
+pub const VERSION: &str = "2.0.0";
 
 /// A plan, and the SHA-256 digest of its text.
 #[derive(Drop)]
@@ -80,7 +80,7 @@ fn write_verdict<W: Write>(writer: &mut W, assessment: &Assessment<'_>) -> io::R
     writer.write_all(b"</ul>\n")
 }
 
-/// Writes where the numbers come from.
+/// Writes the origin of the numbers.
 fn write_origin<W: Write>(
     writer: &mut W,
     digest: &[u8; 32],
@@ -115,7 +115,7 @@ h1{font-size:1.4rem;margin:.5rem 0}h2{font-size:1.1rem;margin:2rem 0 .5rem}p{col
 #verdict{list-style:none;margin:.5rem 0;padding:0;display:flex;flex-wrap:wrap;gap:.3rem 1.5rem;font-weight:600}
 .kept{color:var(--kept)}.over{color:var(--over);font-weight:600}.kept::before{content:\"\\2713\\a0\"}
 .over::before{content:\"\\2715\\a0\"}dl{display:grid;grid-template-columns:max-content 1fr;gap:.1rem 1rem;margin:.5rem 0}
-dt{color:var(--quiet)}dd{margin:0;overflow-wrap:anywhere}
+pre{white-space:pre-wrap;font-size:12px}dt{color:var(--quiet)}dd{margin:0;overflow-wrap:anywhere}
 table{border-collapse:collapse;width:100%;font-size:13px;font-variant-numeric:tabular-nums}
 th,td{padding:.2rem .35rem;text-align:right;border-bottom:1px solid var(--line);white-space:nowrap}
 th{color:var(--quiet);font-weight:600;vertical-align:bottom}thead{position:sticky;top:0;background:var(--back)}
@@ -137,8 +137,8 @@ line.one{stroke:var(--one)}line.two{stroke:var(--two)}
 th,td{border:0;padding:.1rem;white-space:normal;overflow-wrap:anywhere}tr{display:grid;align-items:end;border-bottom:1px solid var(--line);padding:.15rem 0}
 .bar{grid-column:1/-1;width:auto}.name{min-width:0;max-width:none}th:empty{display:none}
 #networks tr{grid-template-columns:2fr 3fr 2fr 3fr}#networks td:nth-child(4){order:1}#networks td:last-child{order:2}
-#gaps tr,#leads tr{grid-template-columns:repeat(3,1fr)}
-#memory tr{grid-template-columns:repeat(6,1fr)}
+.judged tr{grid-template-columns:repeat(6,1fr)}
+#memory tr{grid-template-columns:repeat(7,1fr)}
 #queues tr{grid-template-columns:repeat(5,1fr)}
 #links tr{grid-template-columns:9fr 11fr 9fr 7fr 7fr 18fr 9fr 16fr}
 .without tr{grid-template-columns:5fr 5fr 5fr 8fr 8fr 9fr}.with tr{grid-template-columns:repeat(4,minmax(0,1fr))}

@@ -1,4 +1,4 @@
-//! The tables of the networks and of the links of a page, with bars of loads and jitter, and that of the sub-VLs.
+//! The tables of the networks, the links and the sub-VLs of a page. The first two have bars of loads and jitter.
 use crate::analysis_text::{network_name, networks_cell};
 use crate::html::{DRAWING, Parts, Rect, Time, WIDTH, place};
 use crate::numbers::{Decimal, Grouped, HUNDREDTHS, THOUSANDTHS};
@@ -35,7 +35,7 @@ pub(crate) fn write_networks<W: Write>(writer: &mut W, analysis: &Analysis) -> i
     writer.write_all(b"\n</table>\n")
 }
 
-/// The class of a cell whose value exceeds a limit.
+/// Returns the class of a cell whose value exceeds a limit.
 pub(crate) fn over(is_over: bool) -> &'static str {
     if is_over { " class=\"over\"" } else { "" }
 }
@@ -128,7 +128,8 @@ fn write_link<W: Write>(writer: &mut W, row: &LinkAnalysis) -> io::Result<()> {
 pub(crate) fn write_memory<W: Write>(writer: &mut W, memory: &Memory) -> io::Result<()> {
     writer.write_all(
         b"<h2>Memory</h2>\n<p>The bytes that the end system holds. Each place of a queue has room for the greatest \
-        message of its sub-VL, as have the message in transmission and each port.",
+        message of its sub-VL, as have the message in transmission and each port. The ports of a sub-VL share its \
+        queue: those of one partition may keep those of another from sending.",
     )?;
     if let Some(row) = &memory.large {
         let (link, sub) = (row.vl.0, row.sub);
@@ -138,20 +139,22 @@ pub(crate) fn write_memory<W: Write>(writer: &mut W, memory: &Memory) -> io::Res
         )?;
     }
     writer.write_all(
-        b"</p>\n<table id=\"memory\">\n<thead><tr><th>link<th>sub-VL<th>capacity<th>ports<th>greatest<th>bytes\n\
+        b"</p>\n<table id=\"memory\">\n<thead><tr><th>link<th>sub-VL<th>capacity<th>ports<th>partitions\
+        <th>greatest<th>bytes\n\
         <tbody>\n",
     )?;
     for row in memory.subs.iter() {
         let (link, sub, capacity, ports) = (row.vl.0, row.sub, row.capacity, row.ports);
+        let (over, partitions) = (over(row.partitions > 1), row.partitions);
         let (greatest, bytes) = (Grouped(row.greatest), Grouped(row.bytes));
         writeln!(
             writer,
-            "<tr><td>{link}<td>{sub}<td>{capacity}<td>{ports}<td>{greatest}<td>{bytes}"
+            "<tr><td>{link}<td>{sub}<td>{capacity}<td>{ports}<td{over}>{partitions}<td>{greatest}<td>{bytes}"
         )?;
     }
     let bytes = Grouped(memory.bytes);
     writeln!(
         writer,
-        "<tr><td>end system<td>–<td>–<td>–<td>–<td>{bytes}\n</table>"
+        "<tr><td>end system<td>–<td>–<td>–<td>–<td>–<td>{bytes}\n</table>"
     )
 }

@@ -12,7 +12,7 @@ const PRECISION: u32 = 16;
 /// The most labels of an axis.
 const LABELS: u64 = 4;
 
-/// The premise of the waits by traffic, and what has none.
+/// The premise of the waits by traffic, and the messages without a wait.
 const PREMISE: &str =
     " The wait by traffic holds if two messages of a port are at least its period apart. A message \
     that a full queue refuses has no wait.";
@@ -96,8 +96,8 @@ fn write_port<W: Write>(
     writer.write_all(b"</svg>\n")
 }
 
-/// The logarithm of a number to base 2, with `PRECISION` bits after the point: each squaring of the number
-/// over its power of two gives a bit.
+/// Returns the logarithm of a number to base 2, with `PRECISION` bits after the point: each squaring of the number over
+/// its power of two gives a bit.
 fn log2(value: u64) -> u64 {
     let value = value.max(1);
     let whole = value.ilog2();
@@ -124,7 +124,7 @@ struct Scale {
 }
 
 impl Scale {
-    /// The scale of all waits and deadlines.
+    /// Returns the scale of all waits and deadlines.
     fn of(assessment: &Assessment<'_>) -> Scale {
         let (mut least, mut most) = (u64::MAX, 0);
         for row in assessment.rows.iter() {
@@ -151,7 +151,7 @@ impl Scale {
         Scale { low, decades }
     }
 
-    /// The position of a time in microseconds.
+    /// Returns the position of a time in microseconds.
     fn place(&self, micros: u64) -> u64 {
         let log = log2(micros.saturating_mul(1_000)).saturating_sub(log2(self.low));
         let ten = log2(1_000_000_000_000_000_000);

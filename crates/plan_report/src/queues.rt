@@ -10,17 +10,17 @@ use std::alloc::{AllocError, Global};
 use std::fmt;
 use std::io::{self, Write};
 
-/// A sub-VL, and what is known of it by its traffic: nothing if it has no port.
+/// A sub-VL, and its bound by its traffic: nothing if it has no port.
 #[derive(Clone, Copy)]
-pub(crate) struct Queue<'a> {
-    pub(crate) sub: &'a SubRow,
-    pub(crate) bound: Option<Bound>,
+pub struct Queue<'a> {
+    pub sub: &'a SubRow,
+    pub bound: Option<Bound>,
 }
 
 impl Queue<'_> {
     /// Returns whether it never refuses a message as full. `None` if that isn't judged: a port has no period, or there
     /// is none.
-    pub(crate) fn suffices(&self) -> Option<bool>
+    pub fn suffices(&self) -> Option<bool>
         ensures { result ≡ suffices_for self.now.sub.now.capacity self.now.bound }
     {
         match self.bound {
@@ -73,10 +73,10 @@ fn bound_on(analysis: &Analysis, bounds: &[Bound], sub: &SubRow) -> Option<Bound
     bounds.get(place).copied()
 }
 
-/// How many sub-VLs have a port, how many of these are judged, how many of those may get full, and how many of these
-/// are overloaded. `Display` prints the sentence of a verdict.
+/// The numbers of sub-VLs with a port, of judged ones among them, of queues that may get full, and of overloaded ones.
+/// `Display` prints the sentence of a verdict.
 #[derive(Clone, Copy)]
-pub(crate) struct Judged {
+pub struct Judged {
     used: usize,
     judged: usize,
     full: usize,
@@ -101,7 +101,7 @@ impl Judged {
         }
     }
 
-    /// Returns whether all queues that are judged suffice. `None` if none is.
+    /// Returns true if all judged queues suffice, or `None` if none is judged.
     pub(crate) fn suffice(&self) -> Option<bool> {
         match self.judged {
             0 => None,
@@ -147,7 +147,7 @@ pub fn write_queues<W: Write>(writer: &mut W, assessment: &Assessment<'_>) -> io
     Ok(())
 }
 
-/// Writes the same table for a page.
+/// Writes the table of the sub-VLs' queues for a page.
 pub(crate) fn write_queue_table<W: Write>(
     writer: &mut W,
     assessment: &Assessment<'_>,

@@ -26,7 +26,7 @@ struct Turns {
 }
 
 impl Turns {
-    /// The turns of the wait of a port.
+    /// Returns the turns of the wait of a port.
     fn of(config: &Config, lateness: u64, row: &Row<'_>) -> Option<Turns> {
         let place = config.link_index(row.port.vl)?;
         let link = config.links().get(place)?;
@@ -40,12 +40,12 @@ impl Turns {
         })
     }
 
-    /// The number of places that are drawn, one of them for the turns that are left out, if any are.
+    /// Returns the number of places that are drawn. One of them stands for the turns that are left out, if any are.
     fn places(&self) -> u64 {
         self.count.min(FIRST + 1 + LAST)
     }
 
-    /// How many turns are left out.
+    /// Returns the number of turns that are left out.
     fn left_out(&self) -> u64 {
         match self.count.saturating_sub(self.places()) {
             0 => 0,
@@ -53,7 +53,7 @@ impl Turns {
         }
     }
 
-    /// The turns that come after the one at a place. `None` if the place is for those left out.
+    /// Returns the number of turns after the turn at a place, or `None` if the place stands for the turns left out.
     fn after(&self, place: u64) -> Option<u64> {
         if self.left_out() > 0 && place == FIRST {
             return None;
@@ -66,7 +66,7 @@ impl Turns {
         Some(last.saturating_sub(1).saturating_sub(place))
     }
 
-    /// The class of a turn that comes before so many others: it sends a fragment of the message, of its sub-VL
+    /// Returns the class of a turn with `after` turns after it: it sends a fragment of the message, of its sub-VL
     /// before it, or of another sub-VL.
     fn class(&self, after: u64) -> &'static str {
         let round = self.round.max(1);
@@ -80,7 +80,7 @@ impl Turns {
     }
 }
 
-/// The row of the port with the least slack; if no deadline is given, of the one that waits longest.
+/// Returns the row of the port with the least slack; without deadlines, the row of the port that waits longest.
 fn worst<'a>(assessment: &'a Assessment<'_>, given: usize) -> Option<Row<'a>> {
     let mut worst = None;
     let mut most = 0;
@@ -164,7 +164,7 @@ fn write_times<W: Write>(writer: &mut W, turns: &Turns) -> io::Result<()> {
     Ok(())
 }
 
-/// Writes what the colors of the turns mean, and how many turns aren't drawn.
+/// Writes the meaning of the turns' colors, and the number of turns that aren't drawn.
 fn write_legend<W: Write>(writer: &mut W, turns: &Turns) -> io::Result<()> {
     let [own, before, other] = ["one", "two", "track"].map(|class| Rect(class, 0, WIDTH));
     // (the fragments that the sub-VL sends before the message)

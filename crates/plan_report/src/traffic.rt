@@ -19,7 +19,7 @@ const FAULTS_LIMIT: usize = 1_000;
 /// The columns of a traffic text, by their names in its header.
 const COLUMNS: [&str; 4] = ["port", "name", "period_us", "deadline_us"];
 
-/// What a traffic text says of a port. Times are in microseconds.
+/// The row of a traffic text for a port. Times are in microseconds.
 #[derive(Drop)]
 pub struct Demand {
     // the line that names the port, if one does
@@ -41,8 +41,8 @@ pub struct Traffic {
     pub others: Others,
 }
 
-/// A fault of a traffic text: its line from 1, the name of its column, if it is of one that has a name, and what is
-/// wrong. `Display` prints its line of the report.
+/// A fault of a traffic text: its line from 1, the name of its column, if there is a column with a name, and the kind
+/// of fault. `Display` prints its line of the report.
 #[derive(Clone, Copy)]
 pub struct TrafficFault(pub u64, pub Option<&'static str>, pub Wrong);
 
@@ -56,7 +56,7 @@ impl fmt::Display for TrafficFault {
     }
 }
 
-/// What is wrong in a traffic text.
+/// The kinds of faults of a traffic text.
 #[derive(Clone, Copy, Debug, Error)]
 pub enum Wrong {
     #[error("a header is missing")]
@@ -79,7 +79,7 @@ pub enum Wrong {
     Name,
 }
 
-/// Traffic without a text: no port has a name, a period or a deadline. Fails only if an allocation fails.
+/// Makes traffic without a text: no port has a name, a period or a deadline. Fails only if an allocation fails.
 pub fn no_traffic(alloc: Global, config: &Config) -> Result<Traffic, AllocError> {
     let mut demands = Vec::with_capacity(alloc, config.ports().len())?;
     for _port in config.ports() {
@@ -118,7 +118,7 @@ struct Reading<'a> {
     config: &'a Config,
     traffic: Traffic,
     line: u64,
-    // the place of each column, and how many fields a row has, once a header without a fault is read
+    // the place of each column, and the number of fields in a row, once a header without a fault is read
     places: [Option<usize>; 4],
     width: Option<usize>,
 }
@@ -231,7 +231,7 @@ impl Reading<'_> {
     }
 }
 
-/// The field of a column; nothing if the text lacks the column.
+/// Returns the field of a column; nothing if the text lacks the column.
 fn field(row: &ByteRecord, place: Option<usize>) -> &[u8] {
     place.and_then(|place| row.get(place)).unwrap_or(b"")
 }

@@ -30,7 +30,7 @@ other_each period = record { port = record (short_port 0) { id = record { 0 = 11
 abbrev pub asking_port : QueueName → PortView
 asking_port queue = record { place = 0; plan = short_port 0; sender = new_sender queue 1 1 1 0 }
 
--- and after its queue refused a message, full with one
+-- the port after its queue refused a message, full with one
 abbrev pub full_port : QueueName → PortView
 full_port queue = record (asking_port queue) { sender = asked (glanced (new_sender queue 1 1 1 0) false) 1 }
 

@@ -1,4 +1,4 @@
--- How long an accepted message waits in a run of polls, whatever the other ports send.
+-- The wait of an accepted message in a run of polls, whatever the other ports send.
 use Rattle.std.specs.Prelude.{ℕ, ◌≡◌, ◌⊎◌, ◌+◌, ◌≤◌, ◌<◌, true, List, [], ◌∷◌, ◌++◌, length, All, None}
 use Rattle.afdx_plan.specs.Config.{Plan, IsPlan, link_plan_at}
 use Rattle.afdx_plan.specs.Plan.{bag_micros, room_of}
@@ -20,8 +20,8 @@ abbrev pub ComesIn : ℕ → ℕ → List ℕ → Type 0
 ComesIn low high [] = ⊥
 ComesIn low high (now ∷ moments) = ((low ≤ now) × (now ≤ high)) ⊎ ComesIn low high moments
 
--- Polls follow a start. After it and after each poll, a poll comes between a gap and a gap and the lateness later,
--- unless the end comes first.
+-- Polls follow a start. After it and after each poll, a poll comes between a gap and a gap and the lateness later, if
+-- the end doesn't come first.
 abbrev pub AreTimely : (gap late end before : ℕ) → List ℕ → Type 0
 AreTimely gap late end before [] = end < before + (gap + late)
 AreTimely gap late end before (now ∷ moments) = (before ≤ now)

@@ -1,4 +1,4 @@
--- When the queue of a sub-VL never refuses a message as full, in a run of polls.
+-- Conditions under which the queue of a sub-VL never refuses a message as full, in a run of polls.
 use Rattle.std.specs.Prelude.{ℕ, ◌≡◌, ◌+◌, ◌-◌, ◌≤◌, ◌<◌, true, List, [], ◌∷◌, ◌++◌, length, map, nat_eq, All, None, if◌then◌else◌}
 use Rattle.afdx_plan.specs.Config.{Plan, IsPlan, link_plan_at}
 use Rattle.afdx_plan.specs.Plan.{bag_micros}
@@ -16,8 +16,8 @@ use Rattle.plan_analysis.specs.Traffic.{AreSendersOf, IsSubNeed, round_of}
 use Rattle.run_laws.specs.MessageInRun.{AreTimely, fragments_of, seen_of}
 use Rattle.run_laws.specs.TrafficInRun.{Arrival, KeepPeriods, AreFindingAll, accepted_by, messages_in}
 
--- The messages of which no fragment is among the first `gone` of their sub-VL: those in its queue, which a message
--- leaves when its first fragment is released.
+-- The messages without a fragment among the first `gone` of their sub-VL: the messages in its queue. A message leaves
+-- the queue when its first fragment is released.
 abbrev pub queued_of : Plan → ℕ → List Sent → ℕ → ℕ
 queued_of plan k [] gone = 0
 queued_of plan k (m ∷ more) gone = if nat_eq gone 0 then 1 + length more

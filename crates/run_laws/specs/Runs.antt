@@ -1,4 +1,4 @@
--- Runs of polls of an emitter and of its drain, and when they release the next fragment of a message.
+-- Runs of polls of an emitter and of its drain, and the times at which they release the next fragment of a message.
 use Rattle.std.specs.Prelude.{ℕ, ◌≡◌, ◌⊎◌, ◌<◌, List, [], ◌∷◌, length, ◌+◌, ◌*◌, ◌≤◌, true, ◌++◌}
 use Rattle.afdx_plan.specs.Config.{Plan, link_plan_at, IsPlan}
 use Rattle.afdx_plan.specs.Plan.{bag_micros}
@@ -38,8 +38,8 @@ pub record KeptReady : Type 0 where
   pub closed : (old new : Tx) (vl sub total : ℕ) → IsReady old → ClosesTx old vl sub total new → IsReady new
   pub published : (old new : Tx) → IsReady old → Publishes old new → IsReady new
 
--- A poll of a ready emitter of a plan, by what was transmitted before and after it. What it has taken after the poll
--- are messages that its ports may send, too.
+-- A poll of a ready emitter of a plan, by the frames transmitted before and after it. The messages that it has taken
+-- after the poll are messages that its ports may send, too.
 pub record EmitterPolls (plan : Plan) (now : ℕ) (lines after : Lines) : Type 0 where
   pub old : Tx
   pub new : Tx
@@ -87,9 +87,9 @@ abbrev pub next_wait : ℕ → Plan → ℕ → ℕ
 next_wait late plan k =
     used_sub_vls (link_plan_at plan.links k) plan.ports * (bag_micros (link_plan_at plan.links k).bag + late)
 
--- The last entry of a link's stream is of a sub-VL with a port, and has the flag of more fragments. Polls follow it
--- within the lateness, and continue until the bound; after them a network that carries the link is up. Then the next
--- fragment was released by the bound of the link, and so by that of the plan.
+-- The last entry of a link's stream belongs to a sub-VL with a port, and has the flag of more fragments. Polls follow
+-- it within the lateness, and continue until the bound; after them a network that carries the link is up. Then the next
+-- fragment was released by the bound of the link, and so by the plan's.
 abbrev pub NextInRun : Type 0
 NextInRun = (plan : Plan) (moments : List ℕ) (lines after : Lines) (k late : ℕ) (earlier : List Entry) (first : Entry)
     → IsPlan plan → k < length plan.links → stream_at plan k lines ≡ earlier ++ first ∷ [] → more_in first.frame ≡ true

@@ -1,4 +1,4 @@
--- How long an accepted message waits in a run of polls if each port of its sub-VL keeps a period.
+-- The wait of an accepted message in a run of polls, if each port of its sub-VL keeps a period.
 use Rattle.std.specs.Prelude.{ℕ, ◌≡◌, ◌⊎◌, ◌+◌, ◌≤◌, true, Bool, List, [], ◌∷◌, ◌++◌, length, map, filter, All, nat_eq, nat_lt, None, IfSome}
 use Rattle.afdx_plan.specs.Config.{Plan, IsPlan, link_plan_at}
 use Rattle.afdx_plan.specs.Plan.{bag_micros}
@@ -15,7 +15,7 @@ use Rattle.plan_analysis.specs.Traffic.{AreSendersOf, IsWaitOf}
 use Rattle.run_laws.specs.Runs.{ArePolls}
 use Rattle.run_laws.specs.MessageInRun.{AreTimely, AreReleasedBy, FindsIt, IsAccepted, fragments_of, seen_of}
 
--- an accepted message, and when it was accepted, in microseconds
+-- an accepted message, and the time of its acceptance, in microseconds
 pub record Arrival : Type 0 where
   pub at : ℕ
   pub sent : Sent
@@ -26,7 +26,7 @@ messages_in arrivals = map (λ (a : Arrival). a.sent) arrivals
 abbrev pub times_in : List Arrival → List ℕ
 times_in arrivals = map (λ (a : Arrival). a.at) arrivals
 
--- the message is of this port
+-- true if the message belongs to this port
 abbrev pub is_from : PortPlan → Arrival → Bool
 is_from port a = nat_eq a.sent.port.id.0 port.id.0
 
@@ -39,19 +39,22 @@ abbrev pub AreApart : ℕ → List ℕ → Type 0
 AreApart apart [] = Unit {0}
 AreApart apart (first ∷ times) = All (λ (t : ℕ). first + apart ≤ t) times × AreApart apart times
 
--- Messages were accepted in this order, none before the start, and those of a port with a period at least that apart.
+-- Messages were accepted in this order, none before the start. Two messages of a port with a period are at least the
+-- period apart.
 pub record KeepPeriods (senders : List Sender) (start : ℕ) (arrivals : List Arrival) : Type 0 where
   pub ordered : AreApart 0 (start ∷ times_in arrivals)
   pub apart : All (λ (s : Sender). IfSome s.period (λ p. AreApart p (times_in (filter (is_from s.port) arrivals))))
       senders
 
--- The number of fragments of the messages that a sub-VL accepted before a time: those before the start, and these.
+-- The number of fragments of the messages that a sub-VL accepted before a time: the messages before the start, and
+-- these.
 abbrev pub accepted_by : Plan → ℕ → List Sent → List Arrival → ℕ → ℕ
 accepted_by plan k before arrivals now =
     length (fragments_of plan k (before ++ messages_in (filter (is_before now) arrivals)))
 
--- Polls of an emitter, each of which finds the messages that were accepted before it until they are sent, or of a drain
--- of the accepted messages. `count` has the number of fragments of the messages accepted before each time.
+-- Polls of an emitter, or of a drain of the accepted messages. Each poll of an emitter finds the messages that were
+-- accepted before it until they are sent. `count` has the number of fragments of the messages accepted before each
+-- time.
 abbrev pub AreFindingAll : Plan → Accepted → (k s : ℕ) → (count : ℕ → ℕ) → List ℕ → (lines after : Lines) → Type 0
 AreFindingAll plan accepted k s count =
     ArePolls (λ now lines after. FindsIt plan k s (count now) now lines after ⊎ IsDrained now plan accepted lines after)

@@ -21,7 +21,7 @@ accepted_at at sent = record { at = at; sent = sent }
 abbrev pub sender_of : ℕ → Sender
 sender_of period = record { port = short_port 1; period = Some period }
 
--- the ports of the link of three sub-VLs, of which that of sub-VL 1 keeps a period
+-- the ports of the link of three sub-VLs; the port of sub-VL 1 keeps a period
 abbrev pub three_senders : List Sender
 three_senders = record { port = demo_port; period = None } ∷ sender_of 9000
     ∷ record { port = short_port 2; period = None } ∷ []

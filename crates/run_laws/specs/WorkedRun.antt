@@ -42,7 +42,7 @@ small_plan = record demo_plan { links = small_link ∷ [] }
 abbrev pub message_accepted : Accepted
 message_accepted k sub = one_accepted
 
--- these frames, transmitted on both networks at these times
+-- networks to which these frames were sent at these times
 abbrev pub lines_by : List (ℕ × (Net → List ℕ)) → Lines
 lines_by frames = lines_of (map (λ (f : ℕ × (Net → List ℕ)). entry f.0 (f.1 A)) frames)
     (map (λ (f : ℕ × (Net → List ℕ)). entry f.0 (f.1 B)) frames) 0 0 true true false false
@@ -52,7 +52,7 @@ lines_by frames = lines_of (map (λ (f : ℕ × (Net → List ℕ)). entry f.0 (
 abbrev pub front_line : Lines
 front_line = lines_by ((0, front_frame) ∷ [])
 
--- and then the second, transmitted at `now`
+-- the first frame and then the second, transmitted at `now`
 abbrev pub both_at : ℕ → Lines
 both_at now = lines_by ((0, front_frame) ∷ (now, back_frame) ∷ [])
 
@@ -169,9 +169,9 @@ pub record MeetsTheWait : Type 0 where
   pub met : TightReleased 3000
   pub sooner : TightReleased 2999 → ⊥
 
--- The same link, with a port that sends messages of one byte: the wait is one gap.
+-- The link with a port that sends messages of one byte: the wait is one gap.
 
--- such a port of this sub-VL
+-- a port of sub-VL `sub` that sends messages of one byte
 abbrev pub short_port : ℕ → PortPlan
 short_port sub = record demo_port { id = record { 0 = 10 + sub }; sub = sub; source = 1000 + sub; max = 1 }
 
@@ -229,7 +229,7 @@ pub record ByteCase (many earlier now : ℕ) (lines after : Lines)
 pub record NeedsItsPremises : Type 0 where
   pub valid : IsPlan byte_plan
   pub wait : worst_wait 0 byte_plan (short_port 0) ≡ 1000
-  -- it was not accepted
+  -- the message was not accepted
   pub unaccepted : ByteCase 0 0 1000 no_line no_line false true true true true true true
   -- the wait starts before the last release
   pub early : ByteCase 2 1 1000 (byte_line 5000) (byte_line 5000) true false true true true true true
@@ -273,7 +273,7 @@ abbrev pub line_after : ℕ → Lines
 line_after many = lines_by (take many ((0, front_frame) ∷ (3000, short_frame 1 0 1) ∷ (6000, short_frame 2 0 2)
     ∷ (9000, end_frame) ∷ (12000, short_frame 1 1 4) ∷ []))
 
--- a sub-VL of one port, whose queue this is, with what is left of a message
+-- a sub-VL of one port with this queue, and with the rest of a message
 abbrev pub sub_of : LinkPlan → (sub : ℕ) → PortPlan → List (List ℕ) → ReceiverView → Held
 sub_of link sub port left queue = record {
   of = record { end_system = 1; link = link; sub = sub };
@@ -294,7 +294,7 @@ abbrev pub short_sub : ℕ → List (ℕ × List ℕ) → Held
 short_sub sub taken = sub_of three_link sub (short_port sub) []
     (record fresh { looks = length taken; found = nat_lt 0 (length taken); taken = taken })
 
--- the sub-VLs with what is left of the long message, and the numbers of short messages sent
+-- the sub-VLs with the rest of the long message, and the numbers of short messages sent
 abbrev pub subs_of : (left : List (List ℕ)) (first second : ℕ) → List Held
 subs_of left first second = long_sub left ∷ short_sub 1 (replicate first (0, 1 ∷ []))
     ∷ short_sub 2 (replicate second (0, 1 ∷ [])) ∷ []

@@ -8,7 +8,8 @@ ghost use Rattle.run_laws.specs.TrafficRow.{TakesItsWait, NeedsTraffic};
 ghost use Rattle.run_laws.specs.WorkedRun.{ComesInRun, NeedsARun, MeetsTheWait, NeedsItsPremises, ComesInTurn, WaitsItsTurn};
 
 /// An emitter, or its drain, releases the next fragment of a message within the bound of its link: one BAG and one
-/// lateness per sub-VL of the link that has a port, counted from the fragment before it, which is of one of these.
+/// lateness per sub-VL of the link that has a port, counted from the fragment before it, which belongs to such a
+/// sub-VL.
 ///
 /// A run (`AreRuns`) follows from the contracts of `Emitter::poll` (`run`, `plan`, `allowed`), for a ready emitter
 /// (`IsReady`), and of `Draining::poll` (`run`, `plan`, `allowed`, `accepted`). `open_tx` makes a ready emitter, and
@@ -18,7 +19,7 @@ pub fn next_in_run()
     ensures next { NextInRun }
     ensures ready { KeptReady }
 
-    // two polls of a drain, of which the first releases the second fragment
+    // two polls of a drain; the first releases the second fragment
     ensures worked { ComesInRun }
 
     // polls of an emitter with three sub-VLs
@@ -54,7 +55,7 @@ pub fn message_in_run()
     // a message that takes exactly its wait
     ensures worked { MeetsTheWait }
 
-    // the same of an emitter with three sub-VLs, of which the others send too
+    // a message that takes its wait, with an emitter of three sub-VLs that all send
     ensures in_turn { WaitsItsTurn }
 
     // a message that isn't accepted; a start before the last release; a queue that exceeds its capacity; a poll that
@@ -73,17 +74,17 @@ pub fn message_in_run()
 /// - A poll of the emitter that polls the queue of the sub-VL finds a message there while one that was accepted before
 ///   the time of the poll isn't wholly released (`AreFindingAll`). A drain needs no such premise.
 /// - Polls are timely from the start until the wait is over (`AreTimely`), the start isn't before the last release, the
-///   fragments sent so far begin those of the accepted list, and a network that carries the link is up after the polls,
-///   as for `message_in_run`.
+///   fragments sent so far begin the fragments of the accepted list, and a network that carries the link is up after
+///   the polls, as for `message_in_run`.
 pub fn traffic_in_run()
     ensures wait { TrafficInRun }
 
     // a message of an emitter with three sub-VLs that takes exactly its wait
     ensures in_turn { TakesItsWait }
 
-    // senders that aren't those of the plan; a shorter wait; a message that isn't accepted; a start before the last
-    // release; a sub-VL that owes a fragment at the start; a period that isn't kept; a message before the start; a poll
-    // that doesn't find the message; an emitter that sends another; networks that are down; a late poll
+    // senders that aren't the plan's; a shorter wait; a message that isn't accepted; a start before the last release; a
+    // sub-VL that owes a fragment at the start; a period that isn't kept; a message before the start; a poll that
+    // doesn't find the message; an emitter that sends another; networks that are down; a late poll
     ensures needed { NeedsTraffic }
 {}
 
@@ -92,8 +93,8 @@ pub fn traffic_in_run()
 ///
 /// That is, what `Full` says in the contract of `TxPort::send_slice` (`refused`, `Refuses`: the request found at least
 /// as many messages held and requests under way as the capacity) can't hold of a request that finds no more than there
-/// are: the accepted messages of which no fragment is released, and the requests of other ports that are under way.
-/// Premises, beside those of `traffic_in_run`, whose run this is:
+/// are: the accepted messages without a released fragment, and the requests of other ports that are under way.
+/// Premises, beside the premises of `traffic_in_run`, of the same run:
 ///
 /// - Each request that is under way counts as a message of its port at that time (`KeepPeriods`), so that a port has
 ///   one at most, and none sooner than its period after its last message.
@@ -104,8 +105,8 @@ pub fn never_full()
     // a request that takes the last place
     ensures worked { FillsItsQueue }
 
-    // senders that aren't those of the plan; a need that is one too small; a queue that is; a message that isn't
-    // accepted; a start before the last release; a sub-VL that owes a fragment at the start; a period that isn't kept;
-    // two threads; a poll that doesn't find the message; networks that are down; no poll
+    // senders that aren't the plan's; a need that is one too small; a queue that is; a message that isn't accepted; a
+    // start before the last release; a sub-VL that owes a fragment at the start; a period that isn't kept; two threads;
+    // a poll that doesn't find the message; networks that are down; no poll
     ensures needed { NeedsPlaces }
 {}

@@ -14,7 +14,7 @@ line_fault_number Extra = 4
 line_fault_number Long = 5
 line_fault_number Memory = 6
 
--- how many words the form of a first word has
+-- the number of words in the form that a first word begins
 abbrev pub form_len : List ℕ → Option ℕ
 form_len word =
     if is_send word then Some 3

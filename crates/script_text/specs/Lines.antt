@@ -12,7 +12,7 @@ abbrev pub after_feed : List ℕ → List ℕ
 after_feed [] = []
 after_feed (x ∷ xs) = if x == 10 then xs else after_feed xs
 
--- whether there is one
+-- true if the text has a line feed
 abbrev pub has_feed : List ℕ → Bool
 has_feed [] = false
 has_feed (x ∷ xs) = if x == 10 then true else has_feed xs
@@ -39,7 +39,7 @@ without_return xs =
 abbrev pub first_line : List ℕ → List ℕ
 first_line text = if has_feed text then without_return (before_feed text) else before_feed text
 
--- a text is a line, which is short enough, and what follows its end
+-- a text is a line, which is short enough, and the text after its end
 pub record Splits (text line : List ℕ) (left : Option (List ℕ)) : Type 0 where
   pub some : 0 < length text
   pub first : line ≡ first_line text

@@ -1,4 +1,4 @@
--- What a line without a fault says, and what is counted of the lines of a run.
+-- The meaning of a line without a fault, and the counts of a run's lines.
 use Rattle.std.specs.Prelude.{◌≡◌, ℕ, if◌then◌else◌, List, [], ◌∷◌, unwrap_or, None, ◌+◌, ◌≤◌, ⊤}
 use Rattle.script_text.specs.Command.{command_of, is_send, is_at, is_close, port_number, moment_of, link_number, sub_number, message_of}
 use Rattle.script_text.specs.Faults.{send_fault, at_fault, close_fault}
@@ -8,22 +8,22 @@ use Rattle.script_text.specs.declared.transcript.Outcome.{Outcome}
 use Rattle.script_text.specs.declared.transcript.Outcome.TheVariants.{Quiet, Accepted, Refused, Released, Closed}
 use Rattle.script_text.specs.declared.transcript.Summary.{Summary as Sums}
 
--- what the words after `send` say
+-- the meaning of the words after `send`
 abbrev pub said_send : List (List ℕ) → Line
 said_send (p ∷ m ∷ ws) = Send (unwrap_or (port_number p) 0) (unwrap_or (message_of m) [])
 said_send _ = Nothing
 
--- what the words after `at` say
+-- the meaning of the words after `at`
 abbrev pub said_at : List (List ℕ) → Line
 said_at (t ∷ ws) = At (unwrap_or (moment_of t) 0)
 said_at _ = Nothing
 
--- what the words after `close` say
+-- the meaning of the words after `close`
 abbrev pub said_close : List (List ℕ) → Line
 said_close (l ∷ s ∷ ws) = Close (unwrap_or (link_number l) 0) (unwrap_or (sub_number s) 0)
 said_close _ = Nothing
 
--- what the words of a command say
+-- the meaning of a command's words
 abbrev pub said_by : List (List ℕ) → Line
 said_by [] = Nothing
 said_by (w ∷ ws) =
@@ -32,7 +32,7 @@ said_by (w ∷ ws) =
     else if is_close w then said_close ws
     else Nothing
 
--- what a line says
+-- the meaning of a line
 abbrev pub meaning_of : List ℕ → Line
 meaning_of line = said_by (command_of line)
 

@@ -24,8 +24,7 @@ refusal_name NoPort = codes "NoPort"
 refusal_name NoSub = codes "NoSub"
 refusal_name TimeBack = codes "TimeBack"
 
--- what a line that was run adds to the transcript, if it was refused or closed a sub-VL, which accepted `total`
--- messages
+-- the note that a line adds to the transcript, if it was refused or closed a sub-VL, which accepted `total` messages
 unfoldable pub note_of : ℕ → Outcome → List ℕ
 note_of line (Became.Refused refusal) =
     codes "line " ++ decimal line ++ codes ": refused " ++ refusal_name refusal ++ 10 ∷ []
@@ -47,7 +46,7 @@ frame_line net e =
 unfoldable pub frame_lines : Net → List Entry → List ℕ
 frame_lines net es = flat_map (frame_line net) es
 
--- the lines of A, and then those of B
+-- the lines of A's frames, and then of B's
 abbrev pub streams : List Entry → List Entry → List ℕ
 streams a b = frame_lines A a ++ frame_lines B b
 

@@ -12,8 +12,7 @@ use std::marker::Model;
 
 const BUFFER_SIZE: usize = 4096;
 
-/// The bytes of a reader, read 4,096 at a time. Contracts see the bytes that are left, if those are
-/// known.
+/// The bytes of a reader, read 4,096 at a time. Contracts see the bytes that are left, if they are known.
 #[derive(Drop)]
 pub struct Bytes<R: Read + Drop> {
     reader: R,
@@ -77,7 +76,7 @@ impl<R: Read + Drop> Bytes<R> {
     }
 }
 
-// The bytes of a text before its first line feed.
+// Returns the bytes of a text before its first line feed.
 #[tactic(auto, using(crate::proofs::FeedLemmas::before_at))]
 fn until_feed(text: &[u8]) -> &[u8]
     ensures { result.now ≡ before_feed text.now }

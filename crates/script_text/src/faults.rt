@@ -1,11 +1,11 @@
-//! What is refused: the faults of a line and of a run, and the refusals of a line.
+//! The faults of a line and of a run, and the refusals of a line.
 ghost use Rattle.std.specs.Prelude.{◌≡◌};
 ghost use Rattle.script_text.specs.Faults.{line_fault_number};
 ghost use Rattle.script_text.specs.Transcript.{refusal_name, ends_writing};
 
 use thiserror::Error;
 
-/// Why a line has no meaning. `Display` prints the variant's name.
+/// The reasons for which a line has no meaning. `Display` prints the variant's name.
 #[derive(Clone, Copy, Debug, PartialEq, Eq, Error)]
 pub enum LineFault {
     /// The first word is unknown, or a word is missing.
@@ -29,7 +29,7 @@ pub enum LineFault {
 }
 
 impl LineFault {
-    /// The number of the fault: 1 for `Word` to 6 for `Memory`.
+    /// Returns the number of the fault: 1 for `Word` to 6 for `Memory`.
     pub fn number(self) -> u8
         ensures { result ≡ line_fault_number self }
     {
@@ -37,7 +37,7 @@ impl LineFault {
     }
 }
 
-/// Why a line was refused at run time.
+/// The reasons for which a line was refused at run time.
 #[derive(Clone, Copy, Debug, PartialEq, Eq)]
 pub enum Refusal {
     /// The message has no bytes.
@@ -59,7 +59,7 @@ pub enum Refusal {
 }
 
 impl Refusal {
-    /// Its name in a transcript.
+    /// Returns the refusal's name in a transcript.
     pub fn name(self) -> &'static str
         ensures { result.now ≡ refusal_name self }
     {
@@ -76,7 +76,7 @@ impl Refusal {
     }
 }
 
-/// Why a run ended before the end of its script. `Display` prints the message of the program.
+/// The reasons for which a run ended before the end of its script. `Display` prints the message of the program.
 #[derive(Clone, Copy, Debug, PartialEq, Eq, Error)]
 pub enum RunFault {
     /// A line, counted from 1, has a fault.
@@ -97,7 +97,7 @@ pub enum RunFault {
 }
 
 impl RunFault {
-    /// Whether the run stops writing after this fault.
+    /// Returns true if the run stops writing after this fault.
     pub fn ends_writing(self) -> bool
         ensures { result ≡ ends_writing self }
     {

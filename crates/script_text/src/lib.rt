@@ -1,4 +1,4 @@
-//! The text of scripts: what the lines of a script say, and the transcript of its run, the notes on its lines and the
+//! The text of scripts: the meaning of lines, and the transcript of a run, which has the notes on its lines and the
 //! lines of the frames of two networks.
 #![tactic(auto)]
 

@@ -9,8 +9,8 @@ use crate::line_text::LINE_LIMIT;
 use crate::words::{Message, next_word, number};
 use std::alloc::Global;
 
-/// What a line says: a port sends a message, one poll at a time in microseconds, the close of a sub-VL of
-/// a virtual link, or nothing, as a blank line and a comment do.
+/// The meaning of a line: a port sends a message, one poll at a time in microseconds, the close of a sub-VL of a
+/// virtual link, or nothing, as for a blank line and a comment.
 #[derive(Debug, Drop)]
 pub enum Line {
     Send { port: u16, bytes: Message },
@@ -19,7 +19,7 @@ pub enum Line {
     Nothing,
 }
 
-/// A line without the byte order mark that may stand before it.
+/// Returns a line without the byte order mark that may stand before it.
 fn after_mark(line: &[u8]) -> &[u8]
     ensures { result.now ≡ after_mark line.now }
 {

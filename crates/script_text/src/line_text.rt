@@ -12,7 +12,7 @@ use std::io::Read;
 /// The greatest length of a line, in bytes without its end.
 pub const LINE_LIMIT: usize = 20_000;
 
-/// What a reader has next.
+/// The next thing that a reader has: a line, a line over the limit, or the end of the text.
 #[derive(Clone, Copy, Debug, PartialEq, Eq)]
 pub enum Next {
     Line,
@@ -21,7 +21,7 @@ pub enum Next {
 }
 
 impl Next {
-    // A line, by its length in bytes.
+    // Returns `Line` or `Long` for a line, by its length in bytes.
     fn of_len(len: usize) -> Next
         ensures line { result ≡ Next.Line → len ≤ LINE_LIMIT }
         ensures long { result ≡ Next.Long → LINE_LIMIT < len }
@@ -35,7 +35,7 @@ impl Next {
     }
 }
 
-/// Why no line was read.
+/// The reasons for which no line was read.
 #[derive(Clone, Copy, Debug, PartialEq, Eq)]
 pub enum ReadFault {
     Read,

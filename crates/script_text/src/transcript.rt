@@ -14,7 +14,7 @@ use std::io::Write;
 // Two digits for each byte of a frame.
 const DIGITS: usize = 2 * GREATEST_FRAME;
 
-/// Writes the frames of network A, and then those of B.
+/// Writes the frames of network A, and then the frames of B.
 pub fn write_streams<W: Write>(writer: &mut W, a: &FrameLog, b: &FrameLog) -> Result<(), RunFault>
     ensures ok { OnOk result (Appends (W.contents writer.old) (W.contents writer.new)
         (streams a.now.handed b.now.handed)) }
@@ -101,8 +101,7 @@ pub enum Outcome {
     Closed(u64),
 }
 
-/// How many messages were accepted, how many lines were refused at run time, and how many frames
-/// were released.
+/// The number of accepted messages, of lines that were refused at run time, and of released frames.
 #[derive(Clone, Copy, Debug, PartialEq, Eq)]
 pub struct Summary {
     pub accepted: u64,
@@ -111,7 +110,7 @@ pub struct Summary {
 }
 
 impl Summary {
-    /// The counts after one more line.
+    /// Returns the counts after one more line.
     #[tactic(auto, unfolding(crate::specs::Meaning::counted))]
     pub fn count(self, outcome: Outcome) -> Summary
         requires accepted { self.accepted < 2 ^ 63 }

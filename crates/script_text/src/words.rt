@@ -12,7 +12,8 @@ fn is_blank(byte: u8) -> bool
     byte == b' ' || byte == b'\t'
 }
 
-// The index of the first byte that is a blank or, if `blank` is false, that is none; or the length.
+// Returns the index of the first blank, or of the first byte that isn't a blank if `blank` is false; the length if
+// there is none.
 fn first_at(line: &[u8], blank: bool) -> usize
     ensures within { result ≤ length line.now }
     ensures before { (k : ℕ) → k < result → is_blank_byte (slice_index line.now k) ≡ not blank }
@@ -26,7 +27,7 @@ fn first_at(line: &[u8], blank: bool) -> usize
     line.len()
 }
 
-/// The first word of a line and what follows it, if there is a word.
+/// Returns the first word of a line and the rest after it, if there is a word.
 #[tactic(auto, using(crate::proofs::WordLemmas::next_none))]
 pub fn next_word(line: &[u8]) -> Option<(&[u8], &[u8])>
     ensures { MatchOption result (words_of line.now ≡ []) (λ p. words_of line.now ≡ p.0.now ∷ words_of p.1.now) }
@@ -57,7 +58,7 @@ pub fn number(word: &[u8], most: u64) -> Option<u64>
     if value <= most { Some(value) } else { None }
 }
 
-// Whether a word is one digit or more.
+// Returns true if a word is one digit or more.
 fn is_numeral(word: &[u8]) -> bool
     ensures { result ≡ is_numeral_text word.now }
 {
@@ -70,7 +71,7 @@ fn has_digits_alone(word: &[u8]) -> bool
     word.iter().all(|byte| byte.is_ascii_digit())
 }
 
-// The number with one more digit at its end, if it fits.
+// Returns the number with one more digit at its end, if it fits.
 fn with_digit(value: u64, digit: u8) -> Option<u64>
     ensures { let next = value * 10 + (digit - 48) in MatchOption result (2 ^ 64 ≤ next) (λ sum. sum ≡ next) }
 {

@@ -23,11 +23,12 @@ pub record IsPlannedLink (own : ℕ) (planned : LinkPlan) (link : LinkState) : T
   pub plan : link.plan ≡ planned
   pub of : IsLinkOfPlan own planned link.pace link.subs
 
--- what a sub-VL took, and what it has left
+-- the messages taken from a sub-VL's queue, and the frames that are left of the last one
 abbrev pub progress_of : Held → Progress
 progress_of held = record { taken = taken_by held; left = held.left }
 
--- an emitter has the plan, its sub-VLs have taken and left the same, and both networks hold what was sent to them
+-- an emitter has the plan, its sub-VLs have the same messages taken and fragments left, and both networks hold the
+-- frames sent to them
 pub record MatchesTx (es : EndSystem) (tx : Tx) : Type 0 where
   pub plan : tx.plan ≡ es.plan
   pub count : length tx.links ≡ length es.plan.links
@@ -73,8 +74,8 @@ pub record Matches (accepted : Messages) (es : EndSystem) (bench : AtBench) : Ty
   pub emitter : MatchesTx es bench.tx
   pub own : HaveSent accepted bench.ports
 
--- A port sent a message: its outcome, by the answer of its queue, and the port, of which only the sender's messages
--- and its count of requests changed; it requested one slot at most.
+-- A port sent a message. The queue's answer decides the outcome. Of the port only the sender's messages and its count
+-- of requests change; it requested one slot at most.
 pub record Sends (old : PortView) (bytes : List ℕ) (new : PortView) (outcome : Outcome) : Type 0 where
   pub answer : Answer
   pub is : outcome ≡ passed_on (length_refusal old.plan (length bytes)) answer
@@ -86,7 +87,7 @@ pub record Sends (old : PortView) (bytes : List ℕ) (new : PortView) (outcome :
   pub calls : new.sender.calls ≡ old.sender.calls
   pub asks : new.sender.asks ≤ old.sender.asks + 1
 
--- the plan is the same, what was closed stays closed with the same total, and a line changes no total but that of
+-- the plan is the same, a closed queue stays closed with the same total, and a line changes no total but the total of
 -- the queue that it closes
 pub record ClosesOnly (line : Line) (old new : Tx) : Type 0 where
   pub plan : new.plan ≡ old.plan
@@ -95,18 +96,18 @@ pub record ClosesOnly (line : Line) (old new : Tx) : Type 0 where
   pub only : (place sub : ℕ) → (ClosesAt old.plan line place sub → ⊥)
       → total_in new.links place sub ≡ total_in old.links place sub
 
--- no queue is closed but those that these lines close
+-- no queue is closed but the queues that these lines close
 abbrev pub OthersAreOpen : Tx → List AnsweredLine → Type 0
 OthersAreOpen tx turns = (place sub : ℕ)
     → All (λ (turn : AnsweredLine). ClosesAt tx.plan (meaning_of turn.line) place sub → ⊥) turns
     → total_in tx.links place sub ≡ None
 
--- the total that a close reported is that of its sub-VL's queue
+-- the total that a close reported is the total of its sub-VL's queue
 abbrev pub TellsTotal : Tx → Line → Answer → Type 0
 TellsTotal tx line answer = (place sub : ℕ) → ClosesAt tx.plan line place sub
     → total_in tx.links place sub ≡ Some (told_by answer)
 
--- so it is of each close among some lines
+-- the total that each close among some lines reported is the total of its sub-VL's queue
 abbrev pub AreTold : Tx → List AnsweredLine → Type 0
 AreTold tx turns = All (λ (turn : AnsweredLine). TellsTotal tx (meaning_of turn.line) turn.answer) turns
 

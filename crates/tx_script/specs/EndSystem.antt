@@ -1,4 +1,4 @@
--- An end system as a transcript shows it: what was taken of each sub-VL and what is left, no queue.
+-- An end system as a transcript shows it: the messages taken of each sub-VL and the frames left, no queue.
 use Rattle.std.specs.Prelude.{ℕ, ◌≡◌, ◌⊎◌, List, [], ◌∷◌, ◌++◌, length, true}
 use Rattle.afdx_plan.specs.Config.{Plan, link_plan_at}
 use Rattle.afdx_plan.specs.declared.link_plan.LinkPlan.{LinkPlan}

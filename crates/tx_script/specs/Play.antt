@@ -40,8 +40,8 @@ abbrev pub told_by : Answer → ℕ
 told_by (tells total) = total
 told_by _ = 0
 
--- What may be answered to a line. A queue may take a message, be closed or be full. What a close
--- reports is checked at the end of a run (`AreTotals`).
+-- A possible answer to a line. A queue may take a message, be closed or be full. The total that a close reports is
+-- checked at the end of a run (`AreTotals`).
 abbrev pub IsAnswer : EndSystem → Line → Answer → Type 0
 IsAnswer es (At moment) answer = es.moment ≤ moment → HasPolled moment es (left_by es answer)
 IsAnswer es _ answer = Unit {0}
@@ -50,7 +50,7 @@ IsAnswer es _ answer = Unit {0}
 abbrev pub place_of : Plan → ℕ → Option ℕ
 place_of plan id = position (λ (port : PortPlan). port.id.0 == id) plan.ports
 
--- what a queue answers; full if the answer is no queue's
+-- a queue's answer; full if the answer is no queue's
 abbrev pub queued : Answer → Outcome
 queued takes = Became.Accepted
 queued closes = Became.Refused Closed
@@ -120,12 +120,12 @@ accepted_after es (Send port bytes) answer accepted =
     with_messages (place_of es.plan port) (added (outcome_of es (Send port bytes) answer) bytes) accepted
 accepted_after es _ answer accepted = accepted
 
--- a line, and what queues answered
+-- a line, and the answer of the queues
 pub record AnsweredLine : Type 0 where
   pub line : List ℕ
   pub answer : Answer
 
--- what is known after some lines
+-- the state after some lines
 pub record Play : Type 0 where
   pub es : EndSystem
   pub accepted : Messages
@@ -133,7 +133,7 @@ pub record Play : Type 0 where
   pub notes : List ℕ
   pub summary : Sums
 
--- one line more
+-- the state after one more line
 abbrev pub play_line : AnsweredLine → Play → Play
 play_line turn st = record {
   es = after st.es (meaning_of turn.line) turn.answer;
@@ -143,7 +143,7 @@ play_line turn st = record {
   summary = counted (outcome_of st.es (meaning_of turn.line) turn.answer) st.summary;
 }
 
--- what is known after these lines, the last of which comes first
+-- the state after some lines, the latest first
 abbrev pub play : Plan → List AnsweredLine → Play
 play plan [] = record {
   es = fresh plan;
@@ -154,7 +154,7 @@ play plan [] = record {
 }
 play plan (turn ∷ before) = play_line turn (play plan before)
 
--- the whole text: the notes, the lines of network A's frames and then those of B's
+-- the whole text: the notes, the lines of network A's frames, and the lines of B's
 abbrev pub transcript : Play → List ℕ
 transcript st = st.notes ++ streams (handed A st.es) (handed B st.es)
 
@@ -162,8 +162,8 @@ transcript st = st.notes ++ streams (handed A st.es) (handed B st.es)
 abbrev pub found : EndSystem → Sents
 found es k s = (es.subs k s).taken
 
--- Polls found what was sent: each message is of a port of the sub-VL, and the messages of each port
--- are the first of those of its accepted lines.
+-- Polls found the messages that were sent: each belongs to a port of the sub-VL, and the messages found of each port
+-- are the first messages of its accepted lines.
 pub record FindsFirst (st : Play) : Type 0 where
   pub own : AreAllowed st.es.plan (found st.es)
   pub first : (place : ℕ) → place < length st.es.plan.ports
@@ -173,7 +173,7 @@ pub record FindsFirst (st : Play) : Type 0 where
 abbrev pub is_on : ℕ → ℕ → PortPlan → Bool
 is_on vl sub port = nat_eq port.vl.0 vl && nat_eq port.sub sub
 
--- how many messages of the first `many` ports of a plan were accepted on a sub-VL
+-- the number of accepted messages, on a sub-VL, of the first `many` ports of a plan
 abbrev pub accepted_among : Plan → Messages → (vl sub many : ℕ) → ℕ
 accepted_among plan accepted vl sub zero = 0
 accepted_among plan accepted vl sub (suc k) =
@@ -185,7 +185,7 @@ abbrev pub ClosesAt : Plan → Line → (place sub : ℕ) → Type 0
 ClosesAt plan (Close vl closed) place sub = IsSubAt plan vl sub place × (sub ≡ closed)
 ClosesAt plan _ place sub = ⊥
 
--- the total that a close reports is how many messages were accepted on its sub-VL in the whole run
+-- the total that a close reports is the number of messages accepted on its sub-VL in the whole run
 abbrev pub IsTotal : Play → AnsweredLine → Type 0
 IsTotal st turn = (place sub : ℕ) → ClosesAt st.es.plan (meaning_of turn.line) place sub
     → told_by turn.answer ≡ accepted_among st.es.plan st.accepted (link_plan_at st.es.plan.links place).id.0 sub

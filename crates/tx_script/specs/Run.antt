@@ -1,4 +1,4 @@
--- What a run of a script leaves.
+-- The end of a run of a script, its networks and its text.
 use Rattle.std.specs.Prelude.{◌≡◌, ℕ, ◌+◌, ◌<◌, ◌≤◌, List, [], ◌∷◌, ◌++◌, length, Option, Result, Ok, Err, ⊤, true, false}
 use Rattle.std.specs.Io.KnownBytes.{Appends}
 use Rattle.afdx_plan.specs.Config.{Plan}
@@ -16,7 +16,7 @@ use Rattle.tx_script.specs.Play.{AnsweredLine, Play, play, transcript, IsAnswer,
 use Rattle.tx_script.specs.declared.script.Played.{Played}
 use Rattle.tx_script.specs.declared.script.Played.TheVariants.{Whole, Broken}
 
--- what these lines, the last of which comes first, leave of a text
+-- the rest of a text after some lines, the latest first
 abbrev pub left_after : List ℕ → List AnsweredLine → List ℕ
 left_after text [] = text
 left_after text (turn ∷ before) = after_feed (left_after text before)
@@ -28,24 +28,24 @@ pub record BeginsWith (text : List ℕ) (st : Play) (turn : AnsweredLine) : Type
   pub faultless : IsFaultless turn.line
   pub may : IsAnswer st.es (meaning_of turn.line) turn.answer
 
--- a text begins with these lines, the last of which comes first
+-- a text begins with some lines, listed with the latest first
 abbrev pub AreLines : Plan → List ℕ → List AnsweredLine → Type 0
 AreLines plan text [] = Unit {0}
 AreLines plan text (turn ∷ before) =
     BeginsWith (left_after text before) (play plan before) turn × AreLines plan text before
 
--- these lines of a text were run
+-- lines of a text that were run
 pub record AreRun (plan : Plan) (text : List ℕ) (turns : List AnsweredLine) : Type 0 where
   pub lines : AreLines plan text turns
   pub finds : FindsFirst (play plan turns)
   pub totals : AreTotals (play plan turns) turns
 
--- these lines of a text were run, and what was written is their transcript
+-- lines of a text that were run, and whose transcript was written
 pub record HasRun (plan : Plan) (text : List ℕ) (old new : Option (List ℕ)) (turns : List AnsweredLine) : Type 0 where
   pub run : AreRun plan text turns
   pub wrote : Appends old new (transcript (play plan turns))
 
--- some lines of a text were run, and what was written begins their transcript
+-- some lines of a text were run, and the written text begins their transcript
 pub record HasBegun (plan : Plan) (text : List ℕ) (old new : Option (List ℕ)) : Type 0 where
   pub turns : List AnsweredLine
   pub run : AreRun plan text turns
@@ -54,7 +54,7 @@ pub record HasBegun (plan : Plan) (text : List ℕ) (old new : Option (List ℕ)
   pub begins : transcript (play plan turns) ≡ written ++ unwritten
   pub wrote : Appends old new written
 
--- a run stopped after some lines of a text: what is known of the lines, of the rest of the text, and of the play
+-- a run stopped after some lines of a text: the knowledge of the lines, of the rest of the text, and of the play
 pub record StopsAt (plan : Plan) (text : List ℕ) (Ran : List AnsweredLine → Type 0) (At : List ℕ → Play → Type 0)
     : Type 0 where
   pub turns : List AnsweredLine
@@ -74,11 +74,11 @@ Ends plan text Ran Begun (Err Read) = StopsAt plan text Ran (λ rest st. st.coun
 Ends plan text Ran Begun (Err Write) = ⊤
 Ends plan text Ran Begun (Err Memory) = Begun
 
--- what the run of a text leaves, by its end
+-- the text that a run leaves, by its end
 abbrev pub Leaves : Plan → List ℕ → (old new : Option (List ℕ)) → Result Sums RunFault → Type 0
 Leaves plan text old new result = Ends plan text (HasRun plan text old new) (HasBegun plan text old new) result
 
--- these lines of a text were run, and these lists were sent: the streams that were written
+-- lines of a text that were run, with the lists sent to the networks: the streams that were written
 pub record HasPlayed (plan : Plan) (text : List ℕ) (old new : Option (List ℕ)) (a b : List Entry)
     (turns : List AnsweredLine) : Type 0 where
   pub ran : HasRun plan text old new turns
@@ -90,8 +90,8 @@ abbrev pub IsWhole : Result Sums RunFault → Type 0
 IsWhole (Ok sums) = ⊤
 IsWhole (Err fault) = ends_writing fault ≡ false
 
--- what the run of a text leaves: all of its transcript, with these networks, or what was written before
--- the writer or an allocation failed
+-- the outcome of running a text: all of its transcript, with these networks, or the text written before the writer or
+-- an allocation failed
 abbrev pub Plays : Plan → List ℕ → (old new : Option (List ℕ)) → Played → Type 0
 Plays plan text old new (Whole ended a b) =
     IsWhole ended × Ends plan text (HasPlayed plan text old new a.handed b.handed) ⊥ ended

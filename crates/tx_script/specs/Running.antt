@@ -26,7 +26,7 @@ pub record SaysLine (text : List ℕ) (left : Option (List ℕ)) (said : Said) :
   pub said_is : said ≡ meaning_of (first_line text)
   pub behind : left ≡ Some (after_feed text)
 
--- what the next line of a text says, which has this number
+-- the meaning of the next line of a text, line number `line`
 abbrev pub ReadsLine : (text : List ℕ) → (left : Option (List ℕ)) → (line : ℕ) → Result (Option Said) RunFault
     → Type 0
 ReadsLine text left line (Ok None) = text ≡ []
@@ -38,7 +38,7 @@ ReadsLine text left line (Err Read) = ⊤
 ReadsLine text left line (Err Write) = ⊥
 ReadsLine text left line (Err Memory) = ⊤
 
--- these lines of a text were run, their notes are written, and a bench matches
+-- lines of a text that were run, with their notes written, and a bench that matches
 pub record Running (plan : Plan) (text : List ℕ) (old new : Option (List ℕ)) (bench : AtBench)
     (turns : List AnsweredLine) : Type 0 where
   pub lines : AreLines plan text turns
@@ -54,7 +54,7 @@ pub record Halted (plan : Plan) (text : List ℕ) (old new : Option (List ℕ)) 
   pub ran : Running plan text old new before turns
   pub since : OnlyTakes before bench
 
--- what the lines of a text leave, by their end, whose notes alone are written
+-- the state that the lines of a text leave, by their end; only their notes are written
 abbrev pub Stops : Plan → List ℕ → (old new : Option (List ℕ)) → AtBench → Result Sums RunFault → Type 0
 Stops plan text old new bench result =
     Ends plan text (Running plan text old new bench) (Halted plan text old new bench) result
@@ -76,7 +76,7 @@ abbrev pub Finishes : Result Sums RunFault → AtBench → (old new : Option (Li
 Finishes ended bench old new (Whole told a b) = (told ≡ ended) × HandsOver bench a b old new
 Finishes ended bench old new (Broken told) = told ≡ Write
 
--- what is written after a fault: the streams, or none
+-- the text written after a fault: the streams, or nothing
 abbrev pub EndsEarly : RunFault → AtBench → (old new : Option (List ℕ)) → Played → Type 0
 EndsEarly fault bench old new played =
     ((ends_writing fault ≡ false) × Finishes (Err fault) bench old new played)

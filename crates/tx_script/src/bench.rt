@@ -33,7 +33,7 @@ impl Model for Bench {
 impl Bench {
     ghost use Rattle.script_text.specs.declared.faults.RunFault.TheVariants as RunFault;
 
-    /// A fresh bench. The only fault is Memory.
+    /// Opens a bench. The only fault is `Memory`.
     #[tactic(auto, using(std::proofs::Common::arith))]
     pub fn open(alloc: Global, config: Config) -> Result<Bench, RunFault>
         ensures fresh { IfOk result (λ bench. IsFreshBench config bench) }
@@ -47,8 +47,8 @@ impl Bench {
         }
     }
 
-    /// The two networks, with the frames sent to them. All ports are taken back first, so all that was
-    /// accepted is known.
+    /// Returns the two networks, with the frames sent to them. All ports are taken back first, so all that was accepted
+    /// is known.
     #[tactic(auto, using(crate::proofs::Finding::none_missing))]
     pub fn into_networks(self) -> (FrameLog, FrameLog)
         ensures a { result.0.handed ≡ self.tx.lines.a }

@@ -1,9 +1,9 @@
-//! Running a script of an end system.
+//! Runs of a script over an end system.
 //!
 //! [`run_script`] takes a plan and the lines of a script, obeys them one after the other, and writes the
 //! transcript: the notes on lines, which are counted from 1, then the frames of network A, in their order, and
-//! those of B, each with its time and its bytes in hexadecimal. `docs/guide/program.md` has the lines, notes and
-//! ends of a run.
+//! the frames of B, each with its time and its bytes in hexadecimal. `docs/guide/program.md` has the lines, notes
+//! and ends of a run.
 //!
 //! # An example
 //!
@@ -21,7 +21,7 @@
 //! at 998
 //! ```
 //!
-//! The third message finds the queue full. The poll at 0 releases the first message. The one at 999
+//! The third message finds the queue full. The poll at 0 releases the first message. The poll at 999
 //! releases nothing, since the gap of a millisecond isn't over. After the close nothing is accepted, no
 //! port has the identifier 11, and time doesn't go back:
 //!

@@ -10,7 +10,7 @@ use script_text::{
 use std::alloc::Global;
 use std::io::{Read, Write};
 
-/// How many lines a script may have.
+/// The number of lines that a script may have.
 pub const LINES_LIMIT: u64 = 1_000_000;
 
 /// Converts a fault of a line to a fault of the run.
@@ -23,7 +23,7 @@ fn at_line(line: u64, fault: LineFault) -> RunFault
     }
 }
 
-/// What the next line of a reader says, line number `line`; `None` at the end.
+/// Reads line number `line` and returns its meaning, or `None` at the end.
 fn next_said<R: Read + Drop>(
     alloc: Global,
     bytes: &mut Bytes<R>,

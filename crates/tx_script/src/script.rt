@@ -11,7 +11,7 @@ use script_text::{Bytes, RunFault, Summary, write_streams};
 use std::alloc::Global;
 use std::io::{Read, Write};
 
-/// How a run of a script ended, and the networks with their frames.
+/// The end of a run of a script, and the networks with their frames.
 #[derive(Drop)]
 pub enum Played {
     /// The transcript is written whole: the script was run to its end, or up to a line's fault, `Lines`
@@ -36,8 +36,8 @@ fn write_handed<W: Write>(writer: &mut W, bench: Bench, ended: Result<Summary, R
     }
 }
 
-/// Writes the streams after a fault, unless it ends the writing. The ports are taken back in both cases:
-/// only then are the noted totals known.
+/// Writes the streams after a fault, if the fault doesn't end the writing. The ports are taken back in both cases: only
+/// then are the noted totals known.
 #[tactic(auto, using(std::proofs::Common::arith))]
 fn end_early<W: Write>(writer: &mut W, bench: Bench, fault: RunFault) -> Played
     ensures { EndsEarly fault bench (W.contents writer.old) (W.contents writer.new) result }
@@ -71,13 +71,13 @@ pub fn play_script<R: Read + Drop, W: Write>(
     }
 }
 
-/// Runs a script over a plan and two networks in memory, and writes its transcript: the
-/// notes on lines that were refused or closed a sub-VL, in their order, then the frames of network A,
-/// then those of B. A script has at most 1,000,000 lines of at most 20,000 bytes each.
+/// Runs a script over a plan and two networks in memory, and writes its transcript: the notes on lines that were
+/// refused or closed a sub-VL, in their order, the frames of network A, and the frames of B. A script has at most
+/// 1,000,000 lines of at most 20,000 bytes each.
 ///
-/// A line's fault, `Lines` and `Read` end the run there: the lines before it were run, and their notes
-/// and frames are written. `Write`, when the writer failed, and `Memory` end the writing; what was
-/// written before `Memory` begins the transcript of lines that were run.
+/// A line's fault, `Lines` and `Read` end the run there: the lines before it were run, and their notes and frames are
+/// written. `Write`, when the writer failed, and `Memory` end the writing; what was written before `Memory` begins the
+/// transcript of lines that were run.
 pub fn run_script<R: Read + Drop, W: Write>(
     alloc: Global,
     config: Config,
