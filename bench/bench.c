@@ -66,13 +66,13 @@ static double send_and_poll(struct side *side, const struct work *work) {
 
 /* Sends until the queues are full, and then polls until they are empty: sends are timed, or frames. */
 static double in_batches(struct side *side, const struct work *work, bool times_sends) {
-    unsigned ports = work->plan.ports, batch = work->plan.capacity * work->plan.links;
+    unsigned ports = work->plan.ports, batch = work->plan.capacity * work->plan.links, polls = work->plan.capacity * pieces_of(work);
     double sum = 0;
     for (unsigned k = 0; k < work->units; k += batch) {
         double begun = now_ns();
         for (unsigned j = 0; j < batch; j++) send_bytes(side, j % ports, message, work->length);
         double sent = now_ns();
-        for (unsigned j = 0; j < work->plan.capacity; j++) poll_due(side);
+        for (unsigned j = 0; j < polls; j++) poll_due(side);
         sum += times_sends ? sent - begun : now_ns() - sent;
     }
     return sum / ((work->units + batch - 1) / batch * batch);
@@ -84,6 +84,20 @@ static double sends(struct side *side, const struct work *work) {
 
 static double frames_due(struct side *side, const struct work *work) {
     return in_batches(side, work, false);
+}
+
+/* One poll of links that each begin a message: its other pieces aren't timed. */
+static double begun_due(struct side *side, const struct work *work) {
+    unsigned links = work->plan.links, pieces = pieces_of(work);
+    double sum = 0;
+    for (unsigned k = 0; k < work->units; k++) {
+        for (unsigned l = 0; l < links; l++) send_bytes(side, l, message, work->length);
+        double begun = now_ns();
+        poll_due(side);
+        sum += now_ns() - begun;
+        for (unsigned p = 1; p < pieces; p++) poll_due(side);
+    }
+    return sum / work->units;
 }
 
 static double none_due(struct side *side, const struct work *work) {
@@ -99,7 +113,7 @@ static double by_lwip(struct side *side, const struct work *work) {
     if (!side->hand) return send_and_poll(side, work);
     unsigned pieces = pieces_of(work);
     double begun = now_ns();
-    for (unsigned k = 0; k < work->units; k++) want(lwip_send(message, work->length) == pieces, "other frames of lwIP");
+    for (unsigned k = 0; k < work->units; k++) want(lwip_send(message, work->length, work->plan.sums) == pieces, "other frames of lwIP");
     return (now_ns() - begun) / work->units;
 }
 #endif
@@ -147,26 +161,37 @@ static double in_threads(struct side *side, const struct work *work) {
 }
 
 static const struct work WORKS[] = {
-    {"send and due poll, 1 byte", {1, 1518, 2, 1, GREATEST}, 1, 0, send_and_poll, 2048, 20},
-    {"send and due poll, 100 bytes", {1, 1518, 2, 1, GREATEST}, 100, 0, send_and_poll, 2048, 20},
-    {"send and due poll, 1,471 bytes", {1, 1518, 2, 1, GREATEST}, 1471, 0, send_and_poll, 1024, 20},
-    {"send and 6 due polls, 8,192 bytes", {1, 1518, 2, 1, GREATEST}, 8192, 0, send_and_poll, 256, 16},
-    {"send of 1 byte", {1, 1518, 256, 1, GREATEST}, 1, 0, sends, 2048, 20},
-    {"frame of 60 bytes, 64 links due", {64, 1518, 4, 64, GREATEST}, 1, 0, frames_due, 2048, 20},
-    {"frame of 1,514 bytes, 64 links due", {64, 1518, 4, 64, GREATEST}, 1471, 0, frames_due, 1024, 10},
-    {"poll of 64 links, none due", {64, 1518, 4, 64, GREATEST}, 1, 0, none_due, 2048, 20},
-    {"message, 1 link, 1 port", {1, 1518, 4, 1, GREATEST}, 1, 0, send_and_poll, 2048, 20},
-    {"message, 16 links, 64 ports", {16, 1518, 4, 64, GREATEST}, 1, 0, send_and_poll, 2048, 20},
-    {"message, 64 links, 256 ports", {64, 1518, 4, 256, GREATEST}, 1, 0, send_and_poll, 2048, 20},
-    {"message, 1 sender in a thread", {1, 1518, 256, 1, GREATEST}, 1, 1, in_threads, 102400, 1},
-    {"message, 2 senders in threads", {1, 1518, 256, 2, GREATEST}, 1, 2, in_threads, 102400, 1},
-    {"message, 4 senders in threads", {1, 1518, 256, 4, GREATEST}, 1, 4, in_threads, 102400, 1},
-    {"message, 16 senders in threads", {1, 1518, 256, 16, GREATEST}, 1, 16, in_threads, 102400, 1},
+    {"send and due poll, 1 byte", {1, 1518, 2, 1, GREATEST, false}, 1, 0, send_and_poll, 2048, 20},
+    {"send and due poll, 100 bytes", {1, 1518, 2, 1, GREATEST, false}, 100, 0, send_and_poll, 2048, 20},
+    {"send and due poll, 1,471 bytes", {1, 1518, 2, 1, GREATEST, false}, 1471, 0, send_and_poll, 1024, 20},
+    {"send and 6 due polls, 8,192 bytes", {1, 1518, 2, 1, GREATEST, false}, 8192, 0, send_and_poll, 256, 16},
+    {"send of 1 byte", {1, 1518, 256, 1, GREATEST, false}, 1, 0, sends, 2048, 20},
+    {"send of 1 byte, checksum", {1, 1518, 256, 1, GREATEST, true}, 1, 0, sends, 2048, 20},
+    {"send of 100 bytes, checksum", {1, 1518, 256, 1, GREATEST, true}, 100, 0, sends, 2048, 20},
+    {"send of 1,471 bytes, checksum", {1, 1518, 256, 1, GREATEST, true}, 1471, 0, sends, 1024, 20},
+    {"send of 8,192 bytes", {1, 1518, 16, 1, GREATEST, false}, 8192, 0, sends, 256, 16},
+    {"send of 8,192 bytes, checksum", {1, 1518, 16, 1, GREATEST, true}, 8192, 0, sends, 256, 16},
+    {"frame of 60 bytes, 64 links due", {64, 1518, 4, 64, GREATEST, false}, 1, 0, frames_due, 2048, 20},
+    {"frame of 1,514 bytes, 64 links due", {64, 1518, 4, 64, GREATEST, false}, 1471, 0, frames_due, 1024, 10},
+    {"poll of 64 links, none due", {64, 1518, 4, 64, GREATEST, false}, 1, 0, none_due, 2048, 20},
+    {"none due, checksums", {64, 1518, 4, 64, GREATEST, true}, 1, 0, none_due, 2048, 20},
+    {"64 links begin 8,192 bytes", {64, 1518, 2, 64, GREATEST, false}, 8192, 0, begun_due, 16, 16},
+    {"64 links begin, checksums", {64, 1518, 2, 64, GREATEST, true}, 8192, 0, begun_due, 16, 16},
+    {"message, 1 link, 1 port", {1, 1518, 4, 1, GREATEST, false}, 1, 0, send_and_poll, 2048, 20},
+    {"message, 16 links, 64 ports", {16, 1518, 4, 64, GREATEST, false}, 1, 0, send_and_poll, 2048, 20},
+    {"message, 64 links, 256 ports", {64, 1518, 4, 256, GREATEST, false}, 1, 0, send_and_poll, 2048, 20},
+    {"message, 1 sender in a thread", {1, 1518, 256, 1, GREATEST, false}, 1, 1, in_threads, 102400, 1},
+    {"message, 2 senders in threads", {1, 1518, 256, 2, GREATEST, false}, 1, 2, in_threads, 102400, 1},
+    {"message, 4 senders in threads", {1, 1518, 256, 4, GREATEST, false}, 1, 4, in_threads, 102400, 1},
+    {"message, 16 senders in threads", {1, 1518, 256, 16, GREATEST, false}, 1, 16, in_threads, 102400, 1},
 #ifdef WITH_LWIP
-    {"lwIP: 1 byte", {1, 1518, 2, 1, GREATEST}, 1, 0, by_lwip, 2048, 20},
-    {"lwIP: 100 bytes", {1, 1518, 2, 1, GREATEST}, 100, 0, by_lwip, 2048, 20},
-    {"lwIP: 1,471 bytes", {1, 1518, 2, 1, GREATEST}, 1471, 0, by_lwip, 1024, 20},
-    {"lwIP: 8,192 bytes", {1, 1518, 2, 1, GREATEST}, 8192, 0, by_lwip, 256, 16},
+    {"lwIP: 1 byte", {1, 1518, 2, 1, GREATEST, false}, 1, 0, by_lwip, 2048, 20},
+    {"lwIP: 100 bytes", {1, 1518, 2, 1, GREATEST, false}, 100, 0, by_lwip, 2048, 20},
+    {"lwIP: 1,471 bytes", {1, 1518, 2, 1, GREATEST, false}, 1471, 0, by_lwip, 1024, 20},
+    {"lwIP: 8,192 bytes", {1, 1518, 2, 1, GREATEST, false}, 8192, 0, by_lwip, 256, 16},
+    {"lwIP: 1 byte, checksum", {1, 1518, 2, 1, GREATEST, true}, 1, 0, by_lwip, 2048, 20},
+    {"lwIP: 1,471 bytes, checksum", {1, 1518, 2, 1, GREATEST, true}, 1471, 0, by_lwip, 1024, 20},
+    {"lwIP: 8,192 bytes, checksum", {1, 1518, 2, 1, GREATEST, true}, 8192, 0, by_lwip, 256, 16},
 #endif
 };
 
@@ -239,7 +264,7 @@ static void handle_alone(unsigned rounds) {
     enum { CALLS = 200000 };
     static struct side sides[2];
     double least = 0;
-    open_both(sides, (struct plan){1, 1518, 2, 1, GREATEST});
+    open_both(sides, (struct plan){1, 1518, 2, 1, GREATEST, false});
     for (unsigned k = 0; k < rounds; k++) {
         uint64_t count = 0;
         double begun = now_ns();
@@ -256,7 +281,7 @@ static void distribution(unsigned polls) {
     static struct side sides[2];
     double *times = malloc(polls * sizeof *times);
     want(times, "no memory");
-    open_both(sides, (struct plan){64, 1518, 2, 64, GREATEST});
+    open_both(sides, (struct plan){64, 1518, 2, 64, GREATEST, false});
     for (int s = 0; s < 2; s++) {
         for (unsigned k = 0; k < polls; k++) {
             for (unsigned l = 0; l < 64; l++) send_bytes(&sides[s], l, message, 1471);

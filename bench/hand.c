@@ -26,9 +26,10 @@ struct port {
     unsigned link;
     size_t max;
     struct sender sender;
-    /* the headers up to the UDP ports, zeros where each frame has its own, and the sum of the words of its IPv4 header */
+    /* the headers up to the UDP ports, zeros where each frame has its own, and the sums of the words of its IPv4 header, and
+       of its UDP pseudo header and ports without the lengths */
     uint8_t head[HAND_HEAD];
-    uint32_t sum;
+    uint32_t sum, udp_sum;
 };
 
 /* A network: the frames of the last poll. */
@@ -74,10 +75,12 @@ static void write_head(struct port *port, uint16_t end_system, uint16_t vl, unsi
     put16(port->head + 27, end_system);
     put16(port->head + 32, vl);
     put16(port->head + 34, source);
+    port->udp_sum = 17;
     for (int k = 14; k < 34; k += 2) port->sum += (uint32_t)port->head[k] << 8 | port->head[k + 1];
+    for (int k = 26; k < 38; k += 2) port->udp_sum += (uint32_t)port->head[k] << 8 | port->head[k + 1];
 }
 
-struct hand *hand_open(uint16_t end_system, unsigned links, unsigned lmax, unsigned capacity, unsigned ports, size_t max) {
+struct hand *hand_open(uint16_t end_system, unsigned links, unsigned lmax, unsigned capacity, unsigned ports, size_t max, bool sums) {
     struct hand *it = aligned_alloc(128, (sizeof *it + 127) / 128 * 128);
     if (!it) return NULL;
     memset(it, 0, sizeof *it);
@@ -91,7 +94,7 @@ struct hand *hand_open(uint16_t end_system, unsigned links, unsigned lmax, unsig
         open_queue(&link->queue, capacity, max);
     }
     for (unsigned k = 0; k < ports; k++) {
-        it->port[k] = (struct port){.link = k % links, .max = max, .sender = {.most = (uint64_t)1 << 40}};
+        it->port[k] = (struct port){.link = k % links, .max = max, .sender = {.sums = sums, .most = (uint64_t)1 << 40}};
         write_head(&it->port[k], end_system, it->link[k % links].id, 1000 + k);
     }
 #ifdef DUTIES
@@ -122,6 +125,20 @@ int hand_send(struct hand *it, unsigned port, const uint8_t *message, size_t len
     return push(&it->link[from->link].queue, &from->sender, port, message, length) ? HAND_OK : HAND_FULL;
 }
 
+/* The sum of 16-bit words, folded to 16 bits. */
+static uint32_t folded(uint32_t sum) {
+    sum = (sum & 0xffff) + (sum >> 16);
+    return (sum & 0xffff) + (sum >> 16);
+}
+
+/* The UDP checksum of the link's message, which is never zero, or zero if its port has none. */
+static unsigned udp_checksum(const struct port *port, const struct link *link) {
+    if (!port->sender.sums) return 0;
+    uint32_t words = link->cut.sum << 8 | link->cut.sum >> 8;
+    uint32_t sum = folded(port->udp_sum + 2 * (uint32_t)link->total + (words & 0xffff));
+    return sum == 0xffff ? 0xffff : 0xffff - sum;
+}
+
 /* Writes the next piece of the link's message as a frame for network A, and returns the frame's length. */
 static size_t write_frame(const struct hand *it, struct link *link, uint8_t *frame) {
     const struct port *port = &it->port[link->cut.port];
@@ -132,13 +149,11 @@ static size_t write_frame(const struct hand *it, struct link *link, uint8_t *fra
     put16(frame + 16, length);
     put16(frame + 18, place);
     put16(frame + 20, offset);
-    uint32_t sum = port->sum + length + place + offset;
-    sum = (sum & 0xffff) + (sum >> 16);
-    put16(frame + 24, ~(sum + (sum >> 16)) & 0xffff);
+    put16(frame + 24, ~folded(port->sum + length + place + offset) & 0xffff);
     uint8_t *to = frame + 34;
     if (link->sent == 0) {
         put16(to + 4, (unsigned)link->total);
-        put16(to + 6, 0);
+        put16(to + 6, udp_checksum(port, link));
         memcpy(to + 8, link->cut.bytes, piece - 8);
     } else {
         memcpy(to, link->cut.bytes + link->sent - 8, piece);

@@ -8,6 +8,7 @@
 #ifndef HAND_H
 #define HAND_H
 
+#include <stdbool.h>
 #include <stddef.h>
 #include <stdint.h>
 
@@ -18,8 +19,8 @@ struct hand;
 
 /* An end system of `links` virtual links with the identifiers 1 and up, each with a BAG of 1 ms, one sub-VL and a queue of
    `capacity` messages, and `ports` ports with the identifiers 0 and up, port k on link k modulo `links`, all of partition
-   1, from UDP port 1,000 + k to 2,000. */
-struct hand *hand_open(uint16_t end_system, unsigned links, unsigned lmax, unsigned capacity, unsigned ports, size_t max);
+   1, from UDP port 1,000 + k to 2,000, with UDP checksums if it sums. */
+struct hand *hand_open(uint16_t end_system, unsigned links, unsigned lmax, unsigned capacity, unsigned ports, size_t max, bool sums);
 void hand_free(struct hand *it);
 
 /* Copies a message in, from any thread that has the port. */
@@ -32,8 +33,8 @@ void hand_poll(struct hand *it, uint64_t now);
 size_t hand_frames(const struct hand *it, unsigned network);
 const uint8_t *hand_frame(const struct hand *it, unsigned network, size_t k, size_t *length);
 
-/* Sends a message by lwIP (lwip.c) to a multicast address, over one network that reads a byte of each frame. Returns how many
-   frames it got, 0 if the message isn't sent. */
-unsigned lwip_send(const uint8_t *message, size_t length);
+/* Sends a message by lwIP (lwip.c) to a multicast address, with a UDP checksum if it sums, over one network that reads a byte of
+   each frame. Returns how many frames it got, 0 if the message isn't sent. */
+unsigned lwip_send(const uint8_t *message, size_t length, bool sums);
 
 #endif

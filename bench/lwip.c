@@ -5,7 +5,6 @@
 #include <lwip/init.h>
 #include <lwip/netif.h>
 #include <lwip/udp.h>
-#include <stdbool.h>
 
 static struct netif network;
 static struct udp_pcb *port;
@@ -29,7 +28,7 @@ static err_t begin(struct netif *netif) {
     return ERR_OK;
 }
 
-/* Opens a UDP port without checksums. */
+/* Opens a UDP port. */
 static bool open_port(void) {
     ip4_addr_t own, mask;
     IP4_ADDR(&own, 10, 0, 1, 1);
@@ -40,13 +39,16 @@ static bool open_port(void) {
     netif_set_default(&network);
     netif_set_up(&network);
     port = udp_new();
-    if (!port || udp_bind(port, IP_ADDR_ANY, 1000) != ERR_OK) return false;
-    udp_setflags(port, UDP_FLAGS_NOCHKSUM);
-    return true;
+    return port && udp_bind(port, IP_ADDR_ANY, 1000) == ERR_OK;
 }
 
-unsigned lwip_send(const uint8_t *message, size_t length) {
+unsigned lwip_send(const uint8_t *message, size_t length, bool sums) {
     if (!port && !open_port()) return 0;
+    if (sums) {
+        udp_setflags(port, 0);
+    } else {
+        udp_setflags(port, UDP_FLAGS_NOCHKSUM);
+    }
     struct pbuf *bytes = pbuf_alloc(PBUF_TRANSPORT, (u16_t)length, PBUF_RAM);
     frames = 0;
     if (!bytes) return 0;

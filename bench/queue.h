@@ -9,20 +9,46 @@
 #include <stdlib.h>
 #include <string.h>
 
-/* A message in a queue. With DUTIES its bytes are in a room that a slot, a sender or the receiver owns, and that has no message
-   while `length` is 0; otherwise they are a block of its own. */
+/* A message in a queue, and the sum of its words if its sender sums. With DUTIES its bytes are in a room that a slot, a sender
+   or the receiver owns, and that has no message while `length` is 0; otherwise they are a block of its own. */
 struct item {
     uint8_t *bytes;
     size_t length;
     unsigned port;
+    uint32_t sum;
 };
 
-/* What a sender of a queue knows with DUTIES: how often it may ask for a slot and has asked, how many of its messages were
-   accepted, its last place and slot, and its spare room. */
+/* Whether a sender of a queue sums, and what it knows with DUTIES: how often it may ask for a slot and has asked, how many of its
+   messages were accepted, its last place and slot, and its spare room. */
 struct sender {
+    bool sums;
     uint64_t most, asked, accepted, place, slot;
     struct item spare;
 };
+
+/* Copies a message, and returns the sum of its 16-bit words, of which the first byte is the lower, folded to 16 bits. */
+static uint32_t copy_summed(uint8_t *restrict to, const uint8_t *restrict from, size_t length) {
+    uint64_t sum = 0;
+    size_t k = 0;
+    for (uint32_t words; k + sizeof words <= length; k += sizeof words) {
+        memcpy(&words, from + k, sizeof words);
+        memcpy(to + k, &words, sizeof words);
+        sum += words;
+    }
+    for (; k < length; k++) {
+        to[k] = from[k];
+        sum += (uint32_t)from[k] << (k % 2 * 8);
+    }
+    while (sum >> 16) sum = (sum & 0xffff) + (sum >> 16);
+    return (uint32_t)sum;
+}
+
+/* Copies a message, and sums it if its sender does. */
+static uint32_t copy(const struct sender *sender, uint8_t *to, const uint8_t *from, size_t length) {
+    if (sender->sums) return copy_summed(to, from, length);
+    memcpy(to, from, length);
+    return 0;
+}
 
 #ifdef DUTIES
 /* A bounded queue as the library's, in which nothing is accepted after a close, a sender that stops holds back its own
@@ -63,7 +89,7 @@ static bool push(struct queue *queue, struct sender *sender, unsigned port, cons
         atomic_fetch_add(&queue->room, 1);
         return false;
     }
-    memcpy(sender->spare.bytes, message, length);
+    sender->spare.sum = copy(sender, sender->spare.bytes, message, length);
     sender->spare.length = length;
     sender->spare.port = port;
     uint64_t place = atomic_fetch_add(&queue->tail, 1);
@@ -145,11 +171,10 @@ static bool push_item(struct queue *queue, struct item item) {
 }
 
 static bool push(struct queue *queue, struct sender *sender, unsigned port, const uint8_t *message, size_t length) {
-    (void)sender;
     uint8_t *bytes = malloc(length);
     if (!bytes) return false;
-    memcpy(bytes, message, length);
-    if (push_item(queue, (struct item){bytes, length, port})) return true;
+    uint32_t sum = copy(sender, bytes, message, length);
+    if (push_item(queue, (struct item){bytes, length, port, sum})) return true;
     free(bytes);
     return false;
 }

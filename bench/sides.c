@@ -21,14 +21,14 @@ void make_message(void) {
 static char text[64 * 1024];
 
 static void open_library(struct side *side, struct plan plan) {
-    size_t end = (size_t)snprintf(text, sizeof text, "[end_system]\nid = 1\n");
+    size_t end = (size_t)snprintf(text, sizeof text, "version = 2\n[end_system]\nid = 1\n");
     for (unsigned k = 0; k < plan.links; k++)
         end += (size_t)snprintf(text + end, sizeof text - end, "[[vl]]\nid = %u\nbag_ms = 1\nlmax = %u\nsub_vls = 1\ncapacity = %u\n",
             k + 1, plan.lmax, plan.capacity);
     for (unsigned k = 0; k < plan.ports; k++)
         end += (size_t)snprintf(text + end, sizeof text - end,
-            "[[port]]\nid = %u\nvl = %u\nsub = 0\npartition = 1\nkind = \"queuing\"\nsource = %u\ndestination = 2000\nmax = %zu\n",
-            k, k % plan.links + 1, 1000 + k, plan.max);
+            "[[port]]\nid = %u\nvl = %u\nsub = 0\npartition = 1\nkind = \"queuing\"\nsource = %u\ndestination = 2000\nmax = %zu\nchecksum = \"%s\"\n",
+            k, k % plan.links + 1, 1000 + k, plan.max, plan.sums ? "udp" : "none");
     want(afdx_open(&side->it, (const uint8_t *)text, end) == 0, "the plan is refused");
     for (side->out = 0; side->out < plan.ports; side->out++)
         want(afdx_port_of(&side->it, (uint16_t)side->out, &side->ports[side->out]) == 0, "a port is refused");
@@ -37,7 +37,7 @@ static void open_library(struct side *side, struct plan plan) {
 void open_both(struct side sides[2], struct plan plan) {
     memset(sides, 0, 2 * sizeof *sides);
     open_library(&sides[0], plan);
-    sides[1].hand = hand_open(1, plan.links, plan.lmax, plan.capacity, plan.ports, plan.max);
+    sides[1].hand = hand_open(1, plan.links, plan.lmax, plan.capacity, plan.ports, plan.max, plan.sums);
     want(sides[1].hand, "no memory");
 }
 
@@ -68,8 +68,8 @@ void check_frames(void) {
     static const size_t lengths[] = {1, 17, 18, 41, 100, 1471, 1472, 1480, 8192};
     static const unsigned lmaxes[] = {64, 200, 1518};
     static struct side sides[2];
-    for (size_t m = 0; m < sizeof lmaxes / sizeof *lmaxes; m++) {
-        open_both(sides, (struct plan){3, lmaxes[m], 16, 7, GREATEST});
+    for (size_t m = 0; m < 2 * sizeof lmaxes / sizeof *lmaxes; m++) {
+        open_both(sides, (struct plan){3, lmaxes[m / 2], 16, 7, GREATEST, m % 2});
         size_t frames = 0;
         for (unsigned k = 0; k < 600; k++) {
             for (unsigned p = 0; p < 7; p++) {

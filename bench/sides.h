@@ -15,10 +15,11 @@ enum { GREATEST = 8192 };
 /* Ends the program if this doesn't hold. */
 void want(bool holds, const char *what);
 
-/* Virtual links of a queue each, and ports in turn on them, as hand_open has them. */
+/* Virtual links of a queue each, and ports in turn on them, with or without UDP checksums, as hand_open has them. */
 struct plan {
     unsigned links, lmax, capacity, ports;
     size_t max;
+    bool sums;
 };
 
 /* One of the two that are compared, with its end system. */

@@ -76,10 +76,11 @@ enum class MisuseFault : std::uint8_t {
     NotGathered = AFDX_NOT_GATHERED
 };
 
-/* A number other than AFDX_OK. `what` is its name in afdx.h. */
+/* A number other than AFDX_OK. `what` is its name in afdx.h, and more on the lines after it, if there is more. */
 class Error : public std::runtime_error {
 public:
-    Error(afdx_call call, std::uint8_t answer) : std::runtime_error(afdx_answer_name(call, answer)), answer_(answer) {}
+    Error(afdx_call call, std::uint8_t answer, const std::string &more = std::string())
+        : std::runtime_error(afdx_answer_name(call, answer) + (more.empty() ? more : "\n" + more)), answer_(answer) {}
     std::uint8_t answer() const noexcept { return answer_; }
 
 private:
@@ -93,6 +94,7 @@ public:
     Fault fault() const noexcept { return static_cast<Fault>(answer()); }
 };
 
+/* A plan is refused. Of a plan's text `what` has the lines of `explain` after the fault's name. */
 struct ConfigError : Faulty<ConfigFault> { using Faulty::Faulty; };
 struct SendError : Faulty<SendFault> { using Faulty::Faulty; };
 struct Misuse : Faulty<MisuseFault> { using Faulty::Faulty; };
@@ -171,8 +173,26 @@ inline std::string explain(const std::string &text) {
 
 namespace detail {
 
-/* Judges by a call that is passed room for findings. */
-template <typename Call> std::vector<afdx_finding> judged(Call call) {
+inline const std::uint8_t *bytes_of(const std::string &text) {
+    return reinterpret_cast<const std::uint8_t *>(text.data());
+}
+
+/* Throws the exception of a number that a call returned for a plan's text, if it isn't AFDX_OK. */
+inline void want_plan(std::uint8_t answer, const std::string &text) {
+    std::string faults;
+    if (answer > AFDX_OK && answer < AFDX_MEMORY) {
+        try {
+            faults = explain(text);
+            faults.erase(faults.find_last_not_of('\n') + 1);
+        } catch (const OutOfMemory &) { /* the name alone */
+        }
+        throw ConfigError(AFDX_CALL_OPEN, answer, faults);
+    }
+    want(answer, AFDX_CALL_OPEN);
+}
+
+/* Judges by a plan and a call that is passed room for findings. */
+template <typename Call> std::vector<afdx_finding> judged(const std::string &plan, Call call) {
     std::vector<afdx_finding> findings;
     afdx_judged judged = afdx_judged();
     std::uint8_t answer = call(findings.data(), findings.size(), &judged);
@@ -181,12 +201,8 @@ template <typename Call> std::vector<afdx_finding> judged(Call call) {
         answer = call(findings.data(), findings.size(), &judged);
     }
     if (answer == AFDX_BAD_CAPTURE) throw BadCapture(std::move(findings), judged);
-    want(answer, AFDX_CALL_OPEN);
+    want_plan(answer, plan);
     return findings;
-}
-
-inline const std::uint8_t *bytes_of(const std::string &text) {
-    return reinterpret_cast<const std::uint8_t *>(text.data());
 }
 
 } // namespace detail
@@ -195,7 +211,7 @@ inline const std::uint8_t *bytes_of(const std::string &text) {
    ConfigError, BadCapture or OutOfMemory. */
 inline std::vector<afdx_finding> judge(const std::string &plan, const std::string &capture,
                                        const afdx_judge_options &options) {
-    return detail::judged([&](afdx_finding *findings, std::size_t room, afdx_judged *judged) {
+    return detail::judged(plan, [&](afdx_finding *findings, std::size_t room, afdx_judged *judged) {
         return afdx_judge(detail::bytes_of(plan), plan.size(), &options, detail::bytes_of(capture), capture.size(),
                           findings, room, judged);
     });
@@ -204,10 +220,17 @@ inline std::vector<afdx_finding> judge(const std::string &plan, const std::strin
 /* The same of a capture of network A and one of network B. */
 inline std::vector<afdx_finding> judge(const std::string &plan, const std::string &a, const std::string &b,
                                        const afdx_judge_options &options) {
-    return detail::judged([&](afdx_finding *findings, std::size_t room, afdx_judged *judged) {
+    return detail::judged(plan, [&](afdx_finding *findings, std::size_t room, afdx_judged *judged) {
         return afdx_judge_pair(detail::bytes_of(plan), plan.size(), &options, detail::bytes_of(a), a.size(),
                                detail::bytes_of(b), b.size(), findings, room, judged);
     });
+}
+
+/* The bytes that opening an end system from the table of a plan takes. Throws ConfigError or OutOfMemory. */
+inline std::size_t memory(const std::uint8_t *table, std::size_t length) {
+    std::size_t bytes = 0;
+    detail::want(afdx_memory(table, length, &bytes), AFDX_CALL_OPEN);
+    return bytes;
 }
 
 /* A port of an end system. Its accepted messages are still transmitted after it is freed, but its end system can't
@@ -254,8 +277,7 @@ public:
 
     /* Opens an end system from the text of a plan. Throws ConfigError or OutOfMemory. */
     explicit EndSystem(const std::string &text) {
-        const auto *bytes = reinterpret_cast<const std::uint8_t *>(text.data());
-        detail::want(afdx_open(handle_.get(), bytes, text.size()), AFDX_CALL_OPEN);
+        detail::want_plan(afdx_open(handle_.get(), detail::bytes_of(text), text.size()), text);
     }
 
     /* Opens an end system from the table of a plan (docs/guide/table.md). Throws ConfigError or OutOfMemory. */

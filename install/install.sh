@@ -7,6 +7,7 @@ Installs the AFDX end system: the library for C, C++, CMake and Python, the prog
 examples.
 
     bash install/install.sh [--built] PREFIX
+    bash install/install.sh [--built] [--target TARGET] [--cpu CPU] PREFIX
     bash install/install.sh --help
 
 It takes a C compiler and its binutils (CC and AR are heeded), and the Rattle toolchain with rt on the PATH. First it
@@ -14,15 +15,25 @@ proves and builds the library and the program, if one is missing or a source is 
 --built it installs what is built. What it installs is for x86_64-unknown-linux-gnu: Linux with glibc on a processor
 with the instructions of x86-64-v2. It needs nothing of this tree or the toolchain, and no installed file names the
 prefix, so the folder may be moved. With Python 3 it also packs a wheel for pip, PREFIX/share/afdx/afdx-*.whl.
+
+For another TARGET, aarch64-unknown-linux-gnu, or CPU, x86-64, x86-64-v3, generic or neoverse-v2, it installs the headers, the
+archives libafdx.a and libafdx_core.a, and the example bare. A compiler and binutils for that target have to be there: those
+whose names begin with aarch64-linux-gnu-, if CC, AR, NM and LD name no others. The library is proved once more for it.
 EOF
 }
-is_built=
-case ${1-} in
---help | -h) usage && exit 0 ;;
---built) is_built=yes && shift ;;
-esac
+is_built='' target='' cpu=''
+while [[ ${1-} == -* ]]; do
+    case $1 in
+    --help | -h) usage && exit 0 ;;
+    --built) is_built=yes ;;
+    --target) target=${2-} && shift ;;
+    --cpu) cpu=${2-} && shift ;;
+    *) break ;;
+    esac
+    shift || break
+done
 if [ $# -ne 1 ] || [[ $1 == -* ]] || [ -z "$1" ]; then
-    echo "usage: bash install/install.sh [--built] PREFIX" >&2
+    echo "usage: bash install/install.sh [--built] PREFIX, or with [--target TARGET] [--cpu CPU]" >&2
     exit 2
 fi
 mkdir -p "$1"
@@ -39,30 +50,43 @@ build() {
         (cd "crates/$crate" && "$@" </dev/null)
     fi
 }
-build afdx libafdx.a rt lib
-build afdx_bench afdx_bench rt run
+# Proves and builds the library for another target, and leaves the one of this system where it is.
+build_other() {
+    local status=0
+    [ ! -e out/libafdx.a ] || mv out/libafdx.a "$room/kept.a"
+    rt lib ${target:+--target "$target"} ${cpu:+--cpu "$cpu"} || status=$?
+    [ $status -ne 0 ] || mv out/libafdx.a "out/$archive"
+    [ ! -e "$room/kept.a" ] || mv "$room/kept.a" out/libafdx.a
+    return $status
+}
+room=$(mktemp -d)
+trap 'rm -r "$room"' EXIT
+archive=libafdx${target:+-$target}${cpu:+-$cpu}.a
+if [ "$archive" = libafdx.a ]; then
+    build afdx libafdx.a rt lib
+    build afdx_bench afdx_bench rt run
+else
+    [ "${target%%-*}" != aarch64 ] || [ "$(uname -m)" = aarch64 ] || tools=aarch64-linux-gnu-
+    CC=${CC:-${tools-}${tools:+g}cc} AR=${AR:-${tools-}ar} NM=${NM:-${tools-}nm} LD=${LD:-${tools-}ld}
+    build afdx "$archive" build_other
+fi
 kit=$(dirname "$(rt doc)")
 version=$(sed -n 's/^#define AFDX_VERSION "\(.*\)"$/\1/p' crates/afdx/afdx.h)
 shared=libafdx.so.${version%%.*}
-room=$(mktemp -d)
-trap 'rm -r "$room"' EXIT
 
 # One archive, which includes the kit's part of the C library. That allocates by malloc.
-cp crates/afdx/out/libafdx.a "$room/libafdx.a"
-(cd "$room" && ${AR:-ar} x "$kit/c/liblibc_c.a" && ${AR:-ar} qs libafdx.a ./*.o)
+cp "crates/afdx/out/$archive" "$room/libafdx.a"
+if [ "${target%%-*}" = aarch64 ]; then
+    (cd "$room" && $CC -O2 -ffunction-sections -c "$OLDPWD/install/hook.c" -o hook.o && $AR qs libafdx.a hook.o)
+else
+    (cd "$room" && ${AR:-ar} x "$kit/c/liblibc_c.a" && ${AR:-ar} qs libafdx.a ./*.o)
+fi
 # An archive of the calls that read no text and no recording, without the calls for memory, which a partition has.
-(cd "$room" && ${AR:-ar} x "$OLDPWD/crates/afdx/out/libafdx.a" && mkdir core
+(cd "$room" && ${AR:-ar} x "$OLDPWD/crates/afdx/out/$archive" && mkdir core
     ${NM:-nm} -g --defined-only ./afdx*.o | sed -n 's/.* T \(afdx_.*\)$/-u \1/p' |
         grep -v -x -e '-u afdx_open' -e '-u afdx_explain' -e '-u afdx_script_line' -e '-u afdx_judge' -e '-u afdx_judge_pair' > core/calls
     ${LD:-ld} -r --gc-sections $(cat core/calls) ./afdx*.o -o core/afdx_core.o
     ${AR:-ar} rcs libafdx_core.a core/afdx_core.o)
-# The shared library exports exactly the calls of the headers.
-echo '{ global: afdx_*; local: *; };' > "$room/exports"
-${CC:-cc} -shared -Wl,-soname,"$shared",-z,defs,--version-script="$room/exports" -Wl,--whole-archive "$room/libafdx.a" \
-    -Wl,--no-whole-archive -o "$room/$shared"
-
-# The player, a C program over that archive.
-${CC:-cc} -O2 -std=gnu11 -Icrates/afdx examples/play/*.c "$room/libafdx.a" -o "$room/afdx_play"
 
 # Copies files into a folder of the prefix: by default files that aren't run.
 mode=644
@@ -76,9 +100,30 @@ for it in afdx.pc afdxConfig.cmake afdxConfigVersion.cmake afdx_bench.1 afdx_pla
     sed "s/@VERSION@/$version/; s/@SHARED@/$shared/" "install/$it" > "$room/$it"
 done
 into include crates/afdx/{afdx,afdx_judge}.h bindings/afdx.hpp
-into lib "$room/libafdx.a" "$room/libafdx_core.a" "$room/$shared"
-ln -sf "$shared" "$prefix/lib/libafdx.so"
+into lib "$room/libafdx.a" "$room/libafdx_core.a"
 into lib/pkgconfig "$room/afdx.pc"
+into share/doc/afdx LICENSE-MIT LICENSE-APACHE CHANGELOG.md
+# The guides are beside their pictures.
+for it in docs/guide/*.md; do
+    sed 's|](\.\./pictures/|](pictures/|g' "$it" > "$room/${it##*/}"
+    into share/doc/afdx "$room/${it##*/}"
+done
+into share/doc/afdx/pictures docs/pictures/{gap,judge,report}.svg
+into share/afdx/examples/bare examples/bare/main.c
+if [ "$archive" != libafdx.a ]; then
+    echo "afdx $version for ${target:-x86_64-unknown-linux-gnu}${cpu:+, $cpu,} is installed under $prefix"
+    exit
+fi
+# The shared library exports exactly the calls of the headers.
+echo '{ global: afdx_*; local: *; };' > "$room/exports"
+${CC:-cc} -shared -Wl,-soname,"$shared",-z,defs,--version-script="$room/exports" -Wl,--whole-archive "$room/libafdx.a" \
+    -Wl,--no-whole-archive -o "$room/$shared"
+
+# The player, a C program over that archive.
+${CC:-cc} -O2 -std=gnu11 -Icrates/afdx examples/play/*.c "$room/libafdx.a" -o "$room/afdx_play"
+
+into lib "$room/$shared"
+ln -sf "$shared" "$prefix/lib/libafdx.so"
 into lib/cmake/afdx "$room/afdxConfig.cmake" "$room/afdxConfigVersion.cmake"
 into lib/python/afdx bindings/afdx/*.py bindings/afdx/py.typed
 if command -v python3 >/dev/null; then
@@ -91,12 +136,14 @@ into share/bash-completion/completions install/completions/afdx_bench.bash
 mv "$prefix/share/bash-completion/completions/afdx_bench.bash" "$prefix/share/bash-completion/completions/afdx_bench"
 into share/zsh/site-functions install/completions/_afdx_bench
 into share/fish/vendor_completions.d install/completions/afdx_bench.fish
-into share/doc/afdx LICENSE-MIT LICENSE-APACHE CHANGELOG.md docs/guide/{bench,c,judge,laws,plan,program,speed,table}.md
 into share/afdx bindings/afdx.lua
+into share/afdx/rust bindings/rust/Cargo.toml bindings/rust/build.rs
+into share/afdx/rust/src bindings/rust/src/*.rs
+into share/afdx/rust/examples bindings/rust/examples/main.rs
 into share/afdx/examples/c examples/c/example.c examples/c/demo.toml examples/c/wire.toml
 mode=755 into share/afdx/examples/c examples/c/build.sh examples/c/wire.sh examples/c/receive.py
 into share/afdx/examples/play examples/play/*.c examples/play/play.h
-into share/afdx/examples/bare examples/bare/main.c
+into share/afdx/examples/bench examples/bench/interface.csv
 into share/afdx/examples/cpp examples/cpp/main.cpp
 into share/afdx/examples/cmake examples/cmake/CMakeLists.txt examples/cmake/main.c
 into share/afdx/examples/python examples/python/main.py examples/python/bench.py

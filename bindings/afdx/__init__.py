@@ -1,8 +1,9 @@
 """The transmitting AFDX end system (ARINC 664 Part 7) from Python, over libafdx.so and ctypes.
 
-    from afdx import EndSystem, A
+    from pathlib import Path
+    from afdx import EndSystem
 
-    with EndSystem(open("plan.toml").read()) as it, it.port(10) as port:
+    with EndSystem(Path("plan.toml")) as it, it.port(10) as port:
         port.send(b"hello")
         for frame in it.poll(0).a:
             print(frame.hex())
@@ -13,7 +14,7 @@ check sequence. Messages and texts are any bytes-like objects. Each answer of th
 exception named as in afdx.h, whose text says what it means; that of a refused plan has the lines of `explain`. A
 number that doesn't fit its argument in afdx.h raises OverflowError.
 
-`bash install/install.sh PREFIX` puts this package into PREFIX/lib/python, libafdx.so.1 into PREFIX/lib, and both as a wheel
+`bash install/install.sh PREFIX` puts this package into PREFIX/lib/python, libafdx.so.2 into PREFIX/lib, and both as a wheel
 into PREFIX/share/afdx, which pip installs. The library is the file that AFDX_LIBRARY names, else the one in this package,
 beside it or in the folder above, or on the search path of the system.
 """
@@ -40,10 +41,10 @@ from .errors import (
 
 __all__ = [
     "A", "B", "GREATEST_FRAME", "MOST_FRAMES", "MOST_LINKS", "MOST_PORTS", "NEVER", "BytesLike", "Counts", "EndSystem",
-    "File", "Finding", "Poll", "Port", "Released", "explain", "judge", "library_version",
+    "File", "Finding", "Poll", "Port", "Released", "explain", "judge", "library_version", "memory",
 ]
 __all__ += errors.__all__
-__version__ = "1.0.0"
+__version__ = "2.0.0"
 
 A, B = 0, 1
 GREATEST_FRAME, MOST_FRAMES = 1514, 64
@@ -52,19 +53,32 @@ NEVER = 2**64 - 1
 File = Union[BytesLike, os.PathLike[str]]
 
 
-def _encoded(text: str | BytesLike) -> bytes:
-    return text.encode() if isinstance(text, str) else bytes_of(text)
+def _read(data: File) -> bytes:
+    return Path(data).read_bytes() if isinstance(data, os.PathLike) else bytes_of(data)
 
 
-def explain(text: str | BytesLike) -> str:
-    """The faults of a plan, in lines as `afdx_explain` writes them; "no faults" if there is none. Raises `OutOfMemory`."""
-    data, length = _encoded(text), c_size_t()
+def _plan(text: str | File) -> bytes:
+    return text.encode() if isinstance(text, str) else _read(text)
+
+
+def explain(text: str | File) -> str:
+    """The faults of a plan, a text or the path of one, in lines as `afdx_explain` writes them; "no faults" if there is
+    none. Raises `OutOfMemory`."""
+    data, length = _plan(text), c_size_t()
     answer = lib.afdx_explain(data, len(data), None, 0, byref(length))
     told = ctypes.create_string_buffer(length.value)
     if answer == SmallBuffer.number:
         answer = lib.afdx_explain(data, len(data), told, len(told), byref(length))
     want(answer)
     return told.raw.decode()
+
+
+def memory(table: File) -> int:
+    """The bytes that opening an end system from the table of a plan takes (docs/guide/embedding.md): its bytes or its path.
+    Raises `TableError`, `ConfigError` or `OutOfMemory`."""
+    data, taken = _read(table), c_size_t()
+    want(lib.afdx_memory(data, len(data), byref(taken)), TABLE_ERRORS)
+    return taken.value
 
 
 def _want_plan(answer: int, data: bytes) -> None:
@@ -84,7 +98,7 @@ def judge(
     capture is pcapng or pcap, its bytes or its path; with two, the first is of network A and the second of B. `jitter` and
     `skew` are in microseconds; `arinc` is for the frames of other makers. A finding prints itself. Raises `ConfigError`,
     `BadCapture` (with what was found) or `OutOfMemory`."""
-    text, how = plan.encode() if isinstance(plan, str) else _read(plan), JudgeOptions(fits(jitter, 64), fits(skew, 64), late, fcs, arinc)
+    text, how = _plan(plan), JudgeOptions(fits(jitter, 64), fits(skew, 64), late, fcs, arinc)
     captures = [_read(it) for it in (capture, capture_b) if it is not None]
     words = [word for data in captures for word in (data, len(data))]
     call = lib.afdx_judge if capture_b is None else lib.afdx_judge_pair
@@ -99,10 +113,6 @@ def judge(
         seen = enumerate((judged.a, judged.b)[: len(captures)], 1)
         raise BadCapture("\n".join(captured_of(number, row) for number, row in seen), found)
     return found
-
-
-def _read(data: File) -> bytes:
-    return Path(data).read_bytes() if isinstance(data, os.PathLike) else bytes_of(data)
 
 
 def library_version() -> str:
@@ -199,24 +209,25 @@ class Port:
 
 
 class EndSystem:
-    """An end system of a plan (docs/guide/plan.md). Raises `ConfigError` or `OutOfMemory`."""
+    """An end system of a plan (docs/guide/plan.md), a text or the path of one. Raises `ConfigError` or `OutOfMemory`."""
 
     _handle: Handle
 
-    def __new__(cls, text: str | BytesLike) -> EndSystem:
+    def __new__(cls, text: str | File) -> EndSystem:
         it = super().__new__(cls)
         it._handle = Handle()
         return it
 
-    def __init__(self, text: str | BytesLike) -> None:
-        data = _encoded(text)
+    def __init__(self, text: str | File) -> None:
+        data = _plan(text)
         _want_plan(lib.afdx_open(byref(self._handle), data, len(data)), data)
         self._begin()
 
     @classmethod
-    def of_table(cls, table: BytesLike) -> EndSystem:
-        """The end system of the table of a plan (docs/guide/table.md). Raises `TableError`, `ConfigError` or `OutOfMemory`."""
-        it, data = cls.__new__(cls, b""), bytes_of(table)
+    def of_table(cls, table: File) -> EndSystem:
+        """The end system of the table of a plan (docs/guide/table.md), its bytes or its path. Raises `TableError`,
+        `ConfigError` or `OutOfMemory`."""
+        it, data = cls.__new__(cls, b""), _read(table)
         want(lib.afdx_open_table(byref(it._handle), data, len(data)), TABLE_ERRORS)
         it._begin()
         return it

@@ -59,4 +59,6 @@ def finding_of(row: FindingRow) -> Finding:
 def captured_of(number: int, row: Captured) -> str:
     """What was read of a capture, as `afdx_bench judge` prints it."""
     ends = ["", f", cut off at byte {row.at}", *(f", malformed at byte {row.at}: {fault}" for fault in FAULTS)]
-    return f"capture {number}: {row.packets} packets{ends[row.end]}"
+    no_captures = {"Format": ", neither pcapng nor pcap", "LinkType": f", another link type at byte {row.at}"}
+    fault = FAULTS[row.end - 2] if row.end > 1 else ""
+    return f"capture {number}: {row.packets} packets{no_captures.get(fault, ends[row.end])}"

@@ -10,7 +10,7 @@ from typing import Any, Union
 from .errors import MISUSES, Errors
 
 
-LIBRARY = "libafdx.so.1"
+LIBRARY = "libafdx.so.2"
 BytesLike = Union[bytes, bytearray, memoryview]
 
 
@@ -70,6 +70,7 @@ def _calls(library: ctypes.CDLL) -> None:
     calls: dict[str, list[Any]] = {
         "open": [handle, ctypes.c_char_p, size],
         "open_table": [handle, ctypes.c_char_p, size],
+        "memory": [ctypes.c_char_p, size, POINTER(size)],
         "explain": [ctypes.c_char_p, size, c_void_p, size, POINTER(size)],
         "judge": [*data, POINTER(JudgeOptions), *data, *rows],
         "judge_pair": [*data, POINTER(JudgeOptions), *data, *data, *rows],

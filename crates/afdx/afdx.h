@@ -3,7 +3,7 @@
 
    Build: cc program.c $(pkg-config --cflags --libs afdx), after `bash install/install.sh PREFIX`.
 
-   An end system is opened from the text of a plan. Each of its ports may be moved to a thread of its own,
+   An end system is opened from the text or the table of a plan. Each of its ports may be moved to a thread of its own,
    which sends. One thread polls with the present time and then copies out the frames of that poll, for network A and
    for network B, from the destination MAC address to the sequence number, without the frame check sequence. Once all
    ports were given back and gathered, the end system transmits what is left and reports when it is done.
@@ -22,10 +22,13 @@
    - A pointer leads to as many bytes as the call states, and may be NULL only for 0 bytes. Nobody else writes there
      during the call. What is written lies apart from what is read and from everything else that is written.
    - The two handles of one call are different.
-   - malloc, realloc and free come from one allocator. No call is made from a signal handler, or in the forked child
-     of a process with threads.
+   - Memory comes from rattle_alloc, rattle_realloc and rattle_dealloc. libafdx.a and libafdx.so have these three over malloc,
+     realloc and free, which come from one allocator; a program that links libafdx_core.a defines them itself, as
+     docs/guide/c.md says.
+   - No call is made from a signal handler, or in the forked child of a process with threads.
+   - The stack has room: 4 KB for the library, and AFDX_TEXT_STACK bytes for a call that reads a text.
    A call that takes a pointer to const for a handle changes neither the handle nor the end system or port in it.
-   afdx_script_line, afdx_explain and afdx_version_number take no handle, and may be called by any thread.
+   afdx_script_line, afdx_explain, afdx_memory and afdx_version_number take no handle, and may be called by any thread.
 
    Calls detect, and report by their numbers: a call after afdx_free, a port that is taken twice, a port of another
    end system, a time that goes back, an unknown identifier, and a buffer that is too small. */
@@ -39,9 +42,9 @@ extern "C" {
 #endif
 
 /** The version of this header and of the library installed with it. The first number changes with incompatible
-   changes, and libafdx.so.1 is named by it. */
-#define AFDX_VERSION "1.0.0"
-#define AFDX_VERSION_MAJOR 1 /**< its first number */
+   changes, and libafdx.so.2 is named by it; the second with calls, fields or numbers that are added. */
+#define AFDX_VERSION "2.0.0"
+#define AFDX_VERSION_MAJOR 2 /**< its first number */
 #define AFDX_VERSION_MINOR 0 /**< its second number */
 #define AFDX_VERSION_PATCH 0 /**< its third number */
 /** All three as one number, as afdx_version_number returns those of the library. */
@@ -100,6 +103,11 @@ enum { AFDX_GREATEST_FRAME = 1514, AFDX_MOST_FRAMES = 64 };
 
 #define AFDX_MOST_LINKS 64  /**< the most virtual links of a plan */
 #define AFDX_MOST_PORTS 256 /**< the most ports of a plan */
+
+/** The bytes of stack that a thread needs to read the text of a plan from an untrusted source: afdx_open, afdx_explain,
+   afdx_judge and afdx_judge_pair go as deep as the text nests. The worst text that a search found takes 2.3 MB; the text of a
+   valid plan takes less than 16 KB. All other calls take at most 4 KB (docs/guide/embedding.md). */
+#define AFDX_TEXT_STACK 4194304
 
 /** Success of any call. */
 enum { AFDX_OK = 0 };
@@ -182,6 +190,15 @@ uint8_t afdx_open(afdx_end_system *out, const uint8_t *text, size_t length);
    @return AFDX_OK. Refused: AFDX_HELD; a number of the table, AFDX_NO_TABLE to AFDX_WRONG_VALUE; or the number of the
    fault that the plan's text would have, AFDX_CONFIG_DUPLICATE_VL to AFDX_MEMORY. After a refusal the handle is unchanged. */
 uint8_t afdx_open_table(afdx_end_system *out, const uint8_t *table, size_t length);
+
+/** Says what opening a table takes: the bytes that afdx_open_table requests and keeps until afdx_free, by the formula of
+   docs/guide/embedding.md. While it opens it may hold up to 10,256 bytes more; no call after it requests any. afdx_memory requests
+   memory for reading the table, and frees it. It needs no handle, and may be called by any thread.
+   @param table the table
+   @param length its length in bytes
+   @param bytes the bytes
+   @return AFDX_OK. Refused, with nothing written: as by afdx_open_table, but for AFDX_HELD. */
+uint8_t afdx_memory(const uint8_t *table, size_t length, size_t *bytes);
 
 /** Explains a refused plan: its faults, each with its place, as `afdx_bench explain` prints them
    (docs/guide/program.md) after the file and the line, in lines that end in a line feed; "no faults" if there is none.
@@ -375,8 +392,9 @@ uint8_t afdx_script_line(const uint8_t *line, size_t length, afdx_line *out, uin
    @return 10,000 times its first number, 100 times its second, and its third: AFDX_VERSION_NUMBER of its header */
 uint32_t afdx_version_number(void);
 
-/** The calls, by the meaning of their least numbers: those of afdx_open and afdx_open_table, afdx_send, afdx_poll and afdx_script_line are
-   faults of their own. */
+/** The call that returned a number, since numbers below 32 mean different things after different calls: AFDX_CALL_OPEN
+   after afdx_open, afdx_open_table and afdx_memory, AFDX_CALL_SEND after afdx_send, AFDX_CALL_POLL after afdx_poll,
+   AFDX_CALL_LINE after afdx_script_line, and AFDX_CALL_OTHER after any other. */
 typedef enum { AFDX_CALL_OPEN, AFDX_CALL_SEND, AFDX_CALL_POLL, AFDX_CALL_OTHER, AFDX_CALL_LINE } afdx_call;
 
 /** The version of the header that a program is compiled with.
@@ -401,15 +419,15 @@ static inline const char *afdx_answer_name(afdx_call call, uint8_t answer) {
         "AFDX_NOT_HELD", "AFDX_WRONG_HANDLE", "AFDX_HELD", "AFDX_TIME_BACK", "AFDX_NO_PORT", "AFDX_NO_SUB", "AFDX_NO_LINK",
         "AFDX_NO_NETWORK", "AFDX_NO_FRAME", "AFDX_SMALL_BUFFER", "AFDX_PORT_MISSING", "AFDX_GATHERED", "AFDX_NOT_GATHERED",
         "AFDX_BAD_CAPTURE"};
-    size_t k = answer;
-    if (k == AFDX_OK) return "AFDX_OK";
-    if (k == AFDX_MEMORY) return "AFDX_MEMORY";
-    if (k >= AFDX_NOT_HELD && k - AFDX_NOT_HELD < sizeof of_any / sizeof *of_any) return of_any[k - AFDX_NOT_HELD];
-    if (call == AFDX_CALL_OPEN && k <= sizeof of_open / sizeof *of_open) return of_open[k - 1];
-    if (call == AFDX_CALL_OPEN && k >= AFDX_NO_TABLE && k <= AFDX_WRONG_VALUE) return of_table[k - AFDX_NO_TABLE];
-    if (call == AFDX_CALL_SEND && k <= sizeof of_send / sizeof *of_send) return of_send[k - 1];
-    if (call == AFDX_CALL_POLL && k == AFDX_BOTH_DOWN) return "AFDX_BOTH_DOWN";
-    if (call == AFDX_CALL_LINE && k <= sizeof of_line / sizeof *of_line) return of_line[k - 1];
+    const size_t k = answer, any = AFDX_NOT_HELD, table = AFDX_NO_TABLE;
+    if (answer == AFDX_OK) return "AFDX_OK";
+    if (answer == AFDX_MEMORY) return "AFDX_MEMORY";
+    if (k >= any && k - any < sizeof of_any / sizeof *of_any) return of_any[k - any];
+    if (call == AFDX_CALL_OPEN && k <= sizeof of_open / sizeof *of_open) return of_open[k - 1U];
+    if (call == AFDX_CALL_OPEN && k >= table && k - table < sizeof of_table / sizeof *of_table) return of_table[k - table];
+    if (call == AFDX_CALL_SEND && k <= sizeof of_send / sizeof *of_send) return of_send[k - 1U];
+    if (call == AFDX_CALL_POLL && answer == AFDX_BOTH_DOWN) return "AFDX_BOTH_DOWN";
+    if (call == AFDX_CALL_LINE && k <= sizeof of_line / sizeof *of_line) return of_line[k - 1U];
     return "unknown answer";
 }
 

@@ -13,7 +13,7 @@ extern "C" {
 /** What a recording may deviate by, and how it was made. {.skew = 10000} is what afdx_bench judge takes without
    options. */
 typedef struct {
-    uint64_t jitter; /**< a gap may be this many microseconds less than the BAG */
+    uint64_t jitter; /**< a frame may be recorded this many microseconds after its release */
     uint64_t skew;   /**< a frame and its twin are at most this many microseconds apart */
     uint8_t late;    /**< other than 0: the recording began after the end system */
     uint8_t fcs;     /**< other than 0: frames end with their check sequence, which is tested and left out */
@@ -134,11 +134,13 @@ static inline const char *afdx_finding_name(const afdx_finding *finding) {
     static const char *const of_fragment[] = {"Fragment Offset", "Fragment Identification", "Fragment Addresses",
         "Fragment Length", "Fragment Repeated"};
     static const char *const of_message[] = {"Message UdpLength", "Message Size", "Message UdpChecksum"};
-    size_t kind = finding->kind, rule = (size_t)finding->rule - 1;
-    if (kind == AFDX_FINDING_FRAME && rule < sizeof of_frame / sizeof *of_frame) return of_frame[rule];
-    if (kind == AFDX_FINDING_FRAGMENT && rule < sizeof of_fragment / sizeof *of_fragment) return of_fragment[rule];
-    if (kind == AFDX_FINDING_MESSAGE && rule < sizeof of_message / sizeof *of_message) return of_message[rule];
-    return kinds[kind < sizeof kinds / sizeof *kinds ? kind : 0];
+    const size_t kind = finding->kind, rule = finding->rule;
+    if (rule > 0U) {
+        if (finding->kind == AFDX_FINDING_FRAME && rule <= sizeof of_frame / sizeof *of_frame) return of_frame[rule - 1U];
+        if (finding->kind == AFDX_FINDING_FRAGMENT && rule <= sizeof of_fragment / sizeof *of_fragment) return of_fragment[rule - 1U];
+        if (finding->kind == AFDX_FINDING_MESSAGE && rule <= sizeof of_message / sizeof *of_message) return of_message[rule - 1U];
+    }
+    return kinds[kind < sizeof kinds / sizeof *kinds ? kind : 0U];
 }
 
 #ifdef __cplusplus

@@ -4,7 +4,7 @@
                  [--fault TEXT].. [--priority]
        afdx_play PLAN INTERFACE_A INTERFACE_B --traffic CSV --seconds N [--seed N] ..
 
-   docs/guide/program.md says what it prints, how it ends, and what a fault on purpose is. */
+   docs/guide/player.md says what it prints, how it ends, and what a fault on purpose is. */
 #define _GNU_SOURCE
 #include "play.h"
 

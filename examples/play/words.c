@@ -18,18 +18,25 @@ static const char HELP[] =
     "sockets. At the time of each `at` it sends the messages before it. It polls then, and whenever a link becomes due, with\n"
     "the present time: a late player sends late, and never catches up.\n"
     "\n"
-    "  --traffic CSV   plays the script that afdx_bench schedule makes of these periods: --seconds N of it, from offsets by\n"
-    "                  --seed N\n"
+    "  --traffic CSV   plays the script that afdx_bench schedule makes of these periods; --seconds N is its length, and\n"
+    "                  --seed N chooses the times at which the ports begin\n"
     "  --as-written    polls at each `at` alone and with its time, as afdx_bench run: a late player then sends frames of a\n"
     "                  link too close together\n"
-    "  --speed X       X times as fast: 0.001 to 1000\n"
+    "  --speed X       plays X times as fast: 0.001 to 1000\n"
     "  --repeat N      plays the script N times, each from the last time of the one before; 0: until a signal\n"
     "  --capture FILE  records what the interfaces took: pcapng with nanoseconds\n"
     "  --priority      locks memory and asks for SCHED_FIFO\n"
-    "  --fault TEXT    a fault on purpose, after the library: lose A 100, repeat B 7, swap A 5 6, number A 9 200,\n"
-    "                  early A 12 300 (microseconds), flip B 20 1a (index of a byte), down A 1000. Frames of a network\n"
-    "                  count from 1. With swap and early, whose frames have to be known before, the run is as written.\n"
-    "                  Two of which one keeps the other from coming true are refused\n";
+    "  --fault TEXT    injects a fault into the frames after the library made them; may be given several times. Frames of\n"
+    "                  a network count from 1:\n"
+    "                    lose A 100        doesn't send frame 100 of network A\n"
+    "                    repeat B 7        sends frame 7 of network B twice\n"
+    "                    swap A 5 6        exchanges frames 5 and 6\n"
+    "                    number A 9 200    gives frame 9 the sequence number 200\n"
+    "                    early A 12 300    sends frame 12 300 microseconds early\n"
+    "                    flip B 20 1a      inverts the byte at index 1a (hexadecimal) of frame 20\n"
+    "                    down A 1000       sends neither frame 1000 nor any after it\n"
+    "                  With swap and early, whose frames have to be known before, the run is as written. Two faults of\n"
+    "                  which one keeps the other from coming true are refused\n";
 
 /* Where a word with a value keeps it, or NULL if it isn't one that keeps its text. */
 static const char **text_of(struct words *words, const char *word) {

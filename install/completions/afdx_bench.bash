@@ -2,17 +2,18 @@
 _afdx_bench() {
     local word=${COMP_WORDS[COMP_CWORD]} before=${COMP_WORDS[COMP_CWORD - 1]} words
     case $before in
-    --capture | --c | --html | --traffic | --csv) words= ;;
+    --capture | --c | --html | --traffic | --csv | --with) words= ;;
     --profile) mapfile -t COMPREPLY < <(compgen -W 'own arinc' -- "$word") && return ;;
-    --lateness | --date | --seconds | --seed | --jitter | --skew | --messages | --turns) COMPREPLY=() && return ;;
+    --lateness | --date | --seconds | --seed | --every | --jitter | --skew | --messages | --turns) COMPREPLY=() && return ;;
     *)
         case ${COMP_CWORD}:${COMP_WORDS[1]-} in
         1:*) words='run check explain import compile report schedule judge storm --help --version' ;;
         *:run) words='--capture --help' ;;
+        *:check | *:explain) words='--json --help' ;;
         *:compile) words='--c --help' ;;
-        *:report) words='--lateness --html --traffic --csv --date --strict --help' ;;
+        *:report) words='--lateness --html --traffic --csv --date --strict --json --help' ;;
         *:schedule) words='--traffic --seconds --seed --help' ;;
-        *:judge) words='--jitter --skew --late --fcs --profile --html --help' ;;
+        *:judge) words='--with --jitter --skew --late --fcs --profile --html --json --all-links --foreign --by-byte --every --help' ;;
         *:storm) words='--messages --turns --help' ;;
         *) words=--help ;;
         esac

@@ -1,5 +1,6 @@
-//! What a handle holds, for the calls. Each borrows the content of its handle. No `&` to what owns memory can be
-//! taken from C, so each takes its handles by `&mut`; those that `afdx.h` declares with `const` write nothing there.
+//! Access to the content of handles, for the calls. Each macro borrows the content of its handle. No `&` to a value
+//! that owns memory can be taken from C, so each takes its handles by `&mut`; the handles that `afdx.h` declares with
+//! `const` stay unwritten.
 
 // The answer of `$answer` over the place of the end system in a handle, and the boxes beside it. Otherwise
 // `WRONG_HANDLE` if it holds a port, and `NOT_HELD` if it holds nothing.
@@ -16,7 +17,7 @@ macro_rules! at_end {
     }};
 }
 
-// The same over the end system itself.
+// The answer of `$answer` over the end system in a handle, otherwise `WRONG_HANDLE` or `NOT_HELD` as `at_end!` answers.
 macro_rules! with_end {
     ($handle:expr, $end:ident => $answer:expr) => {
         at_end!($handle, inside, _boxes => match &mut **inside {

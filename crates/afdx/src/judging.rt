@@ -6,7 +6,7 @@ ghost use Rattle.afdx_handle.specs.Judged.{IsJudged, IsRefused, answer_of};
 use afdx_handle::{FindingRow, JudgeOptions, Judged, judge_into};
 use std::alloc::Global;
 
-/// Judges a capture of both networks: writes as many findings as have room, their number, and what was read.
+/// Judges a capture of both networks: writes as many findings as have room, their number, and the end of reading.
 #[unsafe(no_mangle)]
 pub extern "C" fn afdx_judge(
     alloc: Global,

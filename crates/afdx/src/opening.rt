@@ -3,6 +3,8 @@ ghost use Rattle.std.specs.Prelude.{◌≡◌, ◌≢◌, ◌⊎◌, ◌↔◌, 
 ghost use Rattle.afdx_tx.specs.Ports.{PortView, IsPortOfTx, LacksPlace};
 ghost use Rattle.afdx_handle.specs.Calls.{ChangesEnd, IsFaultNumber, IsTableFaultNumber};
 ghost use Rattle.afdx_config.specs.Faults.{IsPlanOf};
+ghost use Rattle.afdx_plan.specs.Config.{Plan};
+ghost use Rattle.plan_analysis.specs.Memory.{table_bytes};
 ghost use Rattle.plan_table.specs.Table.{IsTableOf};
 ghost use Rattle.afdx_handle.specs.Numbers.{IsOneOf};
 ghost use Rattle.afdx_handle.specs.EndSystem.{EndView, has_id, GathersEnd, GivesBack, TakesPort, IsOpened};
@@ -18,6 +20,7 @@ use afdx_handle::{
     Handle, Home, Marked, Opening, gather, give_to, is_nothing, keep_box, open_home, take_port,
     write_front,
 };
+use plan_analysis::table_memory;
 use plan_table::read_table;
 use std::alloc::Global;
 use std::mem;
@@ -56,6 +59,25 @@ pub extern "C" fn afdx_open_table(alloc: Global, out: &mut Opening, table: &[u8]
     }
     match read_table(alloc, table) {
         Ok(config) => put_end(alloc, out, config),
+        Err(fault) => fault.number(),
+    }
+}
+
+/// Writes the bytes that opening an end system from the table of a plan takes.
+#[unsafe(no_mangle)]
+pub extern "C" fn afdx_memory(alloc: Global, table: &[u8], bytes: &mut usize) -> u8
+    ensures bytes { result ≡ DONE → (plan : Plan) × IsTableOf table.now plan × (bytes.new ≡ table_bytes plan) }
+    ensures fault { result ≢ DONE → IsTableFaultNumber table.now result }
+    ensures unwritten { result ≢ DONE → bytes.new ≡ bytes.old }
+{
+    match read_table(alloc, table) {
+        Ok(config) => match table_memory(alloc, &config) {
+            Ok(taken) => {
+                *bytes = taken as usize;
+                DONE
+            }
+            Err(_) => MEMORY,
+        },
         Err(fault) => fault.number(),
     }
 }
@@ -145,8 +167,8 @@ pub extern "C" fn afdx_port_of(it: &mut Marked, id: u16, out: &mut Marked) -> u8
 /// Returns a port to the end system that it was taken from. Its handle is empty then.
 #[unsafe(no_mangle)]
 pub extern "C" fn afdx_give_back(it: &mut Marked, port: &mut Marked) -> u8
-    // Two handles with the same mark are of the same end system: a mark is the address of a block
-    // that the end system and each of its ports own, as `afdx_open` and `afdx_port_of` ensure.
+    // Two handles with the same mark belong to the same end system: a mark is the address of a block that the end
+    // system and each of its ports own, as `afdx_open` and `afdx_port_of` ensure.
     requires own { (end : EndView) → (own : PortView) → end_of it.old.handle.kept.home ≡ Some end
         → port_of port.old.handle.kept.home ≡ Some own → it.old.mark ≡ port.old.mark
         → end.gathered ≡ false → IsPortOfTx end.tx own }

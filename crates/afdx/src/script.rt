@@ -12,7 +12,7 @@ use afdx_handle::{ScriptLine, VERSION, laid_out, write_message};
 use script_text::{LineFault, read_line};
 use std::alloc::Global;
 
-/// The version of the library, as a number.
+/// Returns the version of the library, as a number.
 #[unsafe(no_mangle)]
 pub extern "C" fn afdx_version_number() -> u32
     ensures { result ≡ VERSION }
@@ -20,7 +20,7 @@ pub extern "C" fn afdx_version_number() -> u32
     VERSION
 }
 
-/// Reads a line of a script, given without its end: writes what it says, and the message of a send into a buffer. On
+/// Reads a line of a script, given without its end: writes its meaning, and the message of a send into a buffer. On
 /// `SMALL_BUFFER`, if the message is longer than the buffer, writes no message. Returns the number of the line's first
 /// fault, or `MEMORY`, if an allocation fails; then writes nothing.
 #[unsafe(no_mangle)]

@@ -1,5 +1,6 @@
 -- The first finding has the fault of the least number, and so has the text.
-use Rattle.afdx_config.proofs.Names.{◌≡◌, ◌≢◌, ℕ, ◌<◌, List, [], ◌∷◌, ◌++◌, true, false, Some, None, refl, ap, subst, ◌∙◌, arith, eq-eqb, list_any, same_Some, Result, Ok, Err, IfOk, IfErr, Members, map, nat_tests, fault_number, cells_of, ConfigFault, Memory, Plan, plan_of, shows, Reads, HasFault, IsLeastFault, IsLeastShown, IsPlanOf, plan_shows, whole, sym, Finding, finding_of, findings, has, FirstIsAnswered, by_fault, number_of, plan_findings, value_findings, Holds, IsOrdered, fault_of, Kept}
+use Rattle.afdx_config.proofs.Names.{◌≡◌, ◌≢◌, ℕ, ◌<◌, List, [], ◌∷◌, ◌++◌, true, false, Some, None, refl, ap, subst, ◌∙◌, arith, eq-eqb, list_any, same_Some, Result, Ok, Err, IfOk, IfErr, Members, map, nat_tests, fault_number, cells_of, ConfigFault, Memory, Plan, plan_of, shows, Reads, HasFault, IsLeastFault, IsLeastShown, IsPlanOf, plan_shows, whole, sym, Finding, finding_of, findings, has, FirstIsAnswered, by_fault, number_of, plan_findings, value_findings, Holds, IsOrdered, fault_of, Kept, told_once}
+use Rattle.afdx_config.proofs.OnceLemmas.{any_once, no_once}
 use Rattle.afdx_config.proofs.OrderLemmas.{any_by_fault, are_ordered, no_finding, r_map}
 use Rattle.afdx_config.proofs.ShownLemmas.{faults_are_found, no_toml, none_has, plan_shown}
 use Rattle.afdx_config.proofs.SoundLemmas.{none}
@@ -21,7 +22,7 @@ least : (text : List ℕ) (doc : Members) (x : Finding) (rest : List Finding) �
 least text doc x rest reads is =
     let number = eq-eqb (number_of x) (number_of x) refl in
     let here : list_any (has x.fault) (x ∷ rest) ≡ true = rw number refl in
-    let ordered : IsOrdered (x ∷ rest) = subst IsOrdered is (are_ordered (value_findings doc ++ plan_findings (cells_of doc))) in (
+    let ordered : IsOrdered (x ∷ rest) = subst IsOrdered is (are_ordered (told_once (value_findings doc ++ plan_findings (cells_of doc)))) in (
       of_text x.fault text doc reads (faults_are_found doc x.fault ∙ ap (list_any (has x.fault)) is ∙ here),
       λ f below. hasnt f text doc reads (faults_are_found doc f ∙ ap (list_any (has f)) is ∙ lower f x rest below ordered),
     )
@@ -48,26 +49,26 @@ answer_err text doc (Err e) reads first = λ other. here (findings doc) refl (fi
     here (x ∷ rest) is at = rw (← same_Some x.fault e at) (least text doc x rest reads is)
 
 -- the first of those that are kept
-pub first_kept : (found : Kept) (all : List Finding) → Holds found all → fault_of (map finding_of found.first.items) ≡ fault_of (by_fault all)
-first_kept found all holds = grind (arith, nat_tests, fault_of)
+pub first_kept : (found : Kept) (all : List Finding) → Holds found all → fault_of (map finding_of found.first.items) ≡ fault_of (by_fault (told_once all))
+first_kept found all holds = let are = holds.keeps.first_are in grind (arith, nat_tests, fault_of)
 
 pub no_first : (xs : List Finding) → fault_of xs ≡ None → xs ≡ []
 no_first xs is = grind (arith, nat_tests)
 
 -- the first finding of a plan's rules has the least fault that it shows
-pub least_shown : (plan : Plan) (fault : ConfigFault) → fault_of (by_fault (plan_findings (whole plan))) ≡ Some fault → IsLeastShown fault plan
-least_shown plan fault is = here (by_fault (plan_findings (whole plan))) refl is
+pub least_shown : (plan : Plan) (fault : ConfigFault) → fault_of (by_fault (told_once (plan_findings (whole plan)))) ≡ Some fault → IsLeastShown fault plan
+least_shown plan fault is = here (by_fault (told_once (plan_findings (whole plan)))) refl is
   where
-    shown : (f : ConfigFault) → plan_shows f plan ≡ list_any (has f) (by_fault (plan_findings (whole plan)))
-    shown f = sym (plan_shown f (whole plan)) ∙ sym (any_by_fault (has f) (plan_findings (whole plan)))
+    shown : (f : ConfigFault) → plan_shows f plan ≡ list_any (has f) (by_fault (told_once (plan_findings (whole plan))))
+    shown f = sym (plan_shown f (whole plan)) ∙ sym (any_by_fault (has f) (told_once (plan_findings (whole plan))) ∙ any_once f (plan_findings (whole plan)))
 
-    here : (xs : List Finding) → by_fault (plan_findings (whole plan)) ≡ xs → fault_of xs ≡ Some fault → IsLeastShown fault plan
+    here : (xs : List Finding) → by_fault (told_once (plan_findings (whole plan))) ≡ xs → fault_of xs ≡ Some fault → IsLeastShown fault plan
     here [] all at = cc
     here (x ∷ rest) all at =
         let same = same_Some x.fault fault at in
         let number = eq-eqb (number_of x) (number_of x) refl in
         let first : list_any (has x.fault) (x ∷ rest) ≡ true = rw number refl in
-        let ordered : IsOrdered (x ∷ rest) = subst IsOrdered all (are_ordered (plan_findings (whole plan))) in
+        let ordered : IsOrdered (x ∷ rest) = subst IsOrdered all (are_ordered (told_once (plan_findings (whole plan)))) in
         rw (← same) (
           shown x.fault ∙ ap (list_any (has x.fault)) all ∙ first,
           λ f below. shown f ∙ ap (list_any (has f)) all ∙ lower f x rest below ordered,
@@ -75,4 +76,4 @@ least_shown plan fault is = here (by_fault (plan_findings (whole plan))) refl is
 
 -- without findings, values have none
 pub no_value : (doc : Members) → findings doc ≡ [] → value_findings doc ≡ []
-no_value doc is = (none (value_findings doc) (plan_findings (cells_of doc)) (no_finding _ is)).0
+no_value doc is = (none (value_findings doc) (plan_findings (cells_of doc)) (no_once _ (no_finding _ is))).0

@@ -1,5 +1,5 @@
 -- Findings in the order of the numbers of their faults.
-use Rattle.afdx_config.proofs.Names.{fold-append, common_steps, length-take, map-append, drop-map, take-append-drop, take-append-le, take-take, get_or-map, fold, insert, length-append, ◌≡◌, ℕ, zero, suc, ◌+◌, ◌-◌, ◌<◌, ◌≤◌, List, [], ◌∷◌, ◌++◌, length, take, drop, get_or, map, Bool, true, false, ◌||◌, cond, refl, ap, sym, ◌∙◌, arith, take_all, take-map, length-map, drop_more, fault_number, AllByRecursion, list_any, nat_lt, nat_tests, or-false, Finding, Adds, finding_of, by_fault, lines_limit, number_of, put, IsOrdered, Written, Kept}
+use Rattle.afdx_config.proofs.Names.{fold-append, common_steps, length-take, map-append, drop-map, take-append-drop, take-append-le, take-take, get_or-map, fold, insert, length-append, ◌≡◌, ℕ, zero, suc, ◌+◌, ◌-◌, ◌<◌, ◌≤◌, List, [], ◌∷◌, ◌++◌, length, take, drop, get_or, map, Bool, true, false, ◌||◌, cond, refl, ap, sym, ◌∙◌, arith, take_all, take-map, length-map, drop_more, fault_number, AllByRecursion, list_any, nat_lt, nat_tests, or-false, Finding, KeepsOne, finding_of, by_fault, lines_limit, number_of, put, IsOrdered, Written, Kept}
 
 -- what holds of each element of two lists holds of those of both
 pub r_append : {A : Type 0} (P : A → Type 0) (xs ys : List A) → AllByRecursion P xs → AllByRecursion P ys → AllByRecursion P (xs ++ ys)
@@ -121,7 +121,7 @@ map_insert first i x = sym (take-map finding_of lines_limit (insert first i x)) 
 -- one finding, which is kept if it is among the first
 pub adds_put : (old new : Kept) (x : Finding) (index : ℕ) → new.count ≡ old.count + 1
     → (IsOrdered (map finding_of old.first.items) → insert (map finding_of old.first.items) index x ≡ put (map finding_of old.first.items) x)
-    → map finding_of new.first.items ≡ take lines_limit (insert (map finding_of old.first.items) index x) → Adds old new (x ∷ [])
+    → map finding_of new.first.items ≡ take lines_limit (insert (map finding_of old.first.items) index x) → KeepsOne old new x
 adds_put old new x index counted placed kept all holds =
     let size = holds.count_is in
     let more : length (all ++ x ∷ []) ≡ length all + 1 = length-append all (x ∷ []) in
@@ -135,7 +135,7 @@ adds_put old new x index counted placed kept all holds =
 -- one finding past the first ones
 pub adds_past : (old new : Kept) (x : Finding) (index : ℕ) → new.count ≡ old.count + 1
     → (IsOrdered (map finding_of old.first.items) → insert (map finding_of old.first.items) index x ≡ put (map finding_of old.first.items) x)
-    → lines_limit ≤ index → index ≤ length (map finding_of old.first.items) → new.first ≡ old.first → Adds old new (x ∷ [])
+    → lines_limit ≤ index → index ≤ length (map finding_of old.first.items) → new.first ≡ old.first → KeepsOne old new x
 adds_past old new x index counted placed past within same all holds =
     let ys = map finding_of old.first.items in
     let most : length ys ≤ lines_limit = let is = holds.first_are in let size = length-take lines_limit (by_fault all) in rw is (omega arith) in

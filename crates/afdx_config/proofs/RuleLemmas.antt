@@ -1,8 +1,9 @@
 -- A document whose values have no fault has the faults of its plan.
-use Rattle.afdx_config.proofs.Names.{◌≡◌, ◌<◌, List, [], ◌∷◌, Bool, false, map, refl, ap, sym, ◌∙◌, AllByRecursion, list_any, ◌||◌, ◌&&◌, ◌==◌, is_none, Members, Plan, cells_of, cells_show, plan_of, PlanRule, breaks, link_whole, port_whole, whole, plan_rules, Top, Link, Port, document_fields, link_fields, port_fields, is_version_2, IsSoundTable, RulesAgree, Finding, ConfigFault, eq-eqb, fault_number, findings, has, codes, link_of, port_of, get_member, plan_shows, None, or_parts, All-map, Networks, Checksum, field, networks_under, checksum_under, AreInRange, plan_in, Rows, IsPlan, IsLink, IsPort, Ms1, Both, Sampling, Omitted, Unbroken, valid, All, by_fault}
+use Rattle.afdx_config.proofs.Names.{◌≡◌, ◌<◌, List, [], ◌∷◌, Bool, false, map, refl, ap, sym, ◌∙◌, AllByRecursion, list_any, ◌||◌, ◌&&◌, ◌==◌, is_none, Members, Plan, cells_of, cells_show, plan_of, PlanRule, breaks, link_whole, port_whole, whole, plan_rules, Top, Link, Port, document_fields, link_fields, port_fields, is_version_2, IsSoundTable, RulesAgree, Finding, ConfigFault, eq-eqb, fault_number, findings, has, codes, link_of, port_of, get_member, plan_shows, None, or_parts, All-map, Networks, Checksum, field, networks_under, checksum_under, AreInRange, plan_in, Rows, IsPlan, IsLink, IsPort, Ms1, Both, Sampling, Omitted, Unbroken, valid, All, by_fault, told_once}
 use Rattle.afdx_config.specs.Cells.{link_row, port_row}
 use Rattle.afdx_config.specs.Findings.{plan_findings, value_findings}
 use Rattle.afdx_config.proofs.FirstLemmas.{no_value}
+use Rattle.afdx_config.proofs.OnceLemmas.{no_once}
 use Rattle.afdx_config.proofs.OrderLemmas.{no_finding}
 use Rattle.afdx_config.proofs.ShownLemmas.{faults_are_found, plan_shown}
 use Rattle.afdx_config.proofs.SoundLemmas.{known, known_in, none, rows_sound, table_sound}
@@ -78,6 +79,6 @@ fine doc rows same end fits free = valid (plan_in rows) end (All-map IsLink link
 
 -- a plan whose rules find nothing is valid if it is in its ranges
 pub fine_parts : (plan : Plan) → plan.end_system < 65536 → All IsLink plan.links → All IsPort plan.ports
-    → by_fault (plan_findings (whole plan)) ≡ [] → IsPlan plan
+    → by_fault (told_once (plan_findings (whole plan))) ≡ [] → IsPlan plan
 fine_parts plan end links ports free = valid plan end links ports
-    (no_rule plan plan_rules (λ f. sym (plan_shown f (whole plan)) ∙ ap (list_any (has f)) (no_finding _ free)))
+    (no_rule plan plan_rules (λ f. sym (plan_shown f (whole plan)) ∙ ap (list_any (has f)) (no_once _ (no_finding _ free))))

@@ -2,6 +2,7 @@
 use Rattle.afdx_config.proofs.Names.{length-append, ◌≡◌, ℕ, ◌+◌, ◌<◌, ◌≤◌, List, [], ◌∷◌, ◌++◌, length, Bool, true, false, ◌||◌, ◌&&◌, append_assoc, lit≤, Option, Some, None, refl, ap, sym, ◌∙◌, arith, ◌==◌, nat_tests, or-false, and-true, and-false, and-or_distrib_left, nat_lt, list_any-append, position, position_from, list_any, then_some, position_from-zero, AllByRecursion, not, Data, Members, get_member, fault_number, has_pair, ConfigFault, Toml, UnknownKey, Place, Top, Link, Port, Field, flat_map, PlanRule, Rule, links_clash, ports_clash, port_misfits, link_count, port_count, sub_is_packed, breaks, is_misfit, plan_rules, rule_findings, shows, values_show, Finding, found, has, one_if, key_finding, member_keys, each_row, pair_finding, pair_findings, is_past_limit, misfit_finding, crowd_finding, Cells, cells_show, any_row, field_fault, key_fault, is_key_of, IfSome, Content, Result, content_fault, FaultsAreFound, result_err, read, value_findings}
 use Rattle.afdx_config.specs.Findings.{plan_findings, table_findings}
 use Rattle.afdx_config.proofs.AddLemmas.{each_row-map}
+use Rattle.afdx_config.proofs.OnceLemmas.{any_once}
 use Rattle.afdx_config.proofs.OrderLemmas.{any_by_fault, r_append, r_map}
 use Rattle.afdx_config.proofs.PlaceLemmas.{r_each, values_have}
 
@@ -110,7 +111,7 @@ plan_shown f cells = rules_shown f cells plan_rules
 
 -- each fault of a document has a finding
 pub faults_are_found : FaultsAreFound
-faults_are_found doc f = grind (arith, nat_tests, any_by_fault, list_any-append, plan_shown, values_show)
+faults_are_found doc f = grind (arith, nat_tests, any_by_fault, any_once, list_any-append, plan_shown, values_show)
 
 -- a fault other than `Toml`
 abbrev IsValue : ConfigFault → Type 0

@@ -30,7 +30,7 @@ pub record TellsStop (before message : List ℕ) (first : List Finding) (count :
   pub finding_is : first ≡ found Toml (Text (line_of before) (column_after 0 before)) message None ∷ []
   pub count_is : count ≡ 1
 
--- the same, at some place of the text
+-- the one finding of a text that stops being TOML at some place
 pub record TellsToml (input : List ℕ) (first : List Finding) (count : ℕ) : Type 0 where
   pub at : ℕ
   pub within : at ≤ length input
@@ -53,7 +53,7 @@ pub record HasLines (count : ℕ) (text : List ℕ) : Type 0 where
   pub lines : List ℕ
   pub text_is : text ≡ count_line count ++ lines ++ rest_line (count - lines_limit)
 
--- the first findings of a text, the number of all, and their text: those of its document, or that it is not TOML
+-- the first findings of a text, the number of all, and their text: the findings of its document, or that it is not TOML
 abbrev pub Explains : List ℕ → List Finding → ℕ → List ℕ → Type 0
 Explains input first count text = HasLines count text
     × (((document : Members) × Reads input document × TellsDocument document first count)

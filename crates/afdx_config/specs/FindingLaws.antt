@@ -26,7 +26,7 @@ FirstIsAnswered = (text : List ℕ) (document : Members) → Reads text document
     → (findings document ≡ [] → IsPlanOf text (plan_of document))
     × ((first : Finding) (rest : List Finding) → findings document ≡ first ∷ rest → IsLeastFault text first.fault)
 
--- if a document has no fault of 2 to 6, its faults are those of its plan
+-- if a document has no fault of 2 to 6, its faults are its plan's
 abbrev pub RulesAgree : Type 0
 RulesAgree = (document : Members) → ((value : ConfigFault) → values_show value document ≡ false)
     → (fault : ConfigFault) → shows fault document ≡ plan_shows fault (plan_of document)
@@ -91,7 +91,7 @@ abbrev pub has_place : Members → Finding → Bool
 has_place document f = (value_has document f || key_has document f)
     || list_any (tells (cells_of document) f) plan_rules
 
--- the place of each finding has its fault: the key is missing, its value is of the wrong kind or out of range, or
--- the key is unknown; both tables of a fault of two exist, and the one that is named second is the earlier
+-- the place of each finding has its fault: the key is missing, its value has the wrong kind or is out of range, or the
+-- key is unknown; both tables of a fault of two exist, and the table named second is the earlier one
 abbrev pub PlacesHaveFaults : Type 0
 PlacesHaveFaults = (document : Members) → All (λ f. has_place document f ≡ true) (findings document)

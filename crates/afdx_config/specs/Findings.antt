@@ -1,10 +1,11 @@
 -- All faults of a document, each with its place.
-use Rattle.std.specs.Prelude.{codes, ℕ, ◌+◌, List, [], ◌∷◌, ◌++◌, map, nat_lt, Bool, true, false, ◌==◌, if◌then◌else◌, Option, Some, None, option_map}
+use Rattle.std.specs.Prelude.{codes, ℕ, ◌+◌, List, [], ◌∷◌, ◌++◌, map, nat_lt, bytes_eq, Bool, true, false, ◌==◌, ◌&&◌, ◌||◌, if◌then◌else◌, Option, Some, None, option_map}
 use Rattle.std.specs.List.{position, flat_map, fold}
 use Rattle.std.specs.Option.{option_map_or}
 use Rattle.toml.specs.Data.{Members}
 use Rattle.afdx_plan.specs.PlanFaults.{fault_number, is_row_of, PlanRule, Rule, links_clash, ports_clash, port_misfits, link_count, port_count, sub_is_packed, breaks, plan_rules, Cells, is_misfit, is_past_limit}
 use Rattle.afdx_plan.specs.declared.fault.ConfigFault.{ConfigFault}
+use Rattle.afdx_plan.specs.declared.fault.ConfigFault.TheVariants.{UnknownKey}
 use Rattle.afdx_plan.specs.declared.rows.Misfit.{Misfit}
 use Rattle.afdx_plan.specs.declared.rows.PortRow.{PortRow}
 use Rattle.afdx_config.specs.declared.findings.Place.{Place}
@@ -28,7 +29,7 @@ found which at name with_other = record { fault = which; place = at; key = name;
 abbrev pub has : ConfigFault → Finding → Bool
 has fault finding = fault_number fault == fault_number finding.fault
 
--- this finding if the test holds, else none
+-- one finding if the test holds, else none
 abbrev pub one_if : Bool → Finding → List Finding
 one_if true finding = finding ∷ []
 one_if false finding = []
@@ -46,7 +47,7 @@ field_findings place fields members = flat_map (λ field. key_finding place fiel
 abbrev pub key_findings : Place → List Field → Members → List Finding
 key_findings place fields members = flat_map (λ key. key_finding place key (key_fault fields key)) (member_keys members)
 
--- the findings of a table: those of the keys of its format, then those of its own keys
+-- the findings of a table: first on the keys of its format, then on its own keys
 unfoldable pub table_findings : Place → List Field → Members → List Finding
 table_findings place fields members = field_findings place fields members ++ key_findings place fields members
 
@@ -60,7 +61,7 @@ abbrev pub row_like : Place → ℕ → Place
 row_like (Link j) k = Link k
 row_like _ k = Port k
 
--- the findings of 2 to 6: those of the top level, the end system, the links and the ports
+-- the findings of 2 to 6: on the top level, the end system, the links and the ports
 unfoldable pub value_findings : Members → List Finding
 value_findings document = table_findings Top document_fields document
     ++ option_map_or (table_findings EndSystem end_fields) (section_at (codes "end_system") document) []
@@ -76,7 +77,7 @@ abbrev pub pair_finding : ConfigFault → List ℕ → (ℕ → Place) → ℕ �
 pair_finding fault key at k None = []
 pair_finding fault key at k (Some i) = one_if (nat_lt (i + 1) k) (found fault (at k) key (Some (i + 1)))
 
--- the findings of the rows that clash with an earlier one, each with the first of those
+-- the findings of the rows that clash with an earlier one, each with the first such row
 abbrev pub pair_findings : {A : Type 0} → ConfigFault → List ℕ → (ℕ → Place) → (A → A → Bool) → List A → List Finding
 pair_findings fault key at clash rows =
     each_row (pair_finding fault key at) 1 (map (λ row. position (λ earlier. clash earlier row) rows) rows)
@@ -90,7 +91,7 @@ misfit_finding fault key misfit cells k port = one_if (is_misfit misfit cells po
 abbrev pub crowd_finding : ConfigFault → List ℕ → List PortRow → ℕ → PortRow → List Finding
 crowd_finding fault key ports k port = one_if (is_past_limit ports k port) (found fault (Port k) key None)
 
--- where links and ports break a rule
+-- the findings of links and ports that break a rule
 abbrev pub rule_findings : ConfigFault → List ℕ → Rule → Cells → List Finding
 rule_findings fault key (links_clash clash) cells = pair_findings fault key Link clash cells.links
 rule_findings fault key (ports_clash clash) cells = pair_findings fault key Port clash cells.ports
@@ -107,18 +108,37 @@ plan_findings cells = flat_map (λ (r : PlanRule). rule_findings r.fault r.key r
 abbrev pub number_of : Finding → ℕ
 number_of finding = fault_number finding.fault
 
--- a finding among others: after those of faults with no greater number
+-- a list with one more finding, put after the findings of faults with no greater number
 abbrev pub put : List Finding → Finding → List Finding
 put [] x = x ∷ []
 put (y ∷ ys) x = if nat_lt (number_of x) (number_of y) then x ∷ y ∷ ys else y ∷ put ys x
 
--- findings ordered by the numbers of their faults; those of one fault keep their order
+-- findings ordered by the numbers of their faults; findings of one fault keep their order
 abbrev pub by_fault : List Finding → List Finding
 by_fault all = fold put [] all
 
+-- a key of a link or a port that only version 2 has
+abbrev pub is_newer_key : Place → List ℕ → Bool
+is_newer_key (Link k) key = bytes_eq key (codes "networks")
+is_newer_key (Port k) key = bytes_eq key (codes "checksum")
+is_newer_key _ key = false
+
+-- an unknown key that only version 2 has
+abbrev pub is_newer : Finding → Bool
+is_newer finding = has UnknownKey finding && is_newer_key finding.place finding.key
+
+-- findings without any of a key that only version 2 has, except the first if none was told before
+abbrev pub once_after : Bool → List Finding → List Finding
+once_after told [] = []
+once_after told (x ∷ xs) = if told && is_newer x then once_after told xs else x ∷ once_after (told || is_newer x) xs
+
+-- Findings that each have a cause of their own: the first of a key that only version 2 has, and all others.
+abbrev pub told_once : List Finding → List Finding
+told_once all = once_after false all
+
 -- all findings of a document, ordered by the number of the fault, then by the order of the tables
 abbrev pub findings : Members → List Finding
-findings document = by_fault (value_findings document ++ plan_findings (cells_of document))
+findings document = by_fault (told_once (value_findings document ++ plan_findings (cells_of document)))
 
 -- the most findings that are kept, and have a line each
 abbrev pub lines_limit : ℕ

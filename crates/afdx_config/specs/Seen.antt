@@ -1,12 +1,12 @@
 -- The specification values of documents, formats and findings in the code.
 use Rattle.std.specs.Prelude.{◌≡◌, ◌≤◌, ◌++◌, ⊤, List, [], ◌∷◌, length, map, take, string_bytes, Option, Some, None, codes, option_map, All}
-use Rattle.std.specs.List.{AllByRecursion}
+use Rattle.std.specs.List.{AllByRecursion, list_any}
 use Rattle.afdx_plan.specs.declared.fault.ConfigFault.{ConfigFault}
 use Rattle.afdx_plan.specs.PlanFaults.{Cells}
 use Rattle.afdx_plan.specs.Plan.{IsLink, IsPort}
 use Rattle.afdx_plan.specs.Config.{Plan, plan_of_parts}
 use Rattle.afdx_config.specs.Cells.{link_of, port_of}
-use Rattle.afdx_config.specs.Findings.{Finding, by_fault, lines_limit, number_of}
+use Rattle.afdx_config.specs.Findings.{Finding, by_fault, is_newer, lines_limit, number_of, told_once}
 use Rattle.afdx_config.specs.declared.rows.Rows.{Rows}
 use Rattle.afdx_config.specs.declared.findings.Finding.{Finding as Written}
 use Rattle.afdx_config.specs.declared.findings.Found.{Found}
@@ -55,11 +55,20 @@ IsOrdered [] = ⊤
 IsOrdered (x ∷ xs) = AllByRecursion (λ y. number_of x ≤ number_of y) xs × IsOrdered xs
 
 -- the first 1,000 of these findings by the numbers of their faults are kept, and all are counted
-pub record Holds (found : Found) (all : List Finding) : Type 0 where
-  pub first_are : map finding_of found.first.items ≡ take lines_limit (by_fault all)
-  pub count_is : found.count ≡ length all
+pub record Keeps (found : Found) (told : List Finding) : Type 0 where
+  pub first_are : map finding_of found.first.items ≡ take lines_limit (by_fault told)
+  pub count_is : found.count ≡ length told
 
--- these findings were added
+-- a finding was added to the kept ones
+abbrev pub KeepsOne : Found → Found → Finding → Type 0
+KeepsOne old new x = (told : List Finding) → Keeps old told → Keeps new (told ++ x ∷ [])
+
+-- the findings that have a cause of their own are kept
+pub record Holds (found : Found) (all : List Finding) : Type 0 where
+  pub keeps : Keeps found (told_once all)
+  pub newer_is : found.has_newer ≡ list_any is_newer all
+
+-- the findings `more` were added
 abbrev pub Adds : Found → Found → List Finding → Type 0
 Adds old new more = (all : List Finding) → Holds old all → Holds new (all ++ more)
 
@@ -74,7 +83,7 @@ field_of written = record {
 abbrev pub data_of : Document → Members
 data_of document = table_view document.top.now
 
--- the tables are those of the document
+-- the tables are the document's
 pub record IsDocument (document : Document) : Type 0 where
   pub end_is : option_map (λ t. table_view t.now) document.end ≡ section_at (codes "end_system") (data_of document)
   pub links_are : map (λ r. table_view r.now) document.links.items ≡ rows_at (codes "vl") (data_of document)

@@ -30,13 +30,14 @@ address_of port = address_in port.vl port.partition port.unicast
 abbrev pub address_cmp : ℕ × List ℕ → ℕ × List ℕ → Ordering
 address_cmp x y = ordering_then (nat_cmp x.0 y.0) (slice_cmp nat_cmp x.1 y.1)
 
--- of the first port with an address, its link, and the first such port on another link: the first that is not on this
--- link
+-- the first port with an address that isn't on `link`, from the first port with that address: itself, or the first such
+-- port on another link than its own
 abbrev pub off_link : ℕ → Option (ℕ × ℕ × Option ℕ) → Option ℕ
 off_link link None = None
 off_link link (Some first) = if first.1 == link then first.2 else Some first.0
 
--- these of the ports from index i on
+-- of the ports from index i on, the first with this address: its index, its link, and the index of the first with this
+-- address on another link
 abbrev pub first_at : ℕ × List ℕ → ℕ → List PortRow → Option (ℕ × ℕ × Option ℕ)
 first_at address i [] = None
 first_at address i (port ∷ rest) = option_map_or (λ key. if is_eq (address_cmp key.0 address)

@@ -24,7 +24,7 @@ abbrev pub in_range : ℕ × ℕ → ℤ → Option ℕ
 in_range range (pos n) = if nat_lt n range.0 || nat_lt range.1 n then None else Some n
 in_range range (negsuc n) = None
 
--- what is read of a value: `missing` if there is none, `WrongKind` if it is of another kind, `fault` if it can't be
+-- the result of reading a value: `missing` if there is none, `WrongKind` if it has another kind, `fault` if it can't be
 -- converted
 abbrev pub converted : {X Y : Type 0} → (X → Option Y) → ConfigFault → Option X → Result Y ConfigFault
 converted convert fault None = Err WrongKind
@@ -35,7 +35,7 @@ abbrev pub read : {X Y : Type 0} → Result Y ConfigFault → (Data → Option X
 read missing kind convert fault None = missing
 read missing kind convert fault (Some value) = converted convert fault (kind value)
 
--- what is read under a key: a number, the version of the format, a BAG, networks, a kind, an address, a checksum
+-- the value under a key: a number, the version of the format, a BAG, networks, a kind, an address, a checksum
 abbrev pub number_under : ℕ × ℕ → Option Data → Result ℕ ConfigFault
 number_under range = read (Err MissingKey) as_integer (in_range range) OutOfRange
 
@@ -76,7 +76,7 @@ abbrev pub has_other_item : Items → Bool
 has_other_item no_items = false
 has_other_item (item d ds) = is_none (as_table d) || has_other_item ds
 
--- the fault of what is under a key
+-- the fault of the value under a key
 abbrev pub content_fault : Content → Option Data → Option ConfigFault
 content_fault (Whole range) value = result_err (number_under range value)
 content_fault Version value = result_err (version_under value)
@@ -114,6 +114,6 @@ rows_at key document =
 abbrev pub section_at : List ℕ → Members → Option Members
 section_at key document = option_and_then as_table (get_member key document)
 
--- the document is of format version 2
+-- true if the document has format version 2
 abbrev pub is_version_2 : Members → Bool
 is_version_2 document = option_map_or (λ n. n == 2) (value_at version_under (codes "version") document) false

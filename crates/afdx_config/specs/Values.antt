@@ -56,7 +56,7 @@ in_network_10 (octets, _ ∷ _) = None
 unfoldable pub address_of : List ℕ → Option (List ℕ)
 address_of text = option_and_then in_network_10 (read_ipv4 text)
 
--- what a port's table says by a text
+-- the unicast address that a port's table gives as a text
 abbrev pub unicast_of : List ℕ → Option (Option (List ℕ))
 unicast_of text = option_map (λ address. Some address) (address_of text)
 

@@ -47,7 +47,7 @@ fn section<'a>(document: &'a Table, key: &str) -> Option<&'a Table>
     value_at(document, key)?.as_table()
 }
 
-/// Returns whether the document is of format version 2.
+/// Returns true if the document has format version 2.
 pub(crate) fn is_version_2(document: &Document<'_>) -> bool
     ensures { result ≡ is_version_2 (data_of document.now) }
 {

@@ -15,10 +15,10 @@ use std::alloc::{AllocError, Global};
 use toml::Table;
 use toml::de::Error;
 
-/// The quotes of word processors, which are none of TOML.
+/// The quotes of word processors, which TOML doesn't have.
 const CURLED_QUOTES: [&str; 5] = ["\u{201c}", "\u{201d}", "\u{201e}", "\u{2018}", "\u{2019}"];
 
-/// What is wrong with them.
+/// The message on a word processor's quote.
 const CURLED: &str = "this quote is a word processor's, and a plain one is wanted";
 
 /// All faults of a text.
@@ -33,7 +33,7 @@ pub struct Explanation {
     pub text: Vec<u8>,
 }
 
-/// The explanation of findings. The lines of its text name the file of the text if it has a name.
+/// Returns the explanation of findings. The lines of its text name the text's file if it has a name.
 fn explanation_of(
     alloc: Global,
     document: Option<&Document<'_>>,
@@ -56,7 +56,7 @@ fn explanation_of(
     })
 }
 
-/// Explains a document, which is that of a text.
+/// Explains the document of a text.
 fn explain_document(
     alloc: Global,
     table: &Table,
@@ -73,14 +73,14 @@ fn explain_document(
     explanation_of(alloc, Some(&document), found, text, name)
 }
 
-/// The line after these bytes, counted from 1.
+/// Returns the line after these bytes, counted from 1.
 fn line_of(before: &[u8]) -> usize
     ensures { result ≡ line_of before.now }
 {
     1 + before.iter().filter(|byte| **byte == b'\n').count()
 }
 
-/// The column after these bytes in characters, counted from 1.
+/// Returns the column after these bytes in characters, counted from 1.
 fn column_of(before: &[u8]) -> usize
     ensures { result ≡ column_after 0 before.now }
 {

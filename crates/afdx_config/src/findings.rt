@@ -1,8 +1,9 @@
 //! Faults of a plan with their places.
 ghost use Rattle.std.specs.Prelude.{◌≡◌, ◌∷◌, ◌≤◌, [], length, map, OnOk};
 ghost use Rattle.std.specs.List.{insert};
-ghost use Rattle.afdx_config.specs.Findings.{found as finding_at, Finding as Told, one_if, put, row_like};
-ghost use Rattle.afdx_config.specs.Seen.{Adds, Holds, IsOrdered, finding_of};
+ghost use Rattle.afdx_config.specs.Findings.{found as finding_at, Finding as Told, is_newer as is_newer_finding, one_if, put, row_like};
+ghost use Rattle.afdx_config.specs.Seen.{Adds, Holds, IsOrdered, KeepsOne, finding_of};
+ghost use Rattle.std.specs.Prelude.{None};
 ghost use Rattle.afdx_plan.specs.PlanFaults.{fault_number};
 
 use afdx_plan::ConfigFault;
@@ -36,7 +37,7 @@ pub struct Finding {
     pub other: Option<usize>,
 }
 
-/// The place of row `k` of the array of this place.
+/// Returns the place of row `k` in the array of `place`.
 pub(crate) fn row_like(place: Place, k: usize) -> Place
     ensures { result ≡ row_like place k }
 {
@@ -54,6 +55,8 @@ pub(crate) const LINES_LIMIT: usize = 1_000;
 pub(crate) struct Found {
     pub first: Vec<Finding>,
     pub count: usize,
+    // a key that only version 2 has was told as unknown
+    pub has_newer: bool,
 }
 
 impl Found {
@@ -63,6 +66,7 @@ impl Found {
         Found {
             first: Vec::new(alloc),
             count: 0,
+            has_newer: false,
         }
     }
 
@@ -74,7 +78,7 @@ impl Found {
 /// The result of an addition.
 pub(crate) type Added = Result<(), AllocError>;
 
-/// The index after the last finding of a fault with no greater number.
+/// Returns the index after the last finding whose fault has no greater number than `fault`.
 #[tactic(auto, using(std::proofs::lemmas::Grind::common_steps, crate::proofs::OrderLemmas::index_found, crate::proofs::OrderLemmas::before_one))]
 fn index_of(first: &[Finding], fault: ConfigFault) -> usize
     ensures within { result ≤ length first.now }
@@ -89,7 +93,19 @@ fn index_of(first: &[Finding], fault: ConfigFault) -> usize
     0
 }
 
-/// Adds a finding.
+/// Returns whether a key that only version 2 has is unknown, as the text isn't one of version 2.
+fn is_newer(fault: ConfigFault, place: Place, key: &str) -> bool
+    ensures { result ≡ is_newer_finding (finding_at fault place key.now None) }
+{
+    fault.number() == ConfigFault::UnknownKey.number()
+        && match place {
+            Place::Link(_) => key == "networks",
+            Place::Port(_) => key == "checksum",
+            _ => false,
+        }
+}
+
+/// Adds a finding that has a cause of its own: of the keys that only version 2 has, the first is told.
 pub(crate) fn add(
     found: &mut Found,
     fault: ConfigFault,
@@ -98,6 +114,26 @@ pub(crate) fn add(
     other: Option<usize>,
 ) -> Added
     ensures { OnOk result (Adds found.old found.new (finding_at fault place key.now other ∷ [])) }
+{
+    let is_newer = is_newer(fault, place, key);
+    if found.has_newer && is_newer {
+        return Ok(());
+    }
+    add_one(found, fault, place, key, other)?;
+    found.has_newer = found.has_newer || is_newer;
+    Ok(())
+}
+
+/// Adds a finding.
+fn add_one(
+    found: &mut Found,
+    fault: ConfigFault,
+    place: Place,
+    key: &str,
+    other: Option<usize>,
+) -> Added
+    ensures kept { OnOk result (KeepsOne found.old found.new (finding_at fault place key.now other)) }
+    ensures newer { found.new.has_newer ≡ found.old.has_newer }
 {
     let Some(count) = found.count.checked_add(1) else {
         return Err(AllocError);

@@ -5,7 +5,7 @@ use std::alloc::{AllocError, Global};
 use std::collections::BTreeMap;
 use std::str;
 
-/// The kind of a table, and its number among those of the kind, from 1; 0 for a kind that has one table.
+/// The kind of a table, and its number among the tables of that kind, from 1; 0 for a kind that has one table.
 type TableName = (u8, usize);
 
 const TOP: TableName = (0, 0);
@@ -24,7 +24,7 @@ type Spot<'a> = (TableName, &'a str);
 /// The lines of spots, from 1; 0 of a spot that wasn't found.
 type Lines<'a> = BTreeMap<Spot<'a>, usize>;
 
-/// What a line begins with.
+/// The beginning of a line.
 #[derive(Clone, Copy)]
 enum Start<'a> {
     /// A comment, or nothing.
@@ -33,7 +33,7 @@ enum Start<'a> {
     Header(&'a str, bool),
     /// A key, and whether its value ends on the line.
     Key(&'a str, bool),
-    /// Another form.
+    /// A line of another form.
     Unusual,
 }
 
@@ -41,14 +41,14 @@ fn is_bare(c: char) -> bool {
     c.is_ascii_alphanumeric() || c == '-' || c == '_'
 }
 
-/// The bare key that a text begins with, and the rest of the text.
+/// Returns the bare key that a text begins with, and the rest of the text.
 fn bare_key(text: &str) -> Option<(&str, &str)> {
     let end = text.find(|c| !is_bare(c)).unwrap_or(text.len());
     let (key, rest) = text.split_at_checked(end)?;
     (!key.is_empty()).then_some((key, rest))
 }
 
-/// The key that a text begins with, bare or in quotes, and the rest of the text.
+/// Returns the key that a text begins with, bare or in quotes, and the rest of the text.
 fn key_of(text: &str) -> Option<(&str, &str)> {
     for quote in ["\"", "'"] {
         if let Some(quoted) = text.strip_prefix(quote) {
@@ -67,7 +67,7 @@ fn header_of(text: &str) -> Option<Start<'_>> {
     Some(Start::Header(name, row.is_some()))
 }
 
-/// Reads a key and what its value begins with.
+/// Reads a key and the beginning of its value.
 fn pair_of(line: &str) -> Option<Start<'_>> {
     let (key, rest) = key_of(line)?;
     let value = rest.trim_ascii_start().strip_prefix("=")?;
@@ -78,7 +78,7 @@ fn pair_of(line: &str) -> Option<Start<'_>> {
     Some(Start::Key(key, !is_open))
 }
 
-/// What a line begins with.
+/// Returns the beginning of a line.
 fn start_of(line: &str) -> Start<'_> {
     let line = line.trim_ascii_start();
     if line.is_empty() || line.starts_with("#") {
@@ -100,14 +100,14 @@ fn keep<'a>(lines: &mut Lines<'a>, spot: Spot<'a>, line: usize) {
     }
 }
 
-/// How many tables of links and ports have begun.
+/// The numbers of tables of links and of ports that have begun.
 #[derive(Clone, Copy)]
 struct Begun {
     links: usize,
     ports: usize,
 }
 
-/// The table of a header.
+/// Returns the table of a header.
 fn table_of(begun: &mut Begun, name: &str, is_row: bool) -> TableName {
     match (name, is_row) {
         ("end_system", false) => END_SYSTEM,
@@ -148,7 +148,7 @@ fn search<'a>(lines: &mut Lines<'a>, text: &'a str) {
     }
 }
 
-/// The table of a place.
+/// Returns the table of a place.
 fn table_at(place: Place) -> TableName {
     match place {
         Place::Text(_, _) | Place::Top => TOP,
@@ -158,13 +158,18 @@ fn table_at(place: Place) -> TableName {
     }
 }
 
-/// The line of a finding: that at which a text stops being TOML, of its key, or else of its table's header.
+/// Returns the line of a finding: of its place if the text stops being TOML there, of its key, or else of its table's
+/// header.
 fn line_of<'a>(lines: &Lines<'a>, finding: &'a Finding) -> Option<usize> {
     if let Place::Text(line, _) = finding.place {
         return Some(line);
     }
-    let table = table_at(finding.place);
-    let of_key = lines.get(&(table, finding.key.as_str())).copied();
+    line_at(lines, table_at(finding.place), finding.key.as_str())
+}
+
+/// Returns the line of a key of a table, or else of the table's header.
+fn line_at<'a>(lines: &Lines<'a>, table: TableName, key: &'a str) -> Option<usize> {
+    let of_key = lines.get(&(table, key)).copied();
     let of_table = lines.get(&(table, "")).copied();
     [of_key, of_table]
         .into_iter()
@@ -172,7 +177,19 @@ fn line_of<'a>(lines: &Lines<'a>, finding: &'a Finding) -> Option<usize> {
         .find(|line| *line != 0)
 }
 
-/// The line of each finding, from 1, if it is known.
+/// Returns the line of the `id` of the table at a place in a text, or else of its header, from 1; `None` if it isn't
+/// known. Fails only if an allocation fails.
+pub fn id_line(alloc: Global, text: &[u8], place: Place) -> Result<Option<usize>, AllocError> {
+    let (table, mut lines) = (table_at(place), BTreeMap::new(alloc));
+    lines.insert((table, "id"), 0)?;
+    lines.insert((table, ""), 0)?;
+    if let Ok(text) = str::from_utf8(text) {
+        search(&mut lines, text);
+    }
+    Ok(line_at(&lines, table, "id"))
+}
+
+/// Returns the line of each finding, from 1, if it is known.
 pub(crate) fn lines_of_findings<'a>(
     alloc: Global,
     text: &'a [u8],

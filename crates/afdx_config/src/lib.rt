@@ -20,4 +20,5 @@ pub use afdx_plan::{
 };
 pub use explaining::{Explanation, explain, explain_file};
 pub use findings::{Finding, Place};
+pub use layout::id_line;
 pub use read::{config_of, read_config};

@@ -34,7 +34,7 @@ fn count_of(counts: &Counts, vl: u16, sub: u16) -> usize
     counts.get(&(vl, sub)).copied().unwrap_or(0)
 }
 
-/// Counts a port. Returns the number of those before it on its sub-VL.
+/// Counts a port. Returns the number of ports before it on its sub-VL.
 fn count_port(counts: &mut Counts, port: &PortRow) -> Result<usize, AllocError>
     requires { (q : ℕ × ℕ) → unwrap_or (get sub_cmp counts.old q) 0 < 2 ^ 63 }
     ensures before { IfOk result (λ n. n

@@ -136,7 +136,7 @@ impl Named for UdpSum {
     }
 }
 
-/// Reads the text under a key: what it names, or `missing` if there is no value.
+/// Reads the name under a key. Returns its meaning, or `missing` if there is no value.
 pub(crate) fn text_in<T: Named>(
     table: &Table,
     key: &str,

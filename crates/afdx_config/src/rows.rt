@@ -30,7 +30,7 @@ use afdx_plan::{
 use std::alloc::AllocError;
 use toml::Table;
 
-/// The values of a document that the rules of plans look at, and whether the keys of its arrays have no fault.
+/// The values of a document that the rules of plans read, and whether the keys of its arrays have no fault.
 #[derive(Drop)]
 pub(crate) struct Rows {
     pub end_system: u16,
@@ -80,7 +80,7 @@ fn keep_number(
     keep(found, place, key, number_in(table, key, range))
 }
 
-/// Returns what was read, or in version 1, which lacks the key, the value without it.
+/// Returns the value that was read, or in version 1, which lacks the key, the value without it.
 fn in_version<T: Copy>(
     is_2: bool,
     read: Result<T, ConfigFault>,

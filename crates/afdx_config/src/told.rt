@@ -20,10 +20,10 @@ pub(crate) type Text = Vec<u8>;
 /// The most bytes of a key or a string that a finding prints.
 const TOLD_LIMIT: usize = 40;
 
-/// How many letters are too many for a key to be meant; of a short word, half of it.
+/// The distance in letters at which no key is taken to be meant; for a short word, half of the word.
 const NEAR_LIMIT: usize = 3;
 
-/// A byte is printable ASCII, but neither a quote nor a backslash.
+/// Returns true if a byte is printable ASCII, but neither a quote nor a backslash.
 fn is_plain(byte: u8) -> bool {
     b' ' <= byte && byte <= b'~' && byte != b'"' && byte != b'\\'
 }
@@ -44,7 +44,7 @@ fn write_cut(out: &mut Text, text: &str) -> Result<()> {
     }
 }
 
-/// Writes what a value is: a string in quotes, a whole number, else the kind.
+/// Writes a value: a string in quotes, a whole number, else the kind.
 fn write_value(out: &mut Text, value: Option<&Value>) -> Result<()> {
     match value {
         None => out.write_all(b"missing"),
@@ -59,7 +59,7 @@ fn write_value(out: &mut Text, value: Option<&Value>) -> Result<()> {
     }
 }
 
-/// The table at a place. Tables are counted from 1.
+/// Returns the table at a place. Tables are counted from 1.
 fn table_at<'a>(document: &Document<'a>, place: Place) -> Option<&'a Table> {
     match place {
         Place::Text(_, _) => None,
@@ -111,7 +111,7 @@ fn fields_at(is_2: bool, place: Place) -> &'static [Field] {
     }
 }
 
-/// The content of a finding's key.
+/// Returns the content of a finding's key.
 fn content_at(document: &Document<'_>, finding: &Finding) -> Option<Content> {
     let fields = fields_at(is_version_2(document), finding.place);
     field_named(fields, finding.key.as_str()).map(|field| field.1)
@@ -133,7 +133,7 @@ fn write_content(out: &mut Text, content: Content) -> Result<()> {
     out.write_all(text.as_bytes())
 }
 
-/// The kind of value that a content requires.
+/// Returns the kind of value that a content requires.
 fn kind_text(content: Content) -> &'static str {
     match content {
         Content::Whole(_) | Content::Version | Content::Gap => "a whole number",
@@ -143,11 +143,15 @@ fn kind_text(content: Content) -> &'static str {
     }
 }
 
-/// Writes why a key is unknown: it is one of version 2 alone, or the format lacks it.
+/// Writes why a key is unknown: it is one of version 2 alone, which is told once, or the format lacks it.
 fn write_known(out: &mut Text, document: &Document<'_>, finding: &Finding) -> Result<()> {
     let latest = fields_at(true, finding.place);
     if key_fault(latest, finding.key.as_str()).is_none() {
-        return out.write_all(b"only if version = 2");
+        out.write_all(b"only if version = 2")?;
+        return match value_at(document.top, "version") {
+            None => out.write_all(b", and version is missing"),
+            Some(_) => Ok(()),
+        };
     }
     out.write_all(b"the keys are")?;
     let fields = fields_at(is_version_2(document), finding.place);
@@ -177,7 +181,7 @@ fn nearest(alloc: Global, fields: &'static [Field], word: &str) -> Result<Option
     Ok(found)
 }
 
-/// The allowed number of tables under a key, or of ports of a sub-VL.
+/// Returns the allowed number of tables under a key, or of a sub-VL's ports.
 fn limit_text(key: &str) -> &'static str {
     match key {
         "vl" => "1 to 64 tables",
@@ -202,7 +206,7 @@ fn write_bound(
     write_subject(out, document, Place::Link(k), key)
 }
 
-/// Writes how the tables of an array begin, if there is one table in its place.
+/// Writes the header to use if a single table stands in the place of an array of tables.
 fn write_brackets(
     out: &mut Text,
     document: &Document<'_>,
@@ -216,7 +220,7 @@ fn write_brackets(
     }
 }
 
-/// Writes what is allowed at the key of a finding.
+/// Writes the values that are allowed at the key of a finding.
 fn write_allowed(out: &mut Text, document: &Document<'_>, finding: &Finding) -> Result<()> {
     let content = content_at(document, finding);
     let link = finding.other;
@@ -239,7 +243,7 @@ fn write_allowed(out: &mut Text, document: &Document<'_>, finding: &Finding) -> 
     }
 }
 
-/// The values that the two tables of a fault share, or `None` for a fault of one key.
+/// Returns the values that the two tables of a fault share, or `None` for a fault of one key.
 fn same_text(fault: ConfigFault) -> Option<&'static str> {
     match fault {
         ConfigFault::DuplicateVl | ConfigFault::DuplicatePort => Some("the same id"),
@@ -249,7 +253,7 @@ fn same_text(fault: ConfigFault) -> Option<&'static str> {
     }
 }
 
-/// Writes a finding of two tables and the values that they share, or the value of one and what is allowed there.
+/// Writes a finding of two tables and the values that they share, or of one table, its value and the allowed ones.
 fn write_faulty(out: &mut Text, document: &Document<'_>, finding: &Finding) -> Result<()> {
     let Some(same) = same_text(finding.fault) else {
         write_subject(out, document, finding.place, finding.key.as_str())?;
@@ -286,7 +290,7 @@ fn write_origin(out: &mut Text, name: &str, line: Option<usize>) -> Result<()> {
     }
 }
 
-/// The lines of findings.
+/// Returns the lines of findings.
 fn lines_of(
     alloc: Global,
     document: Option<&Document<'_>>,
@@ -328,8 +332,8 @@ fn write_rest(out: &mut Text, count: usize) -> Result<()>
     writeln!(out, "and {others} more")
 }
 
-/// The text of findings: their number, a line for each of those kept, and the number of the others. Each line begins
-/// with the name of the file of the text, if it has one, and the line of the finding there, if that is known.
+/// Returns the text of findings: their number, a line for each kept one, and the number of the others. Each line begins
+/// with the name of the text's file, if it has one, and the line of the finding there, if that is known.
 pub(crate) fn text_of(
     alloc: Global,
     document: Option<&Document<'_>>,

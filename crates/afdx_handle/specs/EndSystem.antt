@@ -24,7 +24,7 @@ use Rattle.afdx_handle.specs.declared.end_system.Stage.TheVariants.{Sending, Dra
 abbrev pub IsNextDue : Tx → ℕ → Type 0
 IsNextDue tx at = (next : Option ℕ) × TellsNextDue tx next × (at ≡ unwrap_or next (2 ^ 64 - 1))
 
--- whether the ports are gathered
+-- true if the ports are gathered
 abbrev pub is_gathered : Stage → Bool
 is_gathered (Sending tx) = false
 is_gathered (Draining tx) = true
@@ -34,9 +34,9 @@ abbrev pub tx_of : Stage → Tx
 tx_of (Sending tx) = tx
 tx_of (Draining tx) = tx
 
--- An end system: whether its ports are gathered, its emitter, the ports in it and the capacity of
--- their list, the number of frames that each network had accepted before the last poll, and the address
--- of the block that it and each of its ports that is out own.
+-- An end system: true if its ports are gathered, its emitter, the ports in it and the capacity of their list, the
+-- number of frames that each network had accepted before the last poll, and the address of the block that the end
+-- system owns, and each of its ports that is out.
 pub record EndView : Type 0 where
   pub gathered : Bool
   pub tx : Tx
@@ -75,13 +75,13 @@ made_at net k it = (entry_at (line_of net it.tx.lines) (before_of net it + k)).f
 abbrev pub IsAllSent : EndView → Type 0
 IsAllSent it = IsAllDone it.tx.plan (accepted_in it.tx.links) (log it.tx.lines)
 
--- the frames from this number on are those of one poll: at most 64, all of its time
+-- the frames from number `before` on were made by one poll: at most 64, all at its time
 pub record AreOfPoll (at before : ℕ) (handed : List Entry) : Type 0 where
   pub few : length handed ≤ before + 64
   pub same : (k : ℕ) → before ≤ k → k < length handed → (entry_at handed k).at ≡ at
 
--- the invariant of an end system: its ports are its emitter's, and the frames after those of earlier polls are of the
--- last
+-- the invariant of an end system: its ports are its emitter's, and the last poll made all frames after the earlier
+-- polls' frames
 pub record IsEndSystem (it : EndView) : Type 0 where
   pub mirrored : IsMirrored it.tx.lines
   pub own : it.gathered ≡ false → AreOpenedWith it.tx it.ports
@@ -94,7 +94,7 @@ pub record PollsTx (gathered : Bool) (now : ℕ) (old : Tx) (report : Report) (n
   pub run : Runs gathered now old new
   pub lawful : StaysLawful gathered old new
 
--- A poll: the frames that it makes for a network are those after the frames accepted before.
+-- A poll: it makes for a network the frames after the frames accepted before.
 pub record PollsEnd (now : ℕ) (old new : EndView) : Type 0 where
   pub report : Report
   pub polls : PollsTx old.gathered now old.tx report new.tx
@@ -114,7 +114,7 @@ pub record ClosesEnd (old : EndView) (vl sub total : ℕ) (new : EndView) : Type
   pub same : new ≡ record old { tx = new.tx }
   pub closes : ClosesTx old.tx vl sub total new.tx
 
--- the ports, all of which are in the end system, are gathered
+-- an end system whose ports are gathered; all of them were in it
 pub record GathersEnd (old new : EndView) : Type 0 where
   pub gathered : new.gathered ≡ true
   pub tx : IsGatheredTx old.tx old.ports new.tx

@@ -31,22 +31,22 @@ port_block (Some (is.EndSystem' it shape boxes)) = None
 port_block (Some (is.Port own)) = Some own.block
 port_block (Some is.Nothing) = None
 
--- it holds neither
+-- a handle that holds neither an end system nor a port
 abbrev pub HoldsNothing : Option Home → Type 0
 HoldsNothing held = IsNone (end_of held) × IsNone (port_of held)
 
--- it holds one of them
+-- a handle that holds an end system or a port
 abbrev pub HoldsOne : Option Home → Type 0
 HoldsOne held = IsSome (end_of held) ⊎ IsSome (port_of held)
 
--- it holds an end system, or a port, with this property
+-- a handle that holds an end system with this property
 abbrev pub HoldsEnd : Option Home → (EndView → Type 0) → Type 0
 HoldsEnd held Is = IsSomeAnd (end_of held) Is
 
 abbrev pub HoldsPort : Option Home → (PortView → Type 0) → Type 0
 HoldsPort held Is = IsSomeAnd (port_of held) Is
 
--- both hold the same end system, the same port of the same end system, or neither
+-- two handles that hold the same end system, the same port of the same end system, or neither
 abbrev pub HoldsSame : Option Home → Option Home → Type 0
 HoldsSame old new = (end_of new ≡ end_of old) × (port_of new ≡ port_of old) × (port_block new ≡ port_block old)
 
@@ -54,7 +54,7 @@ HoldsSame old new = (end_of new ≡ end_of old) × (port_of new ≡ port_of old)
 abbrev pub EndDoes : Option Home → Option Home → (EndView → EndView → Type 0) → Type 0
 EndDoes old new Does = HoldsEnd old (λ before. HoldsEnd new (Does before))
 
--- the relation between the port before and afterwards, which is of the same end system
+-- the relation between the port before and afterwards; its end system stays the same
 abbrev pub PortDoes : Option Home → Option Home → (PortView → PortView → Type 0) → Type 0
 PortDoes old new Does = HoldsPort old (λ before. HoldsPort new (Does before)) × (port_block new ≡ port_block old)
 
@@ -62,6 +62,6 @@ PortDoes old new Does = HoldsPort old (λ before. HoldsPort new (Does before)) �
 abbrev pub with_home : Sealed → Home → Sealed
 with_home seal home = record seal { home = Some home }
 
--- once the borrow ends, the seal holds the last home behind the result
+-- once the borrow ends, the seal holds the home that the result last pointed to
 abbrev pub LendsHome : MutBor Sealed → MutBor Home → Fml
 LendsHome s r = Lends the_row home_row s r (with_home s.now)

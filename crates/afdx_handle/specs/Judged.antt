@@ -24,7 +24,7 @@ abbrev pub IsRefused : ℕ → Type 0
 IsRefused answer = (1 ≤ answer) × (answer ≤ MEMORY)
 
 -- The findings of two captures, each of one network alone, or twice of one of both, by a plan: as many as had room were
--- written over the front of a list, and beside them their number and what was read.
+-- written over the front of a list, and beside them their number and the ends of reading.
 pub record Judges (plan : Plan) (how : JudgeOptions) (alone : Bool) (a b : Recording) (old new : List FindingRow)
     (judged : Judged) : Type 0 where
   pub found : List Finding
@@ -34,7 +34,8 @@ pub record Judges (plan : Plan) (how : JudgeOptions) (alone : Bool) (a b : Recor
   pub of_a : judged.a ≡ captured_of a
   pub of_b : judged.b ≡ captured_of b
 
--- the same by the text of a plan, and of the bytes of captures; `b` is left out of one of both networks
+-- the findings that are written for the text of a plan and the bytes of captures; a capture of both networks is `a`
+-- alone
 pub record IsJudged (text : List ℕ) (how : JudgeOptions) (alone : Bool) (a b : List ℕ) (old new : List FindingRow)
     (judged : Judged) : Type 0 where
   pub plan : Plan

@@ -1,4 +1,4 @@
--- The lists and texts of an end system, and where they are written.
+-- The lists and texts of an end system, and the buffers to which they are written.
 use Rattle.std.specs.Prelude.{ℕ, ◌++◌, List, map, length, drop, ◌≡◌, take}
 use Rattle.std.specs.List.{concat, range_with_len}
 use Rattle.afdx_plan.specs.declared.link_plan.LinkPlan.{LinkPlan}
@@ -35,11 +35,11 @@ first_made net many it = map (λ k. made_at net k it) (range_with_len 0 many)
 abbrev pub all_made : Net → EndView → List (List ℕ)
 all_made net it = first_made net (made_for net it) it
 
--- the length of each
+-- the length of each frame
 abbrev pub lengths_of : List (List ℕ) → List ℕ
 lengths_of frames = map (λ (frame : List ℕ). length frame) frames
 
--- their length in all
+-- the total length of frames
 abbrev pub bytes_of : List (List ℕ) → ℕ
 bytes_of frames = length (concat frames)
 

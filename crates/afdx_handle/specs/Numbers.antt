@@ -37,7 +37,7 @@ abbrev pub IsOneOf : ℕ → List ℕ → Type 0
 IsOneOf number [] = ⊥
 IsOneOf number (first ∷ rest) = (number ≡ first) ⊎ IsOneOf number rest
 
--- these are the counts in the layout of C
+-- counts of a link, and the same counts in the layout of C
 pub record AreCountsOf (counts : Counts) (written : LinkCounts) : Type 0 where
   pub frames : written.frames ≡ counts.frames
   pub bytes : written.bytes ≡ counts.bytes

@@ -1,4 +1,4 @@
--- Findings and what was read of captures, as C has them.
+-- Findings and the ends of reading captures, as C has them.
 use Rattle.std.specs.Prelude.{ℕ, ◌^◌, ◌-◌, length, nat_eq, nat_lt, not, if◌then◌else◌}
 use Rattle.std.specs.Option.{option_map_or}
 use Rattle.afdx_frame.specs.declared.layout.Layout.{Layout}
@@ -23,7 +23,7 @@ use Rattle.afdx_handle.specs.declared.judging.Captured.{Captured}
 use Rattle.afdx_handle.specs.declared.judging.FindingRow.{FindingRow}
 use Rattle.afdx_handle.specs.declared.judging.JudgeOptions.{JudgeOptions}
 
--- the options of the judge; a flag is on unless it is 0
+-- the options of the judge; a flag is on if it isn't 0
 abbrev pub options_of : JudgeOptions → Options
 options_of how = record {
   jitter = how.jitter;
@@ -65,7 +65,7 @@ ending_number ending.UdpLength = 1
 ending_number ending.Size = 2
 ending_number ending.UdpChecksum = 3
 
--- that of a kind's rule, 0 if the kind has none
+-- the number of a kind's rule, 0 if the kind has none
 abbrev pub rule_number : FindingKind → ℕ
 rule_number (Frame rule) = layout_number rule
 rule_number (Fragment rule) = misfit_number rule
@@ -76,7 +76,8 @@ abbrev pub net_number : Net → ℕ
 net_number A = 0
 net_number B = 1
 
--- a finding; a time from 2 ^ 64 - 1 nanoseconds on is that one, and no link a number that none has
+-- a finding as C has it: a time over 2 ^ 64 - 1 nanoseconds becomes that one, and a missing link a number that no link
+-- has
 abbrev pub row_of : Finding → FindingRow
 row_of f = record {
   packet = f.packet;
@@ -89,7 +90,7 @@ row_of f = record {
   rule = rule_number f.kind;
 }
 
--- the number of what is wrong with a capture, from 2 on
+-- the number of a capture's fault, from 2 on
 abbrev pub capture_number : Fault → ℕ
 capture_number fault.Format = 2
 capture_number fault.ByteOrder = 3
@@ -105,7 +106,7 @@ capture_number fault.NoInterface = 12
 capture_number fault.Captured = 13
 capture_number fault.Time = 14
 
--- what was read of a capture: the number of its packets, how it ends, and at which byte
+-- the end of reading a capture in the layout of C: the number of its packets, how it ends, and at which byte
 abbrev pub ended : ℕ → CaptureEnd → Captured
 ended packets Whole = record { packets = packets; at = 0; end = 0 }
 ended packets (CutOff place) = record { packets = packets; at = place; end = 1 }

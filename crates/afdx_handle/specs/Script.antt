@@ -1,4 +1,4 @@
--- What a line of a script says, as C has it.
+-- The meaning of a script's line, as C has it.
 use Rattle.std.specs.Prelude.{ℕ, List, [], length, ◌≡◌}
 use Rattle.script_text.specs.declared.line_meaning.Line.{Line}
 use Rattle.script_text.specs.declared.line_meaning.Line.TheVariants.{Send, At, Close, Nothing}
@@ -15,14 +15,14 @@ message_in said = []
 abbrev pub line_of : (kind sub id at size : ℕ) → ScriptLine
 line_of kind sub id at size = record { kind = kind; sub = sub; id = id; at = at; size = size }
 
--- what a line says: nothing, a send, a poll or a close
+-- the meaning of a line in the layout of C: nothing, a send, a poll or a close
 abbrev pub laid_out : Line → ScriptLine
 laid_out Nothing = line_of 0 0 0 0 0
 laid_out (Send port bytes) = line_of 1 0 port 0 (length bytes)
 laid_out (At moment) = line_of 2 0 0 moment 0
 laid_out (Close vl sub) = line_of 3 sub vl 0 0
 
--- the link, the sub-VL and the number of a frame: what the report of its poll has of it (`release_of`)
+-- the link, the sub-VL and the number of a frame, as the report of its poll has them (`release_of`)
 pub record IsReleaseOf (frame : List ℕ) (written : FrameRelease) : Type 0 where
   pub vl : written.vl ≡ link_in frame
   pub sub : written.sub ≡ sub_in frame

@@ -1,5 +1,5 @@
-//! The numbers that calls return, as `afdx.h` has them, the meaning of the other numbers there, and
-//! what they write: counts and releases in the layout of C, and bytes in a buffer.
+//! The numbers that calls return, as `afdx.h` has them, the meaning of the other numbers there, and the values that
+//! calls write: counts and releases in the layout of C, and bytes in a buffer.
 ghost use Rattle.std.specs.Prelude.{◌≡◌, ◌+◌, ◌≤◌, ◌++◌, length, take, drop, slice_index};
 ghost use Rattle.afdx_handle.specs.Numbers.{net_of, refusal_number, standing_bits};
 ghost use Rattle.afdx_handle.specs.Script.{IsReleaseOf};
@@ -26,7 +26,7 @@ pub const WRONG_HANDLE: u8 = 33;
 /// The handle to be filled holds something.
 pub const HELD: u8 = 34;
 
-/// The time is before that of an earlier poll.
+/// The time is before an earlier poll's.
 pub const TIME_BACK: u8 = 35;
 
 /// The end system doesn't hold such a port.
@@ -59,7 +59,7 @@ pub const NOT_GATHERED: u8 = 44;
 /// A capture is cut off or malformed.
 pub const BAD_CAPTURE: u8 = 45;
 
-/// The network with this number.
+/// Returns the network with this number.
 pub fn net_of(number: u8) -> Option<Net>
     ensures { result ≡ net_of number }
 {
@@ -70,7 +70,7 @@ pub fn net_of(number: u8) -> Option<Net>
     }
 }
 
-/// The number of a refusal.
+/// Returns the number of a refusal.
 pub fn refusal_number(why: Refusal) -> u8
     ensures { result ≡ refusal_number why }
 {
@@ -83,7 +83,7 @@ pub fn refusal_number(why: Refusal) -> u8
     }
 }
 
-/// The networks that are up, as bits: 1 for A and 2 for B.
+/// Returns the networks that are up, as bits: 1 for A and 2 for B.
 pub fn standing_bits(standing: Standing) -> u8
     ensures { result ≡ standing_bits standing.a standing.b }
 {
@@ -117,7 +117,7 @@ fn byte_at(bytes: &[u8], i: usize) -> u8
     if i < bytes.len() { bytes[i] } else { 0 }
 }
 
-/// Returns the release of a frame, or of any bytes: those that are missing count as 0.
+/// Returns the release of a frame, or of any bytes: missing bytes count as 0.
 #[tactic(auto, using(std::proofs::Common::arith))]
 pub fn release_of(frame: &[u8]) -> FrameRelease
     ensures { IsReleaseOf frame.now result }

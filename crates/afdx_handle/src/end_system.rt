@@ -41,14 +41,14 @@ macro_rules! in_phase {
 }
 
 impl Stage {
-    /// The time of the last poll, in microseconds.
+    /// Returns the time of the last poll, in microseconds.
     pub fn now(&self) -> u64
         ensures { result ≡ (tx_of self.now).moment }
     {
         in_phase!(self, it => it.now())
     }
 
-    /// A network.
+    /// Returns a network.
     pub fn network(&self, net: Net) -> &Outbox<LastTime>
         ensures { result.now.handed ≡ line_of net (tx_of self.now).lines }
     {
@@ -66,21 +66,21 @@ impl Stage {
         in_phase!(self, it => it.fail(net))
     }
 
-    /// The plan.
+    /// Returns the plan.
     pub fn config(&self) -> &Config
         ensures { result.now ≡ (tx_of self.now).plan }
     {
         in_phase!(self, it => it.config())
     }
 
-    /// The first time after the last poll at which a link may release a frame and couldn't then.
+    /// Returns the first time after the last poll at which a link that wasn't due then becomes due.
     pub fn next_due(&self) -> Option<u64>
         ensures { TellsNextDue (tx_of self.now) result }
     {
         in_phase!(self, it => it.next_due())
     }
 
-    /// The counts of a link, by its identifier.
+    /// Returns the counts of a link, by its identifier.
     pub fn counts(&self, vl: VlId) -> Option<Counts>
         ensures missing { IsNone result ↔ LacksLink (tx_of self.now).plan vl.0 }
         ensures counts { IfSome result (λ counts.
@@ -104,9 +104,9 @@ impl Stage {
     }
 }
 
-/// An end system: its emitter, the ports in it, how many frames each network had accepted before the last poll, and the
-/// block whose address is its mark. Each port that is out owns that block too. So no other end system has the
-/// same mark while this one or one of its ports exists.
+/// An end system: its emitter, the ports in it, the number of frames that each network had accepted before the last
+/// poll, and the block whose address is its mark. Each port that is out owns that block too. So no other end system has
+/// the same mark while this one or one of its ports exists.
 #[derive(Drop)]
 pub struct EndSystem {
     pub stage: Stage,
@@ -156,7 +156,7 @@ impl EndSystem {
         DONE
     }
 
-    /// The number of the first frame that the last poll made for a network, and the number after its last.
+    /// Returns the number of the first frame that the last poll made for a network, and the number after its last.
     fn numbers(&self, net: Net) -> (u64, u64)
         ensures first { result.0 ≡ before_of net self.now }
         ensures end { result.1 ≡ length (line_of net self.now.tx.lines) }
@@ -168,7 +168,7 @@ impl EndSystem {
         }
     }
 
-    /// The number of frames that the last poll made for a network.
+    /// Returns the number of frames that the last poll made for a network.
     pub fn frames(&self, net: Net) -> usize
         ensures count { result ≡ made_for net self.now }
         ensures few { result ≤ 64 }
@@ -177,7 +177,7 @@ impl EndSystem {
         end.saturating_sub(first) as usize
     }
 
-    /// Frame `k`, from 0, that the last poll made for a network.
+    /// Returns frame `k`, from 0, that the last poll made for a network.
     pub fn made(&self, net: Net, k: usize) -> &[u8]
         requires { k < made_for net self.now }
         ensures frame { result.now ≡ made_at net k self.now }
@@ -190,7 +190,7 @@ impl EndSystem {
         kept.frame.as_slice()
     }
 
-    /// The length in all of the frames that the last poll made for a network.
+    /// Returns the total length of the frames that the last poll made for a network.
     #[tactic(auto, using(crate::proofs::MadeFrames::bytes_more))]
     fn made_bytes(&self, net: Net) -> usize
         ensures { result ≡ bytes_of (all_made net self.now) }
@@ -202,9 +202,9 @@ impl EndSystem {
         total
     }
 
-    /// Copies all frames that the last poll made for a network into a buffer, one after the other,
-    /// and writes their lengths and their number. On `SMALL_BUFFER`, if they have more bytes than
-    /// the buffer or are more than there is room for lengths, writes only the number.
+    /// Copies all frames that the last poll made for a network into a buffer, one after the other, and writes their
+    /// lengths and their number. On `SMALL_BUFFER`, if the buffer is too small for their bytes or the list for their
+    /// lengths, writes only the number.
     pub fn all_frames(
         &self,
         net: Net,

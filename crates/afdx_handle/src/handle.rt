@@ -1,4 +1,5 @@
-//! What C holds by pointer: a home, or nothing; and the block of memory that tells an end system from all others.
+//! The content of a handle, which C holds by pointer: a home, or nothing; and the block of memory that tells an end
+//! system from all others.
 ghost use Rattle.std.specs.Prelude.{◌≡◌, ◌<◌, Option, Some, None, IsSome, IsNone, is_none, MatchOption, IfOk, vec_capacity};
 ghost use Rattle.std_alloc.specs.Vec.{vec_ptr};
 ghost use denote.RawPtr.{Ptr};
@@ -14,7 +15,7 @@ use std::sync::Arc;
 /// owner, so that no other block has its address.
 #[derive(Drop)]
 pub struct Block {
-    // A list's contract shows its address, that of an `Arc` doesn't.
+    // A list's contract shows its address, an `Arc`'s doesn't.
     bytes: Arc<Vec<u8>, Global>,
 }
 
@@ -27,7 +28,7 @@ impl Model for Block {
 }
 
 impl Block {
-    /// A new block, with one owner.
+    /// Creates a block with one owner.
     pub fn new(alloc: Global) -> Result<Block, AllocError> {
         let bytes = Vec::with_capacity(alloc, 1)?;
         match Arc::new(alloc, bytes) {
@@ -36,7 +37,7 @@ impl Block {
         }
     }
 
-    /// One more owner of the same block.
+    /// Returns another owner of the same block.
     pub fn another_owner(&self) -> Result<Block, AllocError>
         ensures { IfOk result (λ block. block ≡ self.now) }
     {
@@ -44,7 +45,7 @@ impl Block {
         Ok(Block { bytes })
     }
 
-    /// Its address.
+    /// Returns the block's address.
     pub fn address(&self) -> *const u8
         ensures { result ≡ self.now }
     {
@@ -86,8 +87,8 @@ pub struct Handle {
     ghost something: { 0 < held → IsSome kept.home },
 }
 
-/// A handle in the layout of C, with the mark of the end system that it holds or that its port is of: the address of a
-/// block, as a number. The mark means something only beside what `Handle` holds.
+/// A handle in the layout of C, with the mark of its end system, or of its port's: the address of a block, as a number.
+/// The mark means something only beside the content of `Handle`.
 #[repr(C)]
 #[derive(Drop)]
 pub struct Marked {
@@ -95,8 +96,8 @@ pub struct Marked {
     pub mark: u64,
 }
 
-/// The same handle when it is filled with an end system. The mark is written as an address, which
-/// no code here can read as a number.
+/// A handle in the layout of C while it is filled with an end system. The mark is written as an address, which no code
+/// here can read as a number.
 #[repr(C)]
 #[derive(Drop)]
 pub struct Opening {
@@ -105,7 +106,7 @@ pub struct Opening {
 }
 
 impl Handle {
-    /// Whether it holds nothing.
+    /// Returns true if the handle holds nothing.
     pub fn is_empty(&self) -> bool
         ensures { result ≡ is_none self.now.kept.home }
     {

@@ -17,7 +17,7 @@ use std::alloc::Global;
 /// No link.
 const NO_VL: u32 = 0x1_0000;
 
-/// What a recording may deviate by, in microseconds, and how it was made: flags, of which 0 is no.
+/// The tolerances of a judge, in microseconds, and the way the recording was made: flags, 0 for no.
 #[repr(C)]
 #[derive(Clone, Copy)]
 pub struct JudgeOptions {
@@ -28,8 +28,9 @@ pub struct JudgeOptions {
     pub arinc: u8,
 }
 
-/// A finding: the number of its packet, its time in nanoseconds, or the greatest number if that is less, what was seen
-/// and wanted, its link, its network, and the numbers of its kind and of the rule, from 1; 0 for a kind without rules.
+/// A finding: the number of its packet, its time in nanoseconds, or the greatest number if that is less, the numbers
+/// seen and wanted, its link, its network, and the numbers of its kind and of the rule, from 1; 0 for a kind without
+/// rules.
 #[repr(C)]
 #[derive(Clone, Copy)]
 pub struct FindingRow {
@@ -43,8 +44,8 @@ pub struct FindingRow {
     pub rule: u8,
 }
 
-/// What was read of a capture: the number of its packets, and how it ends: 0 whole, 1 cut off, or from 2 on the number
-/// of its fault; and the byte at which the block or record begins that ends it, 0 if it is whole.
+/// The end of reading a capture: the number of its packets; `end` is 0 if it is whole, 1 if it is cut off, or from 2 on
+/// the number of its fault; and the byte at which the block or record begins that ends it, 0 if it is whole.
 #[repr(C)]
 #[derive(Clone, Copy)]
 pub struct Captured {
@@ -54,7 +55,7 @@ pub struct Captured {
 }
 
 impl JudgeOptions {
-    /// The judge's options.
+    /// Returns the options in the judge's own type.
     pub fn options(&self) -> Options
         ensures { result ≡ options_of self.now }
     {
@@ -68,7 +69,7 @@ impl JudgeOptions {
     }
 }
 
-/// The number of a kind's rule.
+/// Returns the number of a kind's rule.
 fn rule_number(kind: FindingKind) -> u8
     ensures { result ≡ rule_number kind }
 {
@@ -80,7 +81,7 @@ fn rule_number(kind: FindingKind) -> u8
     }
 }
 
-/// A finding in the layout of C.
+/// Returns a finding in the layout of C.
 fn row_of(finding: Finding) -> FindingRow
     ensures { result ≡ row_of finding }
 {
@@ -111,7 +112,7 @@ pub fn write_rows(found: &[Finding], rows: &mut [FindingRow])
     }
 }
 
-/// What was read of a capture, in the layout of C.
+/// Returns the end of reading a capture, in the layout of C.
 pub fn captured_of(read: &Recording<'_>) -> Captured
     ensures { result ≡ captured_of (recording_of read.now) }
 {
@@ -124,7 +125,8 @@ pub fn captured_of(read: &Recording<'_>) -> Captured
     Captured { packets, at, end }
 }
 
-/// How many findings there are, and what was read of the captures of the two networks; of one of both, the same twice.
+/// The number of findings, and the ends of reading the captures of the two networks; twice the same for one capture of
+/// both.
 #[repr(C)]
 #[derive(Clone, Copy)]
 pub struct Judged {
@@ -133,7 +135,7 @@ pub struct Judged {
     pub b: Captured,
 }
 
-/// What a caller is answered who has room for some findings.
+/// Returns the answer to a caller with room for a number of findings.
 fn answer_of(judged: &Judged, room: usize) -> u8
     ensures { result ≡ answer_of judged.now room }
 {
@@ -146,8 +148,8 @@ fn answer_of(judged: &Judged, room: usize) -> u8
     }
 }
 
-/// Judges what was read of two captures, each of one network alone, or twice of one of both: writes as many findings as
-/// have room, their number, and what was read. On `MEMORY`, if an allocation fails, writes nothing.
+/// Judges two captures that were read, each of one network alone, or twice one of both: writes as many findings as have
+/// room, their number, and the ends of reading. On `MEMORY`, if an allocation fails, writes nothing.
 fn judge_read<'a>(
     alloc: Global,
     plan: Config,
@@ -177,8 +179,8 @@ fn judge_read<'a>(
     answer_of(judged, rows.len())
 }
 
-/// Judges the captures `a` and `b`, each of one network alone, or only `a`, of both, by the text of a plan.
-/// The number of the text's least fault, or `MEMORY` if an allocation fails; then writes nothing.
+/// Judges the captures `a` and `b`, each of one network alone, or only `a`, of both, by the text of a plan. Returns the
+/// number of the text's least fault, or `MEMORY` if an allocation fails; then writes nothing.
 pub fn judge_into(
     alloc: Global,
     text: &[u8],

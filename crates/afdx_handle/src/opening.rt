@@ -33,7 +33,7 @@ fn open_end(alloc: Global, config: Config) -> Result<EndSystem, AllocError>
     })
 }
 
-/// Empty boxes for so many ports.
+/// Creates an empty box for each of `ports` ports.
 fn empty_boxes(alloc: Global, ports: usize) -> Result<Vec<Box<Home>>, AllocError>
     ensures { IfOk result (λ boxes. length boxes.items ≡ ports) }
 {

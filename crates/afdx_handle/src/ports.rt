@@ -12,7 +12,7 @@ use afdx_tx::TxPort;
 use std::alloc::Global;
 use std::mem;
 
-/// The index of the port with this identifier, if it is in the list.
+/// Returns the index of the port with this identifier, if it is in the list.
 fn position_of(ports: &[TxPort], id: u16) -> Option<usize>
     ensures { result ≡ position (has_id id) ports.now }
 {
@@ -113,7 +113,7 @@ pub fn keep_box(it: &mut Home, empty: Box<Home>)
     }
 }
 
-/// Whether the home is empty.
+/// Returns true if the home is empty.
 pub fn is_nothing(home: &Home) -> bool
     ensures { MatchBool result (HoldsNothing (Some home.now)) (HoldsOne (Some home.now)) }
 {

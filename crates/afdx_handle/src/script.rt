@@ -1,4 +1,4 @@
-//! What a line of a script says, in the layout of C.
+//! The meaning of a script's line, in the layout of C.
 ghost use Rattle.std.specs.Prelude.{◌≡◌, ◌≢◌, ◌<◌, [], ◌∷◌, length};
 ghost use Rattle.afdx_handle.specs.Listing.{with_front};
 ghost use Rattle.afdx_handle.specs.Numbers.{IsOneOf};
@@ -8,10 +8,10 @@ use crate::answer::{DONE, SMALL_BUFFER, put_at};
 use script_text::Line;
 
 /// The version of the library: 10,000 times its first number, 100 times its second, and its third.
-pub const VERSION: u32 = 10_000;
+pub const VERSION: u32 = 20_000;
 
-/// What a line says: 0 nothing, 1 `send`, 2 `at` or 3 `close`; the sub-VL of a close; the port of a send, or the
-/// virtual link of a close; the time of an `at`; and how many bytes the message of a send has.
+/// The meaning of a line: 0 nothing, 1 `send`, 2 `at` or 3 `close`; the sub-VL of a close; the port of a send, or the
+/// virtual link of a close; the time of an `at`; and the number of bytes in the message of a send.
 #[repr(C)]
 #[derive(Clone, Copy)]
 pub struct ScriptLine {
@@ -22,7 +22,7 @@ pub struct ScriptLine {
     pub size: usize,
 }
 
-/// The message of a line, no bytes if it isn't a send.
+/// Returns the message of a line, no bytes if it isn't a send.
 fn message_in(said: &Line) -> &[u8]
     ensures { result.now ≡ message_in said.now }
 {
@@ -32,7 +32,7 @@ fn message_in(said: &Line) -> &[u8]
     }
 }
 
-/// What a line says, in the layout of C.
+/// Returns the meaning of a line, in the layout of C.
 pub fn laid_out(said: &Line) -> ScriptLine
     ensures { result ≡ laid_out said.now }
 {

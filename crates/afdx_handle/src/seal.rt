@@ -65,14 +65,14 @@ impl Sealed {
         }
     }
 
-    /// The seal of a box.
+    /// Returns the seal of a box.
     pub fn of(home: Box<Home>) -> Sealed
         ensures { result.home ≡ Some home.value }
     {
         Sealed::of_parts(BoxParts::of(home))
     }
 
-    /// Its content, which stays in place.
+    /// Lends the content, which stays in place.
     pub fn get_mut(&mut self) -> &mut Home
         requires { IsSome self.old.home }
         ensures* writes_back { sem 𝓛 (LendsHome self.entry result) }

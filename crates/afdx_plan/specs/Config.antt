@@ -96,8 +96,8 @@ pub record IsPlan (plan : Plan) : Type 0 where
 abbrev pub link_place : Plan → PortPlan → ℕ
 link_place plan port = unwrap_or (position (λ (link : LinkPlan). link.id.0 == port.vl.0) plan.links) 0
 
--- Two messages of a plan's ports, number i and number j of their sub-VLs, share both addresses and the
--- identification only if they are of one sub-VL and i and j differ by a multiple of 16,384.
+-- Two messages of a plan's ports, number i and number j of their sub-VLs, share both addresses and the identification
+-- only if they belong to one sub-VL and i and j differ by a multiple of 16,384.
 abbrev pub FlowsApart : Plan → Type 0
 FlowsApart plan = (p q : PortPlan) (i j : ℕ) → Contains plan.ports p → Contains plan.ports q
     → source_address plan.end_system p.partition ≡ source_address plan.end_system q.partition

@@ -35,7 +35,7 @@ demo_port = record {
   checksum = Omitted;
 }
 
--- end system 1 with this link and this port
+-- end system 1 with the demonstration's link and port
 abbrev pub demo_plan : Plan
 demo_plan = record {
   end_system = 1;

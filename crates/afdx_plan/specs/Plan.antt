@@ -70,7 +70,7 @@ sequence_number i = if nat_eq i 0 then 0 else (i - 1) % 255 + 1
 abbrev pub room_of : ℕ → ℕ
 room_of lmax = lmax - 39
 
--- the same rounded down to whole units of 8 bytes (RFC 791, 3.2)
+-- the room in a frame rounded down to whole units of 8 bytes (RFC 791, 3.2)
 abbrev pub step_of : ℕ → ℕ
 step_of room = 8 * (room / 8)
 

@@ -37,7 +37,7 @@ abbrev pub has_pair : {A : Type 0} → (A → A → Bool) → List A → Bool
 has_pair related [] = false
 has_pair related (x ∷ xs) = list_any (related x) xs || has_pair related xs
 
--- a value without fault passes a test; two pass one
+-- both values are without fault, and the test holds of them
 abbrev pub both : {A B : Type 0} → (A → B → Bool) → Option A → Option B → Bool
 both test None b = false
 both test (Some a) None = false
@@ -86,7 +86,7 @@ abbrev pub is_sampling : Kind → Bool
 is_sampling Sampling = true
 is_sampling Queuing = false
 
--- the values of links and ports that the rules of plans look at, and whether the two lists have no fault
+-- the values of links and ports that the rules of plans read, and whether the two lists have no fault
 pub record Cells : Type 0 where
   pub links : List LinkRow
   pub ports : List PortRow
@@ -97,8 +97,8 @@ pub record Cells : Type 0 where
 abbrev pub all_named : Cells → Bool
 all_named cells = cells.has_links && not (list_any (λ (link : LinkRow). is_none link.id) cells.links)
 
--- a port does not fit its link: there is none and all links are named, its sub-VL is not below the number of its
--- link's, or it is a sampling port and its greatest message does not fit into a frame
+-- a port does not fit its link: no link has its identifier although all are named, its sub-VL is not below the number
+-- of its link's, or it is a sampling port and its greatest message does not fit into a frame
 abbrev pub misfits : Bool → Option LinkRow → Misfit → PortRow → Bool
 misfits named link NoLink port = (named && is_some port.vl) && is_none link
 misfits named link NoSub port = option_map_or (λ (l : LinkRow). both nat_le l.sub_vls port.sub) link false
@@ -126,7 +126,7 @@ any_row test k (x ∷ xs) = test k x || any_row test (k + 1) xs
 abbrev pub is_no_count : ℕ → ℕ → Bool
 is_no_count most n = n == 0 || nat_lt most n
 
--- what a rule forbids: two links or two ports that clash, a port that does not fit its link, a wrong number of
+-- a case that a rule forbids: two links or two ports that clash, a port that does not fit its link, a wrong number of
 -- links or of ports, too many ports on a sub-VL
 pub data Rule : Type 0 where
   links_clash : (LinkRow → LinkRow → Bool) → Rule

@@ -38,14 +38,14 @@ impl Config {
         }
     }
 
-    /// The identifier of the end system.
+    /// Returns the identifier of the end system.
     pub fn end_system(&self) -> u16
         ensures { result ≡ self.now.end_system }
     {
         self.end_system
     }
 
-    /// The virtual links, in the order of the plan.
+    /// Returns the virtual links, in the order of the plan.
     pub fn links(&self) -> &[LinkPlan]
         ensures plan { result.now ≡ self.now.links }
         ensures valid { IsPlan self.now }
@@ -54,7 +54,7 @@ impl Config {
         &self.links
     }
 
-    /// The ports, in the order of the plan.
+    /// Returns the ports, in the order of the plan.
     pub fn ports(&self) -> &[PortPlan]
         ensures plan { result.now ≡ self.now.ports }
         ensures valid { IsPlan self.now }
@@ -63,14 +63,14 @@ impl Config {
         &self.ports
     }
 
-    /// The index of the link with this identifier in `links`.
+    /// Returns the index of the link with this identifier in `links`.
     pub fn link_index(&self, id: VlId) -> Option<usize>
         ensures { result ≡ position (λ link. link.id.0 == id.0) self.now.links }
     {
         self.links.iter().position(|link| link.id.0 == id.0)
     }
 
-    /// The index of the port with this identifier in `ports`.
+    /// Returns the index of the port with this identifier in `ports`.
     pub fn port_index(&self, id: PortId) -> Option<usize>
         ensures { result ≡ position (λ port. port.id.0 == id.0) self.now.ports }
     {
@@ -93,9 +93,9 @@ pub const PORTS_LIMIT: usize = 256;
 /// The most ports of a sub-VL.
 pub const SUB_PORTS_LIMIT: usize = 64;
 
-/// The time in nanoseconds that a frame may wait for frames of other links: 40,000, plus for each link
-/// 80 for each byte of its greatest frame and of the 20 bytes around it on the wire. This formula is
-/// only reported; no plan is refused for its jitter.
+/// Returns the time in nanoseconds that a frame may wait for frames of other links: 40,000, plus for each link 80 for
+/// each byte of its greatest frame and of the 20 bytes around it on the wire. This formula is only reported; no plan is
+/// refused for its jitter.
 pub fn jitter_ns(config: &Config) -> u64
     ensures { result ≡ jitter_of config.now.links }
 {

@@ -8,8 +8,7 @@ use crate::link_plan::{Bag, LinkPlan, Lmax, Networks};
 use crate::port_plan::{Kind, PortId, PortPlan, UdpSum, VlId};
 use std::alloc::Global;
 
-/// The demonstration plan: end system 1 with link 1 and port 10. Fails only if an allocation
-/// fails.
+/// Returns the demonstration plan: end system 1 with link 1 and port 10. Fails only if an allocation fails.
 pub fn demo_config(alloc: Global) -> Result<Config, ConfigFault>
     ensures plan { IfOk result (λ config. config ≡ demo_plan) }
     ensures refused { IfErr result (λ fault. fault ≡ ConfigFault.Memory) }
@@ -19,7 +18,7 @@ pub fn demo_config(alloc: Global) -> Result<Config, ConfigFault>
     Ok(Config::new(1, links, ports))
 }
 
-/// The link of the demonstration plan.
+/// Returns the link of the demonstration plan.
 fn demo_link() -> LinkPlan
     ensures { result ≡ demo_link }
 {
@@ -33,7 +32,7 @@ fn demo_link() -> LinkPlan
     }
 }
 
-/// The port of the demonstration plan.
+/// Returns the port of the demonstration plan.
 fn demo_port() -> PortPlan
     ensures { result ≡ demo_port }
 {

@@ -41,7 +41,7 @@ pub enum ConfigFault {
 }
 
 impl ConfigFault {
-    /// The number of the fault, 1 to 15 in the order above.
+    /// Returns the number of the fault, 1 to 15 in the order of the variants.
     pub fn number(self) -> u8
         ensures { result ≡ fault_number self }
     {

@@ -4,8 +4,8 @@ ghost use Rattle.afdx_plan.specs.Config.{FlowsApart};
 
 use crate::config::Config;
 
-/// Two messages share both addresses and the identification only if they are of one sub-VL and their
-/// numbers there differ by a multiple of 16,384.
+/// Two messages share both addresses and the identification only if they belong to one sub-VL and their numbers there
+/// differ by a multiple of 16,384.
 pub fn flows_apart(config: &Config)
     ensures { FlowsApart config.now }
 {

@@ -34,7 +34,7 @@ pub enum Bag {
 }
 
 impl Bag {
-    /// The gap in milliseconds.
+    /// Returns the BAG in milliseconds.
     pub fn ms(self) -> u64
         ensures { result ≡ bag_ms self }
     {
@@ -50,7 +50,7 @@ impl Bag {
         }
     }
 
-    /// The gap in microseconds, the unit of all times.
+    /// Returns the BAG in microseconds, the unit of all times.
     pub fn micros(self) -> u64
         ensures { result ≡ bag_micros self }
     {
@@ -77,7 +77,7 @@ impl Model for Lmax {
 }
 
 impl Lmax {
-    /// A greatest frame of `bytes` bytes.
+    /// Creates an Lmax of `bytes` bytes.
     pub fn new(bytes: u16) -> Lmax
         requires least { 64 ≤ bytes }
         requires most { bytes ≤ 1518 }
@@ -86,7 +86,7 @@ impl Lmax {
         Lmax { size: bytes }
     }
 
-    /// The greatest frame in bytes.
+    /// Returns the greatest frame in bytes.
     pub fn bytes(self) -> u16
         ensures value { result ≡ self }
         ensures least { 64 ≤ result }
@@ -95,7 +95,7 @@ impl Lmax {
         self.size
     }
 
-    /// The most bytes of a datagram in one frame.
+    /// Returns the most bytes of a datagram in one frame.
     pub fn room(self) -> u16
         ensures value { result ≡ room_of self }
         ensures least { 25 ≤ result }
@@ -117,7 +117,7 @@ impl Networks {
     ghost use Rattle.std.specs.Prelude.{◌≡◌};
     ghost use Rattle.afdx_plan.specs.Plan.{carries_a, carries_b};
 
-    /// Whether network A is one of them.
+    /// Returns true if the networks include A.
     pub fn carries_a(self) -> bool
         ensures { result ≡ carries_a self }
     {
@@ -128,7 +128,7 @@ impl Networks {
         }
     }
 
-    /// Whether network B is one of them.
+    /// Returns true if the networks include B.
     pub fn carries_b(self) -> bool
         ensures { result ≡ carries_b self }
     {

@@ -28,7 +28,7 @@ pub struct PortRow {
     pub checksum: Option<UdpSum>,
 }
 
-/// How a port does not fit its link.
+/// The ways in which a port does not fit its link.
 #[derive(Clone, Copy)]
 pub enum Misfit {
     NoLink,

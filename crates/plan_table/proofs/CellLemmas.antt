@@ -1,5 +1,5 @@
 -- The numbers of 16 bits in bytes.
-use Rattle.std.proofs.Common.{◌≡◌, ℕ, zero, suc, ◌+◌, ◌*◌, ◌<◌, ◌≤◌, List, [], ◌∷◌, ◌++◌, ◌-◌, length, drop, get_or, refl, sym, ◌∙◌, ap, arith, slice_index}
+use Rattle.std.proofs.Common.{◌≡◌, ℕ, zero, suc, ◌+◌, ◌*◌, ◌<◌, ◌≤◌, List, [], ◌∷◌, ◌-◌, length, drop, get_or, refl, arith, slice_index}
 use Rattle.std.proofs.lemmas.List.{get_or-drop, drop-drop}
 use Rattle.plan_table.specs.Reading.{cells_of, parts_from}
 

@@ -1,14 +1,9 @@
 -- The laws of tables.
-use Rattle.std.proofs.Common.{◌≡◌, ℕ, ◌+◌, ◌*◌, ◌-◌, List, ◌++◌, length, take, drop, true, false, Bool, refl, sym, ◌∙◌, ap, arith, Result, Ok, Err, get_or, ◌≢◌, ◌⊎◌, inl, inr}
-use Rattle.std.proofs.lemmas.Bool.Decides.{nat_tests}
-use Rattle.std.proofs.lemmas.Slice.Eq.{bytes_eq-Decides}
+use Rattle.std.proofs.Common.{◌≡◌, ℕ, List, refl, ap, arith, Ok, Err, ◌≢◌, ◌⊎◌, inl, inr}
 use Rattle.afdx_plan.specs.Config.{Plan, IsPlan}
-use Rattle.afdx_plan.specs.PlanFaults.{plan_shows}
 use Rattle.afdx_plan.proofs.PlanLemmas.{faultless}
 use Rattle.plan_table.specs.Table.{IsTableOf}
-use Rattle.plan_table.specs.Reading.{IsFaultOf}
-use Rattle.plan_table.specs.Laws.{IsReading, TablesAreRead, TablesDiffer}
-use Rattle.plan_table.specs.declared.fault.TableFault.{TableFault}
+use Rattle.plan_table.specs.Laws.{TablesAreRead, TablesDiffer}
 use Rattle.plan_table.proofs.ReadLemmas.{no_fault, table_back}
 use Rattle.afdx_config.specs.Faults.{IsLeastShown}
 use Rattle.afdx_plan.specs.declared.fault.ConfigFault.{ConfigFault}

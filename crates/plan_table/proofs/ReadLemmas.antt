@@ -1,5 +1,5 @@
 -- A table is read as the plan that it is of.
-use Rattle.std.proofs.Common.{◌≡◌, ℕ, zero, suc, ◌+◌, ◌*◌, ◌/◌, ◌%◌, ◌-◌, ◌<◌, ◌≤◌, List, [], ◌∷◌, ◌++◌, length, drop, get_or, refl, sym, ◌∙◌, ap, arith, All, append_assoc, Some, None, Option, slice_index, length-append, true, false, IfSome, rules}
+use Rattle.std.proofs.Common.{◌≡◌, ℕ, ◌+◌, ◌*◌, ◌/◌, ◌%◌, ◌-◌, ◌<◌, ◌≤◌, List, [], ◌∷◌, ◌++◌, length, drop, get_or, refl, sym, ◌∙◌, ap, arith, append_assoc, Some, None, Option, length-append, IfSome}
 use Rattle.std.specs.List.{flat_map, AllByRecursion}
 use Rattle.std.specs.Int.{to_be_bytes, w32}
 use Rattle.std.proofs.lemmas.List.{drop-drop}
@@ -7,15 +7,15 @@ use Rattle.std.proofs.lemmas.Bool.Decides.{nat_tests}
 use Rattle.std.proofs.lemmas.Slice.Eq.{bytes_eq-Decides}
 use Rattle.std.proofs.Math.Seq.{drop-append-add, drop-append_seam, take-append_seam}
 use Rattle.plan_table.specs.Sum.{crc_32}
-use Rattle.std.proofs.lemmas.List.Elements.{All-from_recursion, recursion_from_All, All-cons}
+use Rattle.std.proofs.lemmas.List.Elements.{recursion_from_All}
 use Rattle.afdx_plan.specs.Config.{Plan}
 use Rattle.afdx_plan.specs.Plan.{bag_ms, IsLink, IsPort, IsUnicast}
 use Rattle.afdx_plan.specs.declared.link_plan.Bag.{Bag}
 use Rattle.afdx_plan.specs.declared.link_plan.Bag.TheVariants.{Ms1, Ms2, Ms4, Ms8, Ms16, Ms32, Ms64, Ms128}
 use Rattle.afdx_plan.specs.declared.link_plan.LinkPlan.{LinkPlan}
 use Rattle.afdx_plan.specs.declared.port_plan.PortPlan.{PortPlan}
-use Rattle.plan_table.specs.Table.{address_high, address_low, checked, half, front_cells, IsInRange, IsTableOf, link_cells, plan_cells, port_cells, table_of}
-use Rattle.plan_table.specs.Reading.{address_from, bag_from, cells_of, link_from, links_from, link_count, parts_from, port_count, port_from, ports_from, IsFaultOf, table_fault_number}
+use Rattle.plan_table.specs.Table.{address_high, address_low, half, IsInRange, IsTableOf, link_cells, plan_cells, port_cells, table_of}
+use Rattle.plan_table.specs.Reading.{address_from, bag_from, cells_of, link_from, links_from, parts_from, port_from, ports_from, IsFaultOf, table_fault_number}
 use Rattle.plan_table.specs.declared.fault.TableFault.{TableFault}
 use Rattle.plan_table.specs.declared.fault.TableFault.TheVariants.{Plan as OfPlan, NoTable, OtherLayout, WrongLength, WrongSum, WrongValue}
 

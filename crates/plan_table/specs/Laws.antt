@@ -7,12 +7,12 @@ use Rattle.plan_table.specs.Reading.{IsFaultOf}
 use Rattle.plan_table.specs.declared.fault.TableFault.{TableFault}
 use Rattle.plan_table.specs.declared.fault.TableFault.TheVariants.{Plan as OfPlan}
 
--- what `read_table` ensures
+-- the contract of `read_table`
 pub record IsReading (bytes : List ℕ) (result : Result Plan TableFault) : Type 0 where
   pub plan : IfOk result (IsTableOf bytes)
   pub fault : IfErr result (IsFaultOf bytes)
 
--- the table of a valid plan is read as that plan, unless memory runs out
+-- the table of a valid plan is read as that plan, if memory doesn't run out
 abbrev pub TablesAreRead : Type 0
 TablesAreRead = (bytes : List ℕ) (plan : Plan) (result : Result Plan TableFault) → IsPlan plan → IsTableOf bytes plan
     → IsReading bytes result → (result ≡ Ok plan) ⊎ (result ≡ Err (OfPlan Memory))

@@ -1,10 +1,9 @@
--- How a table is read.
-use Rattle.std.specs.Prelude.{◌≡◌, ◌≢◌, ℕ, zero, suc, ◌+◌, ◌*◌, ◌/◌, ◌%◌, ◌-◌, ◌≤◌, ◌<◌, ◌&&◌, min, max, List, [], ◌∷◌, ◌++◌, length, take, drop, get_or, Option, Some, None, nat_eq, if◌then◌else◌, Result, Ok, Err, IfOk, IfErr, ⊤, Bool, false, true, not, ◌||◌, nat_lt, bytes_eq}
+-- The reading of a table.
+use Rattle.std.specs.Prelude.{◌≡◌, ◌≢◌, ℕ, zero, suc, ◌+◌, ◌*◌, ◌/◌, ◌%◌, ◌-◌, ◌≤◌, ◌&&◌, min, max, List, [], ◌∷◌, length, take, drop, get_or, Option, Some, None, nat_eq, if◌then◌else◌, Bool, false, true, bytes_eq}
 use Rattle.std.specs.Int.{to_be_bytes, w32}
 use Rattle.plan_table.specs.Sum.{crc_32}
-use Rattle.afdx_plan.specs.Config.{Plan, IsPlan}
+use Rattle.afdx_plan.specs.Config.{Plan}
 use Rattle.afdx_plan.specs.PlanFaults.{fault_number}
-use Rattle.afdx_plan.specs.declared.fault.ConfigFault.{ConfigFault}
 use Rattle.afdx_plan.specs.declared.fault.ConfigFault.TheVariants.{Memory}
 use Rattle.afdx_plan.specs.declared.link_plan.Bag.{Bag}
 use Rattle.afdx_plan.specs.declared.link_plan.Bag.TheVariants.{Ms1, Ms2, Ms4, Ms8, Ms16, Ms32, Ms64, Ms128}
@@ -81,7 +80,7 @@ port_from cells = record {
   checksum = checksum_from (get_or cells 10 0);
 }
 
--- so many parts, each of `width` numbers
+-- `many` parts, each of `width` numbers
 abbrev pub parts_from : {P : Type 0} → (List ℕ → P) → (width many : ℕ) → List ℕ → List P
 parts_from from width zero cells = []
 parts_from from width (suc many) cells = from cells ∷ parts_from from width many (drop width cells)

@@ -1,5 +1,5 @@
 -- The CRC-32 of IEEE 802.3, with which a table ends.
-use Rattle.std.specs.Prelude.{ℕ, ◌-◌, ◌+◌, ◌/◌, ◌%◌, ◌^◌, List, [], ◌∷◌, bit_xor, nat_eq, if◌then◌else◌}
+use Rattle.std.specs.Prelude.{ℕ, ◌/◌, ◌%◌, List, [], ◌∷◌, bit_xor, nat_eq, if◌then◌else◌}
 
 -- the generator polynomial, its coefficient of x^31 in the lowest bit: x^26 + x^23 + x^22 + x^16 + x^12 + x^11 + x^10
 -- + x^8 + x^7 + x^5 + x^4 + x^2 + x + 1, beside x^32

@@ -20,16 +20,16 @@ pub enum TableFault {
     /// The bytes are more or fewer than the numbers of links and of ports want.
     #[error("WrongLength")]
     WrongLength,
-    /// The check isn't that of the bytes before it.
+    /// The check isn't the check of the bytes before it.
     #[error("WrongSum")]
     WrongSum,
-    /// A number is none that a table of a plan has there.
+    /// A number has a value that no table of a plan has there.
     #[error("WrongValue")]
     WrongValue,
 }
 
 impl TableFault {
-    /// The number of the fault: that of the plan's fault, or 16 to 20 in the order above.
+    /// Returns the number of the fault: the number of the plan's fault, or 16 to 20 in the order of the variants.
     pub fn number(self) -> u8
         ensures { result ≡ table_fault_number self }
     {

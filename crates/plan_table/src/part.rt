@@ -27,19 +27,18 @@ pub trait Part: Copy {
 
     ghost IsPart: { Self → Type 0 };
 
-    /// Returns how many numbers it has.
+    /// Returns the number of numbers of a part.
     fn width() -> usize
         ensures value { result ≡ width }
         ensures some { result ≤ 11 };
 
-    /// Reads it from its numbers, of which `at` is the index of the first. A number that it can't have becomes one that
-    /// it can.
+    /// Reads a part from its numbers, from index `at` on. A number that the part can't have becomes one that it can.
     fn read(bytes: &[u8], at: usize) -> Self
         requires { 2 * (at + width) ≤ length bytes.now }
         ensures value { result ≡ from (drop at (cells_of bytes.now)) }
         ensures part { IsPart result };
 
-    /// Adds its numbers to a table.
+    /// Adds the numbers of a part to a table.
     fn write(self, table: &mut Vec<u8>) -> Result<(), AllocError>
         requires { IsPart self }
         ensures { OnOk result (table.new.items ≡ table.old.items ++ flat_map half (cells self)) };

@@ -1,6 +1,6 @@
 //! Reading a table.
 ghost use Rattle.std.specs.Prelude.{◌≡◌, ◌*◌, ◌+◌, ◌≤◌, ◌<◌, All, length, drop, IfOk, IfErr, IfSome, IsNone, true};
-ghost use Rattle.plan_table.specs.Table.{IsTableOf, front_cells};
+ghost use Rattle.plan_table.specs.Table.{IsTableOf};
 ghost use Rattle.afdx_plan.specs.Plan.{IsLink, IsPort};
 ghost use Rattle.plan_table.specs.Reading.{cells_of, ends, HasLength, IsFaultOf, links_from, parts_from, ports_from, starts};
 
@@ -15,7 +15,7 @@ use std::alloc::{AllocError, Global};
 // The fault of a request for memory that was refused.
 const MEMORY: TableFault = TableFault::Plan(ConfigFault::Memory);
 
-/// Reads parts of a table, of which `at` is the index of the first number.
+/// Reads `many` parts of a table, from the number with index `at` on.
 fn parts_in<P: Part>(
     alloc: Global,
     bytes: &[u8],

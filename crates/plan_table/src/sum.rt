@@ -1,6 +1,6 @@
 //! The CRC-32 of IEEE 802.3.
 ghost use Rattle.std.specs.Prelude.{◌≡◌};
-ghost use Rattle.plan_table.specs.Sum.{crc_32, shifted, shifted_8, polynomial};
+ghost use Rattle.plan_table.specs.Sum.{crc_32, shifted, shifted_8};
 
 // The generator polynomial, its coefficient of x^31 in the lowest bit.
 const POLYNOMIAL: u32 = 0xedb8_8320;

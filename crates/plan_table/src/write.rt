@@ -3,7 +3,7 @@ ghost use Rattle.std.specs.Prelude.{◌≡◌, ◌++◌, All, length, ◌<◌, I
 ghost use Rattle.std.specs.List.{flat_map};
 ghost use Rattle.afdx_plan.specs.Config.{plan_of_parts};
 ghost use Rattle.afdx_plan.specs.Plan.{IsLink, IsPort};
-ghost use Rattle.plan_table.specs.Table.{half, IsTableOf, table_of, IsInRange};
+ghost use Rattle.plan_table.specs.Table.{half, IsTableOf, table_of};
 
 use crate::part::{Part, put};
 use crate::sum::crc_32;

@@ -8,5 +8,5 @@ returns-clause-findings c =
     IfOk-weaker c.explanation_of.result
     (λ (e : Explanation). (e.findings ≡ c.add_all.new.found.first) × (e.count ≡ c.add_all.new.found.count))
     (λ (e : Explanation). TellsDocument (table_view c.args.table.now) (map finding_of e.findings.items) e.count)
-    (λ e same. rw (same.0, same.1) (record { findings_are = held.first_are; count_is = held.count_is ∙ sym (length_by_fault _) }))
+    (λ e same. rw (same.0, same.1) (record { findings_are = held.keeps.first_are; count_is = held.keeps.count_is ∙ sym (length_by_fault _) }))
     c.explanation_of.ensures.findings

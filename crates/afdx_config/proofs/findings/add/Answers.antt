@@ -1,15 +1,20 @@
-use Rattle.afdx_config.proofs.Names.{refl, rules, ap, map, take, finding_of, ◌∙◌, length-map, insert, found, lines_limit}
-use Rattle.afdx_config.proofs.OrderLemmas.{adds_put, adds_past, map_insert}
+use Rattle.afdx_config.proofs.Names.{◌≡◌, ◌||◌, ◌&&◌, false, arith, sym, ◌∙◌, refl, found, nat_tests, Finding, is_newer}
+use Rattle.afdx_config.proofs.OnceLemmas.{adds_none, adds_told}
 use Rattle.afdx_config.proofs.findings.add.Goals as goal
+use Rattle.afdx_config.proofs.findings.add.Goals.{else-found-via-then-found+else-is_newer, else-found-via-else-found, then-found-2, else-found-2}
 
-pub returns-then-index-ge-LINES_LIMIT : goal.returns-then-index-ge-LINES_LIMIT
-returns-then-index-ge-LINES_LIMIT c = adds_past _ _ _ c.index_of-index.result c.in-Some.ensures.1
-    (rw c.as_slice.ensures.value at (c.index_of-index.ensures.put (found c.args.fault c.args.place c.args.key.now c.args.other) refl)) c.if-index-ge-LINES_LIMIT.true
-    (rw (length-map c.args.found.now.first.items finding_of) (rw c.as_slice.ensures.value at c.index_of-index.ensures.within)) refl
+pub returns-then-is_newer : goal.returns-then-is_newer
+returns-then-is_newer c = adds_none _ _ _ c.if-found.true (sym c.is_newer-is_newer.ensures ∙ c.if-is_newer.true) refl
 
 pub returns : goal.returns
-returns c = adds_put _ _ _ c.index_of-index.result c.in-Some.ensures.1
-    (rw c.as_slice.ensures.value at (c.index_of-index.ensures.put (found c.args.fault c.args.place c.args.key.now c.args.other) refl))
-    (ap (map finding_of) (c.truncate.ensures.items ∙ ap (take lines_limit) c.in_ok-insert.ensures.items) ∙ map_insert c.args.found.now.first.items _ _
-    ∙ ap (λ k. take lines_limit (insert (map finding_of c.args.found.now.first.items) c.index_of-index.result
-    record { fault = c.args.fault; place = c.args.place; key = k; other = c.args.other })) (search rules))
+returns c =
+    let x : Finding = found c.args.fault c.args.place c.args.key.now c.args.other in
+    let own : (c.args.found.now.has_newer && is_newer x) ≡ false = elim c.else-found.branch [
+      | else-found-via-then-found+else-is_newer w ↦ grind (arith, nat_tests, c.is_newer-is_newer.ensures)
+      | else-found-via-else-found w ↦ grind (arith, nat_tests)
+    ] in
+    let newer : c.if-found-2.found ≡ (c.args.found.now.has_newer || is_newer x) = elim c.if-found-2.branch [
+      | then-found-2 w ↦ grind (arith, nat_tests, c.is_newer-is_newer.ensures)
+      | else-found-2 w ↦ grind (arith, nat_tests, c.is_newer-is_newer.ensures)
+    ] in
+    adds_told c.args.found.now c.add_one.new.found _ x own (c.in_ok-add_one.ensures.kept) refl refl newer

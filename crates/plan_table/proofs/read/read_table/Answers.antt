@@ -1,7 +1,7 @@
 use Rattle.std.proofs.Common.{◌≡◌, ◌∙◌, arith, get_or, rules}
 use Rattle.std.proofs.lemmas.Slice.Eq.{bytes_eq-Decides}
 use Rattle.afdx_plan.specs.Config.{plan_of_parts}
-use Rattle.plan_table.specs.Table.{IsInRange, IsTableOf, table_of}
+use Rattle.plan_table.specs.Table.{IsInRange, table_of}
 use Rattle.plan_table.specs.Reading.{cells_of, links_from, ports_from}
 use Rattle.plan_table.proofs.ReadLemmas.{no_table}
 use Rattle.plan_table.proofs.read.read_table.Goals as goal
