@@ -71,7 +71,7 @@ ROWS = [
     (["--help"], 0, HELP, ""), (["storm", "--help"], 0, STORM_HELP, ""),
     (["--version"], 0, f"afdx_bench {VERSION}\n", ""),
     (EXPLAIN, 0, "no faults\n", ""),
-    (["explain", "wrong.toml"], 2, EXPLAINED, ""),
+    (["explain", "wrong.toml"], 1, EXPLAINED, ""),
     ([*ANALYSE, "--lateness=0000"], 0, ANALYSIS, ""),
     ([*ANALYSE, "--html", "made.html"], 0, ANALYSIS, ""),
     (JUDGE, 2, JUDGED, ""),
@@ -150,7 +150,7 @@ PRINTED = [
     (CHECK, 0, REPORT),
     (STORM, 0, totals(2)),
     (EXPLAIN, 0, "no faults\n"),
-    (["explain", "wrong.toml"], 2, EXPLAINED),
+    (["explain", "wrong.toml"], 1, EXPLAINED),
     (ANALYSE, 0, ANALYSIS),
     (JUDGE, 2, JUDGED),
     (["--help"], 0, HELP),
@@ -161,11 +161,11 @@ PRINTED = [
 NO_NUMBERS = ["+5", " 5", "5 ", "-5", "", "0x5", "5.0", "1_000", "+", "٥", "0", "00", "18446744073709551617"]
 
 # Lines of words that are no command's, with commas between them.
-NO_COMMANDS = """help,chekc demo.toml,check,check demo.toml short.txt,check --all demo.toml,check --version,run demo.toml,
+NO_COMMANDS = """help,chekc demo.toml,check,check --all demo.toml,check --version,run demo.toml,
 run demo.toml short.txt long.txt,run demo.toml short.txt --capture,run demo.toml short.txt --capture c --capture d,
 check demo.toml --capture c.pcapng,explain,explain demo.toml demo.toml,explain demo.toml --html made.html,report,
-report demo.toml demo.toml,report demo.toml --lateness 1000001,report demo.toml --html,report demo.toml --html made.html --csv made.html,report demo.toml --capture c.pcapng,
-judge demo.toml,judge demo.toml b c d,judge demo.toml b --jitter,judge demo.toml b --jitter 1000001,judge demo.toml b --profile none,storm demo.toml,
+report demo.toml demo.toml --html made.html,report demo.toml --lateness 1000001,report demo.toml --html,report demo.toml --html made.html --csv made.html,report demo.toml --capture c.pcapng,
+judge demo.toml,judge demo.toml b c d,judge demo.toml b --jitter,judge demo.toml b --jitter 1000001,judge demo.toml b --profile none,judge demo.toml b --with,judge demo.toml b --every 0,judge demo.toml b --every 1000,storm demo.toml,
 storm demo.toml --messages 1,storm demo.toml --messages 65536 --turns 1,storm demo.toml --messages 1 --turns 1000000001"""
 
 # The standard streams that are closed before a run, in each way.

@@ -9,36 +9,41 @@ the folder, and neither this tree nor the toolchain. The headers must compile wi
 C++. The man page and the completions must have each word of the program's help. It uses `CC` or `cc`. What needs a program
 that is missing, or root, is named and counted as skipped. The last line is 'N passed, M failed' or 'N passed, M failed, K skipped'.
 """
+import hashlib
 import os
 import re
 import shutil
 import subprocess
 import sys
+import tarfile
 import tempfile
 from glob import glob
 
 sys.dont_write_bytecode = True
 ROOT = os.path.dirname(os.path.dirname(os.path.abspath(__file__)))
-from trying import ONE_FRAME, Tries, compiler, text_of
+from trying import ONE_FRAME, OTHER, OTHER_CC, OTHER_RUNS, Tries, compiler, other_lacks, text_of
 
 WARNINGS = ["-Wall", "-Wextra", "-Werror", "-Wpedantic", "-Wconversion", "-g", "-O1"]
 SANITIZERS = ["-fsanitize=address,undefined", "-fno-sanitize-recover=all"]
 VERSION = re.search('AFDX_VERSION "(.*)"', text_of("crates/afdx/afdx.h"))[1]
 FILES = f"""\
 bin/afdx_bench bin/afdx_play include/afdx.h include/afdx_judge.h include/afdx.hpp
-lib/libafdx.a lib/libafdx_core.a lib/libafdx.so lib/libafdx.so.1 lib/pkgconfig/afdx.pc lib/cmake/afdx/afdxConfig.cmake lib/cmake/afdx/afdxConfigVersion.cmake
+lib/libafdx.a lib/libafdx_core.a lib/libafdx.so lib/libafdx.so.2 lib/pkgconfig/afdx.pc lib/cmake/afdx/afdxConfig.cmake lib/cmake/afdx/afdxConfigVersion.cmake
 lib/python/afdx/__init__.py lib/python/afdx/_findings.py lib/python/afdx/_library.py lib/python/afdx/errors.py
-lib/python/afdx/py.typed share/afdx/afdx-{VERSION}-py3-none-linux_x86_64.whl share/afdx/afdx.lua
+lib/python/afdx/py.typed share/afdx/afdx-{VERSION}-py3-none-manylinux_2_14_x86_64.whl share/afdx/afdx.lua
 share/bash-completion/completions/afdx_bench share/zsh/site-functions/_afdx_bench
 share/fish/vendor_completions.d/afdx_bench.fish share/man/man1/afdx_bench.1 share/man/man1/afdx_play.1 share/doc/afdx/LICENSE-MIT
 share/doc/afdx/LICENSE-APACHE share/doc/afdx/CHANGELOG.md share/doc/afdx/bench.md share/doc/afdx/c.md share/doc/afdx/plan.md
-share/doc/afdx/judge.md share/doc/afdx/laws.md share/doc/afdx/program.md share/doc/afdx/speed.md share/doc/afdx/table.md share/afdx/examples/c/build.sh share/afdx/examples/c/receive.py share/afdx/examples/c/wire.sh
+share/doc/afdx/embedding.md share/doc/afdx/json.md share/doc/afdx/judge.md share/doc/afdx/laws.md share/doc/afdx/player.md share/doc/afdx/program.md share/doc/afdx/report.md share/doc/afdx/speed.md share/doc/afdx/table.md
+share/doc/afdx/pictures/gap.svg share/doc/afdx/pictures/judge.svg share/doc/afdx/pictures/report.svg share/afdx/examples/bench/interface.csv share/afdx/examples/c/build.sh share/afdx/examples/c/receive.py share/afdx/examples/c/wire.sh
 share/afdx/examples/c/wire.toml
 share/afdx/examples/c/demo.toml share/afdx/examples/c/example.c share/afdx/examples/cmake/CMakeLists.txt
 share/afdx/examples/cmake/main.c share/afdx/examples/cpp/main.cpp share/afdx/examples/bare/main.c
 share/afdx/examples/play/main.c share/afdx/examples/play/script.c share/afdx/examples/play/faults.c
 share/afdx/examples/play/stamps.c share/afdx/examples/play/tell.c share/afdx/examples/play/wire.c share/afdx/examples/play/words.c share/afdx/examples/play/play.h
-share/afdx/examples/python/bench.py share/afdx/examples/python/main.py""".split()
+share/afdx/examples/python/bench.py share/afdx/examples/python/main.py
+share/afdx/rust/Cargo.toml share/afdx/rust/build.rs share/afdx/rust/src/error.rs share/afdx/rust/src/lib.rs share/afdx/rust/src/raw.rs
+share/afdx/rust/examples/main.rs""".split()
 
 
 class Tried:
@@ -75,7 +80,7 @@ class Tried:
 def install(tried):
     """Installs, and moves the folder. Returns whether the files are there."""
     words = ["bash", f"{ROOT}/install/install.sh"]
-    for more, status in (([], 2), (["--frob"], 2), (["--built"], 2), (["a", "b"], 2), ([""], 2), (["--help"], 0), (["-h"], 0)):
+    for more, status in (([], 2), (["--frob"], 2), (["--target"], 2), (["--cpu", "x86-64"], 2), (["--built"], 2), (["a", "b"], 2), ([""], 2), (["--help"], 0), (["-h"], 0)):
         told = subprocess.run([*words, *more], cwd=tried.room, capture_output=True, text=True, check=False)
         is_well = told.returncode == status and "install.sh [--built] PREFIX" in (told.stderr if status else told.stdout)
         is_well = is_well and not os.listdir(tried.room)
@@ -91,6 +96,17 @@ def install(tried):
     return True
 
 
+def try_pictures(tried):
+    """The pictures of the guides are where these look for them."""
+    pages = f"{tried.prefix}/share/doc/afdx"
+    lost = []
+    for page in glob(f"{pages}/*.md"):
+        with open(page, encoding="utf-8") as file:
+            names = re.findall(r"!\[[^]]+\]\(([^)]+)\)", file.read())
+        lost += [f"{os.path.basename(page)}: {it}" for it in names if not os.path.isfile(f"{pages}/{it}")]
+    tried.tries.show("pictures of the guides", lost)
+
+
 def try_headers(tried):
     """The headers alone, in each version of C and C++, by each compiler that is installed."""
     ways = [("afdx_judge.h", name, "c", it) for name in ("gcc", "clang") for it in ("c99", "c11", "c17")]
@@ -100,7 +116,7 @@ def try_headers(tried):
             source = f"{tried.room}/empty/header.c"
             with open(source, "w", encoding="utf-8") as file:
                 file.write(f"#include <{header}>\n#include <{header}>\nint main(void) {{ return AFDX_OK; }}\n")
-            words = ["-x", language, f"-std={version}", *WARNINGS, "-pedantic-errors", f"-I{tried.prefix}/include", "-fsyntax-only"]
+            words = ["-x", language, f"-std={version}", *WARNINGS, *(["-Wold-style-cast"] if language == "c++" else []), "-pedantic-errors", f"-I{tried.prefix}/include", "-fsyntax-only"]
             tried.show(f"{header}: {name} -std={version}", tried.ran([name, *words, source]), "")
 
 
@@ -120,6 +136,19 @@ def try_readers(tried):
             words = ["clang-tidy", "--quiet", "--header-filter=.*", "--warnings-as-errors=*", f"--checks=-*,{checks}", f"{tried.examples}/{source}"]
             read = tried.ran([*words, "--", f"-std={version}", f"-I{tried.prefix}/include"])
             tried.tries.show(f"clang-tidy {source}", [] if read.returncode == 0 else [read.stdout[-2000:] + read.stderr[-1000:]])
+
+
+def try_misra(tried):
+    """The headers break no rule of MISRA C:2012 that cppcheck tests, but these, which are advisory."""
+    advisory = {"2.4": "tags that aren't used", "2.5": "macros that aren't used", "12.1": "precedence", "12.3": "commas", "15.5": "one return"}
+    if tried.lacks("cppcheck", shutil.which("cppcheck")):
+        return
+    with open(f"{tried.room}/empty/header.c", "w", encoding="utf-8") as file:
+        file.write("#include <afdx_judge.h>\nint main(void) { return AFDX_OK; }\n")
+    read = tried.ran(["cppcheck", "--addon=misra", f"-I{tried.prefix}/include", "header.c"])
+    found = re.findall(r"(\w+\.h:\d+):.*\[misra-c2012-([\d.]+)\]", read.stderr)
+    broken = [f"{place}: rule {rule}" for place, rule in found if rule not in advisory]
+    tried.tries.show(f"cppcheck: MISRA, {len(found)} remarks", broken if found else [f"no remark: {read.stdout}{read.stderr}"])
 
 
 def try_names(tried):
@@ -225,7 +254,7 @@ def try_cmake(tried):
         return
     project = f"{tried.room}/empty/project"
     lines = text_of("examples/cmake/CMakeLists.txt")
-    for name, old, new, is_found in (("", "", "", True), (", shared", "afdx::afdx", "afdx::shared", True), (", version 2", "afdx 1", "afdx 2", False)):
+    for name, old, new, is_found in (("", "", "", True), (", shared", "afdx::afdx", "afdx::shared", True), (", version 3", "afdx 2", "afdx 3", False)):
         shutil.copytree(f"{tried.examples}/cmake", project)
         with open(f"{project}/CMakeLists.txt", "w", encoding="utf-8") as file:
             file.write(lines.replace(old, new))
@@ -233,7 +262,7 @@ def try_cmake(tried):
         if is_found and made.returncode == 0:
             made = tried.ran([cmake, "--build", "built"])
         if not is_found:
-            is_refused = made.returncode != 0 and 'compatible with requested version "2"' in " ".join(made.stderr.split())
+            is_refused = made.returncode != 0 and 'compatible with requested version "3"' in " ".join(made.stderr.split())
             tried.tries.show(f"CMake{name}: refused", [] if is_refused else [made.stdout + made.stderr])
         elif made.returncode:
             tried.show(f"CMake{name}", made)
@@ -258,14 +287,14 @@ def try_shared(tried):
             tried.show("C, -lafdx", tried.ran([tried.cc, *words]), "")
             tried.show("C, shared", tried.ran(["./shared", tried.config], LD_LIBRARY_PATH=f"{tried.prefix}/lib"), ONE_FRAME)
         names = re.findall(rf"\({tag}\).*\[(libafdx.*)\]", tried.ran([read, "-d", it]).stdout)
-        tried.tries.show(f"{tag} {names}", [] if names == ["libafdx.so.1"] else [str(names)])
+        tried.tries.show(f"{tag} {names}", [] if names == ["libafdx.so.2"] else [str(names)])
 
 
 def try_python(tried):
     """The example for Python, by the prefix and by AFDX_LIBRARY."""
     program = f"{tried.examples}/python/main.py"
     tried.show("Python", tried.ran([sys.executable, "-B", program, tried.config]), ONE_FRAME)
-    library, other = f"{tried.prefix}/lib/libafdx.so.1", f"{tried.room}/empty/other.so"
+    library, other = f"{tried.prefix}/lib/libafdx.so.2", f"{tried.room}/empty/other.so"
     os.rename(library, other)
     tried.show("Python, AFDX_LIBRARY", tried.ran([sys.executable, "-B", program, tried.config], AFDX_LIBRARY=other), ONE_FRAME)
     os.rename(other, library)
@@ -279,12 +308,33 @@ def try_python(tried):
     tried.show("Python, installed by pip", tried.ran([sys.executable, "-B", program, tried.config], PYTHONPATH=target), ONE_FRAME)
 
 
+def try_rust(tried):
+    """The installed crate, found by pkg-config and by AFDX_LIBDIR: its example, and the tests of its calls. No network is used."""
+    if tried.lacks("cargo", shutil.which("cargo")):
+        return
+    crate = f"{tried.room}/empty/rust"
+    shutil.copytree(f"{tried.prefix}/share/afdx/rust", crate)
+    shutil.copytree(f"{ROOT}/bindings/rust/tests", f"{crate}/tests")
+    words = ["--offline", "--quiet", f"--manifest-path={crate}/Cargo.toml", f"--target-dir={tried.room}/empty/rust-built"]
+    found = {} if shutil.which("pkg-config") else {"AFDX_LIBDIR": f"{tried.prefix}/lib"}
+    tried.show("Rust", tried.ran(["cargo", "run", *words, "--example", "main", "--", tried.config], **found), ONE_FRAME)
+    found = {"AFDX_LIBDIR": f"{tried.prefix}/lib", "AFDX_DEMO": tried.config}
+    made = tried.ran(["cargo", "test", *words], **found)
+    is_well = made.returncode == 0 and "test result: ok. 4 passed" in made.stdout
+    tried.tries.show("Rust: tests of its calls", [] if is_well else [made.stdout[-2000:] + made.stderr[-1000:]])
+    names = {name: number for name, number in re.findall(r"(AFDX_\w+) = (\d+)", text_of("crates/afdx/afdx.h"))}
+    told = re.findall(r"\b([A-Z]\w+) = (\d+)", text_of("bindings/rust/src/error.rs"))
+    flat = {re.sub("^(AFDX|CONFIG)_", "", re.sub("^AFDX_", "", name)).replace("_", "").lower(): number for name, number in names.items()}
+    wrong = [f"{name} = {number}" for name, number in told if flat.get(name.lower()) != number]
+    tried.tries.show(f"Rust: {len(told)} numbers of afdx.h", wrong if told else ["none"])
+
+
 def help_words(tried):
     """The commands of the program, each with the options of its help; those without a command are of `None`."""
     bench = f"{tried.prefix}/bin/afdx_bench"
     commands = re.findall(r"(?m)^  (\w+)  ", tried.ran([bench, "--help"]).stdout)
     texts = {it: tried.ran([bench, *([it] if it else []), "--help"]).stdout for it in [None, *commands]}
-    return {it: re.findall(r"(?m)^ +(?:-\w, |    )(--\w+)", text) for it, text in texts.items()}
+    return {it: re.findall(r"(?m)^ +(?:-\w, |    )(--[\w-]+)", text) for it, text in texts.items()}
 
 
 def try_bench(tried):
@@ -311,6 +361,44 @@ def try_bench(tried):
     for shell, text in (("zsh", f"{share}/zsh/site-functions/_afdx_bench"), ("fish", f"{share}/fish/vendor_completions.d/afdx_bench.fish")):
         if not tried.lacks(shell, shutil.which(shell)):
             tried.show(f"{shell} reads its completions", tried.ran([shell, "-n", text]), "")
+
+
+def try_target(tried):
+    """An installation for another target has the archives and the headers, and its programs run under an emulator."""
+    if other_lacks():
+        tried.tries.skip(f"no {other_lacks()}")
+        return
+    prefix = f"{tried.room}/empty/other"
+    made = subprocess.run(["bash", f"{ROOT}/install/install.sh", "--built", "--target", OTHER, prefix], capture_output=True, text=True, check=False)
+    tried.show(f"install.sh --built --target {OTHER}", made)
+    found = [os.path.relpath(f"{folder}/{name}", prefix) for folder, _, names in os.walk(prefix) for name in names]
+    lost = {"include/afdx.h", "lib/libafdx.a", "lib/libafdx_core.a", "share/afdx/examples/bare/main.c"} - {*found}
+    tried.tries.show("its files are among those of an installation", sorted(lost | {*found} - {*FILES}))
+    words = [f"-I{prefix}/include", f"{tried.examples}/cmake/main.c", f"{prefix}/lib/libafdx.a", "-o", "other-main"]
+    if tried.show(f"C, {OTHER_CC}", tried.ran([OTHER_CC, *WARNINGS, *words]), ""):
+        tried.show(f"C, {OTHER_RUNS[0]}", tried.ran([*OTHER_RUNS, "./other-main", tried.config]), ONE_FRAME)
+
+
+def try_release(tried):
+    """A release has its files, each with its digest; the archive holds what is installed, and the same again from a second run."""
+    words = ["bash", f"{ROOT}/install/release.sh"]
+    for more, status in (([], 2), (["--frob"], 2), ([tried.room], 2), (["--help"], 0)):
+        told = tried.ran([*words, *more])
+        is_well = told.returncode == status and "release.sh [--built] FOLDER" in (told.stderr if status else told.stdout)
+        tried.tries.show(f"release.sh {' '.join(more)}: status {status}", [] if is_well else [f"{told}"])
+    made = [subprocess.run([*words, "--built", f"{tried.room}/release{k}"], capture_output=True, text=True, check=False) for k in range(2)]
+    if any(it.returncode for it in made):
+        tried.tries.show("release.sh --built", [it.stderr[-1000:] for it in made])
+        return
+    names = {"KIT", "SHA256SUMS", "libafdx.a", "libafdx_core.a", "afdx_bench", "afdx_play", f"afdx-{VERSION}-x86_64-linux.tar.gz",
+             f"afdx-{VERSION}-py3-none-manylinux_2_14_x86_64.whl"}
+    found = [{it: open(f"{tried.room}/release{k}/{it}", "rb").read() for it in os.listdir(f"{tried.room}/release{k}")} for k in range(2)]
+    tried.tries.show("release.sh --built: its files, twice", [] if found[0] == found[1] and found[0].keys() == names else [f"{sorted(found[0])}"])
+    sums = dict(reversed(line.split("  ")) for line in found[0].get("SHA256SUMS", b"").decode().splitlines())
+    wrong = {it for it, data in found[0].items() if it != "SHA256SUMS" and sums.get(it) != hashlib.sha256(data).hexdigest()}
+    with tarfile.open(f"{tried.room}/release0/afdx-{VERSION}-x86_64-linux.tar.gz") as archive:
+        held = {it.name.split("/", 1)[1] for it in archive.getmembers() if not it.isdir()}
+    tried.tries.show("release.sh --built: digests, and the archive's files", sorted(wrong | (held ^ set(FILES))))
 
 
 def try_wire(tried):
@@ -370,8 +458,10 @@ def main():
     with tempfile.TemporaryDirectory(prefix="install-") as room:
         tried = Tried(tries, room)
         if install(tried):
+            try_pictures(tried)
             try_headers(tried)
             try_readers(tried)
+            try_misra(tried)
             try_names(tried)
             more = linked(tried)
             try_c(tried, more)
@@ -381,7 +471,10 @@ def main():
             try_cmake(tried)
             try_shared(tried)
             try_python(tried)
+            try_rust(tried)
             try_bench(tried)
+            try_target(tried)
+            try_release(tried)
             try_wire(tried)
             try_alone(tried)
     return tries.end()

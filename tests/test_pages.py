@@ -1,7 +1,9 @@
 #!/usr/bin/env python3
 """Tests what README.md and the guides show: the program prints what they say of the same plan, script and recording,
-code that they quote stands in the tree, and their paths and links lead to files, and to headings there. And no line of a
-source or of definitions is wider than CONTRIBUTING.md says. The last line is 'N passed, M failed'."""
+code that they quote and names that they use stand in the tree, their pictures are what the tree yields, and their paths
+and links lead to files, and to headings there. And no line of a source or of definitions is wider than CONTRIBUTING.md says, and their
+comments have the shape that it asks for (`tools/comments.py`). The last line is 'N passed, M failed', with
+', K skipped' without tshark."""
 import os
 import re
 import subprocess
@@ -10,18 +12,16 @@ import tempfile
 from glob import glob
 
 sys.dont_write_bytecode = True
-from trying import ROOT, Tries, built, started, text_of
+from trying import ROOT, Tries, blocks, built, started, text_of
+
+sys.path.append(f"{ROOT}/tools")
+import pictures
 
 PAGES = ["README.md", "CONTRIBUTING.md", *sorted(glob("docs/**/*.md", root_dir=ROOT, recursive=True)), *sorted(glob("crates/*/*.md", root_dir=ROOT))]
 # A plan with the faults that program.md shows.
 FAULTY = """[end_system]\nid = "1"\n\n[[vl]]\nid = 6\nbag_ms = 1\nlmax = 64\nsub_vls = 1\ncapacity = 1
 [[vl]]\nid = 7\nlmax = 63\nbag_ms = 3\nsub_vls = 1\ncapacity = 2
 [[port]]\nid = 20\nvl = 6\nsub = 0\npartition = 1\nkind = "queuing"\nsource = 1\ndestination = 2\nmax = 3\n"""
-
-
-def blocks(page):
-    """The texts that a page shows, but for those in a language."""
-    return [text for language, text in re.findall(r"(?ms)^```(\w*)\n(.*?)^```$", text_of(page)) if not language]
 
 
 def without_packet(capture, k):
@@ -44,18 +44,25 @@ def shown(program, folder):
 
     quick, wanted, *_ = blocks("README.md")
     yield "README.md", ran(input=re.search("'(.*)'", quick)[1].encode().decode("unicode_escape")), wanted
-    script, transcript, document, refused, scheduled, faults, memory, traffic, queues, storm, *_ = blocks("docs/guide/program.md")
+    script, transcript, document, refused, scheduled, faults, storm, _ = blocks("docs/guide/program.md")
+    _, traffic, queues, memory, shared = blocks("docs/guide/report.md")
     plan = blocks("docs/guide/plan.md")[0]
     for name, text in {"plan.toml": plan, "script.txt": script, "traffic.csv": traffic}.items():
         write(name, text.encode())
+    table = next(it for it in blocks("docs/guide/table.md") if "AFDXPLAN" in it)
+    numbers = "".join(re.findall(r"(?m)^([0-9a-f ]+?)  ", table)).replace(" ", "")
+    yield "compile", ran("compile", "plan.toml", text=False).hex(), numbers
     # (the pages show the lines of A, from which those of B differ in byte 11)
     others = re.sub("(?m)^A (.* .{22})20", r"B \g<1>40", transcript.partition("\n")[2])
     yield "run", ran("run", "plan.toml", "script.txt", "--capture", "run.pcapng"), transcript + others
-    verdict = "loads within limits, jitter within limits, deadlines kept of accepted messages, queues suffice"
+    verdict = "loads within limits, jitter within limits, deadlines kept of accepted messages, queues suffice, partitions apart"
     told = ran("report", "plan.toml", "--traffic", "traffic.csv")
     yield "report", told.partition("\n")[0], verdict
     yield "report, queues", told[-len(queues) :], queues
     yield "report, memory", ran("report", "plan.toml")[-len(memory) :], memory
+    for name in "ab":
+        write(f"{name}.toml", text_of("examples/c/demo.toml").encode())
+    yield "check, two plans", ran("check", "a.toml", "b.toml"), shared
     write("interface.csv", document.encode())
     yield "import", ran("import", "interface.csv"), refused
     yield "schedule", ran("schedule", "plan.toml", "--traffic", "traffic.csv", "--seconds", "1", "--seed", "1")[: len(scheduled)], scheduled
@@ -83,9 +90,8 @@ def bench_day(program, folder):
     save("interface.csv", document)
     save("plan.toml", ran("import", "interface.csv"))
     yield "bench day, import", ran("import", "interface.csv"), plan
-    report = ran("report", "plan.toml", "--traffic", "interface.csv", "--html", "report.html").splitlines()
-    names = [line.split()[-1] for line in report if line.startswith("  ") and line.split()[-1] in ("speed", "trim", "left")]
-    yield "bench day, report", (names, report[0].split(", ")[-1]), (["speed", "trim", "left"], "queues suffice")
+    report = ran("report", "plan.toml", "--traffic", "interface.csv", "--html", "report.html")
+    yield "bench day, report", report, blocks("docs/guide/report.md")[0]
     save("script.txt", ran("schedule", "plan.toml", "--traffic", "interface.csv", "--seconds", "10", "--seed", "1"))
     with open(f"{folder}/script.txt", encoding="utf-8") as file:
         yield "bench day, schedule", file.read()[: len(begins)], begins
@@ -118,6 +124,25 @@ def not_in_tree(page):
                 yield f"{page}: {part[:200]}"
 
 
+def words_of_tree():
+    """The words of all files that aren't pages, of what is committed."""
+    words = set()
+    for folder, folders, files in os.walk(ROOT):
+        folders[:] = [it for it in folders if it not in (".git", "out", "docs", "target", "__pycache__")]
+        for name in files:
+            if not name.endswith(".md"):
+                with open(f"{folder}/{name}", encoding="utf-8", errors="replace") as file:
+                    words.update(re.findall(r"\w+", file.read()))
+    return words
+
+
+def unknown_names(page, words):
+    """The names in backticks on a page with a word that no other file has: of functions, clauses, keys, files."""
+    for name in re.findall(r"`([A-Za-z_][\w:.]*(?:\([^`\n]*\))?)`", re.sub(r"(?ms)^```.*?^```$", "", text_of(page))):
+        if any(it not in words and not it.isdigit() for it in re.findall(r"\w+", name)):
+            yield f"{page}: {name}"
+
+
 def too_wide(path):
     """The lines of a source or of definitions that have over 120 columns: imports, tactics and texts may."""
     is_in_text = False
@@ -137,16 +162,36 @@ def tried(program):
         return [f"{name}: printed {printed}, shown {wanted}" for name, printed, wanted in rows if printed != wanted], ""
 
 
+def tried_pictures(tries, program):
+    """The pictures that aren't what the tree yields, or too large, or not shown."""
+    shown_by_pages = " ".join(text_of(page) for page in PAGES)
+    for name, text in pictures.made(program).items():
+        if text is None:
+            tries.skip(f"no tshark for {name}")
+        elif not pictures.is_kept(name, text):
+            yield f"{name} isn't what the tree yields: python3 tools/pictures.py --write"
+        elif len(text.encode()) > 40_000 or "href" in text:
+            yield f"{name}: {len(text.encode())} bytes, or something from elsewhere"
+        elif f"pictures/{name}" not in shown_by_pages:
+            yield f"{name}: no page shows it"
+
+
 def main():
     tries = Tries()
     tries.show("paths and links", [link for page in PAGES for link in dead_links(page)])
     tries.show("texts in Rattle", [part for page in PAGES for part in not_in_tree(page)])
+    # (tools/promises.py checks the names in promises.md, and shortens them there)
+    words, named = words_of_tree(), [page for page in PAGES if not page.endswith("/promises.md")]
+    tries.show("names", [name for page in named for name in unknown_names(page, words)])
     sources = glob("crates/*/src/*.rt", root_dir=ROOT) + glob("crates/*/specs/*.antt", root_dir=ROOT)
     tries.show("widths", [line for path in sorted(sources) for line in too_wide(path)])
-    made = subprocess.run([sys.executable, "-B", f"{ROOT}/tools/pages.py"], capture_output=True, text=True, check=False)
-    tries.show("parts that tools/pages.py makes", [f"{made.stdout}{made.stderr}"] if made.returncode else [])
+    for name, tool in {"parts that tools/pages.py makes": "pages.py", "shapes of comments": "comments.py"}.items():
+        words = [sys.executable, "-B", f"{ROOT}/tools/{tool}"]
+        made = subprocess.run(words, capture_output=True, text=True, check=False)
+        tries.show(name, [f"{made.stdout}{made.stderr}"] if made.returncode else [])
     for build, program in built("afdx_bench").items():
         tries.attempt(f"commands by {build}", lambda: tried(program))
+        tries.attempt(f"pictures by {build}", lambda: ([*tried_pictures(tries, program)], ""))
     return tries.end()
 
 

@@ -110,6 +110,12 @@ def configurations() -> None:
     check(afdx.explain(DEMO.replace("1518", "63")) == wanted)
     lines = afdx.explain("".join(f"k{k} = 1\n" for k in range(1002)) + DEMO).splitlines()
     check((len(lines), lines[0], lines[-1]) == (1002, "1002 faults", "and 2 more"))
+    with tempfile.TemporaryDirectory() as room:
+        plan = Path(room, "plan.toml")
+        raises(FileNotFoundError, EndSystem, plan)
+        plan.write_text(DEMO, encoding="utf-8")
+        with EndSystem(plan) as it:
+            check(it.ports == [10] and afdx.explain(plan) == "no faults\n")
     with no_more_memory():
         check(raises(afdx.OutOfMemory, EndSystem, GREAT) == "An allocation failed.")
 
@@ -118,6 +124,8 @@ def tables() -> None:
     """A table is opened as its plan; each fault of a table is raised, and that of its plan."""
     import model
     table = model.table_of(tomllib.loads(DEMO) | {"version": 2})
+    check(afdx.memory(table) == 199697 + 304 + 424 + 312 + 40 * 2 + (2 + 1 + 1) * 8192)
+    raises(afdx.NoTable, afdx.memory, b"")
     with EndSystem.of_table(table) as it, EndSystem(DEMO) as other:
         for end in (it, other):
             end.port(10).send(b"\x01")

@@ -1,5 +1,6 @@
 """What the scripts that try built programs share: where these are, how one is started, how tries are counted, and texts."""
 import os
+import re
 import shutil
 import subprocess
 
@@ -14,6 +15,11 @@ def text_of(path):
         return file.read()
 
 
+def blocks(page):
+    """The texts that a page shows, but for those in a language."""
+    return [text for language, text in re.findall(r"(?ms)^```(\w*)\n(.*?)^```$", text_of(page)) if not language]
+
+
 # The demonstration plan, a script of one message, and what the program prints of them.
 DEMO = text_of("examples/c/demo.toml")
 SCRIPT = text_of("crates/afdx_bench/stdin")
@@ -25,8 +31,8 @@ port 10: link 1 sub 0, partition 1, queuing, 1000 to 2000, max 8192, multicast
 jitter 163040 ns, limit 500000
 """
 # What `judge` prints of a text that is no capture.
-JUDGED = """nothing judged: capture 1 isn't a capture of Ethernet frames
-capture 1: 0 packets, malformed at byte 0: Format
+JUDGED = """nothing judged: capture 1 is neither pcapng nor pcap; record one interface, as tcpdump -i eth1 -w FILE does
+capture 1: 0 packets, neither pcapng nor pcap
 """
 HELP = """\
 A transmitting AFDX end system. Without words it runs a script from standard input.
@@ -42,14 +48,14 @@ Commands:
   report    Prints the loads, the jitter and the longest waits of a plan
   schedule  Prints a script in which the ports of a plan send at their periods
   judge     Prints what is wrong with a recording of an end system
-  storm     Has all ports of a plan send at once, and prints what came of it
+  storm     Sends through all ports of a plan at once, and prints the counts
 
 Options:
   -h, --help     Print help
   -V, --version  Print version
 """
 STORM_HELP = """\
-Has all ports of a plan send at once, and prints what came of it
+Sends through all ports of a plan at once, and prints the counts
 
 Usage: afdx_bench storm --messages <messages> --turns <turns> <config>
 
@@ -57,8 +63,8 @@ Arguments:
   <config>  The file of the plan
 
 Options:
-      --messages <messages>  How many messages each port sends, each about 3 KB of memory
-      --turns <turns>        How often each thread may try
+      --messages <messages>  The number of messages that each port sends, each about 3 KB of memory
+      --turns <turns>        The number of times that each thread may try
   -h, --help                 Print help
 """
 WRONG = """\
@@ -74,6 +80,18 @@ def totals(messages, networks="equal", links=(1,)):
     """What a storm prints whose ports send `messages` messages of six bytes on each link."""
     lines = "".join(f"link {vl}: frames {messages}, bytes {60 * messages}, messages {messages}\n" for vl in links)
     return f"accepted {messages * len(links)}\n{lines}networks {networks}\nwatcher never back\n"
+
+
+# The other target that is tried, if its compiler and an emulator are there, and the library for it is built.
+OTHER = "aarch64-unknown-linux-gnu"
+OTHER_LIBRARY = f"{ROOT}/crates/afdx/out/libafdx-{OTHER}.a"
+OTHER_CC, OTHER_RUNS = "aarch64-linux-gnu-gcc", ["qemu-aarch64", "-L", "/usr/aarch64-linux-gnu"]
+
+
+def other_lacks():
+    """What is missing to try the other target, or None."""
+    programs = [it for it in (OTHER_CC, OTHER_RUNS[0]) if not shutil.which(it)]
+    return programs[0] if programs else None if os.path.isfile(OTHER_LIBRARY) else f"library for {OTHER}: install.sh --target {OTHER} builds it"
 
 
 def compiler(variable="CC", names=("cc", "gcc", "clang")):

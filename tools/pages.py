@@ -1,9 +1,11 @@
 #!/usr/bin/env python3
-"""Makes the parts of pages that are read from the tree: which crate stands on which, and contracts of public functions.
+"""Makes the parts of pages that are read from the tree: which crate stands on which, contracts of public functions,
+texts.
 
     python3 tools/pages.py [--write]
 
-Such a part is a block under a line `<!-- the drawing of crates.txt -->` or `<!-- contracts of FILE: NAME, NAME -->`.
+Such a part is a block under a line `<!-- the drawing of crates.txt -->`, `<!-- contracts of FILE: NAME, NAME -->` or
+`<!-- the text of FILE -->`.
 Prints the pages in which a block isn't what the tree yields, with exit status 1. `--write` writes the blocks instead.
 """
 import os
@@ -12,7 +14,8 @@ import sys
 from glob import glob
 
 ROOT = os.path.dirname(os.path.dirname(os.path.abspath(__file__)))
-PART = re.compile(r"(?s)(<!-- (the drawing of crates.txt|contracts of (\S+): (.*?)) -->\n```(?:rust)?\n)(.*?)(```\n)")
+NAMED = r"the drawing of crates.txt|the text of (?P<text>\S+)|contracts of (?P<source>\S+): (?P<names>.*?)"
+PART = re.compile(rf"(?s)(?P<head><!-- (?:{NAMED}) -->\n```(?:rust)?\n).*?(?P<end>```\n)")
 
 
 def text_of(path: str) -> str:
@@ -22,7 +25,7 @@ def text_of(path: str) -> str:
 
 def libraries() -> dict[str, list[str]]:
     """Each crate with the libraries that it stands on, as crates.txt has them."""
-    rows = [line.partition(": ") for line in text_of("crates.txt").splitlines() if not line.startswith("#")]
+    rows = [line.partition(":") for line in text_of("crates.txt").splitlines() if not line.startswith("#")]
     return {name.split()[0]: rest.split() for name, _, rest in rows}
 
 
@@ -62,9 +65,13 @@ def contract(path: str, name: str) -> str:
 
 def made(found: re.Match) -> str:
     """A part of a page, as the tree yields it."""
-    if not found[3]:
-        return found[1] + drawing() + found[6]
-    return found[1] + "\n".join(contract(found[3], name) for name in found[4].split(", ")) + found[6]
+    if found["text"]:
+        part = text_of(found["text"])
+    elif found["source"]:
+        part = "\n".join(contract(found["source"], name) for name in found["names"].split(", "))
+    else:
+        part = drawing()
+    return found["head"] + part + found["end"]
 
 
 def main() -> int:

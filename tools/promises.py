@@ -24,9 +24,9 @@ BLOCK = re.compile(r"(?:pub )?(?:impl|(trait))\b(?:<.*?>)? (?:(.+) for )?(\w+)")
 FUNCTION = re.compile(r' *(pub(?:\(\w+\))? )?(?:const )?(extern "C" )?fn (\w+)')
 FUNCTION_NAMED = re.compile(r"(\w+)::((?:\w+::)?)(\w+)(.*)")
 CLAUSE = re.compile(r"\s+(?:ensures|requires) (\w*) ?\{")
-USE = re.compile(r"(?m)^use Rattle\.(\w+)\.specs\.(\w+)\.\{(.*)\}")
+USE = re.compile(r"(?m)^(?:pub )?use Rattle\.(\w+)\.specs\.(\w+)\.\{(.*)\}")
 DEFINITION = re.compile(r"(?m)^(?:pub )?(?:abbrev|record|data|unfoldable) (?:pub )?(?=\w)")
-NO_DEFINITION = re.compile(r"(?m)^(?:use |\s*--).*\n|^\s*\n")
+NO_DEFINITION = re.compile(r"(?m)^(?:(?:pub )?use |\s*--).*\n|^\s*\n")
 
 
 def texts(pattern):
@@ -168,6 +168,9 @@ def headline_page(source, results):
                 words = {*re.findall(r"\w+", bodies[name])}
                 # (a name may stand for another here: `used as name`)
                 todo += [(it, used.split()[0]) for it, names in [(name[0], words), *uses[name[0]]] for used in names if used.split()[-1] in words]
+            elif name not in bodies:
+                # (a `pub use` of another module's)
+                todo += [(it, name[1]) for it, names in uses.get(name[0], []) if name[1] in names]
         new = [it for it in bodies if it in listed - before]
         lines += ["", f"**{clause['says']}** {sum(bodies[it].count(chr(10)) for it in new)} lines, {len(new)} definitions.", ""]
         of = {it.replace(".", "/"): [name for module, name in new if module == it] for it in order if it in dict(new)}

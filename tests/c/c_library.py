@@ -7,7 +7,8 @@ Of what `rt ci` has left it takes the libraries of the crates and the program `a
 `CC`, or `cc`. It builds the C library first, which `rt ci` only proves, as `rt lib` does but without proving all below
 it once more. With --built it takes the library that is there. The tests of the calls (`c_calls.c`, `owners.c`,
 `memory.c`, `threads.c`, `lines.c`, `judging.c`) and the example are compiled with all warnings as errors, as they are
-and with the sanitizers of addresses, leaks and undefined behaviour. If `tools/unproved.py` made the library, sanitizers
+and with the sanitizers of addresses, leaks and undefined behaviour; `stack.c` and `costs.c` without these, which take
+stack. If `tools/unproved.py` made the library, sanitizers
 see its own accesses too, and `threads.c` runs with the sanitizer of threads. That test sends a million messages, but
 20,000 with sanitizers and under valgrind; with --full a million there too. What the example prints with `--dump` has to
 be what `afdx_bench run` prints. The last line is 'N passed, M failed', with ', K skipped' if a tool is missing, and the
@@ -25,10 +26,12 @@ from itertools import zip_longest
 # (no compiled copy is left beside the scripts)
 sys.dont_write_bytecode = True
 sys.path.append(os.path.dirname(os.path.dirname(os.path.abspath(__file__))))
-from trying import ROOT, Tries, compiler, text_of
+from trying import OTHER_CC, OTHER_LIBRARY, OTHER_RUNS, ROOT, Tries, compiler, other_lacks, text_of
 
-sys.path.append(f"{ROOT}/tests/judge")
+sys.path += [f"{ROOT}/tests/judge", f"{ROOT}/tests/c"]
+import abi
 import calls
+import costs
 
 CRATE = f"{ROOT}/crates/afdx"
 LIBRARY = f"{CRATE}/out/libafdx.a"
@@ -132,6 +135,20 @@ def try_calls(tries, room, name, source, flags, words=()):
     path = compiled(tries, room, name, f"{ROOT}/{source}", [*WRAPPED, *flags])
     if path is not None:
         try_counted(tries, room, name, [path, *words])
+
+
+def try_target(tries, room):
+    """Tests of the calls for another processor, under an emulator."""
+    if other_lacks():
+        tries.skip(f"no {other_lacks()}")
+        return
+    for name in ("c_calls", "owners", "memory", "lines", "judging", "stack"):
+        path = f"{room}/{name}-other"
+        sources = [f"{ROOT}/tests/c/{name}.c", f"{ROOT}/install/hook.c"]
+        made = ran([OTHER_CC, "-std=gnu11", *WARNINGS, *WRAPPED, f"-I{CRATE}", *sources, OTHER_LIBRARY, "-lpthread", "-o", path])
+        tries.show(f"compiling {name} by {OTHER_CC}", [made.stderr] if made.returncode else [])
+        if made.returncode == 0:
+            try_counted(tries, room, f"{name} under {OTHER_RUNS[0]}", [*OTHER_RUNS, path])
 
 
 def try_counted(tries, room, name, words):
@@ -267,11 +284,15 @@ def main():
     tries = Tries()
     with tempfile.TemporaryDirectory(prefix="c-library-") as room:
         try_header(tries, room)
+        tries.attempt("the binary interface is the one of its version", lambda: (abi.faults(room) + abi.rule_faults(), ""))
         if "--built" not in sys.argv and not is_built(tries):
             return tries.end()
         for name in ("c_calls", "owners", "memory", "threads", "lines", "judging"):
             try_calls(tries, room, name, f"tests/c/{name}.c", [])
             try_calls(tries, room, f"{name}-sanitized", f"tests/c/{name}.c", SANITIZER, FEW if name == "threads" else ())
+        try_calls(tries, room, "stack", "tests/c/stack.c", [])
+        costs.try_costs(tries, room, compiled, ran, not os.path.isfile(f"{LIBRARY[:-2]}-address.a"))
+        try_target(tries, room)
         try_threads(tries, room)
         try_memory(tries, room)
         try_judging(tries, room, "judging")

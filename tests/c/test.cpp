@@ -54,6 +54,16 @@ static std::string replaced(std::string text, const std::string &old, const std:
     return text.replace(text.find(old), old.size(), by);
 }
 
+// Whether a plan is refused in these words.
+static bool says(const std::string &text, const std::string &words) {
+    try {
+        afdx::EndSystem it(text);
+    } catch (const afdx::ConfigError &error) {
+        return error.what() == words;
+    }
+    return false;
+}
+
 static void try_opening(const std::string &demo) {
     const auto is_refused = [](ConfigFault fault, const std::string &text) {
         return throws<afdx::ConfigError>(fault, [&] { afdx::EndSystem it(text); });
@@ -65,6 +75,8 @@ static void try_opening(const std::string &demo) {
     CHECK(is_refused(ConfigFault::NoSuchSub, replaced(demo, "sub = 0", "sub = 1")));
     CHECK(afdx::explain(demo) == "no faults\n");
     CHECK(afdx::explain(replaced(demo, "1518", "63")) == "1 fault\n5 OutOfRange: vl 1 (id 1), lmax is 63: 64 to 1518\n");
+    CHECK(says(replaced(demo, "1518", "63"), "AFDX_CONFIG_OUT_OF_RANGE\n1 fault\n5 OutOfRange: vl 1 (id 1), lmax is 63: 64 to 1518"));
+    CHECK(says("", "AFDX_CONFIG_MISSING_KEY\n" + afdx::explain("").substr(0, afdx::explain("").size() - 1)));
     std::string many;
     for (int k = 0; k < 1002; k++) many += "k" + std::to_string(k) + " = 1\n";
     const std::string told = afdx::explain(many + demo);

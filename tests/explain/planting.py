@@ -68,7 +68,10 @@ def plant(rng: random.Random, document: Table, fault: int, free: dict[str, list[
         name = "vl" if fault == 6 else rng.choice(("vl", "port"))
         (k,) = take(name)
         table, format_ = document[name][k], fields(document, name)
-        unknown = ["extra", "Id", "x" * 41, 'q"\u00e9', "checksums", *(key for key in IN_VERSION_2 if key not in format_)]
+        # (of the keys that only version 2 has, one is told)
+        is_told = any(key in it for other in ("vl", "port") for it in document[other] for key in IN_VERSION_2 if key in FIELDS[other])
+        newer = [key for key in IN_VERSION_2 if key not in format_ and not (is_told and key in FIELDS[name])]
+        unknown = ["extra", "Id", "x" * 41, 'q"\u00e9', "checksums", *newer]
         few = {2: [key for key in format_ if key not in OPTIONAL], 3: unknown, 6: ["bag_ms"]}
         key = rng.choice(few.get(fault, [key for key in format_ if fault == 4 or key != "bag_ms"]))
         table[key] = rng.choice(bad_values(format_[key], fault)) if fault > 3 else 7

@@ -86,7 +86,7 @@ def faults_of(text: str | bytes, lines: Iterable[str] = (), whole: str | None = 
     faults += [f"the first line is {head}"] if head != f"{count or 'no'} fault{'s' * (count != 1)}" else []
     is_told = (checked.returncode, checked.stderr) == answer and bool(checked.stdout) != bool(rest)
     faults += [] if is_told else [f"check: {checked}, explain: {explained}"]
-    is_ended = (explained.returncode, explained.stderr) == (answer[0], b"")
+    is_ended = (explained.returncode, explained.stderr) == (1 if rest else 0, b"")
     faults += [] if is_ended else [f"status {explained.returncode}, {explained.stderr!r}"]
     return [f"{fault}\nof the text\n{raw.decode(errors='replace')[:1500]}" for fault in faults]
 
@@ -137,7 +137,7 @@ SMALL, HEADS = "{{id = {}, bag_ms = 1, lmax = 64, sub_vls = 1, capacity = 1}}, "
 AND_NEXT = "7 DuplicateVl: vl 3 (id 9) and vl 1 (id 9): the same id"
 LAST = THREE.rpartition("id = 22")[2]
 LINK_KEYS = "id bag_ms lmax sub_vls capacity networks"
-PORT_KEYS, LATER = "id vl sub partition kind source destination max dest_ip", "only if version = 2"
+PORT_KEYS, LATER = "id vl sub partition kind source destination max dest_ip", "only if version = 2, and version is missing"
 NO_ADDRESS, NO_LMAX = "5 OutOfRange: port 2 (id 21), dest_ip is ", "5 OutOfRange: vl 2 (id 8), lmax is 63: 64 to 1518"
 CHANGES = [
     ("id = 20\n", "", "2 MissingKey: port 1, id is missing: 0 to 65535"),
@@ -341,8 +341,8 @@ def main() -> int:
         tries.show("65 plans without a fault", all_faults(sound))
         tries.attempt(f"the lines of {count // 4} texts of random layouts", lambda: layouts(count // 4))
         tries.attempt("refused memory and writes, no fault", lambda: (refused(trying.DEMO, 0), ""))
-        tries.attempt("refused memory, two faults", lambda: (refused(trying.DEMO.replace("bag_ms = 1", "bag_ms = 3\nx = 1"), 2), ""))
-        tries.attempt("refused memory, no TOML", lambda: (refused(trying.DEMO + "=", 2), ""))
+        tries.attempt("refused memory, two faults", lambda: (refused(trying.DEMO.replace("bag_ms = 1", "bag_ms = 3\nx = 1"), 1), ""))
+        tries.attempt("refused memory, no TOML", lambda: (refused(trying.DEMO + "=", 1), ""))
         tries.attempt("64 links and 256 ports, 100 faults", times)
     return tries.end()
 

@@ -119,6 +119,7 @@ def value_lines(document: Table, fault: int) -> Iterable[str]:
     sites: list[tuple[Place, Table]] = [(("", 0), document)]
     sites += [(("end_system", 0), document["end_system"])] if isinstance(document.get("end_system"), dict) else []
     sites += [((name, k), table) for name in ("vl", "port") for k, table in enumerate(rows(document, name), 1)]
+    newer = False
     for at, table in sites:
         known = fields(document, at[0])
         for key, content in known.items():
@@ -130,8 +131,11 @@ def value_lines(document: Table, fault: int) -> Iterable[str]:
             others = sorted((key for key in table if key not in known), key=str.encode)
             keys = f"the keys are {' '.join(known)}"
             for key in others:
-                said = "only if version = 2" if key in FIELDS[at[0]] else keys + meant(key, known)
-                yield f"{subject(document, at, key)}: {said}"
+                if key not in FIELDS[at[0]]:
+                    yield f"{subject(document, at, key)}: {keys}{meant(key, known)}"
+                elif not newer:
+                    newer = True
+                    yield f"{subject(document, at, key)}: only if version = 2" + ", and version is missing" * ("version" not in document)
 
 
 def known(name: str, table: Table) -> Table:

@@ -255,6 +255,8 @@ def misfit(ground: Ground) -> Planted:
     """A piece that isn't the next one."""
     rule = ground.rng.choice(("Offset", "Identification", "Addresses", "Length"))
     if rule == "Length":
+        if ground.arinc:
+            raise Unfit
         return cut_short(ground)
     first = ground.rng.random() < 0.5 and rule == "Identification"
     if first and ground.arinc:
@@ -273,11 +275,15 @@ def misfit(ground: Ground) -> Planted:
 
 
 def repeated(ground: Ground) -> Planted:
-    """A message with the identification of the one before it, in a maker's numbering of its own."""
+    """A message with the identification of the one before it, both cut, in a maker's numbering of its own."""
     def before(vl: int, k: int) -> list[int]:
         return [j for j in range(k) if ground.frame(vl, j).sub == ground.frame(vl, k).sub]
 
-    vl, k = ground.choose(lambda vl, k: ground.frame(vl, k).start == 0 and before(vl, k))
+    def fits(vl: int, k: int) -> bool:
+        it, earlier = ground.frame(vl, k), before(vl, k)
+        return it.more and it.start == 0 and earlier and ground.frame(vl, earlier[-1]).start > 0
+
+    vl, k = ground.choose(fits)
     ident = ground.first(vl, before(vl, k)[-1])[18:20]
     return ground.planted("Fragment", "Repeated", ground.rewrite(vl, k, lambda data: summed(put(data, 18, ident))))
 

@@ -1,5 +1,6 @@
 """Recordings for the tests of the calls that judge from C and Python: those on which `test_judge.py` tries the command."""
 import os
+import re
 import sys
 from collections.abc import Iterator
 from typing import NamedTuple
@@ -25,10 +26,11 @@ class Case(NamedTuple):
 def case_of(name: str, plan: str, captures: list[bytes], options: verdict.Options) -> Case:
     """A case with what the model says of it."""
     _, _, found = verdict.judged(plan, captures, options)
-    readers = enumerate(map(verdict.Reader, captures), 1)
-    captured = [verdict.read_line(place, reader, len(captures) == 1).strip() for place, reader in readers]
-    is_whole = not any("cut off" in line or "malformed" in line for line in captured)
-    return Case(name, plan, captures, options, found, [] if is_whole else captured)
+    readers = [*map(verdict.Reader, captures)]
+    captured = [verdict.read_line(place, reader, len(captures) == 1).strip() for place, reader in enumerate(readers, 1)]
+    # (the calls don't say which other link type a capture has)
+    captured = [re.sub(r"link type \d+ at", "another link type at", line) for line in captured]
+    return Case(name, plan, captures, options, found, captured if any(it.end.fault for it in readers) else [])
 
 
 def cases(count: int) -> Iterator[Case]:

@@ -28,7 +28,7 @@ class End(NamedTuple):
 
 
 class Malformed(Exception):
-    """The name of what is wrong."""
+    """The name of what is wrong, and for another link type its number."""
 
 
 class CutOff(Exception):
@@ -47,7 +47,8 @@ class Interface:
     def __init__(self, order: str, body: bytes) -> None:
         want(len(body) >= 8, "Length")
         link, _, self.limit = struct.unpack_from(order + "HHI", body)
-        want(link == 1, "LinkType")
+        if link != 1:
+            raise Malformed("LinkType", link)
         self.name, self.resolution, self.offset = None, 6, 0
         at = 8
         while at < len(body):
@@ -84,6 +85,8 @@ class Reader:
 
     def __init__(self, data: bytes) -> None:
         self.data, self.packets, self.interfaces = data, [], []
+        # the interface of each packet, and the link type that ended the reading
+        self.numbers, self.link = [], None
         self.step, self.at, self.order, self.unit = self.first, 0, "", 0
         is_known = False
         while True:
@@ -94,7 +97,8 @@ class Reader:
                 self.end = End("", self.at) if is_known and self.at == len(data) else End("CutOff", self.at)
                 break
             except Malformed as fault:
-                self.end = End(str(fault), self.at)
+                self.end = End(fault.args[0], self.at)
+                self.link = fault.args[1] if fault.args[1:] else None
                 break
 
     def front(self, form: str, offset: int = 0) -> tuple:
@@ -119,7 +123,9 @@ class Reader:
         self.order, self.unit = found[0]
         header = self.take(24)
         want(struct.unpack_from(self.order + "H", header, 4) == (2,), "Version")
-        want(struct.unpack_from(self.order + "I", header, 20)[0] & 0xFFFF == 1, "LinkType")
+        link = struct.unpack_from(self.order + "I", header, 20)[0] & 0xFFFF
+        if link != 1:
+            raise Malformed("LinkType", link)
         self.at, self.step = self.at + 24, self.record
         return None
 
@@ -128,6 +134,7 @@ class Reader:
         (captured,) = self.front(self.order + "I", 8)
         whole = self.take(16 + captured)
         seconds, part, _, original = struct.unpack_from(self.order + "IIII", whole)
+        self.numbers.append(0)
         self.packets.append(Packet("A", seconds * SECOND + part * self.unit, original, whole[16:]))
         self.at += len(whole)
 
@@ -164,6 +171,7 @@ class Reader:
             limit = self.known(0).limit
             captured = min(original, limit) if limit else original
             want(4 + captured <= len(body), "Captured")
+            self.numbers.append(0)
             self.packets.append(Packet(self.network(0), None, original, body[4 : 4 + captured]))
         elif kind == ENHANCED:
             want(len(body) >= 20, "Length")
@@ -171,6 +179,7 @@ class Reader:
             interface = self.known(number)
             want(20 + captured <= len(body), "Captured")
             at = interface.time(high << 32 | low)
+            self.numbers.append(number)
             self.packets.append(Packet(self.network(number), at, original, body[20 : 20 + captured]))
 
     def known(self, number: int) -> Interface:

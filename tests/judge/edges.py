@@ -1,5 +1,6 @@
 """Tests `afdx_bench judge` at its edges: pages, files that are no captures, long captures and blocks, pipes."""
 import fcntl
+import hashlib
 import os
 import random
 import re
@@ -13,7 +14,7 @@ import picture
 import trials
 import trying
 import verdict
-from captures import LONGEST, PLAIN, Packet, random_form, written
+from captures import LONGEST, PLAIN, Packet, Reader, random_form, written
 from planting import text_of
 from recordings import MICRO, recorded
 from trials import changed, faults_of, files_of, run_judge, tried
@@ -32,30 +33,51 @@ def bar(scale: int, limit: int, value: str) -> list[tuple[str, Fraction, Fractio
     return picture.parts([Fraction(part)], Fraction(limit), Fraction(scale))
 
 
+def micros(nanos: str) -> str:
+    """A time in nanoseconds as the page has it, in microseconds."""
+    return f"{int(nanos) // 1000}.{int(nanos) % 1000:03}\u00a0µs" if nanos.isdigit() else "–"
+
+
 def page(seed: int) -> list[str]:
-    """What is wrong with the page of a recording: its title, its verdict, its cells and its bars, by the rows and the line of
-    findings."""
+    """What is wrong with the page of a recording: its title, its verdict, where it comes from, its findings, and the table of the
+    links with its bars, by the text. Every fourth recording is cut off."""
     rng = random.Random(f"page {seed}")
-    recording, options = recorded(rng, 12), Options(skew=rng.choice((10_000, 6_000, 250_000)))
+    recording, jitter = recorded(rng, 12), rng.choice((0, 0, 999))
+    options = Options(jitter, rng.choice((10_000, 6_000, 250_000)))
     packets = list(recording.packets)
-    changed(packets, rng)
+    for _ in range(rng.choice((0, 1, 3, 200))):
+        changed(packets, rng)
     plan, capture, name = text_of(recording.plan, rng), written(packets, PLAIN, rng), f"{os.getpid()}-page"
+    capture = capture[:-5] if seed % 4 == 3 else capture
     told, wanted = run_judge(plan, [capture], options, more=["--html", name]), verdict.judged(plan, [capture], options)
-    *_, rows = wanted[1].partition("lead-ns\n")
-    cells = [row.split() for row in rows.splitlines()]
-    both = {vl: lead for vl, _, *_, lead in cells if sum(row[0] == vl for row in cells) == 2}
-    text, scale = page_in(name), 1000 * options.skew
-    shown, title = picture.Page(text), f"Recording of end system {recording.plan['end_system']['id']}"
-    gaps = [picture.plain(row[0], row[1], f"{row[6]} ns") for row in cells]
-    bars = [[bar(2 * int(row[5]), int(row[5]), row[6])] for row in cells]
-    faults = [*picture.table_faults(shown, "gaps", ["link", "network", "least gap", ""], gaps, bars)]
-    leads = [picture.plain(vl, f"{lead} ns") for vl, lead in both.items()]
-    bars = [[bar(scale, scale, lead)] for lead in both.values()]
-    faults += picture.table_faults(shown, "leads", ["link", "lead", ""], leads, bars)
+    if told != (*wanted[:2], ""):
+        return [f"page {seed}: {told} for {wanted[:2]}"]
+    lines = told[1].splitlines()
+    cells = [row.split() for row in told[1].partition("lead-ns\n")[2].splitlines()]
+    text, scale, number = page_in(name), 1000 * options.skew, recording.plan["end_system"]["id"]
+    shown, title, rows, bars = picture.Page(text), f"Recording of end system {number}", [], []
+    for vl, net, frames, _, _, bag, least, lead in cells:
+        is_short = least.isdigit() and int(least) < int(bag) - 1000 * jitter
+        rows.append([(vl, ""), (net, ""), (frames, "" if int(frames) else "over"), (f"{int(bag) // 10**6}\u00a0ms", "")])
+        rows[-1] += [(micros(least), "over" if is_short else ""), (micros(lead), "")]
+        bars.append([bar(2 * int(bag), int(bag), least), bar(scale, scale, lead)])
+    head = ["link", "network", "frames", "BAG", "least gap", "lead", "gap", "lead"]
+    faults = [*picture.table_faults(shown, f"links-{number}", head, rows, bars)]
     titles = [re.sub("<.*?>", "", it) for it in re.findall(r"<(?:title|h1)>.*</(?:title|h1)>", text)]
+    faults += [] if titles == [title, title] else [f"{titles}"]
     said = re.findall(r'<p id="verdict">(.*)</p>', text)
-    is_well = titles == [title, title] and said == re.findall(r"(?m)^no findings$|^\d+ findings?: .*", wanted[1])
-    faults += [] if is_well and told == (*wanted[:2], "") else [f"{titles} {said} {told} for {title} and {wanted}"]
+    line = next(it for it in lines if re.match(r"no findings$|\d+ findings?: ", it)) + "; the recording isn't whole" * (seed % 4 == 3)
+    faults += [] if said == [line] else [f"{said} for {line}"]
+    listed = "".join(re.findall(r'(?s)<pre id="findings">\n(.*?)</pre>', text)).splitlines()
+    faults += [] if listed == [it for it in lines if re.match(r"\d+ [AB] ", it)] else [f"{listed}"]
+    times = [it.at for it in packets[: len(packets) - (seed % 4 == 3)] if it.at is not None]
+    first, last = packets[0].at if packets else None, max(times, default=None)
+    for key, at in (("first", min(times, default=None)), ("last", last)):
+        is_well = at is None or shown.named.get(key) == f"{at // 10**9}.{at % 10**9:09}\u00a0s"
+        faults += [] if is_well or key == "first" and first != at else [f"{key}: {shown.named.get(key)} for {at}"]
+    faults += [] if shown.named["options"] == f"jitter {jitter} µs, skew {options.skew} µs, profile own" else [shown.named["options"]]
+    files = [f"{os.getpid()}-plan", hashlib.sha256(plan.encode()).hexdigest(), f"{os.getpid()}-0: {len(Reader(capture).packets)} packets"]
+    faults += [f"no {it}" for it in files if f"<dd>{it}" not in text]
     return [f"page {seed}: {fault}" for fault in faults]
 
 
@@ -110,10 +132,11 @@ def long() -> list[str]:
     # (75,000 is 30 more than a multiple of 255; the model would take a minute)
     wanted = "".join(f"{150_001 + k} {net} 75.000000000 vl 1 Number: seen 31, wanted 30\n" for k, net in enumerate("AB"))
     wanted += "2 findings: Number 2\ncapture 1: 200000 packets\n"
+    wanted += "networks: A is interface 0 of capture 1, B is interface 1 of capture 1\n"
     wanted += " link net      frames         bytes    messages      bag-ns   least-gap-ns     lead-ns\n"
     wanted += "".join(f"    1   {net}      100000       6000000      100000     1000000        1000000           0\n" for net in "AB")
     told = run_judge(trying.DEMO, [written(packets, PLAIN, random.Random(0))], Options())
-    return [] if told == (2, wanted, "") else [f"{told} for {wanted}"]
+    return [] if told == (1, wanted, "") else [f"{told} for {wanted}"]
 
 
 def great() -> list[str]:

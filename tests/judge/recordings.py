@@ -97,3 +97,23 @@ def rewritten(rng: random.Random, recording: Recording) -> Recording:
         end = 14 + half(data, 16)
         packets.append(it._replace(data=summed(put(data, end, own.randbytes(len(data) - 1 - end)))))
     return recording._replace(packets=packets)
+
+
+def freed(rng: random.Random, recording: Recording) -> Recording:
+    """The recording as a maker sends it who uses all of what ARINC 664 leaves free: messages of one frame have any
+    identification, some have no bytes, and the plan allows longer frames than messages were cut for, and knows of no
+    checksums."""
+    seed, packets = rng.random(), []
+    for it in recording.packets:
+        data, own = it.data, random.Random(f"{seed} {it.data[:11]} {it.data[12:]}")
+        if half(data, 20) == 0:
+            data = put(data, 18, own.choice((b"\0\0", own.randbytes(2))))
+            if own.random() < 0.3:
+                pseudo = data[26:34] + b"\0\x11\0\x08" + data[34:38] + b"\0\x08"
+                checksum = (complement(pseudo) or 65_535) if half(data, 40) else 0
+                data = put(put(data[:42], 16, b"\0\x1c"), 38, b"\0\x08" + checksum.to_bytes(2, "big")) + bytes(17) + data[-1:]
+            data = summed(data)
+        packets.append(it._replace(data=data, original=len(data)))
+    links = [link | {"lmax": rng.randint(link["lmax"], 1518)} for link in recording.plan["vl"]]
+    ports = [port | {"checksum": "none"} for port in recording.plan["port"]]
+    return Recording(recording.plan | {"vl": links, "port": ports}, packets)

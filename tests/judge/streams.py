@@ -55,20 +55,21 @@ class Message:
     def __init__(self, port: Table, piece: Piece) -> None:
         self.port, self.first, self.data = port, piece, piece.data
 
-    def fault(self) -> tuple[str, str] | None:
-        """What is wrong with it as a whole. A short first piece is followed by its padding."""
+    def fault(self, arinc: bool) -> tuple[str, str] | None:
+        """What is wrong with it as a whole. A short first piece is followed by its padding. By ARINC 664 alone it may have no
+        bytes, and a checksum though the plan has none."""
         header = self.first.frame[34:42]
         length, checksum, count = half(header, 4), half(header, 6), len(self.data)
         if length != count:
             return "UdpLength", differ(length, count)
         size = max(0, count - 8)
-        if not 1 <= size <= self.port["max"]:
+        if count < 8 or size > self.port["max"] or not (size or arinc):
             return "Size", differ(size, self.port["max"])
-        wanted = 0
-        if self.port.get("checksum") == "udp":
-            pseudo = words(self.first.frame[26:34]) + 17 + count
-            wanted = 65_535 - (pseudo + words(self.data) - checksum) % 65_535
-        return None if checksum == wanted else ("UdpChecksum", differ(checksum, wanted))
+        pseudo = words(self.first.frame[26:34]) + 17 + count
+        right = 65_535 - (pseudo + words(self.data) - checksum) % 65_535
+        wanted = right if self.port.get("checksum") == "udp" else 0
+        is_well = checksum == wanted or arinc and checksum == right
+        return None if is_well else ("UdpChecksum", differ(checksum, wanted))
 
 
 class Joining(NamedTuple):
@@ -90,6 +91,8 @@ class Stream:
     def __init__(self, link: Table, ports: list[Table], options: Options) -> None:
         self.link, self.ports, self.options = link, [port for port in ports if port["vl"] == link["id"]], options
         self.number, self.at, self.frames, self.bytes, self.messages, self.least = None, None, 0, 0, 0, None
+        # The least time at which the last frame may have been released, which may be before time 0.
+        self.release: int | None = None
         self.joining = {sub: UNKNOWN if options.late else Joining(ANY if options.arinc else sub, 0) for sub in range(4)}
         # The sub-VLs whose last frame has a piece after it, and those that came after the last frame of each.
         self.due: set[int] = set()
@@ -135,12 +138,15 @@ class Stream:
         return port["sub"] if port else next(same, None)
 
     def spaced(self, at: int) -> list[tuple[str, str, str]]:
-        """The gap."""
+        """The gap: releases are a BAG apart or more, each at most the jitter before its frame's time, and not after it."""
+        jittered = at - 1000 * self.options.jitter
         if self.at is None:
+            self.release = jittered
             return []
-        gap, wanted = max(0, at - self.at), 1000 * max(0, 1000 * self.link["bag_ms"] - self.options.jitter)
+        due, gap = self.release + 10**6 * self.link["bag_ms"], max(0, at - self.at)
         self.least = gap if self.least is None else min(self.least, gap)
-        return [("Early", "", differ(gap, wanted))] if at < self.at or gap < wanted else []
+        self.release = min(at, max(due, jittered))
+        return [("Early", "", differ(gap, max(0, due - self.at)))] if due > at else []
 
     def turned(self, piece: Piece, own: int | None) -> list[tuple[str, str, str]]:
         """The turn: no sub-VL comes twice after a frame of one that has a piece left."""
@@ -174,8 +180,8 @@ class Stream:
             message = Message(port, piece) if port else None
         elif message:
             message.data += piece.data
-        fault = message.fault() if message and not piece.more and not misfit else None
-        last = Joining(ANY, 0, None, piece.ident) if self.options.arinc else Joining((piece.ident + 4) % 65_536, 0)
+        fault = message.fault(self.options.arinc) if message and not piece.more and not misfit else None
+        last = Joining(ANY, 0, None, piece.ident if piece.start else None) if self.options.arinc else Joining((piece.ident + 4) % 65_536, 0)
         if sub is not None:
             self.joining[sub] = UNKNOWN if misfit else Joining(piece.ident, end, message) if piece.more else last
         return [("Fragment", *misfit)] if misfit else [("Message", *fault)] if fault else []
@@ -188,10 +194,12 @@ class Stream:
             return "Offset", differ(piece.start, before.start)
         if before.ident not in (ANY, piece.ident):
             return "Identification", differ(piece.ident, before.ident)
-        if piece.ident == before.not_ident:
+        if piece.more and piece.ident == before.not_ident:
             return "Repeated", f"seen {piece.ident}"
         if first and (piece.partition, piece.destination) != (first.partition, first.destination):
             return "Addresses", ""
+        if self.options.arinc:
+            return None
         if piece.more and size <= room and size != step:
             return "Length", differ(size, step)
         if not piece.more and piece.start and size <= room - step:

@@ -10,7 +10,6 @@ plants faults, one at a time, with the findings that each has to bring. With --a
 import itertools
 import os
 import random
-import re
 import subprocess
 import sys
 import tempfile
@@ -26,12 +25,13 @@ import breaking  # noqa: E402
 import edges  # noqa: E402
 import refusals  # noqa: E402
 import refusals_wanted  # noqa: E402
+import taps  # noqa: E402
 import test_run  # noqa: E402
 import trying  # noqa: E402
 import verdict  # noqa: E402
 from captures import PLAIN, Packet, Reader, random_form, written  # noqa: E402
 from planting import text_of  # noqa: E402
-from recordings import by_time, recorded, rewritten  # noqa: E402
+from recordings import by_time, freed, recorded, rewritten  # noqa: E402
 from trials import PROGRAM, changed, faults_of, files_of, run_judge, tried  # noqa: E402
 from verdict import KINDS, Options  # noqa: E402
 
@@ -93,6 +93,28 @@ def late(seed: int) -> list[str]:
     return faults_of(f"late {seed}", text_of(recording.plan, rng), files_of(packets, rng), options, [])
 
 
+def jittered(seed: int) -> list[str]:
+    """What is wrong with the verdicts on a recording in which each frame is delayed by up to the jitter: nothing is found. At
+    half the BAG a link is early from its third frame on, whatever the jitter under a BAG."""
+    rng = random.Random(f"jittered {seed}")
+    recording, jitter = recorded(rng), rng.choice((1, 500, 999, 1_000, 1_001, 4_000, 60_000))
+    latest, packets = {"A": 0, "B": 0}, []
+    for it in recording.packets:
+        at = max(latest[it.network], it.at + rng.choice((0, rng.randrange(1_000 * jitter + 1), 1_000 * jitter)))
+        latest[it.network] = at
+        packets.append(it._replace(at=at))
+    plan, captures, options = text_of(recording.plan, rng), files_of(by_time(packets), rng), Options(jitter, 5_000 + jitter)
+    faults = faults_of(f"jittered {seed}", plan, captures, options, [])
+    vl, net = rng.choice([(breaking.half(it.data, 4), it.network) for it in packets])
+    bag = next(it["bag_ms"] for it in recording.plan["vl"] if it["id"] == vl)
+    own = [it for it in recording.packets if (breaking.half(it.data, 4), it.network) == (vl, net)]
+    hasty = [it._replace(at=own[0].at + 500_000 * bag * place) for place, it in enumerate(own)]
+    found = verdict.judged(plan, [written(hasty, PLAIN, rng)], Options(500 * bag))[2]
+    early = [it.packet for it in found if it.kind == "Early"]
+    faults += faults_of(f"hasty {seed}", plan, [written(hasty, PLAIN, rng)], Options(500 * bag))
+    return faults + ([] if early == [*range(3, len(own) + 1)] else [f"hasty {seed}: {early}"])
+
+
 def checked(seed: int) -> list[str]:
     """What is wrong with the verdicts on frames with their check sequences: nothing is found if the command knows of them, and
     else one finding. A wrong one is found."""
@@ -122,7 +144,10 @@ def of_another_maker(seed: int) -> list[str]:
     pads = [it.data[14 + breaking.half(it.data, 16) : -1] for it in recording.packets]
     others = sum(it.data[15] > 0 or it.data[22] != 1 or any(pad) for it, pad in zip(recording.packets, pads, strict=True))
     told = sum(it.kind == "Frame" and it.rule in ("Version", "Protocol", "Padding") for it in found)
-    return faults + ([] if told == others else [f"another maker {seed}: {told} for {others}"])
+    faults += [] if told == others else [f"another maker {seed}: {told} for {others}"]
+    recording = freed(rng, recording)
+    plan, captures = text_of(recording.plan, rng), files_of(recording.packets, rng)
+    return faults + faults_of(f"free {seed}", plan, captures, Options(arinc=True), []) + faults_of(f"bound {seed}", plan, captures, Options())
 
 
 def lost(seed: int) -> list[str]:
@@ -205,7 +230,7 @@ def prefixes(polls: int) -> Iterator[tuple[str, bytes, int]]:
 def guide() -> list[str]:
     """What is wrong with the example of the guide: the run of `program.md` without the second frame of network B."""
     starts = {"plan": "version", "program": "send", "judge": "3 A"}
-    pages = {name: re.findall(r"(?ms)^```\n(.*?)^```", trying.text_of(f"docs/guide/{name}.md")) for name in starts}
+    pages = {name: trying.blocks(f"docs/guide/{name}.md") for name in starts}
     plan, script, wanted = (next(it for it in pages[name] if it.startswith(start)) for name, start in starts.items())
     files = {"guide.toml": plan, "guide.txt": script}
     for name, text in files.items():
@@ -216,7 +241,7 @@ def guide() -> list[str]:
         packets = Reader(file.read()).packets
     del packets[3]
     told = run_judge(plan, [written(packets, PLAIN, random.Random(0))], Options(skew=100))
-    is_well = told == (2, wanted, "") and trying.JUDGED in pages["judge"]
+    is_well = told == (1, wanted, "") and trying.JUDGED in pages["judge"]
     return [] if is_well else [f"{told} for {wanted}, or another text of no capture than {trying.JUDGED}"]
 
 
@@ -260,12 +285,16 @@ def main() -> int:
             # (so each rule of the layout is broken)
             cases = [(kind, seed) for seed in range(counts.planted * (1 if kind else 8))]
             tries.attempt(f"{len(cases)} times {word} alone", lambda cases=cases: (tried(planted, cases), ""))
-        for task in (late, checked, of_another_maker, lost, unmerged, mixed):
+        for task in (late, jittered, checked, of_another_maker, lost, unmerged, mixed):
             tries.attempt(f"{task.__name__}, {counts.mixed} times", lambda task=task: (tried(task, range(counts.mixed)), ""))
         tries.attempt("each prefix of a capture", lambda: (tried(prefix, prefixes(4 if counts is FEW else 60)), ""))
         tries.attempt(f"{counts.damaged} damaged captures", lambda: (tried(damaged, range(counts.damaged)), ""))
         tries.attempt("40 pages", lambda: (tried(edges.page, range(40)), ""))
         for task in (edges.unwritten, edges.no_capture, edges.long, edges.great, edges.interrupted):
+            tries.attempt(task.__name__, lambda task=task: (task(), ""))
+        for task in (taps.several, taps.apart, taps.by_byte, taps.silent):
+            tries.attempt(f"{task.__name__}, {counts.mixed} times", lambda task=task: (tried(task, range(counts.mixed)), ""))
+        for task in (taps.foreign, taps.live, taps.many):
             tries.attempt(task.__name__, lambda task=task: (task(), ""))
         tries.attempt("the example of the guide", lambda: (guide(), ""))
         tries.attempt("more findings than lines", lambda: (crowd(), ""))

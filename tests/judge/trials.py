@@ -11,31 +11,37 @@ import trying
 import verdict
 from captures import PLAIN, Packet, random_form, written
 from recordings import MICRO
-from verdict import Options
+from verdict import Options, Ways
 
 PROGRAM = f"{trying.ROOT}/crates/afdx_bench/out/afdx_bench"
 Verdict = tuple[int, str, str]
 
 
-def run_judge(plan: str, captures: list[bytes], options: Options, is_piped: bool = False, more: Sequence[str] = ()) -> Verdict:
-    """Runs the program on a plan and captures, in files of this process's own. Returns its status and what it prints."""
+def run_judge(
+    plan: str, captures: list[bytes], options: Options, is_piped: bool = False, more: Sequence[str] = (), ways: Ways = Ways()
+) -> Verdict:
+    """Runs the program on plans and captures, in files of this process's own. Returns its status and what it prints."""
+    others = [f"{os.getpid()}-with-{place}" for place in range(len(ways.plans))]
+    for name, text in zip(others, ways.plans, strict=True):
+        with open(name, "w", encoding="utf-8") as file:
+            file.write(text)
     names = [f"{os.getpid()}-{kind}" for kind in ("plan", *range(len(captures)))]
     for name, data in zip(names, (plan.encode(), *captures), strict=True):
         with open(name, "wb") as file:
             file.write(data)
     how = {"input": captures[0]} if is_piped else {"stdin": subprocess.DEVNULL}
-    words = [PROGRAM, "judge", names[0], *(["/dev/stdin"] if is_piped else names[1:]), *options.words(), *more]
+    words = [PROGRAM, "judge", names[0], *(["-"] if is_piped else names[1:]), *options.words(), *ways.words(others), *more]
     done = subprocess.run(words, capture_output=True, check=False, timeout=60, **how)
     return done.returncode, done.stdout.decode(), done.stderr.decode()
 
 
 def faults_of(
-    name: str, plan: str, captures: list[bytes], options: Options, wanted: list | None = None, is_piped: bool = False
+    name: str, plan: str, captures: list[bytes], options: Options, wanted: list | None = None, is_piped: bool = False, ways: Ways = Ways()
 ) -> list[str]:
     """What is wrong with a verdict, beside the model's; and with the findings, if some are wanted: kind, rule, number of the
     packet and network."""
-    status, out, found = verdict.judged(plan, captures, options, is_piped)
-    told, faults = run_judge(plan, captures, options, is_piped), []
+    status, out, found = verdict.judged(plan, captures, options, is_piped, ways)
+    told, faults = run_judge(plan, captures, options, is_piped, ways=ways), []
     if told != (status, out, ""):
         pairs = itertools.zip_longest(told[1].splitlines(), out.splitlines())
         line = next((f"\n    {is_}\nfor {to_be}" for is_, to_be in pairs if is_ != to_be), "")

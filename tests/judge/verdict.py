@@ -9,7 +9,9 @@ from streams import Options, Piece, Stream, Table, differ, half, words
 
 KINDS = "Frame Source Link Network Size Number Early Port Fragment Message Turn Twin Missing".split()
 BYTE_11 = {"A": 0x20, "B": 0x40}
-PRINTED = 1_000
+PRINTED = 100
+FOREIGN_ROWS = 64
+RECORD = "; record one interface, as tcpdump -i eth1 -w FILE does"
 
 
 class Finding(NamedTuple):
@@ -203,7 +205,8 @@ def read_line(place: int, reader: Reader, is_only: bool) -> str:
     text += f", {others} of other interfaces" if others else ""
     if reader.end.fault:
         at = f"at byte {reader.end.at}"
-        text += f", cut off {at}" if reader.end.fault == "CutOff" else f", malformed {at}: {reader.end.fault}"
+        told = {"CutOff": f"cut off {at}", "Format": "neither pcapng nor pcap", "LinkType": f"link type {reader.link} {at}"}
+        text += f", {told.get(reader.end.fault, f'malformed {at}: {reader.end.fault}')}"
     return text + "\n"
 
 
@@ -214,23 +217,128 @@ def row(judge: Judge, vl: int, net: str) -> str:
     return f"{vl:>5}{net:>4}{it.frames:>12}{it.bytes:>14}{it.messages:>12}{it.link['bag_ms'] * 10**6:>12}{least:>15}{lead:>12}\n"
 
 
-def judged(plan: str, captures: list[bytes], options: Options, is_piped: bool = False) -> tuple[int, str, list[Finding]]:
+def nothing_judged(place: int, reader: Reader) -> str:
+    """The line on a file that is no capture."""
+    told = {"Format": "is neither pcapng nor pcap", "LinkType": f"has link type {reader.link}, not Ethernet's, which is 1"}
+    return f"nothing judged: capture {place} {told.get(reader.end.fault, 'ends before its first packet')}{RECORD}\n"
+
+
+class Ways(NamedTuple):
+    """How packets are judged: the plans of other end systems, whether a link without a frame is a finding, whether foreign frames
+    are counted, and whether the network is what byte 11 says."""
+
+    plans: tuple[str, ...] = ()
+    all_links: bool = False
+    foreign: bool = False
+    by_byte: bool = False
+
+    def words(self, names: list[str]) -> list[str]:
+        """The words of the command, with the files of the plans."""
+        flags = [f"--{name.replace('_', '-')}" for name in ("all_links", "foreign", "by_byte") if getattr(self, name)]
+        return [word for name in names for word in ("--with", name)] + flags
+
+
+def source_of(data: bytes) -> int | None:
+    """The end system of a frame's source MAC address."""
+    return half(data, 9) if len(data) >= 12 and data[6:9] == b"\2\0\0" else None
+
+
+class Tap:
+    """The judges of the plans of a network, what they found, which interface was which network, and foreign frames."""
+
+    def __init__(self, plans: list[Table], options: Options, ways: Ways) -> None:
+        self.judges, self.ways, self.findings, self.taken, self.foreign = [], ways, [], [], {}
+        for plan in plans:
+            self.judges.append(Judge(plan, options))
+            self.judges[-1].findings = self.findings
+
+    def take(self, number: int, network: str, packet: Packet, where: tuple[int, int]) -> None:
+        """Takes a packet of an interface, which is the number of its capture and its own."""
+        data, source = packet.data, source_of(packet.data)
+        tag, own = (number, network, packet.at or 0), [it for it in self.judges if it.end_system == source]
+        if self.ways.foreign and len(data) >= 14 and not own:
+            key = data[6:12], half(data, 12)
+            key = key if key in self.foreign or len(self.foreign) < FOREIGN_ROWS else None
+            self.foreign[key] = self.foreign.get(key, 0) + 1
+            return
+        if self.ways.by_byte and len(data) >= 12:
+            network = {byte: name for name, byte in BYTE_11.items()}.get(data[11])
+            if network is None:
+                self.findings.append(Finding("Network", "", *tag, None, differ(data[11], 0)))
+                return
+        taken = (network, *where)
+        if taken not in self.taken:
+            self.taken.append(taken)
+        judges = self.judges if len(self.judges) == 1 else own
+        if judges:
+            judges[0].take(number, network, packet)
+        else:
+            told = differ(source or 0, self.judges[0].end_system)
+            self.findings.append(Finding("Source", "", number, network, packet.at or 0, None, told))
+
+    def silent(self, judge: Judge) -> list[tuple[int, str]]:
+        """The links of a plan without a frame, and the networks."""
+        return [(vl, net) for net in "AB" for vl, on in judge.streams if on == net and not judge.streams[vl, net].frames]
+
+    def silence(self, judge: Judge) -> str:
+        """The line of them."""
+        silent, told = self.silent(judge), []
+        for net in "AB":
+            carried = [vl for vl, on in judge.streams if on == net]
+            quiet = [vl for vl, on in silent if on == net]
+            told += [f"network {net}"] if quiet == carried and carried else [f"link {vl} on {net}" for vl in quiet]
+        whose = f"end system {judge.end_system}, " if len(self.judges) > 1 else ""
+        return f"{whose}without a frame: {', '.join(told)}\n" if told else ""
+
+    def summary(self) -> str:
+        """The lines after those of the captures."""
+        taken = [f"{net} is interface {interface} of capture {place}" for net, place, interface in sorted(self.taken, key=lambda it: it[0])]
+        text = f"networks: {', '.join(taken)}\n" if taken else ""
+        text += "".join(map(self.silence, self.judges))
+        for key, count in self.foreign.items():
+            text += f"foreign: {count} of {key[0].hex(':')}, EtherType {key[1]:04x}\n" if key else ""
+        text += f"foreign: {self.foreign[None]} of others\n" if None in self.foreign else ""
+        for judge in self.judges:
+            text += f"end system {judge.end_system}\n" if len(self.judges) > 1 else ""
+            text += " link net      frames         bytes    messages      bag-ns   least-gap-ns     lead-ns\n"
+            text += "".join(row(judge, vl, net) for vl, net in judge.streams)
+        return text
+
+
+def lines_of(found: list[Finding], silent: list[str]) -> str:
+    """The lines of findings: the first hundred of each kind, how many more there are, and how many there are at all."""
+    text, counts = "", dict.fromkeys([*KINDS, "Silent"], 0)
+    for kind, line in [*((it.kind, it.line()) for it in found), *(("Silent", line) for line in silent)]:
+        counts[kind] += 1
+        text += line if counts[kind] <= PRINTED else ""
+    more = ", ".join(f"{kind} {count - PRINTED}" for kind, count in counts.items() if count > PRINTED)
+    text += f"and more: {more}\n" if more else ""
+    total = sum(counts.values())
+    line = f"{total} finding{'s' * (total != 1)}: " + ", ".join(f"{kind} {count}" for kind, count in counts.items() if count)
+    return text + (f"{line}\n" if total else "no findings\n")
+
+
+def judged(
+    plan: str, captures: list[bytes], options: Options, is_piped: bool = False, ways: Ways = Ways()
+) -> tuple[int, str, list[Finding]]:
     """The exit status, standard output, and all findings."""
-    readers, judge = [*map(Reader, captures)], Judge(tomllib.loads(plan), options)
+    readers, plans = [*map(Reader, captures)], [tomllib.loads(it) for it in (plan, *ways.plans)]
+    tap, is_only = Tap(plans, options, ways), len(captures) == 1
     for number, network, packet in merged(readers, is_piped):
-        judge.take(number, network, packet)
-    judge.end()
-    found = judge.findings
+        place = 0 if is_only else "AB".index(network)
+        tap.take(number, network, packet, (place + 1, readers[place].numbers[number - 1]))
+    for judge in tap.judges:
+        judge.end()
     for place, reader in enumerate(readers, 1):
         if reader.end.fault and not reader.packets:
-            told = f"nothing judged: capture {place} isn't a capture of Ethernet frames\n"
-            return 2, told + read_line(place, reader, len(readers) == 1), found
-    text = "".join(it.line() for it in found[:PRINTED])
-    text += f"and {len(found) - PRINTED} more\n" if len(found) > PRINTED else ""
-    counts = [(kind, sum(it.kind == kind for it in found)) for kind in KINDS]
-    total = f"{len(found)} finding{'s' * (len(found) != 1)}: " + ", ".join(f"{kind} {count}" for kind, count in counts if count)
-    text += f"{total}\n" if found else "no findings\n"
-    text += "".join(read_line(place, reader, len(readers) == 1) for place, reader in enumerate(readers, 1))
-    text += " link net      frames         bytes    messages      bag-ns   least-gap-ns     lead-ns\n"
-    text += "".join(row(judge, vl, net) for vl, net in judge.streams)
-    return 2 if found or any(it.end.fault for it in readers) else 0, text, found
+            return 2, nothing_judged(place, reader) + read_line(place, reader, is_only), tap.findings
+    silent = [f"- {net} - vl {vl} Silent\n" for judge in tap.judges for vl, net in silent_of(tap, judge)] if ways.all_links else []
+    text = lines_of(tap.findings, silent)
+    text += "".join(read_line(place, reader, is_only) for place, reader in enumerate(readers, 1))
+    is_found = bool(tap.findings or silent)
+    return 2 if any(it.end.fault for it in readers) else int(is_found), text + tap.summary(), tap.findings
+
+
+def silent_of(tap: Tap, judge: Judge) -> list[tuple[int, str]]:
+    """The links without a frame, in the order of the plan."""
+    return sorted(tap.silent(judge), key=[*judge.streams].index)

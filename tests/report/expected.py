@@ -57,16 +57,23 @@ def memory_rows(plan: Plan) -> list[list[str]]:
     for link in plan["vl"]:
         for sub in range(link["sub_vls"]):
             sizes = [port["max"] for port in plan["port"] if (port["vl"], port["sub"]) == (link["id"], sub)]
+            partitions = {port["partition"] for port in plan["port"] if (port["vl"], port["sub"]) == (link["id"], sub)}
             capacity, ports, greatest = link["capacity"], len(sizes), max(sizes, default=0)
-            held = 320 + 48 * capacity + (capacity + 1 + ports) * greatest
-            rows.append([str(number) for number in (link["id"], sub, capacity, ports, greatest, held)])
+            held = 312 + 40 * capacity + (capacity + 1 + ports) * greatest
+            rows.append([str(number) for number in (link["id"], sub, capacity, ports, len(partitions), greatest, held)])
     return rows
+
+
+def partitions_of(plan: Plan) -> str:
+    """What a verdict says of the partitions."""
+    shared = sum(int(row[4]) > 1 for row in memory_rows(plan))
+    return f"sub-VLs of several partitions: {shared}" if shared else "partitions apart"
 
 
 def memory_of(plan: Plan) -> int:
     """The bytes of an end system, by the formula of docs/guide/c.md."""
     links, ports = len(plan["vl"]), len(plan["port"])
-    own = 199705 + 280 * links + 24 * max(4, links) + 416 * ports + 32 * max(4, ports)
+    own = 199697 + 280 * links + 24 * max(4, links) + 392 * ports + 32 * max(4, ports)
     return own + sum(int(row[-1]) for row in memory_rows(plan))
 
 

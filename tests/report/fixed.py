@@ -56,7 +56,7 @@ port = [
 # 10 waits 2 (3 * 7 - 1 + 1) 2,250 microseconds.
 ANALYSES = {
     (DEMO, 0): """\
-loads within limits, jitter within limits, deadlines not given, queues not judged
+loads within limits, jitter within limits, deadlines not given, queues not judged, partitions apart
 end system 1, polls up to 0 us late
  link bag-ms lmax subs  nets    load-kbit/s  share-%  jitter-ns
     1      1 1518    1   A+B      12304.000    12.31     123040
@@ -66,12 +66,12 @@ network    load-kbit/s  share-%  exceeded  jitter-ns
       B      12304.000    12.31        no     163040
  port  link sub fragments        wait-us   messages/s
    10     1   0         6          17000      166.666
- link sub capacity ports greatest         bytes
-    1   0        2     1     8192         33184
-memory 233809 bytes
+ link sub capacity ports partitions greatest         bytes
+    1   0        2     1          1     8192         33160
+memory 233753 bytes
 """,
     (UNEQUAL, 250): """\
-loads within limits, jitter within limits, deadlines not given, queues not judged
+loads within limits, jitter within limits, deadlines not given, queues not judged, sub-VLs of several partitions: 1
 end system 1, polls up to 250 us late
  link bag-ms lmax subs  nets    load-kbit/s  share-%  jitter-ns
     1      2  200    4   A+B        880.000     0.88      17600
@@ -85,13 +85,13 @@ network    load-kbit/s  share-%  exceeded  jitter-ns
    11     1   0         7         121500       71.428
    12     1   3         2          31500      250.000
    13     2   0         2         384750        3.906
- link sub capacity ports greatest         bytes
-    1   0        3     2     1000          6464
-    1   1        3     0        0           464
-    1   2        3     0        0           464
-    1   3        3     1      200          1464
-    2   0        1     1       41           491
-memory 211500 bytes
+ link sub capacity ports partitions greatest         bytes
+    1   0        3     2          2     1000          6432
+    1   1        3     0          0        0           432
+    1   2        3     0          0        0           432
+    1   3        3     1          1      200          1432
+    2   0        1     1          1       41           475
+memory 211252 bytes
 """,
 }
 

@@ -240,9 +240,11 @@ def link_faults(page: Page, source: Source) -> Iterator[str]:
 
 def memory_faults(page: Page, source: Source) -> Iterator[str]:
     """What is wrong with the table of the sub-VLs, and with the note on much memory."""
-    rows = [plain(*row[:4], *(grouped(int(it)) for it in row[4:])) for row in source.tables["memory"]]
-    rows.append(plain("end system", *["\u2013"] * 4, grouped(memory_of(source.plan))))
-    yield from table_faults(page, "memory", ["link", "sub-VL", "capacity", "ports", "greatest", "bytes"], rows, [])
+    rows = [plain(*row[:5], *(grouped(int(it)) for it in row[5:])) for row in source.tables["memory"]]
+    for row, cells in zip(source.tables["memory"], rows, strict=True):
+        cells[4] = (row[4], "over" * (int(row[4]) > 1))
+    rows.append(plain("end system", *["\u2013"] * 5, grouped(memory_of(source.plan))))
+    yield from table_faults(page, "memory", ["link", "sub-VL", "capacity", "ports", "partitions", "greatest", "bytes"], rows, [])
     notes = [f"link {row[0]} sub-VL {row[1]}" for row in heaviest(source.plan)] or [None]
     if page.named.get("heaviest") not in notes:
         yield f"the note on memory names {page.named.get('heaviest')}"
@@ -392,7 +394,7 @@ def faults_of(text: str, source: Source) -> Iterator[str]:
         yield f"the page is {text[:40]} .. {text[-40:]}"
     page = Page(text)
     sentences = source.verdict.split(", ")
-    over, open_ = ("exceeded", "missed", "may get full"), ("deadlines not given", "queues not judged")
+    over, open_ = ("exceeded", "missed", "may get full", "several partitions"), ("deadlines not given", "queues not judged")
     kinds = ["over" if any(word in it for word in over) else "" if it in open_ else "kept" for it in sentences]
     if [(cell.text, cell.kind) for cell in page.verdict] != list(zip(sentences, kinds, strict=True)):
         yield f"the verdict is {page.verdict}"

@@ -29,7 +29,7 @@ import picture  # noqa: E402
 import refusals  # noqa: E402
 import refusals_wanted  # noqa: E402
 import traffic  # noqa: E402
-from expected import Plan, Tables, check_of, heaviest, jitter_of, memory_of, pieces, wanted  # noqa: E402
+from expected import Plan, Tables, check_of, heaviest, jitter_of, memory_of, partitions_of, pieces, wanted  # noqa: E402
 from trying import DEMO, text_of  # noqa: E402
 
 
@@ -97,12 +97,12 @@ def faults_of(text: str, lateness: int) -> Iterator[str]:
         yield f"last line {done.stdout.splitlines()[-1]}, and {memory_of(plan)} bytes are wanted, {notes}"
     exceeded = any(row[3] == "yes" for row in wanted(plan, lateness)["networks"])
     kept = {False: "within limits", True: "exceeded"}
-    verdict = f"loads {kept[exceeded]}, jitter {kept[jitter > 500_000]}, deadlines not given, queues not judged"
+    verdict = f"loads {kept[exceeded]}, jitter {kept[jitter > 500_000]}, deadlines not given, queues not judged, {partitions_of(plan)}"
     first = [verdict, f"end system {plan['end_system']['id']}, polls up to {lateness} us late"]
     if done.stdout.splitlines()[:2] != first:
         yield f"first lines {done.stdout.splitlines()[:2]}"
     strict = report(text, "--lateness", str(lateness), "--strict")
-    if (strict.returncode, strict.stdout) != (2 if "exceeded" in verdict else 0, done.stdout):
+    if (strict.returncode, strict.stdout) != (1 if "exceeded" in verdict or "several" in verdict else 0, done.stdout):
         yield f"strict: {strict.returncode}"
     told = tables_of(done.stdout)
     for name, rows in wanted(plan, lateness).items():
@@ -230,9 +230,9 @@ def traffic_rows(text: str, demands: dict[int, tuple], given: str, lateness: int
     given_to, missed = [row for row in rows if row[11]], [row for row in rows if row[11] == "yes"]
     queues = traffic.queues_of(plan, demands, wanted(plan, lateness), lateness)
     deadlines = f"missed: {len(missed)} of {len(given_to)}" if missed else "kept of accepted messages" if given_to else "not given"
-    ends = f", deadlines {deadlines}, {traffic.sentence_of(plan, queues)}"
+    ends = f", deadlines {deadlines}, {traffic.sentence_of(plan, queues)}, {partitions_of(plan)}"
     first = done.stdout.splitlines()[0] if done.stdout else ""
-    if not first.endswith(ends) or done.returncode != (2 if missed or "exceeded" in first or "may get full" in ends else 0):
+    if not first.endswith(ends) or done.returncode != (1 if missed or any(word in first for word in ("exceeded", "may get full", "several")) else 0):
         yield f"{done.returncode} {first}, and {ends} is wanted; {done.stderr}"
         return
     with open("rows.csv", encoding="utf-8", newline="") as file:
@@ -348,7 +348,8 @@ def queue_faults() -> Iterator[str]:
         save("traffic.csv", given)
         done = report(text, "--traffic", "traffic.csv", "--strict")
         shown = tables_of(done.stdout).get("queues", [[]])[-1]
-        if not done.stdout.splitlines()[0].endswith(", " + ends) or shown != row or done.returncode != 2 * ("full" in ends):
+        ends = f", {ends}, {partitions_of(tomllib.loads(text))}"
+        if not done.stdout.splitlines()[0].endswith(ends) or shown != row or done.returncode != ("full" in ends or "several" in ends):
             yield f"{done.returncode} {done.stdout.splitlines()[0]}, {shown}, and {ends}, {row} are wanted"
     save("plan.toml", configuration(many, pair))
     script = [line for k in range(3) for line in ("send 40 5a", "send 41 5a", f"at {1_000_000 * k}")]
@@ -370,7 +371,7 @@ def speed_faults() -> Iterator[str]:
     done = report(text, "--traffic", "traffic.csv")
     after = os.times()
     spent = after.children_user + after.children_system - before.children_user - before.children_system
-    if spent > 0.5 or not done.stdout.splitlines()[0].endswith(", queues suffice"):
+    if spent > 0.5 or ", queues suffice, " not in done.stdout.splitlines()[0]:
         yield f"{spent} s for {done.stdout.splitlines()[:1]}"
 
 

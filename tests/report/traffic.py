@@ -13,7 +13,7 @@ PORTS = "port,name,period_us,deadline_us\n"
 LIMIT = 1_000_000_000_000
 # The columns of the CSV file: those of a port, and after them those of a sub-VL.
 HEAD = "port name link sub_vl fragments period_us deadline_us wait_queue_us wait_traffic_us holds slack_us".split()
-HEAD += ["missed", "capacity", "ports", "greatest", "bytes", "need", "suffices"]
+HEAD += ["missed", "capacity", "ports", "greatest", "bytes", "need", "suffices", "partitions"]
 
 # Traffic texts of the demonstration, whose one port is 10, and the faults that are printed of them.
 FAULTS = {
@@ -141,9 +141,9 @@ def rows_of(plan: Plan, demands: dict[int, tuple], tables: dict, lateness: int) 
 
 def sheet_of(rows: list[list[str]], subs: list[list[str]], queues: list[list[str]], total: int) -> list[list[str]]:
     """All rows of a CSV file: those of the ports, those of the sub-VLs, and the bytes of the end system."""
-    ports = [[*row, *[""] * 6] for row in rows]
-    sheet = [["", "", *sub[:2], *[""] * 8, *sub[2:], *queue[3:]] for sub, queue in zip(subs, queues, strict=True)]
-    return [*ports, *sheet, [*[""] * 15, str(total), "", ""]]
+    ports = [[*row, *[""] * 7] for row in rows]
+    sheet = [["", "", *sub[:2], *[""] * 8, *sub[2:4], *sub[5:], *queue[3:], sub[4]] for sub, queue in zip(subs, queues, strict=True)]
+    return [*ports, *sheet, [*[""] * 15, str(total), "", "", ""]]
 
 
 def text_row(row: list[str]) -> list[str]:

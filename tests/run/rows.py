@@ -3,7 +3,7 @@ import re
 from collections.abc import Iterable, Iterator
 from typing import NamedTuple
 
-from trying import DEMO, ONE_FRAME, check, text_of
+from trying import DEMO, ONE_FRAME, blocks, check
 
 # A message of one byte: the time of its frame, its identification, and the byte.
 OneByte = tuple[int, int, int]
@@ -235,8 +235,7 @@ def turns() -> Iterator[Row]:
 
 def guide() -> Iterator[Row]:
     """The script of `docs/guide/program.md` over the plan of `docs/guide/plan.md`."""
-    pages = [re.findall(r"(?ms)^```\n(.*?)^```$", text_of(f"docs/guide/{page}.md")) for page in ("plan", "program")]
-    (plan, *_), (script, out, *_) = pages
+    (plan, *_), (script, out, *_) = (blocks(f"docs/guide/{page}.md") for page in ("plan", "program"))
     note, *of_a = out.splitlines(keepends=True)
     # (they differ in byte 11 alone)
     of_b = [re.sub(r"^A (\d+ .{22})20", r"B \g<1>40", line) for line in of_a]

@@ -140,7 +140,8 @@ def random_runs(count: int) -> Iterator[tuple[str, str, bytes]]:
 
 
 def checksums() -> Iterator[tuple[str, str, bytes]]:
-    """Messages of each length up to 1,474 bytes, over frames of 64 bytes and of 1,518 bytes, and each message of two bytes."""
+    """Messages of each length up to 1,474 bytes, over frames of 64 bytes and of 1,518 bytes, each message of two bytes, and
+    messages of up to 8,192 bytes in rooms that had others."""
     text, rng = rows.plan_of([(1, 64, 1, 2), (2, 1518, 1, 2)], [(10, 1, 0), (20, 2, 0)]), random.Random("checksums")
     for kind in ("udp", "none"):
         plan = "version = 2\n" + text.replace("max = 8192", f"max = 8192\nchecksum = '{kind}'")
@@ -157,6 +158,15 @@ def checksums() -> Iterator[tuple[str, str, bytes]]:
     for first in range(0, 65_536, 4096):
         lines = (f"send 20 {first + k:04x}\nat {1000 * k}\n" for k in range(4096))
         yield f"two bytes from {first:04x} on", plan, "".join(lines).encode()
+    # (two ports, of which one has checksums, in the rooms of one queue)
+    text = rows.plan_of([(2, 1518, 1, 2)], [(10, 2, 0), (11, 2, 0)])
+    text = text.replace("partition = 1", "partition = 2", 1).replace("max = 8192", "max = 8192\nchecksum = 'udp'", 1)
+    plan, lines = "version = 2\n" + text, []
+    for k in range(400):
+        size = rng.randint(1, 40 if k % 3 else 8192)
+        message = rng.choice((rng.randbytes(size), b"\xff" * size, bytes(size)))
+        lines += [f"send {rng.choice((10, 11))} {message.hex()}", *(f"at {6000 * k + 1000 * p}" for p in range(6))]
+    yield "long and short messages, with and without", plan, "\n".join(lines).encode()
 
 
 def table_faults(seed: int) -> list[str]:
