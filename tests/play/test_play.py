@@ -254,6 +254,17 @@ TRACES = {
 }
 
 
+def too_early(times: list[int], gap: int, jitter: int) -> int:
+    """How many frames no release times explain, a gap apart or more, each at most the jitter before its frame's time. After
+    such a frame they count from its time."""
+    count, least = 0, 0
+    for at in times:
+        release = max(least, at - jitter)
+        count += release > at
+        least = min(release, at) + gap
+    return count
+
+
 def misjudged(played: Played, text: str) -> list[str]:
     """What is wrong with the findings of a run with a fault: they are its trace, and nothing else."""
     word, network, first, *second = text.split()
@@ -263,10 +274,13 @@ def misjudged(played: Played, text: str) -> list[str]:
     # (frames within the skew of the end aren't missed)
     last = max(at for at, _ in own + other)
     wanted, found = Counter(TRACES[word], Missing=sum(last - at > played.skew for at, _ in alone)), played.found()
-    # (nor is a frame early by less than the lateness)
+    # (a poll that is late brings a copy nearer to the next frame, and a frame that is less early than polls are late isn't early)
+    judged = own[:k] + own[k + 1 :] if word == "flip" else own
+    early = sum(too_early([at for at, _ in frames], 2 * BAG, played.late) for frames in (judged, other))
     by = 1000 * int(second[0]) if word == "early" else 2 * BAG
-    if by <= played.late:
-        wanted["Early"] = found["Early"] = 0
+    if wanted["Early"] > early and by > played.late:
+        return [f"{early} frames without release times, late {played.late}"]
+    wanted["Early"] = early
     return [] if +found == +wanted else [f"the judge finds {dict(found)} for {dict(wanted)}, late {played.late}"]
 
 
