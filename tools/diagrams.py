@@ -132,14 +132,14 @@ class Queue:
         yield "copy, fetch_add TAIL 1", f"accepted, at place {place}"
         self.exchange(sender, 2 + place % 2)
         self.words[f"READY {place % 2}"] = place + 1
-        yield f"exchange, store READY {place % 2}", "Ok: it can be taken"
+        yield f"exchange, READY[{place % 2}] = {place + 1}", "Ok: it can be taken"
 
     def take(self) -> Iterator[tuple[str, str]]:
         """Yields the atomic steps of a take. The message in the receiver's room has been sent by then."""
         slot = self.taken % 2
         ready = self.words[f"READY {slot}"]
         is_ready = ready == self.taken + 1
-        yield f"load READY {slot}", f"{ready}: {f'place {self.taken} is ready' if is_ready else 'nothing is ready'}"
+        yield f"load READY[{slot}]", f"{ready}: {f'place {self.taken} is ready' if is_ready else 'nothing is ready'}"
         if is_ready:
             self.rooms[4] = (self.rooms[4][0], None)
             self.exchange(4, 2 + slot)

@@ -246,7 +246,8 @@ uint8_t afdx_links(const afdx_end_system *it, uint16_t *ids, size_t room, size_t
    @param length its length in bytes
    @return AFDX_OK. Refused: AFDX_NOT_HELD, AFDX_WRONG_HANDLE; AFDX_EMPTY, AFDX_TOO_LONG, by the length alone;
    AFDX_CLOSED, AFDX_EXHAUSTED (the port has used its 2^40 slot requests, one for each send that finds its queue
-   open), AFDX_FULL: try again after a poll. A refused message isn't queued, but each AFDX_FULL uses a slot request. */
+   open), AFDX_FULL: try again after a poll. A refused message isn't queued. AFDX_FULL uses a slot request, and so
+   does AFDX_CLOSED if the queue was closed during the call. */
 uint8_t afdx_send(afdx_port *port, const uint8_t *message, size_t length);
 
 /** Writes the number of a port's accepted messages. Called by the thread that has the port.
@@ -358,15 +359,15 @@ uint8_t afdx_give_back(afdx_end_system *it, afdx_port *port);
    @return AFDX_OK. Refused: AFDX_NOT_HELD, AFDX_WRONG_HANDLE, AFDX_GATHERED, AFDX_PORT_MISSING. */
 uint8_t afdx_gather(afdx_end_system *it);
 
-/** Writes 1 if at least one network accepted each fragment of each accepted message, otherwise 0. After a frame was
-   lost with the last network that carries its link it stays 0.
+/** Writes 1 if each fragment of each accepted message was accepted by network A or by network B, otherwise 0. Once a
+   link that still owes frames has no network that is up, it stays 0.
    @param it the end system
    @param done 1 or 0
    @return AFDX_OK. Refused: AFDX_NOT_HELD, AFDX_WRONG_HANDLE, AFDX_NOT_GATHERED, with nothing written. */
 uint8_t afdx_is_done(const afdx_end_system *it, uint8_t *done);
 
-/** Frees an end system; its handle is empty then. Ports that are out stay usable: their sends are accepted up to the
-   room that is left, and then AFDX_FULL.
+/** Frees an end system; its handle is empty then. Messages that are still queued are never sent. Ports that are
+   out stay usable, but nothing takes their messages: sends are accepted up to the room that is left, and then AFDX_FULL.
    @param it the end system, whose handle is emptied
    @return AFDX_OK. Refused: AFDX_NOT_HELD, AFDX_WRONG_HANDLE. */
 uint8_t afdx_free(afdx_end_system *it);

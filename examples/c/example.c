@@ -9,7 +9,7 @@
    In the first form each port has a thread that sends; the main thread polls by the monotonic clock and writes the frames
    to two network interfaces, which needs the right to open raw sockets. Between polls it sleeps until a link is due
    (afdx_next_due), or until a port has sent, which an eventfd reports: no call of the library does. An interface that
-   doesn't take a frame has failed and gets no other. Then the ports are given back, the remaining frames are transmitted,
+   doesn't take a frame gets no other here; a driver may as well count the loss and go on. Then the ports are given back, the remaining frames are transmitted,
    and the counts are printed.
 
    With --dump only standard output is written and no clock is read: polls are 1,000 microseconds apart, from 0 on, and
@@ -35,7 +35,7 @@
 #include <time.h>
 #include <unistd.h>
 
-/* The most ports of a plan, the most bytes of a message and of a plan's text. */
+/* The most ports, the longest message and the longest text of a plan that this example takes. */
 enum { MOST_PORTS = 128, GREATEST_MESSAGE = 8192, GREATEST_TEXT = 1 << 20 };
 
 /* The time between polls of a dump, and how long a sender waits for room, in microseconds. */

