@@ -117,9 +117,9 @@ ROWS = [
 # What a terminal is shown of a failure whose text is one line elsewhere: that line, and the file, why, and what next.
 LINE_FAULTS = {
     "word.txt": ("frob\n", "1 Word", "a line is `send PORT HEX`, `at MICROS` or `close VL SUB`"),
-    "number.txt": ("at x\n", "2 Number", "a number is decimal, of a port or link to 65535, of a sub-VL to 255, of a time to 64 bits"),
+    "number.txt": ("at x\n", "2 Number", "decimal digits are wanted: up to 65535 for a port or a link, 255 for a sub-VL, 2^64 - 1 for a time"),
     "hex.txt": ("send 10 0\n", "3 Hex", "bytes are an even number of hexadecimal digits, or `-`"),
-    "extra.txt": ("at 0 0\n", "4 Extra", "the line has more words than its form"),
+    "extra.txt": ("at 0 0\n", "4 Extra", "nothing may follow `send PORT HEX`, `at MICROS` or `close VL SUB` on a line"),
     "line.txt": ("#" * (LINE_LIMIT + 1), "5 Long", "a line has at most 20000 bytes"),
 }
 SHORT_MAX = ["storm", "small.toml", *STORM[2:]]
@@ -286,7 +286,7 @@ def great_plans(room):
         for words, status, out in PRINTED:
             if "demo.toml" in words:
                 words = [word.replace("demo.toml", "great.toml") for word in words]
-                told = "read failed\ngreat.toml: it has more than 16 MiB\n"
+                told = "read failed\ngreat.toml: it has more than 16 MiB, the most that is read\n"
                 room.ends(words, *((4, "", told) if more else (status, out, "")))
 
 

@@ -22,10 +22,10 @@ def cases():
 
 
 def above(measured, index):
-    """The cases that cost more than the page says, or that one of both lacks."""
+    """The cases that cost more than the page says, or nothing, or that one of both lacks."""
     told = rows()
     lost = [f"{name}: not on both" for name in sorted(told.keys() ^ measured.keys())]
-    return lost + [f"{name}: {cost}, not {told[name][index]}" for name, cost in measured.items() if name in told and cost > told[name][index]]
+    return lost + [f"{name}: {cost}, not {told[name][index]}" for name, cost in measured.items() if name in told and not 0 < cost <= told[name][index]]
 
 
 def stack_of(run):

@@ -199,7 +199,7 @@ def refusal_faults() -> Iterator[str]:
         (["schedule", "wrong.toml", "--traffic", "fast.csv", "--seconds", "1"], 2,
          "configuration refused: 6 BadBag\nwrong.toml:6: 6 BadBag: vl 1 (id 1), bag_ms is 3: 1, 2, 4, 8, 16, 32, 64 or 128\n"),
         (["import", "none.csv"], 4, "read failed\nnone.csv: No such file or directory (os error 2)\n"),
-        (["import", "long.csv"], 4, "read failed\nlong.csv: it has more than 16 MiB\n"),
+        (["import", "long.csv"], 4, "read failed\nlong.csv: it has more than 16 MiB, the most that is read\n"),
     ):
         done = ran(*words)
         if (done.returncode, done.stdout) != (status, b"") or error is not None and done.stderr.decode() != error:

@@ -381,7 +381,8 @@ def traffic_text_faults() -> Iterator[str]:
         save("traffic.csv", given)
         done = report(DEMO, "--traffic", "traffic.csv", "--csv", "unmade.csv")
         head, more = f"{len(faults)} fault{'s' * (len(faults) > 1)} of the traffic", [f"and {len(faults) - 1000} more"] * (len(faults) > 1000)
-        if (done.returncode, done.stdout, done.stderr) != (2, "\n".join([head, *faults[:1000], *more, ""]), "") or os.path.exists("unmade.csv"):
+        told = "\n".join([head, *(f"traffic.csv: {fault}" for fault in faults[:1000]), *more, ""])
+        if (done.returncode, done.stdout, done.stderr) != (2, "", told) or os.path.exists("unmade.csv"):
             yield f"{str(done)[:1000]} for {given[:1000]!r}"
     save("traffic.csv", traffic.PORTS)
     for name in ("traffic.csv", "plan.toml"):

@@ -73,7 +73,7 @@ fn ended(asked: &Asked, is_kept: bool) -> End {
 }
 
 /// Writes the verdict, the loads, the jitter, the longest waits and the queues of a plan; and before that the
-/// page and the rows to their files. If the traffic has faults, writes these alone: with a document to standard error.
+/// page and the rows to their files. If the traffic has faults, writes these alone, to standard error.
 fn report_one<'a, W: Write>(
     rt: &HostRuntime,
     asked: &'a Asked,
@@ -89,14 +89,10 @@ fn report_one<'a, W: Write>(
     let traffic = traffic_of(alloc, &plan.config, asked, file.as_ref())?;
     if let Some(path) = &asked.traffic {
         tell_others(rt, path.as_str(), &traffic.others);
-    }
-    match &asked.traffic {
-        Some(path) if asked.json && !traffic.faults.is_empty() => {
+        if !traffic.faults.is_empty() {
             tell_traffic(rt, path.as_str(), &traffic);
             return Ok(End::FileWrong);
         }
-        _ if !traffic.faults.is_empty() => return Ok(tell(&traffic, writer)?),
-        _ => {}
     }
     let analysis = analyze(alloc, &plan.config, lateness)?;
     let senders = senders_of(alloc, &plan.config, &traffic)?;
@@ -113,7 +109,15 @@ fn report_one<'a, W: Write>(
         written(save_rows(alloc, rows, &assessment), path.as_str())?;
     }
     let has_traffic = file.is_some();
-    tell_one(alloc, asked, path, &analysis, &assessment, has_traffic, writer)
+    tell_one(
+        alloc,
+        asked,
+        path,
+        &analysis,
+        &assessment,
+        has_traffic,
+        writer,
+    )
 }
 
 /// Writes the report on one plan, or a document of it.
@@ -159,21 +163,6 @@ fn traffic_of<'a>(
         }
         _ => Ok(no_traffic(alloc, plan)?),
     }
-}
-
-/// Writes the number of faults of a traffic file, the first of them, and the number of the others.
-fn tell<W: Write>(traffic: &Traffic, writer: &mut W) -> io::Result<End> {
-    let count = traffic.count;
-    let faults = if count == 1 { "fault" } else { "faults" };
-    writeln!(writer, "{count} {faults} of the traffic")?;
-    for fault in traffic.faults.iter() {
-        writeln!(writer, "{fault}")?;
-    }
-    let more = count.saturating_sub(traffic.faults.len());
-    if more > 0 {
-        writeln!(writer, "and {more} more")?;
-    }
-    Ok(End::FileWrong)
 }
 
 /// Writes the page of a report to a file.

@@ -89,7 +89,9 @@ impl<'a> Stop<'a> {
                 }
                 Some((path, Cause::Unread)) => eprintln!(rt; "{path}: it can't be read"),
                 Some((path, Cause::UnreadPlan)) => match is_too_long(rt, path) {
-                    Some(true) => eprintln!(rt; "{path}: it has more than 16 MiB"),
+                    Some(true) => eprintln!(rt;
+                        "{path}: it has more than 16 MiB, the most that is read"
+                    ),
                     Some(false) => eprintln!(rt; "{path}: it can't be read"),
                     None => eprintln!(rt; "{path}: it can't be read, or has more than 16 MiB"),
                 },
@@ -174,7 +176,11 @@ fn tell_next<'x>(
         Failure::Run(RunFault::Lines) => {
             eprintln!(rt; "{script}: a script has at most 1000000 lines")
         }
-        Failure::Short => eprintln!(rt; "{plan}: give each port a max of 6 or more"),
+        Failure::Short => {
+            eprintln!(rt;
+                "{plan}: a storm's messages have 6 bytes, so give each port a max of 6 or more"
+            )
+        }
         Failure::Turns => eprintln!(rt; "{plan}: give more --turns, or fewer --messages"),
         _ => Ok(()),
     }
@@ -185,10 +191,12 @@ fn wanted(fault: LineFault) -> &'static str {
     match fault {
         LineFault::Word => "a line is `send PORT HEX`, `at MICROS` or `close VL SUB`",
         LineFault::Number => {
-            "a number is decimal, of a port or link to 65535, of a sub-VL to 255, of a time to 64 bits"
+            "decimal digits are wanted: up to 65535 for a port or a link, 255 for a sub-VL, 2^64 - 1 for a time"
         }
         LineFault::Hex => "bytes are an even number of hexadecimal digits, or `-`",
-        LineFault::Extra => "the line has more words than its form",
+        LineFault::Extra => {
+            "nothing may follow `send PORT HEX`, `at MICROS` or `close VL SUB` on a line"
+        }
         LineFault::Long => "a line has at most 20000 bytes",
         LineFault::Memory => "memory ran out",
     }

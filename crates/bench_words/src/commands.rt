@@ -199,7 +199,7 @@ const WORDS: [Word; 31] = [
         "judge",
         "profile",
         WordKind::Profile,
-        "Chooses the rules for frames: arinc for equipment of any maker; own, if left out, for frames of this library",
+        "Chooses the rules for frames: arinc for other makers' equipment; own, if left out, for frames of this library",
     ),
     Word(
         "judge",

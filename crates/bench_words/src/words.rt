@@ -262,9 +262,15 @@ fn count(
     ensures { IfOk result (λ n. (least ≤ n) × (n ≤ most)) }
 {
     // clap has checked the range, but it accepts a plus sign.
-    match number(matches.get_str(id).unwrap_or(otherwise).as_bytes(), most) {
+    let word = matches.get_str(id).unwrap_or(otherwise);
+    match number(word.as_bytes(), most) {
         Some(n) if n >= least => Ok(n),
-        _ => Err(refusal(alloc, "a number is written in decimal digits alone")?),
+        _ => {
+            let told = format!(in alloc;
+                "--{id}: decimal digits alone are wanted, and \"{word}\" is seen"
+            )?;
+            Err(refusal(alloc, told.as_str())?)
+        }
     }
 }
 
