@@ -48,7 +48,8 @@ def layout_fault(frame: bytes, arinc: bool) -> tuple[str, str] | None:
         return "Length", differ(len(frame), min(max(len(frame), 60), 1514))
     total, word = half(frame, 16), half(frame, 20)
     offset = 8 * (word & 0x1FFF)
-    is_long = total >= 21 and len(frame) == max(60, 15 + total) and not (word & 0x2000 and (total - 20) % 8)
+    is_long = total >= 21 and len(frame) == max(60, 15 + total)
+    is_piece = word < 0x4000 and not (word & 0x2000 and (total - 20) % 8) and offset + total <= 8220
     is_address = frame[26] == 10 and frame[27:29] == frame[9:11] and frame[29] < 32
     is_destination = frame[30] == 10 or frame[30:34] == b"\xe0\xe0" + frame[4:6]
     rules = {
@@ -58,7 +59,7 @@ def layout_fault(frame: bytes, arinc: bool) -> tuple[str, str] | None:
         "EtherType": (12, frame[12:14] == b"\x08\0"),
         "Version": (14, frame[14:16] == b"\x45" + free[8]),
         "TotalLength": (16, is_long),
-        "Fragment": (20, word < 0x4000 and offset + total <= 8220),
+        "Fragment": (20, is_piece),
         "Protocol": (22, frame[22:24] == free[9] + b"\x11"),
         "HeaderSum": (24, words(frame[14:34]) % 65_535 == 0),
         "SourceAddress": (26, is_address),

@@ -1,5 +1,5 @@
 -- A frame breaks no rule of the layout exactly if it is one of the profile.
-use Rattle.afdx_frame.proofs.Names.{Bool, Breach, HasAddresses, HasInternetHeader, HasLinkHeader, HasZeroPadding, IsFrame, Layout, List, None, Option, arith, fails_before_first, false, first_nonzero, fragment_field, get_or, has_total, internet_broken, layout_broken, length, link_broken, max, more_fragments, nat_tests, not, option_or, end_broken, padding_of, position_or_len_is, total_length, true, kept_then, ℕ, ◌%◌, ◌+◌, ◌-◌, ◌<◌, ◌==◌, ◌↔◌, ◌≡◌, ◌≤◌}
+use Rattle.afdx_frame.proofs.Names.{Bool, Breach, HasAddresses, HasInternetHeader, HasLinkHeader, HasZeroPadding, IsFrame, Layout, List, None, Option, arith, fails_before_first, false, first_nonzero, fragment_field, get_or, has_total, has_units, internet_broken, layout_broken, length, link_broken, max, more_fragments, nat_tests, not, option_or, end_broken, padding_of, position_or_len_is, total_length, true, kept_then, ℕ, ◌%◌, ◌+◌, ◌-◌, ◌<◌, ◌==◌, ◌↔◌, ◌≡◌, ◌≤◌}
 use Rattle.afdx_frame.proofs.Datagram.{zeros_part, zeros_there}
 
 pub none_both : {A : Type 0} (a b : Option A) → option_or a b ≡ None → (a ≡ None) × (b ≡ None)
@@ -18,12 +18,14 @@ unfolding link_broken
 link_to f least most is = grind (arith, nat_tests)
 
 total_from : (f : List ℕ) → has_total f ≡ true → (21 ≤ total_length f) × (length f ≡ max 60 (15 + total_length f))
-    × (more_fragments ≤ fragment_field f % 16384 → (total_length f - 20) % 8 ≡ 0)
 total_from f e = grind (arith, nat_tests)
+
+units_from : (f : List ℕ) → has_units f ≡ true → more_fragments ≤ fragment_field f % 16384 → (total_length f - 20) % 8 ≡ 0
+units_from f e = grind (arith, nat_tests)
 
 internet_from : (f : List ℕ) → internet_broken false f ≡ None → HasInternetHeader f × (length f ≡ max 60 (15 + total_length f))
 unfolding internet_broken
-internet_from f e = grind (arith, nat_tests, total_from, kept_of)
+internet_from f e = grind (arith, nat_tests, total_from, units_from, kept_of)
 
 internet_to : (f : List ℕ) → HasInternetHeader f → length f ≡ max 60 (15 + total_length f) → internet_broken false f ≡ None
 unfolding internet_broken

@@ -33,14 +33,18 @@ link_broken f =
 abbrev pub framed : ℕ → ℕ
 framed total = max (15 + total) 60
 
--- some bytes of a piece, the frame's length, and of a piece that more follow whole units of 8 bytes
+-- the total length: some bytes of a piece, and the frame's length
 abbrev pub has_total : List ℕ → Bool
 has_total f = nat_le 21 (total_length f) && nat_eq (length f) (framed (total_length f))
-    && (nat_lt (fragment_field f % 16384) more_fragments || nat_eq ((total_length f - 20) % 8) 0)
 
--- no flag but more fragments, and the piece ends within the greatest datagram
+-- A piece that more follow has whole units of 8 bytes (RFC 791, 3.2).
+abbrev pub has_units : List ℕ → Bool
+has_units f = nat_lt (fragment_field f % 16384) more_fragments || nat_eq ((total_length f - 20) % 8) 0
+
+-- the flags and the offset: no flag but more fragments, which whole units have, and the piece ends within the greatest
+-- datagram
 abbrev pub has_fragment : List ℕ → Bool
-has_fragment f = nat_lt (fragment_field f) 16384
+has_fragment f = nat_lt (fragment_field f) 16384 && has_units f
     && nat_le (8 * (fragment_field f % offset_modulus) + total_length f) (20 + greatest_datagram)
 
 -- The internet header: version 4, a header of 20 bytes and type of service 0; time to live 1 and UDP. The type of

@@ -1,6 +1,6 @@
 //! The rules of a frame's layout, in their order. A frame that breaks none is one of the profile.
 ghost use Rattle.std.specs.Prelude.{◌≡◌, ◌+◌, ◌≤◌, ◌↔◌, false, length, Some, None};
-ghost use Rattle.afdx_frame.specs.Layout.{breach, link_broken, framed, has_total, has_fragment, internet_broken, has_destination, first_nonzero, end_broken, layout_broken, IsReadable};
+ghost use Rattle.afdx_frame.specs.Layout.{breach, link_broken, framed, has_total, has_units, has_fragment, internet_broken, has_destination, first_nonzero, end_broken, layout_broken, IsReadable};
 ghost use Rattle.afdx_frame.specs.Profile.{total_length, IsFrame};
 
 use crate::field::{self, GREATEST_DATAGRAM, MORE_FRAGMENTS, OFFSET_MODULUS, word_at};
@@ -32,10 +32,10 @@ pub enum Layout {
     EtherType,
     /// The version, the header's length or the type of service (byte 14).
     Version,
-    /// The total length: below 21, not the frame's, or no multiple of 8 after the header although more pieces follow
-    /// (byte 16).
+    /// The total length: below 21, or not the frame's (byte 16).
     TotalLength,
-    /// The flags, or an offset at which the piece ends past 8,200 bytes (byte 20).
+    /// The flags, more pieces after one that has no multiple of 8 bytes, or an offset at which the piece ends past 8,200
+    /// bytes (byte 20).
     Fragment,
     /// The time to live isn't 1, or the protocol isn't UDP (byte 22).
     Protocol,
@@ -99,26 +99,34 @@ pub fn framed(total: usize) -> usize
     (15 + total).max(SHORTEST_FRAME)
 }
 
-/// Returns true if the total length fits: the frame has that length, and a piece that more follow has whole units of 8
-/// bytes.
+/// Returns true if the total length fits: the frame has that length.
 fn has_total(b: &[u8]) -> bool
     requires { 60 ≤ length b.now }
     ensures { result ≡ has_total b.now }
 {
     let total = word_at(b, field::TOTAL_LENGTH) as usize;
-    total >= 21
-        && b.len() == framed(total)
-        && (word_at(b, field::FRAGMENT) % 0x4000 < MORE_FRAGMENTS || (total - 20) % 8 == 0)
+    total >= 21 && b.len() == framed(total)
 }
 
-/// Returns true if the flags are allowed by the profile, and the piece ends within a datagram.
+/// Returns true if a piece that more follow has whole units of 8 bytes.
+fn has_units(b: &[u8]) -> bool
+    requires whole { 60 ≤ length b.now }
+    requires some { 21 ≤ total_length b.now }
+    ensures { result ≡ has_units b.now }
+{
+    let len = word_at(b, field::TOTAL_LENGTH) - 20;
+    word_at(b, field::FRAGMENT) % 0x4000 < MORE_FRAGMENTS || len % 8 == 0
+}
+
+/// Returns true if the flags are allowed by the profile and fit the piece, and the piece ends within a datagram.
 fn has_fragment(b: &[u8]) -> bool
-    requires { 60 ≤ length b.now }
+    requires whole { 60 ≤ length b.now }
+    requires some { 21 ≤ total_length b.now }
     ensures { result ≡ has_fragment b.now }
 {
     let fragment = word_at(b, field::FRAGMENT);
     let end = 8 * (fragment % OFFSET_MODULUS) as u32 + word_at(b, field::TOTAL_LENGTH) as u32;
-    fragment < 0x4000 && end <= 20 + GREATEST_DATAGRAM
+    fragment < 0x4000 && has_units(b) && end <= 20 + GREATEST_DATAGRAM
 }
 
 /// Returns the first broken rule of the internet header without its addresses.
