@@ -120,7 +120,7 @@ BREAKS: dict[str, Callable[[bytes], bytes]] = {
     "TotalLength": lambda it: put(it, 16, b"\x08\0"),
     "TotalLength, by one": lambda it: summed(put(it, 16, (len(it) - 14).to_bytes(2, "big"))),
     "Fragment": lambda it: put(it, 20, b"\x1f\xff"),
-    "Fragment, by DF": lambda it: summed(put(it, 20, bytes([it[20] | 0x40]))),
+    "Fragment, by DF and an offset": lambda it: summed(put(it, 20, b"\x40\1")),
     "Fragment, by DF and more fragments": lambda it: summed(put(it, 20, bytes([it[20] | 0x60]))),
     "Fragment, by 9 bytes before others": lambda it: summed(put(put(it[:59], 16, b"\0\x1d"), 20, b"\x20\0")) + it[-1:],
     "Fragment, by the reserved flag": lambda it: summed(put(it, 20, bytes([it[20] | 0x80]))),
@@ -131,7 +131,11 @@ BREAKS: dict[str, Callable[[bytes], bytes]] = {
     "Recorded": lambda it: it + b"\1\2\3\4",
 }
 # What only this project's frames may not have.
-OWN = {"Version": lambda it: put(it, 15, b"\x04"), "Protocol": lambda it: put(it, 22, b"\x40")}
+OWN = {
+    "Version": lambda it: put(it, 15, b"\x04"),
+    "Fragment": lambda it: summed(put(it, 20, bytes([it[20] | 0x40]))),
+    "Protocol": lambda it: put(it, 22, b"\x40"),
+}
 
 
 def broken(ground: Ground) -> Planted:

@@ -78,8 +78,9 @@ def recorded(rng: random.Random, polls: int = 60) -> Recording:
 
 
 def rewritten(rng: random.Random, recording: Recording) -> Recording:
-    """The recording as another maker's end system sends it: with any time to live, type of service and padding, and with
-    identifications that count all messages, or those from a partition to an address; a sub-VL has none twice in turn."""
+    """The recording as another maker's end system sends it: with any time to live, type of service and padding, with DF or
+    without where a message is whole, and with identifications that count all messages, or those from a partition to an
+    address; a sub-VL has none twice in turn."""
     seed, step, is_one, idents, counts, last = rng.random(), rng.choice((1, 3, 0xFFFF)), rng.random() < 0.5, {}, {}, {}
     packets = []
     for it in recording.packets:
@@ -94,6 +95,7 @@ def rewritten(rng: random.Random, recording: Recording) -> Recording:
             last[sub] = idents[key]
         own = random.Random(f"{seed} {data[:11]} {data[12:]}")
         data = put(put(put(data, 18, idents[key].to_bytes(2, "big")), 15, own.randbytes(1)), 22, own.randbytes(1))
+        data = put(data, 20, own.choice((b"\0", b"\x40"))) if half(data, 20) == 0 else data
         end = 14 + half(data, 16)
         packets.append(it._replace(data=summed(put(data, end, own.randbytes(len(data) - 1 - end)))))
     return recording._replace(packets=packets)
@@ -106,7 +108,7 @@ def freed(rng: random.Random, recording: Recording) -> Recording:
     seed, packets = rng.random(), []
     for it in recording.packets:
         data, own = it.data, random.Random(f"{seed} {it.data[:11]} {it.data[12:]}")
-        if half(data, 20) == 0:
+        if half(data, 20) % 0x4000 == 0:
             data = put(data, 18, own.choice((b"\0\0", own.randbytes(2))))
             if own.random() < 0.3:
                 pseudo = data[26:34] + b"\0\x11\0\x08" + data[34:38] + b"\0\x08"

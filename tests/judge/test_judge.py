@@ -142,8 +142,9 @@ def of_another_maker(seed: int) -> list[str]:
     faults += faults_of(f"as its own {seed}", plan, captures, Options())
     found = verdict.judged(plan, captures, Options())[2]
     pads = [it.data[14 + breaking.half(it.data, 16) : -1] for it in recording.packets]
-    others = sum(it.data[15] > 0 or it.data[22] != 1 or any(pad) for it, pad in zip(recording.packets, pads, strict=True))
-    told = sum(it.kind == "Frame" and it.rule in ("Version", "Protocol", "Padding") for it in found)
+    free = [it.data[15] > 0 or it.data[20] & 0x40 or it.data[22] != 1 for it in recording.packets]
+    others = sum(bool(field or any(pad)) for field, pad in zip(free, pads, strict=True))
+    told = sum(it.kind == "Frame" and it.rule in ("Version", "Fragment", "Protocol", "Padding") for it in found)
     faults += [] if told == others else [f"another maker {seed}: {told} for {others}"]
     recording = freed(rng, recording)
     plan, captures = text_of(recording.plan, rng), files_of(recording.packets, rng)

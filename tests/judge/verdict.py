@@ -42,14 +42,16 @@ class Repeated(Exception):
 
 
 def layout_fault(frame: bytes, arinc: bool) -> tuple[str, str] | None:
-    """The first rule of the layout that a frame breaks, and what is said. By ARINC 664 alone, three fields may be anything."""
+    """The first rule of the layout that a frame breaks, and what is said. By ARINC 664 alone, three fields may be anything, and a whole datagram
+    may have the flag DF."""
     free = {8: frame[15:16], 9: frame[22:23]} if arinc else {8: b"\0", 9: b"\1"}
     if not 60 <= len(frame) <= 1514:
         return "Length", differ(len(frame), min(max(len(frame), 60), 1514))
     total, word = half(frame, 16), half(frame, 20)
     offset = 8 * (word & 0x1FFF)
     is_long = total >= 21 and len(frame) == max(60, 15 + total)
-    is_piece = word < 0x4000 and not (word & 0x2000 and (total - 20) % 8) and offset + total <= 8220
+    is_flagged = word < 0x4000 or arinc and word == 0x4000
+    is_piece = is_flagged and not (word & 0x2000 and (total - 20) % 8) and offset + total <= 8220
     is_address = frame[26] == 10 and frame[27:29] == frame[9:11] and frame[29] < 32
     is_destination = frame[30] == 10 or frame[30:34] == b"\xe0\xe0" + frame[4:6]
     rules = {

@@ -1,5 +1,5 @@
 -- A frame breaks no rule of the layout exactly if it is one of the profile.
-use Rattle.afdx_frame.proofs.Names.{Bool, Breach, HasAddresses, HasInternetHeader, HasLinkHeader, HasZeroPadding, IsFrame, Layout, List, None, Option, arith, fails_before_first, false, first_nonzero, fragment_field, get_or, has_total, has_units, internet_broken, layout_broken, length, link_broken, max, more_fragments, nat_tests, not, option_or, end_broken, padding_of, position_or_len_is, total_length, true, kept_then, ℕ, ◌%◌, ◌+◌, ◌-◌, ◌<◌, ◌==◌, ◌↔◌, ◌≡◌, ◌≤◌}
+use Rattle.afdx_frame.proofs.Names.{Bool, Breach, HasAddresses, HasInternetHeader, HasLinkHeader, HasZeroPadding, IsFrame, Layout, List, None, Option, arith, fails_before_first, false, first_nonzero, fragment_field, get_or, has_total, has_units, has_fragment, HasFragmentation, internet_broken, layout_broken, length, link_broken, max, more_fragments, nat_tests, not, option_or, end_broken, padding_of, position_or_len_is, total_length, true, kept_then, ℕ, ◌%◌, ◌+◌, ◌-◌, ◌<◌, ◌==◌, ◌↔◌, ◌≡◌, ◌≤◌}
 use Rattle.afdx_frame.proofs.Datagram.{zeros_part, zeros_there}
 
 pub none_both : {A : Type 0} (a b : Option A) → option_or a b ≡ None → (a ≡ None) × (b ≡ None)
@@ -22,6 +22,13 @@ total_from f e = grind (arith, nat_tests)
 
 units_from : (f : List ℕ) → has_units f ≡ true → more_fragments ≤ fragment_field f % 16384 → (total_length f - 20) % 8 ≡ 0
 units_from f e = grind (arith, nat_tests)
+
+fragmentation_from : (arinc : Bool) (f : List ℕ) → has_fragment arinc f ≡ true → HasFragmentation f
+fragmentation_from arinc f e = grind (arith, nat_tests)
+
+pub fragmentation_kept : (arinc : Bool) (f : List ℕ) → internet_broken arinc f ≡ None → HasFragmentation f
+unfolding internet_broken
+fragmentation_kept arinc f e = grind (arith, nat_tests, kept_of, fragmentation_from)
 
 internet_from : (f : List ℕ) → internet_broken false f ≡ None → HasInternetHeader f × (length f ≡ max 60 (15 + total_length f))
 unfolding internet_broken

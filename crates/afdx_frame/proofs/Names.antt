@@ -8,9 +8,9 @@ pub use Rattle.afdx_frame.specs.Fragments.{Sent, blanked, fragments_from, fragme
 unfoldable pub use Rattle.afdx_frame.specs.Frame.{addresses, datagram, header_front, internet_header, link_header, udp_header, udp_sum, unnumbered}
 pub use Rattle.afdx_frame.specs.Frame.{datagram_len, fragment_word, frame_of, interface_byte, more_fragments, udp_front}
 pub use Rattle.afdx_frame.specs.Header.{IsFrameOf, link_in, number_in, sub_in, twin_of}
-pub use Rattle.afdx_frame.specs.Profile.{HasAddresses, HasInternetHeader, HasLinkHeader, HasZeroPadding, IsFrame, fragment_field, total_length, word_at}
+pub use Rattle.afdx_frame.specs.Profile.{HasAddresses, HasFragmentation, HasInternetHeader, HasLinkHeader, HasZeroPadding, IsFrame, fragment_field, total_length, word_at}
 unfoldable pub use Rattle.afdx_frame.specs.Layout.{internet_broken, layout_broken, link_broken, end_broken}
-pub use Rattle.afdx_frame.specs.Layout.{first_nonzero, has_total, has_units, kept_then, padding_of}
+pub use Rattle.afdx_frame.specs.Layout.{first_nonzero, has_fragment, has_total, has_units, kept_then, padding_of}
 pub use Rattle.afdx_frame.specs.ReadBack.{IsPiece, Says, ChangedWordsFail, ChecksumsPass, IsWordChanged, ReassembledPass}
 pub use Rattle.afdx_frame.specs.Reassembly.{AnyOrder, Buffer, Fragment, NotBefore, bytes_from, bytes_to, covers, empty, fragment_of, fragments_of, joined, put, put_all}
 unfoldable pub use Rattle.afdx_frame.specs.Template.{unfilled}

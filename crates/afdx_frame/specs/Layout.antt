@@ -2,8 +2,8 @@
 use Rattle.std.specs.Prelude.{ℕ, ◌+◌, ◌-◌, ◌*◌, ◌%◌, ◌≤◌, ◌==◌, nat_eq, nat_lt, nat_le, not, ◌&&◌, ◌||◌, Bool, if◌then◌else◌, max, List, length, slice_index, slice_range, Option, Some, None, option_map, position}
 use Rattle.std.specs.Option.{option_or}
 use Rattle.afdx_frame.specs.Checksum.{word_sum}
-use Rattle.afdx_frame.specs.Frame.{greatest_datagram, more_fragments, offset_modulus}
-use Rattle.afdx_frame.specs.Profile.{total_length, fragment_field}
+use Rattle.afdx_frame.specs.Frame.{greatest_datagram, offset_modulus}
+use Rattle.afdx_frame.specs.Profile.{total_length, fragment_field, dont_fragment, has_more}
 use Rattle.afdx_frame.specs.declared.layout.Breach.{Breach}
 use Rattle.afdx_frame.specs.declared.layout.Layout.{Layout}
 use Rattle.afdx_frame.specs.declared.layout.Layout.TheVariants.{Length, DestinationMac, SourceMac, Interface, EtherType, Version, TotalLength, Fragment, Protocol, HeaderSum, SourceAddress, DestinationAddress, Padding}
@@ -37,14 +37,18 @@ framed total = max (15 + total) 60
 abbrev pub has_total : List ℕ → Bool
 has_total f = nat_le 21 (total_length f) && nat_eq (length f) (framed (total_length f))
 
--- A piece that more follow has whole units of 8 bytes (RFC 791, 3.2).
-abbrev pub has_units : List ℕ → Bool
-has_units f = nat_lt (fragment_field f % 16384) more_fragments || nat_eq ((total_length f - 20) % 8) 0
+-- The flags: none but more fragments. By ARINC 664 alone don't fragment may stand in a frame that has a whole datagram,
+-- with neither more fragments nor an offset.
+abbrev pub has_flags : Bool → List ℕ → Bool
+has_flags arinc f = nat_lt (fragment_field f) dont_fragment || arinc && nat_eq (fragment_field f) dont_fragment
 
--- the flags and the offset: no flag but more fragments, which whole units have, and the piece ends within the greatest
--- datagram
-abbrev pub has_fragment : List ℕ → Bool
-has_fragment f = nat_lt (fragment_field f) 16384 && has_units f
+-- a piece that more follow has whole units of 8 bytes (RFC 791, 3.2)
+abbrev pub has_units : List ℕ → Bool
+has_units f = not (has_more f) || nat_eq ((total_length f - 20) % 8) 0
+
+-- the flags, which fit the piece, and an offset at which the piece ends within the greatest datagram
+abbrev pub has_fragment : Bool → List ℕ → Bool
+has_fragment arinc f = has_flags arinc f && has_units f
     && nat_le (8 * (fragment_field f % offset_modulus) + total_length f) (20 + greatest_datagram)
 
 -- The internet header: version 4, a header of 20 bytes and type of service 0; time to live 1 and UDP. The type of
@@ -53,7 +57,7 @@ unfoldable pub internet_broken : Bool → List ℕ → Option Breach
 internet_broken arinc f =
     kept_then (has_byte f 14 69 && (arinc || has_byte f 15 0)) Version 14 (
     kept_then (has_total f) TotalLength 16 (
-    kept_then (has_fragment f) Fragment 20 (
+    kept_then (has_fragment arinc f) Fragment 20 (
     kept_then ((arinc || has_byte f 22 1) && has_byte f 23 17) Protocol 22 (
     kept_then (nat_eq (word_sum (slice_range f 14 34) % 65535) 0) HeaderSum 24 None))))
 

@@ -1,7 +1,7 @@
 //! The index of each field of a frame, in bytes from the destination MAC address on, and the piece of a datagram in it;
 //! a word.
 ghost use Rattle.std.specs.Prelude.{◌≡◌, ◌+◌, ◌≤◌, length};
-ghost use Rattle.afdx_frame.specs.Profile.{word_at};
+ghost use Rattle.afdx_frame.specs.Profile.{word_at, has_more};
 
 use byteorder::{BigEndian, ByteOrder};
 
@@ -67,11 +67,22 @@ pub fn word_at(bytes: &[u8], i: usize) -> u16
 /// The greatest length of a datagram in bytes: a message of 8,192 bytes with its UDP header.
 pub const GREATEST_DATAGRAM: u32 = 8_200;
 
+/// The flag of don't fragment in the word of flags and offset.
+pub const DONT_FRAGMENT: u16 = 0x4000;
+
 /// The flag of more fragments in the word of flags and offset.
 pub const MORE_FRAGMENTS: u16 = 0x2000;
 
 /// The word of flags and offset modulo this is the offset, in units of 8 bytes.
 pub const OFFSET_MODULUS: u16 = 0x2000;
+
+/// Returns true if more pieces follow a frame's piece, whatever the flags beside that of more fragments.
+pub fn has_more(frame: &[u8]) -> bool
+    requires { 22 ≤ length frame.now }
+    ensures { result ≡ has_more frame.now }
+{
+    word_at(frame, FRAGMENT) % DONT_FRAGMENT >= MORE_FRAGMENTS
+}
 
 /// A piece of a datagram, in bytes: its start, its length, and whether more pieces follow.
 #[derive(Clone, Copy, Debug, PartialEq, Eq)]

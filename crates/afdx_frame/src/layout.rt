@@ -1,9 +1,9 @@
 //! The rules of a frame's layout, in their order. A frame that breaks none is one of the profile.
 ghost use Rattle.std.specs.Prelude.{◌≡◌, ◌+◌, ◌≤◌, ◌↔◌, false, length, Some, None};
-ghost use Rattle.afdx_frame.specs.Layout.{breach, link_broken, framed, has_total, has_units, has_fragment, internet_broken, has_destination, first_nonzero, end_broken, layout_broken, IsReadable};
-ghost use Rattle.afdx_frame.specs.Profile.{total_length, IsFrame};
+ghost use Rattle.afdx_frame.specs.Layout.{breach, link_broken, framed, has_total, has_flags, has_units, has_fragment, internet_broken, has_destination, first_nonzero, end_broken, layout_broken, IsReadable};
+ghost use Rattle.afdx_frame.specs.Profile.{total_length, HasFragmentation, IsFrame};
 
-use crate::field::{self, GREATEST_DATAGRAM, MORE_FRAGMENTS, OFFSET_MODULUS, word_at};
+use crate::field::{self, DONT_FRAGMENT, GREATEST_DATAGRAM, OFFSET_MODULUS, has_more, word_at};
 use crate::net::{GREATEST_FRAME, INTERFACE_A, INTERFACE_B, SHORTEST_FRAME};
 use internet_sum::word_sum;
 
@@ -108,40 +108,49 @@ fn has_total(b: &[u8]) -> bool
     total >= 21 && b.len() == framed(total)
 }
 
+/// Returns true if the flags are allowed: more fragments; if `arinc`, also don't fragment for a datagram in one frame.
+fn has_flags(arinc: bool, b: &[u8]) -> bool
+    requires { 60 ≤ length b.now }
+    ensures { result ≡ has_flags arinc b.now }
+{
+    let fragment = word_at(b, field::FRAGMENT);
+    fragment < DONT_FRAGMENT || arinc && fragment == DONT_FRAGMENT
+}
+
 /// Returns true if a piece that more follow has whole units of 8 bytes.
 fn has_units(b: &[u8]) -> bool
     requires whole { 60 ≤ length b.now }
     requires some { 21 ≤ total_length b.now }
     ensures { result ≡ has_units b.now }
 {
-    let len = word_at(b, field::TOTAL_LENGTH) - 20;
-    word_at(b, field::FRAGMENT) % 0x4000 < MORE_FRAGMENTS || len % 8 == 0
+    !has_more(b) || (word_at(b, field::TOTAL_LENGTH) - 20) % 8 == 0
 }
 
-/// Returns true if the flags are allowed by the profile and fit the piece, and the piece ends within a datagram.
-fn has_fragment(b: &[u8]) -> bool
+/// Returns true if the flags are allowed and fit the piece, and the piece ends within a datagram.
+fn has_fragment(arinc: bool, b: &[u8]) -> bool
     requires whole { 60 ≤ length b.now }
     requires some { 21 ≤ total_length b.now }
-    ensures { result ≡ has_fragment b.now }
+    ensures { result ≡ has_fragment arinc b.now }
 {
-    let fragment = word_at(b, field::FRAGMENT);
-    let end = 8 * (fragment % OFFSET_MODULUS) as u32 + word_at(b, field::TOTAL_LENGTH) as u32;
-    fragment < 0x4000 && has_units(b) && end <= 20 + GREATEST_DATAGRAM
+    let offset = word_at(b, field::FRAGMENT) % OFFSET_MODULUS;
+    let end = 8 * offset as u32 + word_at(b, field::TOTAL_LENGTH) as u32;
+    has_flags(arinc, b) && has_units(b) && end <= 20 + GREATEST_DATAGRAM
 }
 
 /// Returns the first broken rule of the internet header without its addresses.
-#[tactic(auto, unfolding(crate::specs::Layout::internet_broken))]
+#[tactic(auto, using(crate::proofs::LayoutRules::fragmentation_kept), unfolding(crate::specs::Layout::internet_broken))]
 fn internet_broken(arinc: bool, b: &[u8]) -> Option<Breach>
     requires { 60 ≤ length b.now }
     ensures value { result ≡ internet_broken arinc b.now }
     ensures some { result ≡ None → 21 ≤ total_length b.now }
     ensures piece { result ≡ None → 15 + total_length b.now ≤ length b.now }
+    ensures fragmentation { result ≡ None → HasFragmentation b.now }
 {
     if b[field::VERSION] != 0x45 || !arinc && b[field::VERSION + 1] != 0 {
         broken(Layout::Version, field::VERSION, 0)
     } else if !has_total(b) {
         broken(Layout::TotalLength, field::TOTAL_LENGTH, 0)
-    } else if !has_fragment(b) {
+    } else if !has_fragment(arinc, b) {
         broken(Layout::Fragment, field::FRAGMENT, 0)
     } else if !arinc && b[field::TIME_TO_LIVE] != 1 || b[field::PROTOCOL] != 17 {
         broken(Layout::Protocol, field::TIME_TO_LIVE, 0)
@@ -202,6 +211,7 @@ fn end_broken(arinc: bool, b: &[u8]) -> Option<Breach>
 pub fn layout_broken(arinc: bool, frame: &[u8]) -> Option<Breach>
     ensures value { result ≡ layout_broken arinc frame.now }
     ensures readable { result ≡ None → IsReadable frame.now }
+    ensures fragmentation { result ≡ None → HasFragmentation frame.now }
     ensures profile { (layout_broken false frame.now ≡ None) ↔ IsFrame frame.now }
 {
     if let Some(broken) = link_broken(frame) {

@@ -1,9 +1,9 @@
 -- The fields of a frame of the layout.
-use Rattle.std.specs.Prelude.{ℕ, ◌+◌, ◌-◌, ◌*◌, ◌%◌, ◌≤◌, nat_le, List, slice_index, slice_range}
+use Rattle.std.specs.Prelude.{ℕ, ◌+◌, ◌-◌, ◌*◌, ◌%◌, ◌≤◌, List, slice_index, slice_range}
 use Rattle.afdx_frame.specs.Checksum.{word_sum}
-use Rattle.afdx_frame.specs.Frame.{more_fragments, offset_modulus}
+use Rattle.afdx_frame.specs.Frame.{offset_modulus}
 use Rattle.afdx_frame.specs.Header.{number_in}
-use Rattle.afdx_frame.specs.Profile.{word_at, total_length, fragment_field}
+use Rattle.afdx_frame.specs.Profile.{word_at, total_length, fragment_field, has_more}
 use Rattle.judge.specs.Types.{Fields}
 
 -- The fields of a frame. The piece: the identification, the place and the length in bytes, and whether more follow (RFC
@@ -15,7 +15,7 @@ fields_of frame = record {
     ident = word_at frame 18;
     start = 8 * (fragment_field frame % offset_modulus);
     len = total_length frame - 20;
-    more = nat_le more_fragments (fragment_field frame);
+    more = has_more frame;
   };
   flow = record {
     partition = slice_index frame 29;

@@ -4,7 +4,7 @@ ghost use Rattle.afdx_frame.specs.Profile.{total_length};
 ghost use Rattle.judge.specs.Fields.{fields_of, AreSmall};
 ghost use Rattle.afdx_frame.specs.Layout.{IsReadable};
 
-use afdx_frame::field::{self, MORE_FRAGMENTS, OFFSET_MODULUS};
+use afdx_frame::field::{self, OFFSET_MODULUS, has_more};
 use afdx_frame::{word_at, word_sum};
 
 /// The fields of a frame.
@@ -59,7 +59,7 @@ pub(crate) fn fields_of(frame: &[u8]) -> Fields
             ident: word_at(frame, field::IDENTIFICATION),
             start: 8 * (fragment % OFFSET_MODULUS) as u32,
             len: total as u32 - 20,
-            more: fragment >= MORE_FRAGMENTS,
+            more: has_more(frame),
         },
         flow: Flow {
             partition: frame[field::SOURCE + 3],

@@ -3,7 +3,7 @@
 use Rattle.judge_laws.proofs.Names.{Arrived, Bool, Entry, IsApart, IsFollowedInTurn, IsNumbered, IsPlan, IsSpaced, Joining, Last, Line, List, Measure, Net, None, Option, Options, Plan, PortPlan, Some, Stamp, Sub, Tag, TakesTurns, Verdict, arith, arrived, bag_micros, before_next, cases_Bool, cases_eq, delay_after, due_before, early_deviation, early_since, entry_number, false, fields_of, figures_with, get_or, get_or-set_other, get_or-set_same, get_or_default, head_now, inl, inr, joined, length, length-set, line_after, line_with, link_plan_at, measure_of, min, more_in, names, nat_lt, nat_tests, new_sub, next_number, number_after, number_deviation, number_unless, other_sub, passed_by, position-Some, refl, sequence_number, settled, slice_set, stamp_of, sub_at, sub_in, sub_stream, sym, told, true, turn_deviation, verdict, ℕ, [], ◌&&◌, ◌*◌, ◌++◌, ◌+◌, ◌-◌, ◌<◌, ◌^◌, ◌∷◌, ◌≡◌, ◌≢◌, ◌≤◌}
 use Rattle.judge_laws.proofs.Message.{IsGood, port_at}
 use Rattle.judge_laws.proofs.Pieces.{IsAwaiting, IsClean, one_frame}
-use Rattle.judge_laws.proofs.Reading.{with_other, with_own}
+use Rattle.judge_laws.proofs.Reading.{more_of, with_other, with_own}
 
 -- a recorded time: that of an entry, delayed by at most a jitter
 pub record IsDelayed (origin jitter at recorded : ℕ) : Type 0 where
@@ -276,7 +276,7 @@ line_taken plan k net origin options line tag e es valid inside long index is de
       numbered = is.numbered.1;
       spaced = is.spaced.1;
       turns = is.turns.1;
-      due = due_after line.subs line.figures.frames e es s new is.due four refl refl refl is.turns.0;
+      due = due_after line.subs line.figures.frames e es s new is.due four refl refl (more_of e.frame clean.flags) is.turns.0;
       carried = λ isnt. absurd (cc (isnt, named plan k net origin options line e es is));
       pieces = pieces;
     }

@@ -1,5 +1,5 @@
 -- The frames of a sub-VL on a network: the judge finds nothing wrong with the one that is due, and awaits the next one.
-use Rattle.judge_laws.proofs.Names.{layout_is_profile, All, All-contains, All-head, All-tail, Bool, Cutting, Head, IsAllowed, IsLink, IsPiece, IsPlan, IsPort, Joining, List, Net, None, Ok, Option, Options, Piece, Plan, PortPlan, Recorded, Sent, arith, blanked, checked, cut_whole, drop_at, false, fields_of, fragments, fragments_from, fragments_left, frame_in, frame_of, has_four_more, header_says, identification, if◌then◌else◌, inl, inr, judge_sub, left_first, left_none, length, length-append, length-frame, link_plan_at, max, names, nat_tests, new_sub, number_in, piece_at, place_of, refl, says, size_deviation, suc, sym, take_all, take_at, take_more, total_ok, true, unchecked, unnumbered, ℕ, [], ◌++◌, ◌+◌, ◌<◌, ◌∙◌, ◌∷◌, ◌≡◌, ◌≤◌, ◌⊎◌, IsRecordedAs}
+use Rattle.judge_laws.proofs.Names.{layout_is_profile, All, All-contains, All-head, All-tail, Bool, Cutting, Head, IsAllowed, IsLink, IsPiece, IsPlan, IsPort, Joining, List, Net, None, Ok, Option, Options, Piece, Plan, PortPlan, Recorded, Sent, arith, blanked, checked, cut_whole, drop_at, false, fields_of, fragment_field, fragments, fragments_from, fragments_left, frame_in, frame_of, has_four_more, header_says, identification, if◌then◌else◌, inl, inr, judge_sub, left_first, left_none, length, length-append, length-frame, link_plan_at, max, names, nat_tests, new_sub, number_in, piece_at, place_of, refl, says, size_deviation, suc, sym, take_all, take_at, take_more, total_ok, true, unchecked, unnumbered, ℕ, [], ◌++◌, ◌+◌, ◌<◌, ◌∙◌, ◌∷◌, ◌≡◌, ◌≤◌, ◌⊎◌, IsRecordedAs}
 use Rattle.judge_laws.proofs.Message.{IsDue, IsGood, IsHeard, IsNext, IsTrue, IsTrueAt, first_found, good, its_port, joining_after, next_piece, piece_is, port_at, room_at, true_after, true_behind}
 use Rattle.judge_laws.proofs.Reading.{Carries, carries, place_found, source_ok}
 
@@ -33,6 +33,7 @@ pub record IsClean (plan : Plan) (k sub : ℕ) (net : Net) (joining : Joining) (
       → packet.original ≡ length packet.bytes → frame_in options packet ≡ Ok frame
   pub placed : place_of plan net frame ≡ Ok k
   pub sized : size_deviation (link_plan_at plan.links k) (length frame) ≡ None
+  pub flags : fragment_field frame < 16384
   pub good : IsGood (room_at plan k) (port_at plan k frame) (fields_of frame) joining
   pub next : IsAwaiting plan k sub net (joining_after plan k frame joining) left
 
@@ -142,7 +143,8 @@ module _ (plan : Plan) (k sub : ℕ) (net : Net) (sent : Sent) (place start numb
   clean later are =
       let well = good heard (omega (arith, link_is.lmax)) in
       let next = goes_on plan k sub net sent place start later _ piece next due are (true_after heard) (true_behind heard) in
-      assumption (admitted, placed, sized, well, next)
+      let flags = (says plan.end_system sent.port sent.bytes place piece net number port_is due.allowed.queued.most its_piece).frame.internet.flags in
+      assumption (admitted, placed, sized, flags, well, next)
 
 -- a frame before and after its sequence number
 numbered : (frame : List ℕ) → 60 ≤ length frame → blanked frame ++ number_in frame ∷ [] ≡ frame

@@ -126,6 +126,11 @@ udp_field_range how sum = grind (arith, nat_tests)
 pub part_at : (xs ys : List ℕ) (n m j : ℕ) → take n (drop m xs) ≡ ys → j < n → get_or xs (m + j) 0 ≡ get_or ys j 0
 part_at xs ys n m j is below = grind (arith, get_or-take, get_or-drop)
 
+-- a frame of the profile has no flag but more fragments
+pub more_of : (frame : List ℕ) → fragment_field frame < 16384 → (fields_of frame).piece.more ≡ more_in frame
+unfolding fields_of
+more_of frame flags = ap (nat_le 8192) (omega arith)
+
 module _ (end_system : ℕ) (port : PortPlan) (message : List ℕ) (place : ℕ) (piece : Piece) (net : Net) (number : ℕ) where
   abbrev frame : List ℕ
   frame = frame_of end_system port message place piece net number
@@ -177,7 +182,7 @@ module _ (end_system : ℕ) (port : PortPlan) (message : List ℕ) (place : ℕ)
         ident = s.ident_says;
         start = omega arith;
         len = omega arith;
-        more = s.more_says;
+        more = more_of frame s.frame.internet.flags ∙ s.more_says;
         partition = partition_is;
         address = omega (arith, at 0 (omega arith), at 1 (omega arith), at 2 (omega arith), at 3 (omega arith));
         sum = ap word_sum (rw (many) body);
@@ -192,10 +197,6 @@ number_of frame = refl
 pub sub_of_frame : (frame : List ℕ) → judge_sub (fields_of frame) ≡ sub_in frame
 unfolding fields_of
 sub_of_frame frame = refl
-
-pub more_of : (frame : List ℕ) → (fields_of frame).piece.more ≡ more_in frame
-unfolding fields_of
-more_of frame = refl
 
 -- the elements from one on, as many as there are
 abbrev pub bytes_at : List ℕ → ℕ → ℕ → List ℕ

@@ -162,7 +162,7 @@ module _ (plan : Plan) (k : ℕ) (options : Options) (net : Net) (line : Line) (
       rw clear.released (apart_from (bag_micros (link_plan_at plan.links k).bag) options.jitter i clear.at (measure_at plan k options) before line.last
       refl is.last right.early) in
       let due = due_back line.subs i (entry_of r) (map entry_of rs) s new later.due is.size is.came four refl counts turn in
-      grind (arith, nat_tests, number, apart, due, sub_same, more_of)
+      grind (arith, nat_tests, number, apart, due, sub_same, more_of r.bytes clear.admitted.profile.internet.flags)
 
 pub heard : (plan : Plan) (k : ℕ) (options : Options) (net : Net) (line : Line) (rs : List Recorded) (i : ℕ) (before : Option Stamp)
     → options.late ≡ false → IsAt options.jitter line i before → i + length rs ≤ 2 ^ 64 - 1 → AreClear plan k options net line rs
@@ -286,8 +286,9 @@ module _ {plan : Plan} {k s : ℕ} {net : Net} {place : ℕ} {given : List ℕ} 
   unfolding fields_of
   is_whole last =
       let all : (piece_in frame).start + (piece_in frame).len ≡ length (given ++ body_in frame) = omega (arith, grown, brings.start) in
+      let same = more_of frame quiet.admitted.profile.internet.flags in
       tells_whole plan.end_system port (given ++ body_in frame) brings.head is_port brings.tells
-      (rw all at (ends_says (fields_of frame).piece _ brings.head quiet.good.ends last brings.known))
+      (rw all at (ends_says (fields_of frame).piece _ brings.head quiet.good.ends (same ∙ last) brings.known))
 
   finish_last : (fs : List (List ℕ)) → (piece_in frame).more ≡ false → IsResumed plan k s net (suc place) fs
       → IsFinished plan k s net place given port (frame ∷ fs)
@@ -399,6 +400,6 @@ pub ends_silent : (plan : Plan) (k s : ℕ) (net : Net) (joining : Joining) (fra
     → IsSilent plan k s net joining frames last → (frames ≡ [] → next_of joining ≡ Some 0) → EndsWhole frames → next_of last ≡ Some 0
 ends_silent plan k s net joining [] last silent between whole = ap next_of silent ∙ between refl
 ends_silent plan k s net joining (f ∷ []) last silent between whole =
-    ap next_of silent.1 ∙ (last_joined (fields_of f).piece _ (more_of f ∙ whole)).0
+    ap next_of silent.1 ∙ (last_joined (fields_of f).piece _ (more_of f silent.0.admitted.profile.internet.flags ∙ whole)).0
 ends_silent plan k s net joining (f ∷ (g ∷ fs)) last silent between whole =
     ends_silent plan k s net (joining_after plan k f joining) (g ∷ fs) last silent.1 (λ none. absurd (cc (none))) whole
