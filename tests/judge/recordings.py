@@ -101,6 +101,27 @@ def rewritten(rng: random.Random, recording: Recording) -> Recording:
     return recording._replace(packets=packets)
 
 
+def with_icmp(rng: random.Random, recording: Recording) -> Recording:
+    """The recording with a frame of ICMP, or a piece of one, on a link: it comes a BAG after another frame, whose addresses it has,
+    and has the number after that frame's. The later frames of the link come a BAG later."""
+    it = rng.choice(recording.packets)
+    vl, body, packets, seen = it.data[4:6], rng.randbytes(1480), [], dict.fromkeys("AB", False)
+    bag = MICRO**2 * next(link["bag_ms"] for link in recording.plan["vl"] if link["id"] == half(vl, 0))
+
+    def later(packet: Packet, data: bytes) -> Packet:
+        number = bytes([packet.data[-1] % 255 + 1])
+        return packet._replace(at=packet.at + bag, data=data[:-1] + number)
+
+    for packet in recording.packets:
+        data = packet.data
+        packets.append(later(packet, data) if data[4:6] == vl and seen[packet.network] else packet)
+        if data[:11] + data[12:] == it.data[:11] + it.data[12:] and not seen[packet.network]:
+            seen[packet.network] = True
+            end = 14 + half(data, 16)
+            packets.append(later(packet, summed(put(data, 23, b"\1" + data[24:34] + body[: end - 34]))))
+    return recording._replace(packets=by_time(packets))
+
+
 def freed(rng: random.Random, recording: Recording) -> Recording:
     """The recording as a maker sends it who uses all of what ARINC 664 leaves free: messages of one frame have any
     identification, some have no bytes, and the plan allows longer frames than messages were cut for, and knows of no

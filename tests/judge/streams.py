@@ -4,6 +4,7 @@ from typing import NamedTuple
 
 Table = dict
 ANY = "any"
+ICMP = 1
 
 
 class Options(NamedTuple):
@@ -47,6 +48,7 @@ class Piece:
         self.start, self.more = 8 * (word & 0x1FFF), bool(word & 0x2000)
         self.data, self.partition, self.destination = frame[34 : 14 + total], frame[29], frame[30:34]
         self.source, self.to, self.frame = half(frame, 34), half(frame, 36), frame
+        self.is_icmp = frame[23] == ICMP
 
 
 class Message:
@@ -103,16 +105,21 @@ class Stream:
         size = [("Size", "", differ(piece.size + 4, self.link["lmax"]))] if piece.size + 4 > self.link["lmax"] else []
         port = self.port_of(piece) if piece.start == 0 else None
         found = size + self.counted(piece) + self.spaced(at)
-        sub = self.sub_of(piece, port)
-        turn = self.turned(piece, sub)
-        if piece.start == 0 and port is None:
-            found.append(("Port", "", f"seen {piece.source}"))
-        found += self.joined(piece, port, sub) + turn
+        # (a frame with ICMP gets here by ARINC 664 alone)
+        found += [] if piece.is_icmp else self.followed(piece, port)
         if self.options.arinc and any(kind in ("Port", "Fragment") for kind, *_ in found):
             self.forget()
         self.number, self.at = piece.number, at
-        self.frames, self.bytes, self.messages = self.frames + 1, self.bytes + piece.size, self.messages + (not piece.more)
+        self.frames, self.bytes = self.frames + 1, self.bytes + piece.size
+        self.messages += not (piece.more or piece.is_icmp)
         return found
+
+    def followed(self, piece: Piece, port: Table | None) -> list[tuple[str, str, str]]:
+        """What a piece of a message does wrong, kinds 8 to 11, in order."""
+        sub = self.sub_of(piece, port)
+        turn = self.turned(piece, sub)
+        strange = [("Port", "", f"seen {piece.source}")] if piece.start == 0 and port is None else []
+        return strange + self.joined(piece, port, sub) + turn
 
     def counted(self, piece: Piece) -> list[tuple[str, str, str]]:
         """The sequence number. After another one nothing is known of the messages."""

@@ -31,7 +31,7 @@ import trying  # noqa: E402
 import verdict  # noqa: E402
 from captures import PLAIN, Packet, Reader, random_form, written  # noqa: E402
 from planting import text_of  # noqa: E402
-from recordings import by_time, freed, recorded, rewritten  # noqa: E402
+from recordings import by_time, freed, recorded, rewritten, with_icmp  # noqa: E402
 from trials import PROGRAM, changed, faults_of, files_of, run_judge, tried  # noqa: E402
 from verdict import KINDS, Options  # noqa: E402
 
@@ -136,13 +136,13 @@ def of_another_maker(seed: int) -> list[str]:
     """What is wrong with the verdicts on a recording of another maker's end system: nothing is found by ARINC 664 alone, and else
     each frame with another field or padding, and what their loss shows."""
     rng = random.Random(f"another {seed}")
-    recording = rewritten(rng, recorded(rng))
+    recording = with_icmp(rng, rewritten(rng, recorded(rng)))
     plan, captures = text_of(recording.plan, rng), files_of(recording.packets, rng)
     faults = faults_of(f"another maker {seed}", plan, captures, Options(arinc=True), [])
     faults += faults_of(f"as its own {seed}", plan, captures, Options())
     found = verdict.judged(plan, captures, Options())[2]
     pads = [it.data[14 + breaking.half(it.data, 16) : -1] for it in recording.packets]
-    free = [it.data[15] > 0 or it.data[20] & 0x40 or it.data[22] != 1 for it in recording.packets]
+    free = [it.data[15] > 0 or it.data[20] & 0x40 or it.data[22:24] != b"\1\x11" for it in recording.packets]
     others = sum(bool(field or any(pad)) for field, pad in zip(free, pads, strict=True))
     told = sum(it.kind == "Frame" and it.rule in ("Version", "Fragment", "Protocol", "Padding") for it in found)
     faults += [] if told == others else [f"another maker {seed}: {told} for {others}"]

@@ -5,7 +5,7 @@ import zlib
 from typing import NamedTuple
 
 from captures import SECOND, Packet, Reader, merged
-from streams import Options, Piece, Stream, Table, differ, half, words
+from streams import ICMP, Options, Piece, Stream, Table, differ, half, words
 
 KINDS = "Frame Source Link Network Size Number Early Port Fragment Message Turn Twin Missing".split()
 BYTE_11 = {"A": 0x20, "B": 0x40}
@@ -43,7 +43,7 @@ class Repeated(Exception):
 
 def layout_fault(frame: bytes, arinc: bool) -> tuple[str, str] | None:
     """The first rule of the layout that a frame breaks, and what is said. By ARINC 664 alone, three fields may be anything, and a whole datagram
-    may have the flag DF."""
+    may have the flag DF, and a frame may carry ICMP."""
     free = {8: frame[15:16], 9: frame[22:23]} if arinc else {8: b"\0", 9: b"\1"}
     if not 60 <= len(frame) <= 1514:
         return "Length", differ(len(frame), min(max(len(frame), 60), 1514))
@@ -62,7 +62,7 @@ def layout_fault(frame: bytes, arinc: bool) -> tuple[str, str] | None:
         "Version": (14, frame[14:16] == b"\x45" + free[8]),
         "TotalLength": (16, is_long),
         "Fragment": (20, is_piece),
-        "Protocol": (22, frame[22:24] == free[9] + b"\x11"),
+        "Protocol": (22, frame[22:24] == free[9] + b"\x11" or arinc and frame[23] == ICMP),
         "HeaderSum": (24, words(frame[14:34]) % 65_535 == 0),
         "SourceAddress": (26, is_address),
         "DestinationAddress": (30, is_destination),

@@ -3,7 +3,7 @@ use Rattle.std.specs.Prelude.{ℕ, ◌+◌, ◌-◌, ◌*◌, ◌%◌, ◌≤◌
 use Rattle.std.specs.Option.{option_or}
 use Rattle.afdx_frame.specs.Checksum.{word_sum}
 use Rattle.afdx_frame.specs.Frame.{greatest_datagram, offset_modulus}
-use Rattle.afdx_frame.specs.Profile.{total_length, fragment_field, dont_fragment, has_more}
+use Rattle.afdx_frame.specs.Profile.{total_length, fragment_field, dont_fragment, has_more, is_icmp}
 use Rattle.afdx_frame.specs.declared.layout.Breach.{Breach}
 use Rattle.afdx_frame.specs.declared.layout.Layout.{Layout}
 use Rattle.afdx_frame.specs.declared.layout.Layout.TheVariants.{Length, DestinationMac, SourceMac, Interface, EtherType, Version, TotalLength, Fragment, Protocol, HeaderSum, SourceAddress, DestinationAddress, Padding}
@@ -51,14 +51,18 @@ abbrev pub has_fragment : Bool → List ℕ → Bool
 has_fragment arinc f = has_flags arinc f && has_units f
     && nat_le (8 * (fragment_field f % offset_modulus) + total_length f) (20 + greatest_datagram)
 
--- The internet header: version 4, a header of 20 bytes and type of service 0; time to live 1 and UDP. The type of
--- service and the time to live are this project's choice.
+-- UDP (RFC 768), and by ARINC 664 alone also ICMP (RFC 792)
+abbrev pub has_protocol : Bool → List ℕ → Bool
+has_protocol arinc f = has_byte f 23 17 || arinc && is_icmp f
+
+-- The internet header: version 4, a header of 20 bytes and type of service 0; time to live 1 and the protocol. The type
+-- of service and the time to live are this project's choice.
 unfoldable pub internet_broken : Bool → List ℕ → Option Breach
 internet_broken arinc f =
     kept_then (has_byte f 14 69 && (arinc || has_byte f 15 0)) Version 14 (
     kept_then (has_total f) TotalLength 16 (
     kept_then (has_fragment arinc f) Fragment 20 (
-    kept_then ((arinc || has_byte f 22 1) && has_byte f 23 17) Protocol 22 (
+    kept_then ((arinc || has_byte f 22 1) && has_protocol arinc f) Protocol 22 (
     kept_then (nat_eq (word_sum (slice_range f 14 34) % 65535) 0) HeaderSum 24 None))))
 
 -- 10, the end system of the source MAC address, a partition from 0 to 31

@@ -1,7 +1,7 @@
 //! The index of each field of a frame, in bytes from the destination MAC address on, and the piece of a datagram in it;
 //! a word.
 ghost use Rattle.std.specs.Prelude.{◌≡◌, ◌+◌, ◌≤◌, length};
-ghost use Rattle.afdx_frame.specs.Profile.{word_at, has_more};
+ghost use Rattle.afdx_frame.specs.Profile.{word_at, has_more, is_icmp};
 
 use byteorder::{BigEndian, ByteOrder};
 
@@ -82,6 +82,14 @@ pub fn has_more(frame: &[u8]) -> bool
     ensures { result ≡ has_more frame.now }
 {
     word_at(frame, FRAGMENT) % DONT_FRAGMENT >= MORE_FRAGMENTS
+}
+
+/// Returns true if a frame carries a message of ICMP, or a piece of one.
+pub fn is_icmp(frame: &[u8]) -> bool
+    requires { 24 ≤ length frame.now }
+    ensures { result ≡ is_icmp frame.now }
+{
+    frame[PROTOCOL] == 1
 }
 
 /// A piece of a datagram, in bytes: its start, its length, and whether more pieces follow.

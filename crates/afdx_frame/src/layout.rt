@@ -1,9 +1,11 @@
 //! The rules of a frame's layout, in their order. A frame that breaks none is one of the profile.
 ghost use Rattle.std.specs.Prelude.{◌≡◌, ◌+◌, ◌≤◌, ◌↔◌, false, length, Some, None};
-ghost use Rattle.afdx_frame.specs.Layout.{breach, link_broken, framed, has_total, has_flags, has_units, has_fragment, internet_broken, has_destination, first_nonzero, end_broken, layout_broken, IsReadable};
+ghost use Rattle.afdx_frame.specs.Layout.{breach, link_broken, framed, has_total, has_flags, has_units, has_fragment, has_protocol, internet_broken, has_destination, first_nonzero, end_broken, layout_broken, IsReadable};
 ghost use Rattle.afdx_frame.specs.Profile.{total_length, HasFragmentation, IsFrame};
 
-use crate::field::{self, DONT_FRAGMENT, GREATEST_DATAGRAM, OFFSET_MODULUS, has_more, word_at};
+use crate::field::{
+    self, DONT_FRAGMENT, GREATEST_DATAGRAM, OFFSET_MODULUS, has_more, is_icmp, word_at,
+};
 use crate::net::{GREATEST_FRAME, INTERFACE_A, INTERFACE_B, SHORTEST_FRAME};
 use internet_sum::word_sum;
 
@@ -37,7 +39,7 @@ pub enum Layout {
     /// The flags, more pieces after one that has no multiple of 8 bytes, or an offset at which the piece ends past 8,200
     /// bytes (byte 20).
     Fragment,
-    /// The time to live isn't 1, or the protocol isn't UDP (byte 22).
+    /// The time to live isn't 1, or the protocol isn't UDP (byte 22). Other makers' frames may have ICMP.
     Protocol,
     /// The checksum of the internet header (byte 24).
     HeaderSum,
@@ -137,6 +139,14 @@ fn has_fragment(arinc: bool, b: &[u8]) -> bool
     has_flags(arinc, b) && has_units(b) && end <= 20 + GREATEST_DATAGRAM
 }
 
+/// Returns true if the protocol is UDP, or if `arinc` ICMP.
+fn has_protocol(arinc: bool, b: &[u8]) -> bool
+    requires { 60 ≤ length b.now }
+    ensures { result ≡ has_protocol arinc b.now }
+{
+    b[field::PROTOCOL] == 17 || arinc && is_icmp(b)
+}
+
 /// Returns the first broken rule of the internet header without its addresses.
 #[tactic(auto, using(crate::proofs::LayoutRules::fragmentation_kept), unfolding(crate::specs::Layout::internet_broken))]
 fn internet_broken(arinc: bool, b: &[u8]) -> Option<Breach>
@@ -152,7 +162,7 @@ fn internet_broken(arinc: bool, b: &[u8]) -> Option<Breach>
         broken(Layout::TotalLength, field::TOTAL_LENGTH, 0)
     } else if !has_fragment(arinc, b) {
         broken(Layout::Fragment, field::FRAGMENT, 0)
-    } else if !arinc && b[field::TIME_TO_LIVE] != 1 || b[field::PROTOCOL] != 17 {
+    } else if !arinc && b[field::TIME_TO_LIVE] != 1 || !has_protocol(arinc, b) {
         broken(Layout::Protocol, field::TIME_TO_LIVE, 0)
     } else if word_sum(&b[field::VERSION..field::DATA]) % 0xffff != 0 {
         broken(Layout::HeaderSum, field::CHECKSUM, 0)

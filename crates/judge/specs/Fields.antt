@@ -1,9 +1,9 @@
 -- The fields of a frame of the layout.
-use Rattle.std.specs.Prelude.{ℕ, ◌+◌, ◌-◌, ◌*◌, ◌%◌, ◌≤◌, List, slice_index, slice_range}
+use Rattle.std.specs.Prelude.{ℕ, ◌+◌, ◌-◌, ◌*◌, ◌%◌, ◌≤◌, ◌||◌, not, Bool, List, slice_index, slice_range}
 use Rattle.afdx_frame.specs.Checksum.{word_sum}
 use Rattle.afdx_frame.specs.Frame.{offset_modulus}
 use Rattle.afdx_frame.specs.Header.{number_in}
-use Rattle.afdx_frame.specs.Profile.{word_at, total_length, fragment_field, has_more}
+use Rattle.afdx_frame.specs.Profile.{word_at, total_length, fragment_field, has_more, is_icmp}
 use Rattle.judge.specs.Types.{Fields}
 
 -- The fields of a frame. The piece: the identification, the place and the length in bytes, and whether more follow (RFC
@@ -17,6 +17,7 @@ fields_of frame = record {
     len = total_length frame - 20;
     more = has_more frame;
   };
+  icmp = is_icmp frame;
   flow = record {
     partition = slice_index frame 29;
     address = 65536 * word_at frame 30 + word_at frame 32;
@@ -28,6 +29,10 @@ fields_of frame = record {
   sum = word_sum (slice_range frame 34 (14 + total_length frame));
   ends = word_sum (slice_range frame 26 34);
 }
+
+-- a frame has the last piece of a message
+abbrev pub ends_message : Fields → Bool
+ends_message fields = not (fields.piece.more || fields.icmp)
 
 -- no sum of these numbers exceeds 32 bits
 pub record AreSmall (fields : Fields) : Type 0 where

@@ -2,6 +2,7 @@
 use Rattle.std.specs.Prelude.{ℕ, ◌+◌, ◌-◌, ◌%◌, ◌^◌, nat_eq, nat_lt, nat_le, ◌&&◌, ◌||◌, Bool, false, if◌then◌else◌, min, List, [], ◌∷◌, slice_set, get_or, position, unwrap_or, option_map, not, Option, Some, None}
 use Rattle.std.specs.Option.{is_some, option_map_or}
 use Rattle.judge.specs.Deviations.{deviation, first_of}
+use Rattle.judge.specs.Fields.{ends_message}
 use Rattle.judge.specs.Joining.{fragment_deviation, head_now, end_deviation, joined, goes_on, next_of}
 use Rattle.judge.specs.Types.{Arrived, Deviation, Fields, Figures, Joining, Last, Line, Measure, PortPlan, Sub, Verdict}
 use Rattle.judge.specs.declared.finding.FindingKind.TheVariants.{Number, Early, Port, Turn}
@@ -155,7 +156,7 @@ abbrev pub figures_with : Arrived → Line → Figures
 figures_with arrived line = record {
   frames = counted line.figures.frames 1;
   bytes = counted line.figures.bytes arrived.len;
-  messages = counted line.figures.messages (if arrived.fields.piece.more then 0 else 1);
+  messages = counted line.figures.messages (if ends_message arrived.fields then 1 else 0);
   least_gap = least_of line.figures.least_gap (gap_since arrived.at line.last);
 }
 
@@ -176,15 +177,20 @@ abbrev pub fragment_on : Measure → Arrived → Line → Option Deviation
 fragment_on measure arrived line =
     fragment_deviation measure.arinc measure.room arrived.fields (joining_on arrived line)
 
--- the line after a frame, after which this is known of its message
-abbrev pub line_joined : Measure → Arrived → Joining → Line → Line
-line_joined measure arrived joining line = record {
+-- the line with the number and the time of a frame
+abbrev pub line_counted : Measure → Arrived → Line → Line
+line_counted measure arrived line = record line {
   last = Some (record {
     number = arrived.fields.number;
     at = arrived.at;
     delay = delay_after measure arrived.at line.last;
   });
   figures = figures_with arrived line;
+}
+
+-- the line after a frame, after which this is known of its message
+abbrev pub line_joined : Measure → Arrived → Joining → Line → Line
+line_joined measure arrived joining line = record (line_counted measure arrived line) {
   subs = slice_set line.subs arrived.sub (record {
     joining = joining;
     came = (figures_with arrived line).frames;
@@ -212,20 +218,30 @@ traced_with measure port arrived line =
     if measure.arinc && is_some (first_of (port_deviation arrived.fields port) (fragment_on measure arrived line))
     then unsettled (line_with measure port arrived line) else line_with measure port arrived line
 
+-- By ARINC 664 alone a frame of a link may carry ICMP. It has its number and its gap, but is no piece of a message.
+abbrev pub is_beside : Measure → Fields → Bool
+is_beside measure fields = measure.arinc && fields.icmp
+
 unfoldable pub line_after : Measure → Option PortPlan → Arrived → Line → Line
-line_after measure port arrived line = traced_with measure port arrived (settled measure arrived line)
+line_after measure port arrived line =
+    if is_beside measure arrived.fields then line_counted measure arrived (numbered measure arrived line)
+    else traced_with measure port arrived (settled measure arrived line)
 
 abbrev pub message_on : Measure → Option PortPlan → Arrived → Line → Option Deviation
 message_on measure port arrived line =
     message_after measure.arinc (fragment_on measure arrived line) arrived.fields port (joining_on arrived line)
+
+-- a deviation of a piece of a message
+abbrev pub of_piece : Measure → Arrived → Option Deviation → Option Deviation
+of_piece measure arrived deviation = if is_beside measure arrived.fields then None else deviation
 
 -- the deviations of a frame on a line
 unfoldable pub verdict : Measure → Option PortPlan → Arrived → Line → Verdict
 verdict measure port arrived line = record {
   number = number_deviation measure.late arrived.fields.number line;
   early = early_deviation measure.gap arrived.at line;
-  port = port_deviation arrived.fields port;
-  fragment = fragment_on measure arrived (settled measure arrived line);
-  message = message_on measure port arrived (settled measure arrived line);
-  turn = turn_deviation arrived.sub (numbered measure arrived line);
+  port = of_piece measure arrived (port_deviation arrived.fields port);
+  fragment = of_piece measure arrived (fragment_on measure arrived (settled measure arrived line));
+  message = of_piece measure arrived (message_on measure port arrived (settled measure arrived line));
+  turn = of_piece measure arrived (turn_deviation arrived.sub (numbered measure arrived line));
 }

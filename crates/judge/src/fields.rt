@@ -1,10 +1,10 @@
 //! The fields of a frame of the layout.
 ghost use Rattle.std.specs.Prelude.{◌≡◌, ◌≤◌};
 ghost use Rattle.afdx_frame.specs.Profile.{total_length};
-ghost use Rattle.judge.specs.Fields.{fields_of, AreSmall};
+ghost use Rattle.judge.specs.Fields.{ends_message, fields_of, AreSmall};
 ghost use Rattle.afdx_frame.specs.Layout.{IsReadable};
 
-use afdx_frame::field::{self, OFFSET_MODULUS, has_more};
+use afdx_frame::field::{self, OFFSET_MODULUS, has_more, is_icmp};
 use afdx_frame::{word_at, word_sum};
 
 /// The fields of a frame.
@@ -13,6 +13,8 @@ pub(crate) struct Fields {
     /// The sequence number.
     pub(crate) number: u8,
     pub(crate) piece: PieceIn,
+    /// The frame carries ICMP, and no piece of a port's message.
+    pub(crate) icmp: bool,
     pub(crate) flow: Flow,
     /// The UDP length and checksum, in a first piece.
     pub(crate) udp_len: u16,
@@ -42,6 +44,15 @@ pub(crate) struct Flow {
     pub(crate) destination: u16,
 }
 
+impl Fields {
+    /// Returns true if the frame has the last piece of a message.
+    pub(crate) fn ends_message(&self) -> bool
+        ensures { result ≡ ends_message self.now }
+    {
+        !(self.piece.more || self.icmp)
+    }
+}
+
 /// Returns the fields of a frame of the layout.
 #[tactic(auto, unfolding(crate::specs::Fields::fields_of))]
 pub(crate) fn fields_of(frame: &[u8]) -> Fields
@@ -61,6 +72,7 @@ pub(crate) fn fields_of(frame: &[u8]) -> Fields
             len: total as u32 - 20,
             more: has_more(frame),
         },
+        icmp: is_icmp(frame),
         flow: Flow {
             partition: frame[field::SOURCE + 3],
             address: 0x1_0000 * word_at(frame, field::DESTINATION) as u32

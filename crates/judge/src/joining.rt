@@ -2,6 +2,7 @@
 ghost use Rattle.std.specs.Prelude.{◌≡◌, ◌+◌, ◌%◌, ◌≤◌, length, option_copied};
 ghost use Rattle.judge.specs.Fields.{AreSmall};
 ghost use Rattle.judge.specs.Joining.{address_number, is_towards, is_of_port, port_of, misfit, misfit_if, addresses_deviation, length_deviation, fragment_deviation, goes_on, head_now, right_sum, is_summed, ending, message_deviation, end_deviation, joined};
+ghost use Rattle.judge.specs.Lines.{port_deviation, joining_after, message_after};
 ghost use Rattle.afdx_plan.specs.Address.{destination_address};
 
 use crate::fields::{Fields, Flow, PieceIn};
@@ -264,7 +265,7 @@ fn message_deviation(arinc: bool, head: &Head, len: u32) -> Option<Deviation>
 }
 
 /// Returns the fault of the message that a piece ends, if its head is known.
-pub(crate) fn end_deviation(arinc: bool, piece: &PieceIn, head: Option<Head>) -> Option<Deviation>
+fn end_deviation(arinc: bool, piece: &PieceIn, head: Option<Head>) -> Option<Deviation>
     requires start { piece.now.start ≤ 65528 }
     requires len { piece.now.len ≤ 1500 }
     ensures { result ≡ end_deviation arinc piece.now head }
@@ -276,7 +277,7 @@ pub(crate) fn end_deviation(arinc: bool, piece: &PieceIn, head: Option<Head>) ->
 }
 
 /// Returns the knowledge after a piece, with the head of its message.
-pub(crate) fn joined(arinc: bool, piece: &PieceIn, head: Option<Head>) -> Joining
+fn joined(arinc: bool, piece: &PieceIn, head: Option<Head>) -> Joining
     requires start { piece.now.start ≤ 65528 }
     requires len { piece.now.len ≤ 1500 }
     ensures { result ≡ joined arinc piece.now head }
@@ -292,4 +293,37 @@ pub(crate) fn joined(arinc: bool, piece: &PieceIn, head: Option<Head>) -> Joinin
     } else {
         Joining::Between(piece.ident.wrapping_add(4))
     }
+}
+
+/// Returns a finding if a first piece belongs to no port of the plan.
+pub(crate) fn port_deviation(fields: &Fields, port: Option<PortPlan>) -> Option<Deviation>
+    ensures { result ≡ port_deviation fields.now port }
+{
+    if fields.piece.start > 0 || port.is_some() {
+        return None;
+    }
+    Some(Deviation::new(FindingKind::Port, fields.flow.source as u64, 0))
+}
+
+/// Returns the knowledge of a message after a frame with this misfit, if any, and the fault of the message that it
+/// ends.
+pub(crate) fn ended(
+    arinc: bool,
+    fragment: Option<Deviation>,
+    fields: &Fields,
+    port: Option<PortPlan>,
+    joining: &Joining,
+) -> (Joining, Option<Deviation>)
+    requires { AreSmall fields.now }
+    ensures after { result.0 ≡ joining_after arinc fragment fields.now port joining.now }
+    ensures message { result.1 ≡ message_after arinc fragment fields.now port joining.now }
+{
+    if fragment.is_some() {
+        return (Joining::Any, None);
+    }
+    let head = joining.head_now(port, fields);
+    (
+        joined(arinc, &fields.piece, head),
+        end_deviation(arinc, &fields.piece, head),
+    )
 }

@@ -1,11 +1,11 @@
 //! A link on a network: its numbers, its gaps and its sub-VLs.
 ghost use Rattle.std.specs.Prelude.{◌≡◌, ◌+◌, ◌≤◌, ◌<◌, ◌%◌, if◌then◌else◌, slice_set, true, false};
 ghost use Rattle.judge.specs.Fields.{AreSmall};
-ghost use Rattle.judge.specs.Lines.{new_sub, new_line, next_number, number_unless, number_deviation, gap_since, early_since, early_deviation, delay_after, unsettled_sub, unsettled, excused_sub, excused, turn_deviation, due_before, unknown_place, going_on, sub_at, other_sub, port_deviation, sub_in, sub_shown, sub_of, least_of, figures_with, joining_after, message_after, line_joined, line_with, line_after, verdict, after_number, after_turn};
+ghost use Rattle.judge.specs.Lines.{new_sub, new_line, next_number, number_unless, number_deviation, gap_since, early_since, early_deviation, delay_after, unsettled_sub, unsettled, is_beside, line_counted, excused_sub, excused, turn_deviation, due_before, unknown_place, going_on, sub_at, other_sub, port_deviation, sub_in, sub_shown, sub_of, least_of, figures_with, joining_after, message_after, line_joined, line_with, line_after, verdict, after_number, after_turn};
 
 use crate::fields::Fields;
 use crate::finding::{Deviation, FindingKind};
-use crate::joining::{Joining, end_deviation, joined};
+use crate::joining::{Joining, ended, port_deviation};
 use afdx_plan::PortPlan;
 
 /// The state of a link on a network.
@@ -74,7 +74,7 @@ pub(crate) struct Measure {
 }
 
 /// The deviations of a frame on a line, in the order of the kinds.
-#[derive(Clone, Copy)]
+#[derive(Clone, Copy, Default)]
 pub(crate) struct Verdict {
     pub(crate) number: Option<Deviation>,
     pub(crate) early: Option<Deviation>,
@@ -128,14 +128,11 @@ fn least_of(a: Option<u128>, b: Option<u128>) -> Option<u128>
     }
 }
 
-/// Returns a finding if a first piece belongs to no port of the plan.
-fn port_deviation(fields: &Fields, port: Option<PortPlan>) -> Option<Deviation>
-    ensures { result ≡ port_deviation fields.now port }
+/// Returns true if a frame is no piece of a message: by ARINC 664 alone it may carry ICMP.
+fn is_beside(measure: &Measure, fields: &Fields) -> bool
+    ensures { result ≡ is_beside measure.now fields.now }
 {
-    if fields.piece.start > 0 || port.is_some() {
-        return None;
-    }
-    Some(Deviation::new(FindingKind::Port, fields.flow.source as u64, 0))
+    measure.arinc && fields.icmp
 }
 
 /// Returns the first sub-VL with a piece due whose last frame came before this one.
@@ -175,29 +172,6 @@ fn with_sub(subs: [Sub; 4], sub: u8, after: Sub) -> [Sub; 4]
         subs[sub as usize] = after;
     }
     subs
-}
-
-/// Returns the knowledge of a message after a frame with this misfit, if any, and the fault of the message that it
-/// ends.
-fn ended(
-    arinc: bool,
-    fragment: Option<Deviation>,
-    fields: &Fields,
-    port: Option<PortPlan>,
-    joining: &Joining,
-) -> (Joining, Option<Deviation>)
-    requires { AreSmall fields.now }
-    ensures after { result.0 ≡ joining_after arinc fragment fields.now port joining.now }
-    ensures message { result.1 ≡ message_after arinc fragment fields.now port joining.now }
-{
-    if fragment.is_some() {
-        return (Joining::Any, None);
-    }
-    let head = joining.head_now(port, fields);
-    (
-        joined(arinc, &fields.piece, head),
-        end_deviation(arinc, &fields.piece, head),
-    )
 }
 
 impl Sub {
@@ -335,7 +309,7 @@ impl Line {
         ensures { result ≡ figures_with arrived.now self.now }
     {
         let figures = &self.figures;
-        let ended = if arrived.fields.piece.more { 0 } else { 1 };
+        let ended = if arrived.fields.ends_message() { 1 } else { 0 };
         Figures {
             frames: figures.frames.saturating_add(1),
             bytes: figures.bytes.saturating_add(arrived.len),
@@ -344,24 +318,34 @@ impl Line {
         }
     }
 
-    /// Returns the line with one more frame, after which `joining` is known of its message.
-    fn with(&self, measure: &Measure, arrived: &Arrived, joining: Joining) -> Line
-        ensures { result ≡ line_joined measure.now arrived.now joining self.now }
+    /// Returns the line with the number and the time of one more frame.
+    fn counted(&self, measure: &Measure, arrived: &Arrived) -> Line
+        ensures { result ≡ line_counted measure.now arrived.now self.now }
     {
-        let figures = self.figures_with(arrived);
-        let after = Sub {
-            joining,
-            came: figures.frames,
-            due: arrived.fields.piece.more,
-        };
         Line {
             last: Some(Last {
                 number: arrived.fields.number,
                 at: arrived.at,
                 delay: delay_after(measure, arrived.at, self.last),
             }),
-            figures,
+            figures: self.figures_with(arrived),
+            subs: self.subs,
+        }
+    }
+
+    /// Returns the line with one more frame, after which `joining` is known of its message.
+    fn with(&self, measure: &Measure, arrived: &Arrived, joining: Joining) -> Line
+        ensures { result ≡ line_joined measure.now arrived.now joining self.now }
+    {
+        let line = self.counted(measure, arrived);
+        let after = Sub {
+            joining,
+            came: line.figures.frames,
+            due: arrived.fields.piece.more,
+        };
+        Line {
             subs: with_sub(self.subs, arrived.sub, after),
+            ..line
         }
     }
 
@@ -381,6 +365,14 @@ impl Line {
         let number = self.number_deviation(measure.late, fields.number);
         let early = self.early_deviation(measure.gap, arrived.at);
         let numbered = self.after(number, true);
+        if is_beside(measure, fields) {
+            *self = numbered.counted(measure, arrived);
+            return Verdict {
+                number,
+                early,
+                ..Verdict::default()
+            };
+        }
         let turn = numbered.turn_deviation(arrived.sub);
         let settled = numbered.after(turn, false);
         let joining = settled.sub(arrived.sub).joining;

@@ -174,7 +174,7 @@ right_after measure port come line right = rw (settles measure port come line ri
 right_verdict : (measure : Measure) (port : Option PortPlan) (come : Arrived) (line : Line)
     → IsRight measure port come line come.sub → verdict measure port come line ≡ faultless
 unfolding verdict
-right_verdict measure port come line right = grind (arith, nat_tests, settles, right.good.of_port, right.good.fits, right.good.ends)
+right_verdict measure port come line right = grind (arith, nat_tests, settles, right.profile, right.good.of_port, right.good.fits, right.good.ends)
 
 -- a frame on its line, and the line after it
 abbrev pub come_of : Plan → ℕ → Options → Tag → List ℕ → Line → Arrived

@@ -27,11 +27,11 @@ pub wrong_right : (measure : Measure) (port : Option PortPlan) (come : Arrived) 
 unfolding verdict
 wrong_right measure port come line own wrong =
     let number : number_deviation measure.late come.fields.number line ≡ None = ap (λ (v : Verdict). v.number) wrong in
-    let turn : turn_deviation come.sub line ≡ None = rw number at (ap (λ (v : Verdict). v.turn) wrong) in
+    let turn : turn_deviation come.sub line ≡ None = rw (number, own) at (ap (λ (v : Verdict). v.turn) wrong) in
     let fits = rw (number, turn, own) at (ap (λ (v : Verdict). v.fragment) wrong) in
     let ends = rw (number, turn, own, fits) at (ap (λ (v : Verdict). v.message) wrong) in
     let early = ap (λ (v : Verdict). v.early) wrong in
-    let of_port = ap (λ (v : Verdict). v.port) wrong in
+    let of_port = rw own at (ap (λ (v : Verdict). v.port) wrong) in
     assumption
 
 -- a frame's release time in microseconds, on that clock
