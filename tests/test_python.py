@@ -195,20 +195,25 @@ def judging() -> None:
             found, captured = error.findings, str(error).splitlines()[1:]
         check([f"{it}\n" for it in found] == [it.line() for it in case.found], case.name)
         check(captured == [re.sub(r", \d+ of other interfaces", "", line) for line in case.captured], case.name)
+    frames: dict[int, list[tuple[int, bytes]]] = {A: [], B: []}
     with EndSystem(DEMO) as it, it.port(10) as port:
-        port.send(b"1")
-        frames = [(0, frame) for frame in it.poll(0).a]
+        for at in range(3):
+            port.send(b"1")
+            sent = it.poll(1000 * at)
+            for network, each in ((A, sent.a), (B, sent.b)):
+                frames[network] += [(at, frame) for frame in each]
     header = struct.pack("<IHHIIII", 0xA1B2C3D4, 2, 4, 0, 0, 65535, 1)
-    sent, late = (header + b"".join(struct.pack("<IIII", at, 0, len(it), len(it)) + it for at, it in rows)
-                  for rows in (frames, [*frames, (1, frames[0][1])]))
+    # (network A's first frame, its three a second apart, and B's without the second)
+    sent, on_a, on_b = (header + b"".join(struct.pack("<IIII", at, 0, len(it), len(it)) + it for at, it in rows)
+                        for rows in (frames[A][:1], frames[A], frames[B][::2]))
     with tempfile.TemporaryDirectory() as room:
         for name, data in (("plan", DEMO.encode()), ("capture", sent)):
             Path(room, name).write_bytes(data)
         check(afdx.judge(Path(room, "plan"), Path(room, "capture")) == afdx.judge(bytearray(DEMO.encode()), memoryview(sent)) == [])
         raises(FileNotFoundError, afdx.judge, DEMO, Path(room, "none"))
-    found = afdx.judge(DEMO, late)
-    check(found == [("Missing", "", 1, A, 0, 1, 0, 0), ("Number", "", 2, A, 10**9, 1, 0, 1)], found)
-    check([f"{it}" for it in found] == ["1 A 0.000000000 vl 1 Missing: seen 0", "2 A 1.000000000 vl 1 Number: seen 0, wanted 1"])
+    found = afdx.judge(DEMO, on_a, on_b)
+    check(found == [("Missing", "", 2, A, 10**9, 1, 1, 0), ("Number", "", 2, B, 2 * 10**9, 1, 2, 1)], found)
+    check([f"{it}" for it in found] == ["2 A 1.000000000 vl 1 Missing: seen 1", "2 B 2.000000000 vl 1 Number: seen 2, wanted 1"])
     told = raises(afdx.Toml, afdx.judge, "[", sent)
     check(told == f"{afdx.Toml.__doc__}\n{afdx.explain('[')}".rstrip("\n"), told)
     check(raises(afdx.BadCapture, afdx.judge, DEMO, sent, b"").endswith("\ncapture 1: 1 packets\ncapture 2: 0 packets, cut off at byte 0"))

@@ -386,13 +386,15 @@ def unlike(ground: Ground) -> Planted:
 
 
 def lost(ground: Ground) -> Planted:
-    """The last frame of a link that ends early, which one network lacks."""
+    """The last frame of a link that ends early, which one network lacks. That network was recorded more than the skew before it,
+    and more than the skew after it."""
     vl, k = ground.choose(lambda vl, k: len(ground.events[vl][k]) == 2)
     gone, left = ground.rng.sample(ground.events[vl][k], 2)
     kept = ground.packets[left]
     without = {gone, *(it for event in ground.events[vl][k + 1 :] for it in event)}
     left_over = [it for place, it in enumerate(ground.packets) if place not in without]
-    if left_over[-1].at - kept.at <= 10_000 * MICRO:
+    others = [it.at for it in left_over if it.network != kept.network]
+    if not others or kept.at - min(others) <= 10_000 * MICRO or max(others) - kept.at <= 10_000 * MICRO:
         raise Unfit
     return Planted(ground.plan, left_over, [("Missing", "", kept)])
 

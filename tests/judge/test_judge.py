@@ -151,6 +151,32 @@ def of_another_maker(seed: int) -> list[str]:
     return faults + faults_of(f"free {seed}", plan, captures, Options(arinc=True), []) + faults_of(f"bound {seed}", plan, captures, Options())
 
 
+def staggered(seed: int) -> list[str]:
+    """What is wrong with the verdicts on a recording whose two recorders begin, and end, up to 200 ms apart: nothing is found. If
+    a network lost one frame more, its twin is Missing exactly if that network's packets begin more than the skew before the twin
+    and end more than the skew after it."""
+    rng = random.Random(f"staggered {seed}")
+    recording = recorded(rng, 400)
+    first, last = recording.packets[0].at, recording.packets[-1].at
+    later, earlier = rng.choice("AB"), rng.choice("AB")
+    begin = first + MICRO * rng.choice((0, 50_000, rng.randrange(200_001)))
+    end = last - MICRO * rng.choice((0, 50_000, rng.randrange(200_001)))
+    packets = [it for it in recording.packets if (it.network != later or it.at >= begin) and (it.network != earlier or it.at <= end)]
+    plan, captures = text_of(recording.plan, rng), files_of(packets, rng)
+    options = Options(skew=rng.choice((10_000, 5_000, 60_000)), late=True)
+    faults = faults_of(f"staggered {seed}", plan, captures, options, [])
+    gone = rng.choice(packets)
+    packets = [it for it in packets if it is not gone]
+    both = [it for it in packets if it.network != gone.network and abs(it.at - gone.at) <= 5_000 * MICRO]
+    twins = [it for it in both if (it.data[:11], it.data[12:]) == (gone.data[:11], gone.data[12:])]
+    heard = [it.at for it in packets if it.network == gone.network]
+    wanted = [it for it in twins if heard and min(heard) + MICRO * options.skew < it.at < max(heard) - MICRO * options.skew]
+    captures = files_of(packets, rng)
+    found = [(it.network, it.at) for it in verdict.judged(plan, captures, options)[2] if it.kind == "Missing"]
+    faults += [] if found == [(it.network, it.at) for it in wanted] else [f"staggered {seed}: {found} for {wanted}"]
+    return faults + faults_of(f"staggered, and lost {seed}", plan, captures, options)
+
+
 def lost(seed: int) -> list[str]:
     """What is wrong with the verdict on a recording that one network lost a frame of: it lacks a number, unless it was the last
     one, and the other's frame has no twin."""
@@ -286,7 +312,7 @@ def main() -> int:
             # (so each rule of the layout is broken)
             cases = [(kind, seed) for seed in range(counts.planted * (1 if kind else 8))]
             tries.attempt(f"{len(cases)} times {word} alone", lambda cases=cases: (tried(planted, cases), ""))
-        for task in (late, jittered, checked, of_another_maker, lost, unmerged, mixed):
+        for task in (late, jittered, checked, of_another_maker, staggered, lost, unmerged, mixed):
             tries.attempt(f"{task.__name__}, {counts.mixed} times", lambda task=task: (tried(task, range(counts.mixed)), ""))
         tries.attempt("each prefix of a capture", lambda: (tried(prefix, prefixes(4 if counts is FEW else 60)), ""))
         tries.attempt(f"{counts.damaged} damaged captures", lambda: (tried(damaged, range(counts.damaged)), ""))

@@ -89,7 +89,9 @@ class Judge:
         self.streams = {(vl, net): Stream(link, plan["port"], options) for vl, link in self.links.items() for net in self.nets(link)}
         self.waiting: dict[int, list[Waiting]] = {vl: [] for vl in self.links}
         self.lead: dict[int, int] = {}
-        self.first, self.latest, self.is_told, self.findings = None, 0, False, []
+        # The times of the first and the last packet of each network that has any.
+        self.ends: dict[str, tuple[int, int]] = {}
+        self.is_told, self.findings = False, []
 
     @staticmethod
     def nets(link: Table) -> str:
@@ -107,8 +109,8 @@ class Judge:
         if packet.at is None:
             self.add(tag, None, "Frame", "Time", "")
             return
-        self.first = packet.at if self.first is None else self.first
-        self.latest = max(self.latest, packet.at)
+        first, last = self.ends.get(network, (packet.at, packet.at))
+        self.ends[network] = min(first, packet.at), max(last, packet.at)
         try:
             frame = self.frame_of(packet)
             self.accept(frame, network)
@@ -161,28 +163,42 @@ class Judge:
         if frame[11] != wanted:
             raise Refused(vl, "Network", "", differ(frame[11], wanted))
 
-    def near(self, one: int | None, other: int) -> bool:
+    def near(self, one: int, other: int) -> bool:
         """Whether two times are within the skew."""
-        return one is not None and abs(one - other) <= 1000 * self.options.skew
+        return abs(one - other) <= 1000 * self.options.skew
+
+    def began(self, it: Waiting) -> bool:
+        """Whether the other network was being recorded before a frame's twin could come: its first packet is earlier."""
+        ends = self.ends.get("AB".replace(it.network, ""))
+        return ends is not None and ends[0] < it.at - 1000 * self.options.skew
+
+    def went_on(self, it: Waiting) -> bool:
+        """Whether the other network was still being recorded after a frame's twin could come: its last packet is later."""
+        ends = self.ends.get("AB".replace(it.network, ""))
+        return ends is not None and ends[1] > it.at + 1000 * self.options.skew
 
     def missing(self, vl: int, it: Waiting) -> None:
-        """Tells a frame that has no twin, unless the recording began late and just before it."""
-        if not (self.options.late and self.near(self.first, it.at)):
+        """Tells a frame that has no twin, unless it came before the other network was recorded."""
+        if self.began(it):
             self.add(it[:3], vl, "Missing", "", f"seen {it.frame[-1]}")
 
     def part(self, vl: int, arrived: Waiting) -> None:
-        """Lets the frames go that wait no longer."""
-        def is_over(it: Waiting) -> bool:
-            return not self.near(it.at, arrived.at) or (it.network, it.frame[-1]) == (arrived.network, arrived.frame[-1])
+        """Lets the frames go that wait no longer. Those whose other network may have stopped wait on, until their own network
+        comes to their number again."""
+        def waits(it: Waiting) -> bool:
+            if (it.network, it.frame[-1]) == (arrived.network, arrived.frame[-1]):
+                return False
+            return self.near(it.at, arrived.at) or (self.began(it) and not self.went_on(it))
 
-        for it in filter(is_over, self.waiting[vl]):
-            self.missing(vl, it)
-        self.waiting[vl] = [it for it in self.waiting[vl] if not is_over(it)]
+        for it in self.waiting[vl]:
+            if not waits(it):
+                self.missing(vl, it)
+        self.waiting[vl] = [*filter(waits, self.waiting[vl])]
 
     def pair(self, vl: int, arrived: Waiting) -> None:
-        """Compares a frame with the one that waits for it, or lets it wait."""
+        """Compares a frame with the one that waits for it within the skew, or lets it wait."""
         for place, it in enumerate(self.waiting[vl]):
-            if it.network != arrived.network and it.frame[-1] == arrived.frame[-1]:
+            if it.network != arrived.network and it.frame[-1] == arrived.frame[-1] and self.near(it.at, arrived.at):
                 del self.waiting[vl][place]
                 self.lead[vl] = max(self.lead.get(vl, 0), abs(arrived.at - it.at))
                 one, other = arrived.frame, it.frame
@@ -196,9 +212,8 @@ class Judge:
     def end(self) -> None:
         """Ends the recording."""
         for vl, waiting in self.waiting.items():
-            for it in waiting:
-                if not self.near(self.latest, it.at):
-                    self.missing(vl, it)
+            for it in filter(self.went_on, waiting):
+                self.missing(vl, it)
 
 
 def read_line(place: int, reader: Reader, is_only: bool) -> str:

@@ -269,11 +269,15 @@ def misjudged(played: Played, text: str) -> list[str]:
     """What is wrong with the findings of a run with a fault: they are its trace, and nothing else."""
     word, network, first, *second = text.split()
     own, other, k = played.captured[network], played.captured["AB".replace(network, "")], int(first) - 1
-    alone = {"lose": other[k : k + 1], "repeat": own[k + 1 : k + 2], "number": [*own[k : k + 1], *other[k : k + 1]],
-             "flip": other[k : k + 1], "down": other[k:]}.get(word, [])
-    # (frames within the skew of the end aren't missed)
-    last = max(at for at, _ in own + other)
-    wanted, found = Counter(TRACES[word], Missing=sum(last - at > played.skew for at, _ in alone)), played.found()
+    alone = {"repeat": own[k + 1 : k + 2], "number": own[k : k + 1]}.get(word, [])
+    twinless = {"lose": other[k : k + 1], "number": other[k : k + 1], "flip": other[k : k + 1], "down": other[k:]}.get(word, [])
+
+    def missed(frames: list[tuple[int, str]], twins: list[tuple[int, str]]) -> int:
+        """How many frames came more than the skew after the first frame of the other network, and before its last."""
+        times = [at for at, _ in twins]
+        return sum(bool(times) and min(times) + played.skew < at < max(times) - played.skew for at, _ in frames)
+
+    wanted, found = Counter(TRACES[word], Missing=missed(alone, other) + missed(twinless, own)), played.found()
     # (a poll that is late brings a copy nearer to the next frame, and a frame that is less early than polls are late isn't early)
     judged = own[:k] + own[k + 1 :] if word == "flip" else own
     early = sum(too_early([at for at, _ in frames], 2 * BAG, played.late) for frames in (judged, other))

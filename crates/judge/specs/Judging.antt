@@ -1,5 +1,5 @@
 -- The findings of a recording by a plan: the deviations of its packets, in their order.
-use Rattle.std.specs.Prelude.{ℕ, ◌*◌, nat_eq, nat_lt, ◌&&◌, Bool, true, false, if◌then◌else◌, List, [], ◌∷◌, length, slice_set, get_or, replicate, unwrap_or, option_map, option_and_then, Option, Some, None, Result, Ok, Err}
+use Rattle.std.specs.Prelude.{ℕ, ◌*◌, nat_eq, ◌&&◌, Bool, true, false, if◌then◌else◌, List, [], ◌∷◌, length, slice_set, get_or, replicate, option_map, option_and_then, Option, Some, None, Result, Ok, Err}
 use Rattle.afdx_plan.specs.Config.{link_plan_at}
 use Rattle.afdx_plan.specs.Plan.{bag_micros, is_both, room_of}
 use Rattle.afdx_frame.specs.declared.net.Net.TheVariants.{A, B}
@@ -8,6 +8,7 @@ use Rattle.judge.specs.Fields.{fields_of}
 use Rattle.judge.specs.Joining.{port_of}
 use Rattle.judge.specs.Lines.{new_line, line_after, verdict, sub_in, sub_of}
 use Rattle.judge.specs.Rules.{frame_in, place_of, size_deviation}
+use Rattle.judge.specs.Times.{no_times, times_with}
 use Rattle.judge.specs.Twins.{found_missing, left_waiting, twin_deviation, pairing_with, found_at_end}
 use Rattle.judge.specs.Types.{Arrived, Fields, Figures, Finding, FindingKind, Line, Link, LinkPlan, Measure, Nearness, Net, Options, Plan, PortPlan, Recorded, Refused, Setting, Tag, Times, Verdict, VlId}
 use Rattle.judge.specs.declared.finding.FindingKind.TheVariants.{Frame}
@@ -48,7 +49,7 @@ with_verdict tag vl v found = with_finding tag (Some vl) v.turn
     (with_finding tag (Some vl) v.port
     (with_finding tag (Some vl) v.early (with_finding tag (Some vl) v.number found)))))
 
--- a link on both networks before a frame: the frames that this one shows to have no twin are given up
+-- a link on both networks before a frame: the frames whose wait this one ends are given up
 abbrev pub given_up : Setting → Tag → ℕ → Link → Link
 given_up setting tag number link =
     if is_both setting.plan.networks
@@ -63,12 +64,13 @@ found_given_up setting tag number link found =
 abbrev pub paired : Setting → Tag → ℕ → List ℕ → Link → Link
 paired setting tag number frame link =
     if is_both setting.plan.networks
-    then record link { twins = pairing_with tag number frame link.twins } else link
+    then record link { twins = pairing_with setting.nearness tag number frame link.twins } else link
 
 abbrev pub found_twin : Setting → Tag → ℕ → List ℕ → Link → List Finding → List Finding
 found_twin setting tag number frame link found =
     if is_both setting.plan.networks
-    then with_finding tag (Some setting.plan.id) (twin_deviation tag number frame link.twins) found else found
+    then with_finding tag (Some setting.plan.id) (twin_deviation setting.nearness tag number frame link.twins) found
+    else found
 
 abbrev pub arrived : Measure → Tag → Option PortPlan → List ℕ → Line → Arrived
 arrived measure tag port frame line = record {
@@ -115,9 +117,6 @@ pub record Judging : Type 0 where
   pub told : Bool
   pub links : List Link
 
-abbrev pub no_times : Times
-no_times = record { first = None; latest = 0 }
-
 -- nothing came
 abbrev pub at_start : Plan → Options → Judging
 at_start plan options = record {
@@ -126,13 +125,6 @@ at_start plan options = record {
   times = no_times;
   told = false;
   links = replicate (length plan.links) (new_link options.late options.arinc);
-}
-
--- the times with one more packet's: the first time, and the latest
-abbrev pub times_with : ℕ → Times → Times
-times_with at times = record {
-  first = Some (unwrap_or times.first at);
-  latest = if nat_lt times.latest at then at else times.latest;
 }
 
 -- the gap of a link and the jitter in nanoseconds, and the room of its frames
@@ -146,8 +138,7 @@ measure_of options link = record {
 }
 
 abbrev pub nearness_of : Options → Times → Nearness
-nearness_of options times =
-    record { skew = 1000 * options.skew; edge = if options.late then times.first else None }
+nearness_of options times = record { skew = 1000 * options.skew; times = times }
 
 abbrev pub setting_of : Judging → ℕ → Setting
 setting_of j place = record {
@@ -213,9 +204,9 @@ abbrev pub found_judged : Tag → Result Admitted Refused → Judging → List F
 found_judged tag (Ok it) j found = found_of_arrival tag it.place it.frame j found
 found_judged tag (Err why) j found = found_refusal tag why j found
 
--- a packet with a time
-abbrev pub timed : ℕ → Judging → Judging
-timed at j = record j { times = times_with at j.times }
+-- a packet of a network with a time
+abbrev pub timed : Net → ℕ → Judging → Judging
+timed net at j = record j { times = times_with net at j.times }
 
 abbrev pub tag_of : Net → ℕ → ℕ → Tag
 tag_of net number at = record { packet = number; net = net; at = at }
@@ -223,13 +214,13 @@ tag_of net number at = record { packet = number; net = net; at = at }
 abbrev pub after_timed : Net → ℕ → Recorded → Judging → Option ℕ → Judging
 after_timed net number packet j None = j
 after_timed net number packet j (Some at) =
-    judged (tag_of net number at) (admitted net packet (timed at j)) (timed at j)
+    judged (tag_of net number at) (admitted net packet (timed net at j)) (timed net at j)
 
 abbrev pub found_timed : Net → ℕ → Recorded → Judging → List Finding → Option ℕ → List Finding
 found_timed net number packet j found None =
     with_finding (tag_of net number 0) None (Some (deviation (Frame Time) 0 0)) found
 found_timed net number packet j found (Some at) =
-    found_judged (tag_of net number at) (admitted net packet (timed at j)) (timed at j) found
+    found_judged (tag_of net number at) (admitted net packet (timed net at j)) (timed net at j) found
 
 -- A packet of a network, by its number in its file: the judge after it, and the findings with the packet's.
 unfoldable pub after_packet : Net → ℕ → Recorded → Judging → Judging
@@ -239,14 +230,14 @@ unfoldable pub found_with_packet : Net → ℕ → Recorded → Judging → List
 found_with_packet net number packet j found = found_timed net number packet j found packet.at
 
 -- the findings at the end of the recording, of the links in the order of the plan
-abbrev pub found_left : Nearness → ℕ → List LinkPlan → List Link → List Finding → List Finding
-found_left nearness at [] links found = found
-found_left nearness at (plan ∷ plans) [] found = found
-found_left nearness at (plan ∷ plans) (link ∷ links) found =
-    found_left nearness at plans links (found_at_end nearness plan.id at link.twins.waiting found)
+abbrev pub found_left : Nearness → List LinkPlan → List Link → List Finding → List Finding
+found_left nearness [] links found = found
+found_left nearness (plan ∷ plans) [] found = found
+found_left nearness (plan ∷ plans) (link ∷ links) found =
+    found_left nearness plans links (found_at_end nearness plan.id link.twins.waiting found)
 
 unfoldable pub found_with_end : Judging → List Finding → List Finding
-found_with_end j found = found_left (nearness_of j.options j.times) j.times.latest j.plan.links j.links found
+found_with_end j found = found_left (nearness_of j.options j.times) j.plan.links j.links found
 
 -- ---- a recording
 

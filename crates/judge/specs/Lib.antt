@@ -7,6 +7,7 @@ pub mod Lines
 pub mod Merging
 pub mod Rules
 pub mod State
+pub mod Times
 pub mod Twins
 pub mod Types
 pub mod Waiting

@@ -50,6 +50,9 @@ Setting = of.Setting
 abbrev pub Refused : Type 0
 Refused = of.Refused
 
+abbrev pub Span : Type 0
+Span = of.Span
+
 abbrev pub Times : Type 0
 Times = of.Times
 

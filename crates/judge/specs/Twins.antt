@@ -5,7 +5,8 @@ use Rattle.std.specs.List.{position_or_len}
 use Rattle.afdx_frame.specs.declared.net.Net.TheVariants.{A, B}
 use Rattle.judge.specs.Deviations.{deviation, finding_of}
 use Rattle.judge.specs.Waiting.{Wait, Pairing}
-use Rattle.judge.specs.Types.{Deviation, Finding, Nearness, Net, Tag, VlId}
+use Rattle.judge.specs.Times.{other_span}
+use Rattle.judge.specs.Types.{Deviation, Finding, Nearness, Net, Span, Tag, VlId}
 use Rattle.judge.specs.declared.finding.FindingKind.TheVariants.{Twin, Missing}
 
 -- the time between two times
@@ -15,21 +16,34 @@ apart a b = if nat_lt a b then b - a else a - b
 abbrev pub is_near : Nearness → ℕ → ℕ → Bool
 is_near nearness a b = nat_le (apart a b) nearness.skew
 
--- a frame of this time may have no twin, since the recording began late
-abbrev pub is_excused : Nearness → ℕ → Bool
-is_excused nearness at = option_map_or (λ edge. is_near nearness edge at) nearness.edge false
-
 abbrev pub same_net : Net → Net → Bool
 same_net A A = true
 same_net A B = false
 same_net B A = false
 same_net B B = true
 
--- a frame of this network, time and number shows that one that waits has no twin: it isn't within the skew, or its own
+-- The other network has a packet more than the skew before a frame, so it was recorded when a twin could first come. At
+-- the skew exactly isn't enough: of two packets of one time the twin may be the first, and the recorder begin between.
+abbrev pub is_heard_before : Nearness → Tag → Bool
+is_heard_before nearness tag = option_map_or (λ (span : Span). nat_lt nearness.skew (tag.at - span.earliest))
+    (other_span tag.net nearness.times) false
+
+-- The other network has a packet more than the skew after a frame, so it was recorded when a twin could last come.
+abbrev pub is_heard_after : Nearness → Tag → Bool
+is_heard_after nearness tag = option_map_or (λ (span : Span). nat_lt nearness.skew (span.latest - tag.at))
+    (other_span tag.net nearness.times) false
+
+-- a frame of this time isn't within the skew of one that waits, whose twin was recorded by now if it was sent, or isn't
+-- wanted, since the other network wasn't recorded before
+abbrev pub is_late : Nearness → ℕ → Tag → Bool
+is_late nearness at tag = not (is_near nearness tag.at at)
+    && (is_heard_after nearness tag || not (is_heard_before nearness tag))
+
+-- a frame of this network, time and number ends the wait of one that has no twin so far: it comes too late, or its own
 -- network has come to its number again
 abbrev pub is_passed : Nearness → Tag → ℕ → Wait → Bool
 is_passed nearness tag number w =
-    not (is_near nearness w.tag.at tag.at) || (same_net w.tag.net tag.net && nat_eq w.number number)
+    is_late nearness tag.at w.tag || (same_net w.tag.net tag.net && nat_eq w.number number)
 
 -- the finding of a frame without a twin
 abbrev pub missing : VlId → Wait → Finding
@@ -38,15 +52,14 @@ missing vl w = finding_of w.tag (Some vl) (deviation Missing w.number 0)
 abbrev pub missing_of : VlId → List Wait → List Finding
 missing_of vl ws = map (missing vl) ws
 
--- true if another frame shows that a waiting one has no twin, and the waiting one isn't near the edge: then it is a
--- finding
+-- true if another frame ends the wait of one whose twin was wanted: then it is a finding
 abbrev pub is_lost : Nearness → Tag → ℕ → Wait → Bool
-is_lost nearness tag number w = is_passed nearness tag number w && not (is_excused nearness w.tag.at)
+is_lost nearness tag number w = is_passed nearness tag number w && is_heard_before nearness w.tag
 
 unfoldable pub found_missing : Nearness → VlId → Tag → ℕ → List Wait → List Finding → List Finding
 found_missing nearness vl tag number ws found = found ++ missing_of vl (filter (is_lost nearness tag number) ws)
 
--- a waiting frame that another one doesn't show to have no twin, and so waits on
+-- a waiting frame whose wait another one doesn't end
 abbrev pub stays : Nearness → Tag → ℕ → Wait → Bool
 stays nearness tag number w = not (is_passed nearness tag number w)
 
@@ -69,35 +82,38 @@ unfoldable pub twin_other : List ℕ → List ℕ → Option ℕ
 twin_other a b = option_or (first_other 0 (slice_range a 0 11) (slice_range b 0 11))
     (first_other 12 (slice_range a 12 (length a)) (slice_range b 12 (length b)))
 
--- the frame that waits with this number on the other network
-abbrev pub is_twin : Tag → ℕ → Wait → Bool
-is_twin tag number w = not (same_net w.tag.net tag.net) && nat_eq w.number number
+-- the frame that waits with this number on the other network, within the skew
+abbrev pub is_twin : Nearness → Tag → ℕ → Wait → Bool
+is_twin nearness tag number w = not (same_net w.tag.net tag.net) && nat_eq w.number number
+    && is_near nearness w.tag.at tag.at
 
 abbrev pub other_at : Wait → Option ℕ → Option Deviation
 other_at w place = option_map (λ place. deviation Twin place w.tag.packet) place
 
-unfoldable pub twin_deviation : Tag → ℕ → List ℕ → Pairing → Option Deviation
-twin_deviation tag number frame p =
-    option_and_then (λ w. other_at w (twin_other w.bytes frame)) (find (is_twin tag number) p.waiting)
+unfoldable pub twin_deviation : Nearness → Tag → ℕ → List ℕ → Pairing → Option Deviation
+twin_deviation nearness tag number frame p =
+    option_and_then (λ w. other_at w (twin_other w.bytes frame)) (find (is_twin nearness tag number) p.waiting)
 
 abbrev pub greatest_of : Option ℕ → ℕ → Option ℕ
 greatest_of a b = Some (option_map_or (λ a. if nat_lt a b then b else a) a b)
 
-abbrev pub met : Tag → ℕ → List ℕ → Pairing → Option Wait → Pairing
-met tag number frame p None =
+abbrev pub met : Nearness → Tag → ℕ → List ℕ → Pairing → Option Wait → Pairing
+met nearness tag number frame p None =
     record p { waiting = p.waiting ++ record { tag = tag; number = number; bytes = frame } ∷ [] }
-met tag number frame p (Some w) = record {
-  waiting = remove p.waiting (position_or_len (is_twin tag number) p.waiting);
+met nearness tag number frame p (Some w) = record {
+  waiting = remove p.waiting (position_or_len (is_twin nearness tag number) p.waiting);
   lead = greatest_of p.lead (apart w.tag.at tag.at);
 }
 
 -- the waiting frames after a frame, which is paired with its twin, or waits
-unfoldable pub pairing_with : Tag → ℕ → List ℕ → Pairing → Pairing
-pairing_with tag number frame p = met tag number frame p (find (is_twin tag number) p.waiting)
+unfoldable pub pairing_with : Nearness → Tag → ℕ → List ℕ → Pairing → Pairing
+pairing_with nearness tag number frame p =
+    met nearness tag number frame p (find (is_twin nearness tag number) p.waiting)
 
--- true if a waiting frame has no twin at the end of a recording, at this time, and isn't near the edge
-abbrev pub is_left : Nearness → ℕ → Wait → Bool
-is_left nearness at w = not (is_near nearness w.tag.at at) && not (is_excused nearness w.tag.at)
+-- The twin of a frame that waits at the end of a recording was wanted: the other network was recorded from before the
+-- frame, less the skew, until after it, with the skew.
+abbrev pub is_left : Nearness → Wait → Bool
+is_left nearness w = is_heard_before nearness w.tag && is_heard_after nearness w.tag
 
-unfoldable pub found_at_end : Nearness → VlId → ℕ → List Wait → List Finding → List Finding
-found_at_end nearness vl at ws found = found ++ missing_of vl (filter (is_left nearness at) ws)
+unfoldable pub found_at_end : Nearness → VlId → List Wait → List Finding → List Finding
+found_at_end nearness vl ws found = found ++ missing_of vl (filter (is_left nearness) ws)

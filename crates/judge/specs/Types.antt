@@ -29,5 +29,6 @@ pub use Rattle.judge.specs.declared.link.Link.{Link}
 pub use Rattle.judge.specs.declared.link.Setting.{Setting}
 pub use Rattle.judge.specs.declared.judge.Options.{Options}
 pub use Rattle.judge.specs.declared.rules.Refused.{Refused}
-pub use Rattle.judge.specs.declared.judge.Times.{Times}
+pub use Rattle.judge.specs.declared.times.Span.{Span}
+pub use Rattle.judge.specs.declared.times.Times.{Times}
 pub use Rattle.judge.specs.declared.twins.Nearness.{Nearness}

@@ -3,7 +3,7 @@ ghost use Rattle.std.specs.Prelude.{◌≡◌, ◌<◌, length, replicate, slice
 ghost use Rattle.capture.specs.Recording.{recorded};
 ghost use Rattle.judge.specs.Fields.{fields_of};
 ghost use Rattle.afdx_frame.specs.Layout.{IsReadable};
-ghost use Rattle.judge.specs.Judging.{Judging, Admitted, at_start, measure_of, nearness_of, setting_of, first_port, with_arrival, found_of_arrival, with_refusal, found_refusal, admitted, after_packet, found_with_packet, found_with_end, timed, found_left, is_with_check, new_link, figures_on, lead_of, no_times, times_with};
+ghost use Rattle.judge.specs.Judging.{Judging, Admitted, at_start, measure_of, nearness_of, setting_of, first_port, with_arrival, found_of_arrival, with_refusal, found_refusal, admitted, after_packet, found_with_packet, found_with_end, timed, found_left, is_with_check, new_link, figures_on, lead_of};
 
 use crate::fields::{Fields, fields_of};
 use crate::finding::{Deviation, Finding, FindingKind, Tag, add};
@@ -11,6 +11,7 @@ use crate::joining::port_of;
 use crate::line::{Figures, Measure, sub_in};
 use crate::link::{Link, Setting};
 use crate::rules::{Refused, frame_in, place_of};
+use crate::times::Times;
 use crate::twins::Nearness;
 use afdx_frame::{Layout, Net};
 use afdx_plan::{Config, LinkPlan, PortPlan, VlId};
@@ -25,8 +26,8 @@ pub struct Options {
     pub jitter: u64,
     /// The greatest time in microseconds between a frame and its twin.
     pub skew: u64,
-    /// The recording began after the end system: a link's first sequence number may be any, its first frames may be
-    /// the end of a message, and frames within the skew of the first packet may have no twin.
+    /// The recording began after the end system: a link's first sequence number may be any, and its first frames may be
+    /// the end of a message.
     pub late: bool,
     /// Frames were recorded with their check sequence, which is tested.
     pub fcs: bool,
@@ -37,8 +38,8 @@ pub struct Options {
 }
 
 /// A judge of the packets of a recording, by a plan. The time for a packet doesn't grow with the recording. Memory
-/// holds the frames that wait for their twins: of each link the frames within the skew, at most 512 of at most 1,514
-/// bytes.
+/// holds the frames that wait for their twins: of each link those within the skew, and those since the other network's
+/// latest packet, at most 512 of at most 1,514 bytes.
 #[derive(Drop)]
 pub struct Judge {
     config: Config,
@@ -64,42 +65,13 @@ impl Model for Judge {
     ghost invariant = { λ j. length j.links.items ≡ length j.config.links };
 }
 
-/// The times of the packets so far, in nanoseconds: the first one's, and the latest.
-#[derive(Clone, Copy)]
-pub(crate) struct Times {
-    pub(crate) first: Option<u128>,
-    pub(crate) latest: u128,
-}
-
-impl Times {
-    /// Creates the times of no packet.
-    pub(crate) fn new() -> Times
-        ensures { result ≡ no_times }
-    {
-        Times {
-            first: None,
-            latest: 0,
-        }
-    }
-
-    /// Returns the times with one more packet.
-    pub(crate) fn with(self, at: u128) -> Times
-        ensures { result ≡ times_with at self }
-    {
-        Times {
-            first: Some(self.first.unwrap_or(at)),
-            latest: if self.latest < at { at } else { self.latest },
-        }
-    }
-}
-
-/// Returns the bounds on twins: the skew, and the time near which frames may have none.
+/// Returns the bounds on twins: the skew, and the times of both networks' packets.
 fn nearness_of(options: &Options, times: &Times) -> Nearness
     ensures { result ≡ nearness_of options.now times.now }
 {
     Nearness {
         skew: 1_000 * options.skew as u128,
-        edge: if options.late { times.first } else { None },
+        times: *times,
     }
 }
 
@@ -186,7 +158,7 @@ impl Judge {
             let deviation = Deviation::new(FindingKind::Frame(Layout::Time), 0, 0);
             return add(found, &tag, None, Some(deviation));
         };
-        self.times = self.times.with(at);
+        self.times = self.times.with(net, at);
         let frame = match frame_in(packet, &self.options) {
             Ok(frame) => frame,
             Err(why) => return self.refuse(&tag, &why, found),
@@ -251,32 +223,30 @@ impl Judge {
         link.arrive(&setting, tag, port, frame, &fields, found)
     }
 
-    /// Appends the frames missing at the end of the recording: frames within the skew of its latest packet may have no
-    /// twin.
+    /// Appends the frames missing at the end of the recording: those without a twin between the first and the last
+    /// packet of the other network, more than the skew away from each.
     #[tactic(auto, unfolding(crate::specs::Judging::found_with_end))]
     pub fn end(&self, found: &mut Vec<Finding>) -> Result<(), AllocError>
         ensures { OnOk result (found.new.items ≡ found_with_end self.now found.old.items) }
     {
         let nearness = nearness_of(&self.options, &self.times);
-        let (at, plans) = (self.times.latest, self.config.links());
-        add_left(&nearness, at, plans, self.links.as_slice(), found)
+        add_left(&nearness, self.config.links(), self.links.as_slice(), found)
     }
 }
 
-/// Appends the missing frames of links at the end of the recording, at this time.
+/// Appends the missing frames of links at the end of the recording.
 fn add_left(
     nearness: &Nearness,
-    at: u128,
     plans: &[LinkPlan],
     links: &[Link],
     found: &mut Vec<Finding>,
 ) -> Result<(), AllocError>
     requires { length links.now ≡ length plans.now }
-    ensures { OnOk result (found.new.items ≡ found_left nearness.now at plans.now links.now found.old.items) }
+    ensures { OnOk result (found.new.items ≡ found_left nearness.now plans.now links.now found.old.items) }
 {
     let (mut left, mut rest) = (plans, links);
     'links: while let ([plan, more_plans @ ..], [link, more_links @ ..]) = (left, rest) {
-        link.twins.find_left(nearness, plan.id, at, found)?;
+        link.twins.find_left(nearness, plan.id, found)?;
         left = more_plans;
         rest = more_links;
     }

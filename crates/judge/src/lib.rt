@@ -11,6 +11,7 @@ mod line;
 mod link;
 mod merging;
 mod rules;
+mod times;
 mod twins;
 
 pub use afdx_frame::Layout;

@@ -70,7 +70,7 @@ impl Link {
         }
     }
 
-    /// Removes the waiting frames that a frame shows to have no twin, and appends their findings.
+    /// Removes the waiting frames whose wait a frame ends, and appends the findings of those whose twins were wanted.
     fn give_up(
         &mut self,
         setting: &Setting,
@@ -104,7 +104,7 @@ impl Link {
             ≡ found_twin setting.now tag.now number frame.now self.old found.old.items) }
     {
         if is_both(&setting.plan) {
-            let twin = self.twins.meet(tag, number, frame)?;
+            let twin = self.twins.meet(&setting.nearness, tag, number, frame)?;
             add(found, tag, Some(setting.plan.id), twin)?;
         }
         Ok(())

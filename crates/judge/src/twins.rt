@@ -1,9 +1,10 @@
 //! The frames of a link that one network has carried and the other hasn't yet.
 ghost use Rattle.std.specs.Prelude.{◌≡◌, ◌+◌, ◌^◌, ◌≤◌, ◌<◌, find, position, length, OnOk, IfOk, None, []};
 ghost use Rattle.judge.specs.Waiting.{Wait, Pairing};
-ghost use Rattle.judge.specs.Twins.{apart, is_near, is_excused, same_net, is_passed, kept, is_lost, is_left, is_twin, missing, found_missing, left_waiting, first_other, twin_other, other_at, twin_deviation, greatest_of, pairing_with, found_at_end};
+ghost use Rattle.judge.specs.Twins.{apart, is_near, is_heard_before, is_heard_after, is_late, same_net, is_passed, kept, is_lost, is_left, is_twin, missing, found_missing, left_waiting, first_other, twin_other, other_at, twin_deviation, greatest_of, pairing_with, found_at_end};
 
 use crate::finding::{Deviation, Finding, FindingKind, Tag};
+use crate::times::Times;
 use afdx_frame::Net;
 use afdx_plan::VlId;
 use std::alloc::{AllocError, Global};
@@ -28,9 +29,9 @@ impl Model for Waiting {
     ghost invariant = { λ w. 12 ≤ length w.bytes.items };
 }
 
-/// The frames of a link that wait for their twins, in the order in which they came. Each came within the skew of the
-/// link's last frame, and no network has two of one number: so they are at most 512, and at most as many as the
-/// networks send within the skew.
+/// The frames of a link that wait for their twins, in the order in which they came. No network has two of one number, so
+/// they are at most 512. As long as both networks are recorded they are at most as many as came within the skew of the
+/// other network's latest packet.
 #[derive(Drop)]
 pub(crate) struct Twins {
     waiting: Vec<Waiting>,
@@ -46,13 +47,12 @@ impl Model for Twins {
     ghost view = { λ t. record { waiting = t.waiting.items; lead = t.lead } };
 }
 
-/// The greatest time between twins, and the time near which frames may have none.
+/// The greatest time between twins, and the times of both networks' packets so far.
 #[derive(Clone, Copy)]
 pub(crate) struct Nearness {
     /// The skew in nanoseconds.
     pub(crate) skew: u128,
-    /// The time of the first packet of a recording that began late.
-    pub(crate) edge: Option<u128>,
+    pub(crate) times: Times,
 }
 
 /// Returns the time between two times.
@@ -77,14 +77,32 @@ impl Nearness {
         apart(a, b) <= self.skew
     }
 
-    /// Returns true if a frame of this time may have no twin.
-    fn is_excused(&self, at: u128) -> bool
-        ensures { result ≡ is_excused self.now at }
+    /// Returns true if the other network has a packet more than the skew before a frame.
+    fn is_heard_before(&self, tag: &Tag) -> bool
+        ensures { result ≡ is_heard_before self.now tag.now }
     {
-        match self.edge {
-            Some(edge) => self.is_near(edge, at),
+        match self.times.other_than(tag.net) {
+            Some(span) => self.skew < tag.at.saturating_sub(span.earliest),
             None => false,
         }
+    }
+
+    /// Returns true if the other network has a packet more than the skew after a frame.
+    fn is_heard_after(&self, tag: &Tag) -> bool
+        ensures { result ≡ is_heard_after self.now tag.now }
+    {
+        match self.times.other_than(tag.net) {
+            Some(span) => self.skew < span.latest.saturating_sub(tag.at),
+            None => false,
+        }
+    }
+
+    /// Returns true if a frame of this time comes too late to be a waiting frame's twin, and the wait is over: the other
+    /// network was recorded long enough after the waiting frame, or not before it.
+    fn is_late(&self, at: u128, tag: &Tag) -> bool
+        ensures { result ≡ is_late self.now at tag.now }
+    {
+        !self.is_near(tag.at, at) && (self.is_heard_after(tag) || !self.is_heard_before(tag))
     }
 }
 
@@ -122,11 +140,11 @@ fn twin_other(a: &[u8], b: &[u8]) -> Option<usize>
 }
 
 impl Waiting {
-    /// Returns true if a frame with this tag and number shows that the waiting frame has no twin.
+    /// Returns true if a frame with this tag and number ends the waiting frame's wait.
     fn is_passed(&self, nearness: &Nearness, tag: &Tag, number: u8) -> bool
         ensures { result ≡ is_passed nearness.now tag.now number self.now }
     {
-        !nearness.is_near(self.tag.at, tag.at)
+        nearness.is_late(tag.at, &self.tag)
             || (same_net(self.tag.net, tag.net) && self.number == number)
     }
 
@@ -134,21 +152,23 @@ impl Waiting {
     fn is_lost(&self, nearness: &Nearness, tag: &Tag, number: u8) -> bool
         ensures { result ≡ is_lost nearness.now tag.now number self.now }
     {
-        self.is_passed(nearness, tag, number) && !nearness.is_excused(self.tag.at)
+        self.is_passed(nearness, tag, number) && nearness.is_heard_before(&self.tag)
     }
 
-    /// Returns true if the end of the recording, at this time, makes the missing twin a finding.
-    fn is_left(&self, nearness: &Nearness, at: u128) -> bool
-        ensures { result ≡ is_left nearness.now at self.now }
+    /// Returns true if the end of the recording makes the missing twin a finding.
+    fn is_left(&self, nearness: &Nearness) -> bool
+        ensures { result ≡ is_left nearness.now self.now }
     {
-        !nearness.is_near(self.tag.at, at) && !nearness.is_excused(self.tag.at)
+        nearness.is_heard_before(&self.tag) && nearness.is_heard_after(&self.tag)
     }
 
-    /// Returns true if the waiting frame has this number and the other network than the tag.
-    fn is_twin(&self, tag: &Tag, number: u8) -> bool
-        ensures { result ≡ is_twin tag.now number self.now }
+    /// Returns true if the waiting frame has this number, the other network than the tag, and a time within the skew.
+    fn is_twin(&self, nearness: &Nearness, tag: &Tag, number: u8) -> bool
+        ensures { result ≡ is_twin nearness.now tag.now number self.now }
     {
-        !same_net(self.tag.net, tag.net) && self.number == number
+        !same_net(self.tag.net, tag.net)
+            && self.number == number
+            && nearness.is_near(self.tag.at, tag.at)
     }
 
     /// Returns the finding that the frame has no twin.
@@ -169,7 +189,7 @@ impl Waiting {
     }
 }
 
-/// Keeps the waiting frames that may still have a twin after a frame.
+/// Keeps the waiting frames whose wait a frame doesn't end.
 fn keep(waiting: &mut Vec<Waiting>, nearness: &Nearness, tag: &Tag, number: u8)
     ensures { waiting.new.items ≡ kept nearness.now tag.now number waiting.old.items }
 {
@@ -197,7 +217,7 @@ impl Twins {
         }
     }
 
-    /// Removes the waiting frames that a frame shows to have no twin, and appends their findings.
+    /// Removes the waiting frames whose wait a frame ends, and appends the findings of those whose twins were wanted.
     #[tactic(auto, unfolding(crate::specs::Twins::found_missing, crate::specs::Twins::left_waiting))]
     pub(crate) fn give_up(
         &mut self,
@@ -222,25 +242,28 @@ impl Twins {
     }
 
     /// Returns the place of a frame's twin among the waiting frames.
-    fn place(&self, tag: &Tag, number: u8) -> Option<usize>
-        ensures { result ≡ position (is_twin tag.now number) self.now.waiting }
+    fn place(&self, nearness: &Nearness, tag: &Tag, number: u8) -> Option<usize>
+        ensures { result ≡ position (is_twin nearness.now tag.now number) self.now.waiting }
     {
-        self.waiting.iter().position(|w| w.is_twin(tag, number))
+        self.waiting
+            .iter()
+            .position(|w| w.is_twin(nearness, tag, number))
     }
 
     /// Pairs a frame with its twin, and returns their difference. A frame without a twin waits.
     #[tactic(auto, using(crate::proofs::Pairs::first_is, crate::proofs::Pairs::place_is, crate::proofs::Pairs::none_is), unfolding(crate::specs::Twins::pairing_with, crate::specs::Twins::twin_deviation))]
     pub(crate) fn meet(
         &mut self,
+        nearness: &Nearness,
         tag: &Tag,
         number: u8,
         frame: &[u8],
     ) -> Result<Option<Deviation>, AllocError>
         requires { 12 ≤ length frame.now }
-        ensures after { OnOk result (self.new ≡ pairing_with tag.now number frame.now self.old) }
-        ensures twin { IfOk result (λ d. d ≡ twin_deviation tag.now number frame.now self.old) }
+        ensures after { OnOk result (self.new ≡ pairing_with nearness.now tag.now number frame.now self.old) }
+        ensures twin { IfOk result (λ d. d ≡ twin_deviation nearness.now tag.now number frame.now self.old) }
     {
-        match self.place(tag, number) {
+        match self.place(nearness, tag, number) {
             Some(place) => {
                 let twin = self.waiting.remove(place);
                 self.lead = greatest_of(self.lead, apart(twin.tag.at, tag.at));
@@ -256,20 +279,19 @@ impl Twins {
         }
     }
 
-    /// Appends the frames that the end of the recording, at this time, shows to have no twin.
+    /// Appends the frames that wait at the end of the recording and whose twins were wanted.
     #[tactic(auto, unfolding(crate::specs::Twins::found_at_end))]
     pub(crate) fn find_left(
         &self,
         nearness: &Nearness,
         vl: VlId,
-        at: u128,
         found: &mut Vec<Finding>,
     ) -> Result<(), AllocError>
-        ensures { OnOk result (found.new.items ≡ found_at_end nearness.now vl at self.now.waiting found.old.items) }
+        ensures { OnOk result (found.new.items ≡ found_at_end nearness.now vl self.now.waiting found.old.items) }
     {
         let waiting = self.waiting.as_slice();
         for w in waiting {
-            if w.is_left(nearness, at) {
+            if w.is_left(nearness) {
                 found.push(w.missing(vl))?;
             }
         }

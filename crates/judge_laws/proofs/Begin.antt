@@ -208,13 +208,13 @@ module _ (plan : Plan) (accepted : Accepted) (a b : List Entry) (options : Optio
 
 -- ---- the law
 
-left_missing : (nearness : Nearness) (at : ℕ) (plans : List LinkPlan) (links : List Link) (found : List Finding) → All IsMissing found
-    → All IsMissing (found_left nearness at plans links found)
+left_missing : (nearness : Nearness) (plans : List LinkPlan) (links : List Link) (found : List Finding) → All IsMissing found
+    → All IsMissing (found_left nearness plans links found)
 unfolding found_at_end
-left_missing nearness at [] links found all = all
-left_missing nearness at (plan ∷ plans) [] found all = all
-left_missing nearness at (plan ∷ plans) (link ∷ links) found all =
-    left_missing nearness at plans links _ (all_missing plan.id _ found all)
+left_missing nearness [] links found all = all
+left_missing nearness (plan ∷ plans) [] found all = all
+left_missing nearness (plan ∷ plans) (link ∷ links) found all =
+    left_missing nearness plans links _ (all_missing plan.id _ found all)
 
 all_given_up : (setting : Setting) (tag : Tag) (number : ℕ) (link : Link) (found : List Finding) → All IsMissing found
     → All IsMissing (found_given_up setting tag number link found)
@@ -227,15 +227,15 @@ goes_on : (plan : Plan) (origin : Net → ℕ) (options : Options) (times : Time
     → All IsMissing (found_from recording (judge_of plan options times told links) found)
 unfolding found_with_end
 goes_on plan origin options times told links [] after rest found valid fit is twins zip all =
-    left_missing _ _ plan.links links found all
+    left_missing _ plan.links links found all
 goes_on plan origin options times told links (p ∷ ps) after rest found valid fit is twins zip all =
     let next = recorded_next origin options after rest p ps zip in
     let t = packet_taken plan origin options times told links p.net p.number p.packet next.first next.later rest valid is next.is
     next.recorded in
     let met = copies_go_on plan origin options times told links p.net p.number p.packet next.first next.later rest fit next.is t twins in
-    rw (t.after, t.found found met.0) (goes_on plan origin options (times_with t.at times) told t.new ps after (rest_after p.net next.later rest) _ valid fit
+    rw (t.after, t.found found met.0) (goes_on plan origin options (times_with p.net t.at times) told t.new ps after (rest_after p.net next.later rest) _ valid fit
     t.going met.1 (recorded_after origin options next.later after rest p ps zip next.going)
-    (all_given_up (setting_at plan options t.at times t.known.k) (tag_of p.net p.number t.at) (number_in next.first.frame)
+    (all_given_up (setting_at plan options p.net t.at times t.known.k) (tag_of p.net p.number t.at) (number_in next.first.frame)
     (link_at links t.known.k) found all))
 
 pub own_options : (options : Options) → options.arinc ≡ false → options ≡ of_profile options

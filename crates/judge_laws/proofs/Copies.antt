@@ -1,6 +1,6 @@
 -- A link's stream on two networks: frames with one number that are less than 255 gaps apart are copies of one frame, so
 -- no frame differs from one that waits for it.
-use Rattle.judge_laws.proofs.Names.{A, B, lag_of, All, All-append, All-contains, All-filter, All-head, All-map, All-push, All-tail, Bool, Entry, Finding, IsNumbered, IsSpaced, Link, List, Nearness, Net, None, Option, Options, Pairing, Plan, Recorded, Some, Stamp, Tag, Times, VlId, Wait, arith, bag_micros, cases_lt, drop-set-lt, entry, entry_number, filter_passes, find, first_other, get_or, get_or-map, get_or-take, interface_byte, is_both, is_twin, kept, left_waiting, length, length-map, length-set, length-take, link_at, link_plan_at, link_stream, map, missing, missing_of, nat_tests, number_in, numbered_at, pairing_with, refl, sequence_number, side, slice_range, stamp_of, stays, suc, sym, tag_of, take, take-set-le, true, twin_deviation, twin_number, twin_of, twin_other, zero, ℕ, [], ◌*◌, ◌++◌, ◌+◌, ◌-◌, ◌<◌, ◌∙◌, ◌∷◌, ◌≡◌, ◌≤◌, AreFit, IsMissing}
+use Rattle.judge_laws.proofs.Names.{A, B, lag_of, All, All-append, All-contains, All-filter, All-head, All-map, All-push, All-tail, Bool, Entry, Finding, IsNumbered, IsSpaced, Link, List, Nearness, Net, None, Option, Options, Pairing, Plan, Recorded, Some, Stamp, Tag, Times, VlId, Wait, arith, bag_micros, cases_lt, drop-set-lt, entry, entry_number, find, first_other, get_or, get_or-map, get_or-take, interface_byte, is_both, is_twin, kept, left_waiting, length, length-map, length-set, length-take, link_at, link_plan_at, link_stream, map, missing, missing_of, nat_tests, number_in, numbered_at, pairing_with, refl, sequence_number, side, slice_range, stamp_of, stays, suc, sym, tag_of, take, take-set-le, true, twin_deviation, twin_number, twin_of, twin_other, zero, ℕ, [], ◌*◌, ◌++◌, ◌+◌, ◌-◌, ◌<◌, ◌∙◌, ◌∷◌, ◌≡◌, ◌≤◌, AreFit, IsMissing}
 use Rattle.judge_laws.proofs.Line.{IsDelayed}
 use Rattle.judge_laws.proofs.Reading.{all_removed, find_says}
 use Rattle.judge_laws.proofs.Recording.{AreTwins, IsPacketTaken, IsSame, id_of, left_at, nearness_at, rest_after, rest_holds, rest_of, stream_next, twins_go_on}
@@ -118,9 +118,9 @@ module _ (origin : Net → ℕ) (jitter skew : ℕ) (nearness : Nearness) (gap :
   abbrev number : ℕ
   number = number_in e.frame
 
-  near_copies : (w : Wait) → IsWait origin jitter stream w → stays nearness tag number w ≡ true → is_twin tag number w ≡ true
+  near_copies : (w : Wait) → IsWait origin jitter stream w → is_twin nearness tag number w ≡ true
       → twin_other w.bytes e.frame ≡ None
-  near_copies w wait near twin = rw wait.bytes (copies_agree gap stream w.tag.net tag.net wait.e e is wait.copy copy
+  near_copies w wait twin = rw wait.bytes (copies_agree gap stream w.tag.net tag.net wait.e e is wait.copy copy
       (grind (arith, nat_tests, wait.number)) close.0 close.1)
     where
       close : (wait.e.at < e.at + 255 * gap) × (e.at < wait.e.at + 255 * gap)
@@ -128,8 +128,8 @@ module _ (origin : Net → ℕ) (jitter skew : ℕ) (nearness : Nearness) (gap :
           grind (arith, nat_tests, wait.delayed)
 
   met_by : (ws : List Wait) (p : Pairing) (found : Option Wait) → p.waiting ≡ kept nearness tag number ws → All (IsWait origin jitter stream) ws
-      → find (is_twin tag number) p.waiting ≡ found → (twin_deviation tag number e.frame p ≡ None)
-      × All (IsWait origin jitter stream) (pairing_with tag number e.frame p).waiting
+      → find (is_twin nearness tag number) p.waiting ≡ found → (twin_deviation nearness tag number e.frame p ≡ None)
+      × All (IsWait origin jitter stream) (pairing_with nearness tag number e.frame p).waiting
   unfolding twin_deviation pairing_with
   met_by ws p None left waits none =
       let wait = All-filter (stays nearness tag number) (IsWait origin jitter stream) ws waits in (
@@ -139,16 +139,15 @@ module _ (origin : Net → ℕ) (jitter skew : ℕ) (nearness : Nearness) (gap :
       )
   met_by ws p (Some w) left waits some =
       let wait = All-filter (stays nearness tag number) (IsWait origin jitter stream) ws waits in
-      let at = find_says (is_twin tag number) (kept nearness tag number ws) w (rw left at some) in
-      let near = All-contains (λ x. stays nearness tag number x ≡ true) _ w (filter_passes (stays nearness tag number) ws) at.0 in (
-        rw (some, near_copies w (All-contains (IsWait origin jitter stream) _ w wait at.0) near at.1) refl,
+      let at = find_says (is_twin nearness tag number) (kept nearness tag number ws) w (rw left at some) in (
+        rw (some, near_copies w (All-contains (IsWait origin jitter stream) _ w wait at.0) at.1) refl,
         rw (some, left) (all_removed (IsWait origin jitter stream) (kept nearness tag number ws) _ wait),
       )
 
   -- A frame differs from no twin, and what waits after it are records of copies.
   pub wait_met : (p : Pairing) → All (IsWait origin jitter stream) p.waiting
-      → (twin_deviation tag number e.frame (left_waiting nearness tag number p) ≡ None)
-      × All (IsWait origin jitter stream) (pairing_with tag number e.frame (left_waiting nearness tag number p)).waiting
+      → (twin_deviation nearness tag number e.frame (left_waiting nearness tag number p) ≡ None)
+      × All (IsWait origin jitter stream) (pairing_with nearness tag number e.frame (left_waiting nearness tag number p)).waiting
   unfolding left_waiting
   wait_met p waits = met_by p.waiting (left_waiting nearness tag number p) _ refl waits refl
 
@@ -195,10 +194,10 @@ copies_go_on plan origin options times told links net number packet e es rest fi
     pair both = twins k t.known.within both
 
     met : (both : is_both (link_plan_at plan.links k).networks ≡ true)
-        → (twin_deviation tag (number_in e.frame) e.frame (left_at options times tag e.frame (link_at links k)) ≡ None)
+        → (twin_deviation (nearness_at options net t.at times) tag (number_in e.frame) e.frame (left_at options times tag e.frame (link_at links k)) ≡ None)
         × All (IsWait origin options.jitter (pair both).stream)
-        (pairing_with tag (number_in e.frame) e.frame (left_at options times tag e.frame (link_at links k))).waiting
-    met both = wait_met origin options.jitter options.skew (nearness_at options t.at times) (bag_micros (link_plan_at plan.links k).bag)
+        (pairing_with (nearness_at options net t.at times) tag (number_in e.frame) e.frame (left_at options times tag e.frame (link_at links k))).waiting
+    met both = wait_met origin options.jitter options.skew (nearness_at options net t.at times) (bag_micros (link_plan_at plan.links k).bag)
         (pair both).stream tag e (pair both).is_stream refl (fit.skew k t.known.within both)
         (All-head (IsCopy (pair both).stream net) e _ (rw first at ((pair both).copies net))) t.delayed (link_at links k).twins (pair both).waits
 

@@ -1,6 +1,6 @@
 -- The twins of a link on both networks, where both got all and the recording is in the order of time: the frames that wait
 -- are those by which one network leads, and each finds its twin.
-use Rattle.judge_laws.proofs.Names.{A, All, All-push, All-tail, All-weaker, AllZip, AllZip-long, all_zipped_more, B, Entry, List, Nearness, Net, None, Option, Pairing, Tag, Wait, ap, append_assoc, arith, cases_Bool, entry, eq-eqb, false, filter, find, get_or, get_or-append-add, get_or-append_seam, get_or-map, get_or_append_left, get_or_default, is_lost, is_passed, is_twin, kept, lag_of, left_waiting, length, length-append, length-map, length-twin, map, nat_tests, number_in, pairing_with, refl, same_net, side, sym, true, twin_number, ℕ, [], ◌*◌, ◌++◌, ◌+◌, ◌<◌, ◌∙◌, ◌∷◌, ◌≡◌, ◌≤◌, ◌⊎◌}
+use Rattle.judge_laws.proofs.Names.{A, All, All-push, All-tail, All-weaker, AllZip, AllZip-long, all_zipped_more, B, Entry, List, Nearness, Net, None, Option, Pairing, Tag, Wait, ap, append_assoc, arith, cases_Bool, entry, eq-eqb, false, filter, find, get_or, get_or-append-add, get_or-append_seam, get_or-map, get_or_append_left, get_or_default, is_lost, is_near, is_passed, is_twin, kept, lag_of, left_waiting, length, length-append, length-map, length-twin, map, nat_tests, number_in, pairing_with, refl, same_net, side, sym, true, twin_number, ℕ, [], ◌*◌, ◌++◌, ◌+◌, ◌<◌, ◌∙◌, ◌∷◌, ◌≡◌, ◌≤◌, ◌⊎◌}
 use Rattle.judge_laws.proofs.Copies.{IsStream, far, lag_bound, own_at}
 use Rattle.judge_laws.proofs.Line.{IsDelayed}
 use Rattle.judge_laws.proofs.Reading.{zip_at}
@@ -82,13 +82,21 @@ later_apart gap stream done ahead coming c is whole = λ i spare inside same.
     (ap (λ (e : Entry). number_in e.frame) first ∙ same ∙ sym (ap (λ (e : Entry). number_in e.frame) second)) in
     rw (first, second) at apart
 
+-- a frame in the order of time is within the skew of one that waits and whose twin is still to come
+near_one : (origin : Net → ℕ) (jitter skew latest : ℕ) (nearness : Nearness) (tag : Tag) (lead : Net) (own : Entry) (w : Wait)
+    → nearness.skew ≡ 1000 * skew → 1000 * jitter + lag_of origin ≤ 1000 * skew → latest ≤ tag.at → IsWaitFor origin jitter lead own w → w.tag.at ≤ latest
+    → tag.at ≤ origin (other lead) + 1000 * (own.at + jitter) → is_near nearness w.tag.at tag.at ≡ true
+near_one origin jitter skew latest nearness tag lead own w is_skew fit later wait past late =
+    let lag = lag_bound origin (other lead) lead in grind (arith, nat_tests)
+
 -- what does not pass a frame that waits
 stays_one : (origin : Net → ℕ) (jitter skew latest : ℕ) (nearness : Nearness) (tag : Tag) (number : ℕ) (lead : Net) (own : Entry) (w : Wait)
     → nearness.skew ≡ 1000 * skew → 1000 * jitter + lag_of origin ≤ 1000 * skew → latest ≤ tag.at → IsWaitFor origin jitter lead own w → w.tag.at ≤ latest
     → tag.at ≤ origin (other lead) + 1000 * (own.at + jitter) → (same_net lead tag.net ≡ true → number_in own.frame ≡ number → ⊥)
     → is_passed nearness tag number w ≡ false
 stays_one origin jitter skew latest nearness tag number lead own w is_skew fit later wait past late unlike =
-    let lag = lag_bound origin (other lead) lead in grind (arith, nat_tests, cases_Bool)
+    let near = near_one origin jitter skew latest nearness tag lead own w is_skew fit later wait past late in
+    grind (arith, nat_tests, cases_Bool)
 
 all_stay : (origin : Net → ℕ) (jitter skew latest : ℕ) (nearness : Nearness) (tag : Tag) (number : ℕ) (lead : Net) (ahead : List Entry) (ws : List Wait)
     → nearness.skew ≡ 1000 * skew → 1000 * jitter + lag_of origin ≤ 1000 * skew → latest ≤ tag.at → AllZip (IsWaitFor origin jitter lead) ahead ws
@@ -102,25 +110,25 @@ all_stay origin jitter skew latest nearness tag number lead ahead ws is_skew fit
     (zip_at (IsWaitFor origin jitter lead) ahead ws i (entry 0 []) spare zip inside) (past i spare inside)
     (late i (entry 0 []) (omega arith)) (unlike i (entry 0 []) (omega arith))
 
-no_twin : (origin : Net → ℕ) (jitter : ℕ) (tag : Tag) (number : ℕ) (ahead : List Entry) (ws : List Wait)
-    → AllZip (IsWaitFor origin jitter tag.net) ahead ws → find (is_twin tag number) ws ≡ None
-no_twin origin jitter tag number [] [] zip = refl
-no_twin origin jitter tag number (o ∷ os) (w ∷ ws) zip =
-    rw (zip.0.net, same_self tag.net) (no_twin origin jitter tag number os ws zip.1)
-no_twin origin jitter tag number ahead ws zip = absurd zip
+no_twin : (origin : Net → ℕ) (jitter : ℕ) (nearness : Nearness) (tag : Tag) (number : ℕ) (ahead : List Entry) (ws : List Wait)
+    → AllZip (IsWaitFor origin jitter tag.net) ahead ws → find (is_twin nearness tag number) ws ≡ None
+no_twin origin jitter nearness tag number [] [] zip = refl
+no_twin origin jitter nearness tag number (o ∷ os) (w ∷ ws) zip =
+    rw (zip.0.net, same_self tag.net) (no_twin origin jitter nearness tag number os ws zip.1)
+no_twin origin jitter nearness tag number ahead ws zip = absurd zip
 
-first_met : (tag : Tag) (number : ℕ) (frame : List ℕ) (lead : Option ℕ) (w : Wait) (ws : List Wait) → is_twin tag number w ≡ true
-    → (pairing_with tag number frame (record { waiting = w ∷ ws; lead = lead })).waiting ≡ ws
+first_met : (nearness : Nearness) (tag : Tag) (number : ℕ) (frame : List ℕ) (lead : Option ℕ) (w : Wait) (ws : List Wait) → is_twin nearness tag number w ≡ true
+    → (pairing_with nearness tag number frame (record { waiting = w ∷ ws; lead = lead })).waiting ≡ ws
 unfolding pairing_with
-first_met tag number frame lead w ws is = grind arith
+first_met nearness tag number frame lead w ws is = grind arith
 
 -- none that waits is passed, and a network leads on
 pub record LeadsOn (stream : List Entry) (origin : Net → ℕ) (jitter : ℕ) (nearness : Nearness) (tag : Tag) (e : Entry) (next : Net → List Entry)
     (p : Pairing) : Type 0 where
   pub stay : AllStay nearness tag (number_in e.frame) p.waiting
   pub lead : Net
-  pub after : IsLedBy stream origin jitter next (pairing_with tag (number_in e.frame) e.frame (left_waiting nearness tag (number_in e.frame) p)).waiting lead
-  pub past : ArePast tag.at (pairing_with tag (number_in e.frame) e.frame (left_waiting nearness tag (number_in e.frame) p)).waiting
+  pub after : IsLedBy stream origin jitter next (pairing_with nearness tag (number_in e.frame) e.frame (left_waiting nearness tag (number_in e.frame) p)).waiting lead
+  pub past : ArePast tag.at (pairing_with nearness tag (number_in e.frame) e.frame (left_waiting nearness tag (number_in e.frame) p)).waiting
 
 -- the next frame
 module _ (stream : List Entry) (gap : ℕ) (origin : Net → ℕ) (jitter skew latest : ℕ) (nearness : Nearness) (tag : Tag) (p : Pairing) (e : Entry)
@@ -180,8 +188,8 @@ module _ (stream : List Entry) (gap : ℕ) (origin : Net → ℕ) (jitter skew l
       left : kept nearness tag number p.waiting ≡ p.waiting
       left = (stay_kept nearness tag number p.waiting stay).1
 
-      none : find (is_twin tag number) p.waiting ≡ None
-      none = no_twin origin jitter tag number ahead p.waiting waits
+      none : find (is_twin nearness tag number) p.waiting ≡ None
+      none = no_twin origin jitter nearness tag number ahead p.waiting waits
 
   -- the other network leads
   other_leads : (done ahead coming : List Entry) (ws : List Wait) → p.waiting ≡ ws → stream ≡ done ++ (ahead ++ coming)
@@ -207,16 +215,21 @@ module _ (stream : List Entry) (gap : ℕ) (origin : Net → ℕ) (jitter skew l
       number_is : number ≡ number_in o.frame
       number_is = same o (cc (lags))
 
-      twin : is_twin tag number w ≡ true
-      twin = rw (waits.0.net, same_other tag.net) (eq-eqb w.number number (waits.0.number ∙ sym number_is))
+      still : AreOpen (origin (other (other tag.net))) jitter tag.at (o ∷ os)
+      still = rw (other_other tag.net) (open_ahead (origin tag.net) jitter tag.at tag.net (rest tag.net) (o ∷ os) coming (first ∙ lags) (limits tag.net))
+
+      near : is_near nearness w.tag.at tag.at ≡ true
+      near = near_one origin jitter skew latest nearness tag (other tag.net) o w is_skew fit later waits.0 (past 0 w (omega arith)) (still 0 o (omega arith))
+
+      twin : is_twin nearness tag number w ≡ true
+      twin = rw (waits.0.net, same_other tag.net, near, eq-eqb w.number number (waits.0.number ∙ sym number_is)) refl
 
       stay : AllStay nearness tag number (w ∷ ws)
       stay = all_stay origin jitter skew latest nearness tag number (other tag.net) (o ∷ os) (w ∷ ws) is_skew fit later waits past
-          (rw (other_other tag.net) (open_ahead (origin tag.net) jitter tag.at tag.net (rest tag.net) (o ∷ os) coming (first ∙ lags) (limits tag.net)))
-          (λ i spare inside both. absurd (cc (both, same_other tag.net)))
+          still (λ i spare inside both. absurd (cc (both, same_other tag.net)))
 
-      left : (pairing_with tag number e.frame (left_waiting nearness tag number p)).waiting ≡ ws
-      left = rw (is, (stay_kept nearness tag number (w ∷ ws) stay).1) (first_met tag number e.frame p.lead w ws twin)
+      left : (pairing_with nearness tag number e.frame (left_waiting nearness tag number p)).waiting ≡ ws
+      left = rw (is, (stay_kept nearness tag number (w ∷ ws) stay).1) (first_met nearness tag number e.frame p.lead w ws twin)
   other_leads done ahead coming ws is whole leads lags waits past = absurd waits
 
   pub leads_on : (lead : Net) → IsLedBy stream origin jitter rest p.waiting lead → ArePast latest p.waiting → Leads

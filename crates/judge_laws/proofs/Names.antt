@@ -58,15 +58,16 @@ unfoldable pub use Rattle.judge.specs.CheckSequence.{check_sequence, with_byte}
 unfoldable pub use Rattle.judge.specs.Fields.{fields_of}
 pub use Rattle.judge.specs.Joining.{address_number, addresses_deviation, begun, end_deviation, head_after, head_of, head_with, ident_before, ident_of, if_known, is_of_port, is_towards, joined, misfit_if, next_of, port_of, right_sum}
 unfoldable pub use Rattle.judge.specs.Joining.{fragment_deviation, head_now, length_deviation, message_deviation}
-pub use Rattle.judge.specs.Judging.{Admitted, Judging, OnNet, after_timed, arrived, findings, first_port, found_from, found_given_up, found_left, found_timed, given_up, line_on, link_at, measure_of, nearness_of, new_link, no_times, placed, tag_of, times_with}
+pub use Rattle.judge.specs.Judging.{Admitted, Judging, OnNet, after_timed, arrived, findings, first_port, found_from, found_given_up, found_left, found_timed, given_up, line_on, link_at, measure_of, nearness_of, new_link, placed, tag_of}
 unfoldable pub use Rattle.judge.specs.Judging.{admitted, after_packet, found_of_arrival, found_on_link, found_with_end, found_with_packet, link_after, with_arrival, with_verdict}
 pub use Rattle.judge.specs.Lines.{delay_after, due_before, early_deviation, early_since, figures_with, new_line, new_sub, next_number, number_after, number_deviation, number_unless, other_sub, passed_by, port_deviation, settled, sub_at, sub_in as judge_sub, turn_deviation, turn_if}
 unfoldable pub use Rattle.judge.specs.Lines.{line_after, line_with, verdict}
 pub use Rattle.judge.specs.Rules.{has_four_more, interface_on, on_link, size_deviation}
 unfoldable pub use Rattle.judge.specs.Rules.{checked, frame_in, place_of, unchecked}
-pub use Rattle.judge.specs.Twins.{first_other, is_lost, is_passed, is_twin, kept, missing, missing_of, same_net, stays}
+pub use Rattle.judge.specs.Times.{no_times, other_span, span_with, times_with}
+pub use Rattle.judge.specs.Twins.{first_other, is_heard_after, is_heard_before, is_left, is_lost, is_near, is_passed, is_twin, kept, missing, missing_of, same_net, stays}
 unfoldable pub use Rattle.judge.specs.Twins.{found_at_end, found_missing, left_waiting, pairing_with, twin_deviation, twin_other}
-pub use Rattle.judge.specs.State.{Arrived, Fields, Flow, Head, Joining, Last, Line, Link, Measure, Nearness, PieceIn, Refused, Setting, Sub, Tag, Times, Verdict}
+pub use Rattle.judge.specs.State.{Arrived, Fields, Flow, Head, Joining, Last, Line, Link, Measure, Nearness, PieceIn, Refused, Setting, Span, Sub, Tag, Times, Verdict}
 pub use Rattle.judge.specs.Waiting.{Pairing, Wait}
 pub use Rattle.judge.specs.declared.finding.Finding.{Finding}
 pub use Rattle.judge.specs.declared.finding.FindingKind.TheVariants.{Missing}

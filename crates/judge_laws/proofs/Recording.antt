@@ -28,8 +28,8 @@ module _ (setting : Setting) (tag : Tag) (port : Option PortPlan) (frame : List 
   line_given_up number net = grind (arith, cases_Bool)
 
   -- the twins of a link on both networks
-  twins_after : is_both setting.plan.networks ≡ true → (link_after setting tag port frame link).twins
-      ≡ pairing_with tag (fields_of frame).number frame (left_waiting setting.nearness tag (fields_of frame).number link.twins)
+  pub twins_after : is_both setting.plan.networks ≡ true → (link_after setting tag port frame link).twins
+      ≡ pairing_with setting.nearness tag (fields_of frame).number frame (left_waiting setting.nearness tag (fields_of frame).number link.twins)
   unfolding link_after
   twins_after both = grind arith
 
@@ -41,7 +41,7 @@ module _ (setting : Setting) (tag : Tag) (port : Option PortPlan) (frame : List 
   found_none : (number : ℕ) (found : List Finding) → (fields_of frame).number ≡ number
       → verdict setting.measure port (arrived setting.measure tag port frame (line_on tag.net link)) (line_on tag.net link) ≡ faultless
       → size_deviation setting.plan (length frame) ≡ None
-      → (is_both setting.plan.networks ≡ true → twin_deviation tag number frame (left_waiting setting.nearness tag number link.twins) ≡ None)
+      → (is_both setting.plan.networks ≡ true → twin_deviation setting.nearness tag number frame (left_waiting setting.nearness tag number link.twins) ≡ None)
       → found_on_link setting tag port frame link found ≡ found_given_up setting tag number link found
   unfolding found_on_link with_verdict
   found_none number found is wrong sized same =
@@ -61,27 +61,27 @@ abbrev pub id_of : Plan → ℕ → ℕ
 id_of plan k = (link_plan_at plan.links k).id.0
 
 -- how near twins are to each other
-abbrev pub nearness_at : Options → ℕ → Times → Nearness
-nearness_at options at times = nearness_of (of_profile options) (times_with at times)
+abbrev pub nearness_at : Options → Net → ℕ → Times → Nearness
+nearness_at options net at times = nearness_of (of_profile options) (times_with net at times)
 
 -- the frames that wait for their twins when a frame comes
 abbrev pub left_at : Options → Times → Tag → List ℕ → Link → Pairing
-left_at options times tag frame link = left_waiting (nearness_at options tag.at times) tag (number_in frame) link.twins
+left_at options times tag frame link = left_waiting (nearness_at options tag.net tag.at times) tag (number_in frame) link.twins
 
 -- the frame of a link on both networks differs from no twin
 abbrev pub IsSame : Plan → Options → Times → ℕ → Tag → List ℕ → Link → Type 0
 IsSame plan options times k tag frame link = is_both (link_plan_at plan.links k).networks ≡ true
-    → twin_deviation tag (number_in frame) frame (left_at options times tag frame link) ≡ None
+    → twin_deviation (nearness_at options tag.net tag.at times) tag (number_in frame) frame (left_at options times tag frame link) ≡ None
 
 -- by what a link's frames are judged
-abbrev pub setting_at : Plan → Options → ℕ → Times → ℕ → Setting
-setting_at plan options at times k =
-    record { plan = link_plan_at plan.links k; measure = measure_at plan k options; nearness = nearness_at options at times }
+abbrev pub setting_at : Plan → Options → Net → ℕ → Times → ℕ → Setting
+setting_at plan options net at times k =
+    record { plan = link_plan_at plan.links k; measure = measure_at plan k options; nearness = nearness_at options net at times }
 
 -- a frame of the link at a place
 module _ (plan : Plan) (options : Options) (times : Times) (links : List Link) (k : ℕ) (tag : Tag) (frame : List ℕ) where
   abbrev pub new_link_at : Link
-  new_link_at = link_after (setting_at plan options tag.at times k) tag (port_at plan k frame) frame (link_at links k)
+  new_link_at = link_after (setting_at plan options tag.net tag.at times k) tag (port_at plan k frame) frame (link_at links k)
 
   abbrev pub new_links : List Link
   new_links = slice_set links k new_link_at
@@ -105,17 +105,17 @@ module _ (plan : Plan) (options : Options) (times : Times) (links : List Link) (
 module _ (plan : Plan) (options : Options) (times : Times) (told : Bool) (links : List Link) (net : Net) (number at : ℕ) (packet : Recorded)
     (frame : List ℕ) (k : ℕ) (timed : packet.at ≡ Some at) (is : frame_in (of_profile options) packet ≡ Ok frame)
     (placed : place_of plan net frame ≡ Ok k) where
-  admitted_is : admitted net packet (judge_of plan options (times_with at times) told links) ≡ Ok (record { place = k; frame = frame })
+  admitted_is : admitted net packet (judge_of plan options (times_with net at times) told links) ≡ Ok (record { place = k; frame = frame })
   unfolding admitted
   admitted_is = rw (is, placed) refl
 
   pub after_is : after_packet net number packet (judge_of plan options times told links)
-      ≡ judge_of plan options (times_with at times) told (new_links plan options times links k (tag_of net number at) frame)
+      ≡ judge_of plan options (times_with net at times) told (new_links plan options times links k (tag_of net number at) frame)
   unfolding after_packet with_arrival
   after_is = ap (after_timed net number packet (judge_of plan options times told links)) timed ∙ rw admitted_is refl
 
   pub found_is : (found : List Finding) → found_with_packet net number packet (judge_of plan options times told links) found
-      ≡ found_on_link (setting_at plan options at times k) (tag_of net number at) (port_at plan k frame) frame (link_at links k) found
+      ≡ found_on_link (setting_at plan options net at times k) (tag_of net number at) (port_at plan k frame) frame (link_at links k) found
   unfolding found_with_packet found_of_arrival
   found_is found = ap (found_timed net number packet (judge_of plan options times told links) found) timed ∙ rw admitted_is refl
 
@@ -151,15 +151,15 @@ pub record IsPacketTaken (plan : Plan) (origin : Net → ℕ) (options : Options
   pub known : IsKnown plan.links net e.frame
   pub unlike : (j : ℕ) → j < length plan.links → j ≢ known.k → link_in e.frame ≢ id_of plan j
   pub new : List Link
-  pub both : is_both (link_plan_at plan.links known.k).networks ≡ true → (link_at new known.k).twins ≡ pairing_with (tag_of net number at)
-      (number_in e.frame) e.frame (left_at options times (tag_of net number at) e.frame (link_at links known.k))
+  pub both : is_both (link_plan_at plan.links known.k).networks ≡ true → (link_at new known.k).twins ≡ pairing_with (nearness_at options net at times)
+      (tag_of net number at) (number_in e.frame) e.frame (left_at options times (tag_of net number at) e.frame (link_at links known.k))
   pub alone : is_both (link_plan_at plan.links known.k).networks ≡ false → (link_at new known.k).twins ≡ (link_at links known.k).twins
   pub others : (j : ℕ) → j ≢ known.k → link_at new j ≡ link_at links j
-  pub after : after_packet net number packet (judge_of plan options times told links) ≡ judge_of plan options (times_with at times) told new
+  pub after : after_packet net number packet (judge_of plan options times told links) ≡ judge_of plan options (times_with net at times) told new
   pub going : IsGoing plan origin options new (rest_after net es rest)
   pub found : (found : List Finding) → IsSame plan options times known.k (tag_of net number at) e.frame (link_at links known.k)
       → found_with_packet net number packet (judge_of plan options times told links) found
-      ≡ found_given_up (setting_at plan options at times known.k) (tag_of net number at) (number_in e.frame) (link_at links known.k) found
+      ≡ found_given_up (setting_at plan options net at times known.k) (tag_of net number at) (number_in e.frame) (link_at links known.k) found
 
 pub packet_taken : (plan : Plan) (origin : Net → ℕ) (options : Options) (times : Times) (told : Bool) (links : List Link) (net : Net)
     (number : ℕ) (packet : Recorded) (e : Entry) (es : List Entry) (rest : Net → List Entry) → IsPlan plan
@@ -204,7 +204,7 @@ packet_taken plan origin options times told links net number packet e es rest va
     tag = tag_of net number record_of.at
 
     setting : Setting
-    setting = setting_at plan options record_of.at times k
+    setting = setting_at plan options net record_of.at times k
 
     delayed : IsDelayed (origin net) options.jitter e.at record_of.at
     delayed = record { least = record_of.least; most = record_of.most }

@@ -30,16 +30,16 @@ timed_none : (net : Net) (number : ℕ) (packet : Recorded) (j : Judging) (found
 unfolding found_of_arrival
 timed_none net number packet j found at none = grind (arith, nat_tests, nil_begins, admitted, link_none, cases_Bool)
 
-end_none : (nearness : Nearness) (at : ℕ) (plans : List LinkPlan) (links : List Link) (found : List Finding)
-    → found_left nearness at plans links found ≡ [] → found ≡ []
+pub end_none : (nearness : Nearness) (plans : List LinkPlan) (links : List Link) (found : List Finding)
+    → found_left nearness plans links found ≡ [] → found ≡ []
 unfolding found_at_end
-end_none nearness at [] links found none = none
-end_none nearness at (plan ∷ plans) [] found none = none
-end_none nearness at (plan ∷ plans) (link ∷ links) found none = nil_begins found _ (end_none nearness at plans links _ none)
+end_none nearness [] links found none = none
+end_none nearness (plan ∷ plans) [] found none = none
+end_none nearness (plan ∷ plans) (link ∷ links) found none = nil_begins found _ (end_none nearness plans links _ none)
 
 pub grows : (ps : List OnNet) (j : Judging) (found : List Finding) → found_from ps j found ≡ [] → found ≡ []
 unfolding found_with_end found_with_packet
-grows [] j found none = end_none _ _ j.plan.links j.links found none
+grows [] j found none = end_none _ j.plan.links j.links found none
 grows (p ∷ ps) j found none = timed_none p.net p.number p.packet j found p.packet.at
     (grows ps (after_packet p.net p.number p.packet j) (found_with_packet p.net p.number p.packet j found) none)
 
@@ -64,7 +64,7 @@ pub record IsPacketSilent (plan : Plan) (options : Options) (times : Times) (lin
 -- a packet without a finding has a time, and is admitted
 seen : (plan : Plan) (options : Options) (times : Times) (links : List Link) (net : Net) (number : ℕ) (packet : Recorded) (time : Option ℕ)
     → found_timed net number packet (judge_of plan options times false links) [] time ≡ [] → (at : ℕ) × (time ≡ Some at) × (it : Admitted)
-    × (admitted net packet (judge_of plan options (times_with at times) false links) ≡ Ok it)
+    × (admitted net packet (judge_of plan options (times_with net at times) false links) ≡ Ok it)
 seen plan options times links net number packet time none = grind (arith, nat_tests)
 
 admitted_says : (plan : Plan) (net : Net) (frame : Result (List ℕ) Refused) (it : Admitted) → placed plan net frame ≡ Ok it
@@ -84,7 +84,7 @@ packet_silent plan options times links net number packet plain none =
     let profile = (layout_is_profile packet.bytes).0 says.1 in
     let whole : frame_in (of_profile options) packet ≡ Ok packet.bytes = rw says.0 at is.0 in
     let placed : place_of plan net packet.bytes ≡ Ok k = rw says.0 at is.1 in
-    let silent = link_none (setting_at plan options at times k) (tag_of net number at) (port_at plan k packet.bytes) packet.bytes (link_at links k) []
+    let silent = link_none (setting_at plan options net at times k) (tag_of net number at) (port_at plan k packet.bytes) packet.bytes (link_at links k) []
     (sym (found_is plan options times false links net number at packet packet.bytes k it.1 whole placed []) ∙ none) in
     record {
       at = at;
@@ -182,7 +182,7 @@ module _ (plan : Plan) (options : Options) (times : Times) (links : List Link) (
 
 -- ---- a recording
 
-next_none : (ps : List OnNet) (j next : Judging) (found : List Finding) → j ≡ next → found ≡ [] → found_from ps j found ≡ []
+pub next_none : (ps : List OnNet) (j next : Judging) (found : List Finding) → j ≡ next → found ≡ [] → found_from ps j found ≡ []
     → found_from ps next [] ≡ []
 next_none ps j next found same first none = grind (arith)
 
@@ -215,7 +215,7 @@ are_silent plan options times links (p ∷ ps) valid plain size octets none =
     let now : List Link = links_now plan options times links p.net p.number p.packet valid size its q in
     let r : Recorded = let_go plan options times links p.net p.number p.packet valid size its q in
     let after = after_is plan options times false links p.net p.number q.at p.packet p.packet.bytes q.k q.timed q.whole q.placed in
-    let later = are_silent plan options (times_with q.at times) now ps valid plain (length-set links q.k _ ∙ size)
+    let later = are_silent plan options (times_with p.net q.at times) now ps valid plain (length-set links q.k _ ∙ size)
     (All-tail (λ (p : OnNet). IsOctets p.packet) p ps octets) (next_none ps _ _ _ after first none) in
     record {
       list = list_with p.net r later.list;

@@ -24,7 +24,7 @@ pub record IsPaired (plan : Plan) (origin : Net → ℕ) (options : Options) (la
 pub time_is : (packet : Recorded) (at : ℕ) → packet.at ≡ Some at → time_of packet ≡ at
 time_is packet at told = ap (λ (time : Option ℕ). unwrap_or time 0) told
 
-in_order_all : (latest : ℕ) (ps : List OnNet) → IsInOrder latest ps → All (λ (p : OnNet). latest ≤ time_of p.packet) ps
+pub in_order_all : (latest : ℕ) (ps : List OnNet) → IsInOrder latest ps → All (λ (p : OnNet). latest ≤ time_of p.packet) ps
 in_order_all latest [] order = All-nil (λ (p : OnNet). latest ≤ time_of p.packet)
 in_order_all latest (p ∷ ps) order = All-cons (λ (q : OnNet). latest ≤ time_of q.packet) p ps order.0
     (All-weaker (λ (q : OnNet). time_of p.packet ≤ time_of q.packet) (λ (q : OnNet). latest ≤ time_of q.packet) (λ q up. omega (arith, order.0)) ps
@@ -68,10 +68,10 @@ module _ (plan : Plan) (origin : Net → ℕ) (options : Options) (times : Times
   pair : IsBoth → IsLed (bag_micros (link_plan_at plan.links k).bag) origin options.jitter latest (rest_of plan k rest) (link_at links k).twins.waiting
   pair both = (pairs k t.known.within).both both
 
-  led : (both : IsBoth) → LeadsOn (pair both).stream origin options.jitter (nearness_at options t.at times) (tag_of net number t.at) e
+  led : (both : IsBoth) → LeadsOn (pair both).stream origin options.jitter (nearness_at options net t.at times) (tag_of net number t.at) e
       (rest_of plan k (rest_after net es rest)) (link_at links k).twins
   led both = leads_on (pair both).stream (bag_micros (link_plan_at plan.links k).bag) origin options.jitter options.skew latest
-      (nearness_at options t.at times) (tag_of net number t.at) (link_at links k).twins e (link_stream (id_of plan k) es) (rest_of plan k rest)
+      (nearness_at options net t.at times) (tag_of net number t.at) (link_at links k).twins e (link_stream (id_of plan k) es) (rest_of plan k rest)
       (rest_of plan k (rest_after net es rest)) (pair both).is_stream refl wide (fit.skew k t.known.within both) up t.delayed
       (λ m. All-filter (λ (e : Entry). nat_eq (link_in e.frame) (id_of plan k))
       (λ (e : Entry). t.at ≤ origin m + 1000 * (e.at + options.jitter)) (rest m) (limits m)) t.known.size
@@ -81,8 +81,8 @@ module _ (plan : Plan) (origin : Net → ℕ) (options : Options) (times : Times
 
   -- nothing is given up at it
   pub given_up_none : (found : List Finding)
-      → found_given_up (setting_at plan options t.at times k) (tag_of net number t.at) (number_in e.frame) (link_at links k) found ≡ found
-  given_up_none found = none_given_up (setting_at plan options t.at times k) (tag_of net number t.at) (number_in e.frame) (link_at links k) found
+      → found_given_up (setting_at plan options net t.at times k) (tag_of net number t.at) (number_in e.frame) (link_at links k) found ≡ found
+  given_up_none found = none_given_up (setting_at plan options net t.at times k) (tag_of net number t.at) (number_in e.frame) (link_at links k) found
       (λ both. (led both).stay)
 
   own_pair : IsPaired plan origin options t.at k (rest_of plan k (rest_after net es rest)) (link_at t.new k).twins
@@ -118,13 +118,13 @@ module _ (plan : Plan) (origin : Net → ℕ) (options : Options) (times : Times
 
 -- ---- the end
 
-none_left : (nearness : Nearness) (at : ℕ) (plans : List LinkPlan) (links : List Link) (found : List Finding)
-    → All (λ (link : Link). link.twins.waiting ≡ []) links → found_left nearness at plans links found ≡ found
+none_left : (nearness : Nearness) (plans : List LinkPlan) (links : List Link) (found : List Finding)
+    → All (λ (link : Link). link.twins.waiting ≡ []) links → found_left nearness plans links found ≡ found
 unfolding found_at_end
-none_left nearness at [] links found all = refl
-none_left nearness at (plan ∷ plans) [] found all = refl
-none_left nearness at (plan ∷ plans) (link ∷ links) found all =
-    rw (all 0 link (omega arith)) (rw (append-nil found) (none_left nearness at plans links found
+none_left nearness [] links found all = refl
+none_left nearness (plan ∷ plans) [] found all = refl
+none_left nearness (plan ∷ plans) (link ∷ links) found all =
+    rw (all 0 link (omega arith)) (rw (append-nil found) (none_left nearness plans links found
     (All-tail (λ (link : Link). link.twins.waiting ≡ []) link links all)))
 
 nothing_waits : (origin : Net → ℕ) (jitter : ℕ) (lead net : Net) (ahead coming : List Entry) (ws : List Wait) → [] ≡ map (side net) (ahead ++ coming)
@@ -169,7 +169,7 @@ goes_silent : (plan : Plan) (origin : Net → ℕ) (options : Options) (times : 
     → AreAllRecorded origin options rest recording → found_from recording (judge_of plan options times told links) found ≡ found
 unfolding found_with_end
 goes_silent plan origin options times told links [] rest latest found valid fit wide is twins pairs order zip =
-    none_left _ _ plan.links links found
+    none_left _ plan.links links found
     (none_waits plan origin options latest links rest is.size pairs
     (λ net. all_came (origin net) options (rest net) (zip_of (origin net) options (rest net) [] (zip net))))
 goes_silent plan origin options times told links (p ∷ ps) rest latest found valid fit wide is twins pairs order zip =
@@ -183,7 +183,7 @@ goes_silent plan origin options times told links (p ∷ ps) rest latest found va
     (zip_of (origin m) options (rest m) (packets_of m (p ∷ ps)) (zip m)) in
     let given = given_up_none plan origin options times told links p.net p.number p.packet next.first next.later rest latest fit wide next.is t up
     limits pairs found in
-    rw (t.after, t.found found met.0, given) (goes_silent plan origin options (times_with t.at times) told t.new ps (rest_after p.net next.later rest)
+    rw (t.after, t.found found met.0, given) (goes_silent plan origin options (times_with p.net t.at times) told t.new ps (rest_after p.net next.later rest)
     t.at found valid fit wide t.going met.1
     (pairs_after plan origin options times told links p.net p.number p.packet next.first next.later rest latest fit wide next.is t up limits pairs)
     (rw time at order.1) (recorded_after origin options next.later (λ net. []) rest p ps zip next.going))

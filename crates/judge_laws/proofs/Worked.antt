@@ -158,7 +158,7 @@ worked = (
     lag_nothing = refl;
     lag = record { premise = λ up. absurd (omega arith); conclusion = λ none. absurd (cc (none)) };
     order = record {
-      premise = λ is. absurd (let down = is.in_order.1.1.0 in omega arith);
+      premise = λ is. absurd (let down = is.in_order.1.1.1.0 in omega arith);
       conclusion = λ none. absurd (cc (none));
     };
     skew = record { premise = λ up. absurd (omega arith); conclusion = λ none. absurd (cc (none)) };

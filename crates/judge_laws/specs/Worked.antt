@@ -1,8 +1,11 @@
 -- Worked recordings of the demonstration plan: two messages of one byte, a frame each, sent to both networks.
 use Rattle.std.specs.Prelude.{◌≡◌, ◌+◌, ◌*◌, ◌≤◌, ℕ, true, false, List, [], ◌∷◌, All, None, Some, length}
-use Rattle.afdx_plan.specs.Demo.{demo_plan}
+use Rattle.afdx_plan.specs.Demo.{demo_plan, demo_port}
 use Rattle.afdx_frame.specs.declared.net.Net.{Net}
 use Rattle.afdx_frame.specs.declared.net.Net.TheVariants.{A, B}
+use Rattle.afdx_frame.specs.Cutting.{piece_at}
+use Rattle.afdx_frame.specs.Frame.{frame_of}
+use Rattle.redundant_mux.specs.Lines.{Entry, entry}
 use Rattle.afdx_legal.specs.Worked.{one_frame}
 use Rattle.afdx_laws.specs.Rows.{BothFail}
 use Rattle.afdx_laws.specs.WorkedPlan.{pair_at, second_frame, two_accepted, two_entries}
@@ -83,14 +86,22 @@ pub record NeedsItsPremises : Type 0 where
 
 -- ---- nothing found
 
--- both frames of network A, and then both of B
-abbrev pub one_by_one : List OnNet
-one_by_one = packet A 0 (one_frame A) ∷ packet A 1000000 (second_frame A)
-    ∷ packet B 0 (one_frame B) ∷ packet B 1000000 (second_frame B) ∷ []
+-- the frame of a third message
+abbrev pub third_frame : Net → List ℕ
+third_frame net = frame_of 1 demo_port (3 ∷ []) 2 (piece_at 1479 9 0) net 2
 
--- network B alone lags by 100 microseconds
+abbrev pub three_entries : Net → List Entry
+three_entries net = entry 0 (one_frame net) ∷ entry 1000 (second_frame net) ∷ entry 2000 (third_frame net) ∷ []
+
+-- network A's three frames, and then network B's
+abbrev pub one_by_one : List OnNet
+one_by_one = packet A 0 (one_frame A) ∷ packet A 1000000 (second_frame A) ∷ packet A 2000000 (third_frame A)
+    ∷ packet B 0 (one_frame B) ∷ packet B 1000000 (second_frame B) ∷ packet B 2000000 (third_frame B) ∷ []
+
+-- the first frame on network B is delayed by 100 microseconds
 abbrev pub lagging : List OnNet
-lagging = packet A 0 (one_frame A) ∷ packet B 100000 (one_frame B) ∷ []
+lagging = packet A 0 (one_frame A) ∷ packet B 100000 (one_frame B)
+    ∷ packet A 1000000 (second_frame A) ∷ packet B 1000000 (second_frame B) ∷ []
 
 abbrev pub delayed : Options
 delayed = record strict { jitter = 100 }
@@ -119,7 +130,7 @@ pub record FindsNoneOfAll : Type 0 where
   pub lag_near : AreNear (with_skew 100) behind
   pub lag_nothing : findings demo_plan (with_skew 100) apart_by_100 ≡ []
   pub lag : BothFail (AreNear (with_skew 99) behind) (findings demo_plan (with_skew 99) apart_by_100 ≡ [])
-  pub order : BothFail (IsWhole demo_plan (from 0) strict (two_entries A) (two_entries B) one_by_one)
+  pub order : BothFail (IsWhole demo_plan (from 0) strict (three_entries A) (three_entries B) one_by_one)
       (findings demo_plan strict one_by_one ≡ [])
   pub skew : BothFail (AreNear delayed (from 0)) (findings demo_plan delayed lagging ≡ [])
 
