@@ -119,16 +119,30 @@ def no_capture() -> list[str]:
     return faults + faults_of("no packets", plan, [written([], PLAIN, rng)], none, [])
 
 
+def twins_at(at: int, place: int, more: int = 0) -> list[Packet]:
+    """The packets of both networks at a time in nanoseconds, of the frame at a place of the demonstration's link. Its sequence
+    number is `more` further."""
+    first, number = bytes.fromhex(trying.ONE_FRAME.split()[2]), place + more
+    ident = (4 * place % 65_536).to_bytes(2, "big")
+    data = breaking.summed(breaking.put(first[:-1], 18, ident)) + bytes([(number - 1) % 255 + 1 if number else 0])
+    return [Packet(net, at, len(it), it) for net, it in (("A", data), ("B", breaking.put(data, 11, b"\x40")))]
+
+
+def fallen_silent() -> list[str]:
+    """What is wrong with the verdicts on a link of which network B has only the first 100 frames. Of 255 more on network A any
+    twin may still come, and of 500 more the first 245 are Missing: their numbers come again."""
+    faults = []
+    for more, lost in ((255, 0), (500, 245)):
+        packets = [it for place in range(100 + more) for it in twins_at(1000 * MICRO * place, place) if place < 100 or it.network == "A"]
+        wanted = [("Missing", "", 201 + k, "A") for k in range(lost)]
+        faults += faults_of(f"{more} more", trying.DEMO, [written(packets, PLAIN, random.Random(0))], Options(), wanted)
+    return faults
+
+
 def long() -> list[str]:
     """What is wrong with the verdict on 200,000 packets of one link, whose numbers go on with another one than the next from
     packet 150,001 on."""
-    first, packets = bytes.fromhex(trying.ONE_FRAME.split()[2]), []
-    for place in range(100_000):
-        number = place + (place >= 75_000)
-        ident = (4 * place % 65_536).to_bytes(2, "big")
-        data = breaking.summed(breaking.put(first[:-1], 18, ident)) + bytes([(number - 1) % 255 + 1 if number else 0])
-        twin = breaking.put(data, 11, b"\x40")
-        packets += [Packet(net, 1000 * MICRO * place, len(it), it) for net, it in (("A", data), ("B", twin))]
+    packets = [it for place in range(100_000) for it in twins_at(1000 * MICRO * place, place, int(place >= 75_000))]
     # (75,000 is 30 more than a multiple of 255; the model would take a minute)
     wanted = "".join(f"{150_001 + k} {net} 75.000000000 vl 1 Number: seen 31, wanted 30\n" for k, net in enumerate("AB"))
     wanted += "2 findings: Number 2\ncapture 1: 200000 packets\n"

@@ -12,6 +12,7 @@ import trials
 import trying
 import verdict
 from captures import PLAIN, Packet, random_form, written
+from edges import twins_at
 from planting import text_of
 from recordings import MICRO, by_time, recorded
 from trials import changed, faults_of, run_judge
@@ -177,10 +178,7 @@ def live() -> list[str]:
 
 def every() -> list[str]:
     """What is wrong with the rows each second of a recording."""
-    first, packets = bytes.fromhex(trying.ONE_FRAME.split()[2]), []
-    for k in range(50):
-        data = breaking.summed(breaking.put(first[:-1], 18, (4 * k).to_bytes(2, "big"))) + bytes([(k - 1) % 255 + 1 if k else 0])
-        packets += [Packet(net, 100_000 * MICRO * k, len(it), it) for net, it in (("A", data), ("B", breaking.put(data, 11, b"\x40")))]
+    packets = [it for k in range(50) for it in twins_at(100_000 * MICRO * k, k)]
     done = run_judge(trying.DEMO, [written(packets, PLAIN, random.Random(0))], Options(), more=["--every", "2"])
     at = re.findall(r"(?m)^at (\S+): no findings$", done[1])
     rows = re.findall(r"(?m)^    1   A +(\d+)", done[1])
