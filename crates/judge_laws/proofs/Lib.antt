@@ -1,7 +1,9 @@
 pub mod Begin
 pub mod Copies
+pub mod Following
 pub mod Leading
 pub mod Line
+pub mod Meeting
 pub mod Message
 mod Names
 pub mod Pieces
@@ -11,5 +13,7 @@ pub mod Recording
 pub mod Releases
 pub mod SentTo
 pub mod Silent
+pub mod Wanted
 pub mod Whole
 pub mod Worked
+pub mod WorkedTwins

@@ -4,7 +4,7 @@ pub use Rattle.std.proofs.Math.Seq.{drop-cons, get_or-append_right, get_or-appen
 pub use Rattle.std.proofs.lemmas.Bool.{both_ways, cases_Bool, cases_eq, cases_lt, eq-eqb, eqb-true, le-ltb, lt-ltb, ne_eqb}
 pub use Rattle.std.proofs.lemmas.Bool.Decides.{nat_tests}
 pub use Rattle.std.proofs.lemmas.Grind.{same_number_lists}
-pub use Rattle.std.proofs.lemmas.List.{drop-drop, drop-set-lt, drop_at, get_or-append-add, get_or-drop, get_or-map, get_or-replicate, get_or-set_other, get_or-set_same, get_or-take, get_or_append_left, get_or_default, get_or_past, length-drop, length-map, length-replicate, length-take, map-append, take-append-drop, take-set-le, take_all, take_at, take_more}
+pub use Rattle.std.proofs.lemmas.List.{drop-drop, drop-set, drop-set-lt, drop_at, drop_more, get_or-append-add, get_or-drop, get_or-map, get_or-replicate, get_or-set_other, get_or-set_same, get_or-take, get_or_append_left, get_or_default, get_or_past, length-drop, length-map, length-replicate, length-take, map-append, take-append-drop, take-set, take-set-le, take_all, take_at, take_more}
 pub use Rattle.std.proofs.lemmas.List.Sums.{fails_before_first, position_or_len_is}
 pub use Rattle.std.proofs.lemmas.List.Elements.{All-append, All-cons, All-contains, All-drop, All-filter, All-from_get_or, All-from_recursion, All-head, All-map, All-nil, All-push, All-tail, All-take, All-weaker, filter_passes}
 pub use Rattle.std.proofs.lemmas.List.Filters.{length-filter_both}
@@ -12,7 +12,7 @@ pub use Rattle.std.proofs.Math.Path.{fun_ext}
 pub use Rattle.std.proofs.lemmas.List.Quantifiers.{position-Some}
 pub use Rattle.std.proofs.lemmas.Simd.{map-map}
 pub use Rattle.std.proofs.lemmas.Slice.Zip.{AllZip-long, all_zipped_more}
-pub use Rattle.std.specs.List.{AllZip, list_all}
+pub use Rattle.std.specs.List.{AllZip, list_all, position_or_len}
 pub use Rattle.std.specs.Prelude.{All, Contains, IfSome, filter, find, if◌then◌else◌, min, nat_eq, nat_lt, position, remove, slice_range, slice_set, unwrap_or, ◌&&◌}
 pub use Rattle.afdx_plan.proofs.DemoPlan.{demo_valid}
 pub use Rattle.afdx_plan.specs.Address.{destination_address, destination_of, two_bytes}
@@ -65,7 +65,7 @@ unfoldable pub use Rattle.judge.specs.Lines.{line_after, line_with, verdict}
 pub use Rattle.judge.specs.Rules.{has_four_more, interface_on, on_link, size_deviation}
 unfoldable pub use Rattle.judge.specs.Rules.{checked, frame_in, place_of, unchecked}
 pub use Rattle.judge.specs.Times.{no_times, other_span, span_with, times_with}
-pub use Rattle.judge.specs.Twins.{first_other, is_heard_after, is_heard_before, is_left, is_lost, is_near, is_passed, is_twin, kept, missing, missing_of, same_net, stays}
+pub use Rattle.judge.specs.Twins.{apart, first_other, is_heard_after, is_heard_before, is_left, is_lost, is_near, is_passed, is_twin, kept, missing, missing_of, same_net, stays}
 unfoldable pub use Rattle.judge.specs.Twins.{found_at_end, found_missing, left_waiting, pairing_with, twin_deviation, twin_other}
 pub use Rattle.judge.specs.State.{Arrived, Fields, Flow, Head, Joining, Last, Line, Link, Measure, Nearness, PieceIn, Refused, Setting, Span, Sub, Tag, Times, Verdict}
 pub use Rattle.judge.specs.Waiting.{Pairing, Wait}
@@ -80,5 +80,6 @@ pub use Rattle.judge_laws.specs.Frames.{IsRecordedAs}
 pub use Rattle.judge_laws.specs.NothingFound.{time_of, IsInOrder, NothingFound, IsWhole}
 pub use Rattle.judge_laws.specs.NothingMissed.{EndsWhole, IsExplained, IsOctets, IsReleased, IsSentTo, IsStrict, NothingMissed, entry_of, frames_of, sent_to}
 pub use Rattle.judge_laws.specs.Releases.{AreApart, AreExplained, AreExplainedAfter, EarlyExactly, Heard, IsReleaseOf, NoneIsEarly, is_after, times_of}
+pub use Rattle.judge_laws.specs.TwinsWanted.{HasTwin, IsCommon, IsOnBoth, IsOnOther, TwinsWanted}
 pub use Rattle.std.specs.Option.{IsSome}
-pub use Rattle.judge_laws.specs.Worked.{FindsNoneOfAll, FindsNothing, MissesNothing, NeedsItsPremises, apart_by_100, behind, both_at, from, half_gap, late, loose, packet, seconds_at, strict, with_check, with_skew}
+pub use Rattle.judge_laws.specs.Worked.{FindsNoneOfAll, FindsNothing, FindsTwins, MissesNothing, NeedsItsPremises, NeedsTheTime, apart_by_100, behind, both_at, from, begun_later, first_alone, half_gap, late, loose, middle, packet, seconds_at, strict, third_frame, three_on_both, turned, with_check, with_skew}

@@ -3,4 +3,5 @@ pub mod NoFalseAlarm
 pub mod NothingFound
 pub mod NothingMissed
 pub mod Releases
+pub mod TwinsWanted
 pub mod Worked

@@ -12,8 +12,9 @@ use Rattle.afdx_laws.specs.WorkedPlan.{pair_at, second_frame, two_accepted, two_
 use Rattle.judge.specs.Judging.{OnNet, findings}
 use Rattle.judge.specs.declared.judge.Options.{Options}
 use Rattle.judge_laws.specs.NoFalseAlarm.{AreFit, IsMissing, IsRecording, IsSent, lag_of, packets_of}
-use Rattle.judge_laws.specs.NothingFound.{IsWhole}
+use Rattle.judge_laws.specs.NothingFound.{IsInOrder, IsWhole}
 use Rattle.judge_laws.specs.NothingMissed.{IsExplained, IsSentTo, IsStrict, sent_to}
+use Rattle.judge_laws.specs.TwinsWanted.{HasTwin, IsCommon}
 
 -- nothing is allowed for
 abbrev pub strict : Options
@@ -146,3 +147,44 @@ pub record MissesNothing : Type 0 where
   pub late_nothing : findings demo_plan late (seconds_at 1000000) ≡ []
   pub late_missed : BothFail (IsStrict demo_plan late (seconds_at 1000000))
       (IsExplained demo_plan late A (packets_of A (seconds_at 1000000)))
+
+-- ---- twins wanted
+
+-- three messages on both networks
+abbrev pub three_on_both : List OnNet
+three_on_both = packet A 0 (one_frame A) ∷ packet B 0 (one_frame B)
+    ∷ packet A 1000000 (second_frame A) ∷ packet B 1000000 (second_frame B)
+    ∷ packet A 2000000 (third_frame A) ∷ packet B 2000000 (third_frame B) ∷ []
+
+abbrev pub middle : OnNet
+middle = packet A 1000000 (second_frame A)
+
+-- network B was recorded from the second frame on
+abbrev pub begun_later : List OnNet
+begun_later = packet A 0 (one_frame A) ∷ packet A 1000000 (second_frame A) ∷ packet B 1000000 (second_frame B) ∷ []
+
+abbrev pub first_alone : OnNet
+first_alone = packet A 0 (one_frame A)
+
+-- network A's two frames, and then network B's, of which the first came earlier than both
+abbrev pub turned : List OnNet
+turned = packet A 1000000 (second_frame A) ∷ packet A 2000000 (third_frame A)
+    ∷ packet B 0 (second_frame B) ∷ packet B 2000000 (third_frame B) ∷ []
+
+-- Nothing is found in three messages, and the frame of the second has a twin: both networks were recorded before it and
+-- after it.
+pub record FindsTwins : Type 0 where
+  pub order : IsInOrder 0 three_on_both
+  pub nothing : findings demo_plan strict three_on_both ≡ []
+  pub common : IsCommon strict three_on_both middle
+  pub twin : HasTwin strict three_on_both middle
+
+-- Two premises are needed. Nothing is found either if one network was recorded later, but the frame before has no twin.
+-- Out of the order of time a frame may come before the other network's earlier ones, and lack its twin too.
+pub record NeedsTheTime : Type 0 where
+  pub later_order : IsInOrder 0 begun_later
+  pub later_nothing : findings demo_plan late begun_later ≡ []
+  pub later : BothFail (IsCommon late begun_later first_alone) (HasTwin late begun_later first_alone)
+  pub turned_nothing : findings demo_plan late turned ≡ []
+  pub turned_common : IsCommon late turned middle
+  pub order : BothFail (IsInOrder 0 turned) (HasTwin late turned middle)

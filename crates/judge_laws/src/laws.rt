@@ -3,7 +3,8 @@ ghost use Rattle.judge_laws.specs.NoFalseAlarm.{NoFalseAlarm};
 ghost use Rattle.judge_laws.specs.NothingFound.{NothingFound};
 ghost use Rattle.judge_laws.specs.NothingMissed.{NothingMissed};
 ghost use Rattle.judge_laws.specs.Releases.{EarlyExactly};
-ghost use Rattle.judge_laws.specs.Worked.{FindsNothing, NeedsItsPremises, FindsNoneOfAll, MissesNothing};
+ghost use Rattle.judge_laws.specs.TwinsWanted.{TwinsWanted};
+ghost use Rattle.judge_laws.specs.Worked.{FindsNothing, NeedsItsPremises, FindsNoneOfAll, FindsTwins, MissesNothing, NeedsTheTime};
 
 /// A judge raises no false alarm: in a recording of legal transmission for a valid plan, each finding is a frame
 /// without a twin, however the packets of the two networks interleave.
@@ -56,9 +57,22 @@ pub fn early_exactly()
 /// - On each network the last message of each sub-VL is whole: nothing is known yet of one that has begun.
 /// - Packets are bytes, and no header checksum is 65,535, which receivers take for 0, and which no sender computes.
 ///
-/// The law speaks of each network alone. That a frame differs from its twin, or has none, are findings too.
+/// The law speaks of each network alone, and `twins_wanted` of both.
 #[tactic(auto, using(crate::proofs::SentTo::nothing_missed_holds, crate::proofs::Worked::worked))]
 pub fn nothing_missed()
     ensures sent { NothingMissed }
     ensures worked { MissesNothing }
+{}
+
+/// If a judge finds nothing in a recording, no twin is lacking and none differs: each frame of a link on both networks
+/// has a twin within the skew, if the other network was recorded when the twin could come. Its packets then begin more
+/// than the skew before the frame, and end more than the skew after it.
+///
+/// Premises: the plan is valid; the judge expects what this project sends (not `--profile arinc`), and no frame has its
+/// check sequence; and the times of the recording's packets don't go back.
+#[tactic(auto, using(crate::proofs::Following::twins_wanted_holds, crate::proofs::WorkedTwins::finds_twins, crate::proofs::WorkedTwins::needs_the_time))]
+pub fn twins_wanted()
+    ensures wanted { TwinsWanted }
+    ensures worked { FindsTwins }
+    ensures needed { NeedsTheTime }
 {}
