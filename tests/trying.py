@@ -82,6 +82,15 @@ def totals(messages, networks="equal", links=(1,)):
     return f"accepted {messages * len(links)}\n{lines}networks {networks}\nwatcher never back\n"
 
 
+# The second line on standard error about a script's line, by the fault that the first one names.
+LINE_FORMS = {
+    "1 Word": "a line is `send PORT HEX`, `at MICROS` or `close VL SUB`",
+    "2 Number": "decimal digits are wanted: up to 65535 for a port or a link, 255 for a sub-VL, 2^64 - 1 for a time",
+    "3 Hex": "bytes are an even number of hexadecimal digits, or `-`",
+    "4 Extra": "nothing may follow `send PORT HEX`, `at MICROS` or `close VL SUB` on a line",
+    "5 Long": "a line has at most 20000 bytes",
+}
+
 # The other target that is tried, if its compiler and an emulator are there, and the library for it is built.
 OTHER = "aarch64-unknown-linux-gnu"
 OTHER_LIBRARY = f"{ROOT}/crates/afdx/out/libafdx-{OTHER}.a"

@@ -297,12 +297,11 @@ int main(int argc, char **argv) {
     if (is_ready) {
         ends = run(&play);
         int told = tell(&play);
-        if (ends == 0) ends = play.networks[0].failed || play.networks[1].failed ? ENDS_BROKEN : tell_end(&play.script);
+        if (ends == 0) ends = play.networks[0].failed || play.networks[1].failed ? ENDS_BROKEN : tell_end(&play.script, script_name(&play.words));
         if (ends == 0) ends = told;
         if (ends == 0 && play.refused > 0) ends = ENDS_REFUSED;
     }
-    bool is_kept = close_capture(&play.capture) && fflush(stdout) == 0;
-    if (!is_kept) fprintf(stderr, "write failed\n");
+    bool is_kept = close_capture(&play.capture), is_told = end_output();
     let_go(&play);
-    return is_kept ? ends : ENDS_BROKEN;
+    return is_kept && is_told ? ends : ENDS_BROKEN;
 }

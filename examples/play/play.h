@@ -29,14 +29,17 @@ struct script {
 /* Reads a file; NULL, with a message, if that fails. */
 uint8_t *read_file(const char *path, size_t *length);
 
-/* Reads what is left of a stream; NULL if that fails. */
+/* Reads what is left of a stream; NULL if that fails, for the reason in errno, which is EFBIG for over 4 GiB. */
 uint8_t *read_all(FILE *file, size_t *length);
+
+/* Prints that something can't be read, and the reason, a value of errno as read_all has it. */
+void tell_unread(const char *what, int error);
 
 /* Reads the lines of a script's text. Returns how the player ends if there is no memory for them, or 0. */
 int read_script(const uint8_t *text, size_t length, struct script *script);
 
-/* Prints how the script ended, if not at its end. Returns how the player ends, or 0. */
-int tell_end(const struct script *script);
+/* Prints how the script of this name ended, if not at its end. Returns how the player ends, or 0. */
+int tell_end(const struct script *script, const char *path);
 
 /* The name that `afdx_bench` prints of an answer, as "TooLong" of AFDX_TOO_LONG. */
 const char *short_name(afdx_call call, uint8_t answer);
@@ -125,15 +128,27 @@ int read_words(int argc, char **argv, struct words *words);
    player ends, if that fails. */
 uint8_t *read_text(const struct words *words, size_t *length, int *ends);
 
+/* The name of the script in messages: its path, or the command that makes it. */
+const char *script_name(const struct words *words);
+
+/* Prints that something can't be written, and the reason, a value of errno. */
+void tell_unwritten(const char *what, int error);
+
+/* Writes what is left of the standard output. Returns whether all of it was written, and prints the reason if it wasn't. */
+bool end_output(void);
+
 /* A capture: pcapng with nanoseconds. */
 struct capture {
     FILE *file; /* NULL if nothing is captured */
-    bool failed;
+    const char *path;
+    int error; /* the value of errno at the first write that failed, or 0 */
 };
 
 /* Makes the file of a capture. Returns whether it could. */
 bool open_capture(struct capture *capture, const char *path);
 void add_packet(struct capture *capture, uint8_t network, uint64_t nanos, const uint8_t *bytes, size_t length);
+
+/* Writes what is left of a capture. Returns whether all of it was written, and prints the reason if it wasn't. */
 bool close_capture(struct capture *capture);
 
 /* What an interface has counted: frames sent, frames dropped and frames not sent for an error, each modulo 2^32. */

@@ -6,6 +6,7 @@
 #include <errno.h>
 #include <stdlib.h>
 #include <string.h>
+#include <sys/stat.h>
 
 /* The most lines of a script, the most bytes of a message in a line, the most bytes of a file. */
 enum { MOST_LINES = 1000000, GREATEST_MESSAGE = 10000, FIRST_ROOM = 1 << 16 };
@@ -27,7 +28,9 @@ const char *short_name(afdx_call call, uint8_t answer) {
 
 uint8_t *read_all(FILE *file, size_t *length) {
     size_t room = FIRST_ROOM;
-    uint8_t *text = malloc(room);
+    struct stat found;
+    bool is_too_long = fstat(fileno(file), &found) == 0 && S_ISREG(found.st_mode) && found.st_size > (off_t)GREATEST_FILE;
+    uint8_t *text = is_too_long ? NULL : malloc(room);
     *length = 0;
     while (text != NULL) {
         *length += fread(text + *length, 1, room - *length, file);
@@ -36,18 +39,23 @@ uint8_t *read_all(FILE *file, size_t *length) {
         if (more == NULL) free(text);
         text = more;
     }
-    if (text == NULL || (feof(file) && !ferror(file))) return text;
+    if (text != NULL && *length == room) is_too_long = fgetc(file) != EOF;
+    if (text != NULL && !is_too_long && !ferror(file)) return text;
+    int error = is_too_long ? EFBIG : errno;
     free(text);
+    errno = error;
     return NULL;
+}
+
+void tell_unread(const char *what, int error) {
+    const char *why = error == EFBIG ? "it has more than 4 GiB, the most that is read" : strerror(error);
+    fprintf(stderr, "%s\n%s: %s\n", error == ENOMEM ? "out of memory" : "read failed", what, why);
 }
 
 uint8_t *read_file(const char *path, size_t *length) {
     FILE *file = fopen(path, "rb");
     uint8_t *text = file == NULL ? NULL : read_all(file, length);
-    if (text == NULL) {
-        fprintf(stderr, errno == ENOMEM ? "out of memory\n" : "read failed\n");
-        perror(path);
-    }
+    if (text == NULL) tell_unread(path, errno);
     if (file != NULL) fclose(file);
     return text;
 }
@@ -90,10 +98,19 @@ int read_script(const uint8_t *text, size_t length, struct script *script) {
     return ENDS_BROKEN;
 }
 
-int tell_end(const struct script *script) {
-    if (script->is_too_long) fprintf(stderr, "script refused: too many lines\n");
+int tell_end(const struct script *script, const char *path) {
+    static const char *const wanted[] = {
+        [AFDX_LINE_WORD] = "a line is `send PORT HEX`, `at MICROS` or `close VL SUB`",
+        [AFDX_LINE_NUMBER] = "decimal digits are wanted: up to 65535 for a port or a link, 255 for a sub-VL, 2^64 - 1 for a time",
+        [AFDX_LINE_HEX] = "bytes are an even number of hexadecimal digits, or `-`",
+        [AFDX_LINE_EXTRA] = "nothing may follow `send PORT HEX`, `at MICROS` or `close VL SUB` on a line",
+        [AFDX_LINE_LONG] = "a line has at most 20000 bytes",
+    };
+    bool has_form = script->fault < sizeof wanted / sizeof *wanted;
+    if (script->is_too_long) fprintf(stderr, "script refused: too many lines\n%s: a script has at most %d lines\n", path, MOST_LINES);
     if (script->faulty != 0)
-        fprintf(stderr, "script line %zu: %d %s\n", script->faulty, script->fault, short_name(AFDX_CALL_LINE, script->fault));
+        fprintf(stderr, "script line %zu: %d %s\n%s:%zu: %s\n", script->faulty, script->fault, short_name(AFDX_CALL_LINE, script->fault), path,
+                script->faulty, has_form ? wanted[script->fault] : "the line can't be read");
     return script->is_too_long || script->faulty != 0 ? ENDS_UNREAD : 0;
 }
 

@@ -17,12 +17,24 @@ uint64_t nanos_now(void) {
     return (uint64_t)now.tv_sec * NANOS + (uint64_t)now.tv_nsec;
 }
 
+void tell_unwritten(const char *what, int error) { fprintf(stderr, "write failed\n%s: %s\n", what, strerror(error)); }
+
+bool end_output(void) {
+    int error = fflush(stdout) != 0 ? errno : ferror(stdout) ? EIO : 0;
+    if (error != 0) tell_unwritten("standard output", error);
+    return error == 0;
+}
+
 bool open_network(struct network *network) {
     struct sockaddr_ll to = {.sll_family = AF_PACKET, .sll_ifindex = (int)if_nametoindex(network->interface)};
     int room = SOCKET_ROOM;
     network->socket = to.sll_ifindex == 0 ? -1 : socket(AF_PACKET, SOCK_RAW, 0);
+    if (network->socket < 0 && errno == EPERM) {
+        fprintf(stderr, "write failed\n%s: %s; packet sockets need root or CAP_NET_RAW\n", network->interface, strerror(EPERM));
+        return false;
+    }
     if (network->socket < 0 || bind(network->socket, (struct sockaddr *)&to, sizeof to) != 0) {
-        fprintf(stderr, "write failed\n%s: %s\n", network->interface, strerror(errno));
+        tell_unwritten(network->interface, errno);
         return false;
     }
     if (setsockopt(network->socket, SOL_SOCKET, SO_SNDBUFFORCE, &room, sizeof room) != 0)
@@ -52,7 +64,7 @@ void transmit(struct network *network, struct frame *frames, size_t count, struc
         int took = send_from(network, frames, from, count);
         uint64_t now = nanos_now() + offset;
         if (took <= 0) {
-            fprintf(stderr, "write failed\n%s: %s\n", network->interface, strerror(errno));
+            tell_unwritten(network->interface, errno);
             network->failed = true;
             return;
         }
@@ -73,16 +85,17 @@ static void block(struct capture *capture, uint32_t kind, const void *front, siz
     bool is_written = fwrite(head, sizeof head, 1, capture->file) == 1 && fwrite(front, size, 1, capture->file) == 1
         && (length == 0 || fwrite(bytes, 1, length, capture->file) == length) && fwrite(zeros, 1, padding, capture->file) == padding
         && fwrite(&total, sizeof total, 1, capture->file) == 1;
-    if (!is_written) capture->failed = true;
+    if (!is_written && capture->error == 0) capture->error = errno;
 }
 
 /* A capture has the byte order of the machine, interfaces A and B, and times in nanoseconds. */
 bool open_capture(struct capture *capture, const char *path) {
     static char buffer[BUFFER];
     static const uint32_t section[4] = {0x1a2b3c4d, 1, UINT32_MAX, UINT32_MAX};
+    capture->path = path;
     capture->file = fopen(path, "wb");
     if (capture->file == NULL) {
-        fprintf(stderr, "write failed\n%s: %s\n", path, strerror(errno));
+        tell_unwritten(path, errno);
         return false;
     }
     setvbuf(capture->file, buffer, _IOFBF, sizeof buffer);
@@ -109,6 +122,7 @@ void add_packet(struct capture *capture, uint8_t network, uint64_t nanos, const 
 }
 
 bool close_capture(struct capture *capture) {
-    if (capture->file != NULL && fclose(capture->file) != 0) capture->failed = true;
-    return !capture->failed;
+    if (capture->file != NULL && fclose(capture->file) != 0 && capture->error == 0) capture->error = errno;
+    if (capture->error != 0) tell_unwritten(capture->path, capture->error);
+    return capture->error == 0;
 }

@@ -38,6 +38,9 @@ static const char HELP[] =
     "                  With swap and early, whose frames have to be known before, the run is as written. Two faults of\n"
     "                  which one keeps the other from coming true are refused\n";
 
+/* The name of the way to afdx_bench in messages. */
+static const char PIPE[] = "a pipe to afdx_bench";
+
 /* Where a word with a value keeps it, or NULL if it isn't one that keeps its text. */
 static const char **text_of(struct words *words, const char *word) {
     if (strcmp(word, "--capture") == 0) return &words->capture;
@@ -77,13 +80,19 @@ static bool place_words(struct words *words, const char *const *paths, size_t co
     return true;
 }
 
+/* Prints what was asked for. Returns how the player ends. */
+static int answer(const char *text, const char *more) {
+    printf("%s%s", text, more);
+    return end_output() ? ENDS_WELL : ENDS_BROKEN;
+}
+
 int read_words(int argc, char **argv, struct words *words) {
     const char *paths[4], *one, *other;
     size_t count = 0;
     for (int k = 1; k < argc; k++) {
         const char *word = argv[k], *value = k + 1 < argc ? argv[k + 1] : "", **text = text_of(words, word);
-        if (strcmp(word, "--help") == 0) return printf("%s%s", USAGE, HELP) < 0 ? ENDS_BROKEN : ENDS_WELL;
-        if (strcmp(word, "--version") == 0) return printf("afdx_play %s\n", AFDX_VERSION) < 0 ? ENDS_BROKEN : ENDS_WELL;
+        if (strcmp(word, "--help") == 0) return answer(USAGE, HELP);
+        if (strcmp(word, "--version") == 0) return answer("afdx_play " AFDX_VERSION, "\n");
         bool is_right = true, has_value = text != NULL || read_value(words, word, value, &is_right);
         if (text != NULL) *text = value;
         if (!has_value) {
@@ -117,31 +126,39 @@ static void become_schedule(const struct words *words, int out) {
                              words->seed == NULL ? NULL : "--seed", words->seed, NULL};
     ssize_t length = readlink("/proc/self/exe", path, sizeof path - sizeof "afdx_bench");
     char *name = length < 0 ? NULL : strrchr(path, '/');
-    if (dup2(out, STDOUT_FILENO) < 0) _exit(ENDS_BROKEN);
+    if (dup2(out, STDOUT_FILENO) < 0) {
+        tell_unread(PIPE, errno);
+        _exit(ENDS_BROKEN);
+    }
     if (name != NULL) {
         strcpy(name + 1, "afdx_bench");
         execv(path, (char *const *)command);
     }
     execvp("afdx_bench", (char *const *)command);
-    fprintf(stderr, "read failed\nafdx_bench: %s\n", strerror(errno));
+    if (errno == ENOENT) fprintf(stderr, "read failed\nafdx_bench is neither beside afdx_play nor on the PATH\n");
+    else tell_unread("afdx_bench", errno);
     _exit(ENDS_BROKEN);
 }
+
+const char *script_name(const struct words *words) { return words->script != NULL ? words->script : "afdx_bench schedule"; }
 
 uint8_t *read_text(const struct words *words, size_t *length, int *ends) {
     int ways[2], status = 0;
     *ends = ENDS_BROKEN;
     if (words->script != NULL) return read_file(words->script, length);
-    if (pipe(ways) != 0) return perror("afdx_bench"), NULL;
+    if (pipe(ways) != 0) return tell_unread(PIPE, errno), NULL;
     pid_t child = fork();
+    if (child < 0) return tell_unread("a process for afdx_bench", errno), NULL;
     if (child == 0) become_schedule(words, ways[1]);
     close(ways[1]);
     FILE *file = fdopen(ways[0], "rb");
-    uint8_t *text = child < 0 || file == NULL ? NULL : read_all(file, length);
-    if (text == NULL) perror("afdx_bench");
+    uint8_t *text = file == NULL ? NULL : read_all(file, length);
+    if (text == NULL) tell_unread(file == NULL ? PIPE : script_name(words), errno);
     if (file != NULL) fclose(file);
-    bool is_made = child > 0 && waitpid(child, &status, 0) == child && WIFEXITED(status) && WEXITSTATUS(status) == 0;
+    bool is_ended = waitpid(child, &status, 0) == child, is_made = is_ended && WIFEXITED(status) && WEXITSTATUS(status) == 0;
     if (is_made) return text;
-    if (WIFEXITED(status) && WEXITSTATUS(status) != 0) *ends = WEXITSTATUS(status);
+    if (is_ended && WIFEXITED(status)) *ends = WEXITSTATUS(status);
+    else if (text != NULL) fprintf(stderr, "read failed\n%s: signal %d ended it\n", script_name(words), WTERMSIG(status));
     free(text);
     return NULL;
 }

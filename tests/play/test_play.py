@@ -92,6 +92,14 @@ def cut_off(command: list[str], receiver: Receiver, name: str) -> subprocess.Com
     return subprocess.CompletedProcess(command, process.returncode, out, error)
 
 
+def with_second(error: str) -> str:
+    """The first line of a script's fault with the second one, which says what is wanted."""
+    fault = re.fullmatch(r"script line (\d+): (.*)\n", error)
+    if fault:
+        return f"{error}script.txt:{fault[1]}: {trying.LINE_FORMS[fault[2]]}\n"
+    return f"{error}script.txt: a script has at most 1000000 lines\n" if error else ""
+
+
 class Played:
     """A run of the player: how it ended, what came on each network, and its capture."""
 
@@ -109,7 +117,7 @@ class Played:
         time.sleep(0.3)
         self.came = {name: receiver.take() for name, receiver in rig.receivers.items()}
         status, out, error = model.run(plan, script.encode())
-        self.wanted, self.transcript = (status, error), out
+        self.wanted, self.transcript = (status, with_second(error)), out
         self.frames = {name: [(int(line.split()[1]), line.split()[2]) for line in out.splitlines() if line.startswith(f"{name} ")]
                        for name in NETWORKS}
         with open("frames.pcapng", "rb") as file:
@@ -468,17 +476,33 @@ def try_speed(rig) -> tuple[list[str], str]:
     return faults, ""
 
 
+def try_full(rig) -> tuple[list[str], str]:
+    """A capture, and an output, for which there is no room: the run goes on to its end, which says which of them failed."""
+    faults = []
+    for more, path, wanted in (([], "/dev/full", "standard output"), (["--capture", "/dev/full"], "out.txt", "/dev/full")):
+        with open(path, "w", encoding="utf-8") as out:
+            ran = subprocess.run([rig.program, "demo.toml", "short.txt", "wireA", "wireB", *more], stdout=out, stderr=subprocess.PIPE, text=True, check=False)
+        is_well = (ran.returncode, ran.stderr) == (4, f"write failed\n{wanted}: {NO_ROOM}\n")
+        faults += [] if is_well and [len(it.take()["frames"]) for it in rig.receivers.values()] == [1, 1] else [f"{ran}"]
+    return faults, ""
+
+
 def try_ends(rig) -> tuple[list[str], str]:
     """A line's fault ends a run, after the lines before it; a byte order mark before the script is none."""
     faults = []
-    for script in ("\ufeffsend 11 01\nat 0\nat x\nsend 11 02\n", "send 11 01\r\nat 0\r\nat 5 6\r\n", "", "\n" * 1_000_001, "send 11 01\nat 9\nat 8\n"):
+    begun = "send 11 01\nat 0\n"
+    for script in ("\ufeffsend 11 01\nat 0\nat x\nsend 11 02\n", "send 11 01\r\nat 0\r\nat 5 6\r\n", "", "\n" * 1_000_001, "send 11 01\nat 9\nat 8\n",
+                   f"{begun}frob\n", f"{begun}send 11 0\n", begun + "#" * 20_001):
         played = Played(rig, plan_of(1), script)
         wanted = model.run(plan_of(1), script.removeprefix("\ufeff").encode())
-        played.wanted = (wanted[0], wanted[2])
+        played.wanted = (wanted[0], with_second(wanted[2]))
         played.frames = {name: [(0, line.split()[2]) for line in wanted[1].splitlines() if line.startswith(f"{name} ")] for name in NETWORKS}
         played.transcript = wanted[1]
         faults += played.differences(all_of(played)) + played.said()
     return faults, ""
+
+
+NO_FILE, NO_ROOM = "No such file or directory", "No space left on device"
 
 
 def try_words(program: str) -> Iterator[tuple[str, list[str]]]:
@@ -486,10 +510,14 @@ def try_words(program: str) -> Iterator[tuple[str, list[str]]]:
     for name, text in (("wrong.toml", trying.DEMO.replace("bag_ms = 1", "bag_ms = 3")), ("demo.toml", trying.DEMO), ("short.txt", trying.SCRIPT)):
         with open(name, "w", encoding="utf-8") as file:
             file.write(text)
+    with open("great.txt", "wb") as file:
+        file.truncate(2**32 + 1)
     rest, refused = ["short.txt", "lo", "lo"], "configuration refused: 6 BadBag\n"
     rows = [([], 2, USAGE), (["demo.toml"], 2, USAGE), (["demo.toml", *rest, "more"], 2, "more"), (["--frob"], 2, "--frob"),
-            (["none.toml", *rest], 4, "read failed\nnone.toml: No such file"), (["wrong.toml", *rest], 2, refused),
-            (["demo.toml", "none.txt", "lo", "lo"], 4, "read failed\nnone.txt: No such file"),
+            (["none.toml", *rest], 4, f"read failed\nnone.toml: {NO_FILE}\n"), (["wrong.toml", *rest], 2, refused),
+            (["demo.toml", "none.txt", "lo", "lo"], 4, f"read failed\nnone.txt: {NO_FILE}\n"),
+            ([".", *rest], 4, "read failed\n.: Is a directory\n"),
+            (["demo.toml", "great.txt", "lo", "lo"], 4, "read failed\ngreat.txt: it has more than 4 GiB, the most that is read\n"),
             (["demo.toml", "short.txt", "nowhere", "lo"], 4, "write failed\nnowhere: No such device"),
             (["demo.toml", *rest, "--capture", "short.txt"], 4, "write failed\nshort.txt: the command reads")]
     bad = ["", "lose", "lose A", "lose C 1", "lose A 0", "lose A 1 2", "lose A x", "swap A 6 5", "swap A 5", "number A 1 256", "flip A 1 zz",
@@ -516,6 +544,25 @@ def try_words(program: str) -> Iterator[tuple[str, list[str]]]:
     yield "afdx_play --help", [f"it lacks {lacks}: {told}"] if lacks or told.returncode or told.stderr else []
     version = subprocess.run([program, "--version"], capture_output=True, text=True, check=False).stdout
     yield "afdx_play --version", [] if version == f"afdx_play {re.search('AFDX_VERSION .(.*).', trying.text_of('crates/afdx/afdx.h'))[1]}\n" else [version]
+    yield from try_surroundings(program, ["demo.toml", *rest], ["demo.toml", *rest[1:], *traffic])
+
+
+def try_surroundings(program: str, run: list[str], made: list[str]) -> Iterator[tuple[str, list[str]]]:
+    """Runs that lack something of the system: the bench, descriptors, the right to open sockets, or room for the output."""
+    os.mkdir("alone")
+    alone = shutil.copy(program, "alone/afdx_play")
+    without_right = ["setpriv", "--bounding-set", "-net_raw"] if os.geteuid() == 0 else []
+    rows = [("without afdx_bench", [alone, *made], {"PATH": "/nowhere"}, "read failed\nafdx_bench is neither beside afdx_play nor on the PATH\n"),
+            ("without descriptors", ["sh", "-c", 'ulimit -n 4; exec "$0" "$@"', program, *made], {},
+             "read failed\na pipe to afdx_bench: Too many open files\n"),
+            ("without the right to open packet sockets", [*without_right, program, *run], {},
+             "write failed\nlo: Operation not permitted; packet sockets need root or CAP_NET_RAW\n"),
+            ("--help without room", ["sh", "-c", 'exec "$0" --help > /dev/full', program], {}, f"write failed\nstandard output: {NO_ROOM}\n")]
+    for name, command, more, wanted in rows:
+        if not shutil.which(command[0]):
+            continue
+        ran = subprocess.run(command, env={**os.environ, **more}, capture_output=True, text=True, check=False)
+        yield f"afdx_play {name}", [] if (ran.returncode, ran.stdout, ran.stderr) == (4, "", wanted) else [f"{ran}"]
 
 
 class Rig:
@@ -563,6 +610,7 @@ def inside(program: str, millis: int) -> int:
         patient(tries, "--traffic", lambda: try_traffic(rig))
         patient(tries, "--speed 4", lambda: try_speed(rig))
         tries.attempt("ends", lambda: try_ends(rig))
+        patient(tries, "no room for the capture or the output", lambda: try_full(rig))
     finally:
         for receiver in rig.receivers.values():
             receiver.end()
